@@ -1,0 +1,18 @@
+//! The trees of a formula file of Quantified Discrete-time Duration Calculus: the file, its macros, formulas
+//! over intervals and propositions over instants, each node with its place in the source.
+//!
+//! The trees are plain data. What they mean is said in `dcv_logic`, and which text spells which tree in `dcv_reader`.
+#![tactic(auto)]
+
+mod files;
+mod formulas;
+mod names;
+mod propositions;
+
+pub use files::{File, Macro, MacroBody};
+pub use formulas::{Formula, FormulaKind, FormulaOperand, Number, Relation};
+pub use names::{Name, Span, Text};
+pub use propositions::{Prop, PropKind, PropOperand};
+
+#[cfg(test)]
+mod tests;

@@ -1,0 +1,38 @@
+// Propositions, which are judged at one instant.
+use crate::names::{Name, Span};
+
+/// A proposition and its place. Its own outermost parentheses are not in the span.
+#[cycle(prop)]
+#[derive(Debug, Drop)]
+pub struct Prop {
+    pub kind: PropKind,
+    pub span: Span,
+}
+
+/// The forms of a proposition. A list form has two operands or more.
+#[cycle(prop)]
+#[derive(Debug, Drop)]
+pub enum PropKind {
+    /// `true` or `false`.
+    Constant(bool),
+    /// A variable, parameter or quantified name, which has no arguments, or a call of a proposition macro.
+    Call(Name, Vec<Prop>),
+    /// `!P`.
+    Not(Box<Prop>),
+    /// `P && Q && ..`.
+    And(Vec<PropOperand>),
+    /// `P || Q || ..`.
+    Or(Vec<PropOperand>),
+    /// `P => Q`.
+    Implies(Box<Prop>, Box<Prop>),
+    /// `P <=> Q <=> ..`, which groups to the left.
+    Iff(Vec<PropOperand>),
+}
+
+/// An operand of a list. Its span has the parentheses that stand round it.
+#[cycle(prop)]
+#[derive(Debug, Drop)]
+pub struct PropOperand {
+    pub prop: Prop,
+    pub span: Span,
+}
