@@ -1,5 +1,5 @@
 -- What a judgement knows: the tracks of the names in sight, and what the macros in sight mean.
-use Rattle.std.specs.Prelude.{ℕ, Bool, true, false, List, [], ◌∷◌, ◌++◌, Option, Some, None, ◌==◌, if◌then◌else◌}
+use Rattle.std.specs.Prelude.{ℕ, Bool, List, [], ◌∷◌, ◌++◌, Option, Some, None, bytes_eq, if◌then◌else◌}
 use Rattle.std.specs.List.{zip}
 use Rattle.dcv_logic.specs.Track.{Track}
 
@@ -18,17 +18,10 @@ pub record Environment : Type 0 where
   pub tracks : List (List ℕ × Track)
   pub macros : List (List ℕ × Meaning)
 
--- whether two names have the same bytes
-abbrev pub same_name : List ℕ → List ℕ → Bool
-same_name [] [] = true
-same_name [] (b ∷ bs) = false
-same_name (a ∷ xs) [] = false
-same_name (a ∷ xs) (b ∷ bs) = if a == b then same_name xs bs else false
-
 -- what stands first under a name
 abbrev pub found : {X : Type 0} → List (List ℕ × X) → List ℕ → Option X
 found [] name = None
-found (entry ∷ entries) name = if same_name entry.0 name then Some entry.1 else found entries name
+found (entry ∷ entries) name = if bytes_eq entry.0 name then Some entry.1 else found entries name
 
 -- the name stands for the track
 abbrev pub bind : Environment → List ℕ → Track → Environment

@@ -1,0 +1,9 @@
+pub mod Disk
+pub mod Faults
+pub mod FilesState
+pub mod HeldFile
+pub mod Plan
+pub mod RealCounts
+pub mod SinkState
+pub mod Taking
+pub mod Written

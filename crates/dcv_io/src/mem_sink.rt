@@ -1,0 +1,100 @@
+// A sink in memory.
+ghost use Rattle.std.specs.Prelude.{◌≡◌, ◌<◌, ◌≤◌, All, [], is_err, length, take, IfOk, OnOk, OnErr};
+ghost use Rattle.dcv_io.specs.Faults.{RisesIf};
+ghost use Rattle.dcv_io.specs.SinkState.{refuses, taken_of, after_write, after_refusal};
+ghost use Rattle.dcv_io.specs.Written.{Appends};
+
+use crate::counts::raise;
+use crate::schedule::Schedule;
+use crate::{Failed, Sink};
+use std::alloc::{AllocError, Global};
+use std::marker::Model;
+
+/// A sink in memory, which tells everything. It stands in for a real one in tests.
+#[derive(Debug, Drop)]
+pub struct MemSink {
+    bytes: Vec<u8>,
+    room: usize,
+    schedule: Schedule,
+    faults: u64,
+}
+
+impl Model for MemSink {
+    ghost use Rattle.std.specs.Prelude.{◌+◌, ◌≤◌, vec_len, vec_capacity};
+    ghost use Rattle.dcv_io.specs.SinkState.{SinkState};
+
+    ghost Value = { SinkState };
+
+    ghost view = { λ s. record {
+      written = s.bytes.items;
+      room = s.room;
+      plan = s.schedule;
+      faults = s.faults;
+    } };
+
+    ghost invariant = { λ s. vec_len s.bytes + s.room ≤ vec_capacity s.bytes };
+}
+
+impl MemSink {
+    /// An empty sink with room for `room` bytes.
+    ///
+    /// The n-th write that takes bytes takes at most the n-th of `sizes`, and once they are used up as many as there
+    /// is room for. The writes whose numbers, from 1, are in `fails` fail.
+    pub fn new(
+        alloc: Global,
+        room: usize,
+        sizes: &[usize],
+        fails: &[u64],
+    ) -> Result<MemSink, AllocError>
+        requires { All (λ size. 0 < size) sizes.now }
+        ensures { IfOk result (λ sink. sink ≡ record {
+          written = [];
+          room = room;
+          faults = 0;
+          plan = record { sizes = sizes.now; fails = fails.now; calls = 0 };
+        }) }
+    {
+        Ok(MemSink {
+            bytes: Vec::with_capacity(alloc, room)?,
+            room,
+            schedule: Schedule::new(alloc, sizes, fails)?,
+            faults: 0,
+        })
+    }
+
+    /// All the bytes written so far.
+    pub fn written(&self) -> &[u8]
+        ensures { result.now ≡ self.now.written }
+    {
+        &self.bytes
+    }
+}
+
+impl Sink for MemSink {
+    ghost use Rattle.std.specs.Prelude.{Some};
+
+    ghost faults = { λ s. s.faults };
+
+    ghost written = { λ s. Some s.written };
+
+    fn write(&mut self, bytes: &[u8]) -> Result<usize, Failed>
+        ensures refused { is_err result ≡ refuses self.old bytes.now }
+        ensures count { IfOk result (λ count. count ≡ taken_of self.old bytes.now) }
+        ensures ok { IfOk result (λ count. self.new ≡ after_write self.old bytes.now count) }
+        ensures err { OnErr result (self.new ≡ after_refusal self.old) }
+
+        ensures progress { IfOk result (λ count. 0 < length bytes.now → 0 < count) }
+        ensures faults { RisesIf (is_err result) self.old.faults self.new.faults }
+    {
+        let fails = self.schedule.begin_call();
+        if fails || (!bytes.is_empty() && self.room == 0) {
+            raise(&mut self.faults);
+            return Err(Failed);
+        }
+        let count = self.schedule.share(bytes.len().min(self.room));
+        self.bytes.extend_from_slice(&bytes[..count]).unwrap();
+        self.room -= count;
+        self.schedule.advance(count);
+        Ok(count)
+    }
+}

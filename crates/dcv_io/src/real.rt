@@ -1,0 +1,138 @@
+// The files and the streams of the system. No clause says which bytes they give or take.
+ghost use Rattle.std.specs.Prelude.{◌≡◌, None};
+
+use crate::counts::raise;
+use crate::{Failed, Files, Sink};
+use std::io::{Read, Write};
+use std::marker::Model;
+use std::rt::{Stderr, Stdout};
+use std::{fs, rt};
+
+/// The files of the system, by their paths. A directory may be opened, and its first read fails.
+///
+/// A read that a signal interrupts has failed.
+#[derive(Drop)]
+pub struct RealFiles<R: rt::Files> {
+    runtime: R,
+    file: Option<R::File>,
+    open_faults: u64,
+    read_faults: u64,
+}
+
+impl<R: rt::Files> Model for RealFiles<R> {
+    ghost use Rattle.dcv_io.specs.RealCounts.{RealCounts};
+
+    ghost Value = { RealCounts };
+
+    ghost view = { λ f. record { open_faults = f.open_faults; read_faults = f.read_faults } };
+}
+
+impl<R: rt::Files> RealFiles<R> {
+    /// With no file open and no fault counted.
+    pub fn new(runtime: R) -> Self
+        ensures { result ≡ record { open_faults = 0; read_faults = 0 } }
+    {
+        RealFiles {
+            runtime,
+            file: None,
+            open_faults: 0,
+            read_faults: 0,
+        }
+    }
+}
+
+impl<R: rt::Files> Files for RealFiles<R> {
+    ghost open_faults = { λ f. f.open_faults };
+
+    ghost read_faults = { λ f. f.read_faults };
+
+    ghost told = { λ _. None };
+
+    fn open_file(&mut self, name: &str) -> Result<(), Failed> {
+        match fs::open(&self.runtime, name) {
+            Ok(file) => {
+                self.file = Some(file);
+                Ok(())
+            }
+            Err(_) => {
+                self.file = None;
+                raise(&mut self.open_faults);
+                Err(Failed)
+            }
+        }
+    }
+
+    fn read(&mut self, buf: &mut [u8]) -> Result<usize, Failed> {
+        if let Some(file) = &mut self.file
+            && let Ok(count) = file.read(buf)
+        {
+            return Ok(count);
+        }
+        raise(&mut self.read_faults);
+        Err(Failed)
+    }
+}
+
+/// The standard output or the standard error of the process. Nothing is kept back: what a write has taken is
+/// written.
+#[derive(Drop)]
+pub struct RealOut {
+    stream: Stream,
+    faults: u64,
+}
+
+#[derive(Clone, Copy)]
+enum Stream {
+    Output(Stdout),
+    Error(Stderr),
+}
+
+impl Model for RealOut {
+    ghost use Rattle.std.specs.Prelude.{ℕ};
+
+    ghost Value = { ℕ };
+
+    ghost view = { λ o. o.faults };
+}
+
+impl RealOut {
+    /// The standard output, with no fault counted.
+    pub fn output(stdout: Stdout) -> Self
+        ensures { result ≡ 0 }
+    {
+        RealOut {
+            stream: Stream::Output(stdout),
+            faults: 0,
+        }
+    }
+
+    /// The standard error, with no fault counted.
+    pub fn error(stderr: Stderr) -> Self
+        ensures { result ≡ 0 }
+    {
+        RealOut {
+            stream: Stream::Error(stderr),
+            faults: 0,
+        }
+    }
+}
+
+impl Sink for RealOut {
+    ghost faults = { λ count. count };
+
+    ghost written = { λ _. None };
+
+    fn write(&mut self, bytes: &[u8]) -> Result<usize, Failed> {
+        let taken = match self.stream {
+            Stream::Output(mut stdout) => stdout.write(bytes),
+            Stream::Error(mut stderr) => stderr.write(bytes),
+        };
+        match taken {
+            Ok(count) if count > 0 || bytes.is_empty() => Ok(count),
+            _ => {
+                raise(&mut self.faults);
+                Err(Failed)
+            }
+        }
+    }
+}

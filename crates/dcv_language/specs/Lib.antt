@@ -1,0 +1,4 @@
+pub mod Behaviour
+pub mod Laws
+pub mod Verdict
+pub mod VerdictText

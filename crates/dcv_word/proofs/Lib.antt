@@ -1,0 +1,4 @@
+pub mod AllLetters
+pub mod Bits
+pub mod Orders
+pub mod Readings

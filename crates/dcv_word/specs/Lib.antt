@@ -1,0 +1,5 @@
+pub mod Laws
+pub mod Letter
+pub mod LetterFacts
+pub mod TraceLine
+pub mod Word
