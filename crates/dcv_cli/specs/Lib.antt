@@ -1,0 +1,10 @@
+pub mod Demand
+pub mod FirstForm
+pub mod Laws
+pub mod Outcome
+pub mod Refusal
+pub mod Report
+pub mod Request
+pub mod Requested
+pub mod Status
+pub mod Verdict

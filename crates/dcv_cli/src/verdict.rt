@@ -1,0 +1,80 @@
+// The verdict of a set of behaviours, and its text.
+ghost use Rattle.std.specs.Prelude.{◌≡◌, ◌++◌, IfOk, OnOk};
+ghost use Rattle.dcv_language.specs.VerdictText.{validity_line, satisfiability_line, shown, verdict_text};
+ghost use Rattle.dcv_cli.specs.Verdict.{letters_of, seen_verdict, status_of_verdict};
+
+use crate::status::Status;
+use dcv_word::Word;
+use itoa::Buffer;
+use std::alloc::{AllocError, Global};
+
+/// The shortlex-least behaviour that does not satisfy a formula, and the least that does, where there are such.
+#[derive(Debug, Drop)]
+pub struct Verdict {
+    pub counterexample: Option<Word>,
+    pub example: Option<Word>,
+}
+
+impl Verdict {
+    /// Valid where there is no counterexample.
+    pub fn status(&self) -> Status
+        ensures { result ≡ status_of_verdict (seen_verdict self.now) }
+    {
+        match &self.counterexample {
+            None => Status::Valid,
+            Some(_) => Status::NotValid,
+        }
+    }
+
+    /// The lines that say it.
+    pub fn text(&self, alloc: Global) -> Result<Vec<u8>, AllocError>
+        ensures { IfOk result (λ text. text.items ≡ verdict_text (seen_verdict self.now)) }
+    {
+        let mut text = Vec::new(alloc);
+        text.extend_from_slice(self.validity())?;
+        text.extend_from_slice(self.satisfiability())?;
+        push_word(alloc, &mut text, b"counterexample", &self.counterexample)?;
+        push_word(alloc, &mut text, b"example", &self.example)?;
+        Ok(text)
+    }
+
+    fn validity(&self) -> &'static [u8]
+        ensures { result.now ≡ validity_line (seen_verdict self.now) }
+    {
+        match &self.counterexample {
+            None => b"valid\n",
+            Some(_) => b"not valid\n",
+        }
+    }
+
+    fn satisfiability(&self) -> &'static [u8]
+        ensures { result.now ≡ satisfiability_line (seen_verdict self.now) }
+    {
+        match &self.example {
+            Some(_) => b"satisfiable\n",
+            None => b"not satisfiable\n",
+        }
+    }
+}
+
+// Adds the heading with the number of letters and the word's trace lines, or nothing where there is no word.
+fn push_word(
+    alloc: Global,
+    text: &mut Vec<u8>,
+    heading: &[u8],
+    word: &Option<Word>,
+) -> Result<(), AllocError>
+    ensures { OnOk result (text.new.items ≡ text.old.items ++ shown heading.now (letters_of word.now)) }
+{
+    let Some(word) = word else {
+        return Ok(());
+    };
+    let lines = word.text(alloc)?;
+    let mut number = Buffer::new();
+    text.extend_from_slice(heading)?;
+    text.push(b' ')?;
+    text.extend_from_slice(number.format(word.letters().len()).as_bytes())?;
+    text.push(b'\n')?;
+    text.extend_from_slice(&lines)?;
+    Ok(())
+}

@@ -1,0 +1,5 @@
+pub mod FirstBytes
+pub mod Longest
+pub mod Cuts
+pub mod Sources
+pub mod FirstTokens

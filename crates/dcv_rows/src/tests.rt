@@ -1,0 +1,223 @@
+ghost use Rattle.std.specs.Prelude.{◌<◌};
+ghost use Rattle.std.specs.List.{All};
+
+use dcv_cli::{Words, run};
+use dcv_io::{MemFiles, MemSink};
+use std::alloc::{AllocError, Global};
+use std::process::Abort;
+use std::test::Fail;
+
+// The longest text that a formula file may have.
+const MOST_BYTES: usize = 262_144;
+
+// What a run wrote, and its exit status.
+#[derive(Drop)]
+struct Ran {
+    status: u8,
+    out: Vec<u8>,
+    err: Vec<u8>,
+}
+
+// How the outside behaves: read sizes, write sizes, and the calls that fail.
+#[derive(Clone, Copy)]
+struct Outside<'a> {
+    reads: &'a [usize],
+    failing_reads: &'a [u64],
+    writes: &'a [usize],
+    failing_writes: &'a [u64],
+    failing_messages: &'a [u64],
+}
+
+const WHOLE: Outside<'static> = Outside {
+    reads: &[],
+    failing_reads: &[],
+    writes: &[],
+    failing_writes: &[],
+    failing_messages: &[],
+};
+
+// Runs the words, with the text held under the name `f`.
+fn run_of(alloc: Global, words: &[&str], text: &[u8], outside: &Outside) -> Result<Ran, AllocError>
+    requires reads { All (λ size. 0 < size) outside.now.reads.now }
+    requires writes { All (λ size. 0 < size) outside.now.writes.now }
+{
+    let mut given = Words::new(alloc);
+    for word in words {
+        given.push(word)?;
+    }
+    let mut files = MemFiles::new(alloc, outside.reads, outside.failing_reads)?;
+    files.hold("f", text)?;
+    let mut out = MemSink::new(alloc, 1000, outside.writes, outside.failing_writes)?;
+    let mut err = MemSink::new(alloc, 1000, &[], outside.failing_messages)?;
+    let status = run(alloc, &given, &mut files, &mut out, &mut err);
+    Ok(Ran {
+        status: status.code(),
+        out: out.written().to_vec(alloc)?,
+        err: err.written().to_vec(alloc)?,
+    })
+}
+
+// Whether a run of the words over the text ended with this status and wrote just this.
+fn expect(
+    rt: &impl Abort,
+    alloc: Global,
+    words: &[&str],
+    text: &[u8],
+    outside: &Outside,
+    wanted: (u8, &str, &str),
+) -> Result<(), AllocError>
+    requires reads { All (λ size. 0 < size) outside.now.reads.now }
+    requires writes { All (λ size. 0 < size) outside.now.writes.now }
+{
+    let ran = run_of(alloc, words, text, outside)?;
+    assert_eq!(rt; ran.status, wanted.0, "{words:?}");
+    assert_eq!(rt; ran.out.as_slice(), wanted.1.as_bytes(), "{words:?}");
+    assert_eq!(rt; ran.err.as_slice(), wanted.2.as_bytes(), "{words:?}");
+    Ok(())
+}
+
+const SOMETIMES: &str = "not valid\nsatisfiable\ncounterexample 1\n0\nexample 1\n1\n";
+
+const ALWAYS: &str = "valid\nsatisfiable\nexample 1\n0\n";
+
+const ALWAYS_OF_NONE: &str = "valid\nsatisfiable\nexample 1\n-\n";
+
+const NEVER: &str = "not valid\nnot satisfiable\ncounterexample 1\n0\n";
+
+const OTHER_FORM: &str = "fault form\n";
+
+#[test]
+fn verdicts_and_faults_of_texts(rt: HostRuntime) -> Result<(), Fail> {
+    let alloc = rt.alloc();
+    for (text, status, out, err) in [
+        ("var p; infer [[p]];", 1, SOMETIMES, ""),
+        ("var p; infer [[true]];", 0, ALWAYS, ""),
+        ("var p; infer [[false]];", 1, NEVER, ""),
+        ("infer[[true]];", 0, ALWAYS_OF_NONE, ""),
+        (
+            "// the lamp\r\nvar lamp_on;\n\tinfer [[ lamp_on ]]; // always",
+            1,
+            SOMETIMES,
+            "",
+        ),
+        ("", 3, "", OTHER_FORM),
+        ("var p; infer [[q]];", 3, "", OTHER_FORM),
+        ("infer [[p]];", 3, "", OTHER_FORM),
+        ("var p, q; infer [[p]];", 3, "", OTHER_FORM),
+        ("var p; infer <p>;", 3, "", OTHER_FORM),
+        ("var p; infer [[p]]; -", 3, "", OTHER_FORM),
+    ] {
+        expect(
+            &rt,
+            alloc,
+            &["check", "f"],
+            text.as_bytes(),
+            &WHOLE,
+            (status, out, err),
+        )?;
+    }
+    Ok(())
+}
+
+#[test]
+fn long_texts(rt: HostRuntime) -> Result<(), Fail> {
+    let alloc = rt.alloc();
+    let longest = vec![in alloc; b' '; MOST_BYTES]?;
+    expect(
+        &rt,
+        alloc,
+        &["check", "f"],
+        &longest,
+        &WHOLE,
+        (3, "", OTHER_FORM),
+    )?;
+    let longer = vec![in alloc; b' '; MOST_BYTES + 1]?;
+    expect(
+        &rt,
+        alloc,
+        &["check", "f"],
+        &longer,
+        &WHOLE,
+        (3, "", "fault length at 262144\n"),
+    )?;
+    Ok(())
+}
+
+#[test]
+fn words_that_ask_for_nothing(rt: HostRuntime) -> Result<(), Fail> {
+    let alloc = rt.alloc();
+    let usage = (2, "", "fault usage\n");
+    let text = b"var p; infer [[p]];";
+    expect(&rt, alloc, &[], text, &WHOLE, usage)?;
+    expect(&rt, alloc, &["check"], text, &WHOLE, usage)?;
+    expect(&rt, alloc, &["check", ""], text, &WHOLE, usage)?;
+    expect(&rt, alloc, &["check", "-f"], text, &WHOLE, usage)?;
+    expect(&rt, alloc, &["test", "f"], text, &WHOLE, usage)?;
+    expect(
+        &rt,
+        alloc,
+        &["check", "f", "--states", "0"],
+        text,
+        &WHOLE,
+        usage,
+    )?;
+    expect(
+        &rt,
+        alloc,
+        &["check", "f", "--states", "32001"],
+        text,
+        &WHOLE,
+        usage,
+    )?;
+    Ok(())
+}
+
+#[test]
+fn faults_of_the_outside(rt: HostRuntime) -> Result<(), Fail> {
+    let alloc = rt.alloc();
+    let text = b"var p; infer [[p]];";
+    let slow = Outside {
+        reads: &[1; 32],
+        ..WHOLE
+    };
+    expect(&rt, alloc, &["check", "f"], text, &slow, (1, SOMETIMES, ""))?;
+    expect(
+        &rt,
+        alloc,
+        &["check", "g"],
+        text,
+        &WHOLE,
+        (5, "", "fault open\n"),
+    )?;
+    let unreadable = Outside {
+        failing_reads: &[2],
+        ..WHOLE
+    };
+    expect(
+        &rt,
+        alloc,
+        &["check", "f"],
+        text,
+        &unreadable,
+        (5, "", "fault read\n"),
+    )?;
+    let broken_pipe = Outside {
+        writes: &[4, 4],
+        failing_writes: &[2],
+        ..WHOLE
+    };
+    expect(
+        &rt,
+        alloc,
+        &["check", "f"],
+        text,
+        &broken_pipe,
+        (6, "not ", "fault write\n"),
+    )?;
+    let no_messages = Outside {
+        failing_messages: &[1],
+        ..WHOLE
+    };
+    expect(&rt, alloc, &["check", "f"], b"", &no_messages, (3, "", ""))?;
+    Ok(())
+}
