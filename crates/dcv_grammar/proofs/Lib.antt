@@ -1,0 +1,12 @@
+pub mod ClassSets
+pub mod Hints
+pub mod Facts
+pub mod Derivations
+pub mod Steps
+pub mod Stacks
+pub mod TreeLaws
+pub mod ReadingLaws
+pub mod Builders
+pub mod ListExample
+pub mod Tables
+pub mod Verdicts

@@ -1,0 +1,16 @@
+-- What the reader's stack stands for. Its top is the first symbol.
+use Rattle.std.specs.Prelude.{◌≡◌, ◌↔◌, ℕ, List, [], ◌∷◌, Option, Some, None, slice_get, IfNone}
+use Rattle.dcv_grammar.specs.declared.grammar.Symbol.{Symbol}
+use Rattle.dcv_grammar.specs.declared.grammar.Symbol.TheVariants.{Class}
+use Rattle.dcv_grammar.specs.Grammar.{ContextFree, Derives, IsReached}
+
+-- the wanted class on top of a stack
+abbrev pub with_wanted : Option ℕ → List Symbol → List Symbol
+with_wanted None stack = stack
+with_wanted (Some class) stack = Class class ∷ stack
+
+-- Where this class comes next, the old stack derives what the wanted class and the new stack do; nothing is wanted only at an empty stack.
+pub record Wants (grammar : ContextFree) (next : Option ℕ) (old : List Symbol) (wanted : Option ℕ) (new : List Symbol) : Type 0 where
+  pub reached : IsReached grammar (with_wanted wanted new)
+  pub same : (w : List ℕ) → slice_get w 0 ≡ next → Derives grammar old w ↔ Derives grammar (with_wanted wanted new) w
+  pub ended : IfNone wanted (new ≡ [])

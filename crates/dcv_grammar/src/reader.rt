@@ -1,0 +1,77 @@
+//! The predictive reader: it says whether a list of tokens is a sentence, and else where its first fault is.
+
+ghost use Rattle.std.specs.Prelude.{◌≡◌, ◌++◌, ℕ, List, Option, IfOk, OnOk, map, reverse};
+ghost use Rattle.dcv_grammar.specs.Grammar.{ContextFree, grammar_of, IsReached, IsVerdict};
+ghost use Rattle.dcv_grammar.specs.Predictive.{IsPredictive};
+ghost use Rattle.dcv_grammar.specs.Machine.{Wants};
+
+use crate::grammar::{Classified, Grammar, Symbol};
+use std::alloc::{AllocError, Global};
+
+/// Where the first fault of the tokens is, or none in a sentence. What is before the fault is the beginning of a
+/// sentence, and with the token at it no more; at the length of the list the tokens merely stop too early.
+///
+/// What is still to come stands on a stack on the heap, so a long or deeply nested list does not grow the call stack.
+pub fn first_fault<T: Classified>(
+    alloc: Global,
+    grammar: &Grammar<'_>,
+    tokens: &[T],
+) -> Result<Option<usize>, AllocError>
+    requires { IsPredictive (grammar_of grammar.now) }
+    ensures verdict { IfOk result (IsVerdict (grammar_of grammar.now) (map T.class_of tokens.now)) }
+    ensures only { IfOk result (λ found. (other : Option ℕ) →
+        IsVerdict (grammar_of grammar.now) (map T.class_of tokens.now) other → other ≡ found) }
+{
+    let mut stack = Vec::new(alloc);
+    stack.push(Symbol::Rule(grammar.start))?;
+    for (place, token) in tokens.iter().enumerate() {
+        let class = token.class();
+        if wanted_class(grammar, &mut stack, Some(class))? != Some(class) {
+            return Ok(Some(place));
+        }
+    }
+    if wanted_class(grammar, &mut stack, None)?.is_some() {
+        return Ok(Some(tokens.len()));
+    }
+    Ok(None)
+}
+
+/// With a predictive grammar each list has a verdict, and with any grammar no second one.
+pub fn one_verdict()
+    ensures some { (grammar : ContextFree) → IsPredictive grammar → (classes : List ℕ) →
+        (verdict : Option ℕ) × IsVerdict grammar classes verdict }
+    ensures only { (grammar : ContextFree) (classes : List ℕ) (verdict other : Option ℕ) →
+        IsVerdict grammar classes verdict → IsVerdict grammar classes other → verdict ≡ other }
+{}
+
+/// Takes bodies in the place of their rules, as the next class picks them, until a class is on top, and takes it off.
+fn wanted_class(
+    grammar: &Grammar<'_>,
+    stack: &mut Vec<Symbol>,
+    next: Option<u8>,
+) -> Result<Option<u8>, AllocError>
+    requires predictive { IsPredictive (grammar_of grammar.now) }
+    requires reached { IsReached (grammar_of grammar.now) (reverse stack.old.items) }
+    ensures { IfOk result (λ wanted.
+        Wants (grammar_of grammar.now) next (reverse stack.old.items) wanted (reverse stack.new.items)) }
+{
+    while let Some(symbol) = stack.pop() {
+        match symbol {
+            Symbol::Class(class) => return Ok(Some(class)),
+            Symbol::Rule(number) => {
+                push_symbols(stack, grammar.rule(number).body_for(next))?;
+            }
+        }
+    }
+    Ok(None)
+}
+
+/// Pushes symbols, the first one on top.
+fn push_symbols(stack: &mut Vec<Symbol>, symbols: &[Symbol]) -> Result<(), AllocError>
+    ensures { OnOk result (reverse stack.new.items ≡ symbols.now ++ reverse stack.old.items) }
+{
+    for symbol in symbols.iter().rev() {
+        stack.push(*symbol)?;
+    }
+    Ok(())
+}
