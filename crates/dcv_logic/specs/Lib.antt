@@ -4,3 +4,4 @@ pub mod Environment
 pub mod Value
 pub mod Satisfaction
 pub mod Models
+pub mod Scope

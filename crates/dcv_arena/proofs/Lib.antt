@@ -1,0 +1,11 @@
+pub mod Blocks
+pub mod Counts
+pub mod Functions
+pub mod Growth
+pub mod Listed
+pub mod Members
+pub mod Placed
+pub mod Refs
+pub mod Roots
+pub mod Same
+pub mod Tables

@@ -1,0 +1,99 @@
+-- The laws that `src/laws.rt` proves: of refs and their functions, of an arena's nodes, and of diagrams.
+use Rattle.std.specs.Prelude.{◌≡◌, ◌≢◌, ◌↔◌, ℕ, suc, ◌+◌, ◌<◌, ◌≤◌, Bool, true, false, if◌then◌else◌, List, [], ◌∷◌, ◌++◌, length, map, slice_set, slice_index_or, Contains}
+use Rattle.std.specs.List.{All, AllPairs}
+use Rattle.dcv_word.specs.Letter.{bits_of, letters_of_width}
+use Rattle.dcv_arena.specs.Arena.{ArenaValue, IsArena, IsRef, IsNew, level_of, value_of, table_of, diagram_nodes, KeepsRefs, HasOnlyNodesOf, AddsOnlyNodesOf, IncludesNodesOf}
+use Rattle.dcv_arena.specs.Diagram.{block, first_half, second_half, nodes_of}
+use Rattle.dcv_arena.specs.declared.nodes.Ref.{Ref}
+
+-- ---- refs and functions
+
+-- a ref has this number at each letter
+abbrev pub HasFunction : ArenaValue → Ref → (List Bool → ℕ) → Type 0
+HasFunction arena ref function = (letter : List Bool) → length letter ≡ arena.slots → value_of arena ref letter ≡ function letter
+
+-- two refs are equal exactly where their numbers are, at each letter
+abbrev pub OneRefForOneFunction : Type 0
+OneRefForOneFunction = (arena : ArenaValue) (first second : Ref) → IsArena arena → IsRef arena first → IsRef arena second
+    → (first ≡ second) ↔ HasFunction arena first (value_of arena second)
+
+-- and exactly where their tables are
+abbrev pub OneRefForOneTable : Type 0
+OneRefForOneTable = (arena : ArenaValue) (first second : Ref) → IsArena arena → IsRef arena first → IsRef arena second
+    → (first ≡ second) ↔ (table_of arena first ≡ table_of arena second)
+
+-- a node that is new has a function that no ref has yet
+abbrev pub NewNodeIsNewFunction : Type 0
+NewNodeIsNewFunction = (arena : ArenaValue) (slot : ℕ) (lo hi : Ref) → IsArena arena → IsRef arena lo → IsRef arena hi
+    → slot < arena.slots → slot < level_of arena lo → slot < level_of arena hi → IsNew arena slot lo hi
+    → (ref : Ref) → IsRef arena ref
+    → ¬ HasFunction arena ref (λ letter. if slice_index_or letter slot false then value_of arena hi letter else value_of arena lo letter)
+
+-- a function does not depend on the slots before its ref's level
+abbrev pub EarlierSlotsAreIgnored : Type 0
+EarlierSlotsAreIgnored = (arena : ArenaValue) (ref : Ref) (first second : List Bool) → IsArena arena → IsRef arena ref
+    → ((slot : ℕ) → level_of arena ref ≤ slot → slice_index_or first slot false ≡ slice_index_or second slot false)
+    → value_of arena ref first ≡ value_of arena ref second
+
+-- and depends on the slot that its level is, unless it is a leaf
+abbrev pub OwnSlotMatters : Type 0
+OwnSlotMatters = (arena : ArenaValue) (ref : Ref) → IsArena arena → IsRef arena ref → level_of arena ref < arena.slots
+    → ¬ ((letter : List Bool) → length letter ≡ arena.slots
+    → value_of arena ref (slice_set letter (level_of arena ref) false) ≡ value_of arena ref (slice_set letter (level_of arena ref) true))
+
+-- ---- the nodes of an arena
+
+-- they are the nodes of the functions of its refs
+abbrev pub NodesAreOfFunctions : Type 0
+NodesAreOfFunctions = (arena : ArenaValue) (node : ℕ × List ℕ) → IsArena arena
+    → Contains (diagram_nodes arena) node ↔ ((ref : Ref) × IsRef arena ref × Contains (nodes_of arena.slots (table_of arena ref)) node)
+
+-- and no two are the same
+abbrev pub NodesAreApart : Type 0
+NodesAreApart = (arena : ArenaValue) → IsArena arena → AllPairs (λ a b. a ≢ b) (diagram_nodes arena)
+
+abbrev pub NodesAreCounted : Type 0
+NodesAreCounted = (arena : ArenaValue) → length (diagram_nodes arena) ≡ length arena.nodes
+
+-- ---- arenas that grow
+
+abbrev pub RefsAreKeptByItself : Type 0
+RefsAreKeptByItself = (arena : ArenaValue) → KeepsRefs arena arena
+
+abbrev pub RefsAreKeptInTurn : Type 0
+RefsAreKeptInTurn = (first second third : ArenaValue) → KeepsRefs first second → KeepsRefs second third → KeepsRefs first third
+
+-- an arena with no nodes has those of no function
+abbrev pub NoNodesAreOfNoRoots : Type 0
+NoNodesAreOfNoRoots = (arena : ArenaValue) → arena.nodes ≡ [] → HasOnlyNodesOf arena []
+
+-- where one more function's nodes are added, the arena has only the nodes of the functions so far and of that one
+abbrev pub OneMoreRoot : Type 0
+OneMoreRoot = (old new : ArenaValue) (roots : List Ref) (root : Ref) → KeepsRefs old new → All (IsRef old) roots
+    → HasOnlyNodesOf old roots → AddsOnlyNodesOf old new root → HasOnlyNodesOf new (roots ++ root ∷ [])
+
+-- what is added for a part of a function, and then for the function, is all of the function
+abbrev pub PartsAreAddedInTurn : Type 0
+PartsAreAddedInTurn = (old middle new : ArenaValue) (part root : Ref) → AddsOnlyNodesOf old middle part → AddsOnlyNodesOf middle new root
+    → IncludesNodesOf middle part new root → AddsOnlyNodesOf old new root
+
+-- a part is a part whichever of the arenas between has its ref
+abbrev pub PartsAreKept : Type 0
+PartsAreKept = (old middle new : ArenaValue) (part root : Ref) → KeepsRefs old middle → IsRef old part
+    → IncludesNodesOf middle part new root → IncludesNodesOf old part new root
+
+-- ---- blocks
+
+-- a block has the numbers of the letters that begin alike, and stands at the number of what they begin with
+abbrev pub BlocksAreOfFronts : Type 0
+BlocksAreOfFronts = (front : List Bool) (rest slots : ℕ) (function : List Bool → ℕ) → length front + rest ≡ slots
+    → block slots (map function (letters_of_width slots)) (length front) (bits_of front) ≡ map (λ values. function (front ++ values)) (letters_of_width rest)
+
+-- its first half has those of the letters with false in the level's slot
+abbrev pub FirstHalfIsOfFalse : Type 0
+FirstHalfIsOfFalse = (front : List Bool) (rest : ℕ) (function : List Bool → ℕ)
+    → first_half (map (λ values. function (front ++ values)) (letters_of_width (suc rest))) ≡ map (λ values. function (front ++ false ∷ values)) (letters_of_width rest)
+
+abbrev pub SecondHalfIsOfTrue : Type 0
+SecondHalfIsOfTrue = (front : List Bool) (rest : ℕ) (function : List Bool → ℕ)
+    → second_half (map (λ values. function (front ++ values)) (letters_of_width (suc rest))) ≡ map (λ values. function (front ++ true ∷ values)) (letters_of_width rest)

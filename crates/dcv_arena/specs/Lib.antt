@@ -1,0 +1,4 @@
+pub mod Arena
+pub mod Diagram
+pub mod Laws
+pub mod Placing

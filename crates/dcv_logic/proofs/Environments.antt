@@ -1,0 +1,88 @@
+-- What the environment of a scope has under a name.
+use Rattle.std.proofs.Common.{◌≡◌, ◌≢◌, ℕ, Bool, true, false, cond, List, [], ◌∷◌, ◌++◌, Option, Some, None, refl, ap, ◌∙◌}
+use Rattle.std.specs.Str.{bytes_eq}
+use Rattle.std.specs.List.{AllByRecursion}
+use Rattle.std.proofs.lemmas.Bool.{false_from_ne_true}
+use Rattle.std.proofs.lemmas.Slice.Eq.{bytes_eq-Decides}
+use Rattle.dcv_syntax.specs.declared.files.Macro.{Macro}
+use Rattle.dcv_logic.specs.declared.scopes.Binding.{Binding}
+use Rattle.dcv_logic.specs.declared.scopes.Scope.{Scope}
+use Rattle.dcv_logic.specs.Environment.{Environment, found}
+use Rattle.dcv_logic.specs.Models.{macro_meaning, with_macros}
+use Rattle.dcv_logic.specs.Scope.{tracks_of, outside, environment_of, IsNewest}
+
+-- the first of two, where it is there
+abbrev pub or_else : {X : Type 0} → Option X → Option X → Option X
+or_else None second = second
+or_else (Some x) second = Some x
+
+found_in : {X : Type 0} (here : Bool) (x : X) (first second : Option X) →
+    cond here (Some x) (or_else first second) ≡ or_else (cond here (Some x) first) second
+found_in true x first second = refl
+found_in false x first second = refl
+
+pub found-append : {X : Type 0} (xs ys : List (List ℕ × X)) (name : List ℕ) → found (xs ++ ys) name ≡ or_else (found xs name) (found ys name)
+found-append [] ys name = refl
+found-append (x ∷ xs) ys name =
+    ap (cond (bytes_eq x.0 name) (Some x.1)) (found-append xs ys name)
+    ∙ found_in (bytes_eq x.0 name) x.1 (found xs name) (found ys name)
+
+pub environment_of-tracks : (s : Scope) → (environment_of s).tracks ≡ tracks_of s.locals.items ++ tracks_of s.declared.now
+unfolding environment_of
+environment_of-tracks s = refl
+
+pub environment_of-macros : (s : Scope) → (environment_of s).macros ≡ (outside s.instants s.declared.now s.macros.now).macros
+unfolding environment_of
+environment_of-macros s = refl
+
+with_macros-instants : (ms : List Macro) (env : Environment) → (with_macros env ms).instants ≡ env.instants
+with_macros-instants [] env = refl
+with_macros-instants (m ∷ ms) env = with_macros-instants ms _
+
+with_macros-tracks : (ms : List Macro) (env : Environment) → (with_macros env ms).tracks ≡ env.tracks
+with_macros-tracks [] env = refl
+with_macros-tracks (m ∷ ms) env = with_macros-tracks ms _
+
+with_macros-append : (ms ns : List Macro) (env : Environment) → with_macros env (ms ++ ns) ≡ with_macros (with_macros env ms) ns
+with_macros-append [] ns env = refl
+with_macros-append (m ∷ ms) ns env = with_macros-append ms ns _
+
+pub outside-instants : (n : ℕ) (declared : List Binding) (ms : List Macro) → (outside n declared ms).instants ≡ n
+outside-instants n declared ms = with_macros-instants ms _
+
+pub outside-tracks : (n : ℕ) (declared : List Binding) (ms : List Macro) → (outside n declared ms).tracks ≡ tracks_of declared
+outside-tracks n declared ms = with_macros-tracks ms _
+
+pub environment_of-instants : (s : Scope) → (environment_of s).instants ≡ s.instants
+unfolding environment_of
+environment_of-instants s = outside-instants s.instants s.declared.now s.macros.now
+
+-- a name is found only where it is the same
+same_name : (xs ys : List ℕ) → xs ≡ ys → bytes_eq xs ys ≡ true
+same_name xs ys e = (bytes_eq-Decides xs ys).1 e
+
+other_name : (xs ys : List ℕ) → xs ≢ ys → bytes_eq xs ys ≡ false
+other_name xs ys ne = false_from_ne_true (bytes_eq xs ys) (λ e. ne ((bytes_eq-Decides xs ys).0 e))
+
+-- macros of other names change nothing
+passed_over : (ms : List Macro) (env : Environment) (name : List ℕ) → AllByRecursion (λ (m : Macro). m.name.text ≢ name) ms → found (with_macros env ms).macros name ≡ found env.macros name
+passed_over [] env name others = refl
+passed_over (m ∷ ms) env name others =
+    passed_over ms _ name others.1
+    ∙ ap (λ b. cond b (Some (macro_meaning env m)) (found env.macros name)) (other_name m.name.text name others.0)
+
+pub found_newest : (n : ℕ) (declared : List Binding) (macros : List Macro) (name : List ℕ) (last : Macro) (earlier : List Macro) → IsNewest macros name last earlier →
+    found (outside n declared macros).macros name ≡ Some (macro_meaning (outside n declared earlier) last)
+found_newest n declared macros name last earlier newest =
+    let base = outside n declared [] in
+    let after = newest.later.0 in
+    ap (λ ms. found (with_macros base ms).macros name) newest.later.1
+    ∙ ap (λ (env : Environment). found env.macros name) (with_macros-append earlier (last ∷ after) base)
+    ∙ passed_over after _ name newest.later.2
+    ∙ ap (λ b. cond b (Some (macro_meaning (outside n declared earlier) last)) (found (outside n declared earlier).macros name)) (same_name last.name.text name newest.name)
+
+pub found_none : (n : ℕ) (declared : List Binding) (macros : List Macro) (name : List ℕ) → AllByRecursion (λ (m : Macro). m.name.text ≢ name) macros →
+    found (outside n declared macros).macros name ≡ None
+found_none n declared macros name others = passed_over macros _ name others
+
+pub ruleset environments = (environment_of-instants, environment_of-tracks)

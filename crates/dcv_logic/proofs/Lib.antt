@@ -1,0 +1,4 @@
+pub mod Environments
+pub mod Measures
+pub mod Rows
+pub mod Searches

@@ -1,0 +1,38 @@
+use Rattle.std.proofs.Common.{◌≡◌, Bool, ap, sym, subst, ◌∙◌, IfOk, List, arith}
+use Rattle.std.proofs.lemmas.Grind.{common_steps}
+use Rattle.dcv_syntax.specs.declared.propositions.Prop.{Prop, size-Prop}
+use Rattle.dcv_logic.specs.Environment.{found}
+use Rattle.dcv_logic.specs.Value.{value, call_value}
+use Rattle.dcv_logic.specs.Scope.{environment_of, argument_tracks_of}
+use Rattle.dcv_logic.proofs.Environments.{environment_of-instants}
+use Rattle.dcv_logic.proofs.Measures.{prop_depth, all_bodies, left_after_call}
+use Rattle.dcv_logic.proofs.Rows.{value-Call}
+use Rattle.dcv_logic.proofs.Searches.{values_from-step, values_from-end}
+use Rattle.dcv_logic.proofs.scopes.Scope.+value.Goals as goal
+
+pub call_value-value-requires : goal.call_value-value-requires
+call_value-value-requires t c =
+    let called = c.in-Some-called.called.now in
+    let body : prop_depth called.body ≡ size-Prop c.in-Prop.body = ap prop_depth c.in-Prop.is in
+    let left = left_after_call prop_depth c.args.self.now.macros.now c.args.name.now.text called c.in-Some-called.earlier.now c.in-Some-called.ensures.newest in
+    let macros : all_bodies prop_depth c.in_ok-inside-in-Prop.field-0.macros.now ≡ all_bodies prop_depth c.in-Some-called.earlier.now = ap (all_bodies prop_depth) c.in_ok-inside-in-Prop.ensures.macros in
+    (omega (arith, left, body, macros), tt)
+
+pub track_of-loop-instant-preserved : goal.track_of-loop-instant-preserved
+track_of-loop-instant-preserved t c =
+    let step = values_from-step (value (environment_of c.args.self.now) c.args.prop.now.kind) c.loop-instant.instant c.args.self.now.instants c.loop-instant-test.true in
+    grind (arith, common_steps, step)
+
+pub track_of-returns : goal.track_of-returns
+track_of-returns t c =
+    let end = values_from-end (value (environment_of c.args.self.now) c.args.prop.now.kind) c.loop-instant.instant c.args.self.now.instants c.loop-instant-test.false in
+    grind (arith, common_steps, end, environment_of-instants c.args.self.now)
+
+pub value-returns-in-Call : goal.value-returns-in-Call
+value-returns-in-Call t c =
+    let env = environment_of c.args.self.now in
+    let name = c.in-Call.name in
+    let of_list : List Prop → Bool = λ arguments. call_value (found env.tracks name.text) (found env.macros name.text) (argument_tracks_of env arguments) c.args.instant in
+    let same : of_list c.deref.result.now ≡ value env c.args.prop.now.kind c.args.instant =
+    ap of_list c.deref.ensures.value ∙ sym (value-Call env name c.in-Call.arguments c.args.instant) ∙ sym (ap (λ kind. value env kind c.args.instant) c.in-Call.is) in
+    subst (λ truth. IfOk c.call_value.result (λ t. t ≡ truth)) same c.call_value.ensures

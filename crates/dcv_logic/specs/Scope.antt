@@ -1,0 +1,46 @@
+-- What the evaluator's scope stands for.
+use Rattle.std.specs.Prelude.{◌≡◌, ◌≢◌, ℕ, Bool, ◌==◌, ◌&&◌, List, [], ◌∷◌, ◌++◌, map}
+use Rattle.std.specs.List.{AllByRecursion}
+use Rattle.dcv_syntax.specs.declared.files.Macro.{Macro}
+use Rattle.dcv_syntax.specs.declared.propositions.Prop.{Prop}
+use Rattle.dcv_syntax.specs.declared.formulas.FormulaOperand.{FormulaOperand}
+use Rattle.dcv_logic.specs.declared.scopes.Binding.{Binding}
+use Rattle.dcv_logic.specs.declared.scopes.Scope.{Scope}
+use Rattle.dcv_logic.specs.Track.{Track, track_of}
+use Rattle.dcv_logic.specs.Search.{some_between}
+use Rattle.dcv_logic.specs.Environment.{Environment}
+use Rattle.dcv_logic.specs.Value.{value}
+use Rattle.dcv_logic.specs.Satisfaction.{satisfies}
+use Rattle.dcv_logic.specs.Models.{with_macros}
+
+-- names with their tracks
+abbrev pub tracks_of : List Binding → List (List ℕ × Track)
+tracks_of = map (λ (b : Binding). (b.name, b.track.items))
+
+-- the environment of the declared variables and these macros
+abbrev pub outside : ℕ → List Binding → List Macro → Environment
+outside instants declared macros =
+    with_macros (record { instants = instants; tracks = tracks_of declared; macros = [] }) macros
+
+-- the environment that a scope stands for
+unfoldable pub environment_of : Scope → Environment
+environment_of scope =
+    record (outside scope.instants scope.declared.now scope.macros.now) {
+      tracks = tracks_of scope.locals.items ++ tracks_of scope.declared.now;
+    }
+
+-- the last macro of this name, and those before it
+pub record IsNewest (macros : List Macro) (sought : List ℕ) (last : Macro) (earlier : List Macro) : Type 0 where
+  pub name : last.name.text ≡ sought
+  pub later : (after : List Macro) × (macros ≡ earlier ++ last ∷ after)
+      × AllByRecursion (λ (m : Macro). m.name.text ≢ sought) after
+
+-- the tracks of a macro's arguments
+abbrev pub argument_tracks_of : Environment → List Prop → List Track
+argument_tracks_of env = map (λ (p : Prop). track_of env.instants (value env p.kind))
+
+-- a chop of these operands
+abbrev pub chop_of : Environment → List FormulaOperand → ℕ → ℕ → Bool
+chop_of env [] b e = b == e
+chop_of env (operand ∷ operands) b e =
+    some_between b e (λ m. satisfies env operand.formula.kind b m && chop_of env operands m e)
