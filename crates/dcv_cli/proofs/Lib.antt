@@ -3,6 +3,7 @@ pub mod FormTests
 pub mod Letters
 pub mod OneOutcome
 pub mod Outcomes
+pub mod Pieces
 pub mod Sending
 pub mod Singles
 pub mod SameFile

@@ -1,5 +1,5 @@
 -- How each step of a run leads to a right outcome.
-use Rattle.std.proofs.Common.{◌≡◌, ℕ, suc, ◌<◌, ◌≤◌, List, [], length, replicate, Option, None, Some, Err, Vec, Global, refl, ap, arith}
+use Rattle.std.proofs.Common.{◌≡◌, ◌≢◌, ℕ, suc, ◌<◌, ◌≤◌, List, [], length, replicate, Option, None, Some, Err, Vec, Global, refl, ap, arith}
 use Rattle.std.specs.Prelude.{Bool, true, false, IfSome, IsSome, is_some, IsTrue, IsFalse}
 use Rattle.std.proofs.Math.ListN.{length-replicate}
 use Rattle.dcv_io.specs.Disk.{Disk, held_of, WhereTold, ReadsPast}
@@ -10,37 +10,41 @@ use Rattle.dcv_syntax.specs.declared.files.File.{File}
 use Rattle.dcv_logic.specs.Models.{models}
 use Rattle.dcv_language.specs.Verdict.{Verdict, IsVerdict}
 use Rattle.dcv_language.specs.VerdictText.{verdict_text}
-use Rattle.dcv_reader.specs.FirstForm.{Spells}
-use Rattle.dcv_reader.specs.declared.fault.ReadFault.{ReadFault}
-use Rattle.dcv_reader.specs.declared.fault.ReadFault.TheVariants.{Form as ReadForm, Memory as ReadMemory}
+use Rattle.dcv_reader.specs.Faults.{IsFault}
+use Rattle.dcv_reader.specs.declared.faults.ReadFault.{ReadFault}
+use Rattle.dcv_reader.specs.declared.faults.ReadFault.TheVariants.{Byte as ByteAt, Syntax as SyntaxAt, Number as NumberAt, Name as NameAt, Nest as NestAt, Memory as ReadMemory}
 use Rattle.dcv_cli.specs.declared.refusal.Refusal.{Refusal}
-use Rattle.dcv_cli.specs.declared.refusal.Refusal.TheVariants.{Usage, Open, Read, Length, Form, Write, Memory}
+use Rattle.dcv_cli.specs.declared.refusal.Refusal.TheVariants.{Usage, Open, Read, Length, Text, Form, Write, Memory}
 use Rattle.dcv_cli.specs.declared.status.Status.{Status}
 use Rattle.dcv_cli.specs.FirstForm.{is_first_form}
-use Rattle.dcv_cli.specs.Outcome.{Outcome, IsChecked, TooLong, NoFile, OtherForm, Decided, FulfilsOver, IsRightOver}
+use Rattle.dcv_cli.specs.Outcome.{Outcome, IsChecked, Holds, TooLong, Faulty, OtherForm, Decided, FulfilsOver, IsRightOver}
 use Rattle.dcv_cli.specs.Refusal.{refusal_of_taking, refusal_of_reading}
 use Rattle.dcv_cli.specs.Report.{refusal_outcome, ExplainsText, ExplainsRequest, Explains}
 use Rattle.dcv_cli.specs.Request.{Request, CheckFile, request_of}
 use Rattle.dcv_cli.specs.Verdict.{status_of_verdict}
 
 -- a refusal of the reader is right for the text
-pub explains_reading : (text : List ℕ) (fault : ReadFault) → length text ≤ 262144
-    → (fault ≡ ReadForm → (file : File) → Spells text file → ⊥) → ExplainsText text (refusal_of_reading fault)
-explains_reading text ReadForm short none = NoFile short (none refl) refl
-explains_reading text ReadMemory short none = tt
+pub explains_reading : (text : List ℕ) (fault : ReadFault) → length text ≤ 262144 → (fault ≢ ReadMemory → IsFault text fault)
+    → ExplainsText text (refusal_of_reading fault)
+explains_reading text (ByteAt at) short is = Faulty short (ByteAt at) (is (λ e. cc)) refl
+explains_reading text (SyntaxAt at) short is = Faulty short (SyntaxAt at) (is (λ e. cc)) refl
+explains_reading text (NumberAt at) short is = Faulty short (NumberAt at) (is (λ e. cc)) refl
+explains_reading text (NameAt at) short is = Faulty short (NameAt at) (is (λ e. cc)) refl
+explains_reading text (NestAt at) short is = Faulty short (NestAt at) (is (λ e. cc)) refl
+explains_reading text ReadMemory short is = tt
 
 -- a file that is not decided is refused
-pub explains_other_form : (text : List ℕ) (file : File) → length text ≤ 262144 → Spells text file → IsFalse (is_first_form file)
+pub explains_other_form : (text : List ℕ) (file : File) → length text ≤ 262144 → Holds text file → IsFalse (is_first_form file)
     → IsChecked text (refusal_outcome Form)
-explains_other_form text file short spelled other = OtherForm short file spelled other refl
+explains_other_form text file short holds other = OtherForm short file holds other refl
 
 -- the verdict, in bytes and with its status
 pub explains_verdict : (text : List ℕ) (file : File) (verdict : Verdict) (status : Status) (out : List ℕ) → length text ≤ 262144
-    → Spells text file → IsTrue (is_first_form file) → IsVerdict (length file.variables.items) (models file) verdict
+    → Holds text file → IsTrue (is_first_form file) → IsVerdict (length file.variables.items) (models file) verdict
     → status ≡ status_of_verdict verdict → out ≡ verdict_text verdict
     → IsChecked text (record { status = status; out = out; err = [] })
-explains_verdict text file verdict status out short spelled form is s o =
-    Decided short file spelled form verdict is (λ i. record { status = s i; out = o i; err = [] })
+explains_verdict text file verdict status out short holds form is s o =
+    Decided short file holds form verdict is (λ i. record { status = s i; out = o i; err = [] })
 
 -- texts that may be held, as is told
 some_held : Option Disk → List ℕ → Option (List ℕ)
@@ -87,6 +91,7 @@ explains_text told name text Usage there h = absurd h
 explains_text told name text Open there h = tt
 explains_text told name text Read there h = tt
 explains_text told name text Length there h = absurd h
+explains_text told name text (Text fault at) there h = fulfils_check told name text (refusal_outcome (Text fault at)) there h
 explains_text told name text Form there h = fulfils_check told name text (refusal_outcome Form) there h
 explains_text told name text Write there h = absurd h
 explains_text told name text Memory there h = tt
@@ -103,6 +108,7 @@ explains_request words request told Usage asked h = absurd h
 explains_request words request told Open asked h = tt
 explains_request words request told Read asked h = tt
 explains_request words request told Length asked h = right_request words request told (refusal_outcome Length) asked h
+explains_request words request told (Text fault at) asked h = right_request words request told (refusal_outcome (Text fault at)) asked h
 explains_request words request told Form asked h = right_request words request told (refusal_outcome Form) asked h
 explains_request words request told Write asked h = absurd h
 explains_request words request told Memory asked h = tt

@@ -1,11 +1,16 @@
 -- What a run has to do: the outcomes that are right for its words and the bytes that are held, and the words with
 -- which the clauses of `run` speak of them.
-use Rattle.std.specs.Prelude.{◌≡◌, ◌⊎◌, ℕ, ◌<◌, ◌≤◌, Bool, List, [], Option, MatchOption, MatchBool, IfSome, IsTrue, IsFalse, codes, length, ⊤}
+use Rattle.std.specs.Prelude.{◌≡◌, ◌⊎◌, ℕ, ◌<◌, ◌≤◌, Bool, List, [], ◌++◌, Option, MatchOption, MatchBool, IfSome, IsTrue, IsFalse, codes, length, ⊤}
 use Rattle.dcv_syntax.specs.declared.files.File.{File}
 use Rattle.dcv_logic.specs.Models.{models}
 use Rattle.dcv_language.specs.Verdict.{Verdict, IsVerdict}
 use Rattle.dcv_language.specs.VerdictText.{line, verdict_text}
-use Rattle.dcv_reader.specs.FirstForm.{Spells}
+use Rattle.dcv_reader.specs.Faults.{HasFault, IsFault}
+use Rattle.dcv_reader.specs.Spelling.{Spells}
+use Rattle.dcv_reader.specs.declared.faults.ReadFault.{ReadFault}
+use Rattle.dcv_reader.specs.declared.faults.ReadFault.TheVariants.{Byte, Syntax, Number, Name, Nest, Memory as ReadMemory}
+use Rattle.dcv_syntax.specs.Views.{plain_file}
+use Rattle.std.specs.Fmt.{decimal}
 use Rattle.dcv_io.specs.Disk.{Disk, held_of}
 use Rattle.dcv_io.specs.Faults.{has_risen, Rises}
 use Rattle.dcv_io.specs.Written.{Appends, AppendsPrefix}
@@ -30,19 +35,33 @@ refused status message = record { status = status; out = []; err = line message 
 abbrev pub answered : Verdict → Outcome
 answered verdict = record { status = status_of_verdict verdict; out = verdict_text verdict; err = [] }
 
+-- a fault with its place, in words
+abbrev pub fault_text : ReadFault → List ℕ
+fault_text (Byte at) = codes "fault byte at " ++ decimal at
+fault_text (Syntax at) = codes "fault syntax at " ++ decimal at
+fault_text (Number at) = codes "fault number at " ++ decimal at
+fault_text (Name at) = codes "fault name at " ++ decimal at
+fault_text (Nest at) = codes "fault nest at " ++ decimal at
+fault_text ReadMemory = codes "fault memory"
+
 -- the most bytes that a formula file has
 abbrev pub most_bytes : ℕ
 most_bytes = 262144
 
--- The outcomes that are right where `check` reads this text: it is too long, it spells no file, it spells one that is
--- not decided today, or its verdict is the answer.
+-- The text has no fault, and spells the file.
+pub record Holds (text : List ℕ) (file : File) : Type 0 where
+  pub no_fault : (fault : ReadFault) → HasFault text fault → ⊥
+  pub spelled : Spells text (plain_file file)
+
+-- The outcomes that are right where `check` reads this text: it is too long, it has a fault, it holds a file that is not
+-- decided today, or its verdict is the answer.
 pub data IsChecked (text : List ℕ) (outcome : Outcome) : Type 0 where
   TooLong : most_bytes < length text → outcome ≡ refused Formula (codes "fault length at 262144") → IsChecked text outcome
-  NoFile : length text ≤ most_bytes → ((file : File) → Spells text file → ⊥)
+  Faulty : length text ≤ most_bytes → (fault : ReadFault) → IsFault text fault
+      → outcome ≡ refused Formula (fault_text fault) → IsChecked text outcome
+  OtherForm : length text ≤ most_bytes → (file : File) → Holds text file → IsFalse (is_first_form file)
       → outcome ≡ refused Formula (codes "fault form") → IsChecked text outcome
-  OtherForm : length text ≤ most_bytes → (file : File) → Spells text file → IsFalse (is_first_form file)
-      → outcome ≡ refused Formula (codes "fault form") → IsChecked text outcome
-  Decided : length text ≤ most_bytes → (file : File) → Spells text file → IsTrue (is_first_form file)
+  Decided : length text ≤ most_bytes → (file : File) → Holds text file → IsTrue (is_first_form file)
       → (verdict : Verdict) → IsVerdict (length file.variables.items) (models file) verdict
       → outcome ≡ answered verdict → IsChecked text outcome
 

@@ -3,7 +3,7 @@ use Rattle.std.specs.Prelude.{ℕ, Bool, true, false, List, [], Option, Result, 
 use Rattle.dcv_io.specs.Disk.{Disk}
 use Rattle.dcv_cli.specs.declared.answer.Report.{Report}
 use Rattle.dcv_cli.specs.declared.refusal.Refusal.{Refusal}
-use Rattle.dcv_cli.specs.declared.refusal.Refusal.TheVariants.{Usage, Open, Read, Length, Form, Write, Memory}
+use Rattle.dcv_cli.specs.declared.refusal.Refusal.TheVariants.{Usage, Open, Read, Length, Text, Form, Write, Memory}
 use Rattle.dcv_cli.specs.Outcome.{Outcome, IsChecked, FulfilsOver, IsRightOver}
 use Rattle.dcv_cli.specs.Refusal.{status_of, message_of}
 use Rattle.dcv_cli.specs.Request.{Request}
@@ -22,6 +22,7 @@ ExplainsText text Usage = ⊥
 ExplainsText text Open = ⊥
 ExplainsText text Read = ⊥
 ExplainsText text Length = ⊥
+ExplainsText text (Text fault at) = IsChecked text (refusal_outcome (Text fault at))
 ExplainsText text Form = IsChecked text (refusal_outcome Form)
 ExplainsText text Write = ⊥
 ExplainsText text Memory = Unit {0}
@@ -32,6 +33,7 @@ ExplainsRequest request told Usage = ⊥
 ExplainsRequest request told Open = Unit {0}
 ExplainsRequest request told Read = Unit {0}
 ExplainsRequest request told Length = FulfilsOver request told (refusal_outcome Length)
+ExplainsRequest request told (Text fault at) = FulfilsOver request told (refusal_outcome (Text fault at))
 ExplainsRequest request told Form = FulfilsOver request told (refusal_outcome Form)
 ExplainsRequest request told Write = ⊥
 ExplainsRequest request told Memory = Unit {0}
@@ -42,6 +44,7 @@ Explains words told Usage = IsRightOver words told (refusal_outcome Usage)
 Explains words told Open = Unit {0}
 Explains words told Read = Unit {0}
 Explains words told Length = IsRightOver words told (refusal_outcome Length)
+Explains words told (Text fault at) = IsRightOver words told (refusal_outcome (Text fault at))
 Explains words told Form = IsRightOver words told (refusal_outcome Form)
 Explains words told Write = ⊥
 Explains words told Memory = Unit {0}
@@ -53,6 +56,7 @@ is_open_refusal (Err Usage) = false
 is_open_refusal (Err Open) = true
 is_open_refusal (Err Read) = false
 is_open_refusal (Err Length) = false
+is_open_refusal (Err (Text fault at)) = false
 is_open_refusal (Err Form) = false
 is_open_refusal (Err Write) = false
 is_open_refusal (Err Memory) = false
@@ -64,6 +68,7 @@ is_read_refusal (Err Usage) = false
 is_read_refusal (Err Open) = false
 is_read_refusal (Err Read) = true
 is_read_refusal (Err Length) = false
+is_read_refusal (Err (Text fault at)) = false
 is_read_refusal (Err Form) = false
 is_read_refusal (Err Write) = false
 is_read_refusal (Err Memory) = false

@@ -79,6 +79,6 @@ fn refuse<E: Sink>(err: &mut E, refusal: Refusal) -> Status
     ensures status { result ≡ status_of refusal }
     ensures message { Tells (message_of refusal) (E.written err.old) (E.written err.new) (E.faults err.old) (E.faults err.new) }
 {
-    let _ = write_all(err, refusal.message());
+    let _ = refusal.tell(err);
     refusal.status()
 }

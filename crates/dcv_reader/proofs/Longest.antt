@@ -321,5 +321,21 @@ word_by_first (b ∷ bytes) is =
     same_from_decides {P = is_ascii_alphabetic b ≡ true} (is_word (b ∷ bytes)) (is_ascii_alphabetic b)
     (λ word. (and_parts (is_ascii_alphabetic b) (list_all is_word_byte bytes) word).0, word_of_letter b bytes is) (λ h. h, λ h. h)
 
+number_of_digit : (b : ℕ) (bytes : List ℕ) → IsTrue (is_piece (b ∷ bytes)) → is_ascii_digit b ≡ true → is_number (b ∷ bytes) ≡ true
+number_of_digit b bytes is digit = elim (kind_of b bytes is) [
+  | Kind.white w nil ↦ absurd (omega (arith, white_below b w, digit_within b digit))
+  | Kind.comment w slash ↦ absurd (omega (arith, digit_within b digit))
+  | Kind.word w letter ↦ absurd (omega (arith, letter_above b letter, digit_within b digit))
+  | Kind.number w same ↦ w
+  | Kind.symbol w free ↦ absurd (both_ways (is_ascii_digit b) (symbol_byte_is_no_other b free).3 digit)
+]
+
+-- the first byte tells whether a piece is a number
+pub number_by_first : (piece : List ℕ) → IsTrue (is_piece piece) → is_number piece ≡ is_ascii_digit (get_or piece 0 0)
+number_by_first [] is = absurd (nothing_is_no_piece is)
+number_by_first (b ∷ bytes) is =
+    same_from_decides {P = is_ascii_digit b ≡ true} (is_number (b ∷ bytes)) (is_ascii_digit b)
+    (λ number. (and_parts (is_ascii_digit b) (list_all is_ascii_digit bytes) number).0, number_of_digit b bytes is) (λ h. h, λ h. h)
+
 pub token_is_piece : (piece : List ℕ) → IsTrue (is_token piece) → IsTrue (is_piece piece)
 token_is_piece piece is = or_right (is_blank piece) (is_token piece) is

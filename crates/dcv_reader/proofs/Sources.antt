@@ -1,10 +1,9 @@
 -- The tokens that are left of a text are given by its one cut, token by token.
-use Rattle.std.proofs.Common.{◌≡◌, ℕ, ◌+◌, true, false, List, [], ◌∷◌, ◌++◌, length, Option, Some, None, is_some, refl, sym, ap, subst, ◌∙◌, arith, append_assoc}
-use Rattle.std.proofs.lemmas.Bool.{true≢false, false≢true}
-use Rattle.dcv_reader.specs.declared.tokens.Token.{Token as PlacedToken}
-use Rattle.dcv_reader.specs.declared.tokens.Tokens.{Tokens}
-use Rattle.dcv_reader.specs.Tokens.{is_blank, BeginsWithNoPiece, IsLongest, Token, tokens_from}
-use Rattle.dcv_reader.specs.Reading.{HasTokens, Reads, GivesToken, NextIsNot, seen}
+use Rattle.std.proofs.Common.{◌≡◌, ◌↔◌, ℕ, ◌+◌, true, false, List, [], ◌∷◌, ◌++◌, length, refl, sym, ap, subst, ◌∙◌, append_assoc, append-nil}
+use Rattle.dcv_reader.specs.declared.lexer.Tokens.{Tokens}
+use Rattle.dcv_reader.specs.Tokens.{is_blank, BeginsWithNoPiece, IsLongest, IsCut, Token, tokens_from}
+use Rattle.dcv_reader.specs.Faults.{IsTokenized}
+use Rattle.dcv_reader.specs.Reading.{HasTokens, Reads}
 use Rattle.dcv_reader.proofs.Cuts.{cut_exists, cut_is_unique, cut_with, cut_nothing}
 
 pub tokens_are_one : (source : Tokens) (tokens others : List Token) (rest other_rest : List ℕ) → HasTokens source tokens rest → HasTokens source others other_rest → (tokens ≡ others) × (rest ≡ other_rest)
@@ -58,34 +57,25 @@ reads_token old new piece b token tokens rest h = record {
 pub has_no_tokens : (source : Tokens) → BeginsWithNoPiece source.rest.now → HasTokens source [] source.rest.now
 has_no_tokens source none = record { pieces = []; cut = cut_nothing source.rest.now none; among = refl }
 
--- ---- what the answers of `next` say
+-- ---- whole texts
 
-pub none_given : (old new : Tokens) (token : Option PlacedToken) → GivesToken old token new → is_some token ≡ false → HasTokens old [] new.rest.now
-none_given old new None gives none = gives
-none_given old new (Some token) gives none = absurd (true≢false none)
+pub tokenized : (source : Tokens) (text : List ℕ) (tokens : List Token) (rest : List ℕ) → source.start ≡ 0 → source.rest.now ≡ text → HasTokens source (tokens ++ []) rest → IsTokenized text tokens rest
+tokenized source text tokens rest start whole h = record {
+  pieces = h.pieces;
+  cut = subst (λ (t : List ℕ). IsCut t h.pieces rest) whole h.cut;
+  among = sym (append-nil tokens) ∙ h.among ∙ ap (λ (n : ℕ). tokens_from n h.pieces) start;
+}
 
-pub some_given : (old new : Tokens) (token : Option PlacedToken) → GivesToken old token new → is_some token ≡ true → (tokens : List Token) (rest : List ℕ) → HasTokens old tokens rest → tokens ≡ [] → ⊥
-some_given old new None gives some tokens rest h nil = false≢true some
-some_given old new (Some token) gives some tokens rest h nil =
-    let after = after_reading old new (seen token ∷ []) tokens rest gives h in
-    let never : seen token ∷ after.0 ≡ [] = sym after.1 ∙ nil in
-    cc
-
-pub no_next : (source : Tokens) (end : List ℕ) (text : List ℕ) → HasTokens source [] end → NextIsNot source text
-no_next source end text none token tokens rest h is =
-    let never = (tokens_are_one source [] (token ∷ tokens) end rest none h).0 in
-    cc
-
-pub other_next : (old new : Tokens) (given : PlacedToken) (text : List ℕ) → Reads old (seen given ∷ []) new → (given.bytes.now ≡ text → ⊥) → NextIsNot old text
-other_next old new given text reads not_text token tokens rest h is =
-    let after = after_reading old new (seen given ∷ []) (token ∷ tokens) rest reads h in
-    let e : token ∷ tokens ≡ seen given ∷ after.0 = after.1 in
-    let same : token ≡ seen given = cc in
-    not_text (ap (λ (t : Token). t.bytes) (sym same) ∙ is)
-
-pub end_is_empty : (source : Tokens) (end : List ℕ) → HasTokens source [] end → length end ≡ 0 → HasTokens source [] []
-end_is_empty source [] h empty = h
-end_is_empty source (b ∷ bytes) h empty = absurd (omega arith)
-
-pub empty_is_end : (source : Tokens) (end : List ℕ) → HasTokens source [] end → HasTokens source [] [] → length end ≡ 0
-empty_is_end source end h empty = ap length (tokens_are_one source [] [] end [] h empty).1
+pub tokens_of_text : (source : Tokens) (text : List ℕ) (tokens : List Token) (rest : List ℕ) → source.start ≡ 0 → source.rest.now ≡ text → HasTokens source tokens rest ↔ IsTokenized text tokens rest
+tokens_of_text source text tokens rest start whole = (
+  λ h. record {
+    pieces = h.pieces;
+    cut = subst (λ (t : List ℕ). IsCut t h.pieces rest) whole h.cut;
+    among = h.among ∙ ap (λ (n : ℕ). tokens_from n h.pieces) start;
+  },
+  λ i. record {
+    pieces = i.pieces;
+    cut = subst (λ (t : List ℕ). IsCut t i.pieces rest) (sym whole) i.cut;
+    among = i.among ∙ ap (λ (n : ℕ). tokens_from n i.pieces) (sym start);
+  },
+)

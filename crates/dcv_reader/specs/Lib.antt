@@ -1,3 +1,16 @@
 pub mod Tokens
-pub mod FirstForm
 pub mod Reading
+pub mod Classes
+pub mod RuleNumbers
+pub mod Language
+pub mod Decimal
+pub mod Nodes
+pub mod Actions
+pub mod Spelling
+pub mod Building
+pub mod Left
+pub mod PropLists
+pub mod FormulaLists
+pub mod BuildingFiles
+pub mod Faults
+pub mod Scanning

@@ -1,17 +1,27 @@
 //! From the bytes of a formula file to its tree.
 //!
-//! `specs/Tokens` says how a text is cut into tokens, and `specs/FirstForm` which tree a text spells.
-//! Today one small form is read, `var p; infer [[p]];`, and that form exactly.
+//! `specs/Tokens` says how a text is cut into tokens, `specs/Language` is the grammar, as data, and `specs/Actions` says
+//! which tree each rule stands for. `specs/Spelling` joins them to the file that a text spells, and `specs/Faults` says
+//! what is at fault in a text that spells none. A text is cut, its first fault is sought, and if it has none a builder
+//! goes down the rules once more and makes the tree.
 #![tactic(auto)]
 
-mod fault;
+mod builder;
+mod classes;
+mod faults;
+mod language;
 pub mod laws;
+mod lexer;
 mod pieces;
 mod reader;
-mod tokens;
+mod scan;
+mod sentence;
 
-pub use fault::ReadFault;
-pub use reader::read_file;
+pub use faults::ReadFault;
+pub use lexer::{Token, Tokens};
+pub use reader::{read_file, tokens};
 
 #[cfg(test)]
 mod tests;
+#[cfg(test)]
+mod tree_tests;

@@ -87,7 +87,7 @@ const NEVER: &str = "not valid\nnot satisfiable\ncounterexample 1\n0\n";
 const OTHER_FORM: &str = "fault form\n";
 
 #[test]
-fn verdicts_and_faults_of_texts(rt: HostRuntime) -> Result<(), Fail> {
+fn verdicts_of_texts(rt: HostRuntime) -> Result<(), Fail> {
     let alloc = rt.alloc();
     for (text, status, out, err) in [
         ("var p; infer [[p]];", 1, SOMETIMES, ""),
@@ -100,12 +100,10 @@ fn verdicts_and_faults_of_texts(rt: HostRuntime) -> Result<(), Fail> {
             SOMETIMES,
             "",
         ),
-        ("", 3, "", OTHER_FORM),
         ("var p; infer [[q]];", 3, "", OTHER_FORM),
         ("infer [[p]];", 3, "", OTHER_FORM),
         ("var p, q; infer [[p]];", 3, "", OTHER_FORM),
-        ("var p; infer <p>;", 3, "", OTHER_FORM),
-        ("var p; infer [[p]]; -", 3, "", OTHER_FORM),
+        ("var p; infer <p> ^ true;", 3, "", OTHER_FORM),
     ] {
         expect(
             &rt,
@@ -120,26 +118,53 @@ fn verdicts_and_faults_of_texts(rt: HostRuntime) -> Result<(), Fail> {
 }
 
 #[test]
-fn long_texts(rt: HostRuntime) -> Result<(), Fail> {
+fn first_faults_of_texts(rt: HostRuntime) -> Result<(), Fail> {
     let alloc = rt.alloc();
-    let longest = vec![in alloc; b' '; MOST_BYTES]?;
-    expect(
-        &rt,
-        alloc,
-        &["check", "f"],
-        &longest,
-        &WHOLE,
-        (3, "", OTHER_FORM),
-    )?;
-    let longer = vec![in alloc; b' '; MOST_BYTES + 1]?;
-    expect(
-        &rt,
-        alloc,
-        &["check", "f"],
-        &longer,
-        &WHOLE,
-        (3, "", "fault length at 262144\n"),
-    )?;
+    for (text, err) in [
+        ("", "fault syntax at 0\n"),
+        ("var p;\ninfer <p>=>[[p]];", "fault syntax at 15\n"),
+        ("infer slen = 10000;", "fault number at 13\n"),
+        ("infer pt & pt;", "fault byte at 9\n"),
+        ("infer pt", "fault syntax at 8\n"),
+        ("infer pt; pt", "fault syntax at 10\n"),
+        ("infer a234567890123456789012345;", "fault name at 6\n"),
+        ("var p; infer [[p]]; -", "fault byte at 20\n"),
+    ] {
+        expect(
+            &rt,
+            alloc,
+            &["check", "f"],
+            text.as_bytes(),
+            &WHOLE,
+            (3, "", err),
+        )?;
+    }
+    Ok(())
+}
+
+// A goal that begins with so many of one byte.
+fn goal_of(alloc: Global, byte: u8, count: usize) -> Result<Vec<u8>, AllocError> {
+    let mut text = b"infer ".to_vec(alloc)?;
+    let bytes = vec![in alloc; byte; count]?;
+    text.extend_from_slice(&bytes)?;
+    Ok(text)
+}
+
+#[test]
+fn faults_of_long_texts(rt: HostRuntime) -> Result<(), Fail> {
+    let alloc = rt.alloc();
+    let spaces = vec![in alloc; b' '; MOST_BYTES]?;
+    let more_spaces = vec![in alloc; b' '; MOST_BYTES + 1]?;
+    let nested = goal_of(alloc, b'(', 501)?;
+    let negated = goal_of(alloc, b'!', MOST_BYTES - 6)?;
+    for (text, err) in [
+        (spaces.as_slice(), "fault syntax at 262144\n"),
+        (more_spaces.as_slice(), "fault length at 262144\n"),
+        (nested.as_slice(), "fault nest at 506\n"),
+        (negated.as_slice(), "fault nest at 506\n"),
+    ] {
+        expect(&rt, alloc, &["check", "f"], text, &WHOLE, (3, "", err))?;
+    }
     Ok(())
 }
 

@@ -10,15 +10,15 @@ use Rattle.dcv_cli.proofs.answer.check.Goals as goal
 pub returns-in_err-file-clause-refused : goal.returns-in_err-file-clause-refused
 returns-in_err-file-clause-refused c =
     let p = err_from_is_err_and c.from_residual.result c.from_residual.ensures.1 in
-    rw (p.1, p.2) (explains_reading c.args.text.now c.in_err-file.field-0.0 c.requires (λ e. c.in_err-file.ensures.form (ap Err e)))
+    rw (p.1, p.2) (explains_reading c.args.text.now c.in_err-file.field-0.0 c.requires c.in_err-file.ensures.fault)
 
 pub returns-in_default-clause-refused : goal.returns-in_default-clause-refused
 returns-in_default-clause-refused c =
-    explains_other_form c.args.text.now c.in_ok-file.file c.requires c.in_ok-file.ensures.ok
+    explains_other_form c.args.text.now c.in_ok-file.file c.requires (record { no_fault = c.in_ok-file.ensures.no_fault; spelled = c.in_ok-file.ensures.spelled })
     (other_of_none (is_first_form c.in_ok-file.file) c.in_ok-verdict.field-0 c.in_default.is c.in_ok-verdict.ensures.form.1)
 
 pub returns-clause-ok : goal.returns-clause-ok
 returns-clause-ok c =
     let some : IsSome c.in_ok-verdict.field-0 = rw c.in-Some.is refl in
-    explains_verdict c.args.text.now c.in_ok-file.file (seen_verdict c.in-Some.verdict) _ _ c.requires c.in_ok-file.ensures.ok
+    explains_verdict c.args.text.now c.in_ok-file.file (seen_verdict c.in-Some.verdict) _ _ c.requires (record { no_fault = c.in_ok-file.ensures.no_fault; spelled = c.in_ok-file.ensures.spelled })
     (c.in_ok-verdict.ensures.form.0 some) (rw c.in-Some.is at c.in_ok-verdict.ensures.verdict) c.status.ensures c.in_ok-text.ensures

@@ -1,0 +1,10 @@
+use Rattle.std.proofs.Common.{◌≡◌, take}
+use Rattle.std.specs.List.{flat_map}
+use Rattle.dcv_io.specs.Written.{Appends}
+use Rattle.dcv_cli.proofs.refusal.write_pieces.Given as goal
+
+abbrev pub invariant-loop-piece : goal.invariant-loop-piece
+invariant-loop-piece g l = record {
+  added : Appends (g.S.Sink.written l.fn.sink) (g.S.Sink.written l.sink) (flat_map (λ piece. piece.now) (take l.piece-index l.pieces));
+  faults : g.S.Sink.faults l.sink ≡ g.S.Sink.faults l.fn.sink;
+}

@@ -1,0 +1,22 @@
+-- A text spells one file at most.
+use Rattle.std.proofs.Common.{◌≡◌, ℕ, List, [], ◌∷◌, sym, ap, ◌∙◌, subst}
+use Rattle.dcv_syntax.specs.Plain.{PlainFile}
+use Rattle.dcv_grammar.proofs.ReadingLaws as laws
+use Rattle.dcv_reader.specs.Tokens.{Token, tokens_from}
+use Rattle.dcv_reader.specs.Language.{language}
+use Rattle.dcv_reader.specs.Nodes.{token_class}
+use Rattle.dcv_reader.specs.Actions.{AFile, parts_of}
+use Rattle.dcv_reader.specs.Spelling.{SpellsFile, Spells}
+use Rattle.dcv_reader.proofs.Cuts.{cut_is_unique}
+use Rattle.dcv_reader.proofs.Grammar.{predictive}
+
+tokens_spell_one : (tokens : List Token) (file other : PlainFile) → SpellsFile tokens file → SpellsFile tokens other → file ≡ other
+tokens_spell_one tokens file other (tree, is, stands) (another, another_is, another_stands) =
+    let one = laws.one_tree language token_class predictive tokens tree another is another_is in
+    let same : AFile file ∷ [] ≡ AFile other ∷ [] = sym stands ∙ ap parts_of one ∙ another_stands in
+    cc
+
+pub spells_one : (text : List ℕ) (file other : PlainFile) → Spells text file → Spells text other → file ≡ other
+spells_one text file other (pieces, cut, spells) (other_pieces, other_cut, other_spells) =
+    let same = (cut_is_unique text [] [] pieces other_pieces cut other_cut).0 in
+    tokens_spell_one (tokens_from 0 pieces) file other spells (subst (λ ps. SpellsFile (tokens_from 0 ps) other) (sym same) other_spells)

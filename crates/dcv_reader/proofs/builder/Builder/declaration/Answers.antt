@@ -1,0 +1,23 @@
+use Rattle.std.proofs.Common.{refl, sym, ap, ◌∙◌}
+use Rattle.dcv_reader.specs.Actions.{Names}
+use Rattle.dcv_reader.specs.Classes as classes
+use Rattle.dcv_reader.specs.Left.{left}
+use Rattle.dcv_reader.specs.RuleNumbers as rules
+use Rattle.dcv_reader.proofs.BuilderForms.{nothing_read}
+use Rattle.dcv_reader.proofs.BuilderFiles.{declaration_at, names_between_begin, names_between_end, names_between}
+use Rattle.dcv_reader.proofs.builder.Builder.declaration.Goals as goal
+
+pub returns-then-not-is_next : goal.returns-then-not-is_next
+returns-then-not-is_next c =
+    nothing_read rules.declaration classes.word_var _ declaration_at (left c.args.self.now) _ (sym c.is_next.ensures ∙ c.if-not-is_next.true) (ap Names (sym c.new.ensures.items))
+
+pub names-requires : goal.names-requires
+names-requires c = names_between_begin declaration_at c.requires (sym c.is_next.ensures ∙ c.if-not-is_next.false) c.take-var.ensures
+
+pub take-semicolon-requires : goal.take-semicolon-requires
+take-semicolon-requires c =
+    names_between_end declaration_at c.requires (sym c.is_next.ensures ∙ c.if-not-is_next.false) c.take-var.ensures c.in_ok-names.ensures
+
+pub returns : goal.returns
+returns c =
+    names_between declaration_at c.requires (sym c.is_next.ensures ∙ c.if-not-is_next.false) c.take-var.ensures c.in_ok-names.ensures c.take-semicolon.ensures (λ opening first closing names. refl)

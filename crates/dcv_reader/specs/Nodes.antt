@@ -1,0 +1,150 @@
+-- The nodes of plain trees as a text spells them: which node, and from where to where it stands.
+use Rattle.std.specs.Prelude.{ℕ, ◌==◌, List, [], ◌∷◌, Option, Some, None, if◌then◌else◌}
+use Rattle.dcv_syntax.specs.declared.names.Name.{Name}
+use Rattle.dcv_syntax.specs.declared.names.Span.{Span}
+use Rattle.dcv_syntax.specs.declared.formulas.Number.{Number}
+use Rattle.dcv_syntax.specs.declared.formulas.Relation.{Relation}
+use Rattle.dcv_syntax.specs.declared.formulas.Relation.TheVariants.{Equal, Less, AtMost, Greater, AtLeast}
+use Rattle.dcv_syntax.specs.Plain.{PlainPropKind, PropConstant, PropCall, PropNot, PropImplies, PlainPropOperands, PlainProp, PlainPropOperand, arguments_of, prop_operands_of, PlainFormulaKind, FormulaConstant, FormulaPt, FormulaExt, FormulaPoint, FormulaRun, FormulaEvery, FormulaUnit, FormulaScount, FormulaSdur, FormulaCall, FormulaNot, FormulaImplies, FormulaStar, FormulaSomewhere, FormulaEverywhere, FormulaExists, FormulaForAll, PlainFormulaOperands, PlainFormulaOperand, formula_operands_of}
+use Rattle.dcv_reader.specs.Tokens.{Token, span_of, span_over}
+use Rattle.dcv_reader.specs.Decimal.{value_of}
+use Rattle.dcv_reader.specs.Classes as classes
+use Rattle.dcv_reader.specs.Classes.{class_of}
+
+-- what a token is to the grammar
+abbrev pub token_class : Token → ℕ
+token_class token = class_of token.bytes
+
+-- from the beginning of a span to the end of another
+abbrev pub covering : Span → Span → Span
+covering first last = record { start = first.start; end = last.end }
+
+-- ---- tokens
+
+abbrev pub name_of : Token → Name
+name_of token = record { text = token.bytes; span = span_of token }
+
+abbrev pub number_of : Token → Number
+number_of token = record { value = value_of token.bytes; span = span_of token }
+
+abbrev pub relation_of : Token → Relation
+relation_of token =
+    let class = token_class token in
+    if class == classes.less then Less
+    else if class == classes.less_equals then AtMost
+    else if class == classes.greater then Greater
+    else if class == classes.greater_equals then AtLeast
+    else Equal
+
+-- ---- propositions
+
+-- a proposition without parentheses of its own
+abbrev pub bare_prop : PlainPropKind → Span → PlainPropOperand
+bare_prop kind span = record { prop = record { kind = kind; span = span }; span = span }
+
+-- `true` or `false`
+abbrev pub prop_constant : Token → PlainPropOperand
+prop_constant token = bare_prop (PropConstant (token_class token == classes.word_true)) (span_of token)
+
+-- from a name to the last parenthesis of its arguments, if these stand there
+abbrev pub call_span : Token → Option Span → Span
+call_span name None = span_of name
+call_span name (Some parentheses) = covering (span_of name) parentheses
+
+abbrev pub prop_call : Token → List PlainProp → Option Span → PlainPropOperand
+prop_call name arguments parentheses = bare_prop (PropCall (name_of name) (arguments_of arguments)) (call_span name parentheses)
+
+abbrev pub prop_negation : Token → PlainPropOperand → PlainPropOperand
+prop_negation sign p = bare_prop (PropNot p.prop.kind p.prop.span) (covering (span_of sign) p.span)
+
+abbrev pub prop_implication : PlainPropOperand → PlainPropOperand → PlainPropOperand
+prop_implication p q = bare_prop (PropImplies p.prop.kind p.prop.span q.prop.kind q.prop.span) (covering p.span q.span)
+
+abbrev pub last_prop_span : Span → List PlainPropOperand → Span
+last_prop_span span [] = span
+last_prop_span span (p ∷ ps) = last_prop_span p.span ps
+
+-- one operand stands for itself, and more are a list
+abbrev pub prop_list : (PlainPropOperands → PlainPropKind) → PlainPropOperand → List PlainPropOperand → PlainPropOperand
+prop_list kind p [] = p
+prop_list kind p (q ∷ ps) =
+    bare_prop (kind (prop_operands_of (p ∷ q ∷ ps))) (covering p.span (last_prop_span q.span ps))
+
+-- ---- formulas
+
+-- a formula without parentheses of its own
+abbrev pub bare : PlainFormulaKind → Span → PlainFormulaOperand
+bare kind span = record { formula = record { kind = kind; span = span }; span = span }
+
+-- `<P>`, `[P]`, `[[P]]` or `{{P}}`
+abbrev pub bracketed : Token → PlainProp → Token → PlainFormulaOperand
+bracketed opening p closing =
+    let class = token_class opening in
+    let kind =
+    if class == classes.less then FormulaPoint p
+    else if class == classes.open_bracket then FormulaRun p
+    else if class == classes.open_brackets then FormulaEvery p
+    else FormulaUnit p
+    in bare kind (span_over opening closing)
+
+-- `pt`, `ext`, `true` or `false`
+abbrev pub formula_word : Token → PlainFormulaOperand
+formula_word word =
+    let class = token_class word in
+    let kind =
+    if class == classes.word_pt then FormulaPt
+    else if class == classes.word_ext then FormulaExt
+    else FormulaConstant (class == classes.word_true)
+    in bare kind (span_of word)
+
+-- `scount P R n` or `sdur P R n`
+abbrev pub measure : Token → PlainProp → Relation → Token → PlainFormulaOperand
+measure word p relation number =
+    let kind =
+    if token_class word == classes.word_scount then FormulaScount p relation (number_of number)
+    else FormulaSdur p relation (number_of number)
+    in bare kind (span_over word number)
+
+abbrev pub formula_call : Token → List PlainProp → Option Span → PlainFormulaOperand
+formula_call name arguments parentheses = bare (FormulaCall (name_of name) arguments) (call_span name parentheses)
+
+-- D and one more `*`
+abbrev pub starred : PlainFormulaOperand → Span → PlainFormulaOperand
+starred d star = bare (FormulaStar d.formula.kind d.formula.span) (covering d.span star)
+
+-- D and its `*`, each of which has all before it
+abbrev pub starred_by : PlainFormulaOperand → List Span → PlainFormulaOperand
+starred_by d [] = d
+starred_by d (star ∷ stars) = starred_by (starred d star) stars
+
+-- `!D`, `<>D` or `[]D`
+abbrev pub prefixed : Token → PlainFormulaOperand → PlainFormulaOperand
+prefixed sign d =
+    let class = token_class sign in
+    let kind =
+    if class == classes.exclamation then FormulaNot d.formula.kind d.formula.span
+    else if class == classes.diamond then FormulaSomewhere d.formula.kind d.formula.span
+    else FormulaEverywhere d.formula.kind d.formula.span
+    in bare kind (covering (span_of sign) d.span)
+
+-- `ex p. D` or `all p. D`
+abbrev pub quantified : Token → Token → PlainFormulaOperand → PlainFormulaOperand
+quantified word name d =
+    let kind =
+    if token_class word == classes.word_ex then FormulaExists (name_of name) d.formula.kind d.formula.span
+    else FormulaForAll (name_of name) d.formula.kind d.formula.span
+    in bare kind (covering (span_of word) d.span)
+
+abbrev pub implication : PlainFormulaOperand → PlainFormulaOperand → PlainFormulaOperand
+implication d e =
+    bare (FormulaImplies d.formula.kind d.formula.span e.formula.kind e.formula.span) (covering d.span e.span)
+
+abbrev pub last_span : Span → List PlainFormulaOperand → Span
+last_span span [] = span
+last_span span (d ∷ ds) = last_span d.span ds
+
+-- one operand stands for itself, and more are a list
+abbrev pub formula_list : (PlainFormulaOperands → PlainFormulaKind) → PlainFormulaOperand → List PlainFormulaOperand → PlainFormulaOperand
+formula_list kind d [] = d
+formula_list kind d (e ∷ ds) =
+    bare (kind (formula_operands_of (d ∷ e ∷ ds))) (covering d.span (last_span e.span ds))

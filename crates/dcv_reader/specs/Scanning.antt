@@ -1,0 +1,28 @@
+-- A text of the code that is cut into tokens, and what is said of its faults.
+use Rattle.std.specs.Prelude.{◌≡◌, ℕ, List, map, Option, Some, None}
+use Rattle.dcv_reader.specs.declared.faults.ReadFault.{ReadFault}
+use Rattle.dcv_reader.specs.declared.scan.Scan.{Scan}
+use Rattle.dcv_reader.specs.Tokens.{Token}
+use Rattle.dcv_reader.specs.Reading.{seen}
+use Rattle.dcv_reader.specs.Faults.{IsTokenized, StandsAmong, HasFault, IsFault}
+
+abbrev pub tokens_in : Scan → List Token
+tokens_in scan = map seen scan.tokens.items
+
+-- the text is cut into these tokens and this rest
+abbrev pub IsScanned : Scan → Type 0
+IsScanned scan = IsTokenized scan.text.now (tokens_in scan) scan.rest.now
+
+-- a fault of the scanned text
+abbrev pub StandsIn : Scan → ReadFault → Type 0
+StandsIn scan fault = StandsAmong scan.text.now (tokens_in scan) scan.rest.now fault
+
+-- the fault of this kind, if there is one of it
+abbrev pub IsNoted : (ℕ → ReadFault) → Scan → Option ReadFault → Type 0
+IsNoted kind scan (Some fault) = (at : ℕ) × (fault ≡ kind at) × StandsIn scan (kind at)
+IsNoted kind scan None = (at : ℕ) → StandsIn scan (kind at) → ⊥
+
+-- the first fault of a text, if it has any
+abbrev pub IsFirstFault : List ℕ → Option ReadFault → Type 0
+IsFirstFault text (Some fault) = IsFault text fault
+IsFirstFault text None = (fault : ReadFault) → HasFault text fault → ⊥

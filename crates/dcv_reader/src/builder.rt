@@ -1,0 +1,115 @@
+// From the tokens of a sentence to the tree of a file, rule by rule of the grammar.
+//
+// A function for a rule is called where the rule begins, and has no error but want of memory: the reader of faults has
+// been there before.
+ghost use Rattle.std.specs.Prelude.{◌≡◌, ◌<◌, ◌^◌, length, map, IfOk, IsTrue};
+ghost use Rattle.dcv_reader.specs.Building.{HasSmallNumbers};
+ghost use Rattle.dcv_reader.specs.Nodes.{covering, name_of, number_of};
+ghost use Rattle.dcv_reader.specs.Reading.{seen};
+ghost use Rattle.dcv_reader.specs.Tokens.{Token as TextToken, span_of};
+ghost use Rattle.dcv_reader.specs.Decimal.{value_of};
+
+mod files;
+mod formulas;
+mod props;
+
+use crate::classes::NUMBER;
+use crate::lexer::Token;
+use dcv_grammar::trees::{first_and_rest, next_class};
+use dcv_syntax::{Name, Number, Span, Text};
+pub use files::build_file;
+use std::alloc::{AllocError, Global};
+
+/// The tokens of a sentence that are left, and the allocator of the tree.
+#[derive(Clone, Copy, Debug)]
+pub struct Builder<'t, 'a> {
+    alloc: Global,
+    rest: &'t [Token<'a>],
+    ghost small_numbers: { HasSmallNumbers (map seen rest.now) },
+}
+
+// From the beginning of a span to the end of another.
+fn covering(first: Span, last: Span) -> Span
+    ensures { result ≡ covering first last }
+{
+    Span {
+        start: first.start,
+        end: last.end,
+    }
+}
+
+fn span_of(token: &Token) -> Span
+    ensures { result ≡ span_of (seen token.now) }
+{
+    Span {
+        start: token.start,
+        end: token.start + token.bytes.len() as u32,
+    }
+}
+
+// The name that a token is.
+fn name_of(alloc: Global, token: &Token) -> Result<Name, AllocError>
+    ensures { IfOk result (λ name. name ≡ name_of (seen token.now)) }
+{
+    Ok(Name {
+        text: Text::copy_of(alloc, token.bytes)?,
+        span: span_of(token),
+    })
+}
+
+impl<'t, 'a> Builder<'t, 'a> {
+    ghost use Rattle.std.specs.Prelude.{◌∷◌};
+    ghost use Rattle.dcv_reader.specs.Building.{is_next, is_next_of};
+    ghost use Rattle.dcv_reader.specs.Left.{left};
+
+    // Whether the next token is of this class.
+    fn is_next(&self, class: u8) -> bool
+        ensures { result ≡ is_next class (left self.now) }
+    {
+        next_class(self.rest) == Some(class)
+    }
+
+    // Whether the next token is of one of these classes.
+    fn is_next_of(&self, classes: &[u8]) -> bool
+        ensures { result ≡ is_next_of classes.now (left self.now) }
+    {
+        classes.iter().any(|class| self.is_next(*class))
+    }
+
+    // The next token.
+    fn take(&mut self) -> Token<'a>
+        requires { 0 < length (left self.old) }
+        ensures { left self.old ≡ seen result ∷ left self.new }
+    {
+        let (first, rest) = first_and_rest(self.rest);
+        *self = Builder {
+            alloc: self.alloc,
+            rest,
+        };
+        *first
+    }
+
+    // The number that the next token is.
+    fn number(&mut self) -> Number
+        requires { IsTrue (is_next NUMBER (left self.old)) }
+        ensures { (token : TextToken) × (left self.old ≡ token ∷ left self.new) × (result ≡ number_of token) }
+    {
+        let token = self.take();
+        Number {
+            value: decimal_value(token.bytes),
+            span: span_of(&token),
+        }
+    }
+}
+
+// What digits stand for in decimal.
+fn decimal_value(digits: &[u8]) -> u32
+    requires { value_of digits.now < 2 ^ 32 }
+    ensures { result ≡ value_of digits.now }
+{
+    let mut value = 0;
+    for digit in digits {
+        value = 10 * value + u32::from(digit.saturating_sub(b'0'));
+    }
+    value
+}

@@ -1,0 +1,401 @@
+// Formulas.
+ghost use Rattle.std.specs.Prelude.{◌≡◌, ◌∷◌, ◌<◌, [], List, length, map, IfOk};
+ghost use Rattle.dcv_syntax.specs.Plain.{PlainFormulaOperand, formula_operands_of};
+ghost use Rattle.dcv_syntax.specs.Views.{plain_prop, plain_formula_kind, plain_formula_operand};
+ghost use Rattle.dcv_reader.specs.Nodes.{number_of, relation_of, bare, formula_list, implication, prefixed, starred, quantified, bracketed, formula_word, measure, formula_call};
+ghost use Rattle.dcv_reader.specs.Reading.{seen};
+ghost use Rattle.dcv_reader.specs.Tokens.{Token as TextToken, span_of};
+
+use super::props::Arguments;
+use super::{Builder, covering, name_of, span_of};
+use crate::classes::*;
+use crate::lexer::Token;
+use dcv_syntax::{Formula, FormulaKind, FormulaOperand, Number, Prop, Relation, Span};
+use std::alloc::{AllocError, Global};
+
+// The lists of operands.
+#[derive(Clone, Copy, Debug)]
+enum FormulaList {
+    And,
+    Or,
+    Iff,
+    Chop,
+}
+
+// A formula without parentheses of its own.
+fn bare(kind: FormulaKind, span: Span) -> FormulaOperand
+    ensures { plain_formula_operand result ≡ bare (plain_formula_kind kind) span }
+{
+    FormulaOperand {
+        formula: Formula { kind, span },
+        span,
+    }
+}
+
+impl FormulaList {
+    ghost use Rattle.dcv_reader.specs.FormulaLists.{formula_list_kind};
+
+    // The form of a list of operands.
+    fn kind(self, operands: Vec<FormulaOperand>) -> FormulaKind
+        ensures { plain_formula_kind result ≡ formula_list_kind self (formula_operands_of (map plain_formula_operand operands.items)) }
+    {
+        match self {
+            FormulaList::And => FormulaKind::And(operands),
+            FormulaList::Or => FormulaKind::Or(operands),
+            FormulaList::Iff => FormulaKind::Iff(operands),
+            FormulaList::Chop => FormulaKind::Chop(operands),
+        }
+    }
+
+    // One operand stands for itself, and more are a list.
+    fn of(self, operands: Vec<FormulaOperand>) -> FormulaOperand
+        requires { 0 < length operands.items }
+        ensures { (d : PlainFormulaOperand) (ds : List PlainFormulaOperand) → map plain_formula_operand operands.items ≡ d ∷ ds →
+            plain_formula_operand result ≡ formula_list (formula_list_kind self) d ds }
+    {
+        let mut operands = operands;
+        let last = operands.len() - 1;
+        if last == 0 {
+            return operands.remove(0);
+        }
+        let span = covering(operands[0].span, operands[last].span);
+        bare(self.kind(operands), span)
+    }
+}
+
+impl Builder<'_, '_> {
+    ghost use Rattle.std.specs.Prelude.{IsTrue, IsFalse};
+    ghost use Rattle.dcv_reader.specs.Actions.{AFormula, ARelation};
+    ghost use Rattle.dcv_reader.specs.Building.{BeginWithRule, RuleReadAs, is_next, is_next_of};
+    ghost use Rattle.dcv_reader.specs.Classes as classes;
+    ghost use Rattle.dcv_reader.specs.Left.{left};
+    ghost use Rattle.dcv_reader.specs.RuleNumbers as rules;
+
+    /// formula = ("ex" | "all") name "." formula | formula_iff
+    #[cycle(formula)]
+    pub fn formula(&mut self) -> Result<FormulaOperand, AllocError>
+        requires { BeginWithRule rules.formula (left self.old) }
+        ensures { IfOk result (λ d. RuleReadAs rules.formula (left self.old) (AFormula (plain_formula_operand d)) (left self.new)) }
+    {
+        if !self.is_next_of(&[WORD_EX, WORD_ALL]) {
+            return self.formula_iff();
+        }
+        let word = self.take();
+        let name = self.take();
+        let _dot = self.take();
+        let body = self.formula()?;
+        quantified(self.alloc, &word, &name, body)
+    }
+
+    // formula_iff = formula_implies {"<=>" formula_implies}
+    #[cycle(formula)]
+    fn formula_iff(&mut self) -> Result<FormulaOperand, AllocError>
+        requires { BeginWithRule rules.formula_iff (left self.old) }
+        ensures { IfOk result (λ d. RuleReadAs rules.formula_iff (left self.old) (AFormula (plain_formula_operand d)) (left self.new)) }
+    {
+        let mut operands = Vec::new(self.alloc);
+        operands.push(self.formula_implies()?)?;
+        'more: while self.is_next(DOUBLE_ARROW) {
+            let _separator = self.take();
+            operands.push(self.formula_implies()?)?;
+        }
+        Ok(FormulaList::Iff.of(operands))
+    }
+
+    // formula_implies = formula_or ["=>" formula_implies]
+    #[cycle(formula)]
+    fn formula_implies(&mut self) -> Result<FormulaOperand, AllocError>
+        requires { BeginWithRule rules.formula_implies (left self.old) }
+        ensures { IfOk result (λ d. RuleReadAs rules.formula_implies (left self.old) (AFormula (plain_formula_operand d)) (left self.new)) }
+    {
+        let premise = self.formula_or()?;
+        if !self.is_next(ARROW) {
+            return Ok(premise);
+        }
+        let _arrow = self.take();
+        let conclusion = self.formula_implies()?;
+        implication(self.alloc, premise, conclusion)
+    }
+
+    // formula_or = formula_and {"||" formula_and}
+    #[cycle(formula)]
+    fn formula_or(&mut self) -> Result<FormulaOperand, AllocError>
+        requires { BeginWithRule rules.formula_or (left self.old) }
+        ensures { IfOk result (λ d. RuleReadAs rules.formula_or (left self.old) (AFormula (plain_formula_operand d)) (left self.new)) }
+    {
+        let mut operands = Vec::new(self.alloc);
+        operands.push(self.formula_and()?)?;
+        'more: while self.is_next(DOUBLE_BAR) {
+            let _separator = self.take();
+            operands.push(self.formula_and()?)?;
+        }
+        Ok(FormulaList::Or.of(operands))
+    }
+
+    // formula_and = formula_chop {"&&" formula_chop}
+    #[cycle(formula)]
+    fn formula_and(&mut self) -> Result<FormulaOperand, AllocError>
+        requires { BeginWithRule rules.formula_and (left self.old) }
+        ensures { IfOk result (λ d. RuleReadAs rules.formula_and (left self.old) (AFormula (plain_formula_operand d)) (left self.new)) }
+    {
+        let mut operands = Vec::new(self.alloc);
+        operands.push(self.formula_chop()?)?;
+        'more: while self.is_next(DOUBLE_AMPERSAND) {
+            let _separator = self.take();
+            operands.push(self.formula_chop()?)?;
+        }
+        Ok(FormulaList::And.of(operands))
+    }
+
+    // formula_chop = formula_prefix {"^" formula_prefix}
+    #[cycle(formula)]
+    fn formula_chop(&mut self) -> Result<FormulaOperand, AllocError>
+        requires { BeginWithRule rules.formula_chop (left self.old) }
+        ensures { IfOk result (λ d. RuleReadAs rules.formula_chop (left self.old) (AFormula (plain_formula_operand d)) (left self.new)) }
+    {
+        let mut operands = Vec::new(self.alloc);
+        operands.push(self.formula_prefix()?)?;
+        'more: while self.is_next(CARET) {
+            let _separator = self.take();
+            operands.push(self.formula_prefix()?)?;
+        }
+        Ok(FormulaList::Chop.of(operands))
+    }
+
+    // formula_prefix = ("!" | "<>" | "[]") formula_prefix | formula_star
+    #[cycle(formula)]
+    fn formula_prefix(&mut self) -> Result<FormulaOperand, AllocError>
+        requires { BeginWithRule rules.formula_prefix (left self.old) }
+        ensures { IfOk result (λ d. RuleReadAs rules.formula_prefix (left self.old) (AFormula (plain_formula_operand d)) (left self.new)) }
+    {
+        if !self.is_next_of(&[EXCLAMATION, DIAMOND, BOX]) {
+            return self.formula_star();
+        }
+        let sign = self.take();
+        let body = self.formula_prefix()?;
+        prefixed(self.alloc, &sign, body)
+    }
+
+    // formula_star = formula_atom {"*"}
+    #[cycle(formula)]
+    fn formula_star(&mut self) -> Result<FormulaOperand, AllocError>
+        requires { BeginWithRule rules.formula_star (left self.old) }
+        ensures { IfOk result (λ d. RuleReadAs rules.formula_star (left self.old) (AFormula (plain_formula_operand d)) (left self.new)) }
+    {
+        let mut body = self.formula_atom()?;
+        'more: while self.is_next(STAR) {
+            let star = self.take();
+            body = starred(self.alloc, body, span_of(&star))?;
+        }
+        Ok(body)
+    }
+
+    // formula_atom = "(" formula ")" | ..
+    #[cycle(formula)]
+    fn formula_atom(&mut self) -> Result<FormulaOperand, AllocError>
+        requires { BeginWithRule rules.formula_atom (left self.old) }
+        ensures { IfOk result (λ d. RuleReadAs rules.formula_atom (left self.old) (AFormula (plain_formula_operand d)) (left self.new)) }
+    {
+        if !self.is_next(OPEN_PARENTHESIS) {
+            return self.other_atom();
+        }
+        let opening = self.take();
+        let inside = self.formula()?;
+        let closing = self.take();
+        Ok(FormulaOperand {
+            formula: inside.formula,
+            span: opening.span_to(&closing),
+        })
+    }
+
+    // .. "<" prop ">" | "[" prop "]" | "[[" prop "]]" | "{{" prop "}}" | "pt" | "ext" | "true" | "false"
+    //    | "slen" relation number | ("scount" | "sdur") prop_prefix relation number | name arguments
+    fn other_atom(&mut self) -> Result<FormulaOperand, AllocError>
+        requires begins { BeginWithRule rules.formula_atom (left self.old) }
+        requires other { IsFalse (is_next OPEN_PARENTHESIS (left self.old)) }
+        ensures { IfOk result (λ d. RuleReadAs rules.formula_atom (left self.old) (AFormula (plain_formula_operand d)) (left self.new)) }
+    {
+        if self.is_next_of(&[LESS, OPEN_BRACKET, OPEN_BRACKETS, OPEN_BRACES]) {
+            return self.bracketed();
+        }
+        if self.is_next_of(&[WORD_PT, WORD_EXT, WORD_TRUE, WORD_FALSE]) {
+            return Ok(self.formula_word());
+        }
+        if self.is_next(WORD_SLEN) {
+            return Ok(self.slen());
+        }
+        if self.is_next_of(&[WORD_SCOUNT, WORD_SDUR]) {
+            return self.measure();
+        }
+        let name = self.take();
+        let arguments = self.arguments()?;
+        formula_call(self.alloc, &name, arguments)
+    }
+
+    // "<" prop ">" | "[" prop "]" | "[[" prop "]]" | "{{" prop "}}"
+    fn bracketed(&mut self) -> Result<FormulaOperand, AllocError>
+        requires begins { BeginWithRule rules.formula_atom (left self.old) }
+        requires next { IsTrue (is_next_of (LESS ∷ OPEN_BRACKET ∷ OPEN_BRACKETS ∷ OPEN_BRACES ∷ []) (left self.old)) }
+        ensures { IfOk result (λ d. RuleReadAs rules.formula_atom (left self.old) (AFormula (plain_formula_operand d)) (left self.new)) }
+    {
+        let opening = self.take();
+        let inside = self.prop()?;
+        let closing = self.take();
+        Ok(bracketed(&opening, inside.prop, &closing))
+    }
+
+    // "pt" | "ext" | "true" | "false"
+    fn formula_word(&mut self) -> FormulaOperand
+        requires begins { BeginWithRule rules.formula_atom (left self.old) }
+        requires next { IsTrue (is_next_of (WORD_PT ∷ WORD_EXT ∷ WORD_TRUE ∷ WORD_FALSE ∷ []) (left self.old)) }
+        ensures { RuleReadAs rules.formula_atom (left self.old) (AFormula (plain_formula_operand result)) (left self.new) }
+    {
+        let word = self.take();
+        bare(word_kind(&word), span_of(&word))
+    }
+
+    // "slen" relation number
+    fn slen(&mut self) -> FormulaOperand
+        requires begins { BeginWithRule rules.formula_atom (left self.old) }
+        requires next { IsTrue (is_next WORD_SLEN (left self.old)) }
+        ensures { RuleReadAs rules.formula_atom (left self.old) (AFormula (plain_formula_operand result)) (left self.new) }
+    {
+        let word = self.take();
+        let relation = self.relation();
+        let number = self.number();
+        let span = covering(span_of(&word), number.span);
+        bare(FormulaKind::Slen(relation, number), span)
+    }
+
+    // ("scount" | "sdur") prop_prefix relation number
+    fn measure(&mut self) -> Result<FormulaOperand, AllocError>
+        requires begins { BeginWithRule rules.formula_atom (left self.old) }
+        requires next { IsTrue (is_next_of (WORD_SCOUNT ∷ WORD_SDUR ∷ []) (left self.old)) }
+        ensures { IfOk result (λ d. RuleReadAs rules.formula_atom (left self.old) (AFormula (plain_formula_operand d)) (left self.new)) }
+    {
+        let word = self.take();
+        let measured = self.prop_prefix()?;
+        let relation = self.relation();
+        let number = self.number();
+        Ok(measure(&word, measured.prop, relation, number))
+    }
+
+    // relation = "=" | "<" | "<=" | ">" | ">="
+    fn relation(&mut self) -> Relation
+        requires { BeginWithRule rules.relation (left self.old) }
+        ensures { RuleReadAs rules.relation (left self.old) (ARelation result) (left self.new) }
+    {
+        let sign = self.take();
+        relation_of(&sign)
+    }
+}
+
+fn relation_of(sign: &Token) -> Relation
+    ensures { result ≡ relation_of (seen sign.now) }
+{
+    match sign.class {
+        LESS => Relation::Less,
+        LESS_EQUALS => Relation::AtMost,
+        GREATER => Relation::Greater,
+        GREATER_EQUALS => Relation::AtLeast,
+        _ => Relation::Equal,
+    }
+}
+
+// `pt`, `ext`, `true` or `false`
+fn word_kind(word: &Token) -> FormulaKind
+    ensures { bare (plain_formula_kind result) (span_of (seen word.now)) ≡ formula_word (seen word.now) }
+{
+    match word.class {
+        WORD_PT => FormulaKind::Pt,
+        WORD_EXT => FormulaKind::Ext,
+        class => FormulaKind::Constant(class == WORD_TRUE),
+    }
+}
+
+fn bracketed(opening: &Token, inside: Prop, closing: &Token) -> FormulaOperand
+    ensures { plain_formula_operand result ≡ bracketed (seen opening.now) (plain_prop inside) (seen closing.now) }
+{
+    let span = opening.span_to(closing);
+    match opening.class {
+        LESS => bare(FormulaKind::Point(inside), span),
+        OPEN_BRACKET => bare(FormulaKind::Run(inside), span),
+        OPEN_BRACKETS => bare(FormulaKind::Every(inside), span),
+        _ => bare(FormulaKind::Unit(inside), span),
+    }
+}
+
+fn measure(word: &Token, measured: Prop, relation: Relation, number: Number) -> FormulaOperand
+    ensures { (digits : TextToken) → number ≡ number_of digits →
+        plain_formula_operand result ≡ measure (seen word.now) (plain_prop measured) relation digits }
+{
+    let span = covering(span_of(word), number.span);
+    if word.class == WORD_SCOUNT {
+        return bare(FormulaKind::Scount(measured, relation, number), span);
+    }
+    bare(FormulaKind::Sdur(measured, relation, number), span)
+}
+
+// A call of what a name stands for.
+fn formula_call(
+    alloc: Global,
+    token: &Token,
+    arguments: Arguments,
+) -> Result<FormulaOperand, AllocError>
+    ensures { IfOk result (λ d. plain_formula_operand d ≡ formula_call (seen token.now) (map plain_prop arguments.props.items) arguments.parentheses) }
+{
+    let span = arguments.call_span(token);
+    let name = name_of(alloc, token)?;
+    Ok(bare(FormulaKind::Call(name, arguments.props), span))
+}
+
+fn starred(alloc: Global, body: FormulaOperand, star: Span) -> Result<FormulaOperand, AllocError>
+    ensures { IfOk result (λ d. plain_formula_operand d ≡ starred (plain_formula_operand body) star) }
+{
+    let span = covering(body.span, star);
+    Ok(bare(FormulaKind::Star(Box::new(alloc, body.formula)?), span))
+}
+
+// `!D`, `<>D` or `[]D`
+fn prefixed(alloc: Global, sign: &Token, body: FormulaOperand) -> Result<FormulaOperand, AllocError>
+    ensures { IfOk result (λ d. plain_formula_operand d ≡ prefixed (seen sign.now) (plain_formula_operand body)) }
+{
+    let span = covering(span_of(sign), body.span);
+    let body = Box::new(alloc, body.formula)?;
+    match sign.class {
+        EXCLAMATION => Ok(bare(FormulaKind::Not(body), span)),
+        DIAMOND => Ok(bare(FormulaKind::Somewhere(body), span)),
+        _ => Ok(bare(FormulaKind::Everywhere(body), span)),
+    }
+}
+
+// `ex p. D` or `all p. D`
+fn quantified(
+    alloc: Global,
+    word: &Token,
+    name: &Token,
+    body: FormulaOperand,
+) -> Result<FormulaOperand, AllocError>
+    ensures { IfOk result (λ d. plain_formula_operand d ≡ quantified (seen word.now) (seen name.now) (plain_formula_operand body)) }
+{
+    let span = covering(span_of(word), body.span);
+    let body = Box::new(alloc, body.formula)?;
+    let name = name_of(alloc, name)?;
+    if word.class == WORD_EX {
+        return Ok(bare(FormulaKind::Exists(name, body), span));
+    }
+    Ok(bare(FormulaKind::ForAll(name, body), span))
+}
+
+fn implication(
+    alloc: Global,
+    premise: FormulaOperand,
+    conclusion: FormulaOperand,
+) -> Result<FormulaOperand, AllocError>
+    ensures { IfOk result (λ d. plain_formula_operand d ≡ implication (plain_formula_operand premise) (plain_formula_operand conclusion)) }
+{
+    let span = covering(premise.span, conclusion.span);
+    let premise = Box::new(alloc, premise.formula)?;
+    let conclusion = Box::new(alloc, conclusion.formula)?;
+    Ok(bare(FormulaKind::Implies(premise, conclusion), span))
+}

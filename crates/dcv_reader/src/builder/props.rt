@@ -1,0 +1,263 @@
+// Propositions.
+ghost use Rattle.std.specs.Prelude.{◌≡◌, ◌∷◌, ◌<◌, List, length, map};
+ghost use Rattle.dcv_syntax.specs.Plain.{PlainPropKind, PlainPropOperand, prop_operands_of};
+ghost use Rattle.dcv_syntax.specs.Views.{plain_prop_kind, plain_prop_operand};
+ghost use Rattle.std.specs.Prelude.{IfOk};
+ghost use Rattle.dcv_syntax.specs.Views.{plain_prop};
+ghost use Rattle.dcv_reader.specs.Nodes.{bare_prop, prop_list, prop_call, prop_negation, prop_implication};
+ghost use Rattle.dcv_reader.specs.Reading.{seen};
+
+use super::{Builder, covering, name_of, span_of};
+use crate::classes::*;
+use crate::lexer::Token;
+use dcv_syntax::{Prop, PropKind, PropOperand, Span};
+use std::alloc::{AllocError, Global};
+
+// The lists of operands.
+#[derive(Clone, Copy, Debug)]
+enum PropList {
+    And,
+    Or,
+    Iff,
+}
+
+// A proposition without parentheses of its own.
+fn bare_prop(kind: PropKind, span: Span) -> PropOperand
+    ensures { plain_prop_operand result ≡ bare_prop (plain_prop_kind kind) span }
+{
+    PropOperand {
+        prop: Prop { kind, span },
+        span,
+    }
+}
+
+impl PropList {
+    ghost use Rattle.dcv_reader.specs.PropLists.{prop_list_kind};
+
+    // The form of a list of operands.
+    fn kind(self, operands: Vec<PropOperand>) -> PropKind
+        ensures { plain_prop_kind result ≡ prop_list_kind self (prop_operands_of (map plain_prop_operand operands.items)) }
+    {
+        match self {
+            PropList::And => PropKind::And(operands),
+            PropList::Or => PropKind::Or(operands),
+            PropList::Iff => PropKind::Iff(operands),
+        }
+    }
+
+    // One operand stands for itself, and more are a list.
+    fn of(self, operands: Vec<PropOperand>) -> PropOperand
+        requires { 0 < length operands.items }
+        ensures { (p : PlainPropOperand) (ps : List PlainPropOperand) → map plain_prop_operand operands.items ≡ p ∷ ps →
+            plain_prop_operand result ≡ prop_list (prop_list_kind self) p ps }
+    {
+        let mut operands = operands;
+        let last = operands.len() - 1;
+        if last == 0 {
+            return operands.remove(0);
+        }
+        let span = covering(operands[0].span, operands[last].span);
+        bare_prop(self.kind(operands), span)
+    }
+}
+
+/// The arguments of a call, and the span of their parentheses, if these stand there.
+#[derive(Debug, Drop)]
+pub struct Arguments {
+    pub props: Vec<Prop>,
+    pub parentheses: Option<Span>,
+}
+
+impl Builder<'_, '_> {
+    ghost use Rattle.std.specs.Prelude.{IfOk, IsTrue, ◌||◌};
+    ghost use Rattle.dcv_syntax.specs.Views.{plain_prop};
+    ghost use Rattle.dcv_reader.specs.Actions.{AProp, Arguments as ArgumentsPart};
+    ghost use Rattle.dcv_reader.specs.Building.{BeginWithRule, RuleReadAs, is_next};
+    ghost use Rattle.dcv_reader.specs.Left.{left};
+    ghost use Rattle.dcv_reader.specs.RuleNumbers as rules;
+
+    /// prop = prop_implies {"<=>" prop_implies}
+    #[cycle(prop)]
+    pub fn prop(&mut self) -> Result<PropOperand, AllocError>
+        requires { BeginWithRule rules.prop (left self.old) }
+        ensures { IfOk result (λ p. RuleReadAs rules.prop (left self.old) (AProp (plain_prop_operand p)) (left self.new)) }
+    {
+        let mut operands = Vec::new(self.alloc);
+        operands.push(self.prop_implies()?)?;
+        'more: while self.is_next(DOUBLE_ARROW) {
+            let _separator = self.take();
+            operands.push(self.prop_implies()?)?;
+        }
+        Ok(PropList::Iff.of(operands))
+    }
+
+    // prop_implies = prop_or ["=>" prop_implies]
+    #[cycle(prop)]
+    fn prop_implies(&mut self) -> Result<PropOperand, AllocError>
+        requires { BeginWithRule rules.prop_implies (left self.old) }
+        ensures { IfOk result (λ p. RuleReadAs rules.prop_implies (left self.old) (AProp (plain_prop_operand p)) (left self.new)) }
+    {
+        let premise = self.prop_or()?;
+        if !self.is_next(ARROW) {
+            return Ok(premise);
+        }
+        let _arrow = self.take();
+        let conclusion = self.prop_implies()?;
+        prop_implication(self.alloc, premise, conclusion)
+    }
+
+    // prop_or = prop_and {"||" prop_and}
+    #[cycle(prop)]
+    fn prop_or(&mut self) -> Result<PropOperand, AllocError>
+        requires { BeginWithRule rules.prop_or (left self.old) }
+        ensures { IfOk result (λ p. RuleReadAs rules.prop_or (left self.old) (AProp (plain_prop_operand p)) (left self.new)) }
+    {
+        let mut operands = Vec::new(self.alloc);
+        operands.push(self.prop_and()?)?;
+        'more: while self.is_next(DOUBLE_BAR) {
+            let _separator = self.take();
+            operands.push(self.prop_and()?)?;
+        }
+        Ok(PropList::Or.of(operands))
+    }
+
+    // prop_and = prop_prefix {"&&" prop_prefix}
+    #[cycle(prop)]
+    fn prop_and(&mut self) -> Result<PropOperand, AllocError>
+        requires { BeginWithRule rules.prop_and (left self.old) }
+        ensures { IfOk result (λ p. RuleReadAs rules.prop_and (left self.old) (AProp (plain_prop_operand p)) (left self.new)) }
+    {
+        let mut operands = Vec::new(self.alloc);
+        operands.push(self.prop_prefix()?)?;
+        'more: while self.is_next(DOUBLE_AMPERSAND) {
+            let _separator = self.take();
+            operands.push(self.prop_prefix()?)?;
+        }
+        Ok(PropList::And.of(operands))
+    }
+
+    /// prop_prefix = "!" prop_prefix | prop_atom
+    #[cycle(prop)]
+    pub fn prop_prefix(&mut self) -> Result<PropOperand, AllocError>
+        requires { BeginWithRule rules.prop_prefix (left self.old) }
+        ensures { IfOk result (λ p. RuleReadAs rules.prop_prefix (left self.old) (AProp (plain_prop_operand p)) (left self.new)) }
+    {
+        if !self.is_next(EXCLAMATION) {
+            return self.prop_atom();
+        }
+        let sign = self.take();
+        let negated = self.prop_prefix()?;
+        prop_negation(self.alloc, &sign, negated)
+    }
+
+    // prop_atom = "(" prop ")" | "true" | "false" | name arguments
+    #[cycle(prop)]
+    fn prop_atom(&mut self) -> Result<PropOperand, AllocError>
+        requires { BeginWithRule rules.prop_atom (left self.old) }
+        ensures { IfOk result (λ p. RuleReadAs rules.prop_atom (left self.old) (AProp (plain_prop_operand p)) (left self.new)) }
+    {
+        if self.is_next(WORD_TRUE) || self.is_next(WORD_FALSE) {
+            return Ok(self.prop_constant());
+        }
+        let first = self.take();
+        if first.class != OPEN_PARENTHESIS {
+            let arguments = self.arguments()?;
+            return prop_call(self.alloc, &first, arguments);
+        }
+        let inside = self.prop()?;
+        let closing = self.take();
+        Ok(PropOperand {
+            prop: inside.prop,
+            span: first.span_to(&closing),
+        })
+    }
+
+    /// arguments = ["(" prop {"," prop} ")"]
+    #[cycle(prop)]
+    pub fn arguments(&mut self) -> Result<Arguments, AllocError>
+        requires { BeginWithRule rules.arguments (left self.old) }
+        ensures { IfOk result (λ read.
+            RuleReadAs rules.arguments (left self.old) (ArgumentsPart (map plain_prop read.props.items) read.parentheses) (left self.new)) }
+    {
+        let mut props = Vec::new(self.alloc);
+        if !self.is_next(OPEN_PARENTHESIS) {
+            return Ok(Arguments {
+                props,
+                parentheses: None,
+            });
+        }
+        let opening = self.take();
+        props.push(self.prop()?.prop)?;
+        'more: while self.is_next(COMMA) {
+            let _separator = self.take();
+            props.push(self.prop()?.prop)?;
+        }
+        let closing = self.take();
+        Ok(Arguments {
+            props,
+            parentheses: Some(opening.span_to(&closing)),
+        })
+    }
+
+    // "true" | "false"
+    fn prop_constant(&mut self) -> PropOperand
+        requires begins { BeginWithRule rules.prop_atom (left self.old) }
+        requires next { IsTrue (is_next WORD_TRUE (left self.old) || is_next WORD_FALSE (left self.old)) }
+        ensures { RuleReadAs rules.prop_atom (left self.old) (AProp (plain_prop_operand result)) (left self.new) }
+    {
+        let constant = self.take();
+        bare_prop(
+            PropKind::Constant(constant.class == WORD_TRUE),
+            span_of(&constant),
+        )
+    }
+}
+
+impl Arguments {
+    ghost use Rattle.dcv_reader.specs.Reading.{seen};
+    ghost use Rattle.dcv_reader.specs.Nodes.{call_span};
+
+    /// From the name to the last parenthesis.
+    pub fn call_span(&self, name: &Token) -> Span
+        ensures { result ≡ call_span (seen name.now) self.now.parentheses }
+    {
+        let span = span_of(name);
+        match self.parentheses {
+            None => span,
+            Some(parentheses) => covering(span, parentheses),
+        }
+    }
+}
+
+// A call of what a name stands for.
+fn prop_call(alloc: Global, token: &Token, arguments: Arguments) -> Result<PropOperand, AllocError>
+    ensures { IfOk result (λ p. plain_prop_operand p ≡ prop_call (seen token.now) (map plain_prop arguments.props.items) arguments.parentheses) }
+{
+    let span = arguments.call_span(token);
+    let name = name_of(alloc, token)?;
+    Ok(bare_prop(PropKind::Call(name, arguments.props), span))
+}
+
+fn prop_negation(
+    alloc: Global,
+    sign: &Token,
+    negated: PropOperand,
+) -> Result<PropOperand, AllocError>
+    ensures { IfOk result (λ p. plain_prop_operand p ≡ prop_negation (seen sign.now) (plain_prop_operand negated)) }
+{
+    let span = covering(span_of(sign), negated.span);
+    Ok(bare_prop(PropKind::Not(Box::new(alloc, negated.prop)?), span))
+}
+
+fn prop_implication(
+    alloc: Global,
+    premise: PropOperand,
+    conclusion: PropOperand,
+) -> Result<PropOperand, AllocError>
+    ensures { IfOk result (λ p. plain_prop_operand p ≡ prop_implication (plain_prop_operand premise) (plain_prop_operand conclusion)) }
+{
+    let span = covering(premise.span, conclusion.span);
+    let premise = Box::new(alloc, premise.prop)?;
+    let conclusion = Box::new(alloc, conclusion.prop)?;
+    Ok(bare_prop(PropKind::Implies(premise, conclusion), span))
+}

@@ -1,0 +1,494 @@
+// The grammar of formula files as tables. In the comments `{x}` is any number of x, and `[x]` is x or nothing.
+ghost use Rattle.std.specs.Prelude.{◌≡◌, map};
+ghost use Rattle.dcv_grammar.specs.Grammar.{production_of};
+ghost use Rattle.dcv_reader.specs.Language.{file_rules, formula_rules, prop_rules};
+
+use crate::classes::*;
+use dcv_grammar::grammar::Symbol::{Class, Rule};
+use dcv_grammar::grammar::{Choice, Rule as Production};
+
+pub const FILE: u8 = 0;
+
+pub const DECLARATION: u8 = 1;
+
+pub const MORE_NAMES: u8 = 2;
+
+pub const MACROS: u8 = 3;
+
+pub const MACRO: u8 = 4;
+
+pub const PARAMETERS: u8 = 5;
+
+pub const ARGUMENTS: u8 = 6;
+
+pub const MORE_ARGUMENTS: u8 = 7;
+
+pub const FORMULA: u8 = 8;
+
+pub const FORMULA_IFF: u8 = 9;
+
+pub const FORMULA_IFF_MORE: u8 = 10;
+
+pub const FORMULA_IMPLIES: u8 = 11;
+
+pub const FORMULA_IMPLIED: u8 = 12;
+
+pub const FORMULA_OR: u8 = 13;
+
+pub const FORMULA_OR_MORE: u8 = 14;
+
+pub const FORMULA_AND: u8 = 15;
+
+pub const FORMULA_AND_MORE: u8 = 16;
+
+pub const FORMULA_CHOP: u8 = 17;
+
+pub const FORMULA_CHOP_MORE: u8 = 18;
+
+pub const FORMULA_PREFIX: u8 = 19;
+
+pub const FORMULA_STAR: u8 = 20;
+
+pub const STARS: u8 = 21;
+
+pub const FORMULA_ATOM: u8 = 22;
+
+pub const RELATION: u8 = 23;
+
+pub const PROP: u8 = 24;
+
+pub const PROP_IFF_MORE: u8 = 25;
+
+pub const PROP_IMPLIES: u8 = 26;
+
+pub const PROP_IMPLIED: u8 = 27;
+
+pub const PROP_OR: u8 = 28;
+
+pub const PROP_OR_MORE: u8 = 29;
+
+pub const PROP_AND: u8 = 30;
+
+pub const PROP_AND_MORE: u8 = 31;
+
+pub const PROP_PREFIX: u8 = 32;
+
+pub const PROP_ATOM: u8 = 33;
+
+// The rules of a file and its macros.
+#[tactic(auto, unfolding(crate::specs::Language::file_rules))]
+pub fn file_rules() -> &'static [Production<'static>]
+    ensures { map production_of result.now ≡ file_rules }
+{
+    &[
+        // file = declaration macros "infer" formula ";"
+        Production {
+            choices: &[],
+            otherwise: &[
+                Rule(DECLARATION),
+                Rule(MACROS),
+                Class(WORD_INFER),
+                Rule(FORMULA),
+                Class(SEMICOLON),
+            ],
+        },
+        // declaration = ["var" name more_names ";"]
+        Production {
+            choices: &[Choice {
+                classes: &[WORD_VAR],
+                body: &[
+                    Class(WORD_VAR),
+                    Class(NAME),
+                    Rule(MORE_NAMES),
+                    Class(SEMICOLON),
+                ],
+            }],
+            otherwise: &[],
+        },
+        // more_names = {"," name}
+        Production {
+            choices: &[Choice {
+                classes: &[COMMA],
+                body: &[Class(COMMA), Class(NAME), Rule(MORE_NAMES)],
+            }],
+            otherwise: &[],
+        },
+        // macros = {macro}
+        Production {
+            choices: &[Choice {
+                classes: &[WORD_DEFINE, WORD_PROP],
+                body: &[Rule(MACRO), Rule(MACROS)],
+            }],
+            otherwise: &[],
+        },
+        // macro = "define" name parameters "as" formula ";" | "prop" name parameters "as" prop ";"
+        Production {
+            choices: &[Choice {
+                classes: &[WORD_DEFINE],
+                body: &[
+                    Class(WORD_DEFINE),
+                    Class(NAME),
+                    Rule(PARAMETERS),
+                    Class(WORD_AS),
+                    Rule(FORMULA),
+                    Class(SEMICOLON),
+                ],
+            }],
+            otherwise: &[
+                Class(WORD_PROP),
+                Class(NAME),
+                Rule(PARAMETERS),
+                Class(WORD_AS),
+                Rule(PROP),
+                Class(SEMICOLON),
+            ],
+        },
+        // parameters = ["(" name more_names ")"]
+        Production {
+            choices: &[Choice {
+                classes: &[OPEN_PARENTHESIS],
+                body: &[
+                    Class(OPEN_PARENTHESIS),
+                    Class(NAME),
+                    Rule(MORE_NAMES),
+                    Class(CLOSE_PARENTHESIS),
+                ],
+            }],
+            otherwise: &[],
+        },
+        // arguments = ["(" prop more_arguments ")"]
+        Production {
+            choices: &[Choice {
+                classes: &[OPEN_PARENTHESIS],
+                body: &[
+                    Class(OPEN_PARENTHESIS),
+                    Rule(PROP),
+                    Rule(MORE_ARGUMENTS),
+                    Class(CLOSE_PARENTHESIS),
+                ],
+            }],
+            otherwise: &[],
+        },
+        // more_arguments = {"," prop}
+        Production {
+            choices: &[Choice {
+                classes: &[COMMA],
+                body: &[Class(COMMA), Rule(PROP), Rule(MORE_ARGUMENTS)],
+            }],
+            otherwise: &[],
+        },
+    ]
+}
+
+// The rules of a formula.
+#[tactic(auto, unfolding(crate::specs::Language::formula_rules))]
+pub fn formula_rules() -> &'static [Production<'static>]
+    ensures { map production_of result.now ≡ formula_rules }
+{
+    &[
+        // formula = ("ex" | "all") name "." formula | formula_iff
+        Production {
+            choices: &[
+                Choice {
+                    classes: &[WORD_EX],
+                    body: &[Class(WORD_EX), Class(NAME), Class(DOT), Rule(FORMULA)],
+                },
+                Choice {
+                    classes: &[WORD_ALL],
+                    body: &[Class(WORD_ALL), Class(NAME), Class(DOT), Rule(FORMULA)],
+                },
+            ],
+            otherwise: &[Rule(FORMULA_IFF)],
+        },
+        // formula_iff = formula_implies formula_iff_more
+        Production {
+            choices: &[],
+            otherwise: &[Rule(FORMULA_IMPLIES), Rule(FORMULA_IFF_MORE)],
+        },
+        // formula_iff_more = {"<=>" formula_implies}
+        Production {
+            choices: &[Choice {
+                classes: &[DOUBLE_ARROW],
+                body: &[
+                    Class(DOUBLE_ARROW),
+                    Rule(FORMULA_IMPLIES),
+                    Rule(FORMULA_IFF_MORE),
+                ],
+            }],
+            otherwise: &[],
+        },
+        // formula_implies = formula_or formula_implied
+        Production {
+            choices: &[],
+            otherwise: &[Rule(FORMULA_OR), Rule(FORMULA_IMPLIED)],
+        },
+        // formula_implied = ["=>" formula_implies]
+        Production {
+            choices: &[Choice {
+                classes: &[ARROW],
+                body: &[Class(ARROW), Rule(FORMULA_IMPLIES)],
+            }],
+            otherwise: &[],
+        },
+        // formula_or = formula_and formula_or_more
+        Production {
+            choices: &[],
+            otherwise: &[Rule(FORMULA_AND), Rule(FORMULA_OR_MORE)],
+        },
+        // formula_or_more = {"||" formula_and}
+        Production {
+            choices: &[Choice {
+                classes: &[DOUBLE_BAR],
+                body: &[Class(DOUBLE_BAR), Rule(FORMULA_AND), Rule(FORMULA_OR_MORE)],
+            }],
+            otherwise: &[],
+        },
+        // formula_and = formula_chop formula_and_more
+        Production {
+            choices: &[],
+            otherwise: &[Rule(FORMULA_CHOP), Rule(FORMULA_AND_MORE)],
+        },
+        // formula_and_more = {"&&" formula_chop}
+        Production {
+            choices: &[Choice {
+                classes: &[DOUBLE_AMPERSAND],
+                body: &[
+                    Class(DOUBLE_AMPERSAND),
+                    Rule(FORMULA_CHOP),
+                    Rule(FORMULA_AND_MORE),
+                ],
+            }],
+            otherwise: &[],
+        },
+        // formula_chop = formula_prefix formula_chop_more
+        Production {
+            choices: &[],
+            otherwise: &[Rule(FORMULA_PREFIX), Rule(FORMULA_CHOP_MORE)],
+        },
+        // formula_chop_more = {"^" formula_prefix}
+        Production {
+            choices: &[Choice {
+                classes: &[CARET],
+                body: &[Class(CARET), Rule(FORMULA_PREFIX), Rule(FORMULA_CHOP_MORE)],
+            }],
+            otherwise: &[],
+        },
+        // formula_prefix = ("!" | "<>" | "[]") formula_prefix | formula_star
+        Production {
+            choices: &[
+                Choice {
+                    classes: &[EXCLAMATION],
+                    body: &[Class(EXCLAMATION), Rule(FORMULA_PREFIX)],
+                },
+                Choice {
+                    classes: &[DIAMOND],
+                    body: &[Class(DIAMOND), Rule(FORMULA_PREFIX)],
+                },
+                Choice {
+                    classes: &[BOX],
+                    body: &[Class(BOX), Rule(FORMULA_PREFIX)],
+                },
+            ],
+            otherwise: &[Rule(FORMULA_STAR)],
+        },
+        // formula_star = formula_atom stars
+        Production {
+            choices: &[],
+            otherwise: &[Rule(FORMULA_ATOM), Rule(STARS)],
+        },
+        // stars = {"*"}
+        Production {
+            choices: &[Choice {
+                classes: &[STAR],
+                body: &[Class(STAR), Rule(STARS)],
+            }],
+            otherwise: &[],
+        },
+        // formula_atom = "(" formula ")" | "<" prop ">" | "[" prop "]" | "[[" prop "]]" | "{{" prop "}}" | "pt" | "ext" | "true" | "false"
+        //              | "slen" relation number | ("scount" | "sdur") prop_prefix relation number | name arguments
+        Production {
+            choices: &[
+                Choice {
+                    classes: &[OPEN_PARENTHESIS],
+                    body: &[
+                        Class(OPEN_PARENTHESIS),
+                        Rule(FORMULA),
+                        Class(CLOSE_PARENTHESIS),
+                    ],
+                },
+                Choice {
+                    classes: &[LESS],
+                    body: &[Class(LESS), Rule(PROP), Class(GREATER)],
+                },
+                Choice {
+                    classes: &[OPEN_BRACKET],
+                    body: &[Class(OPEN_BRACKET), Rule(PROP), Class(CLOSE_BRACKET)],
+                },
+                Choice {
+                    classes: &[OPEN_BRACKETS],
+                    body: &[Class(OPEN_BRACKETS), Rule(PROP), Class(CLOSE_BRACKETS)],
+                },
+                Choice {
+                    classes: &[OPEN_BRACES],
+                    body: &[Class(OPEN_BRACES), Rule(PROP), Class(CLOSE_BRACES)],
+                },
+                Choice {
+                    classes: &[WORD_PT],
+                    body: &[Class(WORD_PT)],
+                },
+                Choice {
+                    classes: &[WORD_EXT],
+                    body: &[Class(WORD_EXT)],
+                },
+                Choice {
+                    classes: &[WORD_TRUE],
+                    body: &[Class(WORD_TRUE)],
+                },
+                Choice {
+                    classes: &[WORD_FALSE],
+                    body: &[Class(WORD_FALSE)],
+                },
+                Choice {
+                    classes: &[WORD_SLEN],
+                    body: &[Class(WORD_SLEN), Rule(RELATION), Class(NUMBER)],
+                },
+                Choice {
+                    classes: &[WORD_SCOUNT],
+                    body: &[
+                        Class(WORD_SCOUNT),
+                        Rule(PROP_PREFIX),
+                        Rule(RELATION),
+                        Class(NUMBER),
+                    ],
+                },
+                Choice {
+                    classes: &[WORD_SDUR],
+                    body: &[
+                        Class(WORD_SDUR),
+                        Rule(PROP_PREFIX),
+                        Rule(RELATION),
+                        Class(NUMBER),
+                    ],
+                },
+            ],
+            otherwise: &[Class(NAME), Rule(ARGUMENTS)],
+        },
+        // relation = "=" | "<" | "<=" | ">" | ">="
+        Production {
+            choices: &[
+                Choice {
+                    classes: &[LESS],
+                    body: &[Class(LESS)],
+                },
+                Choice {
+                    classes: &[LESS_EQUALS],
+                    body: &[Class(LESS_EQUALS)],
+                },
+                Choice {
+                    classes: &[GREATER],
+                    body: &[Class(GREATER)],
+                },
+                Choice {
+                    classes: &[GREATER_EQUALS],
+                    body: &[Class(GREATER_EQUALS)],
+                },
+            ],
+            otherwise: &[Class(EQUALS)],
+        },
+    ]
+}
+
+// The rules of a proposition.
+#[tactic(auto, unfolding(crate::specs::Language::prop_rules))]
+pub fn prop_rules() -> &'static [Production<'static>]
+    ensures { map production_of result.now ≡ prop_rules }
+{
+    &[
+        // prop = prop_implies prop_iff_more
+        Production {
+            choices: &[],
+            otherwise: &[Rule(PROP_IMPLIES), Rule(PROP_IFF_MORE)],
+        },
+        // prop_iff_more = {"<=>" prop_implies}
+        Production {
+            choices: &[Choice {
+                classes: &[DOUBLE_ARROW],
+                body: &[Class(DOUBLE_ARROW), Rule(PROP_IMPLIES), Rule(PROP_IFF_MORE)],
+            }],
+            otherwise: &[],
+        },
+        // prop_implies = prop_or prop_implied
+        Production {
+            choices: &[],
+            otherwise: &[Rule(PROP_OR), Rule(PROP_IMPLIED)],
+        },
+        // prop_implied = ["=>" prop_implies]
+        Production {
+            choices: &[Choice {
+                classes: &[ARROW],
+                body: &[Class(ARROW), Rule(PROP_IMPLIES)],
+            }],
+            otherwise: &[],
+        },
+        // prop_or = prop_and prop_or_more
+        Production {
+            choices: &[],
+            otherwise: &[Rule(PROP_AND), Rule(PROP_OR_MORE)],
+        },
+        // prop_or_more = {"||" prop_and}
+        Production {
+            choices: &[Choice {
+                classes: &[DOUBLE_BAR],
+                body: &[Class(DOUBLE_BAR), Rule(PROP_AND), Rule(PROP_OR_MORE)],
+            }],
+            otherwise: &[],
+        },
+        // prop_and = prop_prefix prop_and_more
+        Production {
+            choices: &[],
+            otherwise: &[Rule(PROP_PREFIX), Rule(PROP_AND_MORE)],
+        },
+        // prop_and_more = {"&&" prop_prefix}
+        Production {
+            choices: &[Choice {
+                classes: &[DOUBLE_AMPERSAND],
+                body: &[
+                    Class(DOUBLE_AMPERSAND),
+                    Rule(PROP_PREFIX),
+                    Rule(PROP_AND_MORE),
+                ],
+            }],
+            otherwise: &[],
+        },
+        // prop_prefix = "!" prop_prefix | prop_atom
+        Production {
+            choices: &[Choice {
+                classes: &[EXCLAMATION],
+                body: &[Class(EXCLAMATION), Rule(PROP_PREFIX)],
+            }],
+            otherwise: &[Rule(PROP_ATOM)],
+        },
+        // prop_atom = "(" prop ")" | "true" | "false" | name arguments
+        Production {
+            choices: &[
+                Choice {
+                    classes: &[OPEN_PARENTHESIS],
+                    body: &[
+                        Class(OPEN_PARENTHESIS),
+                        Rule(PROP),
+                        Class(CLOSE_PARENTHESIS),
+                    ],
+                },
+                Choice {
+                    classes: &[WORD_TRUE],
+                    body: &[Class(WORD_TRUE)],
+                },
+                Choice {
+                    classes: &[WORD_FALSE],
+                    body: &[Class(WORD_FALSE)],
+                },
+            ],
+            otherwise: &[Class(NAME), Rule(ARGUMENTS)],
+        },
+    ]
+}
