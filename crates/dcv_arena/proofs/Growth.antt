@@ -46,7 +46,6 @@ module _ (old : ArenaValue) (node : Node) where
   levels_grown (Place place) one = ap (λ found. option_map_or (λ n. n.slot) found old.slots) (slice_get-push_before old.nodes node place one)
 
   values_grown : (ref : Ref) (letter : List Bool) → IsRef old ref → value_of new ref letter ≡ value_of old ref letter
-  unfolding value_of
   values_grown ref letter one = λ i. function_at-append old.nodes (node ∷ []) ref one i letter
 
   tables_grown : (ref : Ref) → IsRef old ref → table_of new ref ≡ table_of old ref

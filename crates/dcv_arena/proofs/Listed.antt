@@ -36,7 +36,7 @@ bits_of-blank (suc level) = omega (arith, bits_of-blank level)
 
 module _ (arena : ArenaValue) (is : IsReduced arena) where
   -- the block of a node's slot has the numbers of the letters behind any front
-  node_block : (place level : ℕ) → IsRef arena (Place place) → level_of arena (Place place) ≡ level → level ≤ arena.slots
+  pub node_block : (place level : ℕ) → IsRef arena (Place place) → level_of arena (Place place) ≡ level → level ≤ arena.slots
       → (front : List Bool) → length front ≡ level
       → (node_at arena place).1 ≡ part_of (value_of arena (Place place)) front (arena.slots - level)
   unfolding table_of

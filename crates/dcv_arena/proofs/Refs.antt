@@ -38,7 +38,6 @@ rank_before place (Place earlier) before = omega arith
 
 module _ (arena : ArenaValue) (is : IsReduced arena) where
   pub value_of-leaf : (number : ℕ) (letter : List Bool) → value_of arena (Leaf number) letter ≡ number
-  unfolding value_of
   value_of-leaf number letter = refl
 
   pub level_of-place : (place : ℕ) (node : Node) → slice_get arena.nodes place ≡ Some node → level_of arena (Place place) ≡ node.slot
@@ -58,7 +57,6 @@ module _ (arena : ArenaValue) (is : IsReduced arena) where
   -- a node's function goes to its children's
   pub value_of-place : (place : ℕ) (node : Node) → slice_get arena.nodes place ≡ Some node → (letter : List Bool)
       → value_of arena (Place place) letter ≡ cond (get_or letter node.slot false) (value_of arena node.hi letter) (value_of arena node.lo letter)
-  unfolding value_of
   value_of-place place node e letter =
       let facts = is.nodes place node e in
       function_at-place arena.nodes place node e facts.lo_before facts.hi_before letter

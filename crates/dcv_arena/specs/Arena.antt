@@ -3,15 +3,15 @@
 --     level_of arena ref            the slot of the ref's node, and for a leaf the number of slots
 --     value_of arena ref letter     the number that the ref's function has at a letter
 --     table_of arena ref            its numbers at all the letters, in order
---     node_at arena place           a node as the diagram of its function has it: its slot, and the block of the table there
+--     node_at arena place           a node as the diagram of its function has it: its slot, and a block of the table there, which are all alike
 --     diagram_nodes arena           all the arena's nodes as such
 --     places arena                  the refs of all the nodes
 --     IsArena arena                 what is true of every arena
 --     IsNew arena slot lo hi        this node has two different children, and the arena does not have it
 --     KeepsRefs old new             the refs of the old arena are refs of the new one, and mean what they meant
 --     HasOnlyNodesOf arena roots    each node of the arena is a node of one of these refs' functions
---     AddsOnlyNodesOf old new root  the new arena has the old one's nodes, and besides only nodes of this ref's function
---     IncludesNodesOf old part new root    the nodes of the function that a ref of the old arena means are nodes of what a ref of the new one means
+--     AddsOnlyNodesOf old new root  each node of the new arena is one of the old arena, or a node of this ref's function
+--     IncludesNodesOf old part new root    each node of what a ref means in the old arena is a node of what a ref means in the new one
 use Rattle.std.specs.Prelude.{◌≡◌, ◌≢◌, ℕ, ◌^◌, ◌<◌, ◌≤◌, Bool, false, if◌then◌else◌, List, [], ◌∷◌, ◌++◌, length, map, take, fold, Some, slice_get, slice_index_or, Contains, ◌⊎◌}
 use Rattle.std.specs.Option.{option_map_or}
 use Rattle.std.specs.List.{range_with_len}
@@ -27,7 +27,7 @@ pub record ArenaValue : Type 0 where
   pub limit : ℕ
   pub nodes : List Node
 
--- the ref is a leaf, or the place of one of the first nodes, so many
+-- the ref is a leaf, or the place of one of the first count nodes
 abbrev pub IsBefore : ℕ → Ref → Type 0
 IsBefore count (Leaf number) = Unit {0}
 IsBefore count (Place place) = place < count
@@ -53,7 +53,7 @@ function_of functions node letter =
 unfoldable pub functions_of : List Node → List (List Bool → ℕ)
 functions_of nodes = fold (λ functions node. functions ++ function_of functions node ∷ []) [] nodes
 
-unfoldable pub value_of : ArenaValue → Ref → List Bool → ℕ
+abbrev pub value_of : ArenaValue → Ref → List Bool → ℕ
 value_of arena ref letter = function_at (functions_of arena.nodes) ref letter
 
 unfoldable pub table_of : ArenaValue → Ref → List ℕ
@@ -99,7 +99,7 @@ node_of slot lo hi = record { slot = slot; lo = lo; hi = hi }
 abbrev pub IsNew : ArenaValue → ℕ → Ref → Ref → Type 0
 IsNew arena slot lo hi = (lo ≢ hi) × ((place : ℕ) → slice_get arena.nodes place ≢ Some (node_of slot lo hi))
 
--- the refs of the old arena are refs of the new one, and mean what they meant
+-- the old nodes stand where they stood, and the refs of the old arena are refs of the new one and mean what they meant
 pub record KeepsRefs (old new : ArenaValue) : Type 0 where
   pub slots : new.slots ≡ old.slots
   pub limit : new.limit ≡ old.limit
@@ -116,12 +116,12 @@ abbrev pub HasOnlyNodesOf : ArenaValue → List Ref → Type 0
 HasOnlyNodesOf arena roots = (node : ℕ × List ℕ) → Contains (diagram_nodes arena) node
     → Contains (nodes_of_all arena.slots (map (table_of arena) roots)) node
 
--- the new arena has the nodes of the old one, and besides only nodes of this ref's function
+-- each node of the new arena is one of the old arena, or a node of this ref's function
 abbrev pub AddsOnlyNodesOf : ArenaValue → ArenaValue → Ref → Type 0
 AddsOnlyNodesOf old new root = (node : ℕ × List ℕ) → Contains (diagram_nodes new) node
     → Contains (diagram_nodes old) node ⊎ Contains (nodes_of new.slots (table_of new root)) node
 
--- each node of the function that a ref of the old arena means is one of the function that this ref of the new one means
+-- each node of what the part means in the old arena is a node of what the root means in the new one
 abbrev pub IncludesNodesOf : ArenaValue → Ref → ArenaValue → Ref → Type 0
 IncludesNodesOf old part new root = (node : ℕ × List ℕ) → Contains (nodes_of old.slots (table_of old part)) node
     → Contains (nodes_of new.slots (table_of new root)) node

@@ -1,10 +1,11 @@
 -- The laws that `src/laws.rt` proves: of refs and their functions, of an arena's nodes, and of diagrams.
-use Rattle.std.specs.Prelude.{◌≡◌, ◌≢◌, ◌↔◌, ℕ, suc, ◌+◌, ◌<◌, ◌≤◌, Bool, true, false, if◌then◌else◌, List, [], ◌∷◌, ◌++◌, length, map, slice_set, slice_index_or, Contains}
+use Rattle.std.specs.Prelude.{◌≡◌, ◌≢◌, ◌↔◌, ℕ, suc, ◌+◌, ◌-◌, ◌<◌, ◌≤◌, Bool, true, false, if◌then◌else◌, List, [], ◌∷◌, ◌++◌, length, map, slice_set, slice_index_or, Contains}
 use Rattle.std.specs.List.{All, AllPairs}
 use Rattle.dcv_word.specs.Letter.{bits_of, letters_of_width}
-use Rattle.dcv_arena.specs.Arena.{ArenaValue, IsArena, IsRef, IsNew, level_of, value_of, table_of, diagram_nodes, KeepsRefs, HasOnlyNodesOf, AddsOnlyNodesOf, IncludesNodesOf}
+use Rattle.dcv_arena.specs.Arena.{ArenaValue, IsArena, IsRef, IsNew, level_of, value_of, table_of, node_at, diagram_nodes, KeepsRefs, HasOnlyNodesOf, AddsOnlyNodesOf, IncludesNodesOf}
 use Rattle.dcv_arena.specs.Diagram.{block, first_half, second_half, nodes_of}
 use Rattle.dcv_arena.specs.declared.nodes.Ref.{Ref}
+use Rattle.dcv_arena.specs.declared.nodes.Ref.TheVariants.{Place}
 
 -- ---- refs and functions
 
@@ -52,14 +53,24 @@ NodesAreOfFunctions = (arena : ArenaValue) (node : ℕ × List ℕ) → IsArena 
 abbrev pub NodesAreApart : Type 0
 NodesAreApart = (arena : ArenaValue) → IsArena arena → AllPairs (λ a b. a ≢ b) (diagram_nodes arena)
 
+-- as many as the arena has
 abbrev pub NodesAreCounted : Type 0
 NodesAreCounted = (arena : ArenaValue) → length (diagram_nodes arena) ≡ length arena.nodes
 
+-- a node's block has the numbers of its function behind any front, since the slots before its own do not matter
+abbrev pub NodesAreOfAnyFront : Type 0
+NodesAreOfAnyFront = (arena : ArenaValue) (place : ℕ) (front : List Bool) → IsArena arena → IsRef arena (Place place)
+    → length front ≡ level_of arena (Place place)
+    → (node_at arena place).1 ≡ map (λ values. value_of arena (Place place) (front ++ values)) (letters_of_width (arena.slots - level_of arena (Place place)))
+
 -- ---- arenas that grow
+
+-- an arena keeps its own refs
 
 abbrev pub RefsAreKeptByItself : Type 0
 RefsAreKeptByItself = (arena : ArenaValue) → KeepsRefs arena arena
 
+-- and what is kept twice in turn is kept
 abbrev pub RefsAreKeptInTurn : Type 0
 RefsAreKeptInTurn = (first second third : ArenaValue) → KeepsRefs first second → KeepsRefs second third → KeepsRefs first third
 
@@ -94,6 +105,7 @@ abbrev pub FirstHalfIsOfFalse : Type 0
 FirstHalfIsOfFalse = (front : List Bool) (rest : ℕ) (function : List Bool → ℕ)
     → first_half (map (λ values. function (front ++ values)) (letters_of_width (suc rest))) ≡ map (λ values. function (front ++ false ∷ values)) (letters_of_width rest)
 
+-- and its second half those with true
 abbrev pub SecondHalfIsOfTrue : Type 0
 SecondHalfIsOfTrue = (front : List Bool) (rest : ℕ) (function : List Bool → ℕ)
     → second_half (map (λ values. function (front ++ values)) (letters_of_width (suc rest))) ≡ map (λ values. function (front ++ true ∷ values)) (letters_of_width rest)

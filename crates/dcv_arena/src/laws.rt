@@ -1,7 +1,7 @@
 //! Laws of arenas and diagrams. Each function here does nothing: its contract is the law.
 ghost use Rattle.dcv_arena.specs.Laws.{OneRefForOneFunction, OneRefForOneTable, NewNodeIsNewFunction};
 ghost use Rattle.dcv_arena.specs.Laws.{EarlierSlotsAreIgnored, OwnSlotMatters};
-ghost use Rattle.dcv_arena.specs.Laws.{NodesAreOfFunctions, NodesAreApart, NodesAreCounted};
+ghost use Rattle.dcv_arena.specs.Laws.{NodesAreOfFunctions, NodesAreApart, NodesAreCounted, NodesAreOfAnyFront};
 ghost use Rattle.dcv_arena.specs.Laws.{RefsAreKeptByItself, RefsAreKeptInTurn};
 ghost use Rattle.dcv_arena.specs.Laws.{NoNodesAreOfNoRoots, OneMoreRoot, PartsAreAddedInTurn, PartsAreKept};
 ghost use Rattle.dcv_arena.specs.Laws.{BlocksAreOfFronts, FirstHalfIsOfFalse, SecondHalfIsOfTrue};
@@ -25,6 +25,7 @@ pub fn nodes_are_of_functions()
     ensures nodes { NodesAreOfFunctions }
     ensures apart { NodesAreApart }
     ensures count { NodesAreCounted }
+    ensures blocks { NodesAreOfAnyFront }
 {}
 
 /// What was kept by one call after another is kept by all of them.

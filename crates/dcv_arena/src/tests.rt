@@ -127,6 +127,7 @@ fn full(rt: HostRuntime) -> Result<(), Fail> {
     let mut arena = Arena::new(rt.alloc(), 2, 1);
     let (no, yes) = (arena.leaf(0), arena.leaf(1));
     let q = arena.node(1, no, yes)?;
+    assert!(rt; arena.is_full());
     let fault = ArenaFault::Full { limit: 1 };
     assert_eq!(rt; arena.node(1, yes, no), Err(fault));
     assert_eq!(rt; arena.node(0, no, yes), Err(fault));

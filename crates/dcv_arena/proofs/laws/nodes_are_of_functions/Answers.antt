@@ -1,8 +1,10 @@
-use Rattle.std.proofs.Common.{Contains, subst}
-use Rattle.dcv_arena.specs.Arena.{table_of}
+use Rattle.std.proofs.Common.{refl, Contains, subst}
+use Rattle.dcv_arena.specs.Arena.{table_of, level_of}
 use Rattle.dcv_arena.specs.Diagram.{nodes_of}
 use Rattle.dcv_arena.specs.declared.nodes.Ref.TheVariants.{Place}
 use Rattle.dcv_arena.proofs.Counts.{diagram_nodes-is, listed_in_diagram, own_in_diagram, apart, length-diagram_nodes}
+use Rattle.dcv_arena.proofs.Listed.{node_block}
+use Rattle.dcv_arena.proofs.Refs.{level_of-le}
 use Rattle.dcv_arena.proofs.laws.nodes_are_of_functions.Goals as goal
 
 pub returns : goal.returns
@@ -15,4 +17,6 @@ returns c = record {
   );
   apart = λ arena is. apart arena is.reduced;
   count = length-diagram_nodes;
+  blocks = λ arena place front is one size.
+      node_block arena is.reduced place (level_of arena (Place place)) one refl (level_of-le arena is.reduced (Place place) one) front size;
 }

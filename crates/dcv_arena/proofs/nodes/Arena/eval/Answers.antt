@@ -5,7 +5,6 @@ use Rattle.dcv_arena.proofs.nodes.Arena.eval.Goals as goal
 use Rattle.dcv_arena.proofs.nodes.Arena.eval.Goals.{In-Leaf}
 
 number : (c : In-Leaf) → c.in-Leaf.number ≡ value_of c.args.self.now c.args.root c.args.letter.now
-unfolding value_of
 number c =
     subst (λ ref. value_of c.args.self.now ref c.args.letter.now ≡ value_of c.args.self.now c.args.root c.args.letter.now) c.in-Leaf.is c.loop-current.invariant.same
 

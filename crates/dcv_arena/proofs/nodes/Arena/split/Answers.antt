@@ -7,12 +7,10 @@ use Rattle.dcv_arena.proofs.Listed.{includes_fixed}
 use Rattle.dcv_arena.proofs.nodes.Arena.split.Goals as goal
 
 pub returns-in-Leaf-clause-lo_value : goal.returns-in-Leaf-clause-lo_value
-unfolding value_of
 returns-in-Leaf-clause-lo_value c = λ letter size.
     (λ i. value_of c.args.self.now (c.in-Leaf.is i) letter) ∙ (λ i. value_of c.args.self.now (sym c.in-Leaf.is i) (set letter c.args.slot false))
 
 pub returns-in-Leaf-clause-hi_value : goal.returns-in-Leaf-clause-hi_value
-unfolding value_of
 returns-in-Leaf-clause-hi_value c = λ letter size.
     (λ i. value_of c.args.self.now (c.in-Leaf.is i) letter) ∙ (λ i. value_of c.args.self.now (sym c.in-Leaf.is i) (set letter c.args.slot true))
 
