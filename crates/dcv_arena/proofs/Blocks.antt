@@ -11,7 +11,7 @@ use Rattle.dcv_word.specs.Letter.{bits_of, letter_of, letters_of_width}
 use Rattle.dcv_word.specs.LetterFacts.{length-letter_of, bits_of-letter_of}
 use Rattle.dcv_word.proofs.AllLetters.{length-letters_of_width}
 use Rattle.dcv_word.proofs.Bits.{bits_of-lt, double}
-use Rattle.dcv_arena.specs.Diagram.{block, blocks, first_half, second_half, halves_differ, nodes_at, nodes_of}
+use Rattle.dcv_arena.specs.Diagram.{as_table, block, blocks, first_half, second_half, halves_differ, nodes_at, nodes_of}
 use Rattle.dcv_arena.proofs.Members.{Contains-map, Contains-map_cases, Contains-filter, Contains-filter_cases, Contains-flat_map, Contains-flat_map_cases, Contains-range, Contains-range_cases}
 use Rattle.dcv_arena.proofs.Tables.{table-suc}
 
@@ -106,9 +106,6 @@ differ_from a b h e = both_ways (pointwise nat_eq a b) (not-true (pointwise nat_
 
 pub differ_to : (a b : List ℕ) → a ≢ b → not (pointwise nat_eq a b) ≡ true
 differ_to a b h = ap not (false_from_ne_true (pointwise nat_eq a b) (λ e. h ((pointwise_decides unsigned_Decides a b).0 e)))
-
-abbrev pub as_table : ℕ → (List Bool → ℕ) → List ℕ
-as_table slots f = map f (letters_of_width slots)
 
 pub block-part : (front : List Bool) (rest slots : ℕ) (f : List Bool → ℕ) → length front + rest ≡ slots
     → block slots (as_table slots f) (length front) (bits_of front) ≡ part_of f front rest

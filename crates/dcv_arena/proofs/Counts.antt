@@ -1,37 +1,19 @@
 -- How many nodes an arena has.
-use Rattle.std.proofs.Common.{◌≡◌, ◌≢◌, ℕ, suc, ◌<◌, ◌≤◌, Bool, true, false, cond, List, [], ◌∷◌, length, map, filter, nat_eq, Contains, sym, ap, subst, ◌∙◌, arith}
-use Rattle.std.specs.Bool.{Decides, one_answer}
-use Rattle.std.specs.Cmp.{IsEquivalence, decided, unsigned_Decides}
-use Rattle.std.specs.Cmp.Lexicographic.{pointwise, pointwise_decides}
+use Rattle.std.proofs.Common.{◌≡◌, ◌≢◌, ℕ, ◌<◌, ◌≤◌, List, length, map, Contains, sym, subst, ◌∙◌, arith}
+use Rattle.std.specs.Bool.{one_answer}
 use Rattle.std.specs.List.{All, AllPairs, range_with_len}
 use Rattle.std.specs.Set.{is_member}
-use Rattle.std.proofs.lemmas.Bool.Decides.{Decides-and}
 use Rattle.std.proofs.lemmas.List.Elements.{All-contains, All-contains_itself, All-map, All-weaker}
 use Rattle.std.proofs.lemmas.List.FromFn.{length-map-range_with_len, get_or-map-range_with_len}
-use Rattle.std.proofs.lemmas.List.Kept.{AllPairs-filter}
 use Rattle.std.proofs.lemmas.Map.Made.{length-from_keys, is_member-Decides, IsDistinct-from_AllPairs}
 use Rattle.dcv_arena.specs.Arena.{ArenaValue, IsReduced, IsRef, value_of, table_of, node_at, places, diagram_nodes, HasOnlyNodesOf}
 use Rattle.dcv_arena.specs.Diagram.{nodes_of, nodes_of_all, is_same_node, node_count}
 use Rattle.dcv_arena.specs.declared.nodes.Ref.{Ref}
 use Rattle.dcv_arena.specs.declared.nodes.Ref.TheVariants.{Place}
-use Rattle.dcv_arena.proofs.Members.{Contains-map, Contains-map_cases, Contains-filter, Contains-filter_cases, Contains-flat_map, Contains-flat_map_cases, Contains-range, Contains-range_cases}
+use Rattle.dcv_arena.proofs.Members.{Contains-map, Contains-map_cases, Contains-flat_map, Contains-flat_map_cases, Contains-range, Contains-range_cases}
+use Rattle.dcv_arena.proofs.Fewer.{same_node, node_laws, fewer_nodes}
 use Rattle.dcv_arena.proofs.Blocks.{nodes_of-from, nodes_of-is}
 use Rattle.dcv_arena.proofs.Listed.{own_node, listed, node_at-apart}
-
--- the test of two nodes decides whether they are the same
-same_node : (a b : ℕ × List ℕ) → Decides (is_same_node a b) (a ≡ b)
-same_node a b =
-    let parts = Decides-and (nat_eq a.0 b.0) (pointwise nat_eq a.1 b.1) (unsigned_Decides a.0 b.0) (pointwise_decides unsigned_Decides a.1 b.1) in
-    (λ t. let p = parts.0 t in λ i. (p.0 i, p.1 i), λ e. parts.1 (ap (λ node. node.0) e, ap (λ node. node.1) e))
-
-node_laws : IsEquivalence is_same_node
-node_laws = decided is_same_node same_node
-
-length_filter-le : {X : Type 0} (p : X → Bool) (xs : List X) → length (filter p xs) ≤ length xs
-length_filter-le p [] = omega arith
-length_filter-le p (x ∷ xs) =
-    let rest = length_filter-le p xs in
-    elim (p x) as (λ b. length (cond b (x ∷ filter p xs) (filter p xs)) ≤ suc (length xs)) [ true ↦ omega arith | false ↦ omega arith ]
 
 -- two lists with the same elements, as tests
 same_members : (xs ys : List (ℕ × List ℕ)) (q : ℕ × List ℕ) → (Contains xs q → Contains ys q) → (Contains ys q → Contains xs q) → is_member is_same_node xs q ≡ is_member is_same_node ys q
@@ -78,10 +60,10 @@ module _ (arena : ArenaValue) (is : IsReduced arena) where
       omega arith
 
   -- the nodes of these refs' functions
-  abbrev of_roots : List Ref → List (ℕ × List ℕ)
+  abbrev pub of_roots : List Ref → List (ℕ × List ℕ)
   of_roots roots = nodes_of_all arena.slots (map (table_of arena) roots)
 
-  of_roots-listed : (roots : List Ref) → All (IsRef arena) roots → (node : ℕ × List ℕ) → Contains (of_roots roots) node → Contains (diagram_nodes arena) node
+  pub of_roots-listed : (roots : List Ref) → All (IsRef arena) roots → (node : ℕ × List ℕ) → Contains (of_roots roots) node → Contains (diagram_nodes arena) node
   of_roots-listed roots all node c =
       let by_table = Contains-flat_map_cases (nodes_of arena.slots) (map (table_of arena) roots) node c in
       let by_ref = Contains-map_cases (table_of arena) roots by_table.0 by_table.1 in
@@ -94,27 +76,15 @@ module _ (arena : ArenaValue) (is : IsReduced arena) where
       ∙ length-from_keys node_laws (diagram_nodes arena) (of_roots roots) (IsDistinct-from_AllPairs same_node (diagram_nodes arena) apart)
       (λ q. same_members (diagram_nodes arena) (of_roots roots) q (only q) (of_roots-listed roots all q))
 
-  pub count_least : (roots : List Ref) → All (IsRef arena) roots → node_count arena.slots (map (table_of arena) roots) ≤ length arena.nodes
-  count_least roots all =
-      let mine = is_member is_same_node (of_roots roots) in
-      let kept = filter mine (diagram_nodes arena) in
-      let decides = is_member-Decides same_node (of_roots roots) in
-      let size = length-from_keys node_laws kept (of_roots roots)
-      (IsDistinct-from_AllPairs same_node kept (AllPairs-filter (λ a b. a ≢ b) mine (diagram_nodes arena) apart))
-      (λ q. same_members kept (of_roots roots) q
-      (λ c. (decides q).0 (Contains-filter_cases mine (diagram_nodes arena) q c).1)
-      (λ c. Contains-filter mine (diagram_nodes arena) q (of_roots-listed roots all q c) ((decides q).1 c))) in
-      omega (arith, size, length_filter-le mine (diagram_nodes arena), length-diagram_nodes arena)
-
   -- each node is one of its own place's function
-  only_own : HasOnlyNodesOf arena (places arena)
+  pub only_own : HasOnlyNodesOf arena (places arena)
   only_own node c =
       let at = diagram_nodes-is arena node c in
       let own = subst (Contains (nodes_of arena.slots (table_of arena (Place at.0)))) at.2 (own_in_diagram at.0 at.1) in
       let there = Contains-map Place (range_with_len 0 (length arena.nodes)) at.0 (Contains-range (length arena.nodes) at.0 at.1) in
       Contains-flat_map (nodes_of arena.slots) (map (table_of arena) (places arena)) (table_of arena (Place at.0)) node (Contains-map (table_of arena) (places arena) (Place at.0) there) own
 
-  places_are_refs : All (IsRef arena) (places arena)
+  pub places_are_refs : All (IsRef arena) (places arena)
   places_are_refs =
       All-map (IsRef arena) Place (range_with_len 0 (length arena.nodes))
       (All-weaker (Contains (range_with_len 0 (length arena.nodes))) (λ place. place < length arena.nodes) (λ place c. Contains-range_cases (length arena.nodes) place c)
@@ -122,3 +92,9 @@ module _ (arena : ArenaValue) (is : IsReduced arena) where
 
   pub count_all : length arena.nodes ≡ node_count arena.slots (map (table_of arena) (places arena))
   count_all = count_exact (places arena) places_are_refs only_own
+
+  -- some of the functions have no more nodes than all of them
+  pub count_least : (roots : List Ref) → All (IsRef arena) roots → node_count arena.slots (map (table_of arena) roots) ≤ length arena.nodes
+  count_least roots all =
+      let among = fewer_nodes arena.slots (map (table_of arena) roots) (map (table_of arena) (places arena)) (λ node c. only_own node (of_roots-listed roots all node c)) in
+      omega (arith, among, count_all)

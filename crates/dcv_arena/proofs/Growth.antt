@@ -165,6 +165,18 @@ module _ (old new : ArenaValue) (is : IsReduced new) (kept : KeepsRefs old new) 
       let facts = is.nodes place (node_of slot lo hi) there in
       of_old hi hi_ref (includes_fixed new is slot true hi (Place place) (kept.refs hi hi_ref) facts.hi_level (value_of-hi new is place (node_of slot lo hi) there))
 
+-- what makes a node right after the others
+pub right_new : (arena : ArenaValue) (slot : ℕ) (lo hi : Ref) → IsRef arena lo → IsRef arena hi
+    → slot < arena.slots → slot < level_of arena lo → slot < level_of arena hi → IsNew arena slot lo hi → IsNodeAt arena (length arena.nodes) (node_of slot lo hi)
+right_new arena slot lo hi lo_ref hi_ref inner lo_later hi_later fresh = record {
+  slot = inner;
+  lo_before = lo_ref;
+  hi_before = hi_ref;
+  lo_level = lo_later;
+  hi_level = hi_later;
+  differ = fresh.0;
+}
+
 -- a node that is new has a function that no ref has
 pub new_function : (arena : ArenaValue) (slot : ℕ) (lo hi : Ref) → IsReduced arena → IsRef arena lo → IsRef arena hi
     → slot < arena.slots → slot < level_of arena lo → slot < level_of arena hi → IsNew arena slot lo hi → (ref : Ref) → IsRef arena ref
@@ -172,14 +184,7 @@ pub new_function : (arena : ArenaValue) (slot : ℕ) (lo hi : Ref) → IsReduced
 new_function arena slot lo hi is lo_ref hi_ref inner lo_later hi_later fresh ref one same =
     let node = node_of slot lo hi in
     let more = grown arena node in
-    let right : IsNodeAt arena (length arena.nodes) node = record {
-      slot = inner;
-      lo_before = lo_ref;
-      hi_before = hi_ref;
-      lo_level = lo_later;
-      hi_level = hi_later;
-      differ = fresh.0;
-    } in
+    let right = right_new arena slot lo hi lo_ref hi_ref inner lo_later hi_later fresh in
     let is' = is_reduced_grown arena node is right fresh.1 in
     let kept = keeps_grown arena node in
     let last = length arena.nodes in

@@ -1,5 +1,7 @@
+pub mod Behind
 pub mod Blocks
 pub mod Counts
+pub mod Fewer
 pub mod Functions
 pub mod Growth
 pub mod Listed
@@ -9,3 +11,4 @@ pub mod Refs
 pub mod Roots
 pub mod Same
 pub mod Tables
+pub mod Together

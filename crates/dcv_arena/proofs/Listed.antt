@@ -14,7 +14,7 @@ use Rattle.dcv_arena.proofs.Refs.{AgreeFrom, rank, rank_before, is_ref, node_the
 use Rattle.dcv_arena.proofs.Blocks.{IsNodeOf, part_of, block-part, nodes_of-from, nodes_of-is}
 
 -- fronts that are as long leave the slots behind them as they are
-agree_behind : (front other back : List Bool) → length front ≡ length other → AgreeFrom (length front) (front ++ back) (other ++ back)
+pub agree_behind : (front other back : List Bool) → length front ≡ length other → AgreeFrom (length front) (front ++ back) (other ++ back)
 agree_behind front other back same slot from =
     get_or-append_right front back (length front) slot false refl from
     ∙ sym (get_or-append_right other back (length front) slot false (sym same) from)
@@ -25,6 +25,25 @@ agree_past [] a b back zero from = absurd (omega arith)
 agree_past [] a b back (suc slot) from = refl
 agree_past (value ∷ front) a b back zero from = absurd (omega arith)
 agree_past (value ∷ front) a b back (suc slot) from = agree_past front a b back slot (omega arith)
+
+-- a function with the same numbers behind a front that is as long has the node too
+pub with_front : {slots : ℕ} (g f : List Bool → ℕ) (node : ℕ × List ℕ) (split : IsNodeOf slots g node) (front : List Bool) → length front ≡ length split.front
+    → ((values : List Bool) → length split.front + length values ≡ slots → g (split.front ++ values) ≡ f (front ++ values))
+    → IsNodeOf slots f node
+with_front g f node split front size behind =
+    let old = split.front in
+    let rest = split.rest in
+    record {
+      front = front;
+      rest = rest;
+      level = size ∙ split.level;
+      size = ap (λ n. n + suc rest) size ∙ split.size;
+      numbers = split.numbers ∙ same_table (suc rest) (λ values. g (old ++ values)) (λ values. f (front ++ values)) (λ values whole. behind values (omega (arith, split.size)));
+      differ = λ alike. split.differ
+          (same_table rest (λ values. g (old ++ false ∷ values)) (λ values. f (front ++ false ∷ values)) (λ values whole. behind (false ∷ values) (omega (arith, split.size)))
+          ∙ alike
+          ∙ sym (same_table rest (λ values. g (old ++ true ∷ values)) (λ values. f (front ++ true ∷ values)) (λ values whole. behind (true ∷ values) (omega (arith, split.size)))));
+    }
 
 -- a front with false in each slot
 abbrev blank : ℕ → List Bool
@@ -100,30 +119,13 @@ module _ (arena : ArenaValue) (is : IsReduced arena) where
   -- ---- a node of a ref's function is a node of the arena
 
   -- what comes before its level splits no function
-  no_earlier : (ref : Ref) → IsRef arena ref → (node : ℕ × List ℕ) → IsNodeOf arena.slots (value_of arena ref) node → node.0 < level_of arena ref → ⊥
+  pub no_earlier : (ref : Ref) → IsRef arena ref → (node : ℕ × List ℕ) → IsNodeOf arena.slots (value_of arena ref) node → node.0 < level_of arena ref → ⊥
   no_earlier ref one node split before =
       split.differ (λ i. map (λ values. ignores_earlier arena is (suc (length split.front)) ref one (omega (arith, split.level)) (split.front ++ false ∷ values) (split.front ++ true ∷ values)
       (agree_past split.front false true values) i) (letters_of_width split.rest))
 
   abbrev IsListed : ℕ × List ℕ → Type 0
   IsListed node = (place : ℕ) × (place < length arena.nodes) × (node_at arena place ≡ node)
-
-  -- a node beyond a ref's own slot is one of the child's function
-  of_child : (place : ℕ) (node : Node) → slice_get arena.nodes place ≡ Some node → (found : ℕ × List ℕ)
-      → (split : IsNodeOf arena.slots (value_of arena (Place place)) found) → node.slot < found.0
-      → (child : Ref) → ((values : List Bool) → value_of arena (Place place) (split.front ++ values) ≡ value_of arena child (split.front ++ values))
-      → IsNodeOf arena.slots (value_of arena child) found
-  of_child place node e found split before child same = record {
-    front = split.front;
-    rest = split.rest;
-    level = split.level;
-    size = split.size;
-    numbers = split.numbers ∙ (λ i. map (λ values. same values i) (letters_of_width (suc split.rest)));
-    differ = λ alike. split.differ
-        ((λ i. map (λ values. same (false ∷ values) i) (letters_of_width split.rest))
-        ∙ alike
-        ∙ (λ i. map (λ values. sym (same (true ∷ values)) i) (letters_of_width split.rest)));
-  }
 
   listed_within : (count : ℕ) (ref : Ref) → IsRef arena ref → rank ref ≤ count → (found : ℕ × List ℕ) → IsNodeOf arena.slots (value_of arena ref) found → IsListed found
   listed_within count (Leaf number) one h found split = absurd (no_earlier (Leaf number) tt found split (omega (arith, split.level, split.size)))
@@ -148,9 +150,9 @@ module _ (arena : ArenaValue) (is : IsReduced arena) where
             ∙ ap (λ b. cond b (value_of arena node.hi (front ++ values)) (value_of arena node.lo (front ++ values))) (get_or_append_left front values false node.slot inside ∙ at) in
             let by : (side : Bool) → get_or front node.slot false ≡ side → IsListed found = elim [
               | true ↦ λ at. listed_within count node.hi (is_ref arena is place node.hi one facts.hi_before) (omega (arith, rank_before place node.hi facts.hi_before)) found
-                  (of_child place node e found split before node.hi (goes true at))
+                  (with_front f (value_of arena node.hi) found split front refl (λ values whole. goes true at values))
               | false ↦ λ at. listed_within count node.lo (is_ref arena is place node.lo one facts.lo_before) (omega (arith, rank_before place node.lo facts.lo_before)) found
-                  (of_child place node e found split before node.lo (goes false at))
+                  (with_front f (value_of arena node.lo) found split front refl (λ values whole. goes false at values))
             ] in
             by (get_or front node.slot false) refl
         | inr (inr after) ↦ absurd (no_earlier (Place place) one found split (omega arith))
@@ -198,28 +200,14 @@ module _ (arena : ArenaValue) (is : IsReduced arena) where
       → (node : ℕ × List ℕ) → IsNodeOf arena.slots (value_of arena part) node → IsNodeOf arena.slots (value_of arena root) node
   fixed slot value part root one later same node split =
       let front = split.front in
-      let rest = split.rest in
       let f = value_of arena root in
       let g = value_of arena part in
       let inside : slot < length front = elim (cases_lt slot (length front)) [
         | inl inside ↦ inside
         | inr past ↦ absurd (no_earlier part one node split (omega (arith, split.level)))
       ] in
-      let front' = set front slot value in
-      let size : length front' ≡ length front = length-set front slot value in
-      let behind : (values : List Bool) → length front + length values ≡ arena.slots → g (front ++ values) ≡ f (front' ++ values) = λ values whole.
-      same (front ++ values) (length-append front values ∙ whole) ∙ ap f (set-append_left front values slot value inside) in
-      record {
-        front = front';
-        rest = rest;
-        level = size ∙ split.level;
-        size = ap (λ n. n + suc rest) size ∙ split.size;
-        numbers = split.numbers ∙ same_table (suc rest) (λ values. g (front ++ values)) (λ values. f (front' ++ values)) (λ values whole. behind values (omega (arith, split.size)));
-        differ = λ alike. split.differ
-            (same_table rest (λ values. g (front ++ false ∷ values)) (λ values. f (front' ++ false ∷ values)) (λ values whole. behind (false ∷ values) (omega (arith, split.size)))
-            ∙ alike
-            ∙ sym (same_table rest (λ values. g (front ++ true ∷ values)) (λ values. f (front' ++ true ∷ values)) (λ values whole. behind (true ∷ values) (omega (arith, split.size)))));
-      }
+      with_front g f node split (set front slot value) (length-set front slot value) (λ values whole.
+      same (front ++ values) (length-append front values ∙ whole) ∙ ap f (set-append_left front values slot value inside))
 
   pub includes_fixed : (slot : ℕ) (value : Bool) (part root : Ref) → IsRef arena part → slot < level_of arena part
       → ((letter : List Bool) → length letter ≡ arena.slots → value_of arena part letter ≡ value_of arena root (set letter slot value))

@@ -11,15 +11,16 @@
 --     KeepsRefs old new             the refs of the old arena are refs of the new one, and mean what they meant
 --     HasOnlyNodesOf arena roots    each node of the arena is a node of one of these refs' functions
 --     AddsOnlyNodesOf old new root  each node of the new arena is one of the old arena, or a node of this ref's function
+--     AddsOnlyNodesOfFunction old new function    each node of the new arena is one of the old arena, or a node of this function
+--     count_with arena function     how many nodes the arena and this function have together
 --     IncludesNodesOf old part new root    each node of what a ref means in the old arena is a node of what a ref means in the new one
 use Rattle.std.specs.Prelude.{◌≡◌, ◌≢◌, ℕ, ◌^◌, ◌<◌, ◌≤◌, Bool, false, if◌then◌else◌, List, [], ◌∷◌, ◌++◌, length, map, take, fold, Some, slice_get, slice_index_or, Contains, ◌⊎◌}
 use Rattle.std.specs.Option.{option_map_or}
 use Rattle.std.specs.List.{range_with_len}
-use Rattle.dcv_word.specs.Letter.{letters_of_width}
 use Rattle.dcv_arena.specs.declared.nodes.Ref.{Ref}
 use Rattle.dcv_arena.specs.declared.nodes.Ref.TheVariants.{Leaf, Place}
 use Rattle.dcv_arena.specs.declared.nodes.Node.{Node}
-use Rattle.dcv_arena.specs.Diagram.{block, nodes_of, nodes_of_all}
+use Rattle.dcv_arena.specs.Diagram.{as_table, block, nodes_of, nodes_of_all, node_count}
 
 -- the nodes stand in the order in which they were added
 pub record ArenaValue : Type 0 where
@@ -57,7 +58,7 @@ abbrev pub value_of : ArenaValue → Ref → List Bool → ℕ
 value_of arena ref letter = function_at (functions_of arena.nodes) ref letter
 
 unfoldable pub table_of : ArenaValue → Ref → List ℕ
-table_of arena ref = map (value_of arena ref) (letters_of_width arena.slots)
+table_of arena ref = as_table arena.slots (value_of arena ref)
 
 abbrev pub node_at : ArenaValue → ℕ → ℕ × List ℕ
 node_at arena place = let level = level_of arena (Place place) in (level, block arena.slots (table_of arena (Place place)) level 0)
@@ -125,3 +126,12 @@ AddsOnlyNodesOf old new root = (node : ℕ × List ℕ) → Contains (diagram_no
 abbrev pub IncludesNodesOf : ArenaValue → Ref → ArenaValue → Ref → Type 0
 IncludesNodesOf old part new root = (node : ℕ × List ℕ) → Contains (nodes_of old.slots (table_of old part)) node
     → Contains (nodes_of new.slots (table_of new root)) node
+
+-- each node of the new arena is one of the old arena, or a node of this function, which no ref may mean yet
+abbrev pub AddsOnlyNodesOfFunction : ArenaValue → ArenaValue → (List Bool → ℕ) → Type 0
+AddsOnlyNodesOfFunction old new function = (node : ℕ × List ℕ) → Contains (diagram_nodes new) node
+    → Contains (diagram_nodes old) node ⊎ Contains (nodes_of new.slots (as_table new.slots function)) node
+
+-- how many nodes the arena's refs and this function have together, each counted once
+abbrev pub count_with : ArenaValue → (List Bool → ℕ) → ℕ
+count_with arena function = node_count arena.slots (map (table_of arena) (places arena) ++ as_table arena.slots function ∷ [])

@@ -1,5 +1,6 @@
 -- The decision diagram of functions from letters to numbers, by plain lists.
 -- A function of the letters of so many slots is written as its table: its 2 ^ slots numbers, in the letters' order.
+--     as_table slots function          a function's table
 --     block slots table level place    one of the 2 ^ level parts of the table, each as long: the numbers of the letters that begin alike
 --     blocks slots table level         these parts, in order
 --     nodes_at slots table level       the diagram's nodes at a level: the blocks whose two halves differ, each beside the level
@@ -10,6 +11,10 @@ use Rattle.std.specs.Prelude.{ℕ, ◌-◌, ◌*◌, ◌/◌, ◌^◌, ◌==◌,
 use Rattle.std.specs.Cmp.Lexicographic.{pointwise}
 use Rattle.std.specs.List.{flat_map, range_with_len}
 use Rattle.std.specs.Set.{distinct_count}
+use Rattle.dcv_word.specs.Letter.{letters_of_width}
+
+abbrev pub as_table : ℕ → (List Bool → ℕ) → List ℕ
+as_table slots function = map function (letters_of_width slots)
 
 abbrev pub block : ℕ → List ℕ → ℕ → ℕ → List ℕ
 block slots table level place = let size = 2 ^ (slots - level) in take size (drop (place * size) table)

@@ -2,8 +2,8 @@
 use Rattle.std.specs.Prelude.{◌≡◌, ◌≢◌, ◌↔◌, ℕ, suc, ◌+◌, ◌-◌, ◌<◌, ◌≤◌, Bool, true, false, if◌then◌else◌, List, [], ◌∷◌, ◌++◌, length, map, slice_set, slice_index_or, Contains}
 use Rattle.std.specs.List.{All, AllPairs}
 use Rattle.dcv_word.specs.Letter.{bits_of, letters_of_width}
-use Rattle.dcv_arena.specs.Arena.{ArenaValue, IsArena, IsRef, IsNew, level_of, value_of, table_of, node_at, diagram_nodes, KeepsRefs, HasOnlyNodesOf, AddsOnlyNodesOf, IncludesNodesOf}
-use Rattle.dcv_arena.specs.Diagram.{block, first_half, second_half, nodes_of}
+use Rattle.dcv_arena.specs.Arena.{ArenaValue, IsArena, IsRef, IsNew, level_of, value_of, table_of, node_at, diagram_nodes, KeepsRefs, HasOnlyNodesOf, AddsOnlyNodesOf, AddsOnlyNodesOfFunction, IncludesNodesOf, count_with}
+use Rattle.dcv_arena.specs.Diagram.{as_table, block, first_half, second_half, nodes_of, nodes_of_all, node_count}
 use Rattle.dcv_arena.specs.declared.nodes.Ref.{Ref}
 use Rattle.dcv_arena.specs.declared.nodes.Ref.TheVariants.{Place}
 
@@ -92,6 +92,37 @@ PartsAreAddedInTurn = (old middle new : ArenaValue) (part root : Ref) → AddsOn
 abbrev pub PartsAreKept : Type 0
 PartsAreKept = (old middle new : ArenaValue) (part root : Ref) → KeepsRefs old middle → IsRef old part
     → IncludesNodesOf middle part new root → IncludesNodesOf old part new root
+
+-- ---- nodes of functions that no ref may mean yet
+
+-- behind a front the ref has the function's numbers
+abbrev pub MeansBehind : ArenaValue → Ref → List Bool → (List Bool → ℕ) → Type 0
+MeansBehind arena ref front function = (values : List Bool) → length front + length values ≡ arena.slots
+    → value_of arena ref (front ++ values) ≡ function (front ++ values)
+
+-- the nodes of such a ref that ignores the front's slots are nodes of the function
+abbrev pub NodesAreBehindFronts : Type 0
+NodesAreBehindFronts = (arena : ArenaValue) (ref : Ref) (front : List Bool) (function : List Bool → ℕ) → IsArena arena → IsRef arena ref
+    → length front ≤ level_of arena ref → MeansBehind arena ref front function
+    → (node : ℕ × List ℕ) → Contains (nodes_of arena.slots (table_of arena ref)) node → Contains (nodes_of arena.slots (as_table arena.slots function)) node
+
+-- a node that is new is one more than the arena has, and a node of each function that goes to its children behind a front
+abbrev pub NewNodeIsOneMore : Type 0
+NewNodeIsOneMore = (arena : ArenaValue) (slot : ℕ) (lo hi : Ref) (front : List Bool) (function : List Bool → ℕ) → IsArena arena → IsRef arena lo → IsRef arena hi
+    → slot < arena.slots → slot < level_of arena lo → slot < level_of arena hi → IsNew arena slot lo hi → length front ≤ slot
+    → ((values : List Bool) → length front + length values ≡ arena.slots → function (front ++ values)
+    ≡ (if slice_index_or (front ++ values) slot false then value_of arena hi (front ++ values) else value_of arena lo (front ++ values)))
+    → length arena.nodes < count_with arena function
+
+-- what was added for a function is counted with it already
+abbrev pub AddedNodesAreCounted : Type 0
+AddedNodesAreCounted = (old new : ArenaValue) (function : List Bool → ℕ) → IsArena old → IsArena new → KeepsRefs old new
+    → AddsOnlyNodesOfFunction old new function → count_with new function ≤ count_with old function
+
+-- functions whose nodes are all among those of others have no more
+abbrev pub FewerNodesAreNoMore : Type 0
+FewerNodesAreNoMore = (slots : ℕ) (few many : List (List ℕ)) → ((node : ℕ × List ℕ) → Contains (nodes_of_all slots few) node → Contains (nodes_of_all slots many) node)
+    → node_count slots few ≤ node_count slots many
 
 -- ---- blocks
 

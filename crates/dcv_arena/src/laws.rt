@@ -4,6 +4,7 @@ ghost use Rattle.dcv_arena.specs.Laws.{EarlierSlotsAreIgnored, OwnSlotMatters};
 ghost use Rattle.dcv_arena.specs.Laws.{NodesAreOfFunctions, NodesAreApart, NodesAreCounted, NodesAreOfAnyFront};
 ghost use Rattle.dcv_arena.specs.Laws.{RefsAreKeptByItself, RefsAreKeptInTurn};
 ghost use Rattle.dcv_arena.specs.Laws.{NoNodesAreOfNoRoots, OneMoreRoot, PartsAreAddedInTurn, PartsAreKept};
+ghost use Rattle.dcv_arena.specs.Laws.{NodesAreBehindFronts, NewNodeIsOneMore, AddedNodesAreCounted, FewerNodesAreNoMore};
 ghost use Rattle.dcv_arena.specs.Laws.{BlocksAreOfFronts, FirstHalfIsOfFalse, SecondHalfIsOfTrue};
 
 /// Two refs of an arena are equal exactly where their functions are, and a node that is new has a function
@@ -40,6 +41,14 @@ pub fn roots_have_the_nodes()
     ensures more { OneMoreRoot }
     ensures turn { PartsAreAddedInTurn }
     ensures kept { PartsAreKept }
+{}
+
+/// What a call adds on its way to a function that no ref means yet has nodes of that function alone.
+pub fn nodes_are_of_what_is_meant()
+    ensures fronts { NodesAreBehindFronts }
+    ensures new { NewNodeIsOneMore }
+    ensures added { AddedNodesAreCounted }
+    ensures fewer { FewerNodesAreNoMore }
 {}
 
 /// The blocks of a table are those of the letters that begin alike, and their halves those of the values in

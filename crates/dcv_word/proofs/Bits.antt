@@ -1,12 +1,14 @@
 -- Letters as numbers, slot by slot.
-use Rattle.std.proofs.Common.{◌≡◌, ◌≢◌, ℕ, zero, suc, ◌+◌, ◌-◌, ◌*◌, ◌/◌, ◌%◌, ◌^◌, ◌<◌, ◌≤◌, ◌==◌, Bool, true, false, eqb, List, [], ◌∷◌, length, Some, slice_get, bit_and, refl, sym, ap, ◌∙◌, arith}
+use Rattle.std.proofs.Common.{◌≡◌, ◌≢◌, ℕ, zero, suc, ◌+◌, ◌-◌, ◌*◌, ◌/◌, ◌%◌, ◌^◌, ◌<◌, ◌≤◌, ◌==◌, Bool, true, false, eqb, List, [], ◌∷◌, length, Some, slice_get, get_or, set, bit_and, refl, sym, ap, ◌∙◌, arith}
 use Rattle.std.specs.Bool.{beq, Decides}
 use Rattle.std.specs.Int.{bit_at}
 use Rattle.std.specs.Cmp.{booleans_Decides}
 use Rattle.std.specs.Cmp.Lexicographic.{pointwise, pointwise_decides}
-use Rattle.std.proofs.Math.Nat.{pow-suc}
+use Rattle.std.proofs.Math.Nat.{pow-suc, mod-eq_of_lt}
+use Rattle.std.proofs.Math.Pow.{pow-lt}
 use Rattle.std.proofs.lemmas.Nat.Bits.{bit_at_cat_low, bit_at_cat_high, shr_and_one}
 use Rattle.std.proofs.lemmas.Nat.{shl_whole}
+use Rattle.std.proofs.lemmas.List.{length-set}
 use borrow.Author.Tests.{eqb-true, eq-eqb}
 use Rattle.dcv_word.specs.Letter.{letter_of, bits_of}
 use Rattle.dcv_word.specs.LetterFacts.{length-letter_of, bits_of-letter_of}
@@ -90,3 +92,49 @@ widths_decide width bits width' bits' a b seen seen' differ = (
   λ t. absurd (differ (eqb-true width width' t)),
   λ e. absurd (differ (width_of width bits a seen ∙ ap length e ∙ sym (width_of width' bits' b seen'))),
 )
+
+-- ---- a letter with another value in a slot
+
+-- with true in place of false the number is greater by what the slot is worth
+pub bits_of-set_true : (letter : List Bool) (slot : ℕ) → slot < length letter → get_or letter slot false ≡ false
+    → bits_of (set letter slot true) ≡ bits_of letter + 2 ^ (length letter - 1 - slot)
+bits_of-set_true [] slot h at = absurd (omega arith)
+bits_of-set_true (value ∷ values) zero h at =
+    let place : suc (length values) - 1 - 0 ≡ length values = omega arith in
+    rw (at, place) (omega arith)
+bits_of-set_true (value ∷ values) (suc slot) h at =
+    let place : suc (length values) - 1 - suc slot ≡ length values - 1 - slot = omega arith in
+    let rest = bits_of-set_true values slot (omega arith) at in
+    rw (length-set values slot true, rest, place) (omega arith)
+
+-- and with false in place of true as much less
+pub bits_of-set_false : (letter : List Bool) (slot : ℕ) → slot < length letter → get_or letter slot false ≡ true
+    → bits_of (set letter slot false) + 2 ^ (length letter - 1 - slot) ≡ bits_of letter
+bits_of-set_false [] slot h at = absurd (omega arith)
+bits_of-set_false (value ∷ values) zero h at =
+    let place : suc (length values) - 1 - 0 ≡ length values = omega arith in
+    rw (at, place) (omega arith)
+bits_of-set_false (value ∷ values) (suc slot) h at =
+    let place : suc (length values) - 1 - suc slot ≡ length values - 1 - slot = omega arith in
+    let rest = bits_of-set_false values slot (omega arith) at in
+    rw (length-set values slot false, place) (omega arith)
+
+-- what a slot is worth, as it is computed
+worth_of : (width slot : ℕ) → width ≤ 32 → slot < width → 1 * 2 ^ (width - 1 - slot) % 2 ^ 32 ≡ 2 ^ (width - 1 - slot)
+worth_of width slot h within =
+    let small : 1 * 2 ^ (width - 1 - slot) < 2 ^ 32 = let e : width - 1 - slot < 32 = omega arith in omega (arith, pow-lt e) in
+    mod-eq_of_lt small ∙ omega arith
+
+pub bits_raised : (width bits slot : ℕ) (letter : List Bool) → letter_of width bits ≡ letter → width ≤ 32 → bits < 2 ^ width → slot < length letter → get_or letter slot false ≡ false
+    → bits + 1 * 2 ^ (width - 1 - slot) % 2 ^ 32 ≡ bits_of (set letter slot true)
+bits_raised width bits slot letter seen h small within at =
+    let same = width_of width bits letter seen in
+    let worth = worth_of width slot h (omega arith) in
+    (λ i. number_of width bits letter seen small i + (worth ∙ ap (λ n. 2 ^ (n - 1 - slot)) same) i) ∙ sym (bits_of-set_true letter slot within at)
+
+pub bits_lowered : (width bits slot : ℕ) (letter : List Bool) → letter_of width bits ≡ letter → width ≤ 32 → bits < 2 ^ width → slot < length letter → get_or letter slot false ≡ true
+    → bits_of (set letter slot false) + 1 * 2 ^ (width - 1 - slot) % 2 ^ 32 ≡ bits
+bits_lowered width bits slot letter seen h small within at =
+    let same = width_of width bits letter seen in
+    let worth = worth_of width slot h (omega arith) in
+    ap (λ n. bits_of (set letter slot false) + n) (worth ∙ ap (λ n. 2 ^ (n - 1 - slot)) same) ∙ bits_of-set_false letter slot within at ∙ sym (number_of width bits letter seen small)

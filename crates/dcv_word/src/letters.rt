@@ -1,4 +1,4 @@
-ghost use Rattle.std.specs.Prelude.{◌≡◌, ◌-◌, ◌*◌, ◌^◌, ◌<◌, ◌≤◌, ◌↔◌, Bool, false, List, length, IsTrue, slice_get, slice_index_or};
+ghost use Rattle.std.specs.Prelude.{◌≡◌, ◌-◌, ◌*◌, ◌^◌, ◌<◌, ◌≤◌, ◌↔◌, Bool, false, List, length, IsTrue, slice_get, slice_set, slice_index_or};
 ghost use Rattle.dcv_word.specs.Letter.{letter_of, bits_of};
 ghost use Rattle.dcv_word.specs.TraceLine.{digit_of};
 
@@ -65,6 +65,29 @@ impl Letter {
         ensures value { result ≡ slice_index_or self.now slot false }
     {
         (self.bits >> (self.width - 1 - slot)) & 1 == 1
+    }
+
+    /// The letter with this value in this slot, and the other values as they are.
+    pub fn with(self, slot: u8, value: bool) -> Letter
+        requires { slot < length self }
+        ensures { result ≡ slice_set self slot value }
+    {
+        Letter::new(self.width, self.bits_with(slot, value))
+    }
+
+    // The number of that letter.
+    fn bits_with(&self, slot: u8, value: bool) -> u32
+        requires { slot < length self.now }
+        ensures { result ≡ bits_of (slice_set self.now slot value) }
+    {
+        let place = 1u32 << (self.width - 1 - slot);
+        if self.get(slot) == value {
+            self.bits
+        } else if value {
+            self.bits + place
+        } else {
+            self.bits - place
+        }
     }
 
     // The value of the variable in this slot, as it is spelled in a trace.

@@ -29,6 +29,9 @@ fn letters(rt: HostRuntime) {
     assert!(rt; letter < Letter::new(4, 12));
     assert!(rt; letter > Letter::new(4, 9));
     assert!(rt; Letter::new(32, u32::MAX).get(31));
+    assert_eq!(rt; letter.with(1, true), Letter::new(4, 0b1110));
+    assert_eq!(rt; letter.with(2, false), Letter::new(4, 0b1000));
+    assert_eq!(rt; letter.with(3, false), letter);
 }
 
 #[test]
