@@ -1,0 +1,6 @@
+mod FaultFacts
+mod NewNumbers
+mod Sides
+mod Whole
+pub mod FirstLetters
+pub mod OperandFacts

@@ -1,0 +1,12 @@
+use Rattle.std.proofs.Common.{◌≡◌, ℕ, ◌<◌, Bool, true, false, cond, get_or, arith}
+use Rattle.dcv_apply.proofs.tests.renumbered.Goals as goal
+
+is_digit : (side : Bool) (number : ℕ) → number ≡ cond side 1 0 → number < 2
+is_digit true number e = omega arith
+is_digit false number e = omega arith
+
+pub remap-requires-clause-map : goal.remap-requires-clause-map
+remap-requires-clause-map g c letter size = is_digit (get_or letter 2 false) _ (c.in_ok-root.ensures.value letter)
+
+pub remap-requires-2-clause-map : goal.remap-requires-2-clause-map
+remap-requires-2-clause-map g c letter size = is_digit (get_or letter 2 false) _ (c.in_ok-root.ensures.value letter)

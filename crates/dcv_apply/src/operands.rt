@@ -1,0 +1,169 @@
+ghost use Rattle.std.specs.Prelude.{◌≡◌, ◌≤◌, ◌<◌, ◌+◌, [], ◌∷◌, ◌++◌, List, Bool, ℕ, length, slice_set, IfOk, OnOk};
+ghost use Rattle.std.specs.List.{All};
+ghost use Rattle.dcv_apply.specs.Operands.{arena_at, merged_at};
+ghost use Rattle.dcv_apply.specs.Sources.{IsIn, IsFrom, number_in, numbers_in};
+
+use dcv_arena::{Arena, Ref};
+use dcv_word::Letter;
+use std::alloc::{AllocError, Global};
+
+// A place, 0 for the first arena and else the second, and a ref there.
+pub(crate) type Operand = (u32, Ref);
+
+// Which numbers are merged at a letter: those of the operands there, or those where the slot after the letter
+// is false and then those where it is true.
+#[derive(Clone, Copy)]
+pub(crate) enum Ending {
+    Plain,
+    BothLast,
+}
+
+// The arenas whose functions are merged.
+#[derive(Drop)]
+pub(crate) struct Sources<'a> {
+    pub(crate) first: &'a Arena,
+    pub(crate) second: &'a Arena,
+}
+
+impl Sources<'_> {
+    // The arena of a place.
+    fn arena(&self, place: u32) -> &Arena
+        ensures { result.now ≡ arena_at self.now.first.now self.now.second.now place }
+    {
+        if place == 0 { self.first } else { self.second }
+    }
+
+    // The first slot that an operand depends on, or `slots` where it depends on none before that.
+    fn first_slot_of(&self, operand: Operand, slots: u8) -> u8
+        requires { IsIn self.now operand }
+        ensures bound { result ≤ slots }
+        ensures from { IsFrom self.now result operand }
+        ensures last { (slot : ℕ) → slot ≤ slots → IsFrom self.now slot operand → slot ≤ result }
+    {
+        let (place, root) = operand;
+        match root {
+            Ref::Leaf(_) => slots,
+            Ref::Place(_) => self.arena(place).level(root).min(slots),
+        }
+    }
+
+    // The first slot that one of the operands depends on, or `slots` where none depends on one before that.
+    pub(crate) fn first_slot(&self, operands: &[Operand], slots: u8) -> u8
+        requires { All (IsIn self.now) operands.now }
+        ensures bound { result ≤ slots }
+        ensures from { All (IsFrom self.now result) operands.now }
+        ensures last { (slot : ℕ) → slot ≤ slots → All (IsFrom self.now slot) operands.now → slot ≤ result }
+    {
+        let mut first = slots;
+        for operand in operands {
+            first = first.min(self.first_slot_of(*operand, slots));
+        }
+        first
+    }
+
+    // The operand with the value in the slot fixed.
+    fn cofactor(&self, operand: Operand, slot: u8, value: bool) -> Operand
+        requires { IsFrom self.now slot operand }
+        ensures from { IsFrom self.now (slot + 1) result }
+        ensures number { (letter : List Bool) → slot < length letter
+            → number_in self.now letter result ≡ number_in self.now (slice_set letter slot value) operand }
+    {
+        let (place, root) = operand;
+        match root {
+            Ref::Leaf(_) => operand,
+            Ref::Place(_) => {
+                let (lo, hi) = self.arena(place).split(root, slot);
+                (place, if value { hi } else { lo })
+            }
+        }
+    }
+
+    // The operands with the value in the slot fixed.
+    pub(crate) fn cofactors(
+        &self,
+        alloc: Global,
+        operands: &[Operand],
+        slot: u8,
+        value: bool,
+    ) -> Result<Vec<Operand>, AllocError>
+        requires { All (IsFrom self.now slot) operands.now }
+        ensures from { IfOk result (λ parts. All (IsFrom self.now (slot + 1)) parts.items) }
+        ensures numbers { IfOk result (λ parts. (letter : List Bool) → slot < length letter
+            → numbers_in self.now parts.items letter ≡ numbers_in self.now operands.now (slice_set letter slot value)) }
+    {
+        let mut parts = Vec::with_capacity(alloc, operands.len())?;
+        for operand in operands {
+            parts.push(self.cofactor(*operand, slot, value))?;
+        }
+        Ok(parts)
+    }
+
+    // The number of an operand that depends on none of the first slots, at a letter that has no others.
+    fn number(&self, operand: Operand, slots: u8) -> u32
+        requires { IsFrom self.now slots operand }
+        ensures { (letter : List Bool) → length letter ≤ slots → result ≡ number_in self.now letter operand }
+    {
+        let (place, root) = operand;
+        let arena = self.arena(place);
+        arena.eval(root, &Letter::new(arena.slots(), 0))
+    }
+
+    // Adds the numbers of such operands.
+    fn push_numbers(
+        &self,
+        operands: &[Operand],
+        slots: u8,
+        numbers: &mut Vec<u32>,
+    ) -> Result<(), AllocError>
+        requires { All (IsFrom self.now slots) operands.now }
+        ensures { OnOk result ((letter : List Bool) → length letter ≤ slots
+            → numbers.new.items ≡ numbers.old.items ++ numbers_in self.now operands.now letter) }
+    {
+        for operand in operands {
+            numbers.push(self.number(*operand, slots))?;
+        }
+        Ok(())
+    }
+
+    // Adds the numbers of such operands where the slot after a letter of so many slots has the value.
+    fn push_fixed(
+        &self,
+        alloc: Global,
+        operands: &[Operand],
+        slots: u8,
+        value: bool,
+        numbers: &mut Vec<u32>,
+    ) -> Result<(), AllocError>
+        requires bound { slots ≤ 32 }
+        requires operands { All (IsFrom self.now slots) operands.now }
+        ensures { OnOk result ((letter : List Bool) → length letter ≡ slots
+            → numbers.new.items ≡ numbers.old.items ++ numbers_in self.now operands.now (letter ++ value ∷ [])) }
+    {
+        let parts = self.cofactors(alloc, operands, slots, value)?;
+        self.push_numbers(&parts, slots + 1, numbers)
+    }
+
+    // The numbers that are merged at each letter of so many slots, where the operands depend on none of them.
+    pub(crate) fn merged(
+        &self,
+        alloc: Global,
+        ending: Ending,
+        operands: &[Operand],
+        slots: u8,
+    ) -> Result<Vec<u32>, AllocError>
+        requires bound { slots ≤ 32 }
+        requires operands { All (IsFrom self.now slots) operands.now }
+        ensures { IfOk result (λ numbers. (letter : List Bool) → length letter ≡ slots
+            → numbers.items ≡ merged_at ending self.now.first.now self.now.second.now operands.now letter) }
+    {
+        let mut numbers = Vec::new(alloc);
+        match ending {
+            Ending::Plain => self.push_numbers(operands, slots, &mut numbers)?,
+            Ending::BothLast => {
+                self.push_fixed(alloc, operands, slots, false, &mut numbers)?;
+                self.push_fixed(alloc, operands, slots, true, &mut numbers)?;
+            }
+        }
+        Ok(numbers)
+    }
+}
