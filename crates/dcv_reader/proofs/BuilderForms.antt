@@ -7,8 +7,8 @@ use Rattle.dcv_grammar.specs.declared.grammar.Symbol.TheVariants.{Class, Rule}
 use Rattle.dcv_grammar.specs.Grammar.{Production}
 use Rattle.dcv_grammar.specs.Picked.{body_for}
 use Rattle.dcv_grammar.specs.Reading.{next_class}
-use Rattle.dcv_reader.specs.Tokens.{Token}
-use Rattle.dcv_reader.specs.Classes as classes
+use Rattle.dcv_tokens.specs.Tokens.{Token}
+use Rattle.dcv_tokens.specs.Classes as classes
 use Rattle.dcv_reader.specs.Language.{language, always, optional}
 use Rattle.dcv_reader.specs.Nodes.{token_class}
 use Rattle.dcv_reader.specs.Actions.{Part, AToken, action}

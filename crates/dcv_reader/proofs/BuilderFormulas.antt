@@ -15,8 +15,8 @@ use Rattle.dcv_grammar.specs.Picked.{body_for}
 use Rattle.dcv_grammar.specs.Trees.{Nodes, done, node}
 use Rattle.dcv_grammar.specs.Reading.{next_class, repeated, ReadsFronts}
 use Rattle.dcv_grammar.proofs.Builders as builders
-use Rattle.dcv_reader.specs.Tokens.{Token, span_of, span_over}
-use Rattle.dcv_reader.specs.Classes as classes
+use Rattle.dcv_tokens.specs.Tokens.{Token, span_of, span_over}
+use Rattle.dcv_tokens.specs.Classes as classes
 use Rattle.dcv_reader.specs.RuleNumbers as rules
 use Rattle.dcv_reader.specs.Language.{language, file_rules, formula_rules, prop_rules, formula_rule, formula_iff_rule, formula_iff_more_rule, formula_implies_rule, formula_implied_rule, formula_or_rule, formula_or_more_rule, formula_and_rule, formula_and_more_rule, formula_chop_rule, formula_chop_more_rule, formula_prefix_rule, formula_star_rule, stars_rule, formula_atom_rule, relation_rule}
 use Rattle.dcv_reader.specs.Nodes.{token_class, number_of, relation_of, covering, bare, formula_word, starred, starred_by, last_span, formula_list}

@@ -4,7 +4,7 @@ use Rattle.std.specs.Prelude.{slice_get}
 use Rattle.std.proofs.lemmas.List.{map-append}
 use Rattle.dcv_grammar.specs.declared.grammar.Symbol.{Symbol}
 use Rattle.dcv_grammar.specs.declared.grammar.Symbol.TheVariants.{Class, Rule}
-use Rattle.dcv_reader.specs.Tokens.{Token}
+use Rattle.dcv_tokens.specs.Tokens.{Token}
 use Rattle.dcv_reader.specs.Language.{language, always, optional}
 use Rattle.dcv_reader.specs.Actions.{Part, AToken, action}
 use Rattle.dcv_reader.specs.Building.{is_next, BeginWith, ReadAs, BeginWithRule, RuleReadAs}

@@ -7,7 +7,7 @@ use Rattle.dcv_grammar.specs.Picked.{body_for}
 use Rattle.dcv_grammar.specs.Trees.{Nodes, done, node}
 use Rattle.dcv_grammar.specs.Reading.{next_class, repeated, ReadsFronts}
 use Rattle.dcv_grammar.proofs.Builders as builders
-use Rattle.dcv_reader.specs.Tokens.{Token}
+use Rattle.dcv_tokens.specs.Tokens.{Token}
 use Rattle.dcv_reader.specs.Language.{language, optional}
 use Rattle.dcv_reader.specs.Nodes.{token_class}
 use Rattle.dcv_reader.specs.Actions.{Part, AToken, action, parts_of}

@@ -9,11 +9,11 @@ use Rattle.dcv_grammar.specs.Picked.{body_for}
 use Rattle.dcv_grammar.specs.Trees.{Nodes, done, leaf, node, join}
 use Rattle.dcv_grammar.specs.Reading.{next_class}
 use Rattle.dcv_grammar.proofs.Builders as builders
-use Rattle.dcv_reader.specs.Tokens.{Token}
+use Rattle.dcv_tokens.specs.Tokens.{Token}
+use Rattle.dcv_tokens.specs.Classes as classes
+use Rattle.dcv_tokens.specs.Limits.{largest_number}
 use Rattle.dcv_reader.specs.Language.{language}
 use Rattle.dcv_reader.specs.Nodes.{token_class, number_of}
-use Rattle.dcv_reader.specs.Classes as classes
-use Rattle.dcv_reader.specs.Faults.{largest_number}
 use Rattle.dcv_reader.specs.Actions.{Part, AToken, action, parts_of}
 use Rattle.dcv_reader.specs.Building.{HasSmallNumbers, is_next, BeginWith, ReadAs, BeginWithRule, RuleReadAs}
 use Rattle.dcv_reader.proofs.Grammar.{predictive}

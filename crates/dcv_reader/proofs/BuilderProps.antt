@@ -5,10 +5,10 @@ use Rattle.dcv_syntax.specs.Plain.{PlainPropKind, PlainPropOperands, PlainProp, 
 use Rattle.dcv_syntax.specs.Views.{plain_prop_operand}
 use Rattle.std.specs.Prelude.{Some, slice_get, Bool, true, false, ◌==◌, ◌||◌, IsTrue}
 use Rattle.dcv_grammar.specs.declared.grammar.Symbol.TheVariants.{Class, Rule}
-use Rattle.dcv_reader.specs.Classes as classes
+use Rattle.dcv_tokens.specs.Classes as classes
+use Rattle.dcv_tokens.specs.Tokens.{Token}
 use Rattle.dcv_reader.specs.RuleNumbers as rules
 use Rattle.dcv_reader.specs.Language.{language, file_rules, formula_rules, prop_rules, prop_rule, prop_iff_more_rule, prop_or_rule, prop_or_more_rule, prop_and_rule, prop_and_more_rule, arguments_rule, more_arguments_rule, prop_implies_rule, prop_implied_rule, prop_prefix_rule, prop_atom_rule}
-use Rattle.dcv_reader.specs.Tokens.{Token}
 use Rattle.dcv_reader.specs.Actions.{AProp, Props}
 use Rattle.dcv_reader.proofs.BuilderLevels.{Separated, EnclosedRead}
 use Rattle.dcv_reader.proofs.BuilderParts.{next_is}

@@ -5,10 +5,11 @@ use Rattle.std.proofs.lemmas.Bool.{cases_Bool, leb-true, leb-false}
 use Rattle.std.proofs.lemmas.List.{drop-append-le, reverse-append, take_more, take_all, get_or-map, length-map}
 use Rattle.std.proofs.Math.Seq.{drop-append-add}
 use Rattle.std.proofs.lemmas.List.Sums.{sum_by-append}
-use Rattle.dcv_reader.specs.declared.lexer.Token.{Token as PlacedToken}
-use Rattle.dcv_reader.specs.Tokens.{Token}
-use Rattle.dcv_reader.specs.Reading.{seen}
-use Rattle.dcv_reader.specs.Faults.{nests, begins_part, depth, deepest, IsTooDeepAt}
+use Rattle.dcv_tokens.specs.declared.lexer.Token.{Token as PlacedToken}
+use Rattle.dcv_tokens.specs.Tokens.{Token}
+use Rattle.dcv_tokens.specs.Reading.{seen}
+use Rattle.dcv_tokens.specs.Limits.{nests, begins_part}
+use Rattle.dcv_reader.specs.Faults.{depth, deepest, IsTooDeepAt}
 
 -- nothing stands behind a last element that passes
 after_itself : {X : Type 0} (p : X → Bool) (xs : List X) (x : X) → p x ≡ true → after_last p (xs ++ x ∷ []) ≡ []

@@ -7,11 +7,11 @@ use Rattle.std.proofs.lemmas.List.{length-map}
 use Rattle.std.proofs.lemmas.Option.{slice_get-map, slice_get-get_or, slice_get_past}
 use Rattle.dcv_grammar.specs.Grammar.{IsSentence, IsFaultAt, IsVerdict}
 use Rattle.dcv_grammar.proofs.Steps.{one_verdict}
-use Rattle.dcv_reader.specs.declared.lexer.Token.{Token as PlacedToken}
-use Rattle.dcv_reader.specs.Tokens.{Token}
-use Rattle.dcv_reader.specs.Classes.{class_of}
+use Rattle.dcv_tokens.specs.declared.lexer.Token.{Token as PlacedToken}
+use Rattle.dcv_tokens.specs.Tokens.{Token}
+use Rattle.dcv_tokens.specs.Classes.{class_of}
+use Rattle.dcv_tokens.specs.Reading.{seen}
 use Rattle.dcv_reader.specs.Language.{language}
-use Rattle.dcv_reader.specs.Reading.{seen}
 use Rattle.dcv_reader.specs.Faults.{classes_of, offset_at, IsMisplacedAt}
 
 -- ---- the first token that passes a test

@@ -2,13 +2,14 @@
 use Rattle.std.proofs.Common.{◌≡◌, ℕ, zero, suc, ◌+◌, ◌<◌, ◌≤◌, Bool, nat_le, cond, List, ◌⊎◌, find, Option, Some, None, inl, inr, refl, sym, ap, ◌∙◌, subst, arith}
 use Rattle.std.specs.Prelude.{IsSomeAnd}
 use Rattle.std.proofs.lemmas.Bool.{cases_Bool, leb-true, leb-false}
+use Rattle.dcv_tokens.specs.Tokens.{Token, tokens_from, IsTokenized}
+use Rattle.dcv_tokens.specs.Limits.{is_long, is_large}
+use Rattle.dcv_tokens.proofs.Cuts.{cut_is_unique}
 use Rattle.dcv_reader.specs.declared.faults.ReadFault.{ReadFault}
 use Rattle.dcv_reader.specs.declared.faults.ReadFault.TheVariants.{Byte, Name, Number, Syntax, Nest, Memory}
 use Rattle.dcv_reader.specs.declared.scan.Scan.{Scan}
-use Rattle.dcv_reader.specs.Tokens.{Token, tokens_from}
-use Rattle.dcv_reader.specs.Faults.{is_long, is_large, IsTokenized, StandsAmong, HasFault, offset_of, rank_of, offset_at, IsNotAfter, IsFault, earlier_of}
+use Rattle.dcv_reader.specs.Faults.{StandsAmong, HasFault, offset_of, rank_of, offset_at, IsNotAfter, IsFault, earlier_of}
 use Rattle.dcv_reader.specs.Scanning.{tokens_in, IsScanned, StandsIn, IsNoted, IsFirstFault}
-use Rattle.dcv_reader.proofs.Cuts.{cut_is_unique}
 use Rattle.dcv_reader.proofs.Depths.{one_too_deep}
 use Rattle.dcv_reader.proofs.FaultKinds.{one_misplaced}
 

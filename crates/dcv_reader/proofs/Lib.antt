@@ -1,7 +1,3 @@
-pub mod FirstBytes
-pub mod Longest
-pub mod Cuts
-pub mod Sources
 pub mod Grammar
 pub mod BuilderParts
 pub mod BuilderLists
@@ -9,11 +5,9 @@ pub mod BuilderProps
 pub mod BuilderLevels
 pub mod BuilderForms
 pub mod BuilderFormulas
-pub mod Decimals
 pub mod Trees
 pub mod BuilderFiles
 pub mod Depths
 pub mod FaultKinds
 pub mod FirstFault
 pub mod Sentences
-pub mod ClassLaws

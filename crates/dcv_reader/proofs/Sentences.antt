@@ -6,17 +6,18 @@ use Rattle.std.proofs.lemmas.Bool.{cases_Bool, ltb-false}
 use Rattle.std.proofs.lemmas.List.Elements.{All-from_recursion}
 use Rattle.dcv_grammar.specs.Grammar.{IsSentence, IsVerdict}
 use Rattle.dcv_grammar.proofs.Verdicts.{some_verdict}
+use Rattle.dcv_tokens.specs.declared.lexer.Token.{Token as PlacedToken}
+use Rattle.dcv_tokens.specs.Tokens.{Token, IsTokenized}
+use Rattle.dcv_tokens.specs.Classes.{number, class_of}
+use Rattle.dcv_tokens.specs.Decimal.{value_of}
+use Rattle.dcv_tokens.specs.Reading.{seen}
+use Rattle.dcv_tokens.specs.Limits.{largest_number, is_large}
+use Rattle.dcv_tokens.proofs.ClassLaws.{number_class}
 use Rattle.dcv_reader.specs.declared.faults.ReadFault.{ReadFault}
 use Rattle.dcv_reader.specs.declared.faults.ReadFault.TheVariants.{Byte, Number, Syntax}
-use Rattle.dcv_reader.specs.declared.lexer.Token.{Token as PlacedToken}
-use Rattle.dcv_reader.specs.Tokens.{Token}
-use Rattle.dcv_reader.specs.Classes.{number, class_of}
-use Rattle.dcv_reader.specs.Decimal.{value_of}
-use Rattle.dcv_reader.specs.Reading.{seen}
 use Rattle.dcv_reader.specs.Language.{language}
-use Rattle.dcv_reader.specs.Faults.{largest_number, is_large, IsTokenized, HasFault, classes_of, offset_at}
+use Rattle.dcv_reader.specs.Faults.{HasFault, classes_of, offset_at}
 use Rattle.dcv_reader.proofs.Grammar.{predictive}
-use Rattle.dcv_reader.proofs.ClassLaws.{number_class}
 
 empty_or_not : (rest : List ℕ) → (rest ≡ []) ⊎ (0 < length rest)
 empty_or_not [] = inl refl

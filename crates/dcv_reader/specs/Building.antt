@@ -5,10 +5,10 @@ use Rattle.dcv_grammar.specs.declared.grammar.Symbol.{Symbol}
 use Rattle.dcv_grammar.specs.declared.grammar.Symbol.TheVariants.{Rule}
 use Rattle.dcv_grammar.specs.Trees.{Nodes}
 use Rattle.dcv_grammar.specs.Reading.{Begins, Reads}
-use Rattle.dcv_reader.specs.Tokens.{Token}
-use Rattle.dcv_reader.specs.Classes as classes
+use Rattle.dcv_tokens.specs.Tokens.{Token}
+use Rattle.dcv_tokens.specs.Classes as classes
+use Rattle.dcv_tokens.specs.Limits.{largest_number}
 use Rattle.dcv_reader.specs.Language.{language}
-use Rattle.dcv_reader.specs.Faults.{largest_number}
 use Rattle.dcv_reader.specs.Nodes.{token_class, number_of}
 use Rattle.dcv_reader.specs.Actions.{Part, parts_of}
 

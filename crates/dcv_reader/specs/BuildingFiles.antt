@@ -4,8 +4,8 @@ use Rattle.dcv_syntax.specs.declared.names.Name.{Name}
 use Rattle.dcv_syntax.specs.Plain.{PlainMacroBody, FormulaBody, PropBody}
 use Rattle.dcv_grammar.specs.declared.grammar.Symbol.{Symbol}
 use Rattle.dcv_grammar.specs.declared.grammar.Symbol.TheVariants.{Class, Rule}
-use Rattle.dcv_reader.specs.Tokens.{Token}
-use Rattle.dcv_reader.specs.Classes as classes
+use Rattle.dcv_tokens.specs.Tokens.{Token}
+use Rattle.dcv_tokens.specs.Classes as classes
 use Rattle.dcv_reader.specs.Nodes.{name_of}
 use Rattle.dcv_reader.specs.RuleNumbers as rules
 use Rattle.dcv_reader.specs.Actions.{Part, AToken, Names, AProp, AFormula}

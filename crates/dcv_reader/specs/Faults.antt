@@ -1,50 +1,18 @@
 -- What is at fault in a text, and which of its faults comes first.
-use Rattle.std.specs.Prelude.{◌≡◌, ℕ, ◌+◌, ◌<◌, ◌≤◌, Bool, ◌&&◌, ◌==◌, nat_lt, nat_le, List, [], ◌∷◌, ◌⊎◌, Option, Some, None, if◌then◌else◌, length, map, take, find, count_by, slice_get, IsSomeAnd}
-use Rattle.std.specs.List.{list_any, after_last}
+use Rattle.std.specs.Prelude.{◌≡◌, ℕ, ◌+◌, ◌<◌, ◌≤◌, nat_le, List, [], ◌⊎◌, Option, Some, None, if◌then◌else◌, length, map, take, find, count_by, slice_get, IsSomeAnd}
+use Rattle.std.specs.List.{after_last}
 use Rattle.std.specs.Option.{option_map_or}
 use Rattle.dcv_grammar.specs.Grammar.{IsFaultAt}
+use Rattle.dcv_tokens.specs.Tokens.{Token, IsTokenized}
+use Rattle.dcv_tokens.specs.Classes.{class_of}
+use Rattle.dcv_tokens.specs.Limits.{is_long, is_large, nests, begins_part}
 use Rattle.dcv_reader.specs.declared.faults.ReadFault.{ReadFault}
 use Rattle.dcv_reader.specs.declared.faults.ReadFault.TheVariants.{Byte, Name, Number, Syntax, Nest, Memory}
-use Rattle.dcv_reader.specs.Tokens.{Token, IsCut, is_word, is_number, tokens_from}
-use Rattle.dcv_reader.specs.Classes.{class_of, open_parenthesis, exclamation, diamond, box, word_ex, word_all, arrow, star, word_define, word_prop, word_infer}
 use Rattle.dcv_reader.specs.Language.{language}
-use Rattle.dcv_reader.specs.Decimal.{value_of}
-
--- how many bytes a word may have
-abbrev pub longest_word : ℕ
-longest_word = 24
-
--- the largest number that may stand in a text
-abbrev pub largest_number : ℕ
-largest_number = 9999
 
 -- how many nesting tokens a definition or the goal may have
 abbrev pub deepest : ℕ
 deepest = 500
-
--- these are the text's tokens, and the rest is cut into none: it is empty, or begins with the byte fault
-pub record IsTokenized (text : List ℕ) (tokens : List Token) (rest : List ℕ) : Type 0 where
-  pub pieces : List (List ℕ)
-  pub cut : IsCut text pieces rest
-  pub among : tokens ≡ tokens_from 0 pieces
-
-abbrev pub is_long : Token → Bool
-is_long token = is_word token.bytes && nat_lt longest_word (length token.bytes)
-
-abbrev pub is_large : Token → Bool
-is_large token = is_number token.bytes && nat_lt largest_number (value_of token.bytes)
-
-abbrev pub has_class : List ℕ → Token → Bool
-has_class classes token = list_any (λ class. class == class_of token.bytes) classes
-
--- `(`, `!`, `<>`, `[]`, `ex`, `all`, `=>` or `*`
-abbrev pub nests : Token → Bool
-nests token =
-    has_class (open_parenthesis ∷ exclamation ∷ diamond ∷ box ∷ word_ex ∷ word_all ∷ arrow ∷ star ∷ []) token
-
--- `define`, `prop` or `infer`
-abbrev pub begins_part : Token → Bool
-begins_part token = has_class (word_define ∷ word_prop ∷ word_infer ∷ []) token
 
 -- how many nesting tokens stand behind the last token that begins a definition or the goal
 abbrev pub depth : List Token → ℕ

@@ -1,9 +1,5 @@
-pub mod Tokens
-pub mod Reading
-pub mod Classes
 pub mod RuleNumbers
 pub mod Language
-pub mod Decimal
 pub mod Nodes
 pub mod Actions
 pub mod Spelling

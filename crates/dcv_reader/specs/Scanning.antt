@@ -1,10 +1,10 @@
 -- A text of the code that is cut into tokens, and what is said of its faults.
 use Rattle.std.specs.Prelude.{◌≡◌, ℕ, List, map, Option, Some, None}
+use Rattle.dcv_tokens.specs.Tokens.{Token, IsTokenized}
+use Rattle.dcv_tokens.specs.Reading.{seen}
 use Rattle.dcv_reader.specs.declared.faults.ReadFault.{ReadFault}
 use Rattle.dcv_reader.specs.declared.scan.Scan.{Scan}
-use Rattle.dcv_reader.specs.Tokens.{Token}
-use Rattle.dcv_reader.specs.Reading.{seen}
-use Rattle.dcv_reader.specs.Faults.{IsTokenized, StandsAmong, HasFault, IsFault}
+use Rattle.dcv_reader.specs.Faults.{StandsAmong, HasFault, IsFault}
 
 abbrev pub tokens_in : Scan → List Token
 tokens_in scan = map seen scan.tokens.items

@@ -3,20 +3,20 @@
 // A function for a rule is called where the rule begins, and has no error but want of memory: the reader of faults has
 // been there before.
 ghost use Rattle.std.specs.Prelude.{◌≡◌, ◌<◌, ◌^◌, length, map, IfOk, IsTrue};
+ghost use Rattle.dcv_tokens.specs.Reading.{seen};
+ghost use Rattle.dcv_tokens.specs.Tokens.{Token as TextToken, span_of};
+ghost use Rattle.dcv_tokens.specs.Decimal.{value_of};
 ghost use Rattle.dcv_reader.specs.Building.{HasSmallNumbers};
 ghost use Rattle.dcv_reader.specs.Nodes.{covering, name_of, number_of};
-ghost use Rattle.dcv_reader.specs.Reading.{seen};
-ghost use Rattle.dcv_reader.specs.Tokens.{Token as TextToken, span_of};
-ghost use Rattle.dcv_reader.specs.Decimal.{value_of};
 
 mod files;
 mod formulas;
 mod props;
 
-use crate::classes::NUMBER;
-use crate::lexer::Token;
 use dcv_grammar::trees::{first_and_rest, next_class};
 use dcv_syntax::{Name, Number, Span, Text};
+use dcv_tokens::Token;
+use dcv_tokens::classes::NUMBER;
 pub use files::build_file;
 use std::alloc::{AllocError, Global};
 

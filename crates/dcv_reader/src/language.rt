@@ -3,9 +3,9 @@ ghost use Rattle.std.specs.Prelude.{◌≡◌, map};
 ghost use Rattle.dcv_grammar.specs.Grammar.{production_of};
 ghost use Rattle.dcv_reader.specs.Language.{file_rules, formula_rules, prop_rules};
 
-use crate::classes::*;
 use dcv_grammar::grammar::Symbol::{Class, Rule};
 use dcv_grammar::grammar::{Choice, Rule as Production};
+use dcv_tokens::classes::*;
 
 pub const FILE: u8 = 0;
 

@@ -1,16 +1,17 @@
 // A text cut into tokens, and its faults of each kind.
 ghost use Rattle.std.specs.Prelude.{◌≡◌, ◌^◌, ◌<◌, length, map, find, option_map, IfOk};
 ghost use Rattle.dcv_grammar.specs.Grammar.{IsVerdict};
-ghost use Rattle.dcv_reader.specs.Classes.{class_of};
+ghost use Rattle.dcv_tokens.specs.Classes.{class_of};
+ghost use Rattle.dcv_tokens.specs.Limits.{is_long, is_large};
+ghost use Rattle.dcv_tokens.specs.Reading.{seen};
 ghost use Rattle.dcv_reader.specs.Language.{language};
-ghost use Rattle.dcv_reader.specs.Faults.{is_long, is_large, earlier_of};
-ghost use Rattle.dcv_reader.specs.Reading.{seen};
+ghost use Rattle.dcv_reader.specs.Faults.{earlier_of};
 
 use crate::faults::ReadFault;
 use crate::language::{FILE, file_rules, formula_rules, prop_rules};
-use crate::lexer::{Token, Tokens};
 use dcv_grammar::grammar::Grammar;
 use dcv_grammar::reader::first_fault;
+use dcv_tokens::{Token, Tokens};
 use std::alloc::{AllocError, Global};
 
 // How many nesting tokens a definition or the goal may have.

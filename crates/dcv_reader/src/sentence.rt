@@ -1,16 +1,18 @@
 // The tokens of a text without faults.
 ghost use Rattle.std.specs.Prelude.{◌≡◌, ◌≢◌, ◌^◌, ◌<◌, ◌≤◌, [], length, map, All, IfOk, IfErr};
 ghost use Rattle.dcv_grammar.specs.Grammar.{IsSentence};
+ghost use Rattle.dcv_tokens.specs.Classes.{number, class_of};
+ghost use Rattle.dcv_tokens.specs.Decimal.{value_of};
+ghost use Rattle.dcv_tokens.specs.Tokens.{IsTokenized};
+ghost use Rattle.dcv_tokens.specs.Limits.{largest_number};
+ghost use Rattle.dcv_tokens.specs.Reading.{seen};
 ghost use Rattle.dcv_reader.specs.declared.faults.ReadFault.{ReadFault};
-ghost use Rattle.dcv_reader.specs.Classes.{number, class_of};
-ghost use Rattle.dcv_reader.specs.Decimal.{value_of};
 ghost use Rattle.dcv_reader.specs.Language.{language};
-ghost use Rattle.dcv_reader.specs.Faults.{largest_number, IsTokenized, HasFault, IsFault};
-ghost use Rattle.dcv_reader.specs.Reading.{seen};
+ghost use Rattle.dcv_reader.specs.Faults.{HasFault, IsFault};
 
 use crate::faults::ReadFault;
-use crate::lexer::Token;
 use crate::scan::Scan;
+use dcv_tokens::Token;
 use std::alloc::Global;
 
 /// The tokens of a text without faults, which are a sentence of the grammar; else the first of its faults.

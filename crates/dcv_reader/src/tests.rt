@@ -1,20 +1,6 @@
-use crate::{ReadFault as Fault, laws, read_file, tokens};
+use crate::{ReadFault as Fault, laws, read_file};
 use std::alloc::{AllocError, Global};
 use std::test::Fail;
-
-// Texts, and their tokens, each with a blank behind it.
-const CUTS: [(&[u8], &[u8]); 10] = [
-    (b"", b""),
-    (b">=> <=> <> [[[ ]]] {{}}", b">= > <=> <> [[ [ ]] ] {{ }} "),
-    (b"{{{ p", b"{{ "),
-    (b"}}} p", b"}} "),
-    (b"a1_b 007x<=>=", b"a1_b 007 x <=> = "),
-    (b"p//=\r\n&&\tq //", b"p && q "),
-    (b"p // \xc3\xa9 \xff\n// \xff", b"p "),
-    (b"p & q", b"p "),
-    (b"\xff p", b""),
-    (b"p / q", b"p "),
-];
 
 // Texts, and their first fault.
 const FAULTS: [(&[u8], Option<Fault>); 32] = [
@@ -68,18 +54,6 @@ const FAULTS: [(&[u8], Option<Fault>); 32] = [
     (b"infer \xc2\xa0pt;", Some(Fault::Byte { at: 6 })),
 ];
 
-// The tokens of a text, each with a blank behind it.
-fn tokens_of(alloc: Global, text: &[u8]) -> Result<Vec<u8>, AllocError> {
-    let mut shown = Vec::new(alloc);
-    if text.len() < 1_000_000 {
-        for token in tokens(text) {
-            shown.extend_from_slice(token.bytes)?;
-            shown.push(b' ')?;
-        }
-    }
-    Ok(shown)
-}
-
 fn fault_of(alloc: Global, text: &[u8]) -> Option<Fault> {
     if text.len() < 1_000_000 {
         read_file(alloc, text).err()
@@ -105,22 +79,12 @@ fn repeated(
 }
 
 #[test]
-fn texts_are_cut(rt: HostRuntime) -> Result<(), Fail> {
-    for (text, shown) in &CUTS {
-        assert_eq!(rt; tokens_of(rt.alloc(), text)?.as_slice(), *shown);
-    }
-    laws::one_cut();
-    Ok(())
-}
-
-#[test]
 fn first_faults(rt: HostRuntime) {
     for (text, fault) in &FAULTS {
         assert_eq!(rt; fault_of(rt.alloc(), text), *fault, "{text:?}");
     }
     laws::one_fault();
     laws::one_tree();
-    laws::one_class();
 }
 
 #[test]

@@ -2,16 +2,16 @@
 ghost use Rattle.std.specs.Prelude.{◌≡◌, ◌<◌, ◌∷◌, length, map, IfOk};
 ghost use Rattle.dcv_grammar.specs.Grammar.{IsSentence};
 ghost use Rattle.dcv_syntax.specs.Views.{plain_body, plain_macro, plain_file};
+ghost use Rattle.dcv_tokens.specs.Classes.{class_of};
+ghost use Rattle.dcv_tokens.specs.Reading.{seen};
 ghost use Rattle.dcv_reader.specs.Building.{HasSmallNumbers};
-ghost use Rattle.dcv_reader.specs.Classes.{class_of};
 ghost use Rattle.dcv_reader.specs.Language.{language};
-ghost use Rattle.dcv_reader.specs.Reading.{seen};
 ghost use Rattle.dcv_reader.specs.Spelling.{SpellsFile};
 
 use super::{Builder, name_of};
-use crate::classes::*;
-use crate::lexer::Token;
 use dcv_syntax::{File, Macro, MacroBody, Name};
+use dcv_tokens::Token;
+use dcv_tokens::classes::*;
 use std::alloc::{AllocError, Global};
 
 impl Builder<'_, '_> {

@@ -2,15 +2,15 @@
 ghost use Rattle.std.specs.Prelude.{◌≡◌, ◌∷◌, ◌<◌, [], List, length, map, IfOk};
 ghost use Rattle.dcv_syntax.specs.Plain.{PlainFormulaOperand, formula_operands_of};
 ghost use Rattle.dcv_syntax.specs.Views.{plain_prop, plain_formula_kind, plain_formula_operand};
+ghost use Rattle.dcv_tokens.specs.Reading.{seen};
+ghost use Rattle.dcv_tokens.specs.Tokens.{Token as TextToken, span_of};
 ghost use Rattle.dcv_reader.specs.Nodes.{number_of, relation_of, bare, formula_list, implication, prefixed, starred, quantified, bracketed, formula_word, measure, formula_call};
-ghost use Rattle.dcv_reader.specs.Reading.{seen};
-ghost use Rattle.dcv_reader.specs.Tokens.{Token as TextToken, span_of};
 
 use super::props::Arguments;
 use super::{Builder, covering, name_of, span_of};
-use crate::classes::*;
-use crate::lexer::Token;
 use dcv_syntax::{Formula, FormulaKind, FormulaOperand, Number, Prop, Relation, Span};
+use dcv_tokens::Token;
+use dcv_tokens::classes::*;
 use std::alloc::{AllocError, Global};
 
 // The lists of operands.
@@ -65,9 +65,9 @@ impl FormulaList {
 
 impl Builder<'_, '_> {
     ghost use Rattle.std.specs.Prelude.{IsTrue, IsFalse};
+    ghost use Rattle.dcv_tokens.specs.Classes as classes;
     ghost use Rattle.dcv_reader.specs.Actions.{AFormula, ARelation};
     ghost use Rattle.dcv_reader.specs.Building.{BeginWithRule, RuleReadAs, is_next, is_next_of};
-    ghost use Rattle.dcv_reader.specs.Classes as classes;
     ghost use Rattle.dcv_reader.specs.Left.{left};
     ghost use Rattle.dcv_reader.specs.RuleNumbers as rules;
 

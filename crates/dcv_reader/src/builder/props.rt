@@ -4,13 +4,13 @@ ghost use Rattle.dcv_syntax.specs.Plain.{PlainPropKind, PlainPropOperand, prop_o
 ghost use Rattle.dcv_syntax.specs.Views.{plain_prop_kind, plain_prop_operand};
 ghost use Rattle.std.specs.Prelude.{IfOk};
 ghost use Rattle.dcv_syntax.specs.Views.{plain_prop};
+ghost use Rattle.dcv_tokens.specs.Reading.{seen};
 ghost use Rattle.dcv_reader.specs.Nodes.{bare_prop, prop_list, prop_call, prop_negation, prop_implication};
-ghost use Rattle.dcv_reader.specs.Reading.{seen};
 
 use super::{Builder, covering, name_of, span_of};
-use crate::classes::*;
-use crate::lexer::Token;
 use dcv_syntax::{Prop, PropKind, PropOperand, Span};
+use dcv_tokens::Token;
+use dcv_tokens::classes::*;
 use std::alloc::{AllocError, Global};
 
 // The lists of operands.
@@ -214,7 +214,7 @@ impl Builder<'_, '_> {
 }
 
 impl Arguments {
-    ghost use Rattle.dcv_reader.specs.Reading.{seen};
+    ghost use Rattle.dcv_tokens.specs.Reading.{seen};
     ghost use Rattle.dcv_reader.specs.Nodes.{call_span};
 
     /// From the name to the last parenthesis.

@@ -1,5 +1,5 @@
 use Rattle.std.proofs.Common.{arith}
-use Rattle.dcv_reader.proofs.Decimals.{digit_within}
+use Rattle.dcv_tokens.proofs.Decimals.{digit_within}
 use Rattle.dcv_reader.proofs.builder.decimal_value.Goals as goal
 
 pub overflow_mul-value : goal.overflow_mul-value

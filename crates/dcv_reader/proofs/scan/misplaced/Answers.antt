@@ -1,7 +1,7 @@
 use Rattle.std.proofs.Common.{IfOk, map, sym, subst}
 use Rattle.dcv_grammar.specs.Grammar.{IsVerdict}
 use Rattle.dcv_grammar.specs.Predictive.{IsPredictive}
-use Rattle.dcv_reader.specs.Classes.{class_of}
+use Rattle.dcv_tokens.specs.Classes.{class_of}
 use Rattle.dcv_reader.proofs.Grammar.{predictive, tables_are}
 use Rattle.dcv_reader.proofs.scan.misplaced.Goals as goal
 

@@ -1,9 +1,10 @@
 use Rattle.std.proofs.Common.{List, map, Option, subst}
 use Rattle.dcv_grammar.specs.Grammar.{IsSentence}
+use Rattle.dcv_tokens.specs.Tokens.{IsTokenized}
+use Rattle.dcv_tokens.specs.Reading.{seen}
 use Rattle.dcv_reader.specs.declared.faults.ReadFault.{ReadFault}
 use Rattle.dcv_reader.specs.Language.{language}
-use Rattle.dcv_reader.specs.Faults.{IsTokenized, HasFault}
-use Rattle.dcv_reader.specs.Reading.{seen}
+use Rattle.dcv_reader.specs.Faults.{HasFault}
 use Rattle.dcv_reader.specs.Scanning.{IsFirstFault}
 use Rattle.dcv_reader.proofs.FaultKinds.{classes_seen}
 use Rattle.dcv_reader.proofs.Sentences.{nothing_left, is_sentence, small_numbers}

@@ -1,12 +1,12 @@
 use Rattle.std.proofs.Common.{[], ◌∷◌, refl, sym, ap, ◌∙◌, arith}
 use Rattle.dcv_syntax.specs.Views.{plain_formula_operand}
+use Rattle.dcv_tokens.specs.Classes as classes
+use Rattle.dcv_tokens.specs.Reading.{seen}
 use Rattle.dcv_reader.specs.RuleNumbers as rules
 use Rattle.dcv_reader.specs.Actions.{AFormula, Formulas}
-use Rattle.dcv_reader.specs.Classes as classes
 use Rattle.dcv_reader.specs.Language.{formula_rule, formula_prefix_rule, formula_atom_rule}
 use Rattle.dcv_reader.specs.Left.{left}
 use Rattle.dcv_reader.specs.Nodes.{starred}
-use Rattle.dcv_reader.specs.Reading.{seen}
 use Rattle.dcv_reader.proofs.BuilderParts.{if_ok}
 use Rattle.dcv_reader.proofs.BuilderForms.{next_of_there, premise_begins, premise_alone, conclusion_begins, conclusion_read, rule_begins, rule_passed, prefix_next, prefix_read, inside_next, closing_there, inside_read, second_there, third_there, fourth_next, fourth_read}
 use Rattle.dcv_reader.proofs.BuilderLevels.{level_first, level_begun, operand_next, operands_pushed, level_read}

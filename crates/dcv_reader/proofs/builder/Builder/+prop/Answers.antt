@@ -2,14 +2,14 @@ use Rattle.std.proofs.Common.{[], ◌∷◌, map, Some, None, refl, sym, ap, ◌
 use Rattle.dcv_grammar.specs.declared.grammar.Symbol.TheVariants.{Class, Rule}
 use Rattle.dcv_syntax.specs.Plain.{PlainPropOperand}
 use Rattle.dcv_syntax.specs.Views.{plain_prop, plain_prop_operand}
+use Rattle.dcv_tokens.specs.Classes as classes
+use Rattle.dcv_tokens.specs.Tokens.{span_over}
+use Rattle.dcv_tokens.specs.Reading.{seen}
 use Rattle.dcv_reader.specs.RuleNumbers as rules
 use Rattle.dcv_reader.specs.Actions.{AProp, Props, Arguments}
-use Rattle.dcv_reader.specs.Classes as classes
 use Rattle.dcv_reader.specs.Language.{prop_prefix_rule, prop_atom_rule}
-use Rattle.dcv_reader.specs.Tokens.{span_over}
 use Rattle.dcv_reader.specs.Building.{RuleReadAs}
 use Rattle.dcv_reader.specs.Left.{left}
-use Rattle.dcv_reader.specs.Reading.{seen}
 use Rattle.dcv_reader.proofs.BuilderLevels.{level_first, level_begun, operand_next, operands_pushed, level_read, pushed_first, pushed_more, enclosed_first, enclosed_begun, enclosed_next, enclosed_more, enclosed_closes, enclosed_read}
 use Rattle.dcv_reader.proofs.BuilderParts.{if_ok}
 use Rattle.dcv_reader.proofs.BuilderForms.{premise_begins, premise_alone, conclusion_begins, conclusion_read, rule_begins, rule_passed, prefix_next, prefix_read, inside_next, closing_there, inside_read, nothing_read}

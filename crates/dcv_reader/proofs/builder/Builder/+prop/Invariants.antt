@@ -1,8 +1,8 @@
 use Rattle.std.proofs.Common.{◌+◌, ◌*◌, length, map}
 use Rattle.dcv_syntax.specs.Views.{plain_prop, plain_prop_operand}
+use Rattle.dcv_tokens.specs.Reading.{seen}
 use Rattle.dcv_reader.specs.Actions.{AProp}
 use Rattle.dcv_reader.specs.Left.{left}
-use Rattle.dcv_reader.specs.Reading.{seen}
 use Rattle.dcv_reader.proofs.BuilderLevels.{OperandsRead}
 use Rattle.dcv_reader.proofs.BuilderProps.{iff_operands, or_operands, and_operands, ArgumentsRead}
 use Rattle.dcv_reader.proofs.builder.Builder.+prop.Given as goal

@@ -1,6 +1,6 @@
 use Rattle.std.proofs.Common.{refl, sym, ap, ◌∙◌}
+use Rattle.dcv_tokens.specs.Classes as classes
 use Rattle.dcv_reader.specs.Actions.{Names}
-use Rattle.dcv_reader.specs.Classes as classes
 use Rattle.dcv_reader.specs.Left.{left}
 use Rattle.dcv_reader.specs.RuleNumbers as rules
 use Rattle.dcv_reader.proofs.BuilderForms.{nothing_read}

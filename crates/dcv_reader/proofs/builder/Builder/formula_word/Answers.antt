@@ -1,11 +1,11 @@
 use Rattle.std.proofs.Common.{sym, ap, ◌∙◌, subst}
 use Rattle.dcv_syntax.specs.Views.{plain_formula_kind}
+use Rattle.dcv_tokens.specs.Reading.{seen}
 use Rattle.dcv_reader.specs.RuleNumbers as rules
 use Rattle.dcv_reader.specs.Actions.{AFormula}
 use Rattle.dcv_reader.specs.Building.{RuleReadAs}
 use Rattle.dcv_reader.specs.Left.{left}
 use Rattle.dcv_reader.specs.Nodes.{bare}
-use Rattle.dcv_reader.specs.Reading.{seen}
 use Rattle.dcv_reader.proofs.BuilderFormulas.{atom_there, word_is_read}
 use Rattle.dcv_reader.proofs.builder.Builder.formula_word.Goals as goal
 

@@ -1,7 +1,7 @@
 use Rattle.std.proofs.Common.{arith}
-use Rattle.dcv_reader.specs.Classes as classes
+use Rattle.dcv_tokens.specs.Classes as classes
+use Rattle.dcv_tokens.specs.Reading.{seen}
 use Rattle.dcv_reader.specs.Left.{left}
-use Rattle.dcv_reader.specs.Reading.{seen}
 use Rattle.dcv_reader.proofs.BuilderParts.{token_next, next_class_is, small_first}
 use Rattle.dcv_reader.proofs.builder.Builder.number.Goals as goal
 

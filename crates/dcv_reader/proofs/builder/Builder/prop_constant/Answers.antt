@@ -1,11 +1,11 @@
 use Rattle.std.proofs.Common.{◌==◌, sym, ap, ◌∙◌, subst}
 use Rattle.dcv_syntax.specs.Plain.{PropConstant}
+use Rattle.dcv_tokens.specs.Classes as classes
+use Rattle.dcv_tokens.specs.Reading.{seen}
 use Rattle.dcv_reader.specs.Actions.{AProp}
 use Rattle.dcv_reader.specs.Building.{RuleReadAs}
-use Rattle.dcv_reader.specs.Classes as classes
 use Rattle.dcv_reader.specs.Left.{left}
 use Rattle.dcv_reader.specs.Nodes.{bare_prop}
-use Rattle.dcv_reader.specs.Reading.{seen}
 use Rattle.dcv_reader.specs.RuleNumbers as rules
 use Rattle.dcv_reader.proofs.BuilderProps.{constant_read}
 use Rattle.dcv_reader.proofs.builder.Builder.prop_constant.Goals as goal

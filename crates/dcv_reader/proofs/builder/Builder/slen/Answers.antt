@@ -1,11 +1,11 @@
 use Rattle.std.proofs.Common.{ap}
 use Rattle.dcv_syntax.specs.Views.{plain_formula_operand}
+use Rattle.dcv_tokens.specs.Classes as classes
+use Rattle.dcv_tokens.specs.Reading.{seen}
 use Rattle.dcv_reader.specs.RuleNumbers as rules
 use Rattle.dcv_reader.specs.Actions.{AFormula, ARelation}
-use Rattle.dcv_reader.specs.Classes as classes
 use Rattle.dcv_reader.specs.Language.{formula_atom_rule}
 use Rattle.dcv_reader.specs.Left.{left}
-use Rattle.dcv_reader.specs.Reading.{seen}
 use Rattle.dcv_reader.proofs.BuilderForms.{inside_next, closing_next, inside_read}
 use Rattle.dcv_reader.proofs.BuilderFormulas.{atom_at, atom_there, picks_slen, slen_made}
 use Rattle.dcv_reader.proofs.builder.Builder.slen.Goals as goal

@@ -1,5 +1,5 @@
 use Rattle.std.proofs.Common.{map, ap}
-use Rattle.dcv_reader.specs.Reading.{seen}
+use Rattle.dcv_tokens.specs.Reading.{seen}
 use Rattle.dcv_reader.proofs.BuilderParts.{small_rest}
 use Rattle.dcv_reader.proofs.builder.Builder.take.Goals as goal
 

@@ -1,6 +1,6 @@
 use Rattle.std.proofs.Common.{◌≡◌, find, option_map, refl}
-use Rattle.dcv_reader.specs.Reading.{seen}
-use Rattle.dcv_reader.specs.Faults.{is_long}
+use Rattle.dcv_tokens.specs.Reading.{seen}
+use Rattle.dcv_tokens.specs.Limits.{is_long}
 use Rattle.dcv_reader.proofs.FaultKinds.{first_there, none_there}
 use Rattle.dcv_reader.proofs.scan.Scan.name_fault.Goals as goal
 use Rattle.dcv_reader.proofs.scan.Scan.name_fault.Goals.{After-long_word}

@@ -1,5 +1,5 @@
 use Rattle.std.proofs.Common.{◌≡◌, ℕ, ◌+◌, ◌<◌, ◌∙◌, map, take, get_or, length, refl, sym, ap, arith}
-use Rattle.dcv_reader.specs.Reading.{seen}
+use Rattle.dcv_tokens.specs.Reading.{seen}
 use Rattle.dcv_reader.specs.Faults.{depth}
 use Rattle.dcv_reader.proofs.Depths.{deeper, depth-more, deeper-begins, deeper-nests, deeper-same, too_deep, within-more}
 use Rattle.dcv_reader.proofs.FaultKinds.{start_at}

@@ -1,5 +1,5 @@
 use Rattle.std.proofs.Common.{◌≡◌, ℕ, ◌≤◌, map, take}
-use Rattle.dcv_reader.specs.Reading.{seen}
+use Rattle.dcv_tokens.specs.Reading.{seen}
 use Rattle.dcv_reader.specs.Faults.{depth, deepest}
 use Rattle.dcv_reader.proofs.scan.Scan.nest_fault.Given as goal
 

@@ -1,6 +1,6 @@
 use Rattle.std.proofs.Common.{[], map}
-use Rattle.dcv_reader.specs.Reading.{seen}
-use Rattle.dcv_reader.proofs.Sources.{tokenized}
+use Rattle.dcv_tokens.specs.Reading.{seen}
+use Rattle.dcv_tokens.proofs.Sources.{tokenized}
 use Rattle.dcv_reader.proofs.scan.Scan.of.Goals as goal
 
 pub returns-clause-scanned : goal.returns-clause-scanned

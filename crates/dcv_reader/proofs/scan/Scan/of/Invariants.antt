@@ -1,5 +1,5 @@
 use Rattle.std.proofs.Common.{length, map}
-use Rattle.dcv_reader.specs.Reading.{seen, Reads}
+use Rattle.dcv_tokens.specs.Reading.{seen, Reads}
 use Rattle.dcv_reader.proofs.scan.Scan.of.Given as goal
 
 -- the tokens that were read

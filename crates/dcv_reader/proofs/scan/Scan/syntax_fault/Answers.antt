@@ -1,8 +1,8 @@
 use Rattle.std.proofs.Common.{◌∙◌, ◌<◌, ◌≤◌, Option, map, length, refl, sym, ap, subst, arith}
 use Rattle.std.proofs.lemmas.List.{length-map}
 use Rattle.dcv_grammar.specs.Grammar.{IsVerdict}
+use Rattle.dcv_tokens.specs.Reading.{seen}
 use Rattle.dcv_reader.specs.Language.{language}
-use Rattle.dcv_reader.specs.Reading.{seen}
 use Rattle.dcv_reader.specs.Faults.{classes_of}
 use Rattle.dcv_reader.proofs.FaultKinds.{verdict_seen, sentence_is_placed, one_misplaced, start_at, end_at, fault_at_end, none_left, some_left}
 use Rattle.dcv_reader.proofs.scan.Scan.syntax_fault.Goals as goal

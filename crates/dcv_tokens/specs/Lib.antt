@@ -1,0 +1,5 @@
+pub mod Tokens
+pub mod Reading
+pub mod Classes
+pub mod Decimal
+pub mod Limits

@@ -1,0 +1,205 @@
+//! The classes of tokens, as the grammar sees them: a number from 0 to 40 for each.
+ghost use Rattle.std.specs.Prelude.{◌≡◌, map, IsTrue};
+ghost use Rattle.dcv_tokens.specs.Tokens.{is_token};
+ghost use Rattle.dcv_tokens.specs.Classes.{fixed_texts, class_in, class_of};
+
+/// `(`.
+pub const OPEN_PARENTHESIS: u8 = 0;
+
+/// `)`.
+pub const CLOSE_PARENTHESIS: u8 = 1;
+
+/// `,`.
+pub const COMMA: u8 = 2;
+
+/// `;`.
+pub const SEMICOLON: u8 = 3;
+
+/// `.`.
+pub const DOT: u8 = 4;
+
+/// `!`.
+pub const EXCLAMATION: u8 = 5;
+
+/// `^`.
+pub const CARET: u8 = 6;
+
+/// `*`.
+pub const STAR: u8 = 7;
+
+/// `=`.
+pub const EQUALS: u8 = 8;
+
+/// `<`.
+pub const LESS: u8 = 9;
+
+/// `>`.
+pub const GREATER: u8 = 10;
+
+/// `<=`.
+pub const LESS_EQUALS: u8 = 11;
+
+/// `>=`.
+pub const GREATER_EQUALS: u8 = 12;
+
+/// `<>`.
+pub const DIAMOND: u8 = 13;
+
+/// `=>`.
+pub const ARROW: u8 = 14;
+
+/// `<=>`.
+pub const DOUBLE_ARROW: u8 = 15;
+
+/// `&&`.
+pub const DOUBLE_AMPERSAND: u8 = 16;
+
+/// `||`.
+pub const DOUBLE_BAR: u8 = 17;
+
+/// `[`.
+pub const OPEN_BRACKET: u8 = 18;
+
+/// `]`.
+pub const CLOSE_BRACKET: u8 = 19;
+
+/// `[]`.
+pub const BOX: u8 = 20;
+
+/// `[[`.
+pub const OPEN_BRACKETS: u8 = 21;
+
+/// `]]`.
+pub const CLOSE_BRACKETS: u8 = 22;
+
+/// `{{`.
+pub const OPEN_BRACES: u8 = 23;
+
+/// `}}`.
+pub const CLOSE_BRACES: u8 = 24;
+
+/// `var`.
+pub const WORD_VAR: u8 = 25;
+
+/// `define`.
+pub const WORD_DEFINE: u8 = 26;
+
+/// `prop`.
+pub const WORD_PROP: u8 = 27;
+
+/// `as`.
+pub const WORD_AS: u8 = 28;
+
+/// `infer`.
+pub const WORD_INFER: u8 = 29;
+
+/// `ex`.
+pub const WORD_EX: u8 = 30;
+
+/// `all`.
+pub const WORD_ALL: u8 = 31;
+
+/// `true`.
+pub const WORD_TRUE: u8 = 32;
+
+/// `false`.
+pub const WORD_FALSE: u8 = 33;
+
+/// `pt`.
+pub const WORD_PT: u8 = 34;
+
+/// `ext`.
+pub const WORD_EXT: u8 = 35;
+
+/// `slen`.
+pub const WORD_SLEN: u8 = 36;
+
+/// `scount`.
+pub const WORD_SCOUNT: u8 = 37;
+
+/// `sdur`.
+pub const WORD_SDUR: u8 = 38;
+
+/// A word that is not reserved.
+pub const NAME: u8 = 39;
+
+/// One digit or more.
+pub const NUMBER: u8 = 40;
+
+// The symbols and the reserved words, each with its class.
+const FIXED_TEXTS: [(&[u8], u8); 39] = [
+    (b"(", OPEN_PARENTHESIS),
+    (b")", CLOSE_PARENTHESIS),
+    (b",", COMMA),
+    (b";", SEMICOLON),
+    (b".", DOT),
+    (b"!", EXCLAMATION),
+    (b"^", CARET),
+    (b"*", STAR),
+    (b"=", EQUALS),
+    (b"<", LESS),
+    (b">", GREATER),
+    (b"<=", LESS_EQUALS),
+    (b">=", GREATER_EQUALS),
+    (b"<>", DIAMOND),
+    (b"=>", ARROW),
+    (b"<=>", DOUBLE_ARROW),
+    (b"&&", DOUBLE_AMPERSAND),
+    (b"||", DOUBLE_BAR),
+    (b"[", OPEN_BRACKET),
+    (b"]", CLOSE_BRACKET),
+    (b"[]", BOX),
+    (b"[[", OPEN_BRACKETS),
+    (b"]]", CLOSE_BRACKETS),
+    (b"{{", OPEN_BRACES),
+    (b"}}", CLOSE_BRACES),
+    (b"var", WORD_VAR),
+    (b"define", WORD_DEFINE),
+    (b"prop", WORD_PROP),
+    (b"as", WORD_AS),
+    (b"infer", WORD_INFER),
+    (b"ex", WORD_EX),
+    (b"all", WORD_ALL),
+    (b"true", WORD_TRUE),
+    (b"false", WORD_FALSE),
+    (b"pt", WORD_PT),
+    (b"ext", WORD_EXT),
+    (b"slen", WORD_SLEN),
+    (b"scount", WORD_SCOUNT),
+    (b"sdur", WORD_SDUR),
+];
+
+// The class that a table has for a text.
+fn class_in(table: &[(&[u8], u8)], bytes: &[u8]) -> Option<u8>
+    ensures { result ≡ class_in (map (λ entry. (entry.0.now, entry.1)) table.now) bytes.now }
+{
+    for (text, class) in table {
+        if bytes == *text {
+            return Some(*class);
+        }
+    }
+    None
+}
+
+// The class of a symbol or of a reserved word.
+#[tactic(auto, unfolding(crate::specs::Classes::fixed_texts))]
+fn fixed_class(bytes: &[u8]) -> Option<u8>
+    ensures { result ≡ class_in fixed_texts bytes.now }
+{
+    class_in(&FIXED_TEXTS, bytes)
+}
+
+/// The class of a token, from 0 to 40.
+pub fn class_of(bytes: &[u8]) -> u8
+    requires { IsTrue (is_token bytes.now) }
+    ensures { result ≡ class_of bytes.now }
+{
+    if let Some(class) = fixed_class(bytes) {
+        return class;
+    }
+    if bytes[0].is_ascii_alphabetic() {
+        NAME
+    } else {
+        NUMBER
+    }
+}

@@ -1,0 +1,172 @@
+// The tokens of a text, one after another.
+ghost use Rattle.std.specs.Prelude.{◌≡◌, ◌+◌, ◌^◌, ◌<◌, ◌≤◌, length, min, IsTrue};
+ghost use Rattle.dcv_tokens.specs.Tokens.{is_number, is_token};
+ghost use Rattle.dcv_tokens.specs.Classes.{class_of};
+ghost use Rattle.dcv_tokens.specs.Decimal.{value_of};
+
+use crate::classes::*;
+use crate::pieces::{is_blank, piece_length};
+use dcv_grammar::grammar::Classified;
+use dcv_syntax::Span;
+
+/// A token where it stands.
+#[derive(Clone, Copy, Debug)]
+pub struct Token<'a> {
+    pub bytes: &'a [u8],
+    /// The offset of its first byte.
+    pub start: u32,
+    /// What it is to the grammar.
+    pub class: u8,
+    ghost is_a_token: { IsTrue (is_token bytes.now) },
+    ghost of_class: { class ≡ class_of bytes.now },
+    ghost in_range: { start + length bytes.now < 2 ^ 32 },
+}
+
+// How many bytes a word may have.
+const LONGEST_WORD: usize = 24;
+
+// The largest number that may stand in a text.
+const LARGEST_NUMBER: u32 = 9_999;
+
+// What counts towards the depth of a definition or the goal.
+const NESTING: [u8; 8] = [
+    OPEN_PARENTHESIS,
+    EXCLAMATION,
+    DIAMOND,
+    BOX,
+    WORD_EX,
+    WORD_ALL,
+    ARROW,
+    STAR,
+];
+
+// What a definition or the goal begins with.
+const BEGINNINGS: [u8; 3] = [WORD_DEFINE, WORD_PROP, WORD_INFER];
+
+// The value of a number, and one above the largest where it is larger still.
+fn capped_value(digits: &[u8]) -> u32
+    requires { IsTrue (is_number digits.now) }
+    ensures { result ≡ min (value_of digits.now) (LARGEST_NUMBER + 1) }
+{
+    let mut value = 0;
+    for digit in digits {
+        let longer = 10 * value + u32::from(*digit - b'0');
+        value = longer.min(LARGEST_NUMBER + 1);
+    }
+    value
+}
+
+impl Token<'_> {
+    ghost use Rattle.dcv_tokens.specs.Tokens.{span_over};
+    ghost use Rattle.dcv_tokens.specs.Limits.{is_long, is_large, nests, begins_part};
+    ghost use Rattle.dcv_tokens.specs.Reading.{seen};
+
+    /// Whether it is a word with more bytes than a name may have.
+    pub fn is_long(&self) -> bool
+        ensures { result ≡ is_long (seen self.now) }
+    {
+        self.bytes[0].is_ascii_alphabetic() && self.bytes.len() > LONGEST_WORD
+    }
+
+    /// Whether it is a number above the largest that may stand in a text.
+    pub fn is_large(&self) -> bool
+        ensures { result ≡ is_large (seen self.now) }
+    {
+        self.bytes[0].is_ascii_digit() && capped_value(self.bytes) > LARGEST_NUMBER
+    }
+
+    /// Whether it is `(`, `!`, `<>`, `[]`, `ex`, `all`, `=>` or `*`.
+    pub fn nests(&self) -> bool
+        ensures { result ≡ nests (seen self.now) }
+    {
+        NESTING.contains(&self.class)
+    }
+
+    /// Whether a definition or the goal begins with it: `define`, `prop` or `infer`.
+    pub fn begins_part(&self) -> bool
+        ensures { result ≡ begins_part (seen self.now) }
+    {
+        BEGINNINGS.contains(&self.class)
+    }
+
+    /// From the first byte of this token to the last of another.
+    pub fn span_to(&self, last: &Token) -> Span
+        ensures { result ≡ span_over (seen self.now) (seen last.now) }
+    {
+        Span {
+            start: self.start,
+            end: last.start + last.bytes.len() as u32,
+        }
+    }
+}
+
+impl Classified for Token<'_> {
+    ghost class_of = { λ token. class_of token.bytes.now };
+
+    fn class(&self) -> u8 {
+        self.class
+    }
+}
+
+/// The tokens of a text from some offset on. They end where no piece begins: at the end, or at a byte fault.
+#[derive(Clone, Copy, Debug)]
+pub struct Tokens<'a> {
+    rest: &'a [u8],
+    start: u32,
+    ghost in_range: { start + length rest.now < 2 ^ 32 },
+}
+
+impl<'a> Tokens<'a> {
+    /// The tokens of a whole text.
+    pub fn new(text: &'a [u8]) -> Self
+        requires { length text.now < 2 ^ 32 }
+        ensures from { result.start ≡ 0 }
+        ensures all { result.rest.now ≡ text.now }
+    {
+        Tokens {
+            rest: text,
+            start: 0,
+        }
+    }
+
+    /// What is left of the text.
+    pub fn rest(&self) -> &'a [u8]
+        ensures { result.now ≡ self.now.rest.now }
+    {
+        self.rest
+    }
+}
+
+impl<'a> Iterator for Tokens<'a> {
+    ghost use Rattle.std.specs.Iterator.{at_most};
+    ghost use Rattle.dcv_tokens.specs.Reading.{GivesToken};
+
+    type Item = Token<'a>;
+
+    ghost next_gives = { GivesToken };
+
+    ghost remaining = { λ tokens. at_most (length tokens.rest.now) };
+
+    fn next(&mut self) -> Option<Token<'a>> {
+        loop {
+            let length = piece_length(self.rest);
+            if length == 0 {
+                return None;
+            }
+            let (bytes, rest) = self.rest.split_at(length);
+            let start = self.start;
+            *self = Tokens {
+                rest,
+                start: start + length as u32,
+            };
+            if !is_blank(bytes) {
+                let class = class_of(bytes);
+                return Some(Token {
+                    bytes,
+                    start,
+                    class,
+                });
+            }
+        }
+    }
+}

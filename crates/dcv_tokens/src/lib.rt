@@ -1,0 +1,18 @@
+//! The tokens of a formula file.
+//!
+//! `specs/Tokens` says how a text is cut into white space, comments and tokens, `specs/Classes` what each token is to the
+//! grammar, and `specs/Limits` what is said of one token alone. A text is cut as it is read: `Tokens` goes through it
+//! token by token and keeps none.
+#![tactic(auto)]
+
+pub mod classes;
+pub mod laws;
+mod lexer;
+mod pieces;
+mod text;
+
+pub use lexer::{Token, Tokens};
+pub use text::tokens;
+
+#[cfg(test)]
+mod tests;
