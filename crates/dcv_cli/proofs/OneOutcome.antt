@@ -1,19 +1,19 @@
 -- One outcome at most is right.
-use Rattle.std.proofs.Common.{◌≡◌, ℕ, ◌<◌, ◌≤◌, Bool, true, false, List, [], length, Option, None, Some, refl, sym, ap, ◌∙◌, subst, arith}
-use Rattle.std.specs.Prelude.{IsTrue, IsFalse, MatchOption}
+use Rattle.std.proofs.Common.{◌≡◌, ℕ, List, length, Option, None, Some, sym, ap, ◌∙◌, subst, arith}
+use Rattle.std.specs.Prelude.{IsTrue, MatchOption}
 use mathlib.Core.Bool.{true≢false}
 use Rattle.dcv_syntax.specs.Views.{plain_file}
 use Rattle.dcv_syntax.specs.declared.files.File.{File}
-use Rattle.dcv_logic.specs.Models.{Word, models}
+use Rattle.dcv_logic.specs.Models.{models}
 use Rattle.dcv_language.specs.Behaviour.{Language}
 use Rattle.dcv_language.specs.Laws.{OneVerdict}
 use Rattle.dcv_language.specs.Verdict.{Verdict, IsVerdict}
-use Rattle.dcv_reader.specs.Faults.{IsFault, FaultIsUnique}
-use Rattle.dcv_reader.specs.Spelling.{Spells, SpellsOne}
+use Rattle.dcv_reader.specs.Faults.{FaultIsUnique}
+use Rattle.dcv_reader.specs.Spelling.{SpellsOne}
 use Rattle.dcv_cli.specs.FirstForm.{is_first_form}
 use Rattle.dcv_cli.specs.Laws.{OneOutcome}
 use Rattle.dcv_cli.specs.declared.status.Status.TheVariants.{Formula}
-use Rattle.dcv_cli.specs.Outcome.{Outcome, IsChecked, Holds, TooLong, Faulty, OtherForm, Decided, answered, Fulfils, IsRight, refused, fault_text, most_bytes}
+use Rattle.dcv_cli.specs.Outcome.{Outcome, IsChecked, Holds, TooLong, Faulty, OtherForm, Decided, answered, Fulfils, refused, fault_text}
 use Rattle.dcv_cli.specs.Request.{Request, CheckFile, request_of}
 use Rattle.dcv_cli.proofs.SameFile.{same_variable_count, same_form, same_models}
 

@@ -1,5 +1,5 @@
 -- What the reader, the decision and the text of the verdict say is what is right for the text.
-use Rattle.std.proofs.Common.{Err, refl, ap}
+use Rattle.std.proofs.Common.{refl}
 use Rattle.std.specs.Prelude.{IsSome}
 use Rattle.std.proofs.lemmas.Result.{err_from_is_err_and}
 use Rattle.dcv_cli.specs.FirstForm.{is_first_form}
