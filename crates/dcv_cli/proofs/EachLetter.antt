@@ -13,7 +13,8 @@ use Rattle.dcv_logic.specs.Search.{some_from}
 use Rattle.dcv_logic.specs.Environment.{Environment, found}
 use Rattle.dcv_logic.specs.Value.{value, argument_tracks, call_value}
 use Rattle.dcv_logic.specs.Satisfaction.{satisfies}
-use Rattle.dcv_logic.specs.Models.{Word, models, goal_environment, declared_from}
+use Rattle.dcv_word.specs.Behaviour.{Word}
+use Rattle.dcv_logic.specs.Models.{models, goal_environment, declared_from}
 use Rattle.dcv_cli.specs.FirstForm.{is_bare, is_declared}
 
 -- what the goal of a file without macros sees

@@ -5,7 +5,7 @@ use mathlib.Core.Bool.{true≢false}
 use Rattle.dcv_syntax.specs.Views.{plain_file}
 use Rattle.dcv_syntax.specs.declared.files.File.{File}
 use Rattle.dcv_logic.specs.Models.{models}
-use Rattle.dcv_language.specs.Behaviour.{Language}
+use Rattle.dcv_language.specs.Language.{Language}
 use Rattle.dcv_language.specs.Laws.{OneVerdict}
 use Rattle.dcv_language.specs.Verdict.{Verdict, IsVerdict}
 use Rattle.dcv_reader.specs.Faults.{FaultIsUnique}

@@ -12,7 +12,8 @@ use Rattle.dcv_syntax.specs.declared.propositions.Prop.{Prop}
 use Rattle.dcv_syntax.specs.declared.propositions.PropKind.{PropKind, Constant, Call'}
 use Rattle.dcv_syntax.specs.declared.propositions.PropKind.TheBlock.{Row_of-Prop, end_of-Prop, more_of-Prop}
 use Rattle.dcv_logic.specs.Track.{truth_at}
-use Rattle.dcv_logic.specs.Models.{Word, models}
+use Rattle.dcv_word.specs.Behaviour.{Word}
+use Rattle.dcv_logic.specs.Models.{models}
 use Rattle.dcv_cli.specs.FirstForm.{is_bare, is_declared, is_atom, is_atom_everywhere, has_one_at_most, has_no_macro, is_first_form}
 use Rattle.dcv_cli.proofs.EachLetter.{IsVariable, models_constant, models_variable}
 

@@ -10,7 +10,8 @@ use Rattle.std.specs.Cmp.{nat_cmp_is}
 use Rattle.std.specs.Cmp.Lexicographic.{slice_cmp}
 use Rattle.dcv_word.specs.Letter.{letter_order}
 use Rattle.dcv_word.specs.Word.{shortlex_order}
-use Rattle.dcv_language.specs.Behaviour.{Word, Language, IsBehaviour, HasNone, outside}
+use Rattle.dcv_word.specs.Behaviour.{Word, IsBehaviour}
+use Rattle.dcv_language.specs.Language.{Language, HasNone, outside}
 use Rattle.dcv_language.specs.Verdict.{Verdict, IsVerdict, IsLeast, IsLeastOf}
 use Rattle.dcv_cli.specs.Demand.{AsksOfEach, IsLeastLetter, IsLeastPassing}
 

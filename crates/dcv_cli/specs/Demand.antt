@@ -4,7 +4,8 @@ use Rattle.std.specs.List.{list_all}
 use Rattle.std.specs.declared.cmp.Ordering.TheVariants.{Less}
 use Rattle.dcv_word.specs.Letter.{letter_order}
 use Rattle.dcv_logic.specs.Track.{truth_at}
-use Rattle.dcv_language.specs.Behaviour.{Word, Language}
+use Rattle.dcv_word.specs.Behaviour.{Word}
+use Rattle.dcv_language.specs.Language.{Language}
 use Rattle.dcv_cli.specs.declared.decision.Demand.{Demand}
 use Rattle.dcv_cli.specs.declared.decision.Demand.TheVariants.{Always, Never, Variable}
 

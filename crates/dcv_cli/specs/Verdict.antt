@@ -1,7 +1,7 @@
 -- How clauses see a verdict of the code.
 use Rattle.std.specs.Prelude.{Option, is_none, option_map, if◌then◌else◌}
 use Rattle.dcv_word.specs.Word.{WordValue}
-use Rattle.dcv_language.specs.Behaviour.{Word}
+use Rattle.dcv_word.specs.Behaviour.{Word}
 use Rattle.dcv_language.specs.Verdict.{Verdict}
 use Rattle.dcv_cli.specs.declared.status.Status.{Status}
 use Rattle.dcv_cli.specs.declared.status.Status.TheVariants.{Valid, NotValid}

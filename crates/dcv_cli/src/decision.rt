@@ -1,7 +1,7 @@
 // Decides the files that ask one thing of every letter of a behaviour.
 ghost use Rattle.std.specs.Prelude.{◌≡◌, ◌≢◌, ◌≤◌, ◌↔◌, Bool, List, [], ◌∷◌, not, length, option_map, Some, IfOk, IfSome, IsSome, IsTrue};
 ghost use Rattle.dcv_logic.specs.Models.{models};
-ghost use Rattle.dcv_language.specs.Behaviour.{Language};
+ghost use Rattle.dcv_language.specs.Language.{Language};
 ghost use Rattle.dcv_language.specs.Verdict.{IsVerdict};
 ghost use Rattle.dcv_cli.specs.FirstForm.{is_first_form, is_declared as names_the_variable};
 ghost use Rattle.dcv_cli.specs.Demand.{meets, AsksOfEach, IsLeastLetter};

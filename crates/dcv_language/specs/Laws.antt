@@ -1,6 +1,6 @@
 -- The laws that `src/laws.rt` proves.
 use Rattle.std.specs.Prelude.{◌≡◌, ℕ}
-use Rattle.dcv_language.specs.Behaviour.{Language}
+use Rattle.dcv_language.specs.Language.{Language}
 use Rattle.dcv_language.specs.Verdict.{Verdict, IsVerdict}
 
 abbrev pub OneVerdict : Type 0

@@ -1,4 +1,4 @@
-pub mod Behaviour
+pub mod Language
 pub mod Laws
 pub mod Verdict
 pub mod VerdictText

@@ -2,7 +2,8 @@
 use Rattle.std.specs.Prelude.{◌≢◌, ℕ, Option, MatchOption, IsTrue}
 use Rattle.std.specs.declared.cmp.Ordering.TheVariants.{Less}
 use Rattle.dcv_word.specs.Word.{shortlex_order}
-use Rattle.dcv_language.specs.Behaviour.{Word, Language, IsBehaviour, HasNone, outside}
+use Rattle.dcv_word.specs.Behaviour.{Word, IsBehaviour}
+use Rattle.dcv_language.specs.Language.{Language, HasNone, outside}
 
 -- the word is a behaviour in the set, and no behaviour in the set comes before it in shortlex order
 pub record IsLeast (k : ℕ) (L : Language) (word : Word) : Type 0 where

@@ -2,7 +2,7 @@
 use Rattle.std.specs.Prelude.{ℕ, List, [], ◌∷◌, ◌++◌, length, Option, None, Some, is_none, is_some, codes, if◌then◌else◌}
 use Rattle.std.specs.Fmt.{decimal}
 use Rattle.dcv_word.specs.TraceLine.{line_feed, trace_text}
-use Rattle.dcv_language.specs.Behaviour.{Word}
+use Rattle.dcv_word.specs.Behaviour.{Word}
 use Rattle.dcv_language.specs.Verdict.{Verdict}
 
 -- the text with the byte that ends a line

@@ -5,14 +5,11 @@ use Rattle.dcv_syntax.specs.declared.files.File.{File}
 use Rattle.dcv_syntax.specs.declared.files.Macro.{Macro}
 use Rattle.dcv_syntax.specs.declared.files.MacroBody.{MacroBody}
 use Rattle.dcv_syntax.specs.declared.files.MacroBody.TheVariants.{Formula as FormulaBody, Prop as PropBody}
+use Rattle.dcv_word.specs.Behaviour.{Word}
 use Rattle.dcv_logic.specs.Track.{Track, slot_track}
 use Rattle.dcv_logic.specs.Environment.{Environment, Meaning, PropMeaning, FormulaMeaning, bind_all}
 use Rattle.dcv_logic.specs.Value.{value}
 use Rattle.dcv_logic.specs.Satisfaction.{satisfies}
-
--- the letters of a behaviour, each the truths of the declared variables in order
-abbrev pub Word : Type 0
-Word = List (List Bool)
 
 -- the declared variables from a slot on, with their tracks
 abbrev pub declared_from : ℕ → List Name → Word → List (List ℕ × Track)

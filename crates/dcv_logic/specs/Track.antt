@@ -1,5 +1,6 @@
 -- Tracks: the truths of one name at the instants of a behaviour.
 use Rattle.std.specs.Prelude.{ℕ, zero, suc, ◌+◌, Bool, false, List, [], ◌∷◌, slice_index_or}
+use Rattle.dcv_word.specs.Behaviour.{Word}
 
 -- the truths of a name, that at instant 0 first
 abbrev pub Track : Type 0
@@ -19,6 +20,6 @@ abbrev pub track_of : ℕ → (ℕ → Bool) → Track
 track_of n f = values_from f 0 n
 
 -- the track of a slot in a word, each letter of which is the list of its slots' truths
-abbrev pub slot_track : List (List Bool) → ℕ → Track
+abbrev pub slot_track : Word → ℕ → Track
 slot_track [] slot = []
 slot_track (letter ∷ letters) slot = truth_at letter slot ∷ slot_track letters slot

@@ -4,6 +4,7 @@ use Rattle.std.specs.Cmp.{IsTotalOrder}
 use Rattle.std.specs.List.{AllPairs, range_with_len}
 use Rattle.std.specs.Ordering.{nat_cmp}
 use Rattle.std.specs.declared.cmp.Ordering.TheVariants.{Less, Equal}
+use Rattle.dcv_word.specs.Behaviour.{Word}
 use Rattle.dcv_word.specs.Letter.{letter_of, bits_of, letters_of_width, letter_order}
 use Rattle.dcv_word.specs.Word.{shortlex_order}
 use Rattle.dcv_word.specs.TraceLine.{trace_line, trace_text, IsReading}
@@ -67,27 +68,27 @@ WordsAreInOrder = IsTotalOrder shortlex_order
 
 -- two words are equal in order only where they are the same
 abbrev pub EqualWordsAreSame : Type 0
-EqualWordsAreSame = (u v : List (List Bool)) → (shortlex_order u v ≡ Equal) ↔ (u ≡ v)
+EqualWordsAreSame = (u v : Word) → (shortlex_order u v ≡ Equal) ↔ (u ≡ v)
 
 abbrev pub ShorterIsLess : Type 0
-ShorterIsLess = (u v : List (List Bool)) → length u < length v → shortlex_order u v ≡ Less
+ShorterIsLess = (u v : Word) → length u < length v → shortlex_order u v ≡ Less
 
 -- of two words as long, the first letters that differ decide
 abbrev pub FirstDifferenceDecides : Type 0
-FirstDifferenceDecides = (front u v : List (List Bool)) (a b : List Bool) → a ≢ b → length u ≡ length v
+FirstDifferenceDecides = (front u v : Word) (a b : List Bool) → a ≢ b → length u ≡ length v
     → shortlex_order (front ++ a ∷ u) (front ++ b ∷ v) ≡ letter_order a b
 
 -- what both begin with does not matter
 abbrev pub CommonFrontIsIgnored : Type 0
-CommonFrontIsIgnored = (front u v : List (List Bool)) → shortlex_order (front ++ u) (front ++ v) ≡ shortlex_order u v
+CommonFrontIsIgnored = (front u v : Word) → shortlex_order (front ++ u) (front ++ v) ≡ shortlex_order u v
 
 -- nor what both end with
 abbrev pub CommonEndIsIgnored : Type 0
-CommonEndIsIgnored = (u v end : List (List Bool)) → shortlex_order (u ++ end) (v ++ end) ≡ shortlex_order u v
+CommonEndIsIgnored = (u v end : Word) → shortlex_order (u ++ end) (v ++ end) ≡ shortlex_order u v
 
 -- nor do ends that are as long, after words as long that differ
 abbrev pub EndsAfterADifferenceAreIgnored : Type 0
-EndsAfterADifferenceAreIgnored = (u v x y : List (List Bool)) → length u ≡ length v → u ≢ v → length x ≡ length y
+EndsAfterADifferenceAreIgnored = (u v x y : Word) → length u ≡ length v → u ≢ v → length x ≡ length y
     → shortlex_order (u ++ x) (v ++ y) ≡ shortlex_order u v
 
 -- ---- trace lines
@@ -108,4 +109,4 @@ LineIsOfOneLetter = (a b : List Bool) → trace_line a ≡ trace_line b → a �
 
 -- and two words two texts
 abbrev pub TextIsOfOneWord : Type 0
-TextIsOfOneWord = (u v : List (List Bool)) → trace_text u ≡ trace_text v → u ≡ v
+TextIsOfOneWord = (u v : Word) → trace_text u ≡ trace_text v → u ≡ v

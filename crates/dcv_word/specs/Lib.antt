@@ -1,3 +1,4 @@
+pub mod Behaviour
 pub mod Laws
 pub mod Letter
 pub mod LetterFacts

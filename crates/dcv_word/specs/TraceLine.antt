@@ -5,6 +5,7 @@
 use Rattle.std.specs.Prelude.{◌≡◌, ◌≢◌, ℕ, zero, suc, Bool, if◌then◌else◌, List, [], ◌∷◌, ◌++◌, length, map, take, Some, Result, Ok, Err, ◌⊎◌, slice_get}
 use Rattle.std.specs.List.{All, flat_map}
 use Rattle.std.specs.Str.{byte}
+use Rattle.dcv_word.specs.Behaviour.{Word}
 use Rattle.dcv_word.specs.declared.lines.LetterFault.{LetterFault}
 use Rattle.dcv_word.specs.declared.lines.LetterFault.TheVariants.{Width, Character}
 
@@ -21,7 +22,7 @@ abbrev pub trace_line : List Bool → List ℕ
 trace_line [] = byte "-" ∷ []
 trace_line (value ∷ values) = map digit_of (value ∷ values)
 
-abbrev pub trace_text : List (List Bool) → List ℕ
+abbrev pub trace_text : Word → List ℕ
 trace_text = flat_map (λ letter. trace_line letter ++ line_feed ∷ [])
 
 abbrev pub IsDigit : ℕ → Type 0

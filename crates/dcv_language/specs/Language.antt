@@ -1,15 +1,6 @@
--- Behaviours, and sets of them.
-use Rattle.std.specs.Prelude.{◌≡◌, ℕ, ◌<◌, Bool, not, List, length, IsTrue}
-use Rattle.std.specs.List.{All}
-
--- the letters of a word, each the truths of the declared variables in order
-abbrev pub Word : Type 0
-Word = List (List Bool)
-
--- a word over k variables that is not empty
-pub record IsBehaviour (k : ℕ) (word : Word) : Type 0 where
-  pub nonempty : 0 < length word
-  pub widths : All (λ letter. length letter ≡ k) word
+-- Sets of behaviours, as tests of words.
+use Rattle.std.specs.Prelude.{ℕ, Bool, not, IsTrue}
+use Rattle.dcv_word.specs.Behaviour.{Word, IsBehaviour}
 
 -- a set of words, as a test of them
 abbrev pub Language : Type 0
