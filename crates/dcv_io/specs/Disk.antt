@@ -1,5 +1,5 @@
 -- What is held under names, and what is left to read of the file that is open.
-use Rattle.std.specs.Prelude.{◌≡◌, ℕ, ◌+◌, ◌<◌, List, [], ◌++◌, length, drop, Option, None, Some, option_map, IfSome, IsSome, ⊤}
+use Rattle.std.specs.Prelude.{◌≡◌, ℕ, ◌+◌, ◌<◌, ◌≤◌, List, [], ◌++◌, length, drop, Option, None, Some, option_map, IfSome, IsSome, ⊤}
 
 -- What is held under the bytes of each name, and what is left to read of the open file, None where no file is open.
 pub record Disk : Type 0 where
@@ -36,6 +36,12 @@ pub record Gives (bytes : List ℕ) (old new : Disk) : Type 0 where
 abbrev pub GivesMany : ℕ → Option Disk → Option Disk → Type 0
 GivesMany count old new = (bytes : List ℕ) × (length bytes ≡ count) × WhereTold (Gives bytes) old new
 
+-- at most this many bytes were given
+pub record GivesAtMost (most : ℕ) (old new : Option Disk) : Type 0 where
+  pub bytes : List ℕ
+  pub fits : length bytes ≤ most
+  pub given : WhereTold (Gives bytes) old new
+
 -- what was given stands behind what there was
 abbrev pub GivesAdded : List ℕ → List ℕ → Option Disk → Option Disk → Type 0
 GivesAdded before after old new = (bytes : List ℕ) × (after ≡ before ++ bytes) × WhereTold (Gives bytes) old new
@@ -50,3 +56,7 @@ pub record ReadsPast (name : List ℕ) (limit : ℕ) (old new : Disk) : Type 0 w
   pub there : old.held name ≡ Some bytes
   pub longer : limit < length bytes
   pub left : new.open ≡ Some (drop (limit + 1) bytes)
+
+-- What is open, if a file is, is the file of this name, of which at most so many bytes have been read.
+abbrev pub ReadsAtMost : List ℕ → ℕ → Disk → Disk → Type 0
+ReadsAtMost name most old new = IfSome new.open (λ rest. (bytes : List ℕ) × (length bytes ≤ most) × (old.held name ≡ Some (bytes ++ rest)))

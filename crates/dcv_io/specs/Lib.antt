@@ -1,7 +1,9 @@
+pub mod Asked
 pub mod Disk
 pub mod Faults
 pub mod FilesState
 pub mod HeldFile
+pub mod Noted
 pub mod Plan
 pub mod RealCounts
 pub mod SinkState

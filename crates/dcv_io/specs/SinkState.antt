@@ -1,14 +1,16 @@
 -- A sink in memory.
-use Rattle.std.specs.Prelude.{ℕ, ◌-◌, min, Bool, ◌&&◌, ◌||◌, ◌==◌, nat_lt, List, ◌++◌, length, take}
+use Rattle.std.specs.Prelude.{ℕ, ◌-◌, min, Bool, true, false, ◌&&◌, ◌||◌, ◌==◌, nat_lt, List, ◌++◌, length, take}
 use Rattle.dcv_io.specs.Faults.{raised}
 use Rattle.dcv_io.specs.Plan.{Plan, fails_next, after_call, moved_by, after_move}
 
--- What has been written, for how many more bytes there is room, what comes at which call, and how many writes failed.
+-- What has been written, for how many more bytes there is room, what comes at which call, how many writes failed, and
+-- whether the last one did.
 pub record SinkState : Type 0 where
   pub written : List ℕ
   pub room : ℕ
   pub plan : Plan
   pub faults : ℕ
+  pub last_failed : Bool
 
 -- A write of this piece fails now: the call is one of those that fail, or bytes meet no room.
 abbrev pub refuses : SinkState → List ℕ → Bool
@@ -25,8 +27,9 @@ after_write sink piece count = record {
   room = sink.room - count;
   plan = after_move count (after_call sink.plan);
   faults = sink.faults;
+  last_failed = false;
 }
 
 -- once a write has failed
 abbrev pub after_refusal : SinkState → SinkState
-after_refusal sink = record sink { plan = after_call sink.plan; faults = raised sink.faults }
+after_refusal sink = record sink { plan = after_call sink.plan; faults = raised sink.faults; last_failed = true }

@@ -1,5 +1,6 @@
 // Files that are opened by name and read from the front, one at a time.
-ghost use Rattle.std.specs.Prelude.{◌≡◌, ◌<◌, ◌≤◌, ℕ, List, Option, length, take, drop, is_err, IfOk, OnOk, OnErr, OnSome};
+ghost use Rattle.std.specs.Prelude.{◌≡◌, ◌<◌, ◌≤◌, ℕ, List, [], ◌∷◌, Option, length, take, drop, is_err, IfOk, OnOk, OnErr, OnSome};
+ghost use Rattle.dcv_io.specs.Asked.{Asks};
 ghost use Rattle.dcv_io.specs.Disk.{Disk, held_of, WhereTold, Opens, Closes, Gives, IsAtEnd};
 ghost use Rattle.dcv_io.specs.Faults.{RisesIf};
 
@@ -8,7 +9,7 @@ use crate::Failed;
 /// Files that are read by name. One is open at a time.
 ///
 /// An object may tell its disk, and then the clauses say which bytes come; or tell nothing of bytes, as the real
-/// files do. It always counts its failed opens and its failed reads.
+/// files do. It may tell the names that it was asked for, or fall silent about them. It always counts its failed opens and its failed reads.
 pub trait Files {
     /// How many calls of `open_file` have failed, up to 2^64 - 1.
     ghost open_faults: { Self → ℕ };
@@ -19,12 +20,16 @@ pub trait Files {
     /// What is held and what is open; None claims nothing.
     ghost told: { Self → Option Disk };
 
+    /// The names by which files were asked for, in order, opened or not; None claims nothing.
+    ghost asked: { Self → Option (List (List ℕ)) };
+
     /// Opens the file of this name, to be read from its front, in place of the file open before.
     /// A missing file is a failed open, and after a failed open no file is open.
     fn open_file(&mut self, name: &str) -> Result<(), Failed>
         ensures opened { OnOk result (WhereTold (Opens name.now) (told self.old) (told self.new)) }
         ensures closed { OnErr result (WhereTold Closes (told self.old) (told self.new)) }
         ensures held { held_of (told self.new) ≡ held_of (told self.old) }
+        ensures asked { Asks (name.now ∷ []) (asked self.old) (asked self.new) }
         ensures open_faults { RisesIf (is_err result)
             (open_faults self.old) (open_faults self.new) }
         ensures read_faults { read_faults self.new ≡ read_faults self.old };
@@ -46,6 +51,7 @@ pub trait Files {
         ensures same_buffer { OnErr result (OnSome (told self.old) (buf.new ≡ buf.old)) }
 
         ensures held { held_of (told self.new) ≡ held_of (told self.old) }
+        ensures asked { asked self.new ≡ asked self.old }
         ensures read_faults { RisesIf (is_err result)
             (read_faults self.old) (read_faults self.new) }
         ensures open_faults { open_faults self.new ≡ open_faults self.old };

@@ -7,6 +7,7 @@ mod fault;
 mod files;
 mod mem_files;
 mod mem_sink;
+mod noting_files;
 mod reading;
 mod real;
 mod schedule;
@@ -17,10 +18,8 @@ pub use fault::{Failed, TakeFault};
 pub use files::Files;
 pub use mem_files::MemFiles;
 pub use mem_sink::MemSink;
+pub use noting_files::NotingFiles;
 pub use reading::read_all;
 pub use real::{RealFiles, RealOut};
 pub use sink::Sink;
 pub use writing::write_all;
-
-#[cfg(test)]
-mod tests;

@@ -101,6 +101,8 @@ impl Files for MemFiles {
 
     ghost told = { λ f. Some (disk_of f) };
 
+    ghost asked = { λ _. None };
+
     fn open_file(&mut self, name: &str) -> Result<(), Failed>
         ensures refused { is_err result ≡ refuses_open self.old name.now }
         ensures ok { OnOk result (self.new ≡ after_open self.old name.now) }

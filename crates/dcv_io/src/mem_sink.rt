@@ -1,5 +1,5 @@
 // A sink in memory.
-ghost use Rattle.std.specs.Prelude.{◌≡◌, ◌<◌, ◌≤◌, All, [], is_err, length, take, IfOk, OnOk, OnErr};
+ghost use Rattle.std.specs.Prelude.{◌≡◌, ◌<◌, ◌≤◌, All, [], false, is_err, length, take, IfOk, OnOk, OnErr};
 ghost use Rattle.dcv_io.specs.Faults.{RisesIf};
 ghost use Rattle.dcv_io.specs.SinkState.{refuses, taken_of, after_write, after_refusal};
 ghost use Rattle.dcv_io.specs.Written.{Appends};
@@ -17,6 +17,7 @@ pub struct MemSink {
     room: usize,
     schedule: Schedule,
     faults: u64,
+    last_failed: bool,
 }
 
 impl Model for MemSink {
@@ -30,6 +31,7 @@ impl Model for MemSink {
       room = s.room;
       plan = s.schedule;
       faults = s.faults;
+      last_failed = s.last_failed;
     } };
 
     ghost invariant = { λ s. vec_len s.bytes + s.room ≤ vec_capacity s.bytes };
@@ -51,6 +53,7 @@ impl MemSink {
           written = [];
           room = room;
           faults = 0;
+          last_failed = false;
           plan = record { sizes = sizes.now; fails = fails.now; calls = 0 };
         }) }
     {
@@ -59,6 +62,7 @@ impl MemSink {
             room,
             schedule: Schedule::new(alloc, sizes, fails)?,
             faults: 0,
+            last_failed: false,
         })
     }
 
@@ -75,6 +79,8 @@ impl Sink for MemSink {
 
     ghost faults = { λ s. s.faults };
 
+    ghost last_failed = { λ s. s.last_failed };
+
     ghost written = { λ s. Some s.written };
 
     fn write(&mut self, bytes: &[u8]) -> Result<usize, Failed>
@@ -87,7 +93,8 @@ impl Sink for MemSink {
         ensures faults { RisesIf (is_err result) self.old.faults self.new.faults }
     {
         let fails = self.schedule.begin_call();
-        if fails || (!bytes.is_empty() && self.room == 0) {
+        self.last_failed = fails || (!bytes.is_empty() && self.room == 0);
+        if self.last_failed {
             raise(&mut self.faults);
             return Err(Failed);
         }

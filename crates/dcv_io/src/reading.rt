@@ -1,6 +1,7 @@
 // Takes a whole file.
-ghost use Rattle.std.specs.Prelude.{◌≡◌, ◌⊎◌, ◌+◌, ◌^◌, ◌<◌, ◌≤◌, length, is_err, IfOk, OnOk, IfErr, IsErr, IsOkUnless, IfSome, IfNone, IsSome, IsFalse, Some, Err};
-ghost use Rattle.dcv_io.specs.Disk.{held_of, WhereTold, Opens, Gives, GivesMany, GivesAdded, ReadsPast, IsAtEnd};
+ghost use Rattle.std.specs.Prelude.{◌≡◌, ◌⊎◌, ◌+◌, ◌^◌, ◌<◌, ◌≤◌, [], ◌∷◌, length, is_err, IfOk, OnOk, OnErr, IfErr, IsErr, IsOkUnless, IfSome, IfNone, IsSome, IsFalse, Some, Err};
+ghost use Rattle.dcv_io.specs.Asked.{Asks};
+ghost use Rattle.dcv_io.specs.Disk.{held_of, WhereTold, Opens, Closes, Gives, GivesMany, GivesAtMost, GivesAdded, ReadsAtMost, ReadsPast, IsAtEnd};
 ghost use Rattle.dcv_io.specs.Faults.{RisesIf};
 ghost use Rattle.dcv_io.specs.Taking.{is_open_fault, is_read_fault, IfTooLong};
 
@@ -11,8 +12,8 @@ const BLOCK: usize = 4096;
 
 /// Reads all the bytes of the file of this name, if they are at most `limit`, which is in bytes.
 ///
-/// Of a longer file one byte past the limit is read, to see that it is longer, and no more. After an `Err` open a
-/// file before the next read.
+/// The file is opened once. One byte past the limit is read, to see that a file is longer, and no more. After an `Err`
+/// open a file before the next read.
 pub fn read_all<F: Files>(
     alloc: Global,
     files: &mut F,
@@ -43,6 +44,9 @@ pub fn read_all<F: Files>(
     ensures read_faults { RisesIf (is_read_fault result)
         (F.read_faults files.old) (F.read_faults files.new) }
 
+    // Whatever the outcome.
+    ensures asked { Asks (name.now ∷ []) (F.asked files.old) (F.asked files.new) }
+    ensures at_most { WhereTold (ReadsAtMost name.now (limit + 1)) (F.told files.old) (F.told files.new) }
     ensures held { held_of (F.told files.new) ≡ held_of (F.told files.old) }
 {
     open(files, name)?;
@@ -53,7 +57,9 @@ pub fn read_all<F: Files>(
 fn open<F: Files>(files: &mut F, name: &str) -> Result<(), TakeFault>
     ensures opened { OnOk result
         (WhereTold (Opens name.now) (F.told files.old) (F.told files.new)) }
+    ensures closed { OnErr result (WhereTold Closes (F.told files.old) (F.told files.new)) }
     ensures fault { IsOkUnless result TakeFault.Open }
+    ensures asked { Asks (name.now ∷ []) (F.asked files.old) (F.asked files.new) }
     ensures held { held_of (F.told files.new) ≡ held_of (F.told files.old) }
     ensures open_faults { RisesIf (is_err result)
         (F.open_faults files.old) (F.open_faults files.new) }
@@ -76,7 +82,9 @@ fn read_to_end<F: Files>(alloc: Global, files: &mut F, limit: u64) -> Result<Vec
     ensures end { OnOk result (IsAtEnd (F.told files.new)) }
     ensures too_long { IfTooLong result (λ named.
         (named ≡ limit) × GivesMany (limit + 1) (F.told files.old) (F.told files.new)) }
+    ensures at_most { GivesAtMost (limit + 1) (F.told files.old) (F.told files.new) }
     ensures not_open { IsFalse (is_open_fault result) }
+    ensures asked { F.asked files.new ≡ F.asked files.old }
     ensures held { held_of (F.told files.new) ≡ held_of (F.told files.old) }
     ensures open_faults { F.open_faults files.new ≡ F.open_faults files.old }
     ensures read_faults { RisesIf (is_read_fault result)
@@ -101,12 +109,15 @@ fn read_block<F: Files>(
     buffer: &mut [u8],
     bytes: &mut Vec<u8>,
 ) -> Result<usize, TakeFault>
+    requires { IfSome (F.told files.old) (λ disk. IsSome disk.open) }
     ensures bound { IfOk result (λ count. count ≤ length buffer.old) }
     ensures added { IfOk result (λ count. length bytes.new.items ≡ length bytes.old.items + count) }
     ensures gives { OnOk result
         (GivesAdded bytes.old.items bytes.new.items (F.told files.old) (F.told files.new)) }
     ensures end { IfOk result (λ count.
         count ≡ 0 → 0 < length buffer.old → IsAtEnd (F.told files.new)) }
+    ensures at_most { GivesAtMost (length buffer.old) (F.told files.old) (F.told files.new) }
+    ensures asked { F.asked files.new ≡ F.asked files.old }
     ensures fault { IfErr result (λ fault. (fault ≡ TakeFault.Read) ⊎ (fault ≡ TakeFault.Memory)) }
     ensures held { held_of (F.told files.new) ≡ held_of (F.told files.old) }
     ensures open_faults { F.open_faults files.new ≡ F.open_faults files.old }

@@ -1,5 +1,5 @@
 // The files and the streams of the system. No clause says which bytes they give or take.
-ghost use Rattle.std.specs.Prelude.{◌≡◌, None};
+ghost use Rattle.std.specs.Prelude.{◌≡◌, None, false};
 
 use crate::counts::raise;
 use crate::{Failed, Files, Sink};
@@ -48,6 +48,8 @@ impl<R: rt::Files> Files for RealFiles<R> {
 
     ghost told = { λ _. None };
 
+    ghost asked = { λ _. None };
+
     fn open_file(&mut self, name: &str) -> Result<(), Failed> {
         match fs::open(&self.runtime, name) {
             Ok(file) => {
@@ -79,6 +81,7 @@ impl<R: rt::Files> Files for RealFiles<R> {
 pub struct RealOut {
     stream: Stream,
     faults: u64,
+    last_failed: bool,
 }
 
 #[derive(Clone, Copy)]
@@ -88,37 +91,41 @@ enum Stream {
 }
 
 impl Model for RealOut {
-    ghost use Rattle.std.specs.Prelude.{ℕ};
+    ghost use Rattle.dcv_io.specs.RealCounts.{StreamCounts};
 
-    ghost Value = { ℕ };
+    ghost Value = { StreamCounts };
 
-    ghost view = { λ o. o.faults };
+    ghost view = { λ o. record { faults = o.faults; last_failed = o.last_failed } };
 }
 
 impl RealOut {
     /// The standard output, with no fault counted.
     pub fn output(stdout: Stdout) -> Self
-        ensures { result ≡ 0 }
+        ensures { result ≡ record { faults = 0; last_failed = false } }
     {
         RealOut {
             stream: Stream::Output(stdout),
             faults: 0,
+            last_failed: false,
         }
     }
 
     /// The standard error, with no fault counted.
     pub fn error(stderr: Stderr) -> Self
-        ensures { result ≡ 0 }
+        ensures { result ≡ record { faults = 0; last_failed = false } }
     {
         RealOut {
             stream: Stream::Error(stderr),
             faults: 0,
+            last_failed: false,
         }
     }
 }
 
 impl Sink for RealOut {
-    ghost faults = { λ count. count };
+    ghost faults = { λ o. o.faults };
+
+    ghost last_failed = { λ o. o.last_failed };
 
     ghost written = { λ _. None };
 
@@ -128,8 +135,12 @@ impl Sink for RealOut {
             Stream::Error(mut stderr) => stderr.write(bytes),
         };
         match taken {
-            Ok(count) if count > 0 || bytes.is_empty() => Ok(count),
+            Ok(count) if count > 0 || bytes.is_empty() => {
+                self.last_failed = false;
+                Ok(count)
+            }
             _ => {
+                self.last_failed = true;
                 raise(&mut self.faults);
                 Err(Failed)
             }

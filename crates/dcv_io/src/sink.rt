@@ -1,6 +1,6 @@
 // What bytes are written to.
-ghost use Rattle.std.specs.Prelude.{◌≡◌, ◌<◌, ◌≤◌, ℕ, List, Option, length, take, is_err, IfOk, OnErr};
-ghost use Rattle.dcv_io.specs.Faults.{RisesIf};
+ghost use Rattle.std.specs.Prelude.{◌≡◌, ◌<◌, ◌≤◌, ℕ, Bool, List, Option, length, take, is_err, IfOk, OnErr};
+ghost use Rattle.dcv_io.specs.Faults.{raised, RisesIf};
 ghost use Rattle.dcv_io.specs.Written.{Appends};
 
 use crate::Failed;
@@ -13,6 +13,9 @@ pub trait Sink {
     /// How many calls of `write` have failed, up to 2^64 - 1.
     ghost faults: { Self → ℕ };
 
+    /// Whether the last call of `write` has failed.
+    ghost last_failed: { Self → Bool };
+
     /// All the bytes written so far; None claims nothing.
     ghost written: { Self → Option (List ℕ) };
 
@@ -23,5 +26,7 @@ pub trait Sink {
         ensures taken { IfOk result (λ count.
             Appends (written self.old) (written self.new) (take count bytes.now)) }
         ensures stays { OnErr result (written self.new ≡ written self.old) }
-        ensures faults { RisesIf (is_err result) (faults self.old) (faults self.new) };
+        ensures faults { RisesIf (is_err result) (faults self.old) (faults self.new) }
+        ensures once { OnErr result (faults self.new ≡ raised (faults self.old)) }
+        ensures last { last_failed self.new ≡ is_err result };
 }
