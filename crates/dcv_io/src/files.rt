@@ -2,7 +2,7 @@
 ghost use Rattle.std.specs.Prelude.{◌≡◌, ◌<◌, ◌≤◌, ℕ, List, [], ◌∷◌, Option, length, take, drop, is_err, IfOk, OnOk, OnErr, OnSome};
 ghost use Rattle.dcv_io.specs.Asked.{Asks};
 ghost use Rattle.dcv_io.specs.Disk.{Disk, held_of, WhereTold, Opens, Closes, Gives, IsAtEnd};
-ghost use Rattle.dcv_io.specs.Faults.{RisesIf};
+ghost use Rattle.dcv_io.specs.Faults.{raised, RisesIf};
 
 use crate::Failed;
 
@@ -17,6 +17,9 @@ pub trait Files {
     /// How many calls of `read` have failed, up to 2^64 - 1.
     ghost read_faults: { Self → ℕ };
 
+    /// How many calls there have been, opens and reads together, up to 2^64 - 1.
+    ghost calls: { Self → ℕ };
+
     /// What is held and what is open; None claims nothing.
     ghost told: { Self → Option Disk };
 
@@ -30,6 +33,7 @@ pub trait Files {
         ensures closed { OnErr result (WhereTold Closes (told self.old) (told self.new)) }
         ensures held { held_of (told self.new) ≡ held_of (told self.old) }
         ensures asked { Asks (name.now ∷ []) (asked self.old) (asked self.new) }
+        ensures calls { calls self.new ≡ raised (calls self.old) }
         ensures open_faults { RisesIf (is_err result)
             (open_faults self.old) (open_faults self.new) }
         ensures read_faults { read_faults self.new ≡ read_faults self.old };
@@ -52,6 +56,7 @@ pub trait Files {
 
         ensures held { held_of (told self.new) ≡ held_of (told self.old) }
         ensures asked { asked self.new ≡ asked self.old }
+        ensures calls { calls self.new ≡ raised (calls self.old) }
         ensures read_faults { RisesIf (is_err result)
             (read_faults self.old) (read_faults self.new) }
         ensures open_faults { open_faults self.new ≡ open_faults self.old };

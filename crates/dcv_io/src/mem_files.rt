@@ -1,6 +1,6 @@
 // Files in memory.
 ghost use Rattle.std.specs.Prelude.{◌≡◌, ◌+◌, ◌^◌, ◌<◌, ◌≤◌, ℕ, All, [], ◌++◌, None, Some, is_err, length, take, drop, IfOk, OnOk, OnErr, IsNone, IsSomeAnd, MatchOption};
-ghost use Rattle.dcv_io.specs.Faults.{RisesIf};
+ghost use Rattle.dcv_io.specs.Faults.{raised, RisesIf};
 ghost use Rattle.dcv_io.specs.FilesState.{held_under, refuses_open, refuses_read, given_into, after_open, after_failed_open, after_read, after_failed_read, with_file};
 ghost use Rattle.dcv_io.specs.HeldFile.{pairs_of, bytes_at, IsWithin};
 
@@ -99,6 +99,8 @@ impl Files for MemFiles {
 
     ghost read_faults = { λ f. f.read_faults };
 
+    ghost calls = { λ f. f.plan.calls };
+
     ghost told = { λ f. Some (disk_of f) };
 
     ghost asked = { λ _. None };
@@ -136,6 +138,7 @@ impl Files for MemFiles {
         ensures end { IfOk result (λ count.
             count ≡ 0 → 0 < length buf.old → self.old.unread ≡ Some []) }
         ensures read_faults { RisesIf (is_err result) self.old.read_faults self.new.read_faults }
+        ensures calls { self.new.plan.calls ≡ raised self.old.plan.calls }
     {
         let fails = self.schedule.begin_call();
         match self.place {

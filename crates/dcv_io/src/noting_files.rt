@@ -63,6 +63,8 @@ impl<F: Files> Files for NotingFiles<F> {
 
     ghost read_faults = { λ n. F.read_faults n.files };
 
+    ghost calls = { λ n. F.calls n.files };
+
     ghost told = { λ n. F.told n.files };
 
     ghost asked = { λ n. n.asked };

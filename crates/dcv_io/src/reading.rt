@@ -46,6 +46,7 @@ pub fn read_all<F: Files>(
 
     // Whatever the outcome.
     ensures asked { Asks (name.now ∷ []) (F.asked files.old) (F.asked files.new) }
+    ensures calls { F.calls files.new ≤ F.calls files.old + limit + 2 }
     ensures at_most { WhereTold (ReadsAtMost name.now (limit + 1)) (F.told files.old) (F.told files.new) }
     ensures held { held_of (F.told files.new) ≡ held_of (F.told files.old) }
 {
@@ -60,6 +61,7 @@ fn open<F: Files>(files: &mut F, name: &str) -> Result<(), TakeFault>
     ensures closed { OnErr result (WhereTold Closes (F.told files.old) (F.told files.new)) }
     ensures fault { IsOkUnless result TakeFault.Open }
     ensures asked { Asks (name.now ∷ []) (F.asked files.old) (F.asked files.new) }
+    ensures calls { F.calls files.new ≤ F.calls files.old + 1 }
     ensures held { held_of (F.told files.new) ≡ held_of (F.told files.old) }
     ensures open_faults { RisesIf (is_err result)
         (F.open_faults files.old) (F.open_faults files.new) }
@@ -85,6 +87,7 @@ fn read_to_end<F: Files>(alloc: Global, files: &mut F, limit: u64) -> Result<Vec
     ensures at_most { GivesAtMost (limit + 1) (F.told files.old) (F.told files.new) }
     ensures not_open { IsFalse (is_open_fault result) }
     ensures asked { F.asked files.new ≡ F.asked files.old }
+    ensures calls { F.calls files.new ≤ F.calls files.old + limit + 1 }
     ensures held { held_of (F.told files.new) ≡ held_of (F.told files.old) }
     ensures open_faults { F.open_faults files.new ≡ F.open_faults files.old }
     ensures read_faults { RisesIf (is_read_fault result)
@@ -118,6 +121,7 @@ fn read_block<F: Files>(
         count ≡ 0 → 0 < length buffer.old → IsAtEnd (F.told files.new)) }
     ensures at_most { GivesAtMost (length buffer.old) (F.told files.old) (F.told files.new) }
     ensures asked { F.asked files.new ≡ F.asked files.old }
+    ensures calls { F.calls files.new ≤ F.calls files.old + 1 }
     ensures fault { IfErr result (λ fault. (fault ≡ TakeFault.Read) ⊎ (fault ≡ TakeFault.Memory)) }
     ensures held { held_of (F.told files.new) ≡ held_of (F.told files.old) }
     ensures open_faults { F.open_faults files.new ≡ F.open_faults files.old }

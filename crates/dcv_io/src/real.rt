@@ -17,6 +17,7 @@ pub struct RealFiles<R: rt::Files> {
     file: Option<R::File>,
     open_faults: u64,
     read_faults: u64,
+    calls: u64,
 }
 
 impl<R: rt::Files> Model for RealFiles<R> {
@@ -24,19 +25,20 @@ impl<R: rt::Files> Model for RealFiles<R> {
 
     ghost Value = { RealCounts };
 
-    ghost view = { λ f. record { open_faults = f.open_faults; read_faults = f.read_faults } };
+    ghost view = { λ f. record { open_faults = f.open_faults; read_faults = f.read_faults; calls = f.calls } };
 }
 
 impl<R: rt::Files> RealFiles<R> {
-    /// With no file open and no fault counted.
+    /// With no file open, no fault and no call.
     pub fn new(runtime: R) -> Self
-        ensures { result ≡ record { open_faults = 0; read_faults = 0 } }
+        ensures { result ≡ record { open_faults = 0; read_faults = 0; calls = 0 } }
     {
         RealFiles {
             runtime,
             file: None,
             open_faults: 0,
             read_faults: 0,
+            calls: 0,
         }
     }
 }
@@ -46,11 +48,14 @@ impl<R: rt::Files> Files for RealFiles<R> {
 
     ghost read_faults = { λ f. f.read_faults };
 
+    ghost calls = { λ f. f.calls };
+
     ghost told = { λ _. None };
 
     ghost asked = { λ _. None };
 
     fn open_file(&mut self, name: &str) -> Result<(), Failed> {
+        raise(&mut self.calls);
         match fs::open(&self.runtime, name) {
             Ok(file) => {
                 self.file = Some(file);
@@ -65,6 +70,7 @@ impl<R: rt::Files> Files for RealFiles<R> {
     }
 
     fn read(&mut self, buf: &mut [u8]) -> Result<usize, Failed> {
+        raise(&mut self.calls);
         if let Some(file) = &mut self.file
             && let Ok(count) = file.read(buf)
         {

@@ -11,6 +11,7 @@ invariant-loop-buffer g l =
       within : length l.bytes.items ≤ l.limit + 1;
       given : WhereTold (Gives l.bytes.items) (told l.fn.files) (told l.files);
       asked : g.F.Files.asked l.files ≡ g.F.Files.asked l.fn.files;
+      calls : g.F.Files.calls l.files ≤ g.F.Files.calls l.fn.files + length l.bytes.items;
       held : held_of (told l.files) ≡ held_of (told l.fn.files);
       open_faults : g.F.Files.open_faults l.files ≡ g.F.Files.open_faults l.fn.files;
       read_faults : g.F.Files.read_faults l.files ≡ g.F.Files.read_faults l.fn.files;
