@@ -1,5 +1,11 @@
 //! Where the bytes of a run come from and go to: traits for what is outside, calls that read a whole file and
-//! write a whole piece, two fakes in memory that tell everything, and the real files and streams.
+//! write a whole piece, two fakes in memory that tell what they hold, files that note the names that they were
+//! asked for, and the real files and streams.
+//!
+//! ```text
+//! let bytes = read_all(rt.alloc(), &mut RealFiles::new(&rt), "formula.txt", 262_144)?;
+//! write_all(&mut RealOut::output(rt.stdout()), &bytes)?;
+//! ```
 #![tactic(auto)]
 
 mod counts;

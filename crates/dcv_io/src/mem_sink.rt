@@ -99,6 +99,7 @@ impl Sink for MemSink {
             return Err(Failed);
         }
         let count = self.schedule.share(bytes.len().min(self.room));
+        // There is capacity for the room that is left, so this asks for no memory.
         self.bytes.extend_from_slice(&bytes[..count]).unwrap();
         self.room -= count;
         self.schedule.advance(count);

@@ -12,8 +12,8 @@ const BLOCK: usize = 4096;
 
 /// Reads all the bytes of the file of this name, if they are at most `limit`, which is in bytes.
 ///
-/// The file is opened once. One byte past the limit is read, to see that a file is longer, and no more. After an `Err`
-/// open a file before the next read.
+/// The file is opened once. Whatever the outcome, at most one byte past the limit is read, to see that a file is
+/// longer, in at most as many reads as bytes. After an `Err` open a file before the next read.
 pub fn read_all<F: Files>(
     alloc: Global,
     files: &mut F,
@@ -44,7 +44,7 @@ pub fn read_all<F: Files>(
     ensures read_faults { RisesIf (is_read_fault result)
         (F.read_faults files.old) (F.read_faults files.new) }
 
-    // Whatever the outcome.
+    // Whatever the outcome: one open, at most `limit + 1` reads, and at most as many bytes.
     ensures asked { Asks (name.now ∷ []) (F.asked files.old) (F.asked files.new) }
     ensures calls { F.calls files.new ≤ F.calls files.old + limit + 2 }
     ensures at_most { WhereTold (ReadsAtMost name.now (limit + 1)) (F.told files.old) (F.told files.new) }

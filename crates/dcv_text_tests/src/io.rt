@@ -2,7 +2,7 @@
 ghost use Rattle.std.specs.Prelude.{◌<◌, All};
 
 use dcv_io::{
-    Failed, Files, MemFiles, MemSink, NotingFiles, RealFiles, RealOut, Sink, TakeFault, read_all,
+    Failed, Files, MemFiles, MemSink, NotingFiles, RealFiles, RealOut, TakeFault, read_all,
     write_all,
 };
 use std::alloc::{AllocError, Global};
@@ -23,30 +23,25 @@ fn one_file(alloc: Global, sizes: &[usize], fails: &[u64]) -> Result<MemFiles, A
 #[test]
 fn a_file_is_read_to_its_end(rt: HostRuntime) -> Result<(), Fail> {
     let alloc = rt.alloc();
-    let pieces: [&[usize]; 4] = [&[], &[3, 1], &[8], &[1, 1, 1, 1, 1, 1, 1, 1, 1]];
-    for sizes in pieces {
-        for limit in [8, 9, 4_294_967_295] {
-            let mut files = one_file(alloc, sizes, &[])?;
-            let bytes = read_all(alloc, &mut files, "here", limit)?;
-            assert_eq!(rt; bytes.as_slice(), TEXT.as_bytes(), "with the limit {limit}");
-        }
-        for limit in [7, 1, 0] {
-            let mut files = one_file(alloc, sizes, &[])?;
-            let found = read_all(alloc, &mut files, "here", limit).err();
-            assert_eq!(rt; found, Some(TakeFault::TooLong { limit }));
+    let cases: [(&[usize], u64, Option<TakeFault>); 7] = [
+        (&[], 8, None),
+        (&[3, 1], 9, None),
+        (&[1, 1, 1, 1, 1, 1, 1, 1, 1], 8, None),
+        (&[5, 5], 4_294_967_295, None),
+        (&[5, 5], 7, Some(TakeFault::TooLong { limit: 7 })),
+        (&[1, 1, 1], 1, Some(TakeFault::TooLong { limit: 1 })),
+        (&[], 0, Some(TakeFault::TooLong { limit: 0 })),
+    ];
+    for (sizes, limit, fault) in cases {
+        let mut files = one_file(alloc, sizes, &[])?;
+        match read_all(alloc, &mut files, "here", limit) {
+            Ok(bytes) => {
+                assert_eq!(rt; fault, None, "with the limit {limit}");
+                assert_eq!(rt; bytes.as_slice(), TEXT.as_bytes(), "with the limit {limit}");
+            }
+            Err(found) => assert_eq!(rt; Some(found), fault, "with the limit {limit}"),
         }
     }
-    Ok(())
-}
-
-#[test]
-fn a_file_longer_than_a_block_is_read_whole(rt: HostRuntime) -> Result<(), Fail> {
-    let alloc = rt.alloc();
-    let long = [b'x'; 4097];
-    let mut files = MemFiles::new(alloc, &[], &[])?;
-    files.hold("long", &long)?;
-    let bytes = read_all(alloc, &mut files, "long", 4097)?;
-    assert_eq!(rt; bytes.as_slice(), long.as_slice());
     Ok(())
 }
 
@@ -68,18 +63,6 @@ fn each_call_that_fails_is_told(rt: HostRuntime) -> Result<(), Fail> {
         let found = read_all(alloc, &mut files, name, limit).err();
         assert_eq!(rt; found, fault, "at call {failing} with the limit {limit}");
     }
-    Ok(())
-}
-
-#[test]
-fn a_failed_open_leaves_no_file_open(rt: HostRuntime) -> Result<(), Fail> {
-    let mut files = one_file(rt.alloc(), &[], &[])?;
-    files.open_file("here")?;
-    let mut buffer = [b'.'; 3];
-    assert_eq!(rt; files.read(&mut buffer)?, 3);
-    assert_eq!(rt; buffer.as_slice(), b"eig".as_slice());
-    assert_eq!(rt; files.open_file("missing"), Err(Failed));
-    assert_eq!(rt; files.read(&mut buffer), Err(Failed));
     Ok(())
 }
 
@@ -116,16 +99,6 @@ fn a_piece_is_written_as_far_as_it_is_taken(rt: HostRuntime) -> Result<(), Fail>
         assert_eq!(rt; result.is_ok(), whole, "with room for {room}");
         assert_eq!(rt; sink.written(), written.as_bytes(), "with room for {room}");
     }
-    Ok(())
-}
-
-#[test]
-fn a_sink_goes_on_after_a_fault(rt: HostRuntime) -> Result<(), Fail> {
-    let mut sink = MemSink::new(rt.alloc(), 20, &[4], &[2])?;
-    assert_eq!(rt; write_all(&mut sink, b"eight by"), Err(Failed));
-    assert_eq!(rt; sink.write(b""), Ok(0));
-    assert_eq!(rt; write_all(&mut sink, b"teen"), Ok(()));
-    assert_eq!(rt; sink.written(), b"eighteen".as_slice());
     Ok(())
 }
 
