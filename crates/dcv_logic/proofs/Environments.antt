@@ -1,15 +1,18 @@
 -- What the environment of a scope has under a name.
-use Rattle.std.proofs.Common.{◌≡◌, ◌≢◌, ℕ, Bool, true, false, cond, List, [], ◌∷◌, ◌++◌, Option, Some, None, refl, ap, ◌∙◌}
+use Rattle.std.proofs.Common.{◌≡◌, ◌≢◌, ℕ, Bool, true, false, cond, List, [], ◌∷◌, ◌++◌, Option, Some, None, map, refl, ap, ◌∙◌}
 use Rattle.std.specs.Str.{bytes_eq}
 use Rattle.std.specs.List.{AllByRecursion}
 use Rattle.std.proofs.lemmas.Bool.{false_from_ne_true}
+use Rattle.std.proofs.lemmas.List.{map-append}
 use Rattle.std.proofs.lemmas.Slice.Eq.{bytes_eq-Decides}
 use Rattle.dcv_syntax.specs.declared.files.Macro.{Macro}
+use Rattle.dcv_syntax.specs.Plain.{PlainMacro}
+use Rattle.dcv_syntax.specs.Views.{plain_macro}
 use Rattle.dcv_logic.specs.declared.scopes.Binding.{Binding}
 use Rattle.dcv_logic.specs.declared.scopes.Scope.{Scope}
 use Rattle.dcv_logic.specs.Environment.{Environment, found}
 use Rattle.dcv_logic.specs.Models.{macro_meaning, with_macros}
-use Rattle.dcv_logic.specs.Scope.{tracks_of, outside, environment_of, IsNewest}
+use Rattle.dcv_logic.specs.Scope.{tracks_of, top_environment, environment_of, IsNewest}
 
 -- the first of two, where it is there
 abbrev pub or_else : {X : Type 0} → Option X → Option X → Option X
@@ -31,31 +34,31 @@ pub environment_of-tracks : (s : Scope) → (environment_of s).tracks ≡ tracks
 unfolding environment_of
 environment_of-tracks s = refl
 
-pub environment_of-macros : (s : Scope) → (environment_of s).macros ≡ (outside s.instants s.declared.now s.macros.now).macros
+pub environment_of-macros : (s : Scope) → (environment_of s).macros ≡ (top_environment s.instants s.declared.now s.macros.now).macros
 unfolding environment_of
 environment_of-macros s = refl
 
-with_macros-instants : (ms : List Macro) (env : Environment) → (with_macros env ms).instants ≡ env.instants
+with_macros-instants : (ms : List PlainMacro) (env : Environment) → (with_macros env ms).instants ≡ env.instants
 with_macros-instants [] env = refl
 with_macros-instants (m ∷ ms) env = with_macros-instants ms _
 
-with_macros-tracks : (ms : List Macro) (env : Environment) → (with_macros env ms).tracks ≡ env.tracks
+with_macros-tracks : (ms : List PlainMacro) (env : Environment) → (with_macros env ms).tracks ≡ env.tracks
 with_macros-tracks [] env = refl
 with_macros-tracks (m ∷ ms) env = with_macros-tracks ms _
 
-with_macros-append : (ms ns : List Macro) (env : Environment) → with_macros env (ms ++ ns) ≡ with_macros (with_macros env ms) ns
+with_macros-append : (ms ns : List PlainMacro) (env : Environment) → with_macros env (ms ++ ns) ≡ with_macros (with_macros env ms) ns
 with_macros-append [] ns env = refl
 with_macros-append (m ∷ ms) ns env = with_macros-append ms ns _
 
-pub outside-instants : (n : ℕ) (declared : List Binding) (ms : List Macro) → (outside n declared ms).instants ≡ n
-outside-instants n declared ms = with_macros-instants ms _
+pub top_environment-instants : (n : ℕ) (declared : List Binding) (ms : List Macro) → (top_environment n declared ms).instants ≡ n
+top_environment-instants n declared ms = with_macros-instants (map plain_macro ms) _
 
-pub outside-tracks : (n : ℕ) (declared : List Binding) (ms : List Macro) → (outside n declared ms).tracks ≡ tracks_of declared
-outside-tracks n declared ms = with_macros-tracks ms _
+pub top_environment-tracks : (n : ℕ) (declared : List Binding) (ms : List Macro) → (top_environment n declared ms).tracks ≡ tracks_of declared
+top_environment-tracks n declared ms = with_macros-tracks (map plain_macro ms) _
 
 pub environment_of-instants : (s : Scope) → (environment_of s).instants ≡ s.instants
 unfolding environment_of
-environment_of-instants s = outside-instants s.instants s.declared.now s.macros.now
+environment_of-instants s = top_environment-instants s.instants s.declared.now s.macros.now
 
 -- a name is found only where it is the same
 same_name : (xs ys : List ℕ) → xs ≡ ys → bytes_eq xs ys ≡ true
@@ -65,24 +68,28 @@ other_name : (xs ys : List ℕ) → xs ≢ ys → bytes_eq xs ys ≡ false
 other_name xs ys ne = false_from_ne_true (bytes_eq xs ys) (λ e. ne ((bytes_eq-Decides xs ys).0 e))
 
 -- macros of other names change nothing
-passed_over : (ms : List Macro) (env : Environment) (name : List ℕ) → AllByRecursion (λ (m : Macro). m.name.text ≢ name) ms → found (with_macros env ms).macros name ≡ found env.macros name
+passed_over : (ms : List Macro) (env : Environment) (name : List ℕ) → AllByRecursion (λ (m : Macro). m.name.text ≢ name) ms →
+    found (with_macros env (map plain_macro ms)).macros name ≡ found env.macros name
 passed_over [] env name others = refl
 passed_over (m ∷ ms) env name others =
     passed_over ms _ name others.1
-    ∙ ap (λ b. cond b (Some (macro_meaning env m)) (found env.macros name)) (other_name m.name.text name others.0)
+    ∙ ap (λ b. cond b (Some (macro_meaning env (plain_macro m))) (found env.macros name)) (other_name m.name.text name others.0)
 
 pub found_newest : (n : ℕ) (declared : List Binding) (macros : List Macro) (name : List ℕ) (last : Macro) (earlier : List Macro) → IsNewest macros name last earlier →
-    found (outside n declared macros).macros name ≡ Some (macro_meaning (outside n declared earlier) last)
+    found (top_environment n declared macros).macros name ≡ Some (macro_meaning (top_environment n declared earlier) (plain_macro last))
 found_newest n declared macros name last earlier newest =
-    let base = outside n declared [] in
+    let base = top_environment n declared [] in
     let after = newest.later.0 in
-    ap (λ ms. found (with_macros base ms).macros name) newest.later.1
-    ∙ ap (λ (env : Environment). found env.macros name) (with_macros-append earlier (last ∷ after) base)
+    let before = top_environment n declared earlier in
+    let meaning = Some (macro_meaning before (plain_macro last)) in
+    ap (λ (ms : List Macro). found (with_macros base (map plain_macro ms)).macros name) newest.later.1
+    ∙ ap (λ (ms : List PlainMacro). found (with_macros base ms).macros name) (map-append plain_macro earlier (last ∷ after))
+    ∙ ap (λ (env : Environment). found env.macros name) (with_macros-append (map plain_macro earlier) (map plain_macro (last ∷ after)) base)
     ∙ passed_over after _ name newest.later.2
-    ∙ ap (λ b. cond b (Some (macro_meaning (outside n declared earlier) last)) (found (outside n declared earlier).macros name)) (same_name last.name.text name newest.name)
+    ∙ ap (λ b. cond b meaning (found before.macros name)) (same_name last.name.text name newest.name)
 
 pub found_none : (n : ℕ) (declared : List Binding) (macros : List Macro) (name : List ℕ) → AllByRecursion (λ (m : Macro). m.name.text ≢ name) macros →
-    found (outside n declared macros).macros name ≡ None
+    found (top_environment n declared macros).macros name ≡ None
 found_none n declared macros name others = passed_over macros _ name others
 
 pub ruleset environments = (environment_of-instants, environment_of-tracks)

@@ -1,14 +1,12 @@
 -- Satisfaction of a formula on an interval of instants, from b to e, both in it: a clause for each form.
-use Rattle.std.specs.Prelude.{ℕ, zero, suc, ◌+◌, ◌-◌, Bool, true, false, ◌&&◌, ◌||◌, not, ◌==◌, nat_lt, nat_le, List, map, Option, Some, None}
-use Rattle.dcv_syntax.specs.declared.propositions.Prop.{Prop}
-use Rattle.dcv_syntax.specs.declared.formulas.FormulaKind.{FormulaKind, Constant, Pt, Ext, Point, Run, Every, Unit as TwoInstants, Slen, Scount, Sdur, Call, Not', And', Or', Implies', Iff', Chop', Star', Somewhere', Everywhere', Exists', ForAll'}
-use Rattle.dcv_syntax.specs.declared.formulas.FormulaKind.TheBlock.{Row_of-FormulaOperand, end_of-FormulaOperand, more_of-FormulaOperand}
+use Rattle.std.specs.Prelude.{ℕ, zero, suc, ◌+◌, ◌-◌, Bool, true, false, ◌&&◌, ◌||◌, not, ◌==◌, nat_lt, nat_le, List, Option, Some, None}
+use Rattle.dcv_syntax.specs.Plain.{PlainFormulaKind, FormulaConstant, FormulaPt, FormulaExt, FormulaPoint, FormulaRun, FormulaEvery, FormulaUnit, FormulaSlen, FormulaScount, FormulaSdur, FormulaCall, FormulaNot, FormulaAnd, FormulaOr, FormulaImplies, FormulaIff, FormulaChop, FormulaStar, FormulaSomewhere, FormulaEverywhere, FormulaExists, FormulaForAll, PlainFormulaOperands, no_formula_operands, formula_operand, arguments_of}
 use Rattle.dcv_syntax.specs.declared.formulas.Relation.{Relation}
 use Rattle.dcv_syntax.specs.declared.formulas.Relation.TheVariants.{Equal, Less, AtMost, Greater, AtLeast}
-use Rattle.dcv_logic.specs.Track.{Track, track_of}
+use Rattle.dcv_logic.specs.Track.{Track}
 use Rattle.dcv_logic.specs.Search.{some_between, each_between, count_from, count_between, some_track}
 use Rattle.dcv_logic.specs.Environment.{Environment, Meaning, PropMeaning, FormulaMeaning, found, bind}
-use Rattle.dcv_logic.specs.Value.{value, iff}
+use Rattle.dcv_logic.specs.Value.{value, argument_tracks, iff}
 
 -- a number stands in the relation to another
 abbrev pub compares : Relation → ℕ → ℕ → Bool
@@ -34,49 +32,71 @@ abbrev pub somewhere : (ℕ → ℕ → Bool) → ℕ → ℕ → Bool
 somewhere d b e = some_between b e (λ x. some_between x e (λ y. d x y))
 
 abbrev mutual
-  pub satisfies : Environment → FormulaKind → ℕ → ℕ → Bool
-  satisfies env (Constant truth) b e = truth
-  satisfies env Pt b e = b == e
-  satisfies env Ext b e = nat_lt b e
-  satisfies env (Point p) b e = b == e && value env p.kind b
-  satisfies env (Run p) b e = nat_lt b e && each_between b (e - 1) (value env p.kind)
-  satisfies env (Every p) b e = each_between b e (value env p.kind)
-  satisfies env (TwoInstants p) b e = e == b + 1 && value env p.kind b
-  satisfies env (Slen relation n) b e = compares relation (e - b) n.value
-  satisfies env (Scount p relation n) b e = compares relation (count_between b e (value env p.kind)) n.value
-  satisfies env (Sdur p relation n) b e = compares relation (count_from b (e - b) (value env p.kind)) n.value
-  satisfies env (Call name arguments) b e =
-      macro_holds (found env.macros name.text) (map (λ (p : Prop). track_of env.instants (value env p.kind)) arguments.items) b e
-  satisfies env (Not' pointer d span) b e = not (satisfies env d b e)
-  satisfies env (And' shape operands) b e = all_hold env operands b e
-  satisfies env (Or' shape operands) b e = some_hold env operands b e
-  satisfies env (Implies' c_pointer c c_span d_pointer d d_span) b e = not (satisfies env c b e) || satisfies env d b e
-  satisfies env (Iff' shape operands) b e = iff_holds env true operands b e
-  satisfies env (Chop' shape operands) b e = chop_holds env operands b e
-  satisfies env (Star' pointer d span) b e = star (satisfies env d) (e - b) b e
-  satisfies env (Somewhere' pointer d span) b e = somewhere (satisfies env d) b e
-  satisfies env (Everywhere' pointer d span) b e = not (somewhere (λ x y. not (satisfies env d x y)) b e)
-  satisfies env (Exists' name pointer d span) b e =
+  pub satisfies : Environment → PlainFormulaKind → ℕ → ℕ → Bool
+  -- true, false
+  satisfies env (FormulaConstant truth) b e = truth
+  -- pt
+  satisfies env FormulaPt b e = b == e
+  -- ext
+  satisfies env FormulaExt b e = nat_lt b e
+  -- <P>
+  satisfies env (FormulaPoint p) b e = b == e && value env p.kind b
+  -- [P]
+  satisfies env (FormulaRun p) b e = nat_lt b e && each_between b (e - 1) (value env p.kind)
+  -- [[P]]
+  satisfies env (FormulaEvery p) b e = each_between b e (value env p.kind)
+  -- {{P}}
+  satisfies env (FormulaUnit p) b e = e == b + 1 && value env p.kind b
+  -- slen R n
+  satisfies env (FormulaSlen relation n) b e = compares relation (e - b) n.value
+  -- scount P R n
+  satisfies env (FormulaScount p relation n) b e = compares relation (count_between b e (value env p.kind)) n.value
+  -- sdur P R n
+  satisfies env (FormulaSdur p relation n) b e = compares relation (count_from b (e - b) (value env p.kind)) n.value
+  -- f(P, Q, ..)
+  satisfies env (FormulaCall name arguments) b e =
+      macro_holds (found env.macros name.text) (argument_tracks env (arguments_of arguments)) b e
+  -- !D
+  satisfies env (FormulaNot d span) b e = not (satisfies env d b e)
+  -- D && E && ..
+  satisfies env (FormulaAnd operands) b e = all_hold env operands b e
+  -- D || E || ..
+  satisfies env (FormulaOr operands) b e = some_hold env operands b e
+  -- C => D
+  satisfies env (FormulaImplies c c_span d d_span) b e = not (satisfies env c b e) || satisfies env d b e
+  -- D <=> E <=> ..
+  satisfies env (FormulaIff operands) b e = iff_holds env true operands b e
+  -- D ^ E ^ ..
+  satisfies env (FormulaChop operands) b e = chop_holds env operands b e
+  -- D*
+  satisfies env (FormulaStar d span) b e = star (satisfies env d) (e - b) b e
+  -- <>D
+  satisfies env (FormulaSomewhere d span) b e = somewhere (satisfies env d) b e
+  -- []D
+  satisfies env (FormulaEverywhere d span) b e = not (somewhere (λ x y. not (satisfies env d x y)) b e)
+  -- ex p. D
+  satisfies env (FormulaExists name d span) b e =
       some_track env.instants (λ track. satisfies (bind env name.text track) d b e)
-  satisfies env (ForAll' name pointer d span) b e =
+  -- all p. D
+  satisfies env (FormulaForAll name d span) b e =
       not (some_track env.instants (λ track. not (satisfies (bind env name.text track) d b e)))
 
-  pub all_hold : Environment → {m : _} → Row_of-FormulaOperand m → ℕ → ℕ → Bool
-  all_hold env end_of-FormulaOperand b e = true
-  all_hold env (more_of-FormulaOperand d span outer operands) b e = satisfies env d b e && all_hold env operands b e
+  pub all_hold : Environment → PlainFormulaOperands → ℕ → ℕ → Bool
+  all_hold env no_formula_operands b e = true
+  all_hold env (formula_operand d span outer operands) b e = satisfies env d b e && all_hold env operands b e
 
-  pub some_hold : Environment → {m : _} → Row_of-FormulaOperand m → ℕ → ℕ → Bool
-  some_hold env end_of-FormulaOperand b e = false
-  some_hold env (more_of-FormulaOperand d span outer operands) b e = satisfies env d b e || some_hold env operands b e
+  pub some_hold : Environment → PlainFormulaOperands → ℕ → ℕ → Bool
+  some_hold env no_formula_operands b e = false
+  some_hold env (formula_operand d span outer operands) b e = satisfies env d b e || some_hold env operands b e
 
   -- from the left: each operand is joined to the iff of those before it
-  pub iff_holds : Environment → Bool → {m : _} → Row_of-FormulaOperand m → ℕ → ℕ → Bool
-  iff_holds env so_far end_of-FormulaOperand b e = so_far
-  iff_holds env so_far (more_of-FormulaOperand d span outer operands) b e =
+  pub iff_holds : Environment → Bool → PlainFormulaOperands → ℕ → ℕ → Bool
+  iff_holds env so_far no_formula_operands b e = so_far
+  iff_holds env so_far (formula_operand d span outer operands) b e =
       iff_holds env (iff so_far (satisfies env d b e)) operands b e
 
   -- some instant m ends the first operand's part and begins the rest's; no operands have one instant, as `pt` does
-  pub chop_holds : Environment → {m : _} → Row_of-FormulaOperand m → ℕ → ℕ → Bool
-  chop_holds env end_of-FormulaOperand b e = b == e
-  chop_holds env (more_of-FormulaOperand d span outer operands) b e =
+  pub chop_holds : Environment → PlainFormulaOperands → ℕ → ℕ → Bool
+  chop_holds env no_formula_operands b e = b == e
+  chop_holds env (formula_operand d span outer operands) b e =
       some_between b e (λ m. satisfies env d b m && chop_holds env operands m e)

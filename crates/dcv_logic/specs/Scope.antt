@@ -4,6 +4,7 @@ use Rattle.std.specs.List.{AllByRecursion}
 use Rattle.dcv_syntax.specs.declared.files.Macro.{Macro}
 use Rattle.dcv_syntax.specs.declared.propositions.Prop.{Prop}
 use Rattle.dcv_syntax.specs.declared.formulas.FormulaOperand.{FormulaOperand}
+use Rattle.dcv_syntax.specs.Views.{plain_prop_kind, plain_formula_kind, plain_macro}
 use Rattle.dcv_logic.specs.declared.scopes.Binding.{Binding}
 use Rattle.dcv_logic.specs.declared.scopes.Scope.{Scope}
 use Rattle.dcv_logic.specs.Track.{Track, track_of}
@@ -17,15 +18,15 @@ use Rattle.dcv_logic.specs.Models.{with_macros}
 abbrev pub tracks_of : List Binding → List (List ℕ × Track)
 tracks_of = map (λ (b : Binding). (b.name, b.track.items))
 
--- the environment of the declared variables and these macros
-abbrev pub outside : ℕ → List Binding → List Macro → Environment
-outside instants declared macros =
-    with_macros (record { instants = instants; tracks = tracks_of declared; macros = [] }) macros
+-- the environment of the declared variables and these macros alone, with no parameter and no quantified name
+abbrev pub top_environment : ℕ → List Binding → List Macro → Environment
+top_environment instants declared macros =
+    with_macros (record { instants = instants; tracks = tracks_of declared; macros = [] }) (map plain_macro macros)
 
 -- the environment that a scope stands for
 unfoldable pub environment_of : Scope → Environment
 environment_of scope =
-    record (outside scope.instants scope.declared.now scope.macros.now) {
+    record (top_environment scope.instants scope.declared.now scope.macros.now) {
       tracks = tracks_of scope.locals.items ++ tracks_of scope.declared.now;
     }
 
@@ -37,10 +38,10 @@ pub record IsNewest (macros : List Macro) (sought : List ℕ) (last : Macro) (ea
 
 -- the tracks of a macro's arguments
 abbrev pub argument_tracks_of : Environment → List Prop → List Track
-argument_tracks_of env = map (λ (p : Prop). track_of env.instants (value env p.kind))
+argument_tracks_of env = map (λ (p : Prop). track_of env.instants (value env (plain_prop_kind p.kind)))
 
 -- a chop of these operands
 abbrev pub chop_of : Environment → List FormulaOperand → ℕ → ℕ → Bool
 chop_of env [] b e = b == e
 chop_of env (operand ∷ operands) b e =
-    some_between b e (λ m. satisfies env operand.formula.kind b m && chop_of env operands m e)
+    some_between b e (λ m. satisfies env (plain_formula_kind operand.formula.kind) b m && chop_of env operands m e)

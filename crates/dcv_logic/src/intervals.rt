@@ -1,6 +1,7 @@
 // Satisfaction of a formula on an interval, a function for each clause of its definition.
 ghost use Rattle.std.specs.Prelude.{◌≡◌, ◌-◌, ◌<◌, ◌≤◌, true, IfOk};
 ghost use Rattle.std.specs.List.{list_all, list_any, fold};
+ghost use Rattle.dcv_syntax.specs.Views.{plain_formula_kind};
 ghost use Rattle.dcv_logic.specs.Search.{some_between, some_track};
 ghost use Rattle.dcv_logic.specs.Environment.{found, bind};
 ghost use Rattle.dcv_logic.specs.Value.{iff};
@@ -26,7 +27,7 @@ impl Scope<'_> {
         requires ordered { begin ≤ end }
         requires within { end < self.now.instants }
         ensures { IfOk result (λ truth.
-            truth ≡ satisfies (environment_of self.now) formula.now.kind begin end) }
+            truth ≡ satisfies (environment_of self.now) (plain_formula_kind formula.now.kind) begin end) }
     {
         match &formula.kind {
             FormulaKind::Constant(truth) => Ok(*truth),
@@ -97,7 +98,7 @@ impl Scope<'_> {
         requires ordered { begin ≤ end }
         requires within { end < self.now.instants }
         ensures { IfOk result (λ truth. truth ≡ (let env = environment_of self.now in
-            list_all (λ (o : FormulaOperand). satisfies env o.formula.kind begin end) operands.now)) }
+            list_all (λ (o : FormulaOperand). satisfies env (plain_formula_kind o.formula.kind) begin end) operands.now)) }
     {
         for operand in operands {
             if !self.satisfies(&operand.formula, begin, end)? {
@@ -117,7 +118,7 @@ impl Scope<'_> {
         requires ordered { begin ≤ end }
         requires within { end < self.now.instants }
         ensures { IfOk result (λ truth. truth ≡ (let env = environment_of self.now in
-            list_any (λ (o : FormulaOperand). satisfies env o.formula.kind begin end) operands.now)) }
+            list_any (λ (o : FormulaOperand). satisfies env (plain_formula_kind o.formula.kind) begin end) operands.now)) }
     {
         for operand in operands {
             if self.satisfies(&operand.formula, begin, end)? {
@@ -138,7 +139,7 @@ impl Scope<'_> {
         requires ordered { begin ≤ end }
         requires within { end < self.now.instants }
         ensures { IfOk result (λ truth. truth ≡ (let env = environment_of self.now in fold
-            (λ so_far (o : FormulaOperand). iff so_far (satisfies env o.formula.kind begin end))
+            (λ so_far (o : FormulaOperand). iff so_far (satisfies env (plain_formula_kind o.formula.kind) begin end))
             true operands.now)) }
     {
         let mut so_far = true;
@@ -180,7 +181,7 @@ impl Scope<'_> {
         requires ordered { begin ≤ end }
         requires within { end < self.now.instants }
         ensures { IfOk result (λ truth. truth
-            ≡ star (satisfies (environment_of self.now) body.now.kind) (end - begin) begin end) }
+            ≡ star (satisfies (environment_of self.now) (plain_formula_kind body.now.kind)) (end - begin) begin end) }
     {
         if begin == end {
             return Ok(true);
@@ -205,7 +206,7 @@ impl Scope<'_> {
         requires ordered { begin ≤ end }
         requires within { end < self.now.instants }
         ensures { IfOk result (λ found. found ≡ (let env = environment_of self.now in
-            somewhere (λ x y. iff truth (satisfies env body.now.kind x y)) begin end)) }
+            somewhere (λ x y. iff truth (satisfies env (plain_formula_kind body.now.kind) x y)) begin end)) }
     {
         for first in begin..=end {
             if self.somewhere_from(body, truth, first, end)? {
@@ -227,7 +228,7 @@ impl Scope<'_> {
         requires ordered { first ≤ end }
         requires within { end < self.now.instants }
         ensures { IfOk result (λ found. found ≡ (let env = environment_of self.now in
-            some_between first end (λ y. iff truth (satisfies env body.now.kind first y)))) }
+            some_between first end (λ y. iff truth (satisfies env (plain_formula_kind body.now.kind) first y)))) }
     {
         for last in first..=end {
             if self.satisfies(body, first, last)? == truth {
@@ -251,7 +252,7 @@ impl Scope<'_> {
         requires within { end < self.now.instants }
         ensures { IfOk result (λ found. found ≡ (let env = environment_of self.now in
             some_track env.instants (λ track.
-            iff truth (satisfies (bind env name.now.text track) body.now.kind begin end)))) }
+            iff truth (satisfies (bind env name.now.text track) (plain_formula_kind body.now.kind) begin end)))) }
     {
         for track in &all_tracks(self.alloc, self.instants)? {
             if self.bind(&name.text, track)?.satisfies(body, begin, end)? == truth {

@@ -1,5 +1,6 @@
 // Whether a word models a file.
 ghost use Rattle.std.specs.Prelude.{◌≡◌, IfOk};
+ghost use Rattle.dcv_syntax.specs.Views.{plain_file};
 ghost use Rattle.dcv_logic.specs.Track.{slot_track, truth_at};
 ghost use Rattle.dcv_logic.specs.Models.{models, declared_from};
 ghost use Rattle.dcv_logic.specs.Scope.{tracks_of};
@@ -12,7 +13,7 @@ use std::alloc::{AllocError, Global};
 /// Whether the goal of the file holds on the whole of the word. The variables of the word stand for those that the
 /// file declares, slot by slot, and a variable that has no slot is false throughout. The empty word is no behaviour.
 pub fn holds(alloc: Global, file: &File, word: &Word) -> Result<bool, AllocError>
-    ensures { IfOk result (λ truth. truth ≡ models file.now word.now.letters) }
+    ensures { IfOk result (λ truth. truth ≡ models (plain_file file.now) word.now.letters) }
 {
     let letters = word.letters();
     if letters.is_empty() {

@@ -1,5 +1,6 @@
 // Searches and counts over the instants of an interval.
 ghost use Rattle.std.specs.Prelude.{◌≡◌, ◌+◌, ◌-◌, ◌^◌, ◌<◌, IfOk};
+ghost use Rattle.dcv_syntax.specs.Views.{plain_prop_kind};
 ghost use Rattle.dcv_logic.specs.Search.{each_between, count_from};
 ghost use Rattle.dcv_logic.specs.Value.{value};
 ghost use Rattle.dcv_logic.specs.Satisfaction.{compares};
@@ -33,7 +34,7 @@ impl Scope<'_> {
     ) -> Result<bool, AllocError>
         requires { last + 1 < 2 ^ 64 }
         ensures { IfOk result (λ truth. truth
-            ≡ each_between first last (value (environment_of self.now) prop.now.kind)) }
+            ≡ each_between first last (value (environment_of self.now) (plain_prop_kind prop.now.kind))) }
     {
         for instant in first..=last {
             if !self.value(prop, instant)? {
@@ -46,7 +47,7 @@ impl Scope<'_> {
     /// How many instants from the first on, and before the end, have the proposition.
     pub(crate) fn count(&self, prop: &Prop, first: usize, end: usize) -> Result<usize, AllocError>
         ensures { IfOk result (λ n. n
-            ≡ count_from first (end - first) (value (environment_of self.now) prop.now.kind)) }
+            ≡ count_from first (end - first) (value (environment_of self.now) (plain_prop_kind prop.now.kind))) }
     {
         let mut count = 0;
         for instant in first..end {

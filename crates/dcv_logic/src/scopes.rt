@@ -1,9 +1,10 @@
 // What a judgement can see: variables with their tracks, and macros.
 ghost use Rattle.std.specs.Prelude.{◌≡◌, ◌≢◌, map, IfOk, IfSome, MatchOption, option_copied};
 ghost use Rattle.std.specs.List.{AllByRecursion};
+ghost use Rattle.dcv_syntax.specs.Views.{plain_macro};
 ghost use Rattle.dcv_logic.specs.Environment.{found, bind, bind_all};
 ghost use Rattle.dcv_logic.specs.Models.{macro_meaning};
-ghost use Rattle.dcv_logic.specs.Scope.{tracks_of, outside, environment_of, IsNewest};
+ghost use Rattle.dcv_logic.specs.Scope.{tracks_of, top_environment, environment_of, IsNewest};
 
 use dcv_syntax::{Macro, Name, Text};
 use std::alloc::{AllocError, Global};
@@ -82,7 +83,7 @@ impl<'a> Scope<'a> {
         ensures meaning { MatchOption result
             (found (environment_of self.now).macros name.now ≡ None)
             (λ called. found (environment_of self.now).macros name.now ≡ Some (macro_meaning
-            (outside self.now.instants self.now.declared.now called.1.now) called.0.now)) }
+            (top_environment self.now.instants self.now.declared.now called.1.now) (plain_macro called.0.now))) }
         ensures newest { IfSome result (λ called.
             IsNewest self.now.macros.now name.now called.0.now called.1.now) }
     {
@@ -113,7 +114,7 @@ impl<'a> Scope<'a> {
         arguments: &[Vec<bool>],
     ) -> Result<Scope<'a>, AllocError>
         ensures environment { IfOk result (λ body. environment_of body
-            ≡ bind_all (outside self.now.instants self.now.declared.now earlier.now)
+            ≡ bind_all (top_environment self.now.instants self.now.declared.now earlier.now)
             (map (λ p. p.text) parameters.now) (map (λ a. a.items) arguments.now)) }
         ensures instants { IfOk result (λ body. body.instants ≡ self.now.instants) }
         ensures macros { IfOk result (λ body. body.macros.now ≡ earlier.now) }

@@ -1,6 +1,7 @@
 // The value of a proposition at an instant, a function for each clause of its definition.
 ghost use Rattle.std.specs.Prelude.{◌≡◌, true, map, IfOk};
 ghost use Rattle.std.specs.List.{list_all, list_any, fold};
+ghost use Rattle.dcv_syntax.specs.Views.{plain_prop_kind};
 ghost use Rattle.dcv_logic.specs.Track.{truth_at, track_of};
 ghost use Rattle.dcv_logic.specs.Environment.{found};
 ghost use Rattle.dcv_logic.specs.Value.{value, call_value, iff};
@@ -23,7 +24,7 @@ impl Scope<'_> {
     #[tactic(auto, using(crate::proofs::Rows::rows))]
     pub(crate) fn value(&self, prop: &Prop, instant: usize) -> Result<bool, AllocError>
         ensures { IfOk result (λ truth.
-            truth ≡ value (environment_of self.now) prop.now.kind instant) }
+            truth ≡ value (environment_of self.now) (plain_prop_kind prop.now.kind) instant) }
     {
         match &prop.kind {
             PropKind::Constant(truth) => Ok(*truth),
@@ -83,7 +84,7 @@ impl Scope<'_> {
     #[cycle(value)]
     fn track_of(&self, prop: &Prop) -> Result<Vec<bool>, AllocError>
         ensures { IfOk result (λ track. track.items ≡ (let env = environment_of self.now in
-            track_of env.instants (value env prop.now.kind))) }
+            track_of env.instants (value env (plain_prop_kind prop.now.kind)))) }
     {
         let mut track = Vec::new(self.alloc);
         for instant in 0..self.instants {
@@ -95,7 +96,7 @@ impl Scope<'_> {
     #[cycle(value)]
     fn all_true(&self, operands: &[PropOperand], instant: usize) -> Result<bool, AllocError>
         ensures { IfOk result (λ truth. truth ≡ (let env = environment_of self.now in
-            list_all (λ (o : PropOperand). value env o.prop.kind instant) operands.now)) }
+            list_all (λ (o : PropOperand). value env (plain_prop_kind o.prop.kind) instant) operands.now)) }
     {
         for operand in operands {
             if !self.value(&operand.prop, instant)? {
@@ -108,7 +109,7 @@ impl Scope<'_> {
     #[cycle(value)]
     fn some_true(&self, operands: &[PropOperand], instant: usize) -> Result<bool, AllocError>
         ensures { IfOk result (λ truth. truth ≡ (let env = environment_of self.now in
-            list_any (λ (o : PropOperand). value env o.prop.kind instant) operands.now)) }
+            list_any (λ (o : PropOperand). value env (plain_prop_kind o.prop.kind) instant) operands.now)) }
     {
         for operand in operands {
             if self.value(&operand.prop, instant)? {
@@ -122,7 +123,7 @@ impl Scope<'_> {
     #[cycle(value)]
     fn iff_all(&self, operands: &[PropOperand], instant: usize) -> Result<bool, AllocError>
         ensures { IfOk result (λ truth. truth ≡ (let env = environment_of self.now in fold
-            (λ so_far (o : PropOperand). iff so_far (value env o.prop.kind instant))
+            (λ so_far (o : PropOperand). iff so_far (value env (plain_prop_kind o.prop.kind) instant))
             true operands.now)) }
     {
         let mut so_far = true;

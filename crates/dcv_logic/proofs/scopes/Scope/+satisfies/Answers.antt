@@ -8,13 +8,14 @@ use Rattle.dcv_syntax.specs.declared.names.Name.{Name}
 use Rattle.dcv_syntax.specs.declared.formulas.Formula.{Formula}
 use Rattle.dcv_syntax.specs.declared.formulas.FormulaOperand.{FormulaOperand}
 use Rattle.dcv_logic.specs.declared.scopes.Scope.{Scope}
+use Rattle.dcv_syntax.specs.Views.{plain_formula_kind, plain_body}
 use Rattle.dcv_logic.specs.Track.{Track}
 use Rattle.dcv_logic.specs.Search.{some_between, some_track}
 use Rattle.dcv_logic.specs.Environment.{Environment, found, bind, bind_all}
 use Rattle.dcv_logic.specs.Value.{iff}
 use Rattle.dcv_logic.specs.Satisfaction.{satisfies, macro_holds, star, somewhere}
 use Rattle.dcv_logic.specs.Models.{body_meaning}
-use Rattle.dcv_logic.specs.Scope.{environment_of, outside, argument_tracks_of, chop_of}
+use Rattle.dcv_logic.specs.Scope.{environment_of, top_environment, argument_tracks_of, chop_of}
 use Rattle.dcv_logic.proofs.Environments.{environment_of-instants}
 use Rattle.dcv_logic.proofs.Measures.{work, list_work, work_at, body_work, all_bodies, left_after_call}
 use Rattle.dcv_logic.proofs.Searches.{some_from-on, some_from-here, some_from-last, star-step, list_any-map}
@@ -45,7 +46,7 @@ iff_holds-satisfies-requires t c =
 pub chop_holds-loop-middle-preserved : goal.chop_holds-loop-middle-preserved
 chop_holds-loop-middle-preserved t c =
     let env = environment_of c.args.self.now in
-    let cut : ℕ → Bool = λ m. satisfies env c.in-Some.first.now.formula.kind c.args.begin m && chop_of env c.in-Some.rest.now m c.args.end in
+    let cut : ℕ → Bool = λ m. satisfies env (plain_formula_kind c.in-Some.first.now.formula.kind) c.args.begin m && chop_of env c.in-Some.rest.now m c.args.end in
     let fails : cut c.loop-middle.middle ≡ false = elim c.else-branch.branch [
       | chop_holds-else-branch-via-then-branch+in_ok-chop_holds+else-branch-2 w ↦ grind (arith, common_steps)
       | chop_holds-else-branch-via-else-branch w ↦ grind (arith, common_steps)
@@ -69,7 +70,7 @@ pub macro_holds-returns-in_ok-inside-in-Formula : goal.macro_holds-returns-in_ok
 macro_holds-returns-in_ok-inside-in-Formula t c =
     let self = c.args.self.now in
     let env = environment_of self in
-    let around = outside self.instants self.declared.now c.in-Some.earlier.now in
+    let around = top_environment self.instants self.declared.now c.in-Some.earlier.now in
     let body = c.in-Formula.body in
     let b = c.args.begin in
     let e = c.args.end in
@@ -77,12 +78,12 @@ macro_holds-returns-in_ok-inside-in-Formula t c =
     let items : Vec Bool Global → Track = λ a. a.items in
     let tracks : List Track = argument_tracks_of env c.args.arguments.now in
     let parameters = map text c.in-Some.called.now.parameters.items in
-    let same : satisfies (environment_of c.in_ok-inside-in-Formula.field-0) body.kind b e ≡ macro_holds (found env.macros c.args.name.now.text) tracks b e =
-    ap (λ v. satisfies v body.kind b e) c.in_ok-inside-in-Formula.ensures.environment
-    ∙ ap (λ ps. satisfies (bind_all around (map text ps) (map items c.deref-in-Formula.result.now)) body.kind b e) c.deref.ensures.value
-    ∙ ap (λ given. satisfies (bind_all around parameters (map items given)) body.kind b e) c.deref-in-Formula.ensures.value
-    ∙ ap (λ ts. satisfies (bind_all around parameters ts) body.kind b e) c.in_ok-tracks-in-Formula.ensures
-    ∙ ap (λ mb. macro_holds (Some (body_meaning around parameters mb)) tracks b e) (sym c.in-Formula.is)
+    let same : satisfies (environment_of c.in_ok-inside-in-Formula.field-0) (plain_formula_kind body.kind) b e ≡ macro_holds (found env.macros c.args.name.now.text) tracks b e =
+    ap (λ v. satisfies v (plain_formula_kind body.kind) b e) c.in_ok-inside-in-Formula.ensures.environment
+    ∙ ap (λ ps. satisfies (bind_all around (map text ps) (map items c.deref-in-Formula.result.now)) (plain_formula_kind body.kind) b e) c.deref.ensures.value
+    ∙ ap (λ given. satisfies (bind_all around parameters (map items given)) (plain_formula_kind body.kind) b e) c.deref-in-Formula.ensures.value
+    ∙ ap (λ ts. satisfies (bind_all around parameters ts) (plain_formula_kind body.kind) b e) c.in_ok-tracks-in-Formula.ensures
+    ∙ ap (λ mb. macro_holds (Some (body_meaning around parameters (plain_body mb))) tracks b e) (sym c.in-Formula.is)
     ∙ ap (λ m. macro_holds m tracks b e) (sym c.in-Some.ensures.meaning) in
     subst (λ truth. IfOk c.satisfies.result (λ r. r ≡ truth)) same c.satisfies.ensures
 
@@ -91,8 +92,8 @@ satisfies-returns-in-Star t c =
     let env = environment_of c.args.self.now in
     let b = c.args.begin in
     let e = c.args.end in
-    let same : star (satisfies env c.deref-in-Star.result.now.kind) (e - b) b e ≡ satisfies env c.args.formula.now.kind b e =
-    ap (λ (f : Formula). star (satisfies env f.kind) (e - b) b e) c.deref-in-Star.ensures ∙ sym (ap (λ kind. satisfies env kind b e) c.in-Star.is) in
+    let same : star (satisfies env (plain_formula_kind c.deref-in-Star.result.now.kind)) (e - b) b e ≡ satisfies env (plain_formula_kind c.args.formula.now.kind) b e =
+    ap (λ (f : Formula). star (satisfies env (plain_formula_kind f.kind)) (e - b) b e) c.deref-in-Star.ensures ∙ sym (ap (λ kind. satisfies env (plain_formula_kind kind) b e) c.in-Star.is) in
     subst (λ truth. IfOk c.star.result (λ r. r ≡ truth)) same c.star.ensures
 
 pub satisfies-returns-in-Somewhere : goal.satisfies-returns-in-Somewhere
@@ -100,8 +101,8 @@ satisfies-returns-in-Somewhere t c =
     let env = environment_of c.args.self.now in
     let b = c.args.begin in
     let e = c.args.end in
-    let same : somewhere (satisfies env c.deref-in-Somewhere.result.now.kind) b e ≡ satisfies env c.args.formula.now.kind b e =
-    ap (λ (f : Formula). somewhere (satisfies env f.kind) b e) c.deref-in-Somewhere.ensures ∙ sym (ap (λ kind. satisfies env kind b e) c.in-Somewhere.is) in
+    let same : somewhere (satisfies env (plain_formula_kind c.deref-in-Somewhere.result.now.kind)) b e ≡ satisfies env (plain_formula_kind c.args.formula.now.kind) b e =
+    ap (λ (f : Formula). somewhere (satisfies env (plain_formula_kind f.kind)) b e) c.deref-in-Somewhere.ensures ∙ sym (ap (λ kind. satisfies env (plain_formula_kind kind) b e) c.in-Somewhere.is) in
     subst (λ truth. IfOk c.somewhere.result (λ r. r ≡ truth)) same c.somewhere.ensures
 
 -- the code's test of two truths
@@ -122,7 +123,7 @@ pub some_track-returns-then-branch-truth : goal.some_track-returns-then-branch-t
 some_track-returns-then-branch-truth t c =
     let env = environment_of c.args.self.now in
     let name = c.args.name.now.text in
-    let of : Environment → Bool = λ inner. satisfies inner c.args.body.now.kind c.args.begin c.args.end in
+    let of : Environment → Bool = λ inner. satisfies inner (plain_formula_kind c.args.body.now.kind) c.args.begin c.args.end in
     let chosen : List Bool → Bool = λ track. iff c.args.truth (of (bind env name track)) in
     let here : chosen c.track-item.result.items ≡ true =
     ap chosen (sym c.deref.ensures.value)
@@ -137,26 +138,26 @@ some_track-returns-then-branch-truth t c =
 pub some_track-returns : goal.some_track-returns
 some_track-returns t c =
     let env = environment_of c.args.self.now in
-    let chosen : List Bool → Bool = λ track. iff c.args.truth (satisfies (bind env c.args.name.now.text track) c.args.body.now.kind c.args.begin c.args.end) in
+    let chosen : List Bool → Bool = λ track. iff c.args.truth (satisfies (bind env c.args.name.now.text track) (plain_formula_kind c.args.body.now.kind) c.args.begin c.args.end) in
     let none : list_any (λ (track : Vec Bool Global). chosen track.items) c.deref-track-items.result.now ≡ false = grind (arith, common_steps) in
     sym none ∙ among_all c.args.self.now chosen c.deref-track-items.result.now c.in_ok-all_tracks.field-0 c.deref-track-items.ensures.value c.in_ok-all_tracks.ensures
 
 pub somewhere-loop-first-preserved : goal.somewhere-loop-first-preserved
 somewhere-loop-first-preserved t c =
-    let part : ℕ → Bool = λ x. some_between x c.args.end (λ y. iff c.args.truth (satisfies (environment_of c.args.self.now) c.args.body.now.kind x y)) in
+    let part : ℕ → Bool = λ x. some_between x c.args.end (λ y. iff c.args.truth (satisfies (environment_of c.args.self.now) (plain_formula_kind c.args.body.now.kind) x y)) in
     let fails : part c.loop-first.first ≡ false = sym c.in_ok-somewhere_from.ensures ∙ c.if-branch.false in
     some_from-on part c.loop-first.first (c.args.end + 1) _ (omega arith) fails c.loop-first.invariant
 
 pub somewhere_from-loop-last-preserved : goal.somewhere_from-loop-last-preserved
 somewhere_from-loop-last-preserved t c =
-    let part : ℕ → Bool = λ y. iff c.args.truth (satisfies (environment_of c.args.self.now) c.args.body.now.kind c.args.first y) in
+    let part : ℕ → Bool = λ y. iff c.args.truth (satisfies (environment_of c.args.self.now) (plain_formula_kind c.args.body.now.kind) c.args.first y) in
     let fails : part c.loop-last.last ≡ false =
     ap (iff c.args.truth) (sym c.in_ok-satisfies.ensures) ∙ iff-beq c.in_ok-satisfies.field-0 c.args.truth ∙ c.if-branch-truth.false in
     some_from-on part c.loop-last.last (c.args.end + 1) _ (omega arith) fails c.loop-last.invariant
 
 pub star-returns-then-branch-2 : goal.star-returns-then-branch-2
 star-returns-then-branch-2 t c =
-    let body = satisfies (environment_of c.args.self.now) c.args.body.now.kind in
+    let body = satisfies (environment_of c.args.self.now) (plain_formula_kind c.args.body.now.kind) in
     let b = c.args.begin in
     let e = c.args.end in
     let cut : ℕ → Bool = λ m. body b m && star body (e - m) m e in
@@ -165,7 +166,7 @@ star-returns-then-branch-2 t c =
 
 pub star-loop-middle-preserved : goal.star-loop-middle-preserved
 star-loop-middle-preserved t c =
-    let body = satisfies (environment_of c.args.self.now) c.args.body.now.kind in
+    let body = satisfies (environment_of c.args.self.now) (plain_formula_kind c.args.body.now.kind) in
     let cut : ℕ → Bool = λ m. body c.args.begin m && star body (c.args.end - m) m c.args.end in
     let fails : cut c.loop-middle.middle ≡ false = elim c.else-branch.branch [
       | star-else-branch-via-then-branch+in_ok-star+else-branch-2 w ↦ grind (arith, common_steps)
@@ -175,7 +176,7 @@ star-loop-middle-preserved t c =
 
 pub star-returns-else-branch : goal.star-returns-else-branch
 star-returns-else-branch t c =
-    let body = satisfies (environment_of c.args.self.now) c.args.body.now.kind in
+    let body = satisfies (environment_of c.args.self.now) (plain_formula_kind c.args.body.now.kind) in
     let b = c.args.begin in
     let e = c.args.end in
     let cut : ℕ → Bool = λ m. body b m && star body (e - m) m e in

@@ -1,6 +1,7 @@
 use Rattle.std.proofs.Common.{◌≡◌, Bool, ap, sym, subst, ◌∙◌, IfOk, List, arith}
 use Rattle.std.proofs.lemmas.Grind.{common_steps}
 use Rattle.dcv_syntax.specs.declared.propositions.Prop.{Prop, size-Prop}
+use Rattle.dcv_syntax.specs.Views.{plain_prop_kind}
 use Rattle.dcv_logic.specs.Environment.{found}
 use Rattle.dcv_logic.specs.Value.{value, call_value}
 use Rattle.dcv_logic.specs.Scope.{environment_of, argument_tracks_of}
@@ -20,12 +21,12 @@ call_value-value-requires t c =
 
 pub track_of-loop-instant-preserved : goal.track_of-loop-instant-preserved
 track_of-loop-instant-preserved t c =
-    let step = values_from-step (value (environment_of c.args.self.now) c.args.prop.now.kind) c.loop-instant.instant c.args.self.now.instants c.loop-instant-test.true in
+    let step = values_from-step (value (environment_of c.args.self.now) (plain_prop_kind c.args.prop.now.kind)) c.loop-instant.instant c.args.self.now.instants c.loop-instant-test.true in
     grind (arith, common_steps, step)
 
 pub track_of-returns : goal.track_of-returns
 track_of-returns t c =
-    let end = values_from-end (value (environment_of c.args.self.now) c.args.prop.now.kind) c.loop-instant.instant c.args.self.now.instants c.loop-instant-test.false in
+    let end = values_from-end (value (environment_of c.args.self.now) (plain_prop_kind c.args.prop.now.kind)) c.loop-instant.instant c.args.self.now.instants c.loop-instant-test.false in
     grind (arith, common_steps, end, environment_of-instants c.args.self.now)
 
 pub value-returns-in-Call : goal.value-returns-in-Call
@@ -33,6 +34,6 @@ value-returns-in-Call t c =
     let env = environment_of c.args.self.now in
     let name = c.in-Call.name in
     let of_list : List Prop → Bool = λ arguments. call_value (found env.tracks name.text) (found env.macros name.text) (argument_tracks_of env arguments) c.args.instant in
-    let same : of_list c.deref.result.now ≡ value env c.args.prop.now.kind c.args.instant =
-    ap of_list c.deref.ensures.value ∙ sym (value-Call env name c.in-Call.arguments c.args.instant) ∙ sym (ap (λ kind. value env kind c.args.instant) c.in-Call.is) in
+    let same : of_list c.deref.result.now ≡ value env (plain_prop_kind c.args.prop.now.kind) c.args.instant =
+    ap of_list c.deref.ensures.value ∙ sym (value-Call env name c.in-Call.arguments c.args.instant) ∙ sym (ap (λ kind. value env (plain_prop_kind kind) c.args.instant) c.in-Call.is) in
     subst (λ truth. IfOk c.call_value.result (λ t. t ≡ truth)) same c.call_value.ensures

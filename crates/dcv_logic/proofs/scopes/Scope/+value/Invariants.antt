@@ -2,6 +2,7 @@ use Rattle.std.proofs.Common.{◌≡◌, ◌++◌, ◌-◌, ◌+◌, ◌*◌, Bo
 use Rattle.std.specs.List.{list_all, list_any, fold}
 use Rattle.dcv_syntax.specs.declared.propositions.Prop.{Prop}
 use Rattle.dcv_syntax.specs.declared.propositions.PropOperand.{PropOperand}
+use Rattle.dcv_syntax.specs.Views.{plain_prop_kind}
 use Rattle.dcv_logic.specs.Track.{track_of, values_from}
 use Rattle.dcv_logic.specs.Value.{value, iff}
 use Rattle.dcv_logic.specs.Scope.{environment_of}
@@ -11,28 +12,28 @@ use Rattle.dcv_logic.proofs.scopes.Scope.+value.Given as goal
 -- In each loop what is left has the answer of the whole.
 abbrev pub invariant-all_true-loop-operand : goal.invariant-all_true-loop-operand
 invariant-all_true-loop-operand l =
-    let holds = λ (o : PropOperand). value (environment_of l.self) o.prop.kind l.instant in
+    let holds = λ (o : PropOperand). value (environment_of l.self) (plain_prop_kind o.prop.kind) l.instant in
     list_all holds (drop l.operand-index l.operands) ≡ list_all holds l.operands
 
 abbrev pub invariant-some_true-loop-operand : goal.invariant-some_true-loop-operand
 invariant-some_true-loop-operand l =
-    let holds = λ (o : PropOperand). value (environment_of l.self) o.prop.kind l.instant in
+    let holds = λ (o : PropOperand). value (environment_of l.self) (plain_prop_kind o.prop.kind) l.instant in
     list_any holds (drop l.operand-index l.operands) ≡ list_any holds l.operands
 
 abbrev pub invariant-iff_all-loop-operand : goal.invariant-iff_all-loop-operand
 invariant-iff_all-loop-operand l =
-    let join = λ (b : Bool) (o : PropOperand). iff b (value (environment_of l.self) o.prop.kind l.instant) in
+    let join = λ (b : Bool) (o : PropOperand). iff b (value (environment_of l.self) (plain_prop_kind o.prop.kind) l.instant) in
     fold join l.so_far (drop l.operand-index l.operands) ≡ fold join true l.operands
 
 abbrev pub invariant-argument_tracks-loop-argument : goal.invariant-argument_tracks-loop-argument
 invariant-argument_tracks-loop-argument l =
     let env = environment_of l.self in
-    let track = λ (p : Prop). track_of env.instants (value env p.kind) in
+    let track = λ (p : Prop). track_of env.instants (value env (plain_prop_kind p.kind)) in
     map (λ t. t.items) l.tracks.items ++ map track (drop l.argument-index l.arguments) ≡ map track l.arguments
 
 abbrev pub invariant-track_of-loop-instant : goal.invariant-track_of-loop-instant
 invariant-track_of-loop-instant l =
-    let truth = value (environment_of l.self) l.prop.kind in
+    let truth = value (environment_of l.self) (plain_prop_kind l.prop.kind) in
     l.track.items ++ values_from truth l.instant (l.instant-end - l.instant) ≡ values_from truth 0 l.instant-end
 
 -- a call of a macro goes on with fewer macros, and every other call deeper into the proposition

@@ -2,8 +2,8 @@ use Rattle.std.proofs.Common.{◌≡◌, List, [], ◌∷◌, ◌++◌, ◌⊎�
 use Rattle.std.specs.List.{zip}
 use Rattle.std.proofs.lemmas.Slice.Zip.{either_empty_from_Zip}
 use Rattle.dcv_syntax.specs.declared.names.Name.{Name}
-use Rattle.dcv_logic.specs.Scope.{tracks_of, outside, environment_of}
-use Rattle.dcv_logic.proofs.Environments.{outside-tracks}
+use Rattle.dcv_logic.specs.Scope.{tracks_of, top_environment, environment_of}
+use Rattle.dcv_logic.proofs.Environments.{top_environment-tracks}
 use Rattle.dcv_logic.proofs.scopes.Scope.inside.Goals as goal
 
 -- where one of two lists has ended, there are no more pairs
@@ -17,11 +17,11 @@ pub returns-clause-environment : goal.returns-clause-environment
 unfolding environment_of
 returns-clause-environment c =
     let self = c.args.self.now in
-    let base = outside self.instants self.declared.now c.args.earlier.now in
+    let base = top_environment self.instants self.declared.now c.args.earlier.now in
     let parameters = zip (map (λ (p : Name). p.text) c.args.parameters.now) (map (λ a. a.items) c.args.arguments.now) in
     let locals : tracks_of c.loop-parameter.locals.items ≡ parameters =
     sym (append-nil _)
     ∙ ap (λ pairs. tracks_of c.loop-parameter.locals.items ++ pairs) (sym (no_pairs _ _ _ _ (either_empty_from_Zip c.loop-parameter.parameter-iterator c.next.new.self c.next.result c.in-None.is c.next.ensures.steps)))
     ∙ c.loop-parameter.invariant in
     ap (λ tracks. record base { tracks = tracks ++ tracks_of self.declared.now }) locals
-    ∙ ap (λ tracks. record base { tracks = parameters ++ tracks }) (sym (outside-tracks self.instants self.declared.now c.args.earlier.now))
+    ∙ ap (λ tracks. record base { tracks = parameters ++ tracks }) (sym (top_environment-tracks self.instants self.declared.now c.args.earlier.now))
