@@ -1,4 +1,5 @@
 pub mod Environments
+pub mod InWords
 pub mod Measures
 pub mod Rows
-pub mod Searches
+pub mod SearchSteps

@@ -16,7 +16,7 @@ use Rattle.dcv_logic.specs.Environment.{Environment, found}
 use Rattle.dcv_logic.specs.Value.{value, call_value, argument_tracks, all_true, some_true, iff_all, iff}
 use Rattle.dcv_logic.specs.Satisfaction.{satisfies, macro_holds, all_hold, some_hold, iff_holds, chop_holds}
 use Rattle.dcv_logic.specs.Scope.{argument_tracks_of, chop_of}
-use Rattle.dcv_logic.proofs.Searches.{some_from-same}
+use Rattle.dcv_logic.proofs.SearchSteps.{some_from-same}
 use Rattle.dcv_logic.proofs.Measures.{work-And, work-Or, work-Iff, work-Chop}
 
 module _ (env : Environment) where

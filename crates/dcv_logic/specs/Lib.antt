@@ -1,7 +1,10 @@
+-- What public clauses say: the meaning of a file, from the truths of a name up to the words that model it.
 pub mod Track
 pub mod Search
 pub mod Environment
 pub mod Value
 pub mod Satisfaction
 pub mod Models
+pub mod Laws
+-- For the proofs alone: what the evaluator's own data stand for.
 pub mod Scope

@@ -1,11 +1,11 @@
 // Whether a word models a file.
 ghost use Rattle.std.specs.Prelude.{◌≡◌, IfOk};
 ghost use Rattle.dcv_syntax.specs.Views.{plain_file};
-ghost use Rattle.dcv_logic.specs.Track.{slot_track, truth_at};
 ghost use Rattle.dcv_logic.specs.Models.{models, declared_from};
 ghost use Rattle.dcv_logic.specs.Scope.{tracks_of};
 
 use crate::scopes::{Binding, Scope};
+use crate::tracks::slot_track;
 use dcv_syntax::{File, Name, Text};
 use dcv_word::{Letter, Word};
 use std::alloc::{AllocError, Global};
@@ -47,25 +47,4 @@ fn declared_tracks(
         })?;
     }
     Ok(declared)
-}
-
-// The truths of the variable in this slot.
-fn slot_track(alloc: Global, letters: &[Letter], slot: usize) -> Result<Vec<bool>, AllocError>
-    ensures { IfOk result (λ track. track.items ≡ slot_track letters.now slot) }
-{
-    let mut track = Vec::new(alloc);
-    for letter in letters {
-        track.push(slot_truth(*letter, slot))?;
-    }
-    Ok(track)
-}
-
-// The truth of the variable in this slot, which is false where the letter has no such slot.
-fn slot_truth(letter: Letter, slot: usize) -> bool
-    ensures { result ≡ truth_at letter slot }
-{
-    match u8::try_from(slot) {
-        Ok(slot) if slot < letter.width() => letter.get(slot),
-        _ => false,
-    }
 }

@@ -1,41 +1,38 @@
-// All tracks of a length, for quantifiers.
-ghost use Rattle.std.specs.Prelude.{◌≡◌, ◌∷◌, Bool, true, false, List, map, IfOk, ◌||◌};
-ghost use Rattle.std.specs.List.{list_any};
-ghost use Rattle.dcv_logic.specs.Search.{some_track};
+// Tracks: the truths of one name at the instants of a behaviour.
+ghost use Rattle.std.specs.Prelude.{◌≡◌, IfOk};
+ghost use Rattle.dcv_logic.specs.Track.{slot_track, truth_at};
 
+use dcv_word::Letter;
 use std::alloc::{AllocError, Global};
 
-/// Every track of this many instants: a test holds of one of them exactly where it holds of some track.
-pub(crate) fn all_tracks(alloc: Global, instants: usize) -> Result<Vec<Vec<bool>>, AllocError>
-    ensures { IfOk result (λ tracks. (p : List Bool → Bool) →
-        list_any p (map (λ t. t.items) tracks.items) ≡ some_track instants p) }
+/// The truth at an instant, which is false where the track has none.
+pub(crate) fn truth_at(track: &[bool], instant: usize) -> bool
+    ensures { result ≡ truth_at track.now instant }
 {
-    let mut tracks = Vec::new(alloc);
-    tracks.push(Vec::new(alloc))?;
-    for _instant in 0..instants {
-        tracks = preceded(alloc, &tracks)?;
-    }
-    Ok(tracks)
+    track.get(instant).copied().unwrap_or(false)
 }
 
-// Each track with either truth before it.
-fn preceded(alloc: Global, tracks: &[Vec<bool>]) -> Result<Vec<Vec<bool>>, AllocError>
-    ensures { IfOk result (λ longer. (p : List Bool → Bool) → list_any p (map (λ t. t.items) longer.items)
-        ≡ (list_any (λ t. p (false ∷ t.items)) tracks.now || list_any (λ t. p (true ∷ t.items)) tracks.now)) }
+/// The truths of the variable in this slot.
+pub(crate) fn slot_track(
+    alloc: Global,
+    letters: &[Letter],
+    slot: usize,
+) -> Result<Vec<bool>, AllocError>
+    ensures { IfOk result (λ track. track.items ≡ slot_track letters.now slot) }
 {
-    let mut longer = Vec::new(alloc);
-    for track in tracks {
-        longer.push(one_more(alloc, false, track)?)?;
-        longer.push(one_more(alloc, true, track)?)?;
+    let mut track = Vec::new(alloc);
+    for letter in letters {
+        track.push(slot_truth(*letter, slot))?;
     }
-    Ok(longer)
+    Ok(track)
 }
 
-fn one_more(alloc: Global, first: bool, track: &[bool]) -> Result<Vec<bool>, AllocError>
-    ensures { IfOk result (λ longer. longer.items ≡ first ∷ track.now) }
+// The truth of the variable in this slot, which is false where the letter has no such slot.
+fn slot_truth(letter: Letter, slot: usize) -> bool
+    ensures { result ≡ truth_at letter slot }
 {
-    let mut longer = Vec::new(alloc);
-    longer.push(first)?;
-    longer.extend_from_slice(track)?;
-    Ok(longer)
+    match u8::try_from(slot) {
+        Ok(slot) if slot < letter.width() => letter.get(slot),
+        _ => false,
+    }
 }

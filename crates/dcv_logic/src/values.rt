@@ -2,21 +2,15 @@
 ghost use Rattle.std.specs.Prelude.{◌≡◌, true, map, IfOk};
 ghost use Rattle.std.specs.List.{list_all, list_any, fold};
 ghost use Rattle.dcv_syntax.specs.Views.{plain_prop_kind};
-ghost use Rattle.dcv_logic.specs.Track.{truth_at, track_of};
+ghost use Rattle.dcv_logic.specs.Track.{track_of};
 ghost use Rattle.dcv_logic.specs.Environment.{found};
 ghost use Rattle.dcv_logic.specs.Value.{value, call_value, iff};
 ghost use Rattle.dcv_logic.specs.Scope.{environment_of, argument_tracks_of};
 
 use crate::scopes::Scope;
+use crate::tracks::truth_at;
 use dcv_syntax::{MacroBody, Name, Prop, PropKind, PropOperand};
 use std::alloc::AllocError;
-
-// The truth at an instant, which is false where the track has none.
-fn truth_at(track: &[bool], instant: usize) -> bool
-    ensures { result ≡ truth_at track.now instant }
-{
-    track.get(instant).copied().unwrap_or(false)
-}
 
 impl Scope<'_> {
     /// The truth of a proposition at an instant.

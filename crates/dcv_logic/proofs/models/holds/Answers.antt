@@ -3,7 +3,7 @@ use Rattle.std.proofs.lemmas.Grind.{common_steps}
 use Rattle.dcv_syntax.specs.declared.files.File.{File}
 use Rattle.dcv_syntax.specs.declared.files.Macro.{Macro}
 use Rattle.dcv_syntax.specs.Plain.{PlainFile}
-use Rattle.dcv_syntax.specs.Views.{plain_formula_kind, plain_macro, plain_file}
+use Rattle.dcv_syntax.specs.Views.{plain_macro, plain_file}
 use Rattle.dcv_logic.specs.declared.scopes.Scope.{Scope}
 use Rattle.dcv_logic.specs.Satisfaction.{satisfies}
 use Rattle.dcv_logic.specs.Models.{models, goal_environment, declared_from, with_macros}

@@ -18,7 +18,7 @@ use Rattle.dcv_logic.specs.Models.{body_meaning}
 use Rattle.dcv_logic.specs.Scope.{environment_of, top_environment, argument_tracks_of, chop_of}
 use Rattle.dcv_logic.proofs.Environments.{environment_of-instants}
 use Rattle.dcv_logic.proofs.Measures.{work, list_work, work_at, body_work, all_bodies, left_after_call}
-use Rattle.dcv_logic.proofs.Searches.{some_from-on, some_from-here, some_from-last, star-step, list_any-map}
+use Rattle.dcv_logic.proofs.SearchSteps.{some_from-on, some_from-here, some_from-last, star-step, list_any-map}
 use Rattle.dcv_logic.proofs.scopes.Scope.+satisfies.Goals as goal
 use Rattle.dcv_logic.proofs.scopes.Scope.+satisfies.Goals.{chop_holds-else-branch-via-then-branch+in_ok-chop_holds+else-branch-2, chop_holds-else-branch-via-else-branch, star-else-branch-via-then-branch+in_ok-star+else-branch-2, star-else-branch-via-else-branch}
 

@@ -8,7 +8,7 @@ use Rattle.dcv_logic.specs.Scope.{environment_of, argument_tracks_of}
 use Rattle.dcv_logic.proofs.Environments.{environment_of-instants}
 use Rattle.dcv_logic.proofs.Measures.{prop_depth, all_bodies, left_after_call}
 use Rattle.dcv_logic.proofs.Rows.{value-Call}
-use Rattle.dcv_logic.proofs.Searches.{values_from-step, values_from-end}
+use Rattle.dcv_logic.proofs.SearchSteps.{values_from-step, values_from-end}
 use Rattle.dcv_logic.proofs.scopes.Scope.+value.Goals as goal
 
 pub call_value-value-requires : goal.call_value-value-requires

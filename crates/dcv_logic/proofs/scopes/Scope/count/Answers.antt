@@ -3,7 +3,7 @@ use Rattle.std.proofs.lemmas.Grind.{common_steps}
 use Rattle.dcv_syntax.specs.Views.{plain_prop_kind}
 use Rattle.dcv_logic.specs.Value.{value}
 use Rattle.dcv_logic.specs.Scope.{environment_of}
-use Rattle.dcv_logic.proofs.Searches.{count_from-step, count_from-end}
+use Rattle.dcv_logic.proofs.SearchSteps.{count_from-step, count_from-end}
 use Rattle.dcv_logic.proofs.scopes.Scope.count.Goals as goal
 
 pub loop-instant-preserved : goal.loop-instant-preserved

@@ -4,7 +4,7 @@ use Rattle.std.proofs.lemmas.Grind.{common_steps}
 use Rattle.dcv_syntax.specs.Views.{plain_prop_kind}
 use Rattle.dcv_logic.specs.Value.{value}
 use Rattle.dcv_logic.specs.Scope.{environment_of}
-use Rattle.dcv_logic.proofs.Searches.{some_from-step, some_from-end}
+use Rattle.dcv_logic.proofs.SearchSteps.{some_from-step, some_from-end}
 use Rattle.dcv_logic.proofs.scopes.Scope.each_between.Goals as goal
 
 pub loop-instant-preserved : goal.loop-instant-preserved

@@ -1,6 +1,6 @@
 use Rattle.std.proofs.Common.{◌≡◌, ◌++◌, drop}
 use Rattle.dcv_logic.specs.Track.{slot_track}
-use Rattle.dcv_logic.proofs.models.slot_track.Given as goal
+use Rattle.dcv_logic.proofs.tracks.slot_track.Given as goal
 
 -- the truths so far and those to come are all of them
 abbrev pub invariant-loop-letter : goal.invariant-loop-letter

@@ -60,14 +60,14 @@ no_step d n b e le =
     ap (λ left. b == e || some_from (b + 1) left (λ m. d b m && star d n m e)) none ∙ or-false (b == e)
 
 -- steps beyond those of the interval change nothing
-star_enough : (d : ℕ → ℕ → Bool) (n k b e : ℕ) → e - b ≤ n → e - b ≤ k → star d n b e ≡ star d k b e
+pub star_enough : (d : ℕ → ℕ → Bool) (n k b e : ℕ) → e - b ≤ n → e - b ≤ k → star d n b e ≡ star d k b e
 star_enough d zero zero b e ln lk = refl
 star_enough d zero (suc k) b e ln lk = sym (no_step d k b e (omega arith))
 star_enough d (suc n) zero b e ln lk = no_step d n b e (omega arith)
 star_enough d (suc n) (suc k) b e ln lk =
     ap (λ s. b == e || s) (some_from-same _ _ (e + 1 - (b + 1)) (b + 1) (λ m le. ap (λ s. d b m && s) (star_enough d n k m e (omega arith) (omega arith))))
 
-other_instants : (b e : ℕ) → b < e → (b == e) ≡ false
+pub other_instants : (b e : ℕ) → b < e → (b == e) ≡ false
 other_instants b e lt = grind (arith, nat_tests)
 
 -- a star of more than one instant: the first segment, and the star from its end

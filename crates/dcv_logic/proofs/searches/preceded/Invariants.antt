@@ -1,7 +1,7 @@
 use Rattle.std.proofs.Common.{◌≡◌, ◌∷◌, List, Bool, true, false, map, drop}
 use Rattle.std.specs.Prelude.{◌||◌}
 use Rattle.std.specs.List.{list_any}
-use Rattle.dcv_logic.proofs.tracks.preceded.Given as goal
+use Rattle.dcv_logic.proofs.searches.preceded.Given as goal
 
 -- a test holds of one made so far or to be made
 abbrev pub invariant-loop-track : goal.invariant-loop-track

@@ -2,8 +2,8 @@ use Rattle.std.proofs.Common.{◌∷◌, Bool, true, false, sym, ap, ◌∙◌, 
 use Rattle.std.specs.Prelude.{◌||◌}
 use Rattle.std.specs.List.{list_any}
 use Rattle.dcv_logic.specs.Search.{some_track}
-use Rattle.dcv_logic.proofs.Searches.{list_any-map}
-use Rattle.dcv_logic.proofs.tracks.all_tracks.Goals as goal
+use Rattle.dcv_logic.proofs.SearchSteps.{list_any-map}
+use Rattle.dcv_logic.proofs.searches.all_tracks.Goals as goal
 
 pub loop-instant-preserved : goal.loop-instant-preserved
 loop-instant-preserved c = λ p.

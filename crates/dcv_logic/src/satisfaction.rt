@@ -5,14 +5,27 @@ ghost use Rattle.dcv_syntax.specs.Views.{plain_formula_kind};
 ghost use Rattle.dcv_logic.specs.Search.{some_between, some_track};
 ghost use Rattle.dcv_logic.specs.Environment.{found, bind};
 ghost use Rattle.dcv_logic.specs.Value.{iff};
-ghost use Rattle.dcv_logic.specs.Satisfaction.{satisfies, macro_holds, star, somewhere};
+ghost use Rattle.dcv_logic.specs.Satisfaction.{compares, satisfies, macro_holds, star, somewhere};
 ghost use Rattle.dcv_logic.specs.Scope.{environment_of, argument_tracks_of, chop_of};
 
-use crate::positions::compares;
 use crate::scopes::Scope;
-use crate::tracks::all_tracks;
-use dcv_syntax::{Formula, FormulaKind, FormulaOperand, MacroBody, Name, Prop};
+use crate::searches::all_tracks;
+use dcv_syntax::{Formula, FormulaKind, FormulaOperand, MacroBody, Name, Number, Prop, Relation};
 use std::alloc::AllocError;
+
+// Whether a measure stands in the relation to a number.
+fn compares(measure: usize, relation: Relation, number: Number) -> bool
+    ensures { result ≡ compares relation measure number.value }
+{
+    let number = number.value as usize;
+    match relation {
+        Relation::Equal => measure == number,
+        Relation::Less => measure < number,
+        Relation::AtMost => measure <= number,
+        Relation::Greater => measure > number,
+        Relation::AtLeast => measure >= number,
+    }
+}
 
 impl Scope<'_> {
     /// Whether the interval from `begin` to `end`, both in it, satisfies the formula.

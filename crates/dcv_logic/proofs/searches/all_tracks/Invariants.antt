@@ -1,7 +1,7 @@
 use Rattle.std.proofs.Common.{◌≡◌, List, Bool, map}
 use Rattle.std.specs.List.{list_any}
 use Rattle.dcv_logic.specs.Search.{some_track}
-use Rattle.dcv_logic.proofs.tracks.all_tracks.Given as goal
+use Rattle.dcv_logic.proofs.searches.all_tracks.Given as goal
 
 -- the tracks so far are all of their length
 abbrev pub invariant-loop-instant : goal.invariant-loop-instant
