@@ -7,9 +7,8 @@ use Rattle.dcv_tokens.specs.Limits.{is_long, is_large}
 use Rattle.dcv_tokens.proofs.Cuts.{cut_is_unique}
 use Rattle.dcv_reader.specs.declared.faults.ReadFault.{ReadFault}
 use Rattle.dcv_reader.specs.declared.faults.ReadFault.TheVariants.{Byte, Name, Number, Syntax, Nest, Memory}
-use Rattle.dcv_reader.specs.declared.scan.Scan.{Scan}
 use Rattle.dcv_reader.specs.Faults.{StandsAmong, HasFault, offset_of, rank_of, offset_at, IsNotAfter, IsFault, earlier_of}
-use Rattle.dcv_reader.specs.Scanning.{tokens_in, IsScanned, StandsIn, IsNoted, IsFirstFault}
+use Rattle.dcv_reader.specs.Scanning.{IsNotedAmong, IsFirstFault}
 use Rattle.dcv_reader.proofs.Depths.{one_too_deep}
 use Rattle.dcv_reader.proofs.FaultKinds.{one_misplaced}
 
@@ -92,33 +91,33 @@ one_start : (found : Option Token) (at other : ℕ) → IsSomeAnd found (λ toke
 one_start None at other there there_too = absurd there
 one_start (Some token) at other there there_too = there ∙ sym there_too
 
-module _ (scan : Scan) where
-  one_byte : (at other : ℕ) → StandsIn scan (Byte at) → StandsIn scan (Byte other) → at ≡ other
+module _ (text : List ℕ) (tokens : List Token) (rest : List ℕ) where
+  one_byte : (at other : ℕ) → StandsAmong text tokens rest (Byte at) → StandsAmong text tokens rest (Byte other) → at ≡ other
   one_byte at other stands stands_too = omega (arith, stands.1, stands_too.1)
 
-  one_name : (at other : ℕ) → StandsIn scan (Name at) → StandsIn scan (Name other) → at ≡ other
-  one_name at other stands stands_too = one_start (find is_long (tokens_in scan)) at other stands stands_too
+  one_name : (at other : ℕ) → StandsAmong text tokens rest (Name at) → StandsAmong text tokens rest (Name other) → at ≡ other
+  one_name at other stands stands_too = one_start (find is_long tokens) at other stands stands_too
 
-  one_number : (at other : ℕ) → StandsIn scan (Number at) → StandsIn scan (Number other) → at ≡ other
-  one_number at other stands stands_too = one_start (find is_large (tokens_in scan)) at other stands stands_too
+  one_number : (at other : ℕ) → StandsAmong text tokens rest (Number at) → StandsAmong text tokens rest (Number other) → at ≡ other
+  one_number at other stands stands_too = one_start (find is_large tokens) at other stands stands_too
 
-  one_syntax : (at other : ℕ) → StandsIn scan (Syntax at) → StandsIn scan (Syntax other) → at ≡ other
+  one_syntax : (at other : ℕ) → StandsAmong text tokens rest (Syntax at) → StandsAmong text tokens rest (Syntax other) → at ≡ other
   one_syntax at other stands stands_too =
-      let same = one_misplaced (tokens_in scan) scan.rest.now stands_too.0 stands.0 stands_too.1.fault stands.1 in
-      stands.2 ∙ ap (offset_at scan.text.now (tokens_in scan)) same ∙ sym stands_too.2
+      let same = one_misplaced tokens rest stands_too.0 stands.0 stands_too.1.fault stands.1 in
+      stands.2 ∙ ap (offset_at text tokens) same ∙ sym stands_too.2
 
-  one_nest : (at other : ℕ) → StandsIn scan (Nest at) → StandsIn scan (Nest other) → at ≡ other
+  one_nest : (at other : ℕ) → StandsAmong text tokens rest (Nest at) → StandsAmong text tokens rest (Nest other) → at ≡ other
   one_nest at other stands stands_too =
-      let same = one_too_deep (tokens_in scan) stands.0 stands_too.0 stands.1 stands_too.1 in
-      stands.2 ∙ ap (offset_at scan.text.now (tokens_in scan)) same ∙ sym stands_too.2
+      let same = one_too_deep tokens stands.0 stands_too.0 stands.1 stands_too.1 in
+      stands.2 ∙ ap (offset_at text tokens) same ∙ sym stands_too.2
 
 -- ---- the first fault of the first kinds
 
 -- the first of the faults below a rank, if there are any
-abbrev IsFirstBelow : Scan → ℕ → Option ReadFault → Type 0
-IsFirstBelow scan rank None = (fault : ReadFault) → rank_of fault < rank → StandsIn scan fault → ⊥
-IsFirstBelow scan rank (Some first) =
-    (rank_of first < rank) × StandsIn scan first × ((fault : ReadFault) → rank_of fault < rank → StandsIn scan fault → IsNotAfter first fault)
+abbrev IsFirstBelow : List ℕ → List Token → List ℕ → ℕ → Option ReadFault → Type 0
+IsFirstBelow text tokens rest rank None = (fault : ReadFault) → rank_of fault < rank → StandsAmong text tokens rest fault → ⊥
+IsFirstBelow text tokens rest rank (Some first) =
+    (rank_of first < rank) × StandsAmong text tokens rest first × ((fault : ReadFault) → rank_of fault < rank → StandsAmong text tokens rest fault → IsNotAfter first fault)
 
 below_or_of : (rank : ℕ) (fault : ReadFault) → rank_of fault < rank + 1 → (rank_of fault < rank) ⊎ (rank_of fault ≡ rank)
 below_or_of rank fault low = elim (cases_Bool (nat_le rank (rank_of fault))) [
@@ -143,27 +142,27 @@ not_after_last first fault low rank = elim (cases_Bool (nat_le (offset_of fault)
 before_all : (first noted fault : ReadFault) → offset_of noted < offset_of first → IsNotAfter first fault → IsNotAfter noted fault
 before_all first noted fault high after = elim after [ inl less ↦ inl (omega arith) | inr same ↦ inl (omega (arith, same.0)) ]
 
-module _ (scan : Scan) (kind : ℕ → ReadFault) (rank : ℕ) (of_kind : IsKind kind rank) (single : (at other : ℕ) → StandsIn scan (kind at) → StandsIn scan (kind other) → at ≡ other) where
+module _ (text : List ℕ) (tokens : List Token) (rest : List ℕ) (kind : ℕ → ReadFault) (rank : ℕ) (of_kind : IsKind kind rank) (single : (at other : ℕ) → StandsAmong text tokens rest (kind at) → StandsAmong text tokens rest (kind other) → at ≡ other) where
   -- a fault of the kind, told by its offset
-  stands_there : (fault : ReadFault) → rank_of fault ≡ rank → StandsIn scan fault → StandsIn scan (kind (offset_of fault))
-  stands_there fault is stands = subst (StandsIn scan) (of_kind.only fault is) stands
+  stands_there : (fault : ReadFault) → rank_of fault ≡ rank → StandsAmong text tokens rest fault → StandsAmong text tokens rest (kind (offset_of fault))
+  stands_there fault is stands = subst (StandsAmong text tokens rest) (of_kind.only fault is) stands
 
   -- where a fault of the kind is noted, each of it is at that offset
-  same_offset : (noted fault : ReadFault) (at : ℕ) → noted ≡ kind at → StandsIn scan (kind at) → rank_of fault ≡ rank → StandsIn scan fault → offset_of noted ≡ offset_of fault
+  same_offset : (noted fault : ReadFault) (at : ℕ) → noted ≡ kind at → StandsAmong text tokens rest (kind at) → rank_of fault ≡ rank → StandsAmong text tokens rest fault → offset_of noted ≡ offset_of fault
   same_offset noted fault at is stands of_rank stands_too =
       ap offset_of is ∙ of_kind.offset_is at ∙ single at (offset_of fault) stands (stands_there fault of_rank stands_too)
 
   noted_rank : (noted : ReadFault) (at : ℕ) → noted ≡ kind at → rank_of noted ≡ rank
   noted_rank noted at is = ap rank_of is ∙ of_kind.rank_is at
 
-  first_with : (first noted : Option ReadFault) → IsFirstBelow scan rank first → IsNoted kind scan noted → IsFirstBelow scan (rank + 1) (earlier_of first noted)
+  first_with : (first noted : Option ReadFault) → IsFirstBelow text tokens rest rank first → IsNotedAmong text tokens rest kind noted → IsFirstBelow text tokens rest (rank + 1) (earlier_of first noted)
   first_with None None none none_of_kind = λ fault low stands. elim (below_or_of rank fault low) [
     | inl below ↦ none fault below stands
     | inr of_rank ↦ none_of_kind (offset_of fault) (stands_there fault of_rank stands)
   ]
   first_with None (Some noted) none is = (
     omega (arith, noted_rank noted is.0 is.1),
-    subst (StandsIn scan) (sym is.1) is.2,
+    subst (StandsAmong text tokens rest) (sym is.1) is.2,
     λ fault low stands. elim (below_or_of rank fault low) [
       | inl below ↦ absurd (none fault below stands)
       | inr of_rank ↦ inr (same_offset noted fault is.0 is.1 is.2 of_rank stands, omega (arith, noted_rank noted is.0 is.1))
@@ -177,7 +176,7 @@ module _ (scan : Scan) (kind : ℕ → ReadFault) (rank : ℕ) (of_kind : IsKind
       | inr of_rank ↦ absurd (none_of_kind (offset_of fault) (stands_there fault of_rank stands))
     ],
   )
-  first_with (Some first) (Some noted) is is_noted = chosen (IsFirstBelow scan (rank + 1)) first noted
+  first_with (Some first) (Some noted) is is_noted = chosen (IsFirstBelow text tokens rest (rank + 1)) first noted
       (λ low. (
         omega (arith, is.0),
         is.1,
@@ -188,7 +187,7 @@ module _ (scan : Scan) (kind : ℕ → ReadFault) (rank : ℕ) (of_kind : IsKind
       ))
       (λ high. (
         omega (arith, noted_rank noted is_noted.0 is_noted.1),
-        subst (StandsIn scan) (sym is_noted.1) is_noted.2,
+        subst (StandsAmong text tokens rest) (sym is_noted.1) is_noted.2,
         λ fault below stands. elim (below_or_of rank fault below) [
           | inl lower ↦ before_all first noted fault high (is.2 fault lower stands)
           | inr of_rank ↦ inr (same_offset noted fault is_noted.0 is_noted.1 is_noted.2 of_rank stands, omega (arith, noted_rank noted is_noted.0 is_noted.1))
@@ -197,33 +196,33 @@ module _ (scan : Scan) (kind : ℕ → ReadFault) (rank : ℕ) (of_kind : IsKind
 
 -- ---- all kinds
 
-stands_ranked : (scan : Scan) (fault : ReadFault) → StandsIn scan fault → rank_of fault < 5
-stands_ranked scan (Byte at) stands = omega arith
-stands_ranked scan (Name at) stands = omega arith
-stands_ranked scan (Number at) stands = omega arith
-stands_ranked scan (Syntax at) stands = omega arith
-stands_ranked scan (Nest at) stands = omega arith
-stands_ranked scan Memory stands = absurd stands
+stands_ranked : (text : List ℕ) (tokens : List Token) (rest : List ℕ) (fault : ReadFault) → StandsAmong text tokens rest fault → rank_of fault < 5
+stands_ranked text tokens rest (Byte at) stands = omega arith
+stands_ranked text tokens rest (Name at) stands = omega arith
+stands_ranked text tokens rest (Number at) stands = omega arith
+stands_ranked text tokens rest (Syntax at) stands = omega arith
+stands_ranked text tokens rest (Nest at) stands = omega arith
+stands_ranked text tokens rest Memory stands = absurd stands
 
-first_is_first : (scan : Scan) (found : Option ReadFault) → IsScanned scan → IsFirstBelow scan 5 found → IsFirstFault scan.text.now found
-first_is_first scan None scanned none = λ fault has.
-    let stands = stands_among scan.text.now (tokens_in scan) scan.rest.now fault scanned has in
-    none fault (stands_ranked scan fault stands) stands
-first_is_first scan (Some first) scanned is = record {
-  has = (tokens_in scan, scan.rest.now, scanned, is.1);
+first_is_first : (text : List ℕ) (tokens : List Token) (rest : List ℕ) (found : Option ReadFault) → IsTokenized text tokens rest → IsFirstBelow text tokens rest 5 found → IsFirstFault text found
+first_is_first text tokens rest None scanned none = λ fault has.
+    let stands = stands_among text tokens rest fault scanned has in
+    none fault (stands_ranked text tokens rest fault stands) stands
+first_is_first text tokens rest (Some first) scanned is = record {
+  has = (tokens, rest, scanned, is.1);
   first = λ fault has.
-      let stands = stands_among scan.text.now (tokens_in scan) scan.rest.now fault scanned has in
-      is.2 fault (stands_ranked scan fault stands) stands;
+      let stands = stands_among text tokens rest fault scanned has in
+      is.2 fault (stands_ranked text tokens rest fault stands) stands;
 }
 
-none_below : (scan : Scan) → IsFirstBelow scan 0 None
-none_below scan fault low stands = absurd (omega (arith, low))
+none_below : (text : List ℕ) (tokens : List Token) (rest : List ℕ) → IsFirstBelow text tokens rest 0 None
+none_below text tokens rest fault low stands = absurd (omega (arith, low))
 
-pub first_of_all : (scan : Scan) (byte name number syntax nest : Option ReadFault) → IsScanned scan → IsNoted Byte scan byte → IsNoted Name scan name → IsNoted Number scan number → IsNoted Syntax scan syntax → IsNoted Nest scan nest → IsFirstFault scan.text.now (earlier_of (earlier_of (earlier_of (earlier_of byte name) number) syntax) nest)
-first_of_all scan byte name number syntax nest scanned noted_byte noted_name noted_number noted_syntax noted_nest =
-    let first = first_with scan Byte 0 bytes (one_byte scan) None byte (none_below scan) noted_byte in
-    let second = first_with scan Name 1 names (one_name scan) byte name first noted_name in
-    let third = first_with scan Number 2 numbers (one_number scan) (earlier_of byte name) number second noted_number in
-    let fourth = first_with scan Syntax 3 misplaced_tokens (one_syntax scan) (earlier_of (earlier_of byte name) number) syntax third noted_syntax in
-    let fifth = first_with scan Nest 4 nestings (one_nest scan) (earlier_of (earlier_of (earlier_of byte name) number) syntax) nest fourth noted_nest in
-    first_is_first scan (earlier_of (earlier_of (earlier_of (earlier_of byte name) number) syntax) nest) scanned fifth
+pub first_of_all : (text : List ℕ) (tokens : List Token) (rest : List ℕ) (byte name number syntax nest : Option ReadFault) → IsTokenized text tokens rest → IsNotedAmong text tokens rest Byte byte → IsNotedAmong text tokens rest Name name → IsNotedAmong text tokens rest Number number → IsNotedAmong text tokens rest Syntax syntax → IsNotedAmong text tokens rest Nest nest → IsFirstFault text (earlier_of (earlier_of (earlier_of (earlier_of byte name) number) syntax) nest)
+first_of_all text tokens rest byte name number syntax nest scanned noted_byte noted_name noted_number noted_syntax noted_nest =
+    let first = first_with text tokens rest Byte 0 bytes (one_byte text tokens rest) None byte (none_below text tokens rest) noted_byte in
+    let second = first_with text tokens rest Name 1 names (one_name text tokens rest) byte name first noted_name in
+    let third = first_with text tokens rest Number 2 numbers (one_number text tokens rest) (earlier_of byte name) number second noted_number in
+    let fourth = first_with text tokens rest Syntax 3 misplaced_tokens (one_syntax text tokens rest) (earlier_of (earlier_of byte name) number) syntax third noted_syntax in
+    let fifth = first_with text tokens rest Nest 4 nestings (one_nest text tokens rest) (earlier_of (earlier_of (earlier_of byte name) number) syntax) nest fourth noted_nest in
+    first_is_first text tokens rest (earlier_of (earlier_of (earlier_of (earlier_of byte name) number) syntax) nest) scanned fifth

@@ -11,3 +11,5 @@ pub mod Depths
 pub mod FaultKinds
 pub mod FirstFault
 pub mod Sentences
+pub mod EachTree
+pub mod SomeReadings

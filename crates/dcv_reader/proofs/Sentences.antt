@@ -19,7 +19,7 @@ use Rattle.dcv_reader.specs.Language.{language}
 use Rattle.dcv_reader.specs.Faults.{HasFault, classes_of, offset_at}
 use Rattle.dcv_reader.proofs.Grammar.{predictive}
 
-empty_or_not : (rest : List ℕ) → (rest ≡ []) ⊎ (0 < length rest)
+pub empty_or_not : (rest : List ℕ) → (rest ≡ []) ⊎ (0 < length rest)
 empty_or_not [] = inl refl
 empty_or_not (b ∷ rest) = inr (omega arith)
 

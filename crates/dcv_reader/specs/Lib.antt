@@ -10,3 +10,4 @@ pub mod FormulaLists
 pub mod BuildingFiles
 pub mod Faults
 pub mod Scanning
+pub mod Laws

@@ -18,9 +18,13 @@ abbrev pub StandsIn : Scan → ReadFault → Type 0
 StandsIn scan fault = StandsAmong scan.text.now (tokens_in scan) scan.rest.now fault
 
 -- the fault of this kind, if there is one of it
+abbrev pub IsNotedAmong : List ℕ → List Token → List ℕ → (ℕ → ReadFault) → Option ReadFault → Type 0
+IsNotedAmong text tokens rest kind (Some fault) = (at : ℕ) × (fault ≡ kind at) × StandsAmong text tokens rest (kind at)
+IsNotedAmong text tokens rest kind None = (at : ℕ) → StandsAmong text tokens rest (kind at) → ⊥
+
+-- the same of the scanned text
 abbrev pub IsNoted : (ℕ → ReadFault) → Scan → Option ReadFault → Type 0
-IsNoted kind scan (Some fault) = (at : ℕ) × (fault ≡ kind at) × StandsIn scan (kind at)
-IsNoted kind scan None = (at : ℕ) → StandsIn scan (kind at) → ⊥
+IsNoted kind scan found = IsNotedAmong scan.text.now (tokens_in scan) scan.rest.now kind found
 
 -- the first fault of a text, if it has any
 abbrev pub IsFirstFault : List ℕ → Option ReadFault → Type 0
