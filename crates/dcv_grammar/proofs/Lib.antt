@@ -7,6 +7,5 @@ pub mod Stacks
 pub mod TreeLaws
 pub mod ReadingLaws
 pub mod Builders
-pub mod ListExample
 pub mod Tables
 pub mod Verdicts

@@ -5,14 +5,14 @@ use Rattle.std.specs.List.{flat_map}
 use Rattle.std.specs.Borrow.{Bor}
 use Rattle.std.proofs.lemmas.List.{length-map}
 use Rattle.std.proofs.lemmas.Option.{slice_get-map, slice_get-get_or}
-use Rattle.dcv_grammar.specs.declared.grammar.Rule.{Rule as RuleData}
+use Rattle.dcv_grammar.specs.declared.grammar.Production.{Production as ProductionTable}
 use Rattle.dcv_grammar.specs.Grammar.{Production, production_of}
 
-abbrev pub rules_in : List (Bor (List RuleData)) → List Production
+abbrev pub rules_in : List (Bor (List ProductionTable)) → List Production
 rules_in tables = flat_map (λ table. map production_of table.now) tables
 
 -- the rule of the number stands this far behind in the tables from an index on
-pub record IsLeft (tables : List (Bor (List RuleData))) (index behind number : ℕ) : Type 0 where
+pub record IsLeft (tables : List (Bor (List ProductionTable))) (index behind number : ℕ) : Type 0 where
   pub within : behind < length (rules_in (drop index tables))
   pub same : slice_get (rules_in (drop index tables)) behind ≡ slice_get (rules_in tables) number
 
@@ -26,13 +26,13 @@ get_behind [] ys i le = ap (slice_get ys) (omega arith)
 get_behind (x ∷ xs) ys zero le = absurd (omega arith)
 get_behind (x ∷ xs) ys (suc i) le = let e : i - length xs ≡ suc i - length (x ∷ xs) = omega arith in get_behind xs ys i (omega arith) ∙ ap (slice_get ys) e
 
-module _ (tables : List (Bor (List RuleData))) (index : ℕ) (d : Bor (List RuleData)) (lt : index < length tables) where
+module _ (tables : List (Bor (List ProductionTable))) (index : ℕ) (d : Bor (List ProductionTable)) (lt : index < length tables) where
   rules_from : rules_in (drop index tables) ≡ map production_of (get_or tables index d).now ++ rules_in (drop (index + 1) tables)
   rules_from =
       let e : drop index tables ≡ get_or tables index d ∷ drop (index + 1) tables = rw (add-one, drop-cons tables index d) in
       ap rules_in e
 
-  pub found_here : (behind number : ℕ) (r : RuleData) → IsLeft tables index behind number → behind < length (get_or tables index d).now → slice_get (rules_in tables) number ≡ Some (production_of (get_or (get_or tables index d).now behind r))
+  pub found_here : (behind number : ℕ) (r : ProductionTable) → IsLeft tables index behind number → behind < length (get_or tables index d).now → slice_get (rules_in tables) number ≡ Some (production_of (get_or (get_or tables index d).now behind r))
   found_here behind number r left here =
       let table = (get_or tables index d).now in
       let inside : behind < length (map production_of table) = subst (λ n. behind < n) (sym (length-map table production_of)) here in

@@ -3,9 +3,9 @@ use Rattle.std.specs.Prelude.{◌≡◌, ℕ, ◌+◌, ◌<◌, List, [], ◌∷
 use Rattle.std.specs.List.{flat_map}
 use Rattle.dcv_grammar.specs.declared.grammar.Symbol.{Symbol}
 use Rattle.dcv_grammar.specs.declared.grammar.Symbol.TheVariants.{Class, Rule}
-use Rattle.dcv_grammar.specs.declared.grammar.Choice.{Choice}
-use Rattle.dcv_grammar.specs.declared.grammar.Rule.{Rule as RuleData}
-use Rattle.dcv_grammar.specs.declared.grammar.Grammar.{Grammar}
+use Rattle.dcv_grammar.specs.declared.grammar.Alternative.{Alternative as AlternativeTable}
+use Rattle.dcv_grammar.specs.declared.grammar.Production.{Production as ProductionTable}
+use Rattle.dcv_grammar.specs.declared.grammar.ContextFree.{ContextFree as GrammarTables}
 
 -- a body, and the classes at which a reader picks it
 pub record Alternative : Type 0 where
@@ -23,13 +23,13 @@ pub record ContextFree : Type 0 where
   pub productions : List Production
 
 -- what is written in the tables of the code
-abbrev pub alternative_of : Choice → Alternative
-alternative_of choice = record { classes = choice.classes.now; body = choice.body.now }
+abbrev pub alternative_of : AlternativeTable → Alternative
+alternative_of table = record { classes = table.classes.now; body = table.body.now }
 
-abbrev pub production_of : RuleData → Production
-production_of rule = record { alternatives = map alternative_of rule.choices.now; otherwise = rule.otherwise.now }
+abbrev pub production_of : ProductionTable → Production
+production_of table = record { alternatives = map alternative_of table.alternatives.now; otherwise = table.otherwise.now }
 
-abbrev pub grammar_of : Grammar → ContextFree
+abbrev pub grammar_of : GrammarTables → ContextFree
 grammar_of grammar =
     record {
       start = grammar.start;

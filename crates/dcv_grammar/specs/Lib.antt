@@ -5,4 +5,3 @@ pub mod Predictive
 pub mod Machine
 pub mod Trees
 pub mod Reading
-pub mod Examples

@@ -18,7 +18,7 @@ pub enum Symbol {
 
 /// A body, and the classes that pick it. What the body derives begins with one of them.
 #[derive(Clone, Copy, Debug)]
-pub struct Choice<'g> {
+pub struct Alternative<'g> {
     pub classes: &'g [u8],
     pub body: &'g [Symbol],
 }
@@ -28,8 +28,8 @@ pub struct Choice<'g> {
 /// A rule with no empty body has one of its others as `otherwise`, from which such bodies alone come to an end. The
 /// reader takes it at a class that picks nothing too, and still finds the fault at that class.
 #[derive(Clone, Copy, Debug)]
-pub struct Rule<'g> {
-    pub choices: &'g [Choice<'g>],
+pub struct Production<'g> {
+    pub alternatives: &'g [Alternative<'g>],
     pub otherwise: &'g [Symbol],
 }
 
@@ -38,9 +38,9 @@ pub struct Rule<'g> {
 /// The rules stand in tables, and are numbered through all of them from 0. A table of more than about thirty rules
 /// may be too large for a check, so a large grammar has several, each from a function of its own.
 #[derive(Clone, Copy, Debug)]
-pub struct Grammar<'g> {
+pub struct ContextFree<'g> {
     pub start: u8,
-    pub tables: &'g [&'g [Rule<'g>]],
+    pub tables: &'g [&'g [Production<'g>]],
 }
 
 /// What a token is to a grammar.
@@ -61,15 +61,15 @@ impl Classified for u8 {
     }
 }
 
-impl<'g> Rule<'g> {
+impl<'g> Production<'g> {
     /// The body that the next class picks, or at the end the one that is taken otherwise.
     pub fn body_for(&self, next: Option<u8>) -> &'g [Symbol]
         ensures { result.now ≡ body_for (production_of self.now) next }
     {
         if let Some(class) = next {
-            for choice in self.choices {
-                if choice.classes.contains(&class) {
-                    return choice.body;
+            for alternative in self.alternatives {
+                if alternative.classes.contains(&class) {
+                    return alternative.body;
                 }
             }
         }
@@ -77,9 +77,9 @@ impl<'g> Rule<'g> {
     }
 }
 
-impl<'g> Grammar<'g> {
+impl<'g> ContextFree<'g> {
     /// The rule of a number.
-    pub fn rule(&self, number: u8) -> Rule<'g>
+    pub fn rule(&self, number: u8) -> Production<'g>
         requires { number < length (grammar_of self.now).productions }
         ensures { slice_get (grammar_of self.now).productions number ≡ Some (production_of result) }
     {

@@ -2,7 +2,6 @@
 #![tactic(auto)]
 
 pub mod grammar;
+pub mod laws;
 pub mod reader;
-#[cfg(test)]
-mod tests;
 pub mod trees;

@@ -1,11 +1,11 @@
 //! The predictive reader: it says whether a list of tokens is a sentence, and else where its first fault is.
 
 ghost use Rattle.std.specs.Prelude.{◌≡◌, ◌++◌, ℕ, List, Option, IfOk, OnOk, map, reverse};
-ghost use Rattle.dcv_grammar.specs.Grammar.{ContextFree, grammar_of, IsReached, IsVerdict};
+ghost use Rattle.dcv_grammar.specs.Grammar.{grammar_of, IsReached, IsVerdict};
 ghost use Rattle.dcv_grammar.specs.Predictive.{IsPredictive};
 ghost use Rattle.dcv_grammar.specs.Machine.{Wants};
 
-use crate::grammar::{Classified, Grammar, Symbol};
+use crate::grammar::{Classified, ContextFree, Symbol};
 use std::alloc::{AllocError, Global};
 
 /// Where the first fault of the tokens is, or none in a sentence. What is before the fault is the beginning of a
@@ -14,7 +14,7 @@ use std::alloc::{AllocError, Global};
 /// What is still to come stands on a stack on the heap, so a long or deeply nested list does not grow the call stack.
 pub fn first_fault<T: Classified>(
     alloc: Global,
-    grammar: &Grammar<'_>,
+    grammar: &ContextFree<'_>,
     tokens: &[T],
 ) -> Result<Option<usize>, AllocError>
     requires { IsPredictive (grammar_of grammar.now) }
@@ -36,17 +36,9 @@ pub fn first_fault<T: Classified>(
     Ok(None)
 }
 
-/// With a predictive grammar each list has a verdict, and with any grammar no second one.
-pub fn one_verdict()
-    ensures some { (grammar : ContextFree) → IsPredictive grammar → (classes : List ℕ) →
-        (verdict : Option ℕ) × IsVerdict grammar classes verdict }
-    ensures only { (grammar : ContextFree) (classes : List ℕ) (verdict other : Option ℕ) →
-        IsVerdict grammar classes verdict → IsVerdict grammar classes other → verdict ≡ other }
-{}
-
 /// Takes bodies in the place of their rules, as the next class picks them, until a class is on top, and takes it off.
 fn wanted_class(
-    grammar: &Grammar<'_>,
+    grammar: &ContextFree<'_>,
     stack: &mut Vec<Symbol>,
     next: Option<u8>,
 ) -> Result<Option<u8>, AllocError>

@@ -19,14 +19,14 @@ use Rattle.dcv_tokens.specs.Tokens.{Token, span_over}
 use Rattle.dcv_tokens.specs.Classes as classes
 use Rattle.dcv_tokens.specs.Classes.{class_of}
 use Rattle.dcv_tokens.specs.Reading.{seen}
-use Rattle.dcv_reader.specs.RuleNumbers as rules
-use Rattle.dcv_reader.specs.Language.{language, file_rules, formula_rules, prop_rules, optional, file_rule, declaration_rule, more_names_rule, macros_rule, macro_rule, parameters_rule}
+use Rattle.dcv_sentence.specs.RuleNumbers as rules
+use Rattle.dcv_sentence.specs.Language.{language, file_rules, formula_rules, prop_rules, optional, file_rule, declaration_rule, more_names_rule, macros_rule, macro_rule, parameters_rule}
 use Rattle.dcv_reader.specs.Nodes.{token_class, name_of}
 use Rattle.dcv_reader.specs.Actions.{Part, AToken, Names, AProp, AFormula, AMacro, Macros, AFile, action, parts_of}
 use Rattle.dcv_reader.specs.Building.{is_next, is_next_of, BeginWith, ReadAs, BeginWithRule, RuleReadAs}
 use Rattle.dcv_reader.specs.BuildingFiles.{some_names, body_rule, NamesReadAs, IsBodyPart, BodyReadAs}
 use Rattle.dcv_reader.specs.Spelling.{SpellsFile}
-use Rattle.dcv_reader.proofs.Grammar.{predictive}
+use Rattle.dcv_sentence.proofs.Grammar.{predictive}
 use Rattle.dcv_reader.proofs.BuilderParts.{parts_of-join, reads_nothing, reads_token, begins_first, begins_token, token_there, no_longer, body_begins, rule_read}
 use Rattle.dcv_reader.proofs.BuilderForms.{always_picked, optional_picked}
 use Rattle.dcv_reader.proofs.BuilderLevels.{Separated, OperandsRead, operands_start, operand_next, operands_more, operands_read}

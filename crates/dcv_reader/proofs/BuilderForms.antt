@@ -9,7 +9,7 @@ use Rattle.dcv_grammar.specs.Picked.{body_for}
 use Rattle.dcv_grammar.specs.Reading.{next_class}
 use Rattle.dcv_tokens.specs.Tokens.{Token}
 use Rattle.dcv_tokens.specs.Classes as classes
-use Rattle.dcv_reader.specs.Language.{language, always, optional}
+use Rattle.dcv_sentence.specs.Language.{language, always, optional}
 use Rattle.dcv_reader.specs.Nodes.{token_class}
 use Rattle.dcv_reader.specs.Actions.{Part, AToken, action}
 use Rattle.dcv_reader.specs.Building.{is_next, is_next_of, BeginWith, BeginWithRule, RuleReadAs}

@@ -17,12 +17,13 @@ use Rattle.dcv_grammar.specs.Reading.{next_class, repeated, ReadsFronts}
 use Rattle.dcv_grammar.proofs.Builders as builders
 use Rattle.dcv_tokens.specs.Tokens.{Token, span_of, span_over}
 use Rattle.dcv_tokens.specs.Classes as classes
-use Rattle.dcv_reader.specs.RuleNumbers as rules
-use Rattle.dcv_reader.specs.Language.{language, file_rules, formula_rules, prop_rules, formula_rule, formula_iff_rule, formula_iff_more_rule, formula_implies_rule, formula_implied_rule, formula_or_rule, formula_or_more_rule, formula_and_rule, formula_and_more_rule, formula_chop_rule, formula_chop_more_rule, formula_prefix_rule, formula_star_rule, stars_rule, formula_atom_rule, relation_rule}
-use Rattle.dcv_reader.specs.Nodes.{token_class, number_of, relation_of, covering, bare, formula_word, starred, starred_by, last_span, formula_list}
+use Rattle.dcv_sentence.specs.RuleNumbers as rules
+use Rattle.dcv_sentence.specs.Language.{language, file_rules, formula_rules, prop_rules, formula_rule, formula_iff_rule, formula_iff_more_rule, formula_implies_rule, formula_implied_rule, formula_or_rule, formula_or_more_rule, formula_and_rule, formula_and_more_rule, formula_chop_rule, formula_chop_more_rule, formula_prefix_rule, formula_star_rule, stars_rule, formula_atom_rule, relation_rule}
+use Rattle.dcv_syntax.specs.Spans.{covering}
+use Rattle.dcv_reader.specs.Nodes.{token_class, number_of, relation_of, bare, formula_word, starred, starred_by, last_span, formula_list}
 use Rattle.dcv_reader.specs.Actions.{AToken, AFormula, Formulas, ARelation, Stars, action, parts_of}
 use Rattle.dcv_reader.specs.Building.{is_next, is_next_of, BeginWithRule, RuleReadAs}
-use Rattle.dcv_reader.proofs.Grammar.{predictive}
+use Rattle.dcv_sentence.proofs.Grammar.{predictive}
 use Rattle.dcv_reader.proofs.BuilderParts.{parts_of-join, next_is, token_next, reads_nothing, reads_token, reads_next, begins_first, begins_next, begins_token, no_longer, body_begins, rule_read}
 use Rattle.dcv_reader.proofs.BuilderForms.{always_picked, optional_picked, nothing_picked, word_read, one_of, none_of}
 use Rattle.dcv_reader.proofs.BuilderLevels.{Separated}

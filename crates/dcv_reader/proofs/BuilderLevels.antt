@@ -5,7 +5,7 @@ use Rattle.std.proofs.lemmas.List.{map-append}
 use Rattle.dcv_grammar.specs.declared.grammar.Symbol.{Symbol}
 use Rattle.dcv_grammar.specs.declared.grammar.Symbol.TheVariants.{Class, Rule}
 use Rattle.dcv_tokens.specs.Tokens.{Token}
-use Rattle.dcv_reader.specs.Language.{language, always, optional}
+use Rattle.dcv_sentence.specs.Language.{language, always, optional}
 use Rattle.dcv_reader.specs.Actions.{Part, AToken, action}
 use Rattle.dcv_reader.specs.Building.{is_next, BeginWith, ReadAs, BeginWithRule, RuleReadAs}
 use Rattle.dcv_reader.proofs.BuilderParts.{reads_token, reads_next, begins_first, begins_next, begins_token, token_there, no_longer, body_begins, rule_read}

@@ -8,11 +8,11 @@ use Rattle.dcv_grammar.specs.Trees.{Nodes, done, node}
 use Rattle.dcv_grammar.specs.Reading.{next_class, repeated, ReadsFronts}
 use Rattle.dcv_grammar.proofs.Builders as builders
 use Rattle.dcv_tokens.specs.Tokens.{Token}
-use Rattle.dcv_reader.specs.Language.{language, optional}
+use Rattle.dcv_sentence.specs.Language.{language, optional}
 use Rattle.dcv_reader.specs.Nodes.{token_class}
 use Rattle.dcv_reader.specs.Actions.{Part, AToken, action, parts_of}
 use Rattle.dcv_reader.specs.Building.{is_next, BeginWith, ReadAs, BeginWithRule, RuleReadAs}
-use Rattle.dcv_reader.proofs.Grammar.{predictive}
+use Rattle.dcv_sentence.proofs.Grammar.{predictive}
 use Rattle.dcv_reader.proofs.BuilderParts.{parts_of-join, next_is, reads_token, reads_next, begins_token, no_longer}
 
 -- the fronts are a separator and an item each

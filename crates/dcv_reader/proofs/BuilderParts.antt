@@ -12,11 +12,11 @@ use Rattle.dcv_grammar.proofs.Builders as builders
 use Rattle.dcv_tokens.specs.Tokens.{Token}
 use Rattle.dcv_tokens.specs.Classes as classes
 use Rattle.dcv_tokens.specs.Limits.{largest_number}
-use Rattle.dcv_reader.specs.Language.{language}
+use Rattle.dcv_sentence.specs.Language.{language}
 use Rattle.dcv_reader.specs.Nodes.{token_class, number_of}
 use Rattle.dcv_reader.specs.Actions.{Part, AToken, action, parts_of}
 use Rattle.dcv_reader.specs.Building.{HasSmallNumbers, is_next, BeginWith, ReadAs, BeginWithRule, RuleReadAs}
-use Rattle.dcv_reader.proofs.Grammar.{predictive}
+use Rattle.dcv_sentence.proofs.Grammar.{predictive}
 
 pub parts_of-join : (a b : Nodes Token) → parts_of (join a b) ≡ parts_of a ++ parts_of b
 parts_of-join done b = refl

@@ -7,19 +7,20 @@ use Rattle.std.specs.Prelude.{Some, slice_get, Bool, true, false, ◌==◌, ◌|
 use Rattle.dcv_grammar.specs.declared.grammar.Symbol.TheVariants.{Class, Rule}
 use Rattle.dcv_tokens.specs.Classes as classes
 use Rattle.dcv_tokens.specs.Tokens.{Token}
-use Rattle.dcv_reader.specs.RuleNumbers as rules
-use Rattle.dcv_reader.specs.Language.{language, file_rules, formula_rules, prop_rules, prop_rule, prop_iff_more_rule, prop_or_rule, prop_or_more_rule, prop_and_rule, prop_and_more_rule, arguments_rule, more_arguments_rule, prop_implies_rule, prop_implied_rule, prop_prefix_rule, prop_atom_rule}
+use Rattle.dcv_sentence.specs.RuleNumbers as rules
+use Rattle.dcv_sentence.specs.Language.{language, file_rules, formula_rules, prop_rules, prop_rule, prop_iff_more_rule, prop_or_rule, prop_or_more_rule, prop_and_rule, prop_and_more_rule, arguments_rule, more_arguments_rule, prop_implies_rule, prop_implied_rule, prop_prefix_rule, prop_atom_rule}
 use Rattle.dcv_reader.specs.Actions.{AProp, Props}
 use Rattle.dcv_reader.proofs.BuilderLevels.{Separated, EnclosedRead}
 use Rattle.dcv_reader.proofs.BuilderParts.{next_is}
-use Rattle.dcv_reader.proofs.Grammar.{predictive}
+use Rattle.dcv_sentence.proofs.Grammar.{predictive}
 use Rattle.dcv_grammar.proofs.Builders as builders
 use Rattle.dcv_grammar.specs.Picked.{body_for}
 use Rattle.dcv_grammar.specs.Reading.{next_class}
 use Rattle.dcv_reader.specs.Building.{is_next, BeginWithRule, RuleReadAs}
 use Rattle.dcv_reader.proofs.BuilderForms.{word_read}
 use Rattle.std.proofs.lemmas.Bool.Decides.{nat_tests}
-use Rattle.dcv_reader.specs.Nodes.{token_class, prop_constant, covering, bare_prop, last_prop_span, prop_list}
+use Rattle.dcv_syntax.specs.Spans.{covering}
+use Rattle.dcv_reader.specs.Nodes.{token_class, prop_constant, bare_prop, last_prop_span, prop_list}
 
 -- ---- lists of operands
 

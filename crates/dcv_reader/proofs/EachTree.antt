@@ -13,7 +13,7 @@ use Rattle.dcv_grammar.specs.Grammar.{Production, IsBody, bodies}
 use Rattle.dcv_grammar.specs.Trees.{Nodes, done, leaf, node, AreTrees}
 use Rattle.dcv_grammar.proofs.Derivations.{rule_with}
 use Rattle.dcv_tokens.specs.Tokens.{Token}
-use Rattle.dcv_reader.specs.Language.{file_rules, formula_rules, prop_rules, language}
+use Rattle.dcv_sentence.specs.Language.{file_rules, formula_rules, prop_rules, language}
 use Rattle.dcv_reader.specs.Nodes.{token_class}
 use Rattle.dcv_reader.specs.Actions.{Part, AToken, Names, Arguments, ARelation, AProp, AFormula, Props, Formulas, Stars, AMacro, Macros, AFile, Nothing, actions, action, parts_of, prop_implies_part, formula_implies_part}
 

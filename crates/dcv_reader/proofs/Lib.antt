@@ -1,4 +1,3 @@
-pub mod Grammar
 pub mod BuilderParts
 pub mod BuilderLists
 pub mod BuilderProps
@@ -7,9 +6,5 @@ pub mod BuilderForms
 pub mod BuilderFormulas
 pub mod Trees
 pub mod BuilderFiles
-pub mod Depths
-pub mod FaultKinds
-pub mod FirstFault
-pub mod Sentences
 pub mod EachTree
 pub mod SomeReadings

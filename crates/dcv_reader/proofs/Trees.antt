@@ -4,11 +4,11 @@ use Rattle.dcv_syntax.specs.Plain.{PlainFile}
 use Rattle.dcv_grammar.proofs.ReadingLaws as laws
 use Rattle.dcv_tokens.specs.Tokens.{Token, tokens_from}
 use Rattle.dcv_tokens.proofs.Cuts.{cut_is_unique}
-use Rattle.dcv_reader.specs.Language.{language}
+use Rattle.dcv_sentence.specs.Language.{language}
 use Rattle.dcv_reader.specs.Nodes.{token_class}
 use Rattle.dcv_reader.specs.Actions.{AFile, parts_of}
 use Rattle.dcv_reader.specs.Spelling.{SpellsFile, Spells}
-use Rattle.dcv_reader.proofs.Grammar.{predictive}
+use Rattle.dcv_sentence.proofs.Grammar.{predictive}
 
 tokens_spell_one : (tokens : List Token) (file other : PlainFile) → SpellsFile tokens file → SpellsFile tokens other → file ≡ other
 tokens_spell_one tokens file other (tree, is, stands) (another, another_is, another_stands) =

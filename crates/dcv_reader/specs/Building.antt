@@ -8,7 +8,7 @@ use Rattle.dcv_grammar.specs.Reading.{Begins, Reads}
 use Rattle.dcv_tokens.specs.Tokens.{Token}
 use Rattle.dcv_tokens.specs.Classes as classes
 use Rattle.dcv_tokens.specs.Limits.{largest_number}
-use Rattle.dcv_reader.specs.Language.{language}
+use Rattle.dcv_sentence.specs.Language.{language}
 use Rattle.dcv_reader.specs.Nodes.{token_class, number_of}
 use Rattle.dcv_reader.specs.Actions.{Part, parts_of}
 

@@ -7,7 +7,7 @@ use Rattle.dcv_grammar.specs.declared.grammar.Symbol.TheVariants.{Class, Rule}
 use Rattle.dcv_tokens.specs.Tokens.{Token}
 use Rattle.dcv_tokens.specs.Classes as classes
 use Rattle.dcv_reader.specs.Nodes.{name_of}
-use Rattle.dcv_reader.specs.RuleNumbers as rules
+use Rattle.dcv_sentence.specs.RuleNumbers as rules
 use Rattle.dcv_reader.specs.Actions.{Part, AToken, Names, AProp, AFormula}
 use Rattle.dcv_reader.specs.Building.{ReadAs, RuleReadAs}
 

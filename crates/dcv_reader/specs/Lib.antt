@@ -1,13 +1,11 @@
-pub mod RuleNumbers
-pub mod Language
+-- what public clauses cite: the file that a text spells
 pub mod Nodes
 pub mod Actions
 pub mod Spelling
+pub mod Laws
+-- for proofs alone: what the builder of trees requires and ensures
 pub mod Building
 pub mod Left
 pub mod PropLists
 pub mod FormulaLists
 pub mod BuildingFiles
-pub mod Faults
-pub mod Scanning
-pub mod Laws

@@ -2,6 +2,7 @@
 use Rattle.std.specs.Prelude.{ℕ, ◌==◌, List, [], ◌∷◌, Option, Some, None, if◌then◌else◌}
 use Rattle.dcv_syntax.specs.declared.names.Name.{Name}
 use Rattle.dcv_syntax.specs.declared.names.Span.{Span}
+use Rattle.dcv_syntax.specs.Spans.{covering}
 use Rattle.dcv_syntax.specs.declared.formulas.Number.{Number}
 use Rattle.dcv_syntax.specs.declared.formulas.Relation.{Relation}
 use Rattle.dcv_syntax.specs.declared.formulas.Relation.TheVariants.{Equal, Less, AtMost, Greater, AtLeast}
@@ -14,10 +15,6 @@ use Rattle.dcv_tokens.specs.Classes.{class_of}
 -- what a token is to the grammar
 abbrev pub token_class : Token → ℕ
 token_class token = class_of token.bytes
-
--- from the beginning of a span to the end of another
-abbrev pub covering : Span → Span → Span
-covering first last = record { start = first.start; end = last.end }
 
 -- ---- tokens
 

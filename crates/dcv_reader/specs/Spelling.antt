@@ -3,7 +3,7 @@ use Rattle.std.specs.Prelude.{◌≡◌, ℕ, List, [], ◌∷◌}
 use Rattle.dcv_syntax.specs.Plain.{PlainFile}
 use Rattle.dcv_grammar.specs.Trees.{Nodes, IsTree}
 use Rattle.dcv_tokens.specs.Tokens.{Token, IsCut, tokens_from}
-use Rattle.dcv_reader.specs.Language.{language}
+use Rattle.dcv_sentence.specs.Language.{language}
 use Rattle.dcv_reader.specs.Nodes.{token_class}
 use Rattle.dcv_reader.specs.Actions.{AFile, parts_of}
 

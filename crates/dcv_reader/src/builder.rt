@@ -2,49 +2,29 @@
 //
 // A function for a rule is called where the rule begins, and has no error but want of memory: the reader of faults has
 // been there before.
-ghost use Rattle.std.specs.Prelude.{◌≡◌, ◌<◌, ◌^◌, length, map, IfOk, IsTrue};
+ghost use Rattle.std.specs.Prelude.{◌≡◌, ◌<◌, length, map, IfOk, IsTrue};
 ghost use Rattle.dcv_tokens.specs.Reading.{seen};
-ghost use Rattle.dcv_tokens.specs.Tokens.{Token as TextToken, span_of};
-ghost use Rattle.dcv_tokens.specs.Decimal.{value_of};
+ghost use Rattle.dcv_tokens.specs.Tokens.{Token as TextToken};
 ghost use Rattle.dcv_reader.specs.Building.{HasSmallNumbers};
-ghost use Rattle.dcv_reader.specs.Nodes.{covering, name_of, number_of};
+ghost use Rattle.dcv_reader.specs.Nodes.{name_of, number_of};
 
 mod files;
 mod formulas;
 mod props;
 
 use dcv_grammar::trees::{first_and_rest, next_class};
-use dcv_syntax::{Name, Number, Span, Text};
+use dcv_syntax::{Name, Number, Text};
 use dcv_tokens::Token;
 use dcv_tokens::classes::NUMBER;
 pub use files::build_file;
 use std::alloc::{AllocError, Global};
 
 /// The tokens of a sentence that are left, and the allocator of the tree.
-#[derive(Clone, Copy, Debug)]
+#[derive(Debug, Drop)]
 pub struct Builder<'t, 'a> {
     alloc: Global,
     rest: &'t [Token<'a>],
     ghost small_numbers: { HasSmallNumbers (map seen rest.now) },
-}
-
-// From the beginning of a span to the end of another.
-fn covering(first: Span, last: Span) -> Span
-    ensures { result ≡ covering first last }
-{
-    Span {
-        start: first.start,
-        end: last.end,
-    }
-}
-
-fn span_of(token: &Token) -> Span
-    ensures { result ≡ span_of (seen token.now) }
-{
-    Span {
-        start: token.start,
-        end: token.start + token.bytes.len() as u32,
-    }
 }
 
 // The name that a token is.
@@ -53,7 +33,7 @@ fn name_of(alloc: Global, token: &Token) -> Result<Name, AllocError>
 {
     Ok(Name {
         text: Text::copy_of(alloc, token.bytes)?,
-        span: span_of(token),
+        span: token.span(),
     })
 }
 
@@ -96,20 +76,8 @@ impl<'t, 'a> Builder<'t, 'a> {
     {
         let token = self.take();
         Number {
-            value: decimal_value(token.bytes),
-            span: span_of(&token),
+            value: token.value(),
+            span: token.span(),
         }
     }
-}
-
-// What digits stand for in decimal.
-fn decimal_value(digits: &[u8]) -> u32
-    requires { value_of digits.now < 2 ^ 32 }
-    ensures { result ≡ value_of digits.now }
-{
-    let mut value = 0;
-    for digit in digits {
-        value = 10 * value + u32::from(digit.saturating_sub(b'0'));
-    }
-    value
 }

@@ -1,18 +1,12 @@
 //! Laws of the definitions that the contracts cite.
-ghost use Rattle.dcv_reader.specs.Spelling.{SpellsOne};
-ghost use Rattle.dcv_reader.specs.Faults.{FaultIsUnique};
 ghost use Rattle.dcv_reader.specs.Laws.{SomeReading};
+ghost use Rattle.dcv_reader.specs.Spelling.{SpellsOne};
 
-pub use dcv_tokens::laws::{one_class, one_cut};
+pub use dcv_sentence::laws::{one_class, one_cut, one_fault};
 
 /// A text spells one file at most.
 pub fn one_tree()
     ensures { SpellsOne }
-{}
-
-/// A text has at most one first fault.
-pub fn one_fault()
-    ensures { FaultIsUnique }
 {}
 
 /// A text has a first fault, or else it spells a file.

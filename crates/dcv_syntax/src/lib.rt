@@ -13,6 +13,3 @@ pub use files::{File, Macro, MacroBody};
 pub use formulas::{Formula, FormulaKind, FormulaOperand, Number, Relation};
 pub use names::{Name, Span, Text};
 pub use propositions::{Prop, PropKind, PropOperand};
-
-#[cfg(test)]
-mod tests;

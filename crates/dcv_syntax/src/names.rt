@@ -11,6 +11,20 @@ pub struct Span {
     pub end: u32,
 }
 
+impl Span {
+    ghost use Rattle.dcv_syntax.specs.Spans.{covering};
+
+    /// From the beginning of this span to the end of another.
+    pub fn to(self, last: Span) -> Span
+        ensures { result ≡ covering self last }
+    {
+        Span {
+            start: self.start,
+            end: last.end,
+        }
+    }
+}
+
 /// The text of a name, seen as the list of its bytes.
 #[derive(Debug, Drop)]
 pub struct Text {

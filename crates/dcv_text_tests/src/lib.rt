@@ -2,4 +2,16 @@
 #![tactic(auto)]
 
 #[cfg(test)]
+mod faults;
+#[cfg(test)]
+mod grammar;
+#[cfg(test)]
 mod io;
+#[cfg(test)]
+mod shown;
+#[cfg(test)]
+mod syntax;
+#[cfg(test)]
+mod tokens;
+#[cfg(test)]
+mod trees;

@@ -1,10 +1,11 @@
 -- Which tokens have the class of names, and which that of numbers.
-use Rattle.std.proofs.Common.{◌≡◌, ℕ, ◌<◌, ◌≤◌, Bool, true, not, ◌&&◌, ◌||◌, nat_lt, List, [], ◌∷◌, map, Option, Some, None, IsTrue, ◌⊎◌, inl, inr, refl, sym, ap, ◌∙◌, arith}
+use Rattle.std.proofs.Common.{◌==◌, ◌≡◌, ℕ, ◌<◌, ◌≤◌, Bool, true, not, ◌&&◌, ◌||◌, nat_lt, List, [], ◌∷◌, map, Option, Some, None, IsTrue, ◌⊎◌, inl, inr, refl, sym, ap, ◌∙◌, arith}
 use Rattle.std.specs.Prelude.{unwrap_or, if◌then◌else◌}
 use Rattle.std.specs.List.{list_all}
 use Rattle.std.specs.Str.{bytes_eq}
 use Rattle.std.specs.Char.{is_ascii_alphabetic, is_ascii_digit}
-use Rattle.std.proofs.lemmas.Bool.{cases_Bool, and_parts, and_from, or_cases, or_right, false≢true, both_ways, not-true, ltb-true}
+use Rattle.std.proofs.lemmas.Slice.Eq.{bytes_eq-Decides}
+use Rattle.std.proofs.lemmas.Bool.{eqb-false, cases_Bool, and_parts, and_from, or_cases, or_right, false≢true, both_ways, not-true, ltb-true}
 use Rattle.dcv_tokens.specs.Tokens.{is_one_of, symbols, reserved_words, is_word_byte, is_word, is_number, is_symbol, is_name, is_token}
 use Rattle.dcv_tokens.specs.Classes.{name, number, fixed_texts, class_in, class_of}
 use Rattle.dcv_tokens.proofs.FirstBytes.{one_of_passes, letter_above, digit_within}
@@ -142,3 +143,38 @@ class_of_name bytes is =
       | inl some ↦ absurd (both_ways (is_one_of reserved_words bytes) (not-true _ both.1) (fixed_word bytes some.0 some.1 both.0))
       | inr none ↦ by_kind bytes none ∙ rw both.0 refl
     ]
+
+-- ---- one fixed text a class
+
+abbrev are_distinct : List (List ℕ × ℕ) → Bool
+are_distinct [] = true
+are_distinct (entry ∷ table) = list_all (λ other. not (other.1 == entry.1)) table && are_distinct table
+
+same_text : (table : List (List ℕ × ℕ)) (text other : List ℕ) (class : ℕ) → are_distinct table ≡ true → class_in table text ≡ Some class → class_in table other ≡ Some class → text ≡ other
+same_text [] text other class distinct is other_is = let never : None ≡ Some class = is in cc
+same_text (entry ∷ table) text other class distinct is other_is =
+    let both = and_parts (list_all (λ e. not (e.1 == entry.1)) table) (are_distinct table) distinct in
+    elim (cases_Bool (bytes_eq text entry.0)) [
+      | inl same ↦
+          let here : Some entry.1 ≡ Some class = rw same at is in
+          let one : entry.1 ≡ class = cc in
+          elim (cases_Bool (bytes_eq other entry.0)) [
+            | inl same_too ↦ (bytes_eq-Decides text entry.0).0 same ∙ sym ((bytes_eq-Decides other entry.0).0 same_too)
+            | inr another ↦ absurd (not_again table other entry.1 both.0 (rw another at other_is ∙ ap Some (sym one)))
+          ]
+      | inr another ↦ elim (cases_Bool (bytes_eq other entry.0)) [
+        | inl same_too ↦
+            let here : Some entry.1 ≡ Some class = rw same_too at other_is in
+            let one : entry.1 ≡ class = cc in
+            absurd (not_again table text entry.1 both.0 (rw another at is ∙ ap Some (sym one)))
+        | inr another_too ↦ same_text table text other class both.1 (rw another at is) (rw another_too at other_is)
+      ]
+    ]
+  where
+    not_again : (table : List (List ℕ × ℕ)) (bytes : List ℕ) (class : ℕ) → list_all (λ e. not (e.1 == class)) table ≡ true → class_in table bytes ≡ Some class → ⊥
+    not_again table bytes class apart is =
+        eqb-false class class (not-true (class == class) (class_passes table (λ k. not (k == class)) bytes class apart is)) refl
+
+pub fixed_texts_differ : (text other : List ℕ) (class : ℕ) → class_in fixed_texts text ≡ Some class → class_in fixed_texts other ≡ Some class → text ≡ other
+unfolding fixed_texts
+fixed_texts_differ text other class is other_is = same_text fixed_texts text other class refl is other_is

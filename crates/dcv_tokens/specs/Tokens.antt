@@ -1,8 +1,9 @@
 -- How a text is cut into white space, comments and tokens. A text is the list of its bytes.
-use Rattle.std.specs.Prelude.{◌≡◌, ℕ, ◌+◌, ◌≤◌, Bool, false, not, ◌&&◌, ◌||◌, ◌==◌, List, [], ◌∷◌, ◌++◌, length, IsTrue, codes, bytes_eq, if◌then◌else◌}
+use Rattle.std.specs.Prelude.{◌≡◌, ℕ, ◌+◌, ◌≤◌, Bool, false, not, ◌&&◌, ◌||◌, ◌==◌, List, [], ◌∷◌, ◌++◌, length, map, IsTrue, bytes_eq, if◌then◌else◌}
 use Rattle.std.specs.List.{list_all, list_any, concat}
 use Rattle.std.specs.Char.{is_ascii_alphabetic, is_ascii_digit}
 use Rattle.dcv_syntax.specs.declared.names.Span.{Span}
+use Rattle.dcv_tokens.specs.FixedTexts.{symbol_classes, word_classes}
 
 -- one of the texts
 abbrev pub is_one_of : List (List ℕ) → List ℕ → Bool
@@ -43,19 +44,13 @@ is_number [] = false
 is_number (b ∷ bytes) = is_ascii_digit b && list_all is_ascii_digit bytes
 
 unfoldable pub symbols : List (List ℕ)
-symbols =
-    codes "<=>" ∷ codes "<=" ∷ codes ">=" ∷ codes "<>" ∷ codes "=>" ∷ codes "&&" ∷ codes "||"
-    ∷ codes "[]" ∷ codes "[[" ∷ codes "]]" ∷ codes "{{" ∷ codes "}}"
-    ∷ codes "(" ∷ codes ")" ∷ codes "," ∷ codes ";" ∷ codes "." ∷ codes "!" ∷ codes "^" ∷ codes "*"
-    ∷ codes "=" ∷ codes "<" ∷ codes ">" ∷ codes "[" ∷ codes "]" ∷ []
+symbols = map (λ entry. entry.0) symbol_classes
 
 abbrev pub is_symbol : List ℕ → Bool
 is_symbol piece = is_one_of symbols piece
 
 unfoldable pub reserved_words : List (List ℕ)
-reserved_words =
-    codes "var" ∷ codes "define" ∷ codes "prop" ∷ codes "as" ∷ codes "infer" ∷ codes "ex" ∷ codes "all"
-    ∷ codes "true" ∷ codes "false" ∷ codes "pt" ∷ codes "ext" ∷ codes "slen" ∷ codes "scount" ∷ codes "sdur" ∷ []
+reserved_words = map (λ entry. entry.0) word_classes
 
 -- a word that is not reserved
 abbrev pub is_name : List ℕ → Bool

@@ -43,7 +43,7 @@ const NESTING: [u8; 8] = [
 // What a definition or the goal begins with.
 const BEGINNINGS: [u8; 3] = [WORD_DEFINE, WORD_PROP, WORD_INFER];
 
-// The value of a number, and one above the largest where it is larger still.
+// The value of digits, and one above the largest number where it is larger still.
 fn capped_value(digits: &[u8]) -> u32
     requires { IsTrue (is_number digits.now) }
     ensures { result ≡ min (value_of digits.now) (LARGEST_NUMBER + 1) }
@@ -57,9 +57,17 @@ fn capped_value(digits: &[u8]) -> u32
 }
 
 impl Token<'_> {
-    ghost use Rattle.dcv_tokens.specs.Tokens.{span_over};
-    ghost use Rattle.dcv_tokens.specs.Limits.{is_long, is_large, nests, begins_part};
+    ghost use Rattle.dcv_tokens.specs.Tokens.{span_of, span_over};
+    ghost use Rattle.dcv_tokens.specs.Limits.{largest_number, is_long, is_large, nests, begins_part};
     ghost use Rattle.dcv_tokens.specs.Reading.{seen};
+
+    /// What a number stands for, and 10,000 where that is larger still.
+    pub fn value(&self) -> u32
+        requires { IsTrue (is_number self.now.bytes.now) }
+        ensures { result ≡ min (value_of self.now.bytes.now) (largest_number + 1) }
+    {
+        capped_value(self.bytes)
+    }
 
     /// Whether it is a word with more bytes than a name may have.
     pub fn is_long(&self) -> bool
@@ -72,7 +80,7 @@ impl Token<'_> {
     pub fn is_large(&self) -> bool
         ensures { result ≡ is_large (seen self.now) }
     {
-        self.bytes[0].is_ascii_digit() && capped_value(self.bytes) > LARGEST_NUMBER
+        self.bytes[0].is_ascii_digit() && self.value() > LARGEST_NUMBER
     }
 
     /// Whether it is `(`, `!`, `<>`, `[]`, `ex`, `all`, `=>` or `*`.
@@ -89,14 +97,21 @@ impl Token<'_> {
         BEGINNINGS.contains(&self.class)
     }
 
+    /// From its first byte to its last.
+    pub fn span(&self) -> Span
+        ensures { result ≡ span_of (seen self.now) }
+    {
+        Span {
+            start: self.start,
+            end: self.start + self.bytes.len() as u32,
+        }
+    }
+
     /// From the first byte of this token to the last of another.
     pub fn span_to(&self, last: &Token) -> Span
         ensures { result ≡ span_over (seen self.now) (seen last.now) }
     {
-        Span {
-            start: self.start,
-            end: last.start + last.bytes.len() as u32,
-        }
+        self.span().to(last.span())
     }
 }
 
@@ -109,7 +124,7 @@ impl Classified for Token<'_> {
 }
 
 /// The tokens of a text from some offset on. They end where no piece begins: at the end, or at a byte fault.
-#[derive(Clone, Copy, Debug)]
+#[derive(Debug, Drop)]
 pub struct Tokens<'a> {
     rest: &'a [u8],
     start: u32,

@@ -13,6 +13,3 @@ mod text;
 
 pub use lexer::{Token, Tokens};
 pub use text::tokens;
-
-#[cfg(test)]
-mod tests;

@@ -5,7 +5,7 @@ ghost use Rattle.dcv_syntax.specs.Views.{plain_body, plain_macro, plain_file};
 ghost use Rattle.dcv_tokens.specs.Classes.{class_of};
 ghost use Rattle.dcv_tokens.specs.Reading.{seen};
 ghost use Rattle.dcv_reader.specs.Building.{HasSmallNumbers};
-ghost use Rattle.dcv_reader.specs.Language.{language};
+ghost use Rattle.dcv_sentence.specs.Language.{language};
 ghost use Rattle.dcv_reader.specs.Spelling.{SpellsFile};
 
 use super::{Builder, name_of};
@@ -19,7 +19,7 @@ impl Builder<'_, '_> {
     ghost use Rattle.dcv_reader.specs.Building.{BeginWith, BeginWithRule, RuleReadAs, is_next};
     ghost use Rattle.dcv_reader.specs.BuildingFiles.{some_names, body_rule, NamesReadAs, BodyReadAs};
     ghost use Rattle.dcv_reader.specs.Left.{left};
-    ghost use Rattle.dcv_reader.specs.RuleNumbers as rules;
+    ghost use Rattle.dcv_sentence.specs.RuleNumbers as rules;
 
     /// file = declaration macros "infer" formula ";"
     pub fn file(&mut self) -> Result<File, AllocError>

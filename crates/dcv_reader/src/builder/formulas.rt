@@ -7,7 +7,7 @@ ghost use Rattle.dcv_tokens.specs.Tokens.{Token as TextToken, span_of};
 ghost use Rattle.dcv_reader.specs.Nodes.{number_of, relation_of, bare, formula_list, implication, prefixed, starred, quantified, bracketed, formula_word, measure, formula_call};
 
 use super::props::Arguments;
-use super::{Builder, covering, name_of, span_of};
+use super::{Builder, name_of};
 use dcv_syntax::{Formula, FormulaKind, FormulaOperand, Number, Prop, Relation, Span};
 use dcv_tokens::Token;
 use dcv_tokens::classes::*;
@@ -58,7 +58,7 @@ impl FormulaList {
         if last == 0 {
             return operands.remove(0);
         }
-        let span = covering(operands[0].span, operands[last].span);
+        let span = operands[0].span.to(operands[last].span);
         bare(self.kind(operands), span)
     }
 }
@@ -69,7 +69,7 @@ impl Builder<'_, '_> {
     ghost use Rattle.dcv_reader.specs.Actions.{AFormula, ARelation};
     ghost use Rattle.dcv_reader.specs.Building.{BeginWithRule, RuleReadAs, is_next, is_next_of};
     ghost use Rattle.dcv_reader.specs.Left.{left};
-    ghost use Rattle.dcv_reader.specs.RuleNumbers as rules;
+    ghost use Rattle.dcv_sentence.specs.RuleNumbers as rules;
 
     /// formula = ("ex" | "all") name "." formula | formula_iff
     #[cycle(formula)]
@@ -185,7 +185,7 @@ impl Builder<'_, '_> {
         let mut body = self.formula_atom()?;
         'more: while self.is_next(STAR) {
             let star = self.take();
-            body = starred(self.alloc, body, span_of(&star))?;
+            body = starred(self.alloc, body, star.span())?;
         }
         Ok(body)
     }
@@ -251,7 +251,7 @@ impl Builder<'_, '_> {
         ensures { RuleReadAs rules.formula_atom (left self.old) (AFormula (plain_formula_operand result)) (left self.new) }
     {
         let word = self.take();
-        bare(word_kind(&word), span_of(&word))
+        bare(word_kind(&word), word.span())
     }
 
     // "slen" relation number
@@ -263,7 +263,7 @@ impl Builder<'_, '_> {
         let word = self.take();
         let relation = self.relation();
         let number = self.number();
-        let span = covering(span_of(&word), number.span);
+        let span = word.span().to(number.span);
         bare(FormulaKind::Slen(relation, number), span)
     }
 
@@ -329,7 +329,7 @@ fn measure(word: &Token, measured: Prop, relation: Relation, number: Number) -> 
     ensures { (digits : TextToken) → number ≡ number_of digits →
         plain_formula_operand result ≡ measure (seen word.now) (plain_prop measured) relation digits }
 {
-    let span = covering(span_of(word), number.span);
+    let span = word.span().to(number.span);
     if word.class == WORD_SCOUNT {
         return bare(FormulaKind::Scount(measured, relation, number), span);
     }
@@ -352,7 +352,7 @@ fn formula_call(
 fn starred(alloc: Global, body: FormulaOperand, star: Span) -> Result<FormulaOperand, AllocError>
     ensures { IfOk result (λ d. plain_formula_operand d ≡ starred (plain_formula_operand body) star) }
 {
-    let span = covering(body.span, star);
+    let span = body.span.to(star);
     Ok(bare(FormulaKind::Star(Box::new(alloc, body.formula)?), span))
 }
 
@@ -360,7 +360,7 @@ fn starred(alloc: Global, body: FormulaOperand, star: Span) -> Result<FormulaOpe
 fn prefixed(alloc: Global, sign: &Token, body: FormulaOperand) -> Result<FormulaOperand, AllocError>
     ensures { IfOk result (λ d. plain_formula_operand d ≡ prefixed (seen sign.now) (plain_formula_operand body)) }
 {
-    let span = covering(span_of(sign), body.span);
+    let span = sign.span().to(body.span);
     let body = Box::new(alloc, body.formula)?;
     match sign.class {
         EXCLAMATION => Ok(bare(FormulaKind::Not(body), span)),
@@ -378,7 +378,7 @@ fn quantified(
 ) -> Result<FormulaOperand, AllocError>
     ensures { IfOk result (λ d. plain_formula_operand d ≡ quantified (seen word.now) (seen name.now) (plain_formula_operand body)) }
 {
-    let span = covering(span_of(word), body.span);
+    let span = word.span().to(body.span);
     let body = Box::new(alloc, body.formula)?;
     let name = name_of(alloc, name)?;
     if word.class == WORD_EX {
@@ -394,7 +394,7 @@ fn implication(
 ) -> Result<FormulaOperand, AllocError>
     ensures { IfOk result (λ d. plain_formula_operand d ≡ implication (plain_formula_operand premise) (plain_formula_operand conclusion)) }
 {
-    let span = covering(premise.span, conclusion.span);
+    let span = premise.span.to(conclusion.span);
     let premise = Box::new(alloc, premise.formula)?;
     let conclusion = Box::new(alloc, conclusion.formula)?;
     Ok(bare(FormulaKind::Implies(premise, conclusion), span))

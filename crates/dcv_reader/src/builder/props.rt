@@ -7,7 +7,7 @@ ghost use Rattle.dcv_syntax.specs.Views.{plain_prop};
 ghost use Rattle.dcv_tokens.specs.Reading.{seen};
 ghost use Rattle.dcv_reader.specs.Nodes.{bare_prop, prop_list, prop_call, prop_negation, prop_implication};
 
-use super::{Builder, covering, name_of, span_of};
+use super::{Builder, name_of};
 use dcv_syntax::{Prop, PropKind, PropOperand, Span};
 use dcv_tokens::Token;
 use dcv_tokens::classes::*;
@@ -56,7 +56,7 @@ impl PropList {
         if last == 0 {
             return operands.remove(0);
         }
-        let span = covering(operands[0].span, operands[last].span);
+        let span = operands[0].span.to(operands[last].span);
         bare_prop(self.kind(operands), span)
     }
 }
@@ -74,7 +74,7 @@ impl Builder<'_, '_> {
     ghost use Rattle.dcv_reader.specs.Actions.{AProp, Arguments as ArgumentsPart};
     ghost use Rattle.dcv_reader.specs.Building.{BeginWithRule, RuleReadAs, is_next};
     ghost use Rattle.dcv_reader.specs.Left.{left};
-    ghost use Rattle.dcv_reader.specs.RuleNumbers as rules;
+    ghost use Rattle.dcv_sentence.specs.RuleNumbers as rules;
 
     /// prop = prop_implies {"<=>" prop_implies}
     #[cycle(prop)]
@@ -208,7 +208,7 @@ impl Builder<'_, '_> {
         let constant = self.take();
         bare_prop(
             PropKind::Constant(constant.class == WORD_TRUE),
-            span_of(&constant),
+            constant.span(),
         )
     }
 }
@@ -221,10 +221,10 @@ impl Arguments {
     pub fn call_span(&self, name: &Token) -> Span
         ensures { result ≡ call_span (seen name.now) self.now.parentheses }
     {
-        let span = span_of(name);
+        let span = name.span();
         match self.parentheses {
             None => span,
-            Some(parentheses) => covering(span, parentheses),
+            Some(parentheses) => span.to(parentheses),
         }
     }
 }
@@ -245,7 +245,7 @@ fn prop_negation(
 ) -> Result<PropOperand, AllocError>
     ensures { IfOk result (λ p. plain_prop_operand p ≡ prop_negation (seen sign.now) (plain_prop_operand negated)) }
 {
-    let span = covering(span_of(sign), negated.span);
+    let span = sign.span().to(negated.span);
     Ok(bare_prop(PropKind::Not(Box::new(alloc, negated.prop)?), span))
 }
 
@@ -256,7 +256,7 @@ fn prop_implication(
 ) -> Result<PropOperand, AllocError>
     ensures { IfOk result (λ p. plain_prop_operand p ≡ prop_implication (plain_prop_operand premise) (plain_prop_operand conclusion)) }
 {
-    let span = covering(premise.span, conclusion.span);
+    let span = premise.span.to(conclusion.span);
     let premise = Box::new(alloc, premise.prop)?;
     let conclusion = Box::new(alloc, conclusion.prop)?;
     Ok(bare_prop(PropKind::Implies(premise, conclusion), span))

@@ -2,9 +2,9 @@ use Rattle.std.proofs.Common.{[], ◌∷◌, refl, sym, ap, ◌∙◌, arith}
 use Rattle.dcv_syntax.specs.Views.{plain_formula_operand}
 use Rattle.dcv_tokens.specs.Classes as classes
 use Rattle.dcv_tokens.specs.Reading.{seen}
-use Rattle.dcv_reader.specs.RuleNumbers as rules
+use Rattle.dcv_sentence.specs.RuleNumbers as rules
 use Rattle.dcv_reader.specs.Actions.{AFormula, Formulas}
-use Rattle.dcv_reader.specs.Language.{formula_rule, formula_prefix_rule, formula_atom_rule}
+use Rattle.dcv_sentence.specs.Language.{formula_rule, formula_prefix_rule, formula_atom_rule}
 use Rattle.dcv_reader.specs.Left.{left}
 use Rattle.dcv_reader.specs.Nodes.{starred}
 use Rattle.dcv_reader.proofs.BuilderParts.{if_ok}
@@ -205,11 +205,11 @@ formula_star-more-init t c = stars_begin c.requires (plain_formula_operand c.in_
 
 pub formula_star-more-smaller : goal.formula_star-more-smaller
 formula_star-more-smaller t c =
-    (stars_more c.requires c.more.invariant (seen c.take-star.result) (left c.take-star.new.self) (plain_formula_operand c.in_ok-body-2.body) (sym c.is_next.ensures ∙ c.more-test.true) c.take-star.ensures (c.in_ok-body-2.ensures ∙ ap (starred (plain_formula_operand c.more.body)) c.span_of.ensures)).1
+    (stars_more c.requires c.more.invariant (seen c.take-star.result) (left c.take-star.new.self) (plain_formula_operand c.in_ok-body-2.body) (sym c.is_next.ensures ∙ c.more-test.true) c.take-star.ensures (c.in_ok-body-2.ensures ∙ ap (starred (plain_formula_operand c.more.body)) c.span.ensures)).1
 
 pub formula_star-more-preserved : goal.formula_star-more-preserved
 formula_star-more-preserved t c =
-    (stars_more c.requires c.more.invariant (seen c.take-star.result) (left c.take-star.new.self) (plain_formula_operand c.in_ok-body-2.body) (sym c.is_next.ensures ∙ c.more-test.true) c.take-star.ensures (c.in_ok-body-2.ensures ∙ ap (starred (plain_formula_operand c.more.body)) c.span_of.ensures)).0
+    (stars_more c.requires c.more.invariant (seen c.take-star.result) (left c.take-star.new.self) (plain_formula_operand c.in_ok-body-2.body) (sym c.is_next.ensures ∙ c.more-test.true) c.take-star.ensures (c.in_ok-body-2.ensures ∙ ap (starred (plain_formula_operand c.more.body)) c.span.ensures)).0
 
 pub formula_star-returns : goal.formula_star-returns
 formula_star-returns t c = stars_read c.requires c.more.invariant (sym c.is_next.ensures ∙ c.more-test.false)

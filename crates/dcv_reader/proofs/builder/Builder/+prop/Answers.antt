@@ -5,9 +5,9 @@ use Rattle.dcv_syntax.specs.Views.{plain_prop, plain_prop_operand}
 use Rattle.dcv_tokens.specs.Classes as classes
 use Rattle.dcv_tokens.specs.Tokens.{span_over}
 use Rattle.dcv_tokens.specs.Reading.{seen}
-use Rattle.dcv_reader.specs.RuleNumbers as rules
+use Rattle.dcv_sentence.specs.RuleNumbers as rules
 use Rattle.dcv_reader.specs.Actions.{AProp, Props, Arguments}
-use Rattle.dcv_reader.specs.Language.{prop_prefix_rule, prop_atom_rule}
+use Rattle.dcv_sentence.specs.Language.{prop_prefix_rule, prop_atom_rule}
 use Rattle.dcv_reader.specs.Building.{RuleReadAs}
 use Rattle.dcv_reader.specs.Left.{left}
 use Rattle.dcv_reader.proofs.BuilderLevels.{level_first, level_begun, operand_next, operands_pushed, level_read, pushed_first, pushed_more, enclosed_first, enclosed_begun, enclosed_next, enclosed_more, enclosed_closes, enclosed_read}

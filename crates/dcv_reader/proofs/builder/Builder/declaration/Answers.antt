@@ -2,7 +2,7 @@ use Rattle.std.proofs.Common.{refl, sym, ap, ◌∙◌}
 use Rattle.dcv_tokens.specs.Classes as classes
 use Rattle.dcv_reader.specs.Actions.{Names}
 use Rattle.dcv_reader.specs.Left.{left}
-use Rattle.dcv_reader.specs.RuleNumbers as rules
+use Rattle.dcv_sentence.specs.RuleNumbers as rules
 use Rattle.dcv_reader.proofs.BuilderForms.{nothing_read}
 use Rattle.dcv_reader.proofs.BuilderFiles.{declaration_at, names_between_begin, names_between_end, names_between}
 use Rattle.dcv_reader.proofs.builder.Builder.declaration.Goals as goal

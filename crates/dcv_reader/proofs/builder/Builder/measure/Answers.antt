@@ -2,9 +2,9 @@ use Rattle.std.proofs.Common.{sym, ap}
 use Rattle.dcv_syntax.specs.Views.{plain_prop_operand}
 use Rattle.dcv_tokens.specs.Classes as classes
 use Rattle.dcv_tokens.specs.Reading.{seen}
-use Rattle.dcv_reader.specs.RuleNumbers as rules
+use Rattle.dcv_sentence.specs.RuleNumbers as rules
 use Rattle.dcv_reader.specs.Actions.{AProp, AFormula, ARelation}
-use Rattle.dcv_reader.specs.Language.{formula_atom_rule}
+use Rattle.dcv_sentence.specs.Language.{formula_atom_rule}
 use Rattle.dcv_reader.specs.Left.{left}
 use Rattle.dcv_reader.proofs.BuilderForms.{first_next, second_next, last_next, two_read}
 use Rattle.dcv_reader.proofs.BuilderFormulas.{atom_at, atom_there, picks_measure}

@@ -2,9 +2,9 @@ use Rattle.std.proofs.Common.{sym, ap, ◌∙◌}
 use Rattle.dcv_syntax.specs.Views.{plain_formula_operand}
 use Rattle.dcv_tokens.specs.Classes as classes
 use Rattle.dcv_tokens.specs.Reading.{seen}
-use Rattle.dcv_reader.specs.RuleNumbers as rules
+use Rattle.dcv_sentence.specs.RuleNumbers as rules
 use Rattle.dcv_reader.specs.Actions.{AFormula}
-use Rattle.dcv_reader.specs.Language.{formula_atom_rule}
+use Rattle.dcv_sentence.specs.Language.{formula_atom_rule}
 use Rattle.dcv_reader.specs.Left.{left}
 use Rattle.dcv_reader.proofs.BuilderParts.{if_ok}
 use Rattle.dcv_reader.proofs.BuilderForms.{prefix_next, prefix_read}

@@ -3,7 +3,7 @@ use Rattle.dcv_tokens.specs.Reading.{seen}
 use Rattle.dcv_reader.specs.Actions.{ARelation}
 use Rattle.dcv_reader.specs.Building.{RuleReadAs}
 use Rattle.dcv_reader.specs.Left.{left}
-use Rattle.dcv_reader.specs.RuleNumbers as rules
+use Rattle.dcv_sentence.specs.RuleNumbers as rules
 use Rattle.dcv_reader.proofs.BuilderFormulas.{relation_there, relation_read}
 use Rattle.dcv_reader.proofs.builder.Builder.relation.Goals as goal
 

@@ -12,8 +12,8 @@ bounds-self-0 c = let bytes = c.args.self.now.bytes.now in piece_has_bytes bytes
 number : (c : After-is_ascii_digit) → is_number c.args.self.now.bytes.now ≡ c.is_ascii_digit.result
 number c = let bytes = c.args.self.now.bytes.now in number_by_first bytes (token_is_piece bytes c.args.self.now.is_a_token) ∙ sym c.is_ascii_digit.ensures.value
 
-pub capped_value-requires : goal.capped_value-requires
-capped_value-requires c = number (goal.at.capped_value-requires c).After-is_ascii_digit ∙ c.if-is_ascii_digit.true
+pub value-requires : goal.value-requires
+value-requires c = number (goal.at.value-requires c).After-is_ascii_digit ∙ c.if-is_ascii_digit.true
 
 -- a cap above the largest changes no comparison with it
 capped_above : (value : ℕ) → nat_lt 9999 (min value 10000) ≡ nat_lt 9999 value
@@ -22,7 +22,7 @@ capped_above value = grind (arith, nat_tests)
 pub returns-then-is_ascii_digit : goal.returns-then-is_ascii_digit
 returns-then-is_ascii_digit c =
     let is = number (goal.at.returns-then-is_ascii_digit c).After-is_ascii_digit ∙ c.if-is_ascii_digit.true in
-    rw (is, c.capped_value.ensures) (capped_above _)
+    rw (is, c.value.ensures) (capped_above _)
 
 pub returns-else-is_ascii_digit : goal.returns-else-is_ascii_digit
 returns-else-is_ascii_digit c =

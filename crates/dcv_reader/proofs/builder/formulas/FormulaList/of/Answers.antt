@@ -7,8 +7,8 @@ use Rattle.dcv_reader.proofs.builder.formulas.FormulaList.of.Goals as goal
 pub returns : goal.returns
 returns c = λ p ps e.
     let operands = c.args.operands.items in
-    c.bare.ensures ∙ ap (λ kind. bare kind c.covering-span.result) c.kind.ensures
-    ∙ ap (bare _) c.covering-span.ensures
+    c.bare.ensures ∙ ap (λ kind. bare kind c.to-span.result) c.kind.ensures
+    ∙ ap (bare _) c.to-span.ensures
     ∙ listed_formulas (formula_list_kind c.args.self) operands c.len-last.result c.index.result.now c.index-2.result.now (c.len-last.ensures ∙ c.args.operands.ok.0) c.if-last-eq0.false c.index.ensures c.index-2.ensures p ps e
 
 pub returns-then-last-eq0 : goal.returns-then-last-eq0

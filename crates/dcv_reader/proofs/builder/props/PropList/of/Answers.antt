@@ -7,8 +7,8 @@ use Rattle.dcv_reader.proofs.builder.props.PropList.of.Goals as goal
 pub returns : goal.returns
 returns c = λ p ps e.
     let operands = c.args.operands.items in
-    c.bare_prop.ensures ∙ ap (λ kind. bare_prop kind c.covering-span.result) c.kind.ensures
-    ∙ ap (bare_prop _) c.covering-span.ensures
+    c.bare_prop.ensures ∙ ap (λ kind. bare_prop kind c.to-span.result) c.kind.ensures
+    ∙ ap (bare_prop _) c.to-span.ensures
     ∙ listed_props (prop_list_kind c.args.self) operands c.len-last.result c.index.result.now c.index-2.result.now (c.len-last.ensures ∙ c.args.operands.ok.0) c.if-last-eq0.false c.index.ensures c.index-2.ensures p ps e
 
 pub returns-then-last-eq0 : goal.returns-then-last-eq0

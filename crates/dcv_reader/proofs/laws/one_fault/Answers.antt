@@ -1,5 +1,0 @@
-use Rattle.dcv_reader.proofs.FirstFault.{fault_is_unique}
-use Rattle.dcv_reader.proofs.laws.one_fault.Goals as goal
-
-pub returns : goal.returns
-returns c = fault_is_unique
