@@ -2,12 +2,8 @@
 use Rattle.std.proofs.Common.{◌≡◌, ℕ, zero, suc, ◌+◌, ◌-◌, ◌<◌, Bool, true, false, not, ◌&&◌, ◌||◌, List, [], ◌∷◌, length, refl, sym, ap, ◌∙◌, add-one, arith}
 use mathlib.Core.Bool.{true≢false}
 use Rattle.std.specs.List.{list_all}
-use Rattle.dcv_syntax.specs.declared.files.File.{File}
-use Rattle.dcv_syntax.specs.declared.formulas.FormulaKind.{Every}
 use Rattle.dcv_syntax.specs.declared.names.Name.{Name}
-use Rattle.dcv_syntax.specs.declared.propositions.Prop.{Prop}
-use Rattle.dcv_syntax.specs.declared.propositions.PropKind.{PropKind, Constant, Call'}
-use Rattle.dcv_syntax.specs.declared.propositions.PropKind.TheBlock.{Row_of-Prop, end_of-Prop, more_of-Prop}
+use Rattle.dcv_syntax.specs.Plain.{PlainArguments, no_arguments, argument, PlainPropKind, PropConstant, PropCall, PlainProp, FormulaEvery, PlainFile}
 use Rattle.dcv_logic.specs.Track.{Track, truth_at, slot_track}
 use Rattle.dcv_logic.specs.Search.{some_from}
 use Rattle.dcv_logic.specs.Environment.{Environment, found}
@@ -22,14 +18,14 @@ abbrev pub plain_environment : List Name → Word → Environment
 plain_environment variables word = record { instants = length word; tracks = declared_from 0 variables word; macros = [] }
 
 -- `[[P]]`: no instant fails P
-pub models_every : (file : File) (prop : Prop) → file.macros.items ≡ [] → file.goal.formula.kind ≡ Every prop
+pub models_every : (file : PlainFile) (prop : PlainProp) → file.macros ≡ [] → file.goal.formula.kind ≡ FormulaEvery prop
     → (word : Word) → 0 < length word
-    → models file word ≡ not (some_from 0 (length word) (λ m. not (value (plain_environment file.variables.items word) prop.kind m)))
+    → models file word ≡ not (some_from 0 (length word) (λ m. not (value (plain_environment file.variables word) prop.kind m)))
 models_every file prop no_macros every [] nonempty = absurd (omega arith)
 models_every file prop no_macros every (letter ∷ letters) nonempty =
     let word = letter ∷ letters in
-    let env = plain_environment file.variables.items word in
-    let opened : satisfies (goal_environment file word) file.goal.formula.kind 0 (length letters) ≡ satisfies env (Every prop) 0 (length letters) = rw (no_macros, every) refl in
+    let env = plain_environment file.variables word in
+    let opened : satisfies (goal_environment file word) file.goal.formula.kind 0 (length letters) ≡ satisfies env (FormulaEvery prop) 0 (length letters) = rw (no_macros, every) refl in
     let instants : length letters + 1 - 0 ≡ suc (length letters) = omega arith in
     opened ∙ ap (λ n. not (some_from 0 n (λ m. not (value env prop.kind m)))) instants
 
@@ -70,33 +66,33 @@ each_constant true (letter ∷ letters) nonempty = ap not (none_from 1 (length l
     all_true (letter ∷ letters) = all_true letters
 each_constant false (letter ∷ letters) nonempty = refl
 
-pub models_constant : (file : File) (prop : Prop) (truth : Bool) → file.macros.items ≡ [] → file.goal.formula.kind ≡ Every prop → prop.kind ≡ Constant truth
+pub models_constant : (file : PlainFile) (prop : PlainProp) (truth : Bool) → file.macros ≡ [] → file.goal.formula.kind ≡ FormulaEvery prop → prop.kind ≡ PropConstant truth
     → (word : Word) → 0 < length word → models file word ≡ list_all (λ letter. truth) word
 models_constant file prop truth no_macros every constant word nonempty =
     models_every file prop no_macros every word nonempty ∙ rw constant (each_constant truth word nonempty)
 
-no_tracks : (env : Environment) {n : _} (row : Row_of-Prop n) → is_bare row ≡ true → argument_tracks env row ≡ []
-no_tracks env end_of-Prop bare = refl
-no_tracks env (more_of-Prop p span arguments) bare = absurd cc
+no_tracks : (env : Environment) (arguments : PlainArguments) → is_bare arguments ≡ true → argument_tracks env arguments ≡ []
+no_tracks env no_arguments bare = refl
+no_tracks env (argument p span rest) bare = absurd cc
 
 -- the only variable that is declared, by its name
-abbrev pub IsVariable : List Name → PropKind → Type 0
-IsVariable variables (Call' name shape arguments) = (is_bare arguments ≡ true) × (is_declared variables name.text ≡ true)
+abbrev pub IsVariable : List Name → PlainPropKind → Type 0
+IsVariable variables (PropCall name given) = (is_bare given ≡ true) × (is_declared variables name.text ≡ true)
 IsVariable variables _ = ⊥
 
-variable_value : (variables : List Name) (word : Word) (kind : PropKind) → IsVariable variables kind
+variable_value : (variables : List Name) (word : Word) (kind : PlainPropKind) → IsVariable variables kind
     → (m : ℕ) → value (plain_environment variables word) kind m ≡ truth_at (slot_track word 0) m
-variable_value [] word (Call' name shape arguments) is m = absurd (true≢false (sym is.1))
-variable_value (variable ∷ []) word (Call' name shape arguments) is m =
+variable_value [] word (PropCall name given) is m = absurd (true≢false (sym is.1))
+variable_value (variable ∷ []) word (PropCall name given) is m =
     let env = plain_environment (variable ∷ []) word in
-    ap (λ tracks. call_value (found env.tracks name.text) (found env.macros name.text) tracks m) (no_tracks env arguments is.0) ∙ rw is.1 refl
-variable_value (variable ∷ other ∷ variables) word (Call' name shape arguments) is m = absurd (true≢false (sym is.1))
+    ap (λ tracks. call_value (found env.tracks name.text) (found env.macros name.text) tracks m) (no_tracks env given is.0) ∙ rw is.1 refl
+variable_value (variable ∷ other ∷ variables) word (PropCall name given) is m = absurd (true≢false (sym is.1))
 variable_value variables word _ is m = absurd is
 
-pub models_variable : (file : File) (prop : Prop)
-    → file.macros.items ≡ [] → file.goal.formula.kind ≡ Every prop → IsVariable file.variables.items prop.kind
+pub models_variable : (file : PlainFile) (prop : PlainProp)
+    → file.macros ≡ [] → file.goal.formula.kind ≡ FormulaEvery prop → IsVariable file.variables prop.kind
     → (word : Word) → 0 < length word → models file word ≡ list_all (λ letter. truth_at letter 0) word
 models_variable file prop no_macros every is word nonempty =
     models_every file prop no_macros every word nonempty
-    ∙ (λ i. not (some_from 0 (length word) (λ m. not (variable_value file.variables.items word prop.kind is m i))))
+    ∙ (λ i. not (some_from 0 (length word) (λ m. not (variable_value file.variables word prop.kind is m i))))
     ∙ each_of_slot word

@@ -1,9 +1,9 @@
 pub mod EachLetter
+pub mod Endings
 pub mod FormTests
 pub mod Letters
 pub mod OneOutcome
 pub mod Outcomes
 pub mod Pieces
-pub mod Sending
 pub mod Singles
-pub mod SameFile
+pub mod SomeOutcome

@@ -1,70 +1,79 @@
 -- One outcome at most is right.
-use Rattle.std.proofs.Common.{◌≡◌, ℕ, List, length, Option, None, Some, sym, ap, ◌∙◌, subst, arith}
-use Rattle.std.specs.Prelude.{IsTrue, MatchOption}
+use Rattle.std.proofs.Common.{◌≡◌, ℕ, List, length, Option, None, Some, refl, sym, ap, ◌∙◌, subst, arith}
+use Rattle.std.specs.Prelude.{IsSomeAnd}
 use mathlib.Core.Bool.{true≢false}
-use Rattle.dcv_syntax.specs.Views.{plain_file}
-use Rattle.dcv_syntax.specs.declared.files.File.{File}
+use Rattle.dcv_syntax.specs.Plain.{PlainFile}
 use Rattle.dcv_logic.specs.Models.{models}
-use Rattle.dcv_language.specs.Language.{Language}
 use Rattle.dcv_language.specs.Laws.{OneVerdict}
-use Rattle.dcv_language.specs.Verdict.{Verdict, IsVerdict}
-use Rattle.dcv_reader.specs.Faults.{FaultIsUnique}
+use Rattle.dcv_sentence.specs.Faults.{FaultIsUnique}
 use Rattle.dcv_reader.specs.Spelling.{SpellsOne}
-use Rattle.dcv_cli.specs.FirstForm.{is_first_form}
+use Rattle.dcv_cli.specs.declared.refusal.Refusal.{Refusal}
+use Rattle.dcv_cli.specs.Check.{IsChecked, OtherForm, Decided}
+use Rattle.dcv_cli.specs.FormulaFile.{IsRefused, TooLong, Faulty, IsFormulaFile, OnText, Refused, Read}
 use Rattle.dcv_cli.specs.Laws.{OneOutcome}
-use Rattle.dcv_cli.specs.declared.status.Status.TheVariants.{Formula}
-use Rattle.dcv_cli.specs.Outcome.{Outcome, IsChecked, Holds, TooLong, Faulty, OtherForm, Decided, answered, Fulfils, refused, fault_text}
-use Rattle.dcv_cli.specs.Request.{Request, CheckFile, request_of}
-use Rattle.dcv_cli.proofs.SameFile.{same_variable_count, same_form, same_models}
+use Rattle.dcv_cli.specs.Outcome.{Outcome, refused, answered, Agrees}
+use Rattle.dcv_cli.specs.Refusal.{Which, Only, refusal_of_reading}
+use Rattle.dcv_cli.specs.Request.{Request, Check, AsksFor, IsTaken}
+use Rattle.dcv_cli.specs.Right.{Fulfils, Misused, Fulfilled}
+
+-- outcomes that are the same agree
+same_agrees : (one other : Outcome) → one ≡ other → Agrees one other
+same_agrees one other e = record { status = ap (λ (o : Outcome). o.status) e; report = ap (λ (o : Outcome). o.out) e; message = λ told. ap (λ (o : Outcome). o.err) e }
 
 module _ (one_tree : SpellsOne) (one_fault : FaultIsUnique) (one_verdict : OneVerdict) where
-  -- what a text holds is one file, but for where it lies in memory
-  same_plain : (text : List ℕ) (f g : File) → Holds text f → Holds text g → plain_file f ≡ plain_file g
-  same_plain text f g s t = one_tree text (plain_file f) (plain_file g) s.spelled t.spelled
+  one_refusal : (text : List ℕ) (r s : Refusal) → IsRefused text r → IsRefused text s → r ≡ s
+  one_refusal text r s (TooLong long e) (TooLong long' e') = e ∙ sym e'
+  one_refusal text r s (TooLong long e) (Faulty short fault is e') = absurd (omega arith)
+  one_refusal text r s (Faulty short fault is e) (TooLong long e') = absurd (omega arith)
+  one_refusal text r s (Faulty short fault is e) (Faulty short' other is' e') = e ∙ ap refusal_of_reading (one_fault text fault other is is') ∙ sym e'
 
-  one_verdict_of : (text : List ℕ) (f g : File) (v u : Verdict) → Holds text f → Holds text g → IsTrue (is_first_form f) → IsTrue (is_first_form g)
-      → IsVerdict (length f.variables.items) (models f) v → IsVerdict (length g.variables.items) (models g) u → v ≡ u
-  one_verdict_of text f g v u s t form_f form_g is_v is_u =
-      let same = same_plain text f g s t in
-      let count : length g.variables.items ≡ length f.variables.items = sym (same_variable_count f g same) in
-      let alike : models g ≡ models f = λ i word. sym (same_models f g same form_f form_g word) i in
-      one_verdict (length f.variables.items) (models f) v u is_v
-      (subst (λ (L : Language). IsVerdict (length f.variables.items) L u) alike (subst (λ (k : ℕ). IsVerdict k (models g) u) count is_u))
+  -- a text is refused, or is a formula file
+  refused_or_read : (text : List ℕ) (refusal : Refusal) (file : PlainFile) → IsRefused text refusal → IsFormulaFile text file → ⊥
+  refused_or_read text refusal file (TooLong long e) is = let fits = is.fits in omega arith
+  refused_or_read text refusal file (Faulty short fault first e) is = is.no_fault fault first.has
 
-  one_check : (text : List ℕ) (a b : Outcome) → IsChecked text a → IsChecked text b → a ≡ b
-  one_check text a b (TooLong long e) (TooLong long' e') = e ∙ sym e'
-  one_check text a b (TooLong long e) (Faulty short fault is e') = absurd (omega arith)
-  one_check text a b (TooLong long e) (OtherForm short g t form e') = absurd (omega arith)
-  one_check text a b (TooLong long e) (Decided short g t form u is e') = absurd (omega arith)
-  one_check text a b (Faulty short fault is e) (TooLong long e') = absurd (omega arith)
-  one_check text a b (Faulty short fault is e) (Faulty short' other is' e') =
-      e ∙ ap (λ f. refused Formula (fault_text f)) (one_fault text fault other is is') ∙ sym e'
-  one_check text a b (Faulty short fault is e) (OtherForm short' g t form e') = absurd (t.no_fault fault is.has)
-  one_check text a b (Faulty short fault is e) (Decided short' g t form u is' e') = absurd (t.no_fault fault is.has)
-  one_check text a b (OtherForm short f s form e) (TooLong long e') = absurd (omega arith)
-  one_check text a b (OtherForm short f s form e) (Faulty short' fault is e') = absurd (s.no_fault fault is.has)
-  one_check text a b (OtherForm short f s form e) (OtherForm short' g t form' e') = e ∙ sym e'
-  one_check text a b (OtherForm short f s form e) (Decided short' g t form' u is e') =
-      absurd (true≢false (sym form' ∙ sym (same_form f g (same_plain text f g s t)) ∙ form))
-  one_check text a b (Decided short f s form v is e) (TooLong long e') = absurd (omega arith)
-  one_check text a b (Decided short f s form v is e) (Faulty short' fault is' e') = absurd (s.no_fault fault is'.has)
-  one_check text a b (Decided short f s form v is e) (OtherForm short' g t form' e') =
-      absurd (true≢false (sym form ∙ same_form f g (same_plain text f g s t) ∙ form'))
-  one_check text a b (Decided short f s form v is e) (Decided short' g t form' u is' e') =
-      e ∙ ap answered (one_verdict_of text f g v u s t form form' is is') ∙ sym e'
+  one_file : (text : List ℕ) (f g : PlainFile) → IsFormulaFile text f → IsFormulaFile text g → f ≡ g
+  one_file text f g s t = one_tree text f g s.spelled t.spelled
 
-  one_held : (text : Option (List ℕ)) (a b : Outcome)
-      → MatchOption text ⊥ (λ bytes. IsChecked bytes a) → MatchOption text ⊥ (λ bytes. IsChecked bytes b) → a ≡ b
-  one_held None a b p q = absurd p
-  one_held (Some text) a b p q = one_check text a b p q
+  one_on_text : (text : List ℕ) (which : Which) (RightFor : PlainFile → Outcome → Type 0)
+      → ((file : PlainFile) (a b : Outcome) → RightFor file a → RightFor file b → a ≡ b)
+      → (a b : Outcome) → OnText text which RightFor a → OnText text which RightFor b → a ≡ b
+  one_on_text text which RightFor one a b (Refused r is e) (Refused s is' e') = e ∙ ap (λ r. refused r which) (one_refusal text r s is is') ∙ sym e'
+  one_on_text text which RightFor one a b (Refused r is e) (Read file is' right) = absurd (refused_or_read text r file is is')
+  one_on_text text which RightFor one a b (Read file is right) (Refused s is' e') = absurd (refused_or_read text s file is' is)
+  one_on_text text which RightFor one a b (Read f is right) (Read g is' right') =
+      one f a b right (subst (λ (file : PlainFile). RightFor file b) (one_file text g f is' is) right')
+
+  one_on_file : (text : Option (List ℕ)) (which : Which) (RightFor : PlainFile → Outcome → Type 0)
+      → ((file : PlainFile) (a b : Outcome) → RightFor file a → RightFor file b → a ≡ b)
+      → (a b : Outcome) → IsSomeAnd text (λ bytes. OnText bytes which RightFor a) → IsSomeAnd text (λ bytes. OnText bytes which RightFor b) → a ≡ b
+  one_on_file None which RightFor one a b p q = absurd p
+  one_on_file (Some text) which RightFor one a b p q = one_on_text text which RightFor one a b p q
+
+  one_check : (file : PlainFile) (a b : Outcome) → IsChecked file a → IsChecked file b → a ≡ b
+  one_check file a b (OtherForm other e) (OtherForm other' e') = e ∙ sym e'
+  one_check file a b (OtherForm other e) (Decided form v is e') = absurd (true≢false (sym form ∙ other))
+  one_check file a b (Decided form v is e) (OtherForm other e') = absurd (true≢false (sym form ∙ other))
+  one_check file a b (Decided form v is e) (Decided form' u is' e') = e ∙ ap answered (one_verdict (length file.variables) (models file) v u is is') ∙ sym e'
 
   one_fulfilled : (request : Request) (held : List ℕ → Option (List ℕ)) (a b : Outcome) → Fulfils request held a → Fulfils request held b → a ≡ b
-  one_fulfilled (CheckFile name) held a b p q = one_held (held name) a b p q
+  one_fulfilled (Check name) held a b p q = one_on_file (held name) Only IsChecked one_check a b p q
 
-  one_asked : (request : Option Request) (held : List ℕ → Option (List ℕ)) (usage a b : Outcome)
-      → MatchOption request (a ≡ usage) (λ r. Fulfils r held a) → MatchOption request (b ≡ usage) (λ r. Fulfils r held b) → a ≡ b
-  one_asked None held usage a b p q = p ∙ sym q
-  one_asked (Some request) held usage a b p q = one_fulfilled request held a b p q
+  -- words that ask for something are taken, and ask for one thing
+  taken_of_asked : (words : List (List ℕ)) (request : Request) → AsksFor words request → IsTaken words
+  taken_of_asked words request asked = rw asked refl
+
+  one_request : (words : List (List ℕ)) (r s : Request) → AsksFor words r → AsksFor words s → r ≡ s
+  one_request words r s asked asked' = some_same r s (sym asked ∙ asked')
+    where
+      some_same : (r s : Request) → Some r ≡ Some s → r ≡ s
+      some_same r s e = cc
 
   pub one_outcome : OneOutcome
-  one_outcome words held one other right right_other = one_asked (request_of words) held _ one other right right_other
+  one_outcome words held one other (Misused not s o) (Misused not' s' o') =
+      record { status = s ∙ sym s'; report = o ∙ sym o'; message = λ told. absurd (told s) }
+  one_outcome words held one other (Misused not s o) (Fulfilled request asked right) = absurd (not (taken_of_asked words request asked))
+  one_outcome words held one other (Fulfilled request asked right) (Misused not s o) = absurd (not (taken_of_asked words request asked))
+  one_outcome words held one other (Fulfilled r asked right) (Fulfilled s asked' right') =
+      same_agrees one other (one_fulfilled r held one other right
+      (subst (λ (request : Request). Fulfils request held other) (one_request words s r asked' asked) right'))

@@ -1,84 +1,94 @@
--- How each step of a run leads to a right outcome.
-use Rattle.std.proofs.Common.{◌≡◌, ◌≢◌, ℕ, suc, ◌<◌, ◌≤◌, List, [], length, replicate, Option, None, Some, Err, Vec, Global, refl, ap, arith}
+-- How each step of a command leads to a right outcome.
+use Rattle.std.proofs.Common.{◌≡◌, ◌≢◌, ℕ, suc, ◌<◌, ◌≤◌, List, [], length, replicate, Option, None, Some, Err, Vec, Global, refl, ap, inl, inr, arith}
+use Rattle.std.specs.Bool.{OnTrue}
 use Rattle.std.specs.Prelude.{Bool, true, false, IfSome, IsSome, is_some, IsTrue, IsFalse}
 use Rattle.std.proofs.Math.ListN.{length-replicate}
+use Rattle.std.proofs.Math.Seq.{take-length}
 use Rattle.dcv_io.specs.Disk.{Disk, held_of, WhereTold, ReadsPast}
 use Rattle.dcv_io.specs.Taking.{IfTooLong}
+use Rattle.dcv_io.specs.Written.{Appends, AppendsPrefix, AppendsStrictPrefix}
 use Rattle.dcv_io.specs.declared.fault.TakeFault.{TakeFault}
 use Rattle.dcv_io.specs.declared.fault.TakeFault.TheVariants.{Open as TakeOpen, Read as TakeRead, TooLong as TakeTooLong, Memory as TakeMemory}
-use Rattle.dcv_syntax.specs.declared.files.File.{File}
+use Rattle.dcv_syntax.specs.Plain.{PlainFile}
 use Rattle.dcv_logic.specs.Models.{models}
 use Rattle.dcv_language.specs.Verdict.{Verdict, IsVerdict}
 use Rattle.dcv_language.specs.VerdictText.{verdict_text}
-use Rattle.dcv_reader.specs.Faults.{IsFault}
-use Rattle.dcv_reader.specs.declared.faults.ReadFault.{ReadFault}
-use Rattle.dcv_reader.specs.declared.faults.ReadFault.TheVariants.{Byte as ByteAt, Syntax as SyntaxAt, Number as NumberAt, Name as NameAt, Nest as NestAt, Memory as ReadMemory}
+use Rattle.dcv_sentence.specs.Faults.{IsFirstFault}
+use Rattle.dcv_sentence.specs.declared.faults.ReadFault.{ReadFault}
+use Rattle.dcv_sentence.specs.declared.faults.ReadFault.TheVariants.{Byte as ByteAt, Syntax as SyntaxAt, Number as NumberAt, Name as NameAt, Nest as NestAt, Memory as ReadMemory}
+use Rattle.dcv_cli.specs.declared.refusal.TheConstants.{MOST_BYTES}
 use Rattle.dcv_cli.specs.declared.refusal.Refusal.{Refusal}
-use Rattle.dcv_cli.specs.declared.refusal.Refusal.TheVariants.{Usage, Open, Read, Length, Text, Form, Write, Memory}
+use Rattle.dcv_cli.specs.declared.refusal.Refusal.TheVariants.{Usage, Open, Read as ReadRefusal, Length, Text, Form, Write, Memory}
 use Rattle.dcv_cli.specs.declared.status.Status.{Status}
+use Rattle.dcv_cli.specs.Check.{IsChecked, OtherForm, Decided}
+use Rattle.dcv_cli.specs.Ending.{EndsBy, IsExplained, AddsFront, StopsWithin}
 use Rattle.dcv_cli.specs.FirstForm.{is_first_form}
-use Rattle.dcv_cli.specs.Outcome.{Outcome, IsChecked, Holds, TooLong, Faulty, OtherForm, Decided, FulfilsOver, IsRightOver}
-use Rattle.dcv_cli.specs.Refusal.{refusal_of_taking, refusal_of_reading}
-use Rattle.dcv_cli.specs.Report.{refusal_outcome, ExplainsText, ExplainsRequest, Explains}
-use Rattle.dcv_cli.specs.Request.{Request, CheckFile, request_of}
+use Rattle.dcv_cli.specs.FormulaFile.{TooLong, Faulty, IsFormulaFile, OnText, Refused, Read}
+use Rattle.dcv_cli.specs.Outcome.{Outcome, refused}
+use Rattle.dcv_cli.specs.Refusal.{Only, status_of, refusal_of_taking, refusal_of_reading}
+use Rattle.dcv_cli.specs.Request.{Request, Check, AsksFor}
+use Rattle.dcv_cli.specs.Right.{Fulfilled, FulfilsOver, IsRightOver}
+use Rattle.dcv_cli.specs.declared.check.Report.{Report}
+use Rattle.dcv_cli.specs.Seen.{reported}
+use Rattle.dcv_cli.specs.Status.{is_determined}
 use Rattle.dcv_cli.specs.Verdict.{status_of_verdict}
 
--- a refusal of the reader is right for the text
-pub explains_reading : (text : List ℕ) (fault : ReadFault) → length text ≤ 262144 → (fault ≢ ReadMemory → IsFault text fault)
-    → ExplainsText text (refusal_of_reading fault)
-explains_reading text (ByteAt at) short is = Faulty short (ByteAt at) (is (λ e. cc)) refl
-explains_reading text (SyntaxAt at) short is = Faulty short (SyntaxAt at) (is (λ e. cc)) refl
-explains_reading text (NumberAt at) short is = Faulty short (NumberAt at) (is (λ e. cc)) refl
-explains_reading text (NameAt at) short is = Faulty short (NameAt at) (is (λ e. cc)) refl
-explains_reading text (NestAt at) short is = Faulty short (NestAt at) (is (λ e. cc)) refl
+-- ---- for a text
+
+-- a refusal of the reader is right
+pub explains_reading : (text : List ℕ) (fault : ReadFault) → length text ≤ MOST_BYTES → (fault ≢ ReadMemory → IsFirstFault text fault)
+    → IsExplained (OnText text Only IsChecked) (refusal_of_reading fault)
+explains_reading text (ByteAt at) short is = Refused _ (Faulty short (ByteAt at) (is (λ e. cc)) refl) refl
+explains_reading text (SyntaxAt at) short is = Refused _ (Faulty short (SyntaxAt at) (is (λ e. cc)) refl) refl
+explains_reading text (NumberAt at) short is = Refused _ (Faulty short (NumberAt at) (is (λ e. cc)) refl) refl
+explains_reading text (NameAt at) short is = Refused _ (Faulty short (NameAt at) (is (λ e. cc)) refl) refl
+explains_reading text (NestAt at) short is = Refused _ (Faulty short (NestAt at) (is (λ e. cc)) refl) refl
 explains_reading text ReadMemory short is = tt
 
 -- a file that is not decided is refused
-pub explains_other_form : (text : List ℕ) (file : File) → length text ≤ 262144 → Holds text file → IsFalse (is_first_form file)
-    → IsChecked text (refusal_outcome Form)
-explains_other_form text file short holds other = OtherForm short file holds other refl
+pub explains_other_form : (text : List ℕ) (file : PlainFile) → IsFormulaFile text file → IsFalse (is_first_form file)
+    → OnText text Only IsChecked (refused Form Only)
+explains_other_form text file holds other = Read file holds (OtherForm other refl)
 
 -- the verdict, in bytes and with its status
-pub explains_verdict : (text : List ℕ) (file : File) (verdict : Verdict) (status : Status) (out : List ℕ) → length text ≤ 262144
-    → Holds text file → IsTrue (is_first_form file) → IsVerdict (length file.variables.items) (models file) verdict
+pub answers_verdict : (text : List ℕ) (file : PlainFile) (verdict : Verdict) (status : Status) (out : List ℕ)
+    → IsFormulaFile text file → IsTrue (is_first_form file) → IsVerdict (length file.variables) (models file) verdict
     → status ≡ status_of_verdict verdict → out ≡ verdict_text verdict
-    → IsChecked text (record { status = status; out = out; err = [] })
-explains_verdict text file verdict status out short holds form is s o =
-    Decided short file holds form verdict is (λ i. record { status = s i; out = o i; err = [] })
+    → OnText text Only IsChecked (record { status = status; out = out; err = [] })
+answers_verdict text file verdict status out holds form is s o =
+    Read file holds (Decided form verdict is (λ i. record { status = s i; out = o i; err = [] }))
 
--- texts that may be held, as is told
-some_held : Option Disk → List ℕ → Option (List ℕ)
-some_held None name = None
-some_held (Some disk) name = disk.held name
+-- what the decision did not answer is of another form
+pub other_of_none : {X : Type 0} (form : Bool) (verdict : Option X) → verdict ≡ None → (IsTrue form → IsSome verdict) → IsFalse form
+other_of_none true verdict none some = let wrong : IsSome verdict = some refl in absurd (let none_is : is_some verdict ≡ false = ap is_some none in cc)
+other_of_none false verdict none some = refl
 
-pub right_usage : (words : List (List ℕ)) (told : Option Disk) → request_of words ≡ None → IsRightOver words told (refusal_outcome Usage)
-right_usage words None none = record { held = λ name. None; same = tt; right = rw none refl }
-right_usage words (Some disk) none = record { held = disk.held; same = refl; right = rw none refl }
+-- ---- for a file
 
--- what is right for a text fulfils the request where it is held, or may be
+-- what is right for a text is right for the name where it is held, or may be
 pub fulfils_check : (told : Option Disk) (name text : List ℕ) (outcome : Outcome) → IfSome (held_of told) (λ held. held name ≡ Some text)
-    → IsChecked text outcome → FulfilsOver (CheckFile name) told outcome
-fulfils_check None name text outcome there checked = record { held = λ n. Some text; same = tt; fulfils = checked }
-fulfils_check (Some disk) name text outcome there checked = record { held = disk.held; same = refl; fulfils = rw there checked }
+    → OnText text Only IsChecked outcome → FulfilsOver (Check name) told outcome
+fulfils_check None name text outcome there right = record { held = λ n. Some text; same = tt; holds = right }
+fulfils_check (Some disk) name text outcome there right = record { held = disk.held; same = refl; holds = rw there right }
 
 -- some text is longer than n bytes
 longer_text : (n : ℕ) → (text : List ℕ) × (n < length text)
 longer_text n = (replicate (suc n) 0, omega (arith, length-replicate {A = ℕ} (suc n) 0))
 
-fulfils_length : (told new : Option Disk) (name : List ℕ) → WhereTold (ReadsPast name 262144) told new
-    → FulfilsOver (CheckFile name) told (refusal_outcome Length)
+fulfils_length : (told new : Option Disk) (name : List ℕ) → WhereTold (ReadsPast name MOST_BYTES) told new
+    → FulfilsOver (Check name) told (refused Length Only)
 fulfils_length None None name past =
-    let text = longer_text 262144 in
-    fulfils_check None name text.0 (refusal_outcome Length) tt (TooLong text.1 refl)
+    let text = longer_text MOST_BYTES in
+    fulfils_check None name text.0 (refused Length Only) tt (Refused Length (TooLong text.1 refl) refl)
 fulfils_length None (Some disk) name past = absurd past
 fulfils_length (Some disk) None name past = absurd past
 fulfils_length (Some disk) (Some new) name past =
-    fulfils_check (Some disk) name past.bytes (refusal_outcome Length) past.there (TooLong past.longer refl)
+    fulfils_check (Some disk) name past.bytes (refused Length Only) past.there (Refused Length (TooLong past.longer refl) refl)
 
 -- a refusal of the file is right for what is held
 pub explains_taking : (told new : Option Disk) (name : List ℕ) (fault : TakeFault)
-    → IfTooLong {T = Vec ℕ Global} (Err fault) (λ limit. WhereTold (ReadsPast name 262144) told new)
-    → ExplainsRequest (CheckFile name) told (refusal_of_taking fault)
+    → IfTooLong {T = Vec ℕ Global} (Err fault) (λ limit. WhereTold (ReadsPast name MOST_BYTES) told new)
+    → IsExplained (FulfilsOver (Check name) told) (refusal_of_taking fault)
 explains_taking told new name TakeOpen past = tt
 explains_taking told new name TakeRead past = tt
 explains_taking told new name (TakeTooLong limit) past = fulfils_length told new name past
@@ -86,34 +96,71 @@ explains_taking told new name TakeMemory past = tt
 
 -- a refusal of the text is one of what is held
 pub explains_text : (told : Option Disk) (name text : List ℕ) (refusal : Refusal) → IfSome (held_of told) (λ held. held name ≡ Some text)
-    → ExplainsText text refusal → ExplainsRequest (CheckFile name) told refusal
-explains_text told name text Usage there h = absurd h
+    → IsExplained (OnText text Only IsChecked) refusal → IsExplained (FulfilsOver (Check name) told) refusal
+explains_text told name text Length there h = fulfils_check told name text _ there h
+explains_text told name text (Text fault at) there h = fulfils_check told name text _ there h
+explains_text told name text Form there h = fulfils_check told name text _ there h
+explains_text told name text Usage there h = tt
 explains_text told name text Open there h = tt
-explains_text told name text Read there h = tt
-explains_text told name text Length there h = absurd h
-explains_text told name text (Text fault at) there h = fulfils_check told name text (refusal_outcome (Text fault at)) there h
-explains_text told name text Form there h = fulfils_check told name text (refusal_outcome Form) there h
-explains_text told name text Write there h = absurd h
+explains_text told name text ReadRefusal there h = tt
+explains_text told name text Write there h = tt
 explains_text told name text Memory there h = tt
 
--- what fulfils the request of the words is right for them
+-- ---- for the words
+
+-- what is right for the request of the words is right for them
 pub right_request : (words : List (List ℕ)) (request : Request) (told : Option Disk) (outcome : Outcome)
-    → request_of words ≡ Some request → FulfilsOver request told outcome → IsRightOver words told outcome
-right_request words request told outcome asked over = record { held = over.held; same = over.same; right = rw asked over.fulfils }
+    → AsksFor words request → FulfilsOver request told outcome → IsRightOver words told outcome
+right_request words request told outcome asked over = record { held = over.held; same = over.same; holds = Fulfilled request asked over.holds }
 
--- and so is a refusal
-pub explains_request : (words : List (List ℕ)) (request : Request) (told : Option Disk) (refusal : Refusal)
-    → request_of words ≡ Some request → ExplainsRequest request told refusal → Explains words told refusal
-explains_request words request told Usage asked h = absurd h
-explains_request words request told Open asked h = tt
-explains_request words request told Read asked h = tt
-explains_request words request told Length asked h = right_request words request told (refusal_outcome Length) asked h
-explains_request words request told (Text fault at) asked h = right_request words request told (refusal_outcome (Text fault at)) asked h
-explains_request words request told Form asked h = right_request words request told (refusal_outcome Form) asked h
-explains_request words request told Write asked h = absurd h
-explains_request words request told Memory asked h = tt
+module _ (words : List (List ℕ)) (request : Request) (told : Option Disk) (asked : AsksFor words request) (old new : Option (List ℕ)) where
+  pub ends_request : (status : Status) (P : List ℕ → Type 0) → EndsBy (FulfilsOver request told) status old new P → EndsBy (IsRightOver words told) status old new P
+  ends_request status P ends =
+      record { outcome = ends.outcome; right = right_request words request told ends.outcome asked ends.right; ends = ends.ends; report = ends.report; message = ends.message }
 
--- what the decision did not answer is of another form
-pub other_of_none : {X : Type 0} (form : Bool) (verdict : Option X) → verdict ≡ None → (IsTrue form → IsSome verdict) → IsFalse form
-other_of_none true verdict none some = let wrong : IsSome verdict = some refl in absurd (let none_is : is_some verdict ≡ false = ap is_some none in cc)
-other_of_none false verdict none some = refl
+  pub front_request : AddsFront (FulfilsOver request told) old new → AddsFront (IsRightOver words told) old new
+  front_request (inl none) = inl none
+  front_request (inr some) = inr (some.0, right_request words request told some.0 asked some.1, some.2)
+
+  pub stops_request : StopsWithin (FulfilsOver request told) old new → StopsWithin (IsRightOver words told) old new
+  stops_request some = (some.0, right_request words request told some.0 asked some.1, some.2)
+
+pub explains_request : (words : List (List ℕ)) (request : Request) (told : Option Disk) (asked : AsksFor words request) (refusal : Refusal)
+    → IsExplained (FulfilsOver request told) refusal → IsExplained (IsRightOver words told) refusal
+explains_request words request told asked refusal h =
+    elim (is_determined (status_of refusal)) as (λ b. OnTrue b (FulfilsOver request told (refused refusal Only)) → OnTrue b (IsRightOver words told (refused refusal Only))) [
+      | true ↦ λ right. right_request words request told _ asked right
+      | false ↦ λ none. tt
+    ] h
+
+-- ---- for what was written
+
+pub front_of_strict : (old new : Option (List ℕ)) (bytes : List ℕ) → AppendsStrictPrefix old new bytes → AppendsPrefix old new bytes
+front_of_strict old new bytes part = (part.0, let within = part.1 in omega arith, part.2)
+
+pub on_true : (b : Bool) {P : Type 0} → P → OnTrue b P
+on_true true h = h
+on_true false h = tt
+
+module _ (told : Option Disk) (name text : List ℕ) (report : Report) (old new : Option (List ℕ))
+    (there : IfSome (held_of told) (λ held. held name ≡ Some text)) (right : OnText text Only IsChecked (reported report)) where
+  fulfils : FulfilsOver (Check name) told (reported report)
+  fulfils = fulfils_check told name text (reported report) there right
+
+  -- a report that was written whole
+  pub whole_ends : Appends old new report.text.items → EndsBy (FulfilsOver (Check name) told) report.status old new (λ message. message ≡ [])
+  whole_ends written = record { outcome = reported report; right = fulfils; ends = refl; report = written; message = refl }
+
+  pub whole_front : Appends old new report.text.items → AddsFront (FulfilsOver (Check name) told) old new
+  whole_front written = inr (reported report, fulfils, (length report.text.items, omega arith, rw take-length written))
+
+  -- and one that was not
+  pub part_front : AppendsStrictPrefix old new report.text.items → AddsFront (FulfilsOver (Check name) told) old new
+  part_front part = inr (reported report, fulfils, front_of_strict old new report.text.items part)
+
+  pub part_stops : AppendsStrictPrefix old new report.text.items → StopsWithin (FulfilsOver (Check name) told) old new
+  part_stops part = (reported report, fulfils, part)
+
+pub on_true_weaker : (b : Bool) {P Q : Type 0} → (P → Q) → OnTrue b P → OnTrue b Q
+on_true_weaker true f h = f h
+on_true_weaker false f h = tt

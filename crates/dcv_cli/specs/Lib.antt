@@ -1,10 +1,15 @@
-pub mod Demand
-pub mod FirstForm
-pub mod Laws
-pub mod Outcome
-pub mod Refusal
-pub mod Report
+-- what is right: the definitions that the clauses of `run` and the laws cite, in reading order
 pub mod Request
-pub mod Requested
 pub mod Status
+pub mod Refusal
 pub mod Verdict
+pub mod Outcome
+pub mod FormulaFile
+pub mod FirstForm
+pub mod Check
+pub mod Right
+pub mod Ending
+pub mod Laws
+-- how clauses within the crate see values of the code, and what the decision of the first form rests on
+pub mod Seen
+pub mod Demand

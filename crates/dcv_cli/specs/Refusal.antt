@@ -1,11 +1,15 @@
 -- What each refusal says, and what it comes from.
-use Rattle.std.specs.Prelude.{ℕ, List, ◌++◌, codes}
+--     words_of refusal       the words of its line, as `fault syntax at 12`
+--     message_of refusal     the line
+--     ended which words      the words where a request reads more than one formula file, and this one is refused
+use Rattle.std.specs.Prelude.{ℕ, Bool, true, false, List, ◌++◌, Option, None, Some, Result, Err, codes}
 use Rattle.std.specs.Fmt.{decimal}
 use Rattle.dcv_io.specs.declared.fault.TakeFault.{TakeFault}
 use Rattle.dcv_io.specs.declared.fault.TakeFault.TheVariants.{Open as TakeOpen, Read as TakeRead, TooLong, Memory as TakeMemory}
-use Rattle.dcv_reader.specs.declared.faults.ReadFault.{ReadFault}
-use Rattle.dcv_reader.specs.declared.faults.ReadFault.TheVariants.{Byte as ByteAt, Syntax as SyntaxAt, Number as NumberAt, Name as NameAt, Nest as NestAt, Memory as ReadMemory}
+use Rattle.dcv_sentence.specs.declared.faults.ReadFault.{ReadFault}
+use Rattle.dcv_sentence.specs.declared.faults.ReadFault.TheVariants.{Byte as ByteAt, Syntax as SyntaxAt, Number as NumberAt, Name as NameAt, Nest as NestAt, Memory as ReadMemory}
 use Rattle.dcv_language.specs.VerdictText.{line}
+use Rattle.dcv_cli.specs.declared.refusal.TheConstants.{MOST_BYTES}
 use Rattle.dcv_cli.specs.declared.refusal.Refusal.{Refusal}
 use Rattle.dcv_cli.specs.declared.refusal.Refusal.TheVariants.{Usage, Open, Read, Length, Text, Form, Write, Memory}
 use Rattle.dcv_cli.specs.declared.refusal.TextFault.{TextFault}
@@ -17,32 +21,55 @@ abbrev pub status_of : Refusal → Status
 status_of Usage = StatusUsage
 status_of Open = Input
 status_of Read = Input
-status_of Length = Formula
-status_of (Text fault at) = Formula
-status_of Form = Formula
 status_of Write = Output
 status_of Memory = StatusMemory
+status_of _ = Formula
 
-abbrev pub word_of : TextFault → List ℕ
-word_of Byte = codes "byte"
-word_of Syntax = codes "syntax"
-word_of Number = codes "number"
-word_of Name = codes "name"
-word_of Nest = codes "nest"
+-- what a text is refused for, in a word
+abbrev pub text_word_of : TextFault → List ℕ
+text_word_of Byte = codes "byte"
+text_word_of Syntax = codes "syntax"
+text_word_of Number = codes "number"
+text_word_of Name = codes "name"
+text_word_of Nest = codes "nest"
 
--- the line of a fault that stands at a place
-abbrev pub place_message : List ℕ → ℕ → List ℕ
-place_message word at = line (codes "fault " ++ word ++ codes " at " ++ decimal at)
+-- what is refused, in a word
+abbrev pub word_of : Refusal → List ℕ
+word_of Usage = codes "usage"
+word_of Open = codes "open"
+word_of Read = codes "read"
+word_of Length = codes "length"
+word_of (Text fault at) = text_word_of fault
+word_of Form = codes "form"
+word_of Write = codes "write"
+word_of Memory = codes "memory"
+
+-- the offset in the file that it names: that of the text's fault, or the one behind the last byte that a file may have
+abbrev pub place_of : Refusal → Option ℕ
+place_of Length = Some MOST_BYTES
+place_of (Text fault at) = Some at
+place_of _ = None
+
+abbrev pub with_place : List ℕ → Option ℕ → List ℕ
+with_place words None = words
+with_place words (Some at) = words ++ codes " at " ++ decimal at
+
+abbrev pub words_of : Refusal → List ℕ
+words_of refusal = with_place (codes "fault " ++ word_of refusal) (place_of refusal)
 
 abbrev pub message_of : Refusal → List ℕ
-message_of Usage = line (codes "fault usage")
-message_of Open = line (codes "fault open")
-message_of Read = line (codes "fault read")
-message_of Length = line (codes "fault length at 262144")
-message_of (Text fault at) = place_message (word_of fault) at
-message_of Form = line (codes "fault form")
-message_of Write = line (codes "fault write")
-message_of Memory = line (codes "fault memory")
+message_of refusal = line (words_of refusal)
+
+-- which of the formula files that a request reads
+pub data Which : Type 0 where
+  Only : Which
+  First : Which
+  Second : Which
+
+abbrev pub ended : Which → List ℕ → List ℕ
+ended Only words = words
+ended First words = words ++ codes " in first"
+ended Second words = words ++ codes " in second"
 
 abbrev pub refusal_of_taking : TakeFault → Refusal
 refusal_of_taking TakeOpen = Open
@@ -57,3 +84,29 @@ refusal_of_reading (NumberAt at) = Text Number at
 refusal_of_reading (NameAt at) = Text Name at
 refusal_of_reading (NestAt at) = Text Nest at
 refusal_of_reading ReadMemory = Memory
+
+-- ---- which refusal a call ended with
+
+abbrev pub is_open_refusal : {T : Type 0} → Result T Refusal → Bool
+is_open_refusal (Err Open) = true
+is_open_refusal _ = false
+
+abbrev pub is_read_refusal : {T : Type 0} → Result T Refusal → Bool
+is_read_refusal (Err Read) = true
+is_read_refusal _ = false
+
+abbrev pub is_write_refusal : {T : Type 0} → Result T Refusal → Bool
+is_write_refusal (Err Write) = true
+is_write_refusal _ = false
+
+abbrev pub is_usage_refusal : {T : Type 0} → Result T Refusal → Bool
+is_usage_refusal (Err Usage) = true
+is_usage_refusal _ = false
+
+-- the refusal is one of the text itself, or memory ran out while it was judged
+abbrev pub is_of_text : Refusal → Bool
+is_of_text Usage = false
+is_of_text Open = false
+is_of_text Read = false
+is_of_text Write = false
+is_of_text _ = true

@@ -1,5 +1,6 @@
 // Decides the files that ask one thing of every letter of a behaviour.
 ghost use Rattle.std.specs.Prelude.{◌≡◌, ◌≢◌, ◌≤◌, ◌↔◌, Bool, List, [], ◌∷◌, not, length, option_map, Some, IfOk, IfSome, IsSome, IsTrue};
+ghost use Rattle.dcv_syntax.specs.Views.{plain_file};
 ghost use Rattle.dcv_logic.specs.Models.{models};
 ghost use Rattle.dcv_language.specs.Language.{Language};
 ghost use Rattle.dcv_language.specs.Verdict.{IsVerdict};
@@ -25,9 +26,9 @@ pub enum Demand {
 
 /// The verdict of a file of the first form, or None of any other file.
 pub fn decide(alloc: Global, file: &File) -> Result<Option<Verdict>, AllocError>
-    ensures form { IfOk result (λ verdict. IsSome verdict ↔ IsTrue (is_first_form file.now)) }
+    ensures form { IfOk result (λ verdict. IsSome verdict ↔ IsTrue (is_first_form (plain_file file.now))) }
     ensures verdict { IfOk result (λ verdict. IfSome verdict (λ found.
-        IsVerdict (length file.now.variables.items) (models file.now) (seen_verdict found))) }
+        IsVerdict (length file.now.variables.items) (models (plain_file file.now)) (seen_verdict found))) }
 {
     let Some(demand) = demand_of(file) else {
         return Ok(None);
@@ -38,8 +39,8 @@ pub fn decide(alloc: Global, file: &File) -> Result<Option<Verdict>, AllocError>
 
 // What the file asks of each letter, if it is of the first form.
 fn demand_of(file: &File) -> Option<Demand>
-    ensures form { IsSome result ↔ IsTrue (is_first_form file.now) }
-    ensures asks { IfSome result (λ demand. AsksOfEach (meets demand) (models file.now)) }
+    ensures form { IsSome result ↔ IsTrue (is_first_form (plain_file file.now)) }
+    ensures asks { IfSome result (λ demand. AsksOfEach (meets demand) (models (plain_file file.now))) }
     ensures variables { IfSome result (λ _. length file.now.variables.items ≤ 1) }
     ensures variable { result ≡ Some Demand.Variable → length file.now.variables.items ≡ 1 }
 {

@@ -2,7 +2,7 @@
 //! [`run`] is what the program calls, and its contract is what the program promises.
 #![tactic(auto)]
 
-mod answer;
+mod check;
 mod decision;
 pub mod laws;
 mod refusal;

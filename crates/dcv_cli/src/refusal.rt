@@ -4,13 +4,17 @@ ghost use Rattle.std.specs.List.{flat_map};
 ghost use Rattle.dcv_io.specs.Faults.{RisesIf};
 ghost use Rattle.dcv_io.specs.Written.{Appends, AppendsPrefix};
 ghost use Rattle.dcv_cli.specs.declared.refusal.Refusal.TheVariants.{Memory};
-ghost use Rattle.dcv_cli.specs.Refusal.{status_of, word_of, place_message, message_of, refusal_of_taking, refusal_of_reading};
+ghost use Rattle.dcv_cli.specs.declared.refusal.Refusal.TheVariants.{Write};
+ghost use Rattle.dcv_cli.specs.Refusal.{status_of, text_word_of, word_of, place_of, message_of, refusal_of_taking, refusal_of_reading};
 
 use crate::status::Status;
 use dcv_io::{Failed, Sink, TakeFault, write_all};
 use dcv_reader::ReadFault;
 use itoa::Buffer;
 use std::alloc::{AllocError, AllocFailed};
+
+/// The most bytes that a formula file has.
+pub const MOST_BYTES: u64 = 262_144;
 
 /// What is wrong with a text, at some place of it.
 #[derive(Clone, Copy, Debug, PartialEq, Eq)]
@@ -28,9 +32,9 @@ pub enum TextFault {
 }
 
 impl TextFault {
-    /// The word that names it.
-    pub fn word(self) -> &'static [u8]
-        ensures { result.now ≡ word_of self }
+    // What it is, in a word.
+    fn word(self) -> &'static [u8]
+        ensures { result.now ≡ text_word_of self }
     {
         match self {
             TextFault::Byte => b"byte",
@@ -77,34 +81,49 @@ impl Refusal {
         }
     }
 
+    // What is refused, in a word.
+    fn word(self) -> &'static [u8]
+        ensures { result.now ≡ word_of self }
+    {
+        match self {
+            Refusal::Usage => b"usage",
+            Refusal::Open => b"open",
+            Refusal::Read => b"read",
+            Refusal::Length => b"length",
+            Refusal::Text { fault, .. } => fault.word(),
+            Refusal::Form => b"form",
+            Refusal::Write => b"write",
+            Refusal::Memory => b"memory",
+        }
+    }
+
+    // The offset in the file that it names.
+    fn place(self) -> Option<u64>
+        ensures { result ≡ place_of self }
+    {
+        match self {
+            Refusal::Length => Some(MOST_BYTES),
+            Refusal::Text { at, .. } => Some(u64::from(at)),
+            _ => None,
+        }
+    }
+
     /// Writes the line that says so. It takes no memory, since memory may have run out.
     pub fn tell<S: Sink>(self, sink: &mut S) -> Result<(), Failed>
         ensures ok { OnOk result (Appends (S.written sink.old) (S.written sink.new) (message_of self)) }
         ensures failed { OnErr result (AppendsPrefix (S.written sink.old) (S.written sink.new) (message_of self)) }
         ensures faults { RisesIf (is_err result) (S.faults sink.old) (S.faults sink.new) }
     {
-        match self {
-            Refusal::Text { fault, at } => tell_place(sink, fault.word(), at),
-            Refusal::Usage => write_all(sink, b"fault usage\n"),
-            Refusal::Open => write_all(sink, b"fault open\n"),
-            Refusal::Read => write_all(sink, b"fault read\n"),
-            Refusal::Length => write_all(sink, b"fault length at 262144\n"),
-            Refusal::Form => write_all(sink, b"fault form\n"),
-            Refusal::Write => write_all(sink, b"fault write\n"),
-            Refusal::Memory => write_all(sink, b"fault memory\n"),
+        let word = self.word();
+        match self.place() {
+            None => write_pieces(sink, &[b"fault ", word, b"\n"]),
+            Some(at) => {
+                let mut number = Buffer::new();
+                let digits = number.format(at);
+                write_pieces(sink, &[b"fault ", word, b" at ", digits.as_bytes(), b"\n"])
+            }
         }
     }
-}
-
-// Writes the line of a fault that stands at a place.
-fn tell_place<S: Sink>(sink: &mut S, word: &[u8], at: u32) -> Result<(), Failed>
-    ensures ok { OnOk result (Appends (S.written sink.old) (S.written sink.new) (place_message word.now at)) }
-    ensures failed { OnErr result (AppendsPrefix (S.written sink.old) (S.written sink.new) (place_message word.now at)) }
-    ensures faults { RisesIf (is_err result) (S.faults sink.old) (S.faults sink.new) }
-{
-    let mut number = Buffer::new();
-    let digits = number.format(at);
-    write_pieces(sink, &[b"fault ", word, b" at ", digits.as_bytes(), b"\n"])
 }
 
 // Writes the pieces, one after another, up to the first write that fails.
@@ -175,5 +194,14 @@ impl<T: Drop> From<AllocFailed<T>> for Refusal {
 
     fn from(_: AllocFailed<T>) -> Self {
         Refusal::Memory
+    }
+}
+
+impl From<Failed> for Refusal {
+    ghost from_gives = { λ _ refusal. refusal ≡ Write };
+
+    // The one call of the outside that is handed on so is a write of the report.
+    fn from(_: Failed) -> Self {
+        Refusal::Write
     }
 }

@@ -1,7 +1,7 @@
 // The words of the command line.
 ghost use Rattle.std.specs.Prelude.{◌≡◌, [], ◌∷◌, ◌++◌, OnOk, OnErr};
-ghost use Rattle.dcv_cli.specs.Request.{request_of, is_file_name as names_a_file};
-ghost use Rattle.dcv_cli.specs.Requested.{requested};
+ghost use Rattle.dcv_cli.specs.Request.{Check, request_of, is_file_name as names_a_file};
+ghost use Rattle.dcv_cli.specs.Seen.{asked_by, requested};
 
 use std::alloc::{AllocError, Global};
 use std::marker::Model;
@@ -11,6 +11,24 @@ use std::marker::Model;
 pub struct Words {
     alloc: Global,
     words: Vec<String>,
+}
+
+/// What the program is asked to do.
+#[derive(Clone, Copy, Debug)]
+pub enum Command<'a> {
+    /// To write the verdict of the formula in the file of this name.
+    Check { file: &'a str },
+}
+
+impl<'a> Command<'a> {
+    // for the prover: a pattern of an enum with one variant leaves its field without a name in goals
+    pub fn file(self) -> &'a str
+        ensures { asked_by self.entry ≡ Check result.now }
+    {
+        match self {
+            Command::Check { file } => file,
+        }
+    }
 }
 
 impl Model for Words {
@@ -43,23 +61,23 @@ impl Words {
         Ok(())
     }
 
-    /// The name of the file that the words ask to check, if they do.
-    pub fn file_to_check(&self) -> Option<&str>
+    /// What the words ask for, if they are those of a command.
+    pub fn command(&self) -> Option<Command<'_>>
         ensures { request_of self.now ≡ requested result }
     {
         match self.words.as_slice() {
-            [word, name] => checked_name(word.as_str(), name.as_str()),
+            [word, name] => check_of(word.as_str(), name.as_str()),
             _ => None,
         }
     }
 }
 
-// The name, where the two words are those of a check.
-fn checked_name<'a>(word: &'a str, name: &'a str) -> Option<&'a str>
+// The command, where the two words are those of a check.
+fn check_of<'a>(word: &'a str, name: &'a str) -> Option<Command<'a>>
     ensures { request_of (word.now ∷ name.now ∷ []) ≡ requested result }
 {
     if word == "check" && is_file_name(name) {
-        Some(name)
+        Some(Command::Check { file: name })
     } else {
         None
     }

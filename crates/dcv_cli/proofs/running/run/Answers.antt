@@ -1,7 +1,9 @@
--- What was written is the report of the answer, or a front of it.
-use Rattle.std.proofs.Common.{inr}
-use Rattle.dcv_cli.specs.Report.{reported}
+-- A refusal that the words and the texts determine is how the run ends.
+use Rattle.dcv_cli.specs.Right.{IsRightOver}
+use Rattle.dcv_cli.proofs.Endings.{ends_refused}
 use Rattle.dcv_cli.proofs.running.run.Goals as goal
 
-pub returns-in-Ok-clause-report : goal.returns-in-Ok-clause-report
-returns-in-Ok-clause-report g c = inr (reported c.in-Ok.report, c.in-Ok.ensures.ok, c.send.ensures.front)
+pub returns-in-Err-clause-right : goal.returns-in-Err-clause-right
+returns-in-Err-clause-right g c =
+    ends_refused (IsRightOver c.args.words.now (g.F.Files.told c.args.files.now)) (g.O.Sink.written c.args.out.now) (g.O.Sink.written c.perform.new.out)
+    c.in-Err.refusal c.refuse.result _ _ _ _ c.refuse.ensures.status c.in-Err.ensures.refused c.in-Err.ensures.silent c.refuse.ensures.message

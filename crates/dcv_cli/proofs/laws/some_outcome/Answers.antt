@@ -1,0 +1,6 @@
+-- A text has a first fault or spells a file, and a file that is decided has a verdict.
+use Rattle.dcv_cli.proofs.SomeOutcome.{some_outcome}
+use Rattle.dcv_cli.proofs.laws.some_outcome.Goals as goal
+
+pub returns : goal.returns
+returns c = some_outcome c.some_reading.ensures

@@ -1,0 +1,106 @@
+-- The words with which the clauses of a run speak of how it ended.
+--     EndsBy Right ..          it ended as a right outcome does
+--     IsExplained Right r      the refusal r is a right outcome, where the words and the texts determine it
+--     AddsFront Right ..       nothing but a front of a right report was written
+--     StopsWithin Right ..     the output failed before a right report was whole
+--     LeavesOver words ..      what was written where an input failed
+--     AsksFrontOf words ..     which files were asked for
+--     HasInputCause ..         what the counts of the files say
+--     Tells, TellsCause        what is on the messages
+use Rattle.std.specs.Prelude.{◌≡◌, ◌⊎◌, ℕ, Bool, true, false, List, [], Option, IsTrue, IsFalse}
+use Rattle.std.specs.Bool.{OnTrue}
+use Rattle.dcv_io.specs.Asked.{Asks, AsksPrefix}
+use Rattle.dcv_io.specs.Disk.{Disk}
+use Rattle.dcv_io.specs.Faults.{has_risen, Rises}
+use Rattle.dcv_io.specs.Written.{Appends, AppendsPrefix, AppendsStrictPrefix}
+use Rattle.dcv_cli.specs.declared.refusal.Refusal.{Refusal}
+use Rattle.dcv_cli.specs.declared.refusal.Refusal.TheVariants.{Open, Read, Write, Memory as OutOfMemory}
+use Rattle.dcv_cli.specs.declared.status.Status.{Status}
+use Rattle.dcv_cli.specs.declared.status.Status.TheVariants.{Input, Output, Memory}
+use Rattle.dcv_cli.specs.Outcome.{Outcome, refused}
+use Rattle.dcv_cli.specs.Refusal.{status_of, message_of, Only}
+use Rattle.dcv_cli.specs.Request.{Request, Check, AsksFor, files_of}
+use Rattle.dcv_cli.specs.Right.{ForHeld}
+use Rattle.dcv_cli.specs.Status.{is_determined}
+
+-- ---- the status and the report
+
+-- A right outcome has this status, its report is what was added to the output, and its message what P says.
+pub record EndsBy (Right : Outcome → Type 0) (status : Status) (old new : Option (List ℕ)) (P : List ℕ → Type 0) : Type 0 where
+  pub outcome : Outcome
+  pub right : Right outcome
+  pub ends : outcome.status ≡ status
+  pub report : Appends old new outcome.out
+  pub message : P outcome.err
+
+-- Of the other refusals the words, the counts of the outside, and nothing at all where memory runs out, say when they come.
+abbrev pub IsExplained : (Outcome → Type 0) → Refusal → Type 0
+IsExplained Right refusal = OnTrue (is_determined (status_of refusal)) (Right (refused refusal Only))
+
+-- what was added is a front of the report of a right outcome, or nothing
+abbrev pub AddsFront : (Outcome → Type 0) → Option (List ℕ) → Option (List ℕ) → Type 0
+AddsFront Right old new = Appends old new [] ⊎ ((outcome : Outcome) × Right outcome × AppendsPrefix old new outcome.out)
+
+-- what was added is a front of the report of a right outcome, and some of that report is missing
+abbrev pub StopsWithin : (Outcome → Type 0) → Option (List ℕ) → Option (List ℕ) → Type 0
+StopsWithin Right old new = (outcome : Outcome) × Right outcome × AppendsStrictPrefix old new outcome.out
+
+-- What a run of the request has written where an input failed: of a formula file nothing.
+abbrev pub Leaves : Request → (List ℕ → Option (List ℕ)) → List ℕ → Type 0
+Leaves (Check name) held bytes = bytes ≡ []
+
+-- that is what was added to the output, for the request of the words
+pub record LeavesOver (words : List (List ℕ)) (told : Option Disk) (old new : Option (List ℕ)) : Type 0 where
+  pub request : Request
+  pub asked : AsksFor words request
+  pub bytes : List ℕ
+  pub left : ForHeld told (λ held. Leaves request held bytes)
+  pub added : Appends old new bytes
+
+-- ---- the files
+
+-- No file was asked for, or the first of those that the request of the words reads.
+abbrev pub AsksFrontOf : List (List ℕ) → Option (List (List ℕ)) → Option (List (List ℕ)) → Type 0
+AsksFrontOf words old new = Asks [] old new ⊎ ((request : Request) × AsksFor words request × AsksPrefix (files_of request) old new)
+
+abbrev pub NoneRises : ℕ → ℕ → ℕ → ℕ → Type 0
+NoneRises open_before open_after read_before read_after = (open_after ≡ open_before) × (read_after ≡ read_before)
+
+abbrev pub OneRises : ℕ → ℕ → ℕ → ℕ → Type 0
+OneRises open_before open_after read_before read_after =
+    (Rises open_before open_after × (read_after ≡ read_before)) ⊎ ((open_after ≡ open_before) × Rises read_before read_after)
+
+-- An input that failed ends the run, and so one count has risen. It ends otherwise only where what it had read so far
+-- could not be written.
+abbrev pub HasInputCause : Status → ℕ → ℕ → ℕ → ℕ → Type 0
+HasInputCause Input open_before open_after read_before read_after = OneRises open_before open_after read_before read_after
+HasInputCause Output open_before open_after read_before read_after =
+    NoneRises open_before open_after read_before read_after ⊎ OneRises open_before open_after read_before read_after
+HasInputCause _ open_before open_after read_before read_after = NoneRises open_before open_after read_before read_after
+
+-- ---- the messages
+
+-- The message, or a front of it where the count of faults has risen, is what was added.
+pub record Tells (message : List ℕ) (old new : Option (List ℕ)) (faults_before faults_after : ℕ) : Type 0 where
+  pub front : AppendsPrefix old new message
+  pub whole : IsFalse (has_risen faults_before faults_after) → Appends old new message
+
+-- the message of a status that something outside of the words and the texts brought about
+abbrev pub NamesCause : Status → Bool → Bool → List ℕ → Type 0
+NamesCause Input open_risen read_risen message =
+    ((message ≡ message_of Open) × IsTrue open_risen) ⊎ ((message ≡ message_of Read) × IsTrue read_risen)
+NamesCause Output open_risen read_risen message = message ≡ message_of Write
+NamesCause Memory open_risen read_risen message = message ≡ message_of OutOfMemory
+NamesCause _ open_risen read_risen message = ⊥
+
+abbrev pub has_cause : Status → Bool
+has_cause Input = true
+has_cause Output = true
+has_cause Memory = true
+has_cause _ = false
+
+-- such a message was told, or a front of it
+abbrev pub TellsCause : Status → Bool → Bool → Option (List ℕ) → Option (List ℕ) → ℕ → ℕ → Type 0
+TellsCause status open_risen read_risen old new before after =
+    OnTrue (has_cause status)
+    ((message : List ℕ) × NamesCause status open_risen read_risen message × Tells message old new before after)

@@ -1,0 +1,35 @@
+-- What a text comes to that is given as a formula file. Every command that reads one cites these words.
+--     IsRefused text refusal    the text is no formula file, for this reason
+--     IsFormulaFile text file   the text has no fault, and spells the file
+--     OnText ..                 the outcomes that are right where a command is given this text
+--     OnFile ..                 the same, where the text is held under a name
+use Rattle.std.specs.Prelude.{◌≡◌, ℕ, ◌<◌, ◌≤◌, List, Option, IsSomeAnd, length}
+use Rattle.dcv_syntax.specs.Plain.{PlainFile}
+use Rattle.dcv_sentence.specs.Faults.{HasFault, IsFirstFault}
+use Rattle.dcv_reader.specs.Spelling.{Spells}
+use Rattle.dcv_sentence.specs.declared.faults.ReadFault.{ReadFault}
+use Rattle.dcv_cli.specs.declared.refusal.TheConstants.{MOST_BYTES}
+use Rattle.dcv_cli.specs.declared.refusal.Refusal.{Refusal}
+use Rattle.dcv_cli.specs.declared.refusal.Refusal.TheVariants.{Length}
+use Rattle.dcv_cli.specs.Outcome.{Outcome, refused}
+use Rattle.dcv_cli.specs.Refusal.{refusal_of_reading, Which}
+
+-- It is longer than a formula file may be, or it has a fault, the first of which counts.
+pub data IsRefused (text : List ℕ) (refusal : Refusal) : Type 0 where
+  TooLong : MOST_BYTES < length text → refusal ≡ Length → IsRefused text refusal
+  Faulty : length text ≤ MOST_BYTES → (fault : ReadFault) → IsFirstFault text fault → refusal ≡ refusal_of_reading fault → IsRefused text refusal
+
+pub record IsFormulaFile (text : List ℕ) (file : PlainFile) : Type 0 where
+  pub fits : length text ≤ MOST_BYTES
+  pub no_fault : (fault : ReadFault) → HasFault text fault → ⊥
+  pub spelled : Spells text file
+
+-- The text is refused, and the outcome says so and which of the request's files it is; or it is a formula file, and the
+-- outcome is right for that. What the command does with the file is its own part, `RightFor`.
+pub data OnText (text : List ℕ) (which : Which) (RightFor : PlainFile → Outcome → Type 0) (outcome : Outcome) : Type 0 where
+  Refused : (refusal : Refusal) → IsRefused text refusal → outcome ≡ refused refusal which → OnText text which RightFor outcome
+  Read : (file : PlainFile) → IsFormulaFile text file → RightFor file outcome → OnText text which RightFor outcome
+
+-- none where nothing is held under the name
+abbrev pub OnFile : (List ℕ → Option (List ℕ)) → List ℕ → Which → (PlainFile → Outcome → Type 0) → Outcome → Type 0
+OnFile held name which RightFor outcome = IsSomeAnd (held name) (λ text. OnText text which RightFor outcome)
