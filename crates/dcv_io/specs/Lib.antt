@@ -1,11 +1,13 @@
+-- what the clauses of public calls cite
 pub mod Asked
 pub mod Disk
 pub mod Faults
 pub mod FilesState
-pub mod HeldFile
 pub mod Noted
 pub mod Plan
 pub mod RealCounts
 pub mod SinkState
 pub mod Taking
 pub mod Written
+-- what proofs alone need
+pub mod HeldFile
