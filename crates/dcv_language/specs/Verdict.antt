@@ -1,15 +1,14 @@
 -- The verdict of a set of behaviours.
-use Rattle.std.specs.Prelude.{◌≢◌, ℕ, Option, MatchOption, IsTrue}
-use Rattle.std.specs.declared.cmp.Ordering.TheVariants.{Less}
-use Rattle.dcv_word.specs.Word.{shortlex_order}
-use Rattle.dcv_word.specs.Behaviour.{Word, IsBehaviour}
+--     IsLeast         the word is a behaviour in the set, and no behaviour in the set comes before it in shortlex order
+--     IsLeastOf       the least behaviour of the set, where it has one
+--     IsVerdict       the least behaviour outside the set, and the least in it
+use Rattle.std.specs.Prelude.{ℕ, Option, MatchOption, IsTrue}
+use Rattle.dcv_word.specs.Behaviour.{Word}
 use Rattle.dcv_language.specs.Language.{Language, HasNone, outside}
+use Rattle.dcv_language.specs.Least.{IsLeastWhere}
 
--- the word is a behaviour in the set, and no behaviour in the set comes before it in shortlex order
-pub record IsLeast (k : ℕ) (L : Language) (word : Word) : Type 0 where
-  pub behaviour : IsBehaviour k word
-  pub member : IsTrue (L word)
-  pub least : (other : Word) → IsBehaviour k other → IsTrue (L other) → shortlex_order other word ≢ Less
+abbrev pub IsLeast : ℕ → Language → Word → Type 0
+IsLeast k L = IsLeastWhere k (λ word. IsTrue (L word))
 
 -- the least behaviour of the set, or none where it has none
 abbrev pub IsLeastOf : ℕ → Language → Option Word → Type 0

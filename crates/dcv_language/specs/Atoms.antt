@@ -1,0 +1,47 @@
+-- The sets of the atoms of the logic. A proposition is a test of a letter.
+--     constant truth           each behaviour, or none
+--     point P                  one instant, where P holds
+--     run P                    more than one instant, and P at each but the last
+--     every P                  P at each instant
+--     unit P                   two instants, and P at the first
+--     slen meets               the number of steps, which is one less than that of instants, meets the test
+--     scount P meets           the number of instants with P meets the test
+--     sdur P meets             the number of instants but the last with P meets the test
+--     SettlesAbove n meets     the test does not tell numbers above n apart
+use Rattle.std.specs.Prelude.{◌≡◌, ℕ, suc, ◌<◌, Bool, ◌&&◌, ◌==◌, nat_lt, List, [], ◌∷◌, length}
+use Rattle.std.specs.List.{list_all, count_by}
+use Rattle.dcv_word.specs.Behaviour.{Word}
+use Rattle.dcv_language.specs.Language.{Language}
+
+-- the letters of a word at all its instants but the last
+abbrev pub all_but_last : Word → Word
+all_but_last [] = []
+all_but_last (letter ∷ []) = []
+all_but_last (letter ∷ other ∷ letters) = letter ∷ all_but_last (other ∷ letters)
+
+abbrev pub constant : Bool → Language
+constant truth = λ word. truth
+
+abbrev pub point : (List Bool → Bool) → Language
+point P word = length word == 1 && list_all P word
+
+abbrev pub run : (List Bool → Bool) → Language
+run P word = nat_lt 1 (length word) && list_all P (all_but_last word)
+
+abbrev pub every : (List Bool → Bool) → Language
+every P word = list_all P word
+
+abbrev pub unit : (List Bool → Bool) → Language
+unit P word = length word == 2 && list_all P (all_but_last word)
+
+abbrev pub slen : (ℕ → Bool) → Language
+slen meets word = meets (length (all_but_last word))
+
+abbrev pub scount : (List Bool → Bool) → (ℕ → Bool) → Language
+scount P meets word = meets (count_by P word)
+
+abbrev pub sdur : (List Bool → Bool) → (ℕ → Bool) → Language
+sdur P meets word = meets (count_by P (all_but_last word))
+
+abbrev pub SettlesAbove : ℕ → (ℕ → Bool) → Type 0
+SettlesAbove n meets = (number : ℕ) → n < number → meets number ≡ meets (suc n)
