@@ -1,1 +1,3 @@
+pub mod Behaviours
 pub mod Least
+pub mod Sameness

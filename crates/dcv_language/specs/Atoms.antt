@@ -8,7 +8,7 @@
 --     scount P meets           the number of instants with P meets the test
 --     sdur P meets             the number of instants but the last with P meets the test
 --     SettlesAbove n meets     the test does not tell numbers above n apart
-use Rattle.std.specs.Prelude.{◌≡◌, ℕ, suc, ◌<◌, Bool, ◌&&◌, ◌==◌, nat_lt, List, [], ◌∷◌, length}
+use Rattle.std.specs.Prelude.{◌≡◌, ℕ, suc, ◌<◌, Bool, false, List, [], ◌∷◌, length}
 use Rattle.std.specs.List.{list_all, count_by}
 use Rattle.dcv_word.specs.Behaviour.{Word}
 use Rattle.dcv_language.specs.Language.{Language}
@@ -23,16 +23,23 @@ abbrev pub constant : Bool → Language
 constant truth = λ word. truth
 
 abbrev pub point : (List Bool → Bool) → Language
-point P word = length word == 1 && list_all P word
+point P [] = false
+point P (letter ∷ []) = P letter
+point P (letter ∷ other ∷ letters) = false
 
 abbrev pub run : (List Bool → Bool) → Language
-run P word = nat_lt 1 (length word) && list_all P (all_but_last word)
+run P [] = false
+run P (letter ∷ []) = false
+run P (letter ∷ other ∷ letters) = list_all P (all_but_last (letter ∷ other ∷ letters))
 
 abbrev pub every : (List Bool → Bool) → Language
 every P word = list_all P word
 
 abbrev pub unit : (List Bool → Bool) → Language
-unit P word = length word == 2 && list_all P (all_but_last word)
+unit P [] = false
+unit P (letter ∷ []) = false
+unit P (letter ∷ other ∷ []) = P letter
+unit P (letter ∷ other ∷ third ∷ letters) = false
 
 abbrev pub slen : (ℕ → Bool) → Language
 slen meets word = meets (length (all_but_last word))
