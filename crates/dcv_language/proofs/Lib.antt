@@ -1,3 +1,4 @@
+pub mod Ascending
 pub mod AtomRuns
 pub mod Behaviours
 pub mod Least
