@@ -1,8 +1,13 @@
 pub mod Ascending
 pub mod AtomRuns
 pub mod Behaviours
+pub mod Bounds
+pub mod Canonicals
 pub mod Least
+pub mod OneTable
 pub mod OperationRuns
 pub mod Runs
 pub mod Sameness
+pub mod Searches
 pub mod Sets
+pub mod Words
