@@ -1,7 +1,6 @@
 -- Lists that ascend in a strict order are equal where they have the same members.
-use Rattle.std.proofs.Common.{◌≡◌, ◌⊎◌, inl, inr, ⊎_elim, ℕ, zero, suc, ◌<◌, List, [], ◌∷◌, length, get_or, AllPairs, refl, ap, sym, ◌∙◌, subst, subst₂, arith}
+use Rattle.std.proofs.Common.{◌≡◌, ◌⊎◌, inl, inr, ℕ, zero, suc, ◌<◌, List, [], ◌∷◌, length, get_or, AllPairs, refl, sym, ◌∙◌, subst, arith}
 use Rattle.std.specs.List.{IsAmong}
-use Rattle.std.proofs.lemmas.List.{get_or_default}
 
 abbrev pub Member : {X : Type 0} → X → List X → Type 0
 Member x [] = ⊥
@@ -36,7 +35,8 @@ module _ {X : Type 0} (R : X → X → Type 0) where
   Ascends-from_pairs [] pairs = tt
   Ascends-from_pairs (x ∷ xs) pairs = (
     (λ y m. let p = place_of xs y m in subst (λ z. R x z) (sym (p.2 x)) (pairs 0 (suc p.0) x (omega arith) (omega (arith, p.1)))),
-    Ascends-from_pairs xs (λ i j d h k. pairs (suc i) (suc j) d (omega arith) (omega arith)))
+    Ascends-from_pairs xs (λ i j d h k. pairs (suc i) (suc j) d (omega arith) (omega arith)),
+  )
 
   pub pairs_from_Ascends : (xs : List X) → Ascends R xs → AllPairs R xs
   pairs_from_Ascends [] a i j d h k = absurd (omega arith)
@@ -61,6 +61,6 @@ module _ {X : Type 0} (R : X → X → Type 0) where
     one_ascending (x ∷ xs) (y ∷ ys) a b f g =
         let head = same_head x y xs ys a.0 b.0 (f x (inl refl)) (g y (inl refl)) in
         let tail = one_ascending xs ys a.1 b.1
-          (λ z m. in_tail x y z ys head (a.0 z m) (f z (inr m)))
-          (λ z m. in_tail y x z xs (sym head) (b.0 z m) (g z (inr m))) in
+        (λ z m. in_tail x y z ys head (a.0 z m) (f z (inr m)))
+        (λ z m. in_tail y x z xs (sym head) (b.0 z m) (g z (inr m))) in
         λ i. head i ∷ tail i

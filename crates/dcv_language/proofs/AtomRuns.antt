@@ -1,14 +1,14 @@
 -- The machines of the atoms accept the atoms' words: what is accepted from each of their states, by induction on the word.
-use Rattle.std.proofs.Common.{◌≡◌, ℕ, zero, suc, ◌+◌, ◌<◌, ◌≤◌, min, Bool, true, false, cond, ◌&&◌, List, [], ◌∷◌, length, Option, None, Some, count_by, refl, ap, sym, ◌∙◌, arith}
+use Rattle.std.proofs.Common.{◌≡◌, ℕ, suc, ◌+◌, Bool, true, false, cond, ◌&&◌, List, [], ◌∷◌, length, Some, count_by, refl, ap, sym, ◌∙◌, arith}
 use Rattle.std.specs.List.{list_all}
 use Rattle.std.proofs.lemmas.Bool.{cases_lt}
 use Rattle.std.proofs.lemmas.List.Sums.{sum_by-cons}
 use Rattle.std.proofs.lemmas.Bool.Decides.{nat_tests}
 use Rattle.std.proofs.Common.{⊎_elim}
 use Rattle.dcv_word.specs.Behaviour.{Word}
-use Rattle.dcv_language.specs.Automaton.{Automaton, WorkingMachine, state_from, accepts_from, accepts}
-use Rattle.dcv_language.specs.Atoms.{all_but_last, constant, point, run, every, unit, slen, scount, sdur, SettlesAbove}
-use Rattle.dcv_language.specs.AtomMachines.{ConstantState, One, PointState, PointStart, PointGood, PointBad, RunState, RunStart, RunFirst, RunOk, RunLast, RunDead, EveryState, EveryStart, EveryOk, EveryBad, UnitState, UnitStart, UnitOne, UnitGood, UnitDead, DurationState, DurationStart, Lasted, constant_machine, point_machine, run_machine, every_machine, unit_machine, capped, slen_machine, scount_machine, sdur_machine}
+use Rattle.dcv_language.specs.Automaton.{accepts_from}
+use Rattle.dcv_language.specs.Atoms.{all_but_last, point, run, unit, SettlesAbove}
+use Rattle.dcv_language.specs.AtomMachines.{PointState, PointGood, PointBad, RunState, RunFirst, RunOk, RunLast, RunDead, EveryState, EveryOk, EveryBad, UnitState, UnitOne, UnitDead, Lasted, point_machine, run_machine, every_machine, unit_machine, capped, slen_machine, scount_machine, sdur_machine}
 use Rattle.dcv_language.specs.MachineLaws.{ConstantMachineAccepts, PointMachineAccepts, RunMachineAccepts, EveryMachineAccepts, UnitMachineAccepts, SlenMachineAccepts, ScountMachineAccepts, SdurMachineAccepts, EqualSettles, LessSettles, AtMostSettles, GreaterSettles, AtLeastSettles}
 
 -- ---- constants
@@ -120,9 +120,9 @@ count-cons P letter letters = sym (sum_by-cons (λ (x : List Bool). cond (P x) 1
 -- what is capped meets the test alike
 settled : (n : ℕ) (meets : ℕ → Bool) → SettlesAbove n meets → (count : ℕ) → meets (capped n count) ≡ meets count
 settled n meets settles count = ⊎_elim
-  (λ above. ap meets (omega arith) ∙ sym (settles count above))
-  (λ within. ap meets (omega arith))
-  (cases_lt n count)
+    (λ above. ap meets (omega arith) ∙ sym (settles count above))
+    (λ within. ap meets (omega arith))
+    (cases_lt n count)
 
 -- one more of what is capped, capped again
 capped_more : (n count : ℕ) → capped n (suc (capped n count)) ≡ capped n (suc count)
@@ -154,7 +154,7 @@ module _ (n : ℕ) (meets : ℕ → Bool) (settles : SettlesAbove n meets) where
   last_step : (P : List Bool → Bool) (a b : List Bool) (word : Word)
       → ((c : ℕ) → lasts_from P (capped n c) (P b) word ≡ meets (c + count_by P (all_but_last (b ∷ word))))
       → (holds : Bool) (count : ℕ) → lasts_from P (cond holds (capped n (suc (capped n count))) (capped n count)) (P b) word
-        ≡ meets (count + (cond holds 1 0 + count_by P (all_but_last (b ∷ word))))
+      ≡ meets (count + (cond holds 1 0 + count_by P (all_but_last (b ∷ word))))
   last_step P a b word ih true count = ap (λ c. lasts_from P c (P b) word) (capped_more n count) ∙ ih (suc count) ∙ ap meets (omega arith)
   last_step P a b word ih false count = ih count ∙ ap meets (omega arith)
 

@@ -1,6 +1,6 @@
 -- Parts of behaviours are behaviours, and searches over words.
-use Rattle.std.proofs.Common.{◌≡◌, ℕ, zero, suc, ◌<◌, Bool, true, false, ◌||◌, ◌&&◌, List, [], ◌∷◌, ◌++◌, length, get_or, take, drop, All, refl, ap, ◌∙◌, arith, length-append, length-take, length-drop}
-use Rattle.std.proofs.lemmas.List.Elements.{All-append, All-take, All-drop, All-nil, All-head, All-tail}
+use Rattle.std.proofs.Common.{◌≡◌, ℕ, zero, suc, ◌<◌, Bool, true, false, ◌||◌, List, [], ◌∷◌, ◌++◌, length, take, drop, All, refl, ap, arith, length-append, length-take, length-drop}
+use Rattle.std.proofs.lemmas.List.Elements.{All-append, All-take, All-drop, All-nil}
 use Rattle.dcv_word.specs.Behaviour.{Word, IsBehaviour}
 use Rattle.dcv_language.specs.Operations.{some_below, some_track, with_track}
 
@@ -76,5 +76,5 @@ with_track-widths k [] track w = All-nil (λ (letter : List Bool). length letter
 with_track-widths k (letter ∷ letters) [] w = All-nil (λ (letter : List Bool). length letter ≡ suc k)
 with_track-widths k (letter ∷ letters) (truth ∷ track) w =
     Widths-cons (suc k) (letter ++ truth ∷ []) (with_track letters track)
-      (omega (arith, length-append letter (truth ∷ []), Widths-head k letter letters w))
-      (with_track-widths k letters track (Widths-tail k letter letters w))
+    (omega (arith, length-append letter (truth ∷ []), Widths-head k letter letters w))
+    (with_track-widths k letters track (Widths-tail k letter letters w))

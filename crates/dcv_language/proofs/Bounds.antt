@@ -1,18 +1,17 @@
 -- Words that are apart lead to different states, so there are no more of them than states.
-use Rattle.std.proofs.Common.{◌≡◌, ◌≢◌, ℕ, zero, suc, ◌<◌, ◌≤◌, Bool, true, false, eqb, List, [], ◌∷◌, ◌++◌, length, get_or, map, All, AllPairs, ⊎_elim, refl, ap, sym, ◌∙◌, subst, arith}
+use Rattle.std.proofs.Common.{◌≡◌, ◌≢◌, ℕ, ◌<◌, ◌≤◌, Bool, true, false, eqb, List, [], ◌∷◌, ◌++◌, length, get_or, map, AllPairs, ⊎_elim, ap, sym, ◌∙◌, subst, arith}
 use Rattle.std.specs.List.{list_any}
 use Rattle.std.proofs.lemmas.Bool.{cases_lt, eqb-true, ne_eqb}
-use Rattle.std.proofs.lemmas.List.{get_or-map, get_or_past, get_or_default, length-map}
+use Rattle.std.proofs.lemmas.List.{get_or-map, get_or_past, length-map}
 use Rattle.std.proofs.lemmas.List.Folds.{Any-from_list_any}
 use Rattle.std.proofs.lemmas.Map.Steps.{length-le_from_distinct_below}
 use Rattle.std.proofs.lemmas.Map.Keys.{IsDistinct-from_apart}
 use Rattle.dcv_word.specs.Behaviour.{Word, IsBehaviour}
 use Rattle.dcv_word.specs.Letter.{bits_of}
 use Rattle.dcv_language.specs.Language.{Language}
-use Rattle.dcv_language.specs.Automaton.{Automaton, state_from, state_after, accepts_from, accepts}
-use Rattle.dcv_language.specs.Table.{TableState, Table, IsTable, no_state, row_of, is_accepting, next_in, automaton_of, leads_to, table_accepts, AcceptsExactly}
-use Rattle.dcv_language.specs.Apart.{TellsApart, AreApart}
-use Rattle.dcv_language.specs.Certificate.{AreToldBy, IsCertificate}
+use Rattle.dcv_language.specs.Automaton.{state_from, accepts_from}
+use Rattle.dcv_language.specs.Table.{Table, IsTable, no_state, row_of, next_in, automaton_of, leads_to, AcceptsExactly}
+use Rattle.dcv_language.specs.Apart.{AreApart}
 use Rattle.dcv_language.specs.Laws.{WordsApartAreFewerThanStates, CertifiedIsMinimal}
 use Rattle.dcv_language.proofs.Runs.{accepts_on}
 
@@ -21,9 +20,9 @@ use Rattle.dcv_language.proofs.Runs.{accepts_on}
 module _ (k : ℕ) (table : Table) (t : IsTable k table) where
   pub next-below : (state : ℕ) (a : List Bool) → state < length table → next_in table state a < length table
   next-below state a h = ⊎_elim
-    (λ within. t.numbers state no_state h (bits_of a) 0 within)
-    (λ past. subst (λ n. n < length table) (sym (get_or_past (row_of table state) (bits_of a) 0 past)) t.nonempty)
-    (cases_lt (bits_of a) (length (row_of table state)))
+      (λ within. t.numbers state no_state h (bits_of a) 0 within)
+      (λ past. subst (λ n. n < length table) (sym (get_or_past (row_of table state) (bits_of a) 0 past)) t.nonempty)
+      (cases_lt (bits_of a) (length (row_of table state)))
 
   from_below : (state : ℕ) (word : Word) → state < length table → state_from (automaton_of table) state word < length table
   from_below state [] h = h
@@ -64,7 +63,7 @@ module _ (k : ℕ) (L : Language) (words : List Word) (table : Table) (apart : A
   states_differ i j d h l =
       let below : j < length words = omega (arith, states_many) in
       ne_eqb (get_or states i d) (get_or states j d) (λ e. apart_states k L table exact (get_or words i []) (get_or words j []) (apart i j [] h below)
-        (sym (state_at i d (omega arith)) ∙ e ∙ state_at j d below))
+      (sym (state_at i d (omega arith)) ∙ e ∙ state_at j d below))
 
   state_below : (q : ℕ) → list_any (eqb q) states ≡ true → q < length table
   state_below q e =
@@ -75,7 +74,7 @@ module _ (k : ℕ) (L : Language) (words : List Word) (table : Table) (apart : A
 
   pub fewer_than_states : length words ≤ length table
   fewer_than_states = subst (λ n. n ≤ length table) states_many
-    (length-le_from_distinct_below states (length table) (IsDistinct-from_apart eqb states states_differ) state_below)
+      (length-le_from_distinct_below states (length table) (IsDistinct-from_apart eqb states states_differ) state_below)
 
 pub words_apart_are_fewer_than_states : WordsApartAreFewerThanStates
 words_apart_are_fewer_than_states = fewer_than_states

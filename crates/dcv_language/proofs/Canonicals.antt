@@ -1,22 +1,14 @@
 -- What follows of a canonical table: of its access words, and for sets with the same behaviours.
-use Rattle.std.proofs.Common.{◌≡◌, ◌≢◌, ◌⊎◌, inl, inr, ⊎_elim, ℕ, zero, suc, ◌<◌, ◌≤◌, ◌^◌, Bool, false, List, [], ◌∷◌, ◌++◌, length, get_or, drop, AllPairs, refl, ap, sym, ◌∙◌, subst, arith, append-nil, length-drop, get_or-drop, ext_get_or}
-use Rattle.std.proofs.lemmas.Bool.{cases_lt, cases_eq, cases_order}
-use Rattle.std.proofs.lemmas.List.{get_or_default, get_or_past}
+use Rattle.std.proofs.Common.{◌≡◌, ◌≢◌, ⊎_elim, ℕ, zero, suc, ◌<◌, List, [], ◌∷◌, ◌++◌, length, get_or, refl, ap, sym, ◌∙◌, subst, arith}
+use Rattle.std.proofs.lemmas.Bool.{cases_lt, cases_order}
+use Rattle.std.proofs.lemmas.List.{get_or_past}
 use Rattle.dcv_word.specs.Behaviour.{Word, IsBehaviour}
-use Rattle.dcv_word.specs.Letter.{letter_of, bits_of}
-use Rattle.dcv_word.specs.Word.{shortlex_order}
-use Rattle.dcv_word.specs.Laws.{LetterHasItsWidth, BitsOfItsLetter}
 use Rattle.dcv_language.specs.Language.{Language, HaveSameBehaviours}
-use Rattle.dcv_language.specs.Least.{IsLeastWhere}
-use Rattle.dcv_language.specs.Table.{TableState, Table, IsTable, no_state, row_of, is_accepting, next_in, automaton_of, leads_to, table_accepts, AcceptsExactly}
-use Rattle.dcv_language.specs.Apart.{TellsApart, AreApart}
-use Rattle.dcv_language.specs.Canonical.{access_word, IsAccessWord, StandsAlone, IsFolded, IsStart, IsCanonical}
-use Rattle.dcv_language.specs.Laws.{OneCanonicalTable, AccessWordsAreLeast, CanonicalForSameBehaviours}
-use Rattle.dcv_language.proofs.Ascending.{Member, Member-at, place_of, Ascends-from_pairs, one_ascending}
-use Rattle.dcv_language.proofs.Behaviours.{Widths, Widths-rest, single, goes_on, one_letter}
-use Rattle.dcv_language.proofs.Bounds.{leads_to-below, next-below, alike, apart_states}
-use Rattle.dcv_language.proofs.Runs.{state_from-append, accepts_by_state}
-use Rattle.dcv_language.proofs.Words.{WordLaws, Before, same_words, irreflexive, asymmetric}
+use Rattle.dcv_language.specs.Table.{Table, leads_to}
+use Rattle.dcv_language.specs.Apart.{AreApart}
+use Rattle.dcv_language.specs.Canonical.{access_word, IsAccessWord, IsStart, IsCanonical}
+use Rattle.dcv_language.specs.Laws.{AccessWordsAreLeast, CanonicalForSameBehaviours}
+use Rattle.dcv_language.proofs.Bounds.{leads_to-below, apart_states}
 
 -- ---- apart
 
@@ -116,9 +108,9 @@ module _ (k : ℕ) (L : Language) (table : Table) (access : List Word) (c : IsCa
 
   pub access_apart : (i j : ℕ) → i < length table → j < length table → i ≢ j → AreApart k L (access_word access i) (access_word access j)
   access_apart i j h l n = ⊎_elim (λ e. absurd (n e)) (λ s. ⊎_elim
-    (λ less. c.apart i j [] less (omega (arith, c.words)))
-    (λ more. apart_other_way k L (access_word access j) (access_word access i) (c.apart j i [] more (omega (arith, c.words)))) s)
-    (cases_order i j)
+      (λ less. c.apart i j [] less (omega (arith, c.words)))
+      (λ more. apart_other_way k L (access_word access j) (access_word access i) (c.apart j i [] more (omega (arith, c.words)))) s)
+      (cases_order i j)
 
 pub access_words_are_least : AccessWordsAreLeast
 access_words_are_least k L table access state letter letters c e =

@@ -3,6 +3,8 @@ pub mod AtomRuns
 pub mod Behaviours
 pub mod Bounds
 pub mod Canonicals
+pub mod Complements
+pub mod Foldings
 pub mod Least
 pub mod OneTable
 pub mod OperationRuns

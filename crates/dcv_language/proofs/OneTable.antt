@@ -1,20 +1,19 @@
 -- A set has one canonical table at most. Each access word of one table is, in the other, the access word of the state to which it
 -- leads there: so both lists have the same words in one order, and these give flags and rows.
-use Rattle.std.proofs.Common.{◌≡◌, ◌≢◌, ◌⊎◌, inl, inr, ⊎_elim, ℕ, zero, suc, ◌<◌, ◌≤◌, ◌^◌, Bool, false, List, [], ◌∷◌, ◌++◌, length, get_or, drop, AllPairs, refl, ap, sym, ◌∙◌, subst, arith, length-append, length-drop, get_or-drop, ext_get_or}
-use Rattle.std.proofs.lemmas.Bool.{cases_lt, cases_eq}
-use Rattle.std.proofs.lemmas.List.{get_or_default, get_or_past}
+use Rattle.std.proofs.Common.{◌≡◌, ◌≢◌, ⊎_elim, ℕ, zero, suc, ◌<◌, ◌^◌, Bool, List, [], ◌∷◌, ◌++◌, length, get_or, drop, refl, ap, sym, ◌∙◌, subst, arith, length-drop, get_or-drop, ext_get_or}
+use Rattle.std.proofs.lemmas.Bool.{cases_eq}
 use Rattle.dcv_word.specs.Behaviour.{Word, IsBehaviour}
 use Rattle.dcv_word.specs.Letter.{letter_of, bits_of}
 use Rattle.dcv_word.specs.Laws.{LetterHasItsWidth, BitsOfItsLetter}
 use Rattle.dcv_language.specs.Language.{Language}
-use Rattle.dcv_language.specs.Table.{TableState, Table, IsTable, no_state, row_of, is_accepting, next_in, automaton_of, leads_to, table_accepts}
+use Rattle.dcv_language.specs.Table.{Table, no_state, row_of, is_accepting, next_in, automaton_of, leads_to}
 use Rattle.dcv_language.specs.Apart.{AreApart}
-use Rattle.dcv_language.specs.Canonical.{access_word, IsAccessWord, IsStart, IsCanonical}
+use Rattle.dcv_language.specs.Canonical.{access_word, IsStart, IsCanonical}
 use Rattle.dcv_language.specs.Laws.{OneCanonicalTable}
 use Rattle.dcv_language.proofs.Ascending.{Member, Member-at, place_of, Ascends-from_pairs, one_ascending}
 use Rattle.dcv_language.proofs.Behaviours.{Widths, Widths-rest, single, goes_on, one_letter}
 use Rattle.dcv_language.proofs.Bounds.{leads_to-below, alike}
-use Rattle.dcv_language.proofs.Canonicals.{access_least, entered_least, entered, access_leads, access_apart, not_apart_from_itself}
+use Rattle.dcv_language.proofs.Canonicals.{access_least, entered_least, access_leads, access_apart, not_apart_from_itself}
 use Rattle.dcv_language.proofs.Runs.{state_from-append, accepts_by_state}
 use Rattle.dcv_language.proofs.Words.{WordLaws, Before, same_words, irreflexive, asymmetric}
 
@@ -36,12 +35,12 @@ module _ (laws : WordLaws) (k : ℕ) (L : Language) (one other : Table) (access 
       let here = entered_least k L one access c y there.behaviour in
       let x' = access_word access state' in
       ⊎_elim (λ e. e) (λ differ.
-          let apart = access_apart k L one access c state' state (leads_to-below k one c.states y) h differ in
-          let w = rest_widths k L x' x apart in
-          absurd (apart.tells.differ
-            (alike k L one c.exact x' y apart.suffix here.member apart.tells.first_goes_on (goes_on k y apart.suffix there.behaviour w)
-            ∙ alike k L other d.exact y x apart.suffix there.member (goes_on k y apart.suffix there.behaviour w) apart.tells.second_goes_on)))
-        (cases_eq state' state)
+      let apart = access_apart k L one access c state' state (leads_to-below k one c.states y) h differ in
+      let w = rest_widths k L x' x apart in
+      absurd (apart.tells.differ
+      (alike k L one c.exact x' y apart.suffix here.member apart.tells.first_goes_on (goes_on k y apart.suffix there.behaviour w)
+      ∙ alike k L other d.exact y x apart.suffix there.member (goes_on k y apart.suffix there.behaviour w) apart.tells.second_goes_on)))
+      (cases_eq state' state)
 
   -- the access word of the state to which it leads there
   same_access : (state : ℕ) → state < length one → access_word access state ≢ []
@@ -73,7 +72,7 @@ further_place words x m =
 further_member : (words : List Word) (i : ℕ) → suc i < length words → Member (access_word words (suc i)) (drop 1 words)
 further_member words i h =
     subst (λ x. Member x (drop 1 words)) (get_or-drop 1 words i [] ∙ ap (access_word words) (omega arith))
-      (Member-at (drop 1 words) i [] (omega (arith, length-drop 1 words)))
+    (Member-at (drop 1 words) i [] (omega (arith, length-drop 1 words)))
 
 module _ (laws : WordLaws) (k : ℕ) (L : Language) (one other : Table) (access words : List Word) (c : IsCanonical k L one access) (d : IsCanonical k L other words) where
   nonempty_further : (i : ℕ) → suc i < length one → access_word access (suc i) ≢ []
@@ -95,7 +94,7 @@ module _ (laws : WordLaws) (k : ℕ) (L : Language) (one other : Table) (access 
       by_place : (place : ℕ) → place < length other → (i : ℕ) → suc i < length one → access_word access (suc i) ≡ x → access_word access (suc i) ≡ access_word words place → Member x (drop 1 words)
       by_place zero l i h is e =
           absurd (not_apart_from_itself k L (access_word access 0)
-            (subst (λ w. AreApart k L (access_word access 0) w) (e ∙ sym same_first) (access_apart k L one access c 0 (suc i) (omega arith) h (omega arith))))
+          (subst (λ w. AreApart k L (access_word access 0) w) (e ∙ sym same_first) (access_apart k L one access c 0 (suc i) (omega arith) h (omega arith))))
       by_place (suc place) l i h is e =
           subst (λ w. Member w (drop 1 words)) (sym e ∙ is) (further_member words place (omega (arith, d.words)))
 
@@ -166,12 +165,12 @@ module _ (laws : WordLaws) (width : LetterHasItsWidth) (bits : BitsOfItsLetter) 
       let u = access_word access (leads_to one w) in
       let v = access_word access (leads_to other w) in
       ⊎_elim (λ same. sym to_p ∙ same ∙ to_q) (λ differ.
-          let apart = access_apart k L one access c (leads_to one w) (leads_to other w) (leads_to-below k one c.states w) (omega (arith, leads_to-below k other d.states w, as_long)) differ in
-          let s = rest_widths k L u v apart in
-          absurd (apart.tells.differ
-            (alike k L one c.exact u w apart.suffix of_p.member apart.tells.first_goes_on (goes_on k w apart.suffix b s)
-            ∙ alike k L other d.exact w v apart.suffix (sym of_q.member) (goes_on k w apart.suffix b s) apart.tells.second_goes_on)))
-        (cases_eq (leads_to one w) (leads_to other w))
+      let apart = access_apart k L one access c (leads_to one w) (leads_to other w) (leads_to-below k one c.states w) (omega (arith, leads_to-below k other d.states w, as_long)) differ in
+      let s = rest_widths k L u v apart in
+      absurd (apart.tells.differ
+      (alike k L one c.exact u w apart.suffix of_p.member apart.tells.first_goes_on (goes_on k w apart.suffix b s)
+      ∙ alike k L other d.exact w v apart.suffix (sym of_q.member) (goes_on k w apart.suffix b s) apart.tells.second_goes_on)))
+      (cases_eq (leads_to one w) (leads_to other w))
     where
       step_behaves : (x : Word) → access_word access state ≡ x → IsBehaviour k (x ++ a ∷ [])
       step_behaves [] f = single k a e
@@ -185,8 +184,8 @@ module _ (laws : WordLaws) (width : LetterHasItsWidth) (bits : BitsOfItsLetter) 
       let long_one : length (row_of one state) ≡ 2 ^ k = c.states.rows state no_state h in
       let long_other : length (row_of other state) ≡ 2 ^ k = d.states.rows state no_state (omega (arith, as_long)) in
       ext_get_or 0 (row_of one state) (row_of other state) (long_one ∙ sym long_other) (λ n l.
-        let number : bits_of (letter_of k n) ≡ n = bits k n (omega arith) in
-        subst (λ m. get_or (row_of one state) m 0 ≡ get_or (row_of other state) m 0) number (same_next state (letter_of k n) h (width k n)))
+      let number : bits_of (letter_of k n) ≡ n = bits k n (omega arith) in
+      subst (λ m. get_or (row_of one state) m 0 ≡ get_or (row_of other state) m 0) number (same_next state (letter_of k n) h (width k n)))
 
   same_table : one ≡ other
   same_table = ext_get_or no_state one other as_long (λ state h i. record { accepting = same_flag state h i; row = same_row state h i })

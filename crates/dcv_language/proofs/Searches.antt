@@ -1,5 +1,5 @@
 -- Words found by a breadth-first search are least: by induction on the word, from its front.
-use Rattle.std.proofs.Common.{◌≡◌, ℕ, ◌<◌, Bool, List, [], ◌∷◌, ◌++◌, length, refl, ap, sym, ◌∙◌, subst, arith, append_assoc, append-nil}
+use Rattle.std.proofs.Common.{◌≡◌, ℕ, Bool, List, [], ◌∷◌, ◌++◌, length, sym, subst, arith, append_assoc, append-nil}
 use Rattle.std.specs.Prelude.{IsTrue}
 use Rattle.dcv_word.specs.Behaviour.{Word, IsBehaviour}
 use Rattle.dcv_language.specs.Automaton.{Automaton, state_after}
@@ -8,7 +8,7 @@ use Rattle.dcv_language.specs.Search.{IsSearched}
 use Rattle.dcv_language.specs.Laws.{SearchFindsAll, FoundWordsAreLeast}
 use Rattle.dcv_language.proofs.Behaviours.{Widths, Widths-head, Widths-tail}
 use Rattle.dcv_language.proofs.Runs.{state_from-append}
-use Rattle.dcv_language.proofs.Words.{WordLaws, Before, no_later_chain, no_later_end, not_later}
+use Rattle.dcv_language.proofs.Words.{WordLaws, no_later_chain, no_later_end, not_later}
 
 -- the state to which a word leads is found, by a word that is no later
 record IsFoundBy (automaton : Automaton ℕ) (found : ℕ → Bool) (word_of : ℕ → Word) (word : Word) : Type 0 where
@@ -23,7 +23,7 @@ module _ (laws : WordLaws) (k : ℕ) (automaton : Automaton ℕ) (found : ℕ �
       record {
         found_state = subst (λ n. IsTrue (found n)) (sym leads) (s.goes_on state a f.found_state e);
         early = subst (λ n. IsNoLater (word_of n) (u ++ a ∷ [])) (sym leads)
-          (no_later_chain laws (word_of (automaton.next state a)) (word_of state ++ a ∷ []) (u ++ a ∷ [])
+            (no_later_chain laws (word_of (automaton.next state a)) (word_of state ++ a ∷ []) (u ++ a ∷ [])
             (s.goes_on_early state a f.found_state e) (no_later_end laws (word_of state) u a f.early));
       }
 
@@ -31,7 +31,7 @@ module _ (laws : WordLaws) (k : ℕ) (automaton : Automaton ℕ) (found : ℕ �
   found_on u [] f w = subst (λ x. IsFoundBy automaton found word_of x) (sym (append-nil u)) f
   found_on u (a ∷ v) f w =
       subst (λ x. IsFoundBy automaton found word_of x) (append_assoc u (a ∷ []) v)
-        (found_on (u ++ a ∷ []) v (found_next u a f (Widths-head k a v w)) (Widths-tail k a v w))
+      (found_on (u ++ a ∷ []) v (found_next u a f (Widths-head k a v w)) (Widths-tail k a v w))
 
   found_by : (word : Word) → IsBehaviour k word → IsFoundBy automaton found word_of word
   found_by [] b = absurd (omega (arith, b.nonempty))

@@ -1,7 +1,7 @@
 -- Sets of states as ascending lists.
-use Rattle.std.proofs.Common.{◌≡◌, ◌≢◌, ◌↔◌, ◌⊎◌, inl, inr, ⊎_elim, ℕ, zero, suc, ◌<◌, ◌≤◌, Bool, true, false, cond, ltb, eqb, ◌||◌, List, [], ◌∷◌, length, get_or, AllPairs, refl, ap, sym, ◌∙◌, subst, lt_trans, arith}
-use Rattle.std.specs.List.{list_any, IsAmong}
-use Rattle.std.proofs.lemmas.Bool.{ltb-true, ltb-false, eqb-true, eqb-false, cases_order}
+use Rattle.std.proofs.Common.{◌≡◌, inl, inr, ⊎_elim, ℕ, ◌<◌, ◌≤◌, Bool, true, false, cond, ltb, eqb, ◌||◌, List, [], ◌∷◌, refl, ap, sym, ◌∙◌, subst, lt_trans, arith}
+use Rattle.std.specs.List.{list_any}
+use Rattle.std.proofs.lemmas.Bool.{ltb-true, ltb-false, eqb-true, eqb-false}
 use Rattle.dcv_language.specs.StateSet.{insert_state, set_of}
 use Rattle.dcv_language.specs.MachineLaws.{SetAscends, SetHasTheListed, SetIsOne}
 use Rattle.dcv_language.proofs.Ascending.{Member, Ascends, Member-from_IsAmong, IsAmong-from_Member, Ascends-from_pairs, pairs_from_Ascends, one_ascending}
@@ -104,5 +104,5 @@ to_set z (state ∷ states) (inr m) = to_inserted z state (set_of states) (inr (
 pub set_is_one : SetIsOne
 set_is_one set states pairs same =
     one_ascending Below (λ x h. absurd (omega arith)) (λ x y h k. absurd (omega arith)) set (set_of states) (Ascends-from_pairs Below set pairs) (ascends states)
-      (λ z m. to_set z states (Member-from_IsAmong states z ((same z).0 (IsAmong-from_Member set z m))))
-      (λ z m. Member-from_IsAmong set z ((same z).1 (IsAmong-from_Member states z (from_set z states m))))
+    (λ z m. to_set z states (Member-from_IsAmong states z ((same z).0 (IsAmong-from_Member set z m))))
+    (λ z m. Member-from_IsAmong set z ((same z).1 (IsAmong-from_Member states z (from_set z states m))))

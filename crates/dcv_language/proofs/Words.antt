@@ -1,12 +1,9 @@
 -- The order of words, from the laws of dcv_word.
-use Rattle.std.proofs.Common.{◌≡◌, ◌≢◌, ◌↔◌, ◌⊎◌, inl, inr, ⊎_elim, ℕ, ◌<◌, Bool, List, [], ◌∷◌, ◌++◌, length, refl, ap, sym, ◌∙◌, subst, arith, length-append}
-use Rattle.std.specs.Cmp.{IsTotalOrder}
-use Rattle.std.specs.declared.cmp.Ordering.{Ordering}
+use Rattle.std.proofs.Common.{◌≡◌, ◌⊎◌, inl, inr, ⊎_elim, Bool, List, [], ◌∷◌, ◌++◌, length, refl, ap, sym, ◌∙◌, subst, arith, length-append}
 use Rattle.std.specs.declared.cmp.Ordering.TheVariants.{Less, Equal, Greater}
 use Rattle.std.specs.Ordering.{ordering_reverse, ordering_then}
 use Rattle.std.proofs.lemmas.Bool.{cases_order}
 use Rattle.dcv_word.specs.Behaviour.{Word}
-use Rattle.dcv_word.specs.Letter.{letter_order}
 use Rattle.dcv_word.specs.Word.{shortlex_order}
 use Rattle.dcv_word.specs.Laws.{WordsAreInOrder, EqualWordsAreSame, ShorterIsLess, CommonFrontIsIgnored, CommonEndIsIgnored, EndsAfterADifferenceAreIgnored}
 use Rattle.dcv_language.specs.Least.{IsNoLater}
@@ -74,11 +71,11 @@ module _ (laws : WordLaws) where
 
   pub later_words_go_on_later : LaterWordsGoOnLater
   later_words_go_on_later u v a b h = ⊎_elim
-    (λ level. laws.ends u v (a ∷ []) (b ∷ []) level (λ e. irreflexive u (subst (λ x. Before u x) (sym e) h)) refl ∙ h)
-    (λ s. ⊎_elim
+      (λ level. laws.ends u v (a ∷ []) (b ∷ []) level (λ e. irreflexive u (subst (λ x. Before u x) (sym e) h)) refl ∙ h)
+      (λ s. ⊎_elim
       (λ short. laws.shorter (u ++ a ∷ []) (v ++ b ∷ []) (omega (arith, length-append u (a ∷ []), length-append v (b ∷ []))))
       (λ long. absurd (asymmetric u v h (laws.shorter v u long))) s)
-    (cases_order (length u) (length v))
+      (cases_order (length u) (length v))
 
   pub later_letters_go_on_later : LaterLettersGoOnLater
   later_letters_go_on_later word a b h = laws.front word (a ∷ []) (b ∷ []) ∙ ap (λ o. ordering_then o Equal) h
