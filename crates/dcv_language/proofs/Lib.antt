@@ -7,6 +7,8 @@ pub mod Complements
 pub mod Foldings
 pub mod Least
 pub mod OneTable
+pub mod OperationSets
+pub mod Suffixes
 pub mod OperationRuns
 pub mod Runs
 pub mod Sameness

@@ -1,12 +1,12 @@
 -- Words found by a breadth-first search are least: by induction on the word, from its front.
-use Rattle.std.proofs.Common.{◌≡◌, ℕ, Bool, List, [], ◌∷◌, ◌++◌, length, sym, subst, arith, append_assoc, append-nil}
+use Rattle.std.proofs.Common.{ap, refl, ◌∙◌, ◌≡◌, ℕ, Bool, List, [], ◌∷◌, ◌++◌, length, sym, subst, arith, append_assoc, append-nil}
 use Rattle.std.specs.Prelude.{IsTrue}
 use Rattle.dcv_word.specs.Behaviour.{Word, IsBehaviour}
 use Rattle.dcv_language.specs.Automaton.{Automaton, state_after}
 use Rattle.dcv_language.specs.Least.{IsLeastWhere, IsNoLater}
 use Rattle.dcv_language.specs.Search.{IsSearched}
-use Rattle.dcv_language.specs.Laws.{SearchFindsAll, FoundWordsAreLeast}
-use Rattle.dcv_language.proofs.Behaviours.{Widths, Widths-head, Widths-tail}
+use Rattle.dcv_language.specs.Laws.{FrontOfLeastIsLeast, SearchFindsAll, FoundWordsAreLeast}
+use Rattle.dcv_language.proofs.Behaviours.{Widths, Widths-head, Widths-tail, Widths-rest, goes_on}
 use Rattle.dcv_language.proofs.Runs.{state_from-append}
 use Rattle.dcv_language.proofs.Words.{WordLaws, no_later_chain, no_later_end, not_later}
 
@@ -57,3 +57,13 @@ search_finds_all laws k automaton found word_of word s = finds laws k automaton 
 
 pub found_words_are_least : WordLaws → FoundWordsAreLeast
 found_words_are_least laws k automaton found word_of state s = found_least laws k automaton found word_of s state
+
+pub front_of_least_is_least : WordLaws → FrontOfLeastIsLeast
+front_of_least_is_least laws k automaton front letter b l = record {
+  behaviour = b;
+  member = refl;
+  least = λ other c e h.
+      l.least (other ++ letter ∷ []) (goes_on k other (letter ∷ []) c (Widths-rest k front (letter ∷ []) l.behaviour.widths))
+      (state_from-append automaton automaton.start other (letter ∷ []) ∙ ap (λ s. automaton.next s letter) e ∙ sym (state_from-append automaton automaton.start front (letter ∷ [])))
+      (laws.end other front (letter ∷ []) ∙ h);
+}

@@ -1,5 +1,5 @@
 -- The laws that `src/laws.rt` proves.
-use Rattle.std.specs.Prelude.{◌≡◌, ℕ, suc, ◌≤◌, Bool, List, [], ◌∷◌, ◌++◌, length, IsTrue}
+use Rattle.std.specs.Prelude.{◌≡◌, ℕ, suc, ◌≤◌, Bool, List, [], ◌∷◌, ◌++◌, length, IsTrue, Some, slice_get}
 use Rattle.std.specs.List.{AllPairs}
 use Rattle.std.specs.declared.cmp.Ordering.TheVariants.{Less}
 use Rattle.dcv_word.specs.Behaviour.{Word, IsBehaviour}
@@ -22,6 +22,10 @@ use Rattle.dcv_language.specs.Operations.{intersection, union, agreement, chop, 
 
 abbrev pub OneVerdict : Type 0
 OneVerdict = (k : ℕ) (L : Language) (one other : Verdict) → IsVerdict k L one → IsVerdict k L other → one ≡ other
+
+-- it depends on the behaviours of the set alone
+abbrev pub VerdictOfSameBehaviours : Type 0
+VerdictOfSameBehaviours = (k : ℕ) (L M : Language) (verdict : Verdict) → HaveSameBehaviours k L M → IsVerdict k L verdict → IsVerdict k M verdict
 
 -- ---- canonical tables
 
@@ -61,7 +65,21 @@ abbrev pub CertifiedIsMinimal : Type 0
 CertifiedIsMinimal = (k : ℕ) (L : Language) (access suffixes : List Word) (table : Table)
     → IsCertificate k L access suffixes → IsTable k table → AcceptsExactly k table L → length access ≤ length table
 
+abbrev pub OneWordNeedsNoSuffix : Type 0
+OneWordNeedsNoSuffix = (k : ℕ) (L : Language) (word : Word) (suffixes : List Word) → IsCertificate k L (word ∷ []) suffixes → suffixes ≡ []
+
+-- the suffixes of two words or more begin with the empty one
+abbrev pub FirstSuffixIsEmpty : Type 0
+FirstSuffixIsEmpty = (k : ℕ) (L : Language) (first second : Word) (words suffixes : List Word)
+    → IsCertificate k L (first ∷ second ∷ words) suffixes → slice_get suffixes 0 ≡ Some []
+
 -- ---- breadth-first searches
+
+-- a front of the least word that leads to a state is the least that leads to its own
+abbrev pub FrontOfLeastIsLeast : Type 0
+FrontOfLeastIsLeast = (k : ℕ) (automaton : Automaton ℕ) (front : Word) (letter : List Bool) → IsBehaviour k front
+    → IsLeastWhere k (λ word. state_after automaton word ≡ state_after automaton (front ++ letter ∷ [])) (front ++ letter ∷ [])
+    → IsLeastWhere k (λ word. state_after automaton word ≡ state_after automaton front) front
 
 -- each behaviour leads to a state that is found
 abbrev pub SearchFindsAll : Type 0

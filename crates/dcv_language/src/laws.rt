@@ -1,10 +1,10 @@
 //! Laws of verdicts, canonical tables, searches and operations on sets. Each function here does nothing: its contract is
 //! the law.
-ghost use Rattle.dcv_language.specs.Laws.{OneVerdict};
+ghost use Rattle.dcv_language.specs.Laws.{OneVerdict, VerdictOfSameBehaviours};
 ghost use Rattle.dcv_language.specs.Laws.{OneCanonicalTable, AccessWordsAreLeast, CanonicalForSameBehaviours};
 ghost use Rattle.dcv_language.specs.Laws.{ComplementIsCanonical, FoldingIsCanonical};
-ghost use Rattle.dcv_language.specs.Laws.{WordsApartAreFewerThanStates, CertifiedIsMinimal};
-ghost use Rattle.dcv_language.specs.Laws.{SearchFindsAll, FoundWordsAreLeast, LaterWordsGoOnLater, LaterLettersGoOnLater};
+ghost use Rattle.dcv_language.specs.Laws.{WordsApartAreFewerThanStates, CertifiedIsMinimal, OneWordNeedsNoSuffix, FirstSuffixIsEmpty};
+ghost use Rattle.dcv_language.specs.Laws.{FrontOfLeastIsLeast, SearchFindsAll, FoundWordsAreLeast, LaterWordsGoOnLater, LaterLettersGoOnLater};
 ghost use Rattle.dcv_language.specs.Laws.{OutsideKeepsSameness, IntersectionKeepsSameness, UnionKeepsSameness, AgreementKeepsSameness};
 ghost use Rattle.dcv_language.specs.Laws.{ChopKeepsSameness, StarKeepsSameness, ProjectionKeepsSameness};
 
@@ -16,6 +16,11 @@ pub fn one_verdict()
 {
     words_are_in_order();
 }
+
+/// The verdict of a set is that of each set with the same behaviours.
+pub fn verdict_of_same_behaviours()
+    ensures { VerdictOfSameBehaviours }
+{}
 
 /// A set has one canonical table at most, with one list of access words.
 pub fn one_canonical_table()
@@ -57,9 +62,16 @@ pub fn no_table_has_fewer_states()
     ensures certificate { CertifiedIsMinimal }
 {}
 
+/// With one access word there is no suffix, and with more the first suffix is empty.
+pub fn suffixes_begin_empty()
+    ensures one { OneWordNeedsNoSuffix }
+    ensures more { FirstSuffixIsEmpty }
+{}
+
 /// A breadth-first search, in the letters' order from each state in turn, finds every state that a behaviour leads to, each by
 /// the least word. The words that it finds one after another ascend.
 pub fn breadth_first_is_least()
+    ensures front { FrontOfLeastIsLeast }
     ensures all { SearchFindsAll }
     ensures least { FoundWordsAreLeast }
     ensures later_words { LaterWordsGoOnLater }

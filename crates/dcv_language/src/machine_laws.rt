@@ -5,7 +5,11 @@ ghost use Rattle.dcv_language.specs.MachineLaws.{SlenMachineAccepts, ScountMachi
 ghost use Rattle.dcv_language.specs.MachineLaws.{EqualSettles, LessSettles, AtMostSettles, GreaterSettles, AtLeastSettles};
 ghost use Rattle.dcv_language.specs.MachineLaws.{NotMachineAccepts, AndMachineAccepts, OrMachineAccepts, IffMachineAccepts};
 ghost use Rattle.dcv_language.specs.MachineLaws.{ChopMachineAccepts, StarMachineAccepts, ExistsMachineAccepts};
+ghost use Rattle.dcv_language.specs.MachineLaws.{NotMachineOfSet, AndMachineOfSets, OrMachineOfSets, IffMachineOfSets};
+ghost use Rattle.dcv_language.specs.MachineLaws.{ChopMachineOfSets, StarMachineOfSet, ExistsMachineOfSet};
 ghost use Rattle.dcv_language.specs.MachineLaws.{SetAscends, SetHasTheListed, SetIsOne};
+
+use crate::laws::operations_keep_sameness;
 
 /// The machines of the constants and of the brackets accept what these say.
 pub fn brackets_accept()
@@ -43,6 +47,20 @@ pub fn operations_accept()
     ensures star { StarMachineAccepts }
     ensures exists { ExistsMachineAccepts }
 {}
+
+/// Where the operands accept the behaviours of some sets, the machine accepts those of the operation of these sets.
+pub fn operations_accept_sets()
+    ensures not { NotMachineOfSet }
+    ensures and { AndMachineOfSets }
+    ensures or { OrMachineOfSets }
+    ensures iff { IffMachineOfSets }
+    ensures chop { ChopMachineOfSets }
+    ensures star { StarMachineOfSet }
+    ensures exists { ExistsMachineOfSet }
+{
+    operations_accept();
+    operations_keep_sameness();
+}
 
 /// A set of listed states ascends, has what the listed states have, and is the only ascending list of these states.
 pub fn sets_are_lists()

@@ -1,5 +1,5 @@
 use Rattle.dcv_language.proofs.Words.{WordLaws, later_words_go_on_later, later_letters_go_on_later}
-use Rattle.dcv_language.proofs.Searches.{search_finds_all, found_words_are_least}
+use Rattle.dcv_language.proofs.Searches.{front_of_least_is_least, search_finds_all, found_words_are_least}
 use Rattle.dcv_language.proofs.laws.breadth_first_is_least.Goals as goal
 
 pub returns : goal.returns
@@ -13,6 +13,7 @@ returns c =
       ends = c.word_order_is_kept.ensures.ends;
     } in
     record {
+      front = front_of_least_is_least laws;
       all = search_finds_all laws;
       least = found_words_are_least laws;
       later_words = later_words_go_on_later laws;
