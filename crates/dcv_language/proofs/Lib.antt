@@ -8,6 +8,7 @@ pub mod Foldings
 pub mod Least
 pub mod OneTable
 pub mod OperationSets
+pub mod SmallTables
 pub mod Suffixes
 pub mod OperationRuns
 pub mod Runs
