@@ -4,6 +4,7 @@ pub mod Behaviours
 pub mod Bounds
 pub mod Canonicals
 pub mod Complements
+pub mod Examples
 pub mod Foldings
 pub mod Least
 pub mod OneTable

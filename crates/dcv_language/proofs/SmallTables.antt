@@ -1,12 +1,12 @@
 -- Tables of few states that are seen to be canonical by computing: finitely many tests of states and letters show that the table,
 -- taken as a raw automaton in which each state is a class of its own, is a folding. The worked examples stand on this.
-use Rattle.std.proofs.Common.{◌≡◌, ◌≢◌, ◌⊎◌, inl, inr, ⊎_elim, ℕ, zero, suc, ◌<◌, ◌≤◌, ◌^◌, Bool, true, false, not, ltb, eqb, ◌&&◌, ◌||◌, List, [], ◌∷◌, ◌++◌, length, get_or, drop, map, All, AllPairs, refl, ap, sym, ◌∙◌, subst, arith, length-drop}
+use Rattle.std.proofs.Common.{◌≡◌, ◌≢◌, ◌⊎◌, ⊎_elim, ℕ, zero, suc, ◌<◌, ◌^◌, Bool, true, false, not, ltb, eqb, ◌&&◌, ◌||◌, List, [], ◌∷◌, ◌++◌, length, get_or, drop, map, All, AllPairs, refl, ap, sym, ◌∙◌, subst, arith}
 use Rattle.std.specs.Prelude.{IsTrue}
 use Rattle.std.specs.List.{list_all}
 use Rattle.std.specs.Ordering.{is_lt, is_le}
 use Rattle.std.specs.declared.cmp.Ordering.{Ordering}
 use Rattle.std.specs.declared.cmp.Ordering.TheVariants.{Less, Equal, Greater}
-use Rattle.std.proofs.lemmas.Bool.{and_parts, or_cases, ltb-true, lt-ltb, eqb-true, eq-eqb, ne_eqb, both_ways, not-true, true≢false, cases_Bool}
+use Rattle.std.proofs.lemmas.Bool.{and_parts, or_cases, ltb-true, eqb-true, eq-eqb, ne_eqb, both_ways, not-true, true≢false}
 use Rattle.std.proofs.lemmas.List.{get_or_default}
 use Rattle.std.proofs.lemmas.List.Folds.{list_all-append, list_all-map}
 use Rattle.std.proofs.lemmas.List.Sums.{AllPass-from_list_all}
@@ -51,8 +51,8 @@ each_letter-at (suc k) p e (v ∷ letter) h =
     let trues = map (λ values. true ∷ values) (letters_of_width k) in
     let parts = and_parts (list_all p falses) (list_all p trues) (sym (list_all-append p falses trues) ∙ e) in
     by_value v
-      (each_letter-at k (λ values. p (false ∷ values)) (sym (list_all-map p (λ values. false ∷ values) (letters_of_width k)) ∙ parts.0) letter (omega arith))
-      (each_letter-at k (λ values. p (true ∷ values)) (sym (list_all-map p (λ values. true ∷ values) (letters_of_width k)) ∙ parts.1) letter (omega arith))
+    (each_letter-at k (λ values. p (false ∷ values)) (sym (list_all-map p (λ values. false ∷ values) (letters_of_width k)) ∙ parts.0) letter (omega arith))
+    (each_letter-at k (λ values. p (true ∷ values)) (sym (list_all-map p (λ values. true ∷ values) (letters_of_width k)) ∙ parts.1) letter (omega arith))
   where
     by_value : (v : Bool) → p (false ∷ letter) ≡ true → p (true ∷ letter) ≡ true → p (v ∷ letter) ≡ true
     by_value false f g = f
@@ -133,9 +133,9 @@ module _ (k : ℕ) (table : Table) (access : List Word) (alone : Bool) (told : �
   is_table = record {
     nonempty = ltb-true 0 (length table) t.nonempty;
     rows = λ s d h. ap (λ (state : TableState). length state.row) (get_or_default table s d no_state h)
-      ∙ eqb-true (length (row_of table s)) (2 ^ k) (each_below-at (length table) _ t.rows s h);
+        ∙ eqb-true (length (row_of table s)) (2 ^ k) (each_below-at (length table) _ t.rows s h);
     numbers = λ s d h. subst (λ (state : TableState). All (λ number. number < length table) state.row) (get_or_default table s no_state d h)
-      (λ i e l. ltb-true (get_or (row_of table s) i e) (length table) (AllPass-from_list_all (λ m. ltb m (length table)) (row_of table s) (each_below-at (length table) _ t.numbers s h) i e l));
+        (λ i e l. ltb-true (get_or (row_of table s) i e) (length table) (AllPass-from_list_all (λ m. ltb m (length table)) (row_of table s) (each_below-at (length table) _ t.numbers s h) i e l));
   }
 
   state_of : (s : ℕ) → IsTrue (entered alone table s) → s < length table
@@ -165,7 +165,7 @@ module _ (k : ℕ) (table : Table) (access : List Word) (alone : Bool) (told : �
       let suffix = told s u in
       let test = iff_not (accepts_from (automaton_of table) s suffix) (accepts_from (automaton_of table) u suffix) in
       let parts = and_parts (has_width k suffix) test
-        (skipped (eqb s u) (has_width k suffix && test) (each_below-at (length table) _ (each_below-at (length table) _ t.apart s h) u l) (ne_eqb s u n)) in
+      (skipped (eqb s u) (has_width k suffix && test) (each_below-at (length table) _ (each_below-at (length table) _ t.apart s h) u l) (ne_eqb s u n)) in
       record { suffix = suffix; widths = widths k suffix parts.0; differ = differ (accepts_from (automaton_of table) s suffix) (accepts_from (automaton_of table) u suffix) parts.1 }
 
   ascends : AllPairs (λ first second. shortlex_order first second ≡ Less) (drop 1 access)
@@ -181,16 +181,16 @@ module _ (k : ℕ) (table : Table) (access : List Word) (alone : Bool) (told : �
       let same = same_numbers (row_of table s) (row_of table 0) in
       let is_same : same ≡ true = ap (λ row. same_numbers row (row_of table 0)) e ∙ same_numbers-itself (row_of table 0) in
       ⊎_elim
-        (λ kept. let parts = and_parts (not alone) (not before) kept in
-          both_ways before (not-true before parts.1) (ap is_lt (earlier (not-true alone parts.0))))
-        (λ differs. both_ways same (not-true same differs) is_same)
-        (or_cases (not alone && not before) (not same) (skipped (eqb s 0) ((not alone && not before) || not same) (each_below-at (length table) _ t.other_rows s h) (not_zero s more)))
+      (λ kept. let parts = and_parts (not alone) (not before) kept in
+      both_ways before (not-true before parts.1) (ap is_lt (earlier (not-true alone parts.0))))
+      (λ differs. both_ways same (not-true same differs) is_same)
+      (or_cases (not alone && not before) (not same) (skipped (eqb s 0) ((not alone && not before) || not same) (each_below-at (length table) _ t.other_rows s h) (not_zero s more)))
 
   alone_start : alone ≡ true → StartIsAlone table (entered alone table) (λ s. s)
   alone_start e = record {
     never_entered = λ s is zero.
-      let not_start = (and_parts (ltb s (length table)) (not (alone && eqb s 0)) is).1 in
-      both_ways (alone && eqb s 0) (not-true (alone && eqb s 0) not_start) ((λ i. e i && eq-eqb s 0 zero i));
+        let not_start = (and_parts (ltb s (length table)) (not (alone && eqb s 0)) is).1 in
+        both_ways (alone && eqb s 0) (not-true (alone && eqb s 0) not_start) ((λ i. e i && eq-eqb s 0 zero i));
     rejects = sym (ap (λ b. b && is_accepting table 0) e) ∙ t.alone_rejects;
     other_rows = λ s more h. other_row s more h (λ f. absurd (both_ways alone f e));
   }
@@ -220,7 +220,7 @@ module _ (k : ℕ) (table : Table) (access : List Word) (alone : Bool) (told : �
     leads = λ s more h. leads_at s h;
     begins_early = λ letter e. no_later (access_word access (next_in table 0 letter)) (letter ∷ []) (each_letter-at k _ t.begin_early letter e);
     goes_on_early = λ s letter more h e.
-      no_later (access_word access (next_in table s letter)) (access_word access s ++ letter ∷ [])
+        no_later (access_word access (next_in table s letter)) (access_word access s ++ letter ∷ [])
         (each_letter-at k _ (skipped (eqb s 0) _ (each_below-at (length table) _ t.go_on_early s h) (not_zero s more)) letter e);
     in_order = ascends;
     start = folded (access_word access 0) refl;
@@ -231,4 +231,4 @@ pub shown_canonical : WordLaws → LetterHasItsWidth → BitsOfItsLetter → (k 
     → IsShown k table access alone told → AcceptsExactly k table L → IsCanonical k L table access
 shown_canonical laws width bits k L table access alone told t exact =
     canonical_for_same_behaviours k (table_accepts table) L table access exact
-      (folding_is_canonical laws width bits k (automaton_of table) (entered alone table) (λ s. s) table access (shown_folding k table access alone told t))
+    (folding_is_canonical laws width bits k (automaton_of table) (entered alone table) (λ s. s) table access (shown_folding k table access alone told t))
