@@ -1,5 +1,5 @@
 -- What follows of a canonical table: of its access words, and for sets with the same behaviours.
-use Rattle.std.proofs.Common.{◌≡◌, ◌≢◌, ⊎_elim, ℕ, zero, suc, ◌<◌, List, [], ◌∷◌, ◌++◌, length, get_or, refl, ap, sym, ◌∙◌, subst, arith}
+use Rattle.std.proofs.Common.{◌≤◌, ◌≡◌, ◌≢◌, ⊎_elim, ℕ, zero, suc, ◌<◌, List, [], ◌∷◌, ◌++◌, length, get_or, refl, ap, sym, ◌∙◌, subst, arith}
 use Rattle.std.proofs.lemmas.Bool.{cases_lt, cases_order}
 use Rattle.std.proofs.lemmas.List.{get_or_past}
 use Rattle.dcv_word.specs.Behaviour.{Word, IsBehaviour}
@@ -7,8 +7,8 @@ use Rattle.dcv_language.specs.Language.{Language, HaveSameBehaviours}
 use Rattle.dcv_language.specs.Table.{Table, leads_to}
 use Rattle.dcv_language.specs.Apart.{AreApart}
 use Rattle.dcv_language.specs.Canonical.{access_word, IsAccessWord, IsStart, IsCanonical}
-use Rattle.dcv_language.specs.Laws.{AccessWordsAreLeast, CanonicalForSameBehaviours}
-use Rattle.dcv_language.proofs.Bounds.{leads_to-below, apart_states}
+use Rattle.dcv_language.specs.Laws.{CanonicalIsMinimal, AccessWordsAreLeast, CanonicalForSameBehaviours}
+use Rattle.dcv_language.proofs.Bounds.{words_apart_are_fewer_than_states, leads_to-below, apart_states}
 
 -- ---- apart
 
@@ -119,3 +119,7 @@ access_words_are_least k L table access state letter letters c e =
   where
     nothing : [] ≡ letter ∷ letters → ⊥
     nothing e = cc
+
+pub canonical_is_minimal : CanonicalIsMinimal
+canonical_is_minimal k L table other access c t exact =
+    subst (λ n. n ≤ length other) c.words (words_apart_are_fewer_than_states k L access other c.apart t exact)

@@ -13,7 +13,7 @@ use Rattle.dcv_language.specs.Table.{Table, no_state, row_of, is_accepting, next
 use Rattle.dcv_language.specs.Apart.{AreApart}
 use Rattle.dcv_language.specs.Canonical.{access_word, IsFolded, IsStart, IsCanonical}
 use Rattle.dcv_language.specs.Search.{IsSearched}
-use Rattle.dcv_language.specs.Folding.{HasOtherRow, StartIsAlone, StartIsShared, StartIsFolded, IsFolding}
+use Rattle.dcv_language.specs.Folding.{HasOtherRow, StartIsAlone, StartIsShared, StartIsAloneOrShared, IsFolding}
 use Rattle.dcv_language.specs.Laws.{FoldingIsCanonical}
 use Rattle.dcv_language.proofs.Behaviours.{Widths, Widths-head, Widths-tail, single, one_letter, goes_on}
 use Rattle.dcv_language.proofs.Bounds.{leads_to-below, next-below, alike}
@@ -269,7 +269,7 @@ module _ (laws : WordLaws) (width : LetterHasItsWidth) (bits : BitsOfItsLetter) 
 pub folding_is_canonical : WordLaws → LetterHasItsWidth → BitsOfItsLetter → FoldingIsCanonical
 folding_is_canonical laws width bits k raw reached number table access f = by_start (access_word access 0) refl f.start
   where
-    by_start : (first : Word) → access_word access 0 ≡ first → StartIsFolded k table access reached number first → IsCanonical k (accepts raw) table access
+    by_start : (first : Word) → access_word access 0 ≡ first → StartIsAloneOrShared k table access reached number first → IsCanonical k (accepts raw) table access
     by_start [] e s = alone_canonical laws width bits k raw reached number table access f s e
     by_start (a ∷ first) e s = shared_canonical laws width bits k raw reached number table access f s (λ n. nothing (sym e ∙ n))
       where

@@ -19,7 +19,7 @@ use Rattle.dcv_language.specs.Least.{IsNoLater}
 use Rattle.dcv_language.specs.Automaton.{accepts_from}
 use Rattle.dcv_language.specs.Table.{TableState, Table, IsTable, no_state, row_of, is_accepting, next_in, automaton_of, leads_to, table_accepts, AcceptsExactly}
 use Rattle.dcv_language.specs.Canonical.{access_word, IsCanonical}
-use Rattle.dcv_language.specs.Folding.{AreApartFrom, StartIsAlone, StartIsShared, StartIsFolded, IsFolding}
+use Rattle.dcv_language.specs.Folding.{AreApartFrom, StartIsAlone, StartIsShared, StartIsAloneOrShared, IsFolding}
 use Rattle.dcv_language.proofs.Canonicals.{canonical_for_same_behaviours}
 use Rattle.dcv_language.proofs.Foldings.{folding_is_canonical}
 use Rattle.dcv_language.proofs.Words.{WordLaws}
@@ -202,7 +202,7 @@ module _ (k : ℕ) (table : Table) (access : List Word) (alone : Bool) (told : �
     other_rows = λ s more h earlier. other_row s more h (λ f. earlier);
   }
 
-  folded : (first : Word) → access_word access 0 ≡ first → StartIsFolded k table access (entered alone table) (λ s. s) first
+  folded : (first : Word) → access_word access 0 ≡ first → StartIsAloneOrShared k table access (entered alone table) (λ s. s) first
   folded [] e = alone_start (t.start_is_alone ∙ ap (λ (word : Word). eqb (length word) 0) e)
   folded (a ∷ first) e = shared_start (t.start_is_alone ∙ ap (λ (word : Word). eqb (length word) 0) e ∙ ne_eqb (suc (length first)) 0 (λ z. absurd (omega arith)))
 

@@ -4,6 +4,7 @@
 --     HasOtherRow             a state of the table has another row than state 0
 --     StartIsAlone            no behaviour enters the start, and no class has its row
 --     StartIsShared           the start is the first class that has its row
+--     StartIsAloneOrShared    the one or the other, by the access word of the start
 --     IsFolding               the table has the classes' flags and steps, by least words, and classes are apart
 use Rattle.std.specs.Prelude.{◌≡◌, ◌≢◌, ℕ, ◌<◌, Bool, false, List, [], ◌∷◌, ◌++◌, length, drop, IsTrue}
 use Rattle.std.specs.List.{All, AllPairs}
@@ -35,9 +36,9 @@ pub record StartIsShared (k : ℕ) (table : Table) (access : List Word) : Type 0
       → shortlex_order (access_word access state) (access_word access 0) ≡ Less → HasOtherRow table state
 
 -- how the start stands, by its access word
-abbrev pub StartIsFolded : ℕ → Table → List Word → (ℕ → Bool) → (ℕ → ℕ) → Word → Type 0
-StartIsFolded k table access reached number [] = StartIsAlone table reached number
-StartIsFolded k table access reached number (letter ∷ letters) = StartIsShared k table access
+abbrev pub StartIsAloneOrShared : ℕ → Table → List Word → (ℕ → Bool) → (ℕ → ℕ) → Word → Type 0
+StartIsAloneOrShared k table access reached number [] = StartIsAlone table reached number
+StartIsAloneOrShared k table access reached number (letter ∷ letters) = StartIsShared k table access
 
 -- which raw states behaviours reach, and the number of each
 pub record IsFolding (k : ℕ) (raw : Automaton ℕ) (reached : ℕ → Bool) (number : ℕ → ℕ) (table : Table) (access : List Word) : Type 0 where
@@ -61,4 +62,4 @@ pub record IsFolding (k : ℕ) (raw : Automaton ℕ) (reached : ℕ → Bool) (n
       → IsNoLater (access_word access (next_in table state letter)) (access_word access state ++ letter ∷ [])
   pub in_order : AllPairs (λ first second. shortlex_order first second ≡ Less) (drop 1 access)
   -- the start is folded where it may be
-  pub start : StartIsFolded k table access reached number (access_word access 0)
+  pub start : StartIsAloneOrShared k table access reached number (access_word access 0)

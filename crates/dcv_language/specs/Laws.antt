@@ -1,5 +1,5 @@
 -- The laws that `src/laws.rt` proves.
-use Rattle.std.specs.Prelude.{◌≡◌, ℕ, suc, ◌≤◌, Bool, List, [], ◌∷◌, ◌++◌, length, IsTrue, Some, slice_get}
+use Rattle.std.specs.Prelude.{◌≡◌, ℕ, suc, ◌<◌, ◌≤◌, Bool, List, [], ◌∷◌, ◌++◌, length, IsTrue, Some, slice_get}
 use Rattle.std.specs.List.{AllPairs}
 use Rattle.std.specs.declared.cmp.Ordering.TheVariants.{Less}
 use Rattle.dcv_word.specs.Behaviour.{Word, IsBehaviour}
@@ -9,7 +9,7 @@ use Rattle.dcv_language.specs.Language.{Language, outside, HaveSameBehaviours}
 use Rattle.dcv_language.specs.Verdict.{Verdict, IsVerdict}
 use Rattle.dcv_language.specs.Least.{IsLeastWhere}
 use Rattle.dcv_language.specs.Automaton.{Automaton, state_after, accepts}
-use Rattle.dcv_language.specs.Table.{Table, IsTable, AcceptsExactly}
+use Rattle.dcv_language.specs.Table.{Table, IsTable, AcceptsExactly, leads_to}
 use Rattle.dcv_language.specs.Apart.{AreApart}
 use Rattle.dcv_language.specs.Canonical.{access_word, IsAccessWord, IsCanonical}
 use Rattle.dcv_language.specs.Complement.{complement}
@@ -39,6 +39,11 @@ abbrev pub AccessWordsAreLeast : Type 0
 AccessWordsAreLeast = (k : ℕ) (L : Language) (table : Table) (access : List Word) (state : ℕ) (letter : List Bool) (letters : Word)
     → IsCanonical k L table access → access_word access state ≡ letter ∷ letters → IsAccessWord k table state (letter ∷ letters)
 
+-- and each leads to its state, the empty word to a start that stands alone
+abbrev pub AccessWordsLead : Type 0
+AccessWordsLead = (k : ℕ) (L : Language) (table : Table) (access : List Word) (state : ℕ)
+    → IsCanonical k L table access → state < length table → leads_to table (access_word access state) ≡ state
+
 -- sets with the same behaviours have the same canonical tables
 abbrev pub CanonicalForSameBehaviours : Type 0
 CanonicalForSameBehaviours = (k : ℕ) (L M : Language) (table : Table) (access : List Word)
@@ -60,7 +65,12 @@ abbrev pub WordsApartAreFewerThanStates : Type 0
 WordsApartAreFewerThanStates = (k : ℕ) (L : Language) (words : List Word) (table : Table)
     → AllPairs (AreApart k L) words → IsTable k table → AcceptsExactly k table L → length words ≤ length table
 
--- so what a certificate is for is minimal
+-- so a canonical table has as few states as any table automaton for the set, whether or not that one's start accepts
+abbrev pub CanonicalIsMinimal : Type 0
+CanonicalIsMinimal = (k : ℕ) (L : Language) (table other : Table) (access : List Word)
+    → IsCanonical k L table access → IsTable k other → AcceptsExactly k other L → length table ≤ length other
+
+-- and a certificate shows it of its access words
 abbrev pub CertifiedIsMinimal : Type 0
 CertifiedIsMinimal = (k : ℕ) (L : Language) (access suffixes : List Word) (table : Table)
     → IsCertificate k L access suffixes → IsTable k table → AcceptsExactly k table L → length access ≤ length table

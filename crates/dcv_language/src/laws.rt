@@ -1,9 +1,9 @@
 //! Laws of verdicts, canonical tables, searches and operations on sets. Each function here does nothing: its contract is
 //! the law.
 ghost use Rattle.dcv_language.specs.Laws.{OneVerdict, VerdictOfSameBehaviours};
-ghost use Rattle.dcv_language.specs.Laws.{OneCanonicalTable, AccessWordsAreLeast, CanonicalForSameBehaviours};
+ghost use Rattle.dcv_language.specs.Laws.{OneCanonicalTable, AccessWordsAreLeast, AccessWordsLead, CanonicalForSameBehaviours};
 ghost use Rattle.dcv_language.specs.Laws.{ComplementIsCanonical, FoldingIsCanonical};
-ghost use Rattle.dcv_language.specs.Laws.{WordsApartAreFewerThanStates, CertifiedIsMinimal, OneWordNeedsNoSuffix, FirstSuffixIsEmpty};
+ghost use Rattle.dcv_language.specs.Laws.{WordsApartAreFewerThanStates, CanonicalIsMinimal, CertifiedIsMinimal, OneWordNeedsNoSuffix, FirstSuffixIsEmpty};
 ghost use Rattle.dcv_language.specs.Laws.{FrontOfLeastIsLeast, SearchFindsAll, FoundWordsAreLeast, LaterWordsGoOnLater, LaterLettersGoOnLater};
 ghost use Rattle.dcv_language.specs.Laws.{OutsideKeepsSameness, IntersectionKeepsSameness, UnionKeepsSameness, AgreementKeepsSameness};
 ghost use Rattle.dcv_language.specs.Laws.{ChopKeepsSameness, StarKeepsSameness, ProjectionKeepsSameness};
@@ -31,9 +31,10 @@ pub fn one_canonical_table()
     letters_are_numbers();
 }
 
-/// Each access word that is not empty is the least behaviour that leads to its state, that of the start too.
+/// Each access word leads to its state, and one that is not empty is the least behaviour that does, that of the start too.
 pub fn access_words_are_least()
-    ensures { AccessWordsAreLeast }
+    ensures least { AccessWordsAreLeast }
+    ensures lead { AccessWordsLead }
 {}
 
 /// A table that is canonical for a set is so for each set with the same behaviours.
@@ -55,10 +56,11 @@ pub fn folding_is_canonical()
     letters_are_numbers();
 }
 
-/// Each table automaton for a set has at least as many states as there are words of which every two are told apart, and so
-/// at least as many as a certificate has access words.
+/// Each table automaton for a set has at least as many states as there are words of which every two are told apart, so at
+/// least as many as a canonical table has, and as a certificate has access words.
 pub fn no_table_has_fewer_states()
     ensures words { WordsApartAreFewerThanStates }
+    ensures canonical { CanonicalIsMinimal }
     ensures certificate { CertifiedIsMinimal }
 {}
 
