@@ -32,16 +32,16 @@ abbrev mutual
 
   pub row_work : ℕ → {m : _} → Row_of-FormulaOperand m → ℕ
   row_work n end_of-FormulaOperand = 0
-  row_work n (more_of-FormulaOperand d span outer operands) = work n d + 1 + row_work n operands
+  row_work n (more_of-FormulaOperand d span outer operands) = work n d + 2 + row_work n operands
 
 -- the same along the list of operands
 abbrev pub list_work : ℕ → List FormulaOperand → ℕ
 list_work n [] = 0
-list_work n (operand ∷ operands) = work n operand.formula.kind + 1 + list_work n operands
+list_work n (operand ∷ operands) = work n operand.formula.kind + 2 + list_work n operands
 
 row_is_list : (n : ℕ) {m : _} (row : Row_of-FormulaOperand m) → row_work n row ≡ list_work n (items-the_row-FormulaOperand m row)
 row_is_list n end_of-FormulaOperand = refl
-row_is_list n (more_of-FormulaOperand d span outer row) = ap (λ rest. work n d + 1 + rest) (row_is_list n row)
+row_is_list n (more_of-FormulaOperand d span outer row) = ap (λ rest. work n d + 2 + rest) (row_is_list n row)
 
 hidden_work : (n : ℕ) (operands : Vec FormulaOperand Global) → row_work n (hidden-the_row-FormulaOperand-0 operands) ≡ list_work n operands.items
 hidden_work n operands = row_is_list n (hidden-the_row-FormulaOperand-0 operands) ∙ ap (list_work n) (items_hidden-the_row-FormulaOperand-0 operands)

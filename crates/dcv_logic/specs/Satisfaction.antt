@@ -1,4 +1,8 @@
--- Satisfaction of a formula on an interval of instants, from b to e, both in it: a clause for each form.
+-- Satisfaction of a formula on an interval of instants: an equation for each form.
+--
+-- An interval is its first instant b and its last instant e, both in it. An environment `env` is what is in sight, `p`
+-- a proposition, `c` and `d` are formulas. Each equation stands below the form as it is written in a file; the span of
+-- an operand, its place in the file, means nothing here.
 use Rattle.std.specs.Prelude.{ℕ, zero, suc, ◌+◌, ◌-◌, Bool, true, false, ◌&&◌, ◌||◌, not, ◌==◌, nat_lt, nat_le, List, Option, Some, None}
 use Rattle.dcv_syntax.specs.Plain.{PlainFormulaKind, FormulaConstant, FormulaPt, FormulaExt, FormulaPoint, FormulaRun, FormulaEvery, FormulaUnit, FormulaSlen, FormulaScount, FormulaSdur, FormulaCall, FormulaNot, FormulaAnd, FormulaOr, FormulaImplies, FormulaIff, FormulaChop, FormulaStar, FormulaSomewhere, FormulaEverywhere, FormulaExists, FormulaForAll, PlainFormulaOperands, no_formula_operands, formula_operand, arguments_of}
 use Rattle.dcv_syntax.specs.declared.formulas.Relation.{Relation}

@@ -1,4 +1,4 @@
--- What the evaluator's scope stands for.
+-- What the evaluator's scope stands for, in the words of `Environment`. Only proofs and private functions speak of it.
 use Rattle.std.specs.Prelude.{◌≡◌, ◌≢◌, ℕ, Bool, ◌==◌, ◌&&◌, List, [], ◌∷◌, ◌++◌, map}
 use Rattle.std.specs.List.{AllByRecursion}
 use Rattle.dcv_syntax.specs.declared.files.Macro.{Macro}
@@ -36,11 +36,11 @@ pub record IsNewest (macros : List Macro) (sought : List ℕ) (last : Macro) (ea
   pub later : (after : List Macro) × (macros ≡ earlier ++ last ∷ after)
       × AllByRecursion (λ (m : Macro). m.name.text ≢ sought) after
 
--- the tracks of a macro's arguments
+-- the tracks of a macro's arguments, along the code's list of them
 abbrev pub argument_tracks_of : Environment → List Prop → List Track
 argument_tracks_of env = map (λ (p : Prop). track_of env.instants (value env (plain_prop_kind p.kind)))
 
--- a chop of these operands
+-- a chop of these operands, along the code's list of them
 abbrev pub chop_of : Environment → List FormulaOperand → ℕ → ℕ → Bool
 chop_of env [] b e = b == e
 chop_of env (operand ∷ operands) b e =

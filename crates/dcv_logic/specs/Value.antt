@@ -1,4 +1,4 @@
--- The value of a proposition at an instant.
+-- The value of a proposition at an instant: an equation for each form, below the form as it is written in a file.
 use Rattle.std.specs.Prelude.{ℕ, Bool, true, false, ◌&&◌, ◌||◌, not, List, [], ◌∷◌, Option, Some, None}
 use Rattle.dcv_syntax.specs.Plain.{PlainPropKind, PropConstant, PropCall, PropNot, PropAnd, PropOr, PropImplies, PropIff, PlainArguments, no_arguments, argument, PlainPropOperands, no_prop_operands, prop_operand}
 use Rattle.dcv_logic.specs.Track.{Track, truth_at, track_of}

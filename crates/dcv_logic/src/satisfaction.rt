@@ -1,5 +1,6 @@
-// Satisfaction of a formula on an interval, a function for each clause of its definition.
-ghost use Rattle.std.specs.Prelude.{◌≡◌, ◌-◌, ◌<◌, ◌≤◌, true, IfOk};
+// Satisfaction of a formula on an interval, a function for each equation of `specs/Satisfaction` that searches or goes
+// along a list.
+ghost use Rattle.std.specs.Prelude.{◌≡◌, ◌-◌, ◌<◌, ◌≤◌, ◌&&◌, true, IfOk};
 ghost use Rattle.std.specs.List.{list_all, list_any, fold};
 ghost use Rattle.dcv_syntax.specs.Views.{plain_formula_kind};
 ghost use Rattle.dcv_logic.specs.Search.{some_between, some_track};
@@ -179,13 +180,30 @@ impl Scope<'_> {
             return Ok(begin == end);
         };
         for middle in begin..=end {
-            if self.satisfies(&first.formula, begin, middle)?
-                && self.chop_holds(rest, middle, end)?
-            {
+            if self.cut_holds(first, rest, begin, middle, end)? {
                 return Ok(true);
             }
         }
         Ok(false)
+    }
+
+    // Whether the first operand has the part up to the cut, and a chop of the rest the part from it on.
+    #[cycle(satisfies)]
+    fn cut_holds(
+        &self,
+        first: &FormulaOperand,
+        rest: &[FormulaOperand],
+        begin: usize,
+        cut: usize,
+        end: usize,
+    ) -> Result<bool, AllocError>
+        requires after { begin ≤ cut }
+        requires before { cut ≤ end }
+        requires within { end < self.now.instants }
+        ensures { IfOk result (λ truth. truth ≡ (let env = environment_of self.now in
+            satisfies env (plain_formula_kind first.now.formula.kind) begin cut && chop_of env rest.now cut end)) }
+    {
+        Ok(self.satisfies(&first.formula, begin, cut)? && self.chop_holds(rest, cut, end)?)
     }
 
     // One instant, or the body up to some later instant and the star from there.

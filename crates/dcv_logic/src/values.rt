@@ -1,4 +1,4 @@
-// The value of a proposition at an instant, a function for each clause of its definition.
+// The value of a proposition at an instant, a function for each equation of `specs/Value` that goes along a list.
 ghost use Rattle.std.specs.Prelude.{◌≡◌, true, map, IfOk};
 ghost use Rattle.std.specs.List.{list_all, list_any, fold};
 ghost use Rattle.dcv_syntax.specs.Views.{plain_prop_kind};

@@ -20,7 +20,7 @@ use Rattle.dcv_logic.proofs.Environments.{environment_of-instants}
 use Rattle.dcv_logic.proofs.Measures.{work, list_work, work_at, body_work, all_bodies, left_after_call}
 use Rattle.dcv_logic.proofs.SearchSteps.{some_from-on, some_from-here, some_from-last, star-step, list_any-map}
 use Rattle.dcv_logic.proofs.scopes.Scope.+satisfies.Goals as goal
-use Rattle.dcv_logic.proofs.scopes.Scope.+satisfies.Goals.{chop_holds-else-branch-via-then-branch+in_ok-chop_holds+else-branch-2, chop_holds-else-branch-via-else-branch, star-else-branch-via-then-branch+in_ok-star+else-branch-2, star-else-branch-via-else-branch}
+use Rattle.dcv_logic.proofs.scopes.Scope.+satisfies.Goals.{star-else-branch-via-then-branch+in_ok-star+else-branch-2, star-else-branch-via-else-branch}
 
 -- the work of the operand that a loop has come to
 work_here : (n : ℕ) (operands : List FormulaOperand) (i : ℕ) (operand : FormulaOperand) → operand ≡ get_or operands i operand → i < length operands →
@@ -47,10 +47,7 @@ pub chop_holds-loop-middle-preserved : goal.chop_holds-loop-middle-preserved
 chop_holds-loop-middle-preserved t c =
     let env = environment_of c.args.self.now in
     let cut : ℕ → Bool = λ m. satisfies env (plain_formula_kind c.in-Some.first.now.formula.kind) c.args.begin m && chop_of env c.in-Some.rest.now m c.args.end in
-    let fails : cut c.loop-middle.middle ≡ false = elim c.else-branch.branch [
-      | chop_holds-else-branch-via-then-branch+in_ok-chop_holds+else-branch-2 w ↦ grind (arith, common_steps)
-      | chop_holds-else-branch-via-else-branch w ↦ grind (arith, common_steps)
-    ] in
+    let fails : cut c.loop-middle.middle ≡ false = sym c.in_ok-cut_holds.ensures ∙ c.if-branch.false in
     some_from-on cut c.loop-middle.middle (c.args.end + 1) (some_between c.args.begin c.args.end cut) (omega arith) fails c.loop-middle.invariant
 
 pub macro_holds-satisfies-requires : goal.macro_holds-satisfies-requires

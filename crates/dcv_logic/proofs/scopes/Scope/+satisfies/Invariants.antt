@@ -72,6 +72,9 @@ decreases-iff_holds l = let n = l.self.now.instants in all_bodies (body_work n) 
 abbrev pub decreases-chop_holds : goal.decreases-chop_holds
 decreases-chop_holds l = let n = l.self.now.instants in all_bodies (body_work n) l.self.now.macros.now + list_work n l.operands.now
 
+abbrev pub decreases-cut_holds : goal.decreases-cut_holds
+decreases-cut_holds l = let n = l.self.now.instants in all_bodies (body_work n) l.self.now.macros.now + work n l.first.now.formula.kind + 1 + list_work n l.rest.now
+
 abbrev pub decreases-star : goal.decreases-star
 decreases-star l = let n = l.self.now.instants in all_bodies (body_work n) l.self.now.macros.now + work n l.body.now.kind + (l.end - l.begin) + 1
 
