@@ -1,4 +1,12 @@
 -- What a grammar derives. Nothing here knows of a reader.
+--     bodies rule                         each body of a rule
+--     IsBody grammar number body          the rule of this number has this body
+--     Derives grammar symbols classes     the symbols derive the classes
+--     IsReached grammar symbols           the symbols stand behind the beginning of a sentence
+--     IsSentence grammar classes          the start derives the classes
+--     IsViable grammar classes            the classes are the beginning of a sentence, or a whole one
+--     IsFaultAt grammar classes place     the classes are viable up to the place, and no further
+--     IsVerdict grammar classes verdict   the place of the fault, or none in a sentence
 use Rattle.std.specs.Prelude.{◌≡◌, ℕ, ◌+◌, ◌<◌, List, [], ◌∷◌, ◌++◌, ◌⊎◌, Option, Some, None, IsSomeAnd, length, map, take, slice_get, Contains}
 use Rattle.std.specs.List.{flat_map}
 use Rattle.dcv_grammar.specs.declared.grammar.Symbol.{Symbol}

@@ -1,7 +1,10 @@
+-- what public clauses cite: sentences and verdicts, the test of grammars, derivation trees, and what builders of trees say
 pub mod Grammar
-pub mod Picked
-pub mod ClassSet
 pub mod Predictive
-pub mod Machine
 pub mod Trees
 pub mod Reading
+-- what those stand on: sets of classes, and which body a class picks
+pub mod ClassSet
+pub mod Picked
+-- for proofs alone: the reader's stack
+pub mod Machine

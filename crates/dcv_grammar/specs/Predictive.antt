@@ -1,4 +1,10 @@
--- The test that the next class alone decides which body is taken, without end and without a wrong turn.
+-- The test that the next class alone decides which body is taken, without end and without a wrong turn: the conditions of
+-- LL(1) grammars, with a rule's other body taken at any class that picks none.
+--     Hint                     what is noted of a rule: whether it may be empty, what comes first in it, and what never stands behind it
+--     agrees, picks            what is noted agrees with a body, and the bodies of a rule are told apart by the next class
+--     hints_of rules           the notes of all rules: taken again, from nothing, until nothing changes
+--     is_predictive grammar    the rules pass by their notes
+--     IsPredictive grammar     the grammar passes the test
 use Rattle.std.specs.Prelude.{ℕ, zero, suc, ◌+◌, ◌*◌, max, Bool, true, false, ◌&&◌, ◌||◌, not, List, [], ◌∷◌, if◌then◌else◌, nat_eq, nat_lt, nat_le, length, map, IsTrue}
 use Rattle.std.specs.List.{list_all}
 use Rattle.dcv_grammar.specs.declared.grammar.Symbol.{Symbol}

@@ -1,4 +1,7 @@
 //! The predictive reader: it says whether a list of tokens is a sentence, and else where its first fault is.
+//!
+//! It is the table-driven LL(1) reader, with a stack of the symbols that are still to come. It takes each token once, and
+//! looks through the bodies of a rule one after another.
 
 ghost use Rattle.std.specs.Prelude.{◌≡◌, ◌++◌, ℕ, List, Option, IfOk, OnOk, map, reverse};
 ghost use Rattle.dcv_grammar.specs.Grammar.{grammar_of, IsReached, IsVerdict};

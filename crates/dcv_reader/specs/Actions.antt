@@ -1,4 +1,8 @@
 -- What each rule of the grammar stands for in the tree, by what its body's symbols stand for: an equation for each body.
+--     Part                  what a symbol stands for
+--     RULE_part parts       what a rule stands for, by the parts of its body
+--     action rule parts     the same, for the number of a rule
+--     parts_of trees        what derivation trees stand for
 use Rattle.std.specs.Prelude.{ℕ, List, [], ◌∷◌, map, Option, Some, None, slice_index_or}
 use Rattle.dcv_syntax.specs.declared.names.Name.{Name}
 use Rattle.dcv_syntax.specs.declared.names.Span.{Span}

@@ -1,4 +1,8 @@
 -- The nodes of plain trees as a text spells them: which node, and from where to where it stands.
+--     token_class token                        what a token is to the grammar
+--     name_of, number_of, relation_of token    the name, number or relation that a token is
+--     bare_prop kind span, bare kind span      a proposition or formula without parentheses of its own
+--     prop_list, formula_list kind first more  one operand stands for itself, and more are a list
 use Rattle.std.specs.Prelude.{ℕ, ◌==◌, List, [], ◌∷◌, Option, Some, None, if◌then◌else◌}
 use Rattle.dcv_syntax.specs.declared.names.Name.{Name}
 use Rattle.dcv_syntax.specs.declared.names.Span.{Span}

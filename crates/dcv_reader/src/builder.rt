@@ -2,6 +2,11 @@
 //
 // A function for a rule is called where the rule begins, and has no error but want of memory: the reader of faults has
 // been there before.
+//
+// It is recursive descent, with a call for each level of operators: 500 parentheses, the most that a text may have, take
+// some 4 MB of stack.
+//
+// For the prover: `'more:` names a loop in the proofs, and `_comma` and the like name a call of `take`.
 ghost use Rattle.std.specs.Prelude.{◌≡◌, ◌<◌, length, map, IfOk, IsTrue};
 ghost use Rattle.dcv_tokens.specs.Reading.{seen};
 ghost use Rattle.dcv_tokens.specs.Tokens.{Token as TextToken};

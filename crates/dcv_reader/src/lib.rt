@@ -4,6 +4,9 @@
 //! text that spells no file. `specs/Actions` says which tree each rule stands for, and `specs/Spelling` joins them to
 //! the file that a text spells. A text is cut, its first fault is sought, and if it has none a builder goes down the
 //! rules once more and makes the tree, by recursive descent.
+//!
+//! `infer a && (b) ^ c;` spells a file whose goal is the conjunction of `a` and a chop of `b` and `c`: `&&` binds looser
+//! than `^`. The operand `b` has the place of `b` alone, and that of `(b)`.
 #![tactic(auto)]
 
 mod builder;

@@ -1,4 +1,9 @@
 -- What is at fault in a text, and which of its faults comes first.
+--     StandsAmong text tokens rest fault   a fault of a text that is cut into these tokens and this rest
+--     HasFault text fault                  the text has the fault
+--     IsNotAfter fault other               the fault comes before the other, or is the same
+--     IsFirstFault text fault              the text has the fault, and none before it
+--     FaultIsUnique                        a text has at most one first fault
 use Rattle.std.specs.Prelude.{◌≡◌, ℕ, ◌+◌, ◌<◌, ◌≤◌, nat_le, List, [], ◌⊎◌, Option, Some, None, if◌then◌else◌, length, map, take, find, count_by, slice_get, IsSomeAnd}
 use Rattle.std.specs.List.{after_last}
 use Rattle.std.specs.Option.{option_map_or}

@@ -1,4 +1,4 @@
-// The tokens of a text without faults.
+// The tokens of a text without faults: each kind of fault is sought in a pass of its own.
 ghost use Rattle.std.specs.Prelude.{◌≡◌, ◌≢◌, ◌^◌, ◌<◌, ◌≤◌, [], length, map, All, IfOk, IfErr};
 ghost use Rattle.dcv_grammar.specs.Grammar.{IsSentence};
 ghost use Rattle.dcv_tokens.specs.Classes.{number, class_of};

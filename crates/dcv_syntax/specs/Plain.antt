@@ -1,4 +1,8 @@
 -- Plain trees: the trees of the code without its pointers and its vectors.
+--     PlainFile, PlainMacro                  a file, and a macro of it
+--     PlainProp, PlainFormula                a proposition or formula and its place, without its own parentheses
+--     PlainPropOperand, PlainFormulaOperand  the same, and the place with the parentheses that stand round it
+--     PlainPropKind, PlainFormulaKind        the forms
 --
 -- A type that holds itself stands here by its kind and its span, and a list of such by a type of its own.
 use Rattle.std.specs.Prelude.{Bool, List, [], ◌∷◌}

@@ -1,6 +1,8 @@
 //! The trees of a formula file of Quantified Discrete-time Duration Calculus: the file, its macros, formulas
 //! over intervals and propositions over instants, each node with its place in the source.
 //!
+//! `infer <p>;` is a file with no variables and no macros, whose goal is `Point` of a `Call` of `p`, from 6 to 9.
+//!
 //! The trees are plain data. What they mean is said in `dcv_logic`, and which text spells which tree in `dcv_reader`.
 #![tactic(auto)]
 

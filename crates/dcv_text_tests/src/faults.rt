@@ -55,6 +55,7 @@ const FAULTS: [(&[u8], Option<Fault>); 32] = [
     (b"infer \xc2\xa0pt;", Some(Fault::Byte { at: 6 })),
 ];
 
+// For the prover: the bound is what a text of `read_file` has to meet.
 fn fault_of(alloc: Global, text: &[u8]) -> Option<Fault> {
     if text.len() < 1_000_000 {
         read_file(alloc, text).err()

@@ -17,7 +17,7 @@ const CUTS: [(&[u8], &[u8]); 10] = [
     (b"p / q", b"p "),
 ];
 
-// The tokens of a text, each with a blank behind it.
+// The tokens of a text, each with a blank behind it. For the prover: the bound is what a text of `tokens` has to meet.
 fn tokens_of(alloc: Global, text: &[u8]) -> Result<Vec<u8>, AllocError> {
     let mut shown = Vec::new(alloc);
     if text.len() < 1_000_000 {

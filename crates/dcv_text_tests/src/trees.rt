@@ -63,7 +63,7 @@ const FILE: &[u8] = b"var p, q; define f(a) as [[a]]; prop g as p; infer true;";
 const FILE_SHOWN: &str =
     "var p@4..5 q@7..8 define@10..31(f@17..18 a@19..20 = every@25..30(a@27..28)) prop@32..44(g@37..38 = p@42..43) infer true@51..55";
 
-// The goal of a text in the short form.
+// The goal of a text in the short form. For the prover: the bound is what a text of `read_file` has to meet.
 fn goal_shown(alloc: Global, text: &[u8]) -> Result<String, Fail> {
     if text.len() > 10_000 {
         return Err("too long".into());

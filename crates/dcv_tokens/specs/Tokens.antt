@@ -1,4 +1,11 @@
 -- How a text is cut into white space, comments and tokens. A text is the list of its bytes.
+--     is_blank piece, is_token piece     white space or a comment; a word, a number or a symbol
+--     IsLongest piece text               the piece is the longest with which the text begins
+--     IsCut text pieces rest             the text is cut into the pieces, each the longest where it stands, and the rest
+--     Token                              the bytes of a token, and the offset of its first byte
+--     tokens_from start pieces           the tokens among the pieces
+--     IsTokenized text tokens rest       these are the text's tokens, and the rest is empty or begins with the byte fault
+--     span_of token, span_over a b       from the first byte of a token to its last, or to the last of another
 use Rattle.std.specs.Prelude.{◌≡◌, ℕ, ◌+◌, ◌≤◌, Bool, false, not, ◌&&◌, ◌||◌, ◌==◌, List, [], ◌∷◌, ◌++◌, length, map, IsTrue, bytes_eq, if◌then◌else◌}
 use Rattle.std.specs.List.{list_all, list_any, concat}
 use Rattle.std.specs.Char.{is_ascii_alphabetic, is_ascii_digit}

@@ -1,4 +1,4 @@
-// The tokens of a text, one after another.
+// The tokens of a text, one after another: a lexer by the longest match, which looks at each byte a few times.
 ghost use Rattle.std.specs.Prelude.{◌≡◌, ◌+◌, ◌^◌, ◌<◌, ◌≤◌, length, min, IsTrue};
 ghost use Rattle.dcv_tokens.specs.Tokens.{is_number, is_token};
 ghost use Rattle.dcv_tokens.specs.Classes.{class_of};

@@ -3,6 +3,8 @@
 //! `specs/Tokens` says how a text is cut into white space, comments and tokens, `specs/Classes` what each token is to the
 //! grammar, and `specs/Limits` what is said of one token alone. A text is cut as it is read: `Tokens` goes through it
 //! token by token and keeps none.
+//!
+//! `007x<=>= // y` is cut into the tokens `007`, `x`, `<=>` and `=`, by the longest match.
 #![tactic(auto)]
 
 pub mod classes;
