@@ -1,5 +1,5 @@
 -- The order of words, from the laws of dcv_word.
-use Rattle.std.proofs.Common.{◌≡◌, ◌⊎◌, inl, inr, ⊎_elim, Bool, List, [], ◌∷◌, ◌++◌, length, refl, ap, sym, ◌∙◌, subst, arith, length-append}
+use Rattle.std.proofs.Common.{append-nil, ◌≡◌, ◌⊎◌, inl, inr, ⊎_elim, Bool, List, [], ◌∷◌, ◌++◌, length, refl, ap, sym, ◌∙◌, subst, arith, length-append}
 use Rattle.std.specs.declared.cmp.Ordering.TheVariants.{Less, Equal, Greater}
 use Rattle.std.specs.Ordering.{ordering_reverse, ordering_then}
 use Rattle.std.proofs.lemmas.Bool.{cases_order}
@@ -61,6 +61,17 @@ module _ (laws : WordLaws) where
   pub no_later_chain : (u v w : Word) → IsNoLater u v → IsNoLater v w → IsNoLater u w
   no_later_chain u v w n m = no_later u w (λ h.
       ⊎_elim (λ b. not_later v w m (before_chain w u v h b)) (λ e. not_later v w m (subst (λ x. Before w x) e h)) (cases_no_later u v n))
+
+  pub no_later_before : (u v w : Word) → IsNoLater u v → Before v w → Before u w
+  no_later_before u v w n h = ⊎_elim (λ b. before_chain u v w b h) (λ e. subst (λ x. Before x w) (sym e) h) (cases_no_later u v n)
+
+  pub before_no_later_chain : (u v w : Word) → Before u v → IsNoLater v w → Before u w
+  before_no_later_chain u v w h n = ⊎_elim (λ b. before_chain u v w h b) (λ e. subst (λ x. Before u x) e h) (cases_no_later v w n)
+
+  -- a front comes no later than the whole
+  pub front_before : (u v w : Word) → Before (u ++ v) w → Before u w
+  front_before u [] w h = subst (λ x. Before x w) (append-nil u) h
+  front_before u (a ∷ v) w h = before_chain u (u ++ a ∷ v) w (laws.shorter u (u ++ a ∷ v) (omega (arith, length-append u (a ∷ v)))) h
 
   -- neither of two words is before the other only where they are one
   pub same_words : (u v : Word) → (Before u v → ⊥) → (Before v u → ⊥) → u ≡ v

@@ -7,14 +7,14 @@ use Rattle.dcv_word.specs.Letter.{letter_order}
 use Rattle.dcv_word.specs.Word.{shortlex_order}
 use Rattle.dcv_language.specs.Language.{Language, outside, HaveSameBehaviours}
 use Rattle.dcv_language.specs.Verdict.{Verdict, IsVerdict}
-use Rattle.dcv_language.specs.Least.{IsLeastWhere}
+use Rattle.dcv_language.specs.Least.{IsLeastWhere, IsNoLater}
 use Rattle.dcv_language.specs.Automaton.{Automaton, state_after, accepts}
 use Rattle.dcv_language.specs.Table.{Table, IsTable, AcceptsExactly, leads_to}
 use Rattle.dcv_language.specs.Apart.{AreApart}
 use Rattle.dcv_language.specs.Canonical.{access_word, IsAccessWord, IsCanonical}
 use Rattle.dcv_language.specs.Complement.{complement}
 use Rattle.dcv_language.specs.Certificate.{IsCertificate}
-use Rattle.dcv_language.specs.Search.{IsSearched}
+use Rattle.dcv_language.specs.Search.{IsSearched, IsSearchedBefore}
 use Rattle.dcv_language.specs.Folding.{IsFolding}
 use Rattle.dcv_language.specs.Operations.{intersection, union, agreement, chop, star, projection}
 
@@ -100,6 +100,17 @@ SearchFindsAll = (k : ℕ) (automaton : Automaton ℕ) (found : ℕ → Bool) (w
 abbrev pub FoundWordsAreLeast : Type 0
 FoundWordsAreLeast = (k : ℕ) (automaton : Automaton ℕ) (found : ℕ → Bool) (word_of : ℕ → Word) (state : ℕ)
     → IsSearched k automaton found word_of → IsTrue (found state)
+    → IsLeastWhere k (λ word. state_after automaton word ≡ state) (word_of state)
+
+-- of a search that stops at a bound, the same holds before the bound
+abbrev pub SearchFindsAllBefore : Type 0
+SearchFindsAllBefore = (k : ℕ) (automaton : Automaton ℕ) (found : ℕ → Bool) (word_of : ℕ → Word) (bound word : Word)
+    → IsSearchedBefore k automaton found word_of bound → IsBehaviour k word → shortlex_order word bound ≡ Less
+    → IsTrue (found (state_after automaton word)) × IsNoLater (word_of (state_after automaton word)) word
+
+abbrev pub FoundWordsAreLeastBefore : Type 0
+FoundWordsAreLeastBefore = (k : ℕ) (automaton : Automaton ℕ) (found : ℕ → Bool) (word_of : ℕ → Word) (bound : Word) (state : ℕ)
+    → IsSearchedBefore k automaton found word_of bound → IsTrue (found state) → IsNoLater (word_of state) bound
     → IsLeastWhere k (λ word. state_after automaton word ≡ state) (word_of state)
 
 -- the words that go on from a later word come later, whatever letter they go on by

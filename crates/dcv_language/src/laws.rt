@@ -4,7 +4,8 @@ ghost use Rattle.dcv_language.specs.Laws.{OneVerdict, VerdictOfSameBehaviours};
 ghost use Rattle.dcv_language.specs.Laws.{OneCanonicalTable, AccessWordsAreLeast, AccessWordsLead, CanonicalForSameBehaviours};
 ghost use Rattle.dcv_language.specs.Laws.{ComplementIsCanonical, FoldingIsCanonical};
 ghost use Rattle.dcv_language.specs.Laws.{WordsApartAreFewerThanStates, CanonicalIsMinimal, CertifiedIsMinimal, OneWordNeedsNoSuffix, FirstSuffixIsEmpty};
-ghost use Rattle.dcv_language.specs.Laws.{FrontOfLeastIsLeast, SearchFindsAll, FoundWordsAreLeast, LaterWordsGoOnLater, LaterLettersGoOnLater};
+ghost use Rattle.dcv_language.specs.Laws.{FrontOfLeastIsLeast, SearchFindsAll, FoundWordsAreLeast};
+ghost use Rattle.dcv_language.specs.Laws.{SearchFindsAllBefore, FoundWordsAreLeastBefore, LaterWordsGoOnLater, LaterLettersGoOnLater};
 ghost use Rattle.dcv_language.specs.Laws.{OutsideKeepsSameness, IntersectionKeepsSameness, UnionKeepsSameness, AgreementKeepsSameness};
 ghost use Rattle.dcv_language.specs.Laws.{ChopKeepsSameness, StarKeepsSameness, ProjectionKeepsSameness};
 
@@ -71,11 +72,14 @@ pub fn suffixes_begin_empty()
 {}
 
 /// A breadth-first search, in the letters' order from each state in turn, finds every state that a behaviour leads to, each by
-/// the least word. The words that it finds one after another ascend.
+/// the least word; and one that stops at a bound finds so every state that a behaviour before the bound leads to. The words
+/// that it finds one after another ascend.
 pub fn breadth_first_is_least()
     ensures front { FrontOfLeastIsLeast }
     ensures all { SearchFindsAll }
     ensures least { FoundWordsAreLeast }
+    ensures all_before { SearchFindsAllBefore }
+    ensures least_before { FoundWordsAreLeastBefore }
     ensures later_words { LaterWordsGoOnLater }
     ensures later_letters { LaterLettersGoOnLater }
 {
