@@ -12,7 +12,7 @@ use Rattle.dcv_language.specs.Language.{Language}
 use Rattle.dcv_language.specs.Automaton.{state_from, accepts_from}
 use Rattle.dcv_language.specs.Table.{Table, IsTable, no_state, row_of, next_in, automaton_of, leads_to, AcceptsExactly}
 use Rattle.dcv_language.specs.Apart.{AreApart}
-use Rattle.dcv_language.specs.Laws.{WordsApartAreFewerThanStates, CertifiedIsMinimal}
+use Rattle.dcv_language.specs.Laws.{WordsApartAreNoMoreThanStates, CertifiedIsMinimal}
 use Rattle.dcv_language.proofs.Runs.{accepts_on}
 
 -- ---- the states of a table
@@ -72,13 +72,13 @@ module _ (k : ℕ) (L : Language) (words : List Word) (table : Table) (apart : A
       let is : q ≡ leads_to table (get_or words some.0 []) = eqb-true q some.1 some.4 ∙ sym some.3 ∙ state_at some.0 some.1 within in
       subst (λ n. n < length table) (sym is) (leads_to-below k table t (get_or words some.0 []))
 
-  pub fewer_than_states : length words ≤ length table
-  fewer_than_states = subst (λ n. n ≤ length table) states_many
+  pub no_more_than_states : length words ≤ length table
+  no_more_than_states = subst (λ n. n ≤ length table) states_many
       (length-le_from_distinct_below states (length table) (IsDistinct-from_apart eqb states states_differ) state_below)
 
-pub words_apart_are_fewer_than_states : WordsApartAreFewerThanStates
-words_apart_are_fewer_than_states = fewer_than_states
+pub words_apart_are_no_more_than_states : WordsApartAreNoMoreThanStates
+words_apart_are_no_more_than_states = no_more_than_states
 
 pub certified_is_minimal : CertifiedIsMinimal
 certified_is_minimal k L access suffixes table certificate t exact =
-    fewer_than_states k L access table (λ i j d h l. let told = certificate.told i j d h l in record { suffix = told.suffix; tells = told.tells }) t exact
+    no_more_than_states k L access table (λ i j d h l. let told = certificate.told i j d h l in record { suffix = told.suffix; tells = told.tells }) t exact

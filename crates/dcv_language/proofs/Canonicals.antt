@@ -8,7 +8,7 @@ use Rattle.dcv_language.specs.Table.{Table, leads_to}
 use Rattle.dcv_language.specs.Apart.{AreApart}
 use Rattle.dcv_language.specs.Canonical.{access_word, IsAccessWord, IsStart, IsCanonical}
 use Rattle.dcv_language.specs.Laws.{CanonicalIsMinimal, AccessWordsAreLeast, CanonicalForSameBehaviours}
-use Rattle.dcv_language.proofs.Bounds.{words_apart_are_fewer_than_states, leads_to-below, apart_states}
+use Rattle.dcv_language.proofs.Bounds.{words_apart_are_no_more_than_states, leads_to-below, apart_states}
 
 -- ---- apart
 
@@ -122,4 +122,4 @@ access_words_are_least k L table access state letter letters c e =
 
 pub canonical_is_minimal : CanonicalIsMinimal
 canonical_is_minimal k L table other access c t exact =
-    subst (λ n. n ≤ length other) c.words (words_apart_are_fewer_than_states k L access other c.apart t exact)
+    subst (λ n. n ≤ length other) c.words (words_apart_are_no_more_than_states k L access other c.apart t exact)

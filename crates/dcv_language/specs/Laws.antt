@@ -61,8 +61,8 @@ FoldingIsCanonical = (k : ℕ) (raw : Automaton ℕ) (reached : ℕ → Bool) (n
 -- ---- the lower bound
 
 -- words that are apart, one of which may be empty, are no more than the states of any table automaton for the set
-abbrev pub WordsApartAreFewerThanStates : Type 0
-WordsApartAreFewerThanStates = (k : ℕ) (L : Language) (words : List Word) (table : Table)
+abbrev pub WordsApartAreNoMoreThanStates : Type 0
+WordsApartAreNoMoreThanStates = (k : ℕ) (L : Language) (words : List Word) (table : Table)
     → AllPairs (AreApart k L) words → IsTable k table → AcceptsExactly k table L → length words ≤ length table
 
 -- so a canonical table has as few states as any table automaton for the set, whether or not that one's start accepts

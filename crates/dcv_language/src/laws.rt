@@ -3,7 +3,7 @@
 ghost use Rattle.dcv_language.specs.Laws.{OneVerdict, VerdictOfSameBehaviours};
 ghost use Rattle.dcv_language.specs.Laws.{OneCanonicalTable, AccessWordsAreLeast, AccessWordsLead, CanonicalForSameBehaviours};
 ghost use Rattle.dcv_language.specs.Laws.{ComplementIsCanonical, FoldingIsCanonical};
-ghost use Rattle.dcv_language.specs.Laws.{WordsApartAreFewerThanStates, CanonicalIsMinimal, CertifiedIsMinimal, OneWordNeedsNoSuffix, FirstSuffixIsEmpty};
+ghost use Rattle.dcv_language.specs.Laws.{WordsApartAreNoMoreThanStates, CanonicalIsMinimal, CertifiedIsMinimal, OneWordNeedsNoSuffix, FirstSuffixIsEmpty};
 ghost use Rattle.dcv_language.specs.Laws.{FrontOfLeastIsLeast, SearchFindsAll, FoundWordsAreLeast};
 ghost use Rattle.dcv_language.specs.Laws.{SearchFindsAllBefore, FoundWordsAreLeastBefore, LaterWordsGoOnLater, LaterLettersGoOnLater};
 ghost use Rattle.dcv_language.specs.Laws.{OutsideKeepsSameness, IntersectionKeepsSameness, UnionKeepsSameness, AgreementKeepsSameness};
@@ -60,7 +60,7 @@ pub fn folding_is_canonical()
 /// Each table automaton for a set has at least as many states as there are words of which every two are told apart, so at
 /// least as many as a canonical table has, and as a certificate has access words.
 pub fn no_table_has_fewer_states()
-    ensures words { WordsApartAreFewerThanStates }
+    ensures words { WordsApartAreNoMoreThanStates }
     ensures canonical { CanonicalIsMinimal }
     ensures certificate { CertifiedIsMinimal }
 {}
