@@ -14,7 +14,8 @@ use Rattle.dcv_language.specs.MachineLaws.{ConstantMachineAccepts, PointMachineA
 -- ---- constants
 
 pub constant_accepts : ConstantMachineAccepts
-constant_accepts slots truth letter letters = refl
+constant_accepts slots truth [] h = absurd (omega arith)
+constant_accepts slots truth (letter ∷ letters) h = refl
 
 -- ---- points
 
@@ -33,7 +34,8 @@ module _ (P : List Bool → Bool) where
   from_point false letter (a ∷ letters) e = from_bad letters
 
 pub point_accepts : PointMachineAccepts
-point_accepts slots P letter letters = from_point P (P letter) letter letters refl
+point_accepts slots P [] h = absurd (omega arith)
+point_accepts slots P (letter ∷ letters) h = from_point P (P letter) letter letters refl
 
 -- ---- runs
 
@@ -64,7 +66,8 @@ module _ (P : List Bool → Bool) where
   from_first false letter (a ∷ letters) e = from_dead letters ∙ ap (λ p. p && list_all P (all_but_last (a ∷ letters))) (sym e)
 
 pub run_accepts : RunMachineAccepts
-run_accepts slots P letter letters = from_first P (P letter) letter letters refl
+run_accepts slots P [] h = absurd (omega arith)
+run_accepts slots P (letter ∷ letters) h = from_first P (P letter) letter letters refl
 
 -- ---- every
 
@@ -85,7 +88,8 @@ module _ (P : List Bool → Bool) where
   from_whole (a ∷ word) = every_step (P a) word (from_whole word)
 
 pub every_accepts : EveryMachineAccepts
-every_accepts slots P letter letters = every_step P (P letter) letters (from_whole P letters)
+every_accepts slots P [] h = absurd (omega arith)
+every_accepts slots P (letter ∷ letters) h = every_step P (P letter) letters (from_whole P letters)
 
 -- ---- units
 
@@ -106,7 +110,8 @@ module _ (P : List Bool → Bool) where
   from_unit false letter (a ∷ c ∷ letters) e = from_over letters
 
 pub unit_accepts : UnitMachineAccepts
-unit_accepts slots P letter letters = from_unit P (P letter) letter letters refl
+unit_accepts slots P [] h = absurd (omega arith)
+unit_accepts slots P (letter ∷ letters) h = from_unit P (P letter) letter letters refl
 
 -- ---- measures
 
@@ -171,19 +176,22 @@ one_capped n true = omega arith
 one_capped n false = omega arith
 
 pub slen_accepts : SlenMachineAccepts
-slen_accepts slots n meets settles letter letters =
+slen_accepts slots n meets settles [] h = absurd (omega arith)
+slen_accepts slots n meets settles (letter ∷ letters) h =
     ap (λ c. accepts_from (slen_machine slots n meets).automaton (Some c) letters) (none_capped n)
     ∙ from_length n meets settles letters 0
     ∙ ap meets (omega arith ∙ sym (length-all_but_last letter letters))
 
 pub scount_accepts : ScountMachineAccepts
-scount_accepts slots P n meets settles letter letters =
+scount_accepts slots P n meets settles [] h = absurd (omega arith)
+scount_accepts slots P n meets settles (letter ∷ letters) h =
     ap (λ c. accepts_from (scount_machine slots P n meets).automaton (Some c) letters) (one_capped n (P letter))
     ∙ from_count n meets settles P letters (cond (P letter) 1 0)
     ∙ ap meets (count-cons P letter letters)
 
 pub sdur_accepts : SdurMachineAccepts
-sdur_accepts slots P n meets settles letter letters =
+sdur_accepts slots P n meets settles [] h = absurd (omega arith)
+sdur_accepts slots P n meets settles (letter ∷ letters) h =
     ap (λ c. accepts_from (sdur_machine slots P n meets).automaton (Lasted c (P letter)) letters) (none_capped n)
     ∙ from_lasted n meets settles P letters letter 0
     ∙ ap meets (omega arith)

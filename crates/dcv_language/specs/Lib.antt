@@ -1,24 +1,23 @@
--- Public clauses of this crate and of those above cite these, from sets of words to what is said of one.
+-- What public clauses speak of: sets of words, the least of one, and the verdict.
 pub mod Language
 pub mod Least
 pub mod Verdict
 pub mod VerdictText
--- Automata as plain data, and what is said of them.
+-- Automata as tables, and what is said of them: clauses of minimiser, words, printer and observers cite these.
 pub mod Automaton
 pub mod Table
 pub mod Apart
 pub mod Canonical
 pub mod Complement
 pub mod Certificate
--- Operations on sets, and the machines that accept them.
+-- Operations on sets, and the rows of the machines that accept them: clauses of the machines and of the budget cite these.
 pub mod Atoms
 pub mod Operations
 pub mod StateSet
 pub mod AtomMachines
 pub mod OperationMachines
--- What a search and a minimiser have to establish.
+-- Scaffolding: what a search and a minimiser establish inside, and the statements that `src` proves.
 pub mod Search
 pub mod Folding
--- The statements that `src/laws.rt` proves.
 pub mod Laws
 pub mod MachineLaws
