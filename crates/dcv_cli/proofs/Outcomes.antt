@@ -6,7 +6,8 @@ use Rattle.std.proofs.Math.ListN.{length-replicate}
 use Rattle.std.proofs.Math.Seq.{take-length}
 use Rattle.dcv_io.specs.Disk.{Disk, held_of, WhereTold, ReadsPast}
 use Rattle.dcv_io.specs.Taking.{IfTooLong}
-use Rattle.dcv_io.specs.Written.{Appends, AppendsPrefix, AppendsStrictPrefix}
+use Rattle.dcv_io.specs.Written.{Appends, AppendsStrictPrefix}
+use Rattle.dcv_io.proofs.Appending.{strict_is_prefix}
 use Rattle.dcv_io.specs.declared.fault.TakeFault.{TakeFault}
 use Rattle.dcv_io.specs.declared.fault.TakeFault.TheVariants.{Open as TakeOpen, Read as TakeRead, TooLong as TakeTooLong, Memory as TakeMemory}
 use Rattle.dcv_syntax.specs.Plain.{PlainFile}
@@ -135,9 +136,6 @@ explains_request words request told asked refusal h =
 
 -- ---- for what was written
 
-pub front_of_strict : (old new : Option (List ℕ)) (bytes : List ℕ) → AppendsStrictPrefix old new bytes → AppendsPrefix old new bytes
-front_of_strict old new bytes part = (part.0, let within = part.1 in omega arith, part.2)
-
 pub on_true : (b : Bool) {P : Type 0} → P → OnTrue b P
 on_true true h = h
 on_true false h = tt
@@ -156,7 +154,7 @@ module _ (told : Option Disk) (name text : List ℕ) (report : Report) (old new 
 
   -- and one that was not
   pub part_front : AppendsStrictPrefix old new report.text.items → AddsFront (FulfilsOver (Check name) told) old new
-  part_front part = inr (reported report, fulfils, front_of_strict old new report.text.items part)
+  part_front part = inr (reported report, fulfils, strict_is_prefix old new report.text.items part)
 
   pub part_stops : AppendsStrictPrefix old new report.text.items → StopsWithin (FulfilsOver (Check name) told) old new
   part_stops part = (reported report, fulfils, part)

@@ -76,12 +76,13 @@ fn perform<F: Files, O: Sink>(
     ensures answer { IfOk result (λ status. IsTrue (is_answer status)) }
     ensures refused { IfErr result (IsExplained (IsRightOver words.now (F.told files.old))) }
 
+    ensures files { AsksFrontOf words.now (F.asked files.old) (F.asked files.new) }
+
     ensures silent { IfErr result (λ refusal. OnTrue (is_silent (status_of refusal)) (Appends (O.written out.old) (O.written out.new) [])) }
     ensures left { IfErr result (λ refusal. OnTrue (is_input (status_of refusal)) (LeavesOver words.now (F.told files.old) (O.written out.old) (O.written out.new))) }
     ensures stops { OnTrue (is_write_refusal result) (StopsWithin (IsRightOver words.now (F.told files.old)) (O.written out.old) (O.written out.new)) }
     ensures front { AddsFront (IsRightOver words.now (F.told files.old)) (O.written out.old) (O.written out.new) }
 
-    ensures files { AsksFrontOf words.now (F.asked files.old) (F.asked files.new) }
     ensures asked { MatchBool (is_usage_refusal result) (¬ (IsTaken words.now)) ((request : Request) × AsksFor words.now request) }
     ensures open_faults { RisesIf (is_open_refusal result) (F.open_faults files.old) (F.open_faults files.new) }
     ensures read_faults { RisesIf (is_read_refusal result) (F.read_faults files.old) (F.read_faults files.new) }

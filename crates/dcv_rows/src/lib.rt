@@ -1,9 +1,11 @@
-//! Worked examples, as tests: `tests` has runs of `dcv_cli::run` over files and streams in memory, and `goals` a table
-//! of each form of the language with the behaviours on which it is true. The expected values were worked out by hand
-//! from the language's meaning.
+//! Worked examples, as tests: `tests` has runs of `dcv_cli::run` over files and streams in memory, `goals` a table of
+//! each form of the language with the behaviours on which it is true, and `recipes` the example files. The expected
+//! values were worked out by hand from the language's meaning.
 #![tactic(auto)]
 
 #[cfg(test)]
 mod goals;
+#[cfg(test)]
+mod recipes;
 #[cfg(test)]
 mod tests;

@@ -2,7 +2,7 @@ ghost use Rattle.std.specs.Prelude.{◌<◌};
 ghost use Rattle.std.specs.List.{All};
 
 use dcv_cli::{Words, run};
-use dcv_io::{MemFiles, MemSink};
+use dcv_io::{MemFiles, MemSink, NotingFiles};
 use std::alloc::{AllocError, Global};
 use std::process::Abort;
 use std::test::Fail;
@@ -244,5 +244,38 @@ fn faults_of_the_outside(rt: HostRuntime) -> Result<(), Fail> {
         ..WHOLE
     };
     expect(&rt, alloc, &["check", "f"], b"", &no_messages, (3, "", ""))?;
+    Ok(())
+}
+
+// Whether a run of the words asked for files by just these names, each with a space behind it.
+fn expect_asked(
+    rt: &impl Abort,
+    alloc: Global,
+    words: &[&str],
+    names: &str,
+) -> Result<(), AllocError> {
+    let mut given = Words::new(alloc);
+    for word in words {
+        given.push(word)?;
+    }
+    let mut files = NotingFiles::new(alloc, MemFiles::new(alloc, &[], &[])?);
+    let mut out = MemSink::new(alloc, 0, &[], &[])?;
+    let mut err = MemSink::new(alloc, 100, &[], &[])?;
+    let _ = run(alloc, &given, &mut files, &mut out, &mut err);
+    let mut asked = String::new(alloc);
+    for name in files.asked().unwrap_or(&[]) {
+        asked.push_str(name)?;
+        asked.push(' ')?;
+    }
+    assert_eq!(rt; asked.as_str(), names, "{words:?}");
+    Ok(())
+}
+
+#[test]
+fn files_that_are_opened(rt: HostRuntime) -> Result<(), Fail> {
+    let alloc = rt.alloc();
+    expect_asked(&rt, alloc, &["check", "f"], "f ")?;
+    expect_asked(&rt, alloc, &["check"], "")?;
+    expect_asked(&rt, alloc, &["test", "f"], "")?;
     Ok(())
 }
