@@ -1,5 +1,15 @@
 //! The run of the program: from its words and the bytes of a formula file to the report, the message and the status.
 //! [`run`] is what the program calls, and its contract is what the program promises.
+//!
+//! ```text
+//! let mut words = Words::new(rt.alloc());
+//! words.push("check")?;
+//! words.push("door_closed.dc")?;
+//! let status = run(rt.alloc(), &words, &mut files, &mut out, &mut err);
+//! ```
+//!
+//! With `var door_closed; infer [[door_closed]];` held under that name, `status` is [`Status::NotValid`], and on `out` stands
+//! `not valid`, `satisfiable`, a counterexample of the one instant `0` and an example of the one instant `1`.
 #![tactic(auto)]
 
 mod check;

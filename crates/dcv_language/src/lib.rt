@@ -1,7 +1,12 @@
-//! Sets of behaviours as tests of words, and what is said of such a set whatever describes it: its verdict, which is
-//! whether it has every behaviour, whether it has one, and the shortlex-least behaviour outside it and in it.
+//! Sets of behaviours as tests of words, and what is said of such a set whatever describes it: its verdict, its canonical
+//! table with the words that lead to each state, certificates that no table has fewer states, and operations on sets
+//! with the working machines that accept them (after Myhill, Nerode, and Rabin and Scott).
 //!
-//! The definitions stand in `specs/`: `Language`, `Verdict`, `VerdictText`; their laws in [`laws`].
+//! Of the behaviours over one variable in whose last letter it is true, `0` is the counterexample and `1` the example. The
+//! canonical table has two states with the same row, `0 1`: state 0 rejects and has the access word `0`, state 1 accepts
+//! and has the access word `1`. The empty suffix tells the two apart.
+//!
+//! The definitions stand in `specs/`; here are their laws, on sets and tables in [`laws`], on machines in [`machine_laws`].
 #![tactic(auto)]
 
 pub mod laws;

@@ -1,3 +1,4 @@
+// Runs of the program over files and streams in memory, with their whole output, from the worked examples of the product.
 ghost use Rattle.std.specs.Prelude.{◌<◌};
 ghost use Rattle.std.specs.List.{All};
 
