@@ -1,3 +1,4 @@
+// Why a merge gives no number, and why an operation gives no function.
 ghost use Rattle.std.specs.Prelude.{◌≡◌};
 ghost use Rattle.dcv_apply.specs.declared.faults.MergeFault.TheVariants.{Memory as MergeMemory};
 ghost use Rattle.dcv_apply.specs.declared.faults.ApplyFault.TheVariants.{Memory as ApplyMemory};

@@ -1,3 +1,6 @@
+// Functions are merged letter by letter: `Apply` of R. E. Bryant (1986) for any number of operands at once. Nothing
+// is remembered, so a node that several paths lead to is gone through once for each path, which is slow where the
+// operands share much.
 ghost use Rattle.std.specs.Prelude.{◌≡◌, ◌≤◌, ◌<◌, ℕ, List, Bool, Err, Ok, length, IfOk};
 ghost use Rattle.std.specs.List.{All};
 ghost use Rattle.dcv_arena.specs.Arena.{IsRef, IsArena, level_of, value_of, KeepsRefs, AddsOnlyNodesOf, AddsOnlyNodesOfFunction, count_with};

@@ -1,3 +1,5 @@
+// The operands of an operation: refs of two arenas, followed together from slot to slot, and their numbers where
+// they depend on no slot more.
 ghost use Rattle.std.specs.Prelude.{◌≡◌, ◌≤◌, ◌<◌, ◌+◌, [], ◌∷◌, ◌++◌, List, Bool, ℕ, length, slice_set, IfOk, OnOk};
 ghost use Rattle.std.specs.List.{All};
 ghost use Rattle.dcv_apply.specs.Operands.{arena_at, merged_at};

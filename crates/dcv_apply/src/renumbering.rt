@@ -1,3 +1,5 @@
+// Numbers are exchanged for others by a list. It is a merge of one operand, and slow as such: it goes through a node
+// once for each path that leads to it.
 ghost use Rattle.std.specs.Prelude.{◌≡◌, ◌≢◌, ◌≤◌, ◌<◌, ℕ, List, Bool, Err, length, IfOk};
 ghost use Rattle.dcv_arena.specs.Arena.{IsRef, IsArena, value_of, KeepsRefs, AddsOnlyNodesOf, AddsOnlyNodesOfFunction, count_with};
 ghost use Rattle.dcv_apply.specs.Renumbered.{renumbered};

@@ -1,4 +1,7 @@
-pub mod Arena
+-- what public clauses cite, here and above: the diagram of functions by plain lists, and an arena's refs and nodes
 pub mod Diagram
+pub mod Arena
+-- the statements that `src/laws.rt` proves
 pub mod Laws
+-- for proofs alone: what looking for a node answers
 pub mod Placing

@@ -1,3 +1,4 @@
+// Why a node was not added to an arena.
 use std::alloc::{AllocError, AllocFailed};
 use thiserror::Error;
 

@@ -15,3 +15,5 @@ mod syntax;
 mod tokens;
 #[cfg(test)]
 mod trees;
+#[cfg(test)]
+mod word;

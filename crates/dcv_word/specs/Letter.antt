@@ -1,4 +1,4 @@
--- A letter values the declared variables at one moment. It is seen as the list of their truth values, slot 0 first.
+-- A letter values the declared variables at one instant. It is seen as the list of their truth values, slot 0 first.
 --     letter_of width bits     the letter whose values are the binary digits of the number bits, the highest in slot 0
 --     bits_of letter           the number whose binary digits the letter's values are
 --     letters_of_width width   every letter of that many variables, in order

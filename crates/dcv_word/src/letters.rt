@@ -1,3 +1,5 @@
+// A letter: the truths of up to 32 variables, kept as the binary digits of one number, the first variable's the
+// highest. Letters of two widths are compared as numbers once both stand at the high end of 32 bits.
 ghost use Rattle.std.specs.Prelude.{◌≡◌, ◌-◌, ◌*◌, ◌^◌, ◌<◌, ◌≤◌, ◌↔◌, Bool, false, List, length, IsTrue, slice_get, slice_set, slice_index_or};
 ghost use Rattle.dcv_word.specs.Letter.{letter_of, bits_of};
 ghost use Rattle.dcv_word.specs.TraceLine.{digit_of};
@@ -6,7 +8,7 @@ use std::cmp::Ordering;
 use std::fmt;
 use std::marker::Model;
 
-/// The values of the declared variables at one moment. Variable number `slot` has the bit of that number,
+/// The values of the declared variables at one instant. Variable number `slot` has the bit of that number,
 /// counted from the highest of the letter's `width` bits.
 #[derive(Clone, Copy, Debug)]
 pub struct Letter {

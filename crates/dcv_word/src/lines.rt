@@ -1,3 +1,4 @@
+// A letter's line in a trace is read back, or the fault is told that keeps it from being one.
 ghost use Rattle.std.specs.Prelude.{◌≡◌, ◌^◌, ◌<◌, ◌≤◌, ◌↔◌, ◌==◌, Bool, List, length, map, Result, IsTrue, IfSome, IfNone};
 ghost use Rattle.std.specs.List.{All};
 ghost use Rattle.std.specs.Str.{byte};

@@ -1,3 +1,4 @@
+// A word: letters in a row, their text in a trace, and which of two words is listed first.
 ghost use Rattle.std.specs.Prelude.{◌≡◌, ◌≤◌, [], ◌∷◌, ◌++◌, length, IfOk, OnOk, OnErr};
 ghost use Rattle.std.specs.List.{All};
 ghost use Rattle.dcv_word.specs.Word.{shortlex_order};

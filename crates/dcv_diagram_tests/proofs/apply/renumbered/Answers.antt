@@ -1,5 +1,5 @@
 use Rattle.std.proofs.Common.{◌≡◌, ℕ, ◌<◌, Bool, true, false, cond, get_or, arith}
-use Rattle.dcv_apply.proofs.tests.renumbered.Goals as goal
+use Rattle.dcv_diagram_tests.proofs.apply.renumbered.Goals as goal
 
 is_digit : (side : Bool) (number : ℕ) → number ≡ cond side 1 0 → number < 2
 is_digit true number e = omega arith

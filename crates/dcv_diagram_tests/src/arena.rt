@@ -1,7 +1,8 @@
+// Tests of `dcv_arena`: small diagrams whose nodes were counted by hand, and every function of three slots.
 ghost use Rattle.std.specs.Prelude.{◌≡◌, ◌≤◌, IfOk};
 ghost use Rattle.dcv_arena.specs.Arena.{IsRef, KeepsRefs, level_of};
 
-use crate::{Arena, ArenaFault, Ref};
+use dcv_arena::{Arena, ArenaFault, Ref};
 use dcv_word::Letter;
 use std::test::Fail;
 
@@ -40,22 +41,19 @@ fn of_three_slots(arena: &mut Arena, bits: u32) -> Result<Ref, ArenaFault>
     arena.node(0, lo, hi)
 }
 
+// There are 240 functions that depend on slot 0, 12 of the other two slots that depend on slot 1, and 2 of slot 2 alone
+// that depend on it; each has a node of its own.
 #[test]
 fn all_functions_of_three_slots(rt: HostRuntime) -> Result<(), Fail> {
-    let mut arena = Arena::new(rt.alloc(), 3, 1000);
+    let mut arena = Arena::new(rt.alloc(), 3, 254);
     for bits in 0..256u32 {
         let root = of_three_slots(&mut arena, bits)?;
         for letter in 0..8 {
-            assert_eq!(rt;
-                arena.eval(root, &Letter::new(3, letter)),
-                bits >> (7 - letter) & 1
-            );
-        }
-        for others in 0..256u32 {
-            let other = of_three_slots(&mut arena, others)?;
-            assert_eq!(rt; root == other, bits == others);
+            let number = arena.eval(root, &Letter::new(3, letter));
+            assert_eq!(rt; number, bits >> (7 - letter) & 1, "{bits} at {letter}");
         }
     }
+    assert_eq!(rt; arena.len(), 254);
     Ok(())
 }
 

@@ -1,9 +1,10 @@
+// Tests of `dcv_apply`: merges of several kinds, with functions whose tables were worked out by hand.
 ghost use Rattle.std.specs.Prelude.{◌≡◌, ◌≤◌, ◌<◌, Bool, List, length, IfOk};
 ghost use Rattle.std.specs.List.{All};
 ghost use Rattle.dcv_arena.specs.Arena.{IsRef, KeepsRefs};
 ghost use Rattle.dcv_apply.specs.Operands.{IsOperand, numbers_at};
 
-use crate::{ApplyFault, Merge, MergeFault, apply, apply_last, least_letters, remap};
+use dcv_apply::{ApplyFault, Merge, MergeFault, apply, apply_last, least_letters, remap};
 use dcv_arena::{Arena, ArenaFault, Ref};
 use dcv_word::Letter;
 use indexmap::IndexSet;

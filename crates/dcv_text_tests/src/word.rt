@@ -1,6 +1,7 @@
+// Tests of `dcv_word`: letters and their lines in a trace, and the order of words.
 ghost use Rattle.std.specs.Prelude.{◌≡◌, IfOk};
 
-use crate::{Letter, LetterFault, Word, read_trace_line, shortlex};
+use dcv_word::{Letter, LetterFault, Word, read_trace_line, shortlex};
 use std::alloc::{AllocError, Global};
 use std::cmp::Ordering;
 use std::test::Fail;
@@ -16,38 +17,62 @@ fn word_of(alloc: Global, letters: &[u32]) -> Result<Word, AllocError>
     Ok(word)
 }
 
+// The first variable's value is the highest digit of a letter's number, and the first digit of its line.
 #[test]
-fn letters(rt: HostRuntime) {
-    let letter = Letter::new(4, 0b1010);
-    assert_eq!(rt; (letter.width(), letter.bits()), (4, 10));
-    assert_eq!(rt;
-        (letter.get(0), letter.get(1), letter.get(2), letter.get(3)),
-        (true, false, true, false)
-    );
-    assert!(rt; letter == Letter::new(4, 10));
-    assert!(rt; letter != Letter::new(5, 10));
-    assert!(rt; letter < Letter::new(4, 12));
-    assert!(rt; letter > Letter::new(4, 9));
-    assert!(rt; Letter::new(32, u32::MAX).get(31));
-    assert_eq!(rt; letter.with(1, true), Letter::new(4, 0b1110));
-    assert_eq!(rt; letter.with(2, false), Letter::new(4, 0b1000));
-    assert_eq!(rt; letter.with(3, false), letter);
-}
-
-#[test]
-fn printed(rt: HostRuntime) -> Result<(), Fail> {
+fn letters_are_binary_digits(rt: HostRuntime) -> Result<(), Fail> {
     let alloc = rt.alloc();
-    assert_eq!(rt; format!(in alloc; "{}", Letter::new(3, 4))?.as_str(), "100");
-    assert_eq!(rt; format!(in alloc; "{}", Letter::new(0, 0))?.as_str(), "-");
-    assert_eq!(rt;
-        format!(in alloc; "{}", LetterFault::Character { at: 7 })?.as_str(),
-        "byte 7 of the line is no value"
-    );
+    let cases = [
+        (Letter::new(0, 0), "-"),
+        (Letter::new(1, 1), "1"),
+        (Letter::new(3, 4), "100"),
+        (Letter::new(4, 10), "1010"),
+        (Letter::new(4, 10).with(1, true), "1110"),
+        (Letter::new(4, 10).with(2, false), "1000"),
+        (Letter::new(4, 10).with(3, false), "1010"),
+    ];
+    for (letter, line) in cases {
+        assert_eq!(rt; letter.to_string(alloc)?.as_str(), line);
+    }
+    assert!(rt; Letter::new(32, u32::MAX).get(31));
+    assert!(rt; !Letter::new(4, 10).get(1));
     Ok(())
 }
 
 #[test]
-fn read(rt: HostRuntime) {
+fn letters_are_compared_slot_by_slot(rt: HostRuntime) {
+    let cases = [
+        (Letter::new(4, 10), Letter::new(4, 10), Ordering::Equal),
+        (Letter::new(4, 10), Letter::new(4, 12), Ordering::Less),
+        (Letter::new(4, 10), Letter::new(4, 9), Ordering::Greater),
+        (Letter::new(4, 10), Letter::new(5, 10), Ordering::Greater),
+        (Letter::new(4, 10), Letter::new(5, 20), Ordering::Less),
+    ];
+    for (a, b, expected) in cases {
+        assert_eq!(rt; a.cmp(&b), expected, "{a} and {b}");
+    }
+}
+
+#[test]
+fn faults_are_told_in_words(rt: HostRuntime) -> Result<(), Fail> {
+    let alloc = rt.alloc();
+    let cases = [
+        (
+            LetterFault::Width,
+            "the line has another number of values than there are variables",
+        ),
+        (
+            LetterFault::Character { at: 7 },
+            "byte 7 of the line is no value",
+        ),
+    ];
+    for (fault, words) in cases {
+        assert_eq!(rt; fault.to_string(alloc)?.as_str(), words);
+    }
+    Ok(())
+}
+
+#[test]
+fn lines_are_read(rt: HostRuntime) {
     let cases = [
         (b"-".as_slice(), 0, Ok(Letter::new(0, 0))),
         (b"", 0, Err(LetterFault::Width)),
@@ -84,7 +109,7 @@ fn read(rt: HostRuntime) {
 }
 
 #[test]
-fn text(rt: HostRuntime) -> Result<(), Fail> {
+fn words_are_written_line_by_line(rt: HostRuntime) -> Result<(), Fail> {
     let alloc = rt.alloc();
     assert_eq!(rt;
         word_of(alloc, &[])?.text(alloc)?.as_slice(),
@@ -103,7 +128,7 @@ fn text(rt: HostRuntime) -> Result<(), Fail> {
 }
 
 #[test]
-fn order(rt: HostRuntime) -> Result<(), Fail> {
+fn words_are_compared(rt: HostRuntime) -> Result<(), Fail> {
     let alloc = rt.alloc();
     let cases: [(&[u32], &[u32], Ordering); 9] = [
         (&[], &[], Ordering::Equal),

@@ -1,6 +1,6 @@
 use Rattle.std.proofs.Common.{◌≡◌, ◌≤◌}
 use Rattle.dcv_arena.specs.Arena.{IsRef, level_of}
-use Rattle.dcv_arena.proofs.tests.parity_of_sixteen_slots.Given as goal
+use Rattle.dcv_diagram_tests.proofs.arena.parity_of_sixteen_slots.Given as goal
 
 abbrev pub invariant-loop-slot : goal.invariant-loop-slot
 invariant-loop-slot g l = record {
