@@ -1,0 +1,4 @@
+pub mod Aligned
+pub mod Chops
+pub mod Means
+pub mod Tracks

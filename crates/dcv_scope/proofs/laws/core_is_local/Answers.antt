@@ -1,0 +1,4 @@
+use Rattle.dcv_scope.proofs.laws.core_is_local.Goals as goal
+
+pub returns : goal.returns
+returns c = ?

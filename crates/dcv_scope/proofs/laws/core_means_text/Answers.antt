@@ -1,0 +1,8 @@
+use Rattle.dcv_scope.proofs.Means.{core_means_text, words_are_models}
+use Rattle.dcv_scope.proofs.laws.core_means_text.Goals as goal
+
+pub returns-clause-interval : goal.returns-clause-interval
+returns-clause-interval c = core_means_text
+
+pub returns-clause-whole : goal.returns-clause-whole
+returns-clause-whole c = words_are_models

@@ -1,0 +1,47 @@
+-- The core of a formula: what is left when macros are replaced by their bodies and names by slots. Lists of formulas are
+-- joined two by two, and each operator of the tree is a step.
+--     PlainTruth       a proposition over slots
+--     PlainBasic       the forms without a formula in them
+--     CoreTree         a formula over slots, each operator with its place in the source
+use Rattle.std.specs.Prelude.{ℕ, Bool}
+use Rattle.dcv_syntax.specs.declared.names.Span.{Span}
+use Rattle.dcv_syntax.specs.declared.formulas.Relation.{Relation}
+
+mutual
+  pub data PlainTruth : Type 0 where
+    TruthConstant : (truth : Bool) → PlainTruth
+    TruthSlot : (slot : ℕ) → PlainTruth
+    TruthNot : (operand : PlainTruth) → PlainTruth
+    TruthAnd : (operands : PlainTruths) → PlainTruth
+    TruthOr : (operands : PlainTruths) → PlainTruth
+    TruthIff : (operands : PlainTruths) → PlainTruth
+
+  pub data PlainTruths : Type 0 where
+    no_truths : PlainTruths
+    truth_operand : (truth : PlainTruth) → (operands : PlainTruths) → PlainTruths
+
+pub data PlainBasic : Type 0 where
+  BasicConstant : (truth : Bool) → PlainBasic
+  -- one instant, which has P
+  BasicPoint : (truth : PlainTruth) → PlainBasic
+  -- more than one instant, and each but the last has P
+  BasicRun : (truth : PlainTruth) → PlainBasic
+  -- each instant has P
+  BasicEvery : (truth : PlainTruth) → PlainBasic
+  -- two instants, the first of which has P
+  BasicUnit : (truth : PlainTruth) → PlainBasic
+  -- the number of steps from instant to instant, and those of instants with P, the last counted or left out
+  BasicSlen : (relation : Relation) → (number : ℕ) → PlainBasic
+  BasicScount : (truth : PlainTruth) → (relation : Relation) → (number : ℕ) → PlainBasic
+  BasicSdur : (truth : PlainTruth) → (relation : Relation) → (number : ℕ) → PlainBasic
+
+pub data CoreTree : Type 0 where
+  CoreAtom : (basic : PlainBasic) → (span : Span) → CoreTree
+  CoreNot : (operand : CoreTree) → (span : Span) → CoreTree
+  CoreAnd : (first : CoreTree) → (second : CoreTree) → (span : Span) → CoreTree
+  CoreOr : (first : CoreTree) → (second : CoreTree) → (span : Span) → CoreTree
+  CoreIff : (first : CoreTree) → (second : CoreTree) → (span : Span) → CoreTree
+  CoreChop : (first : CoreTree) → (second : CoreTree) → (span : Span) → CoreTree
+  CoreStar : (operand : CoreTree) → (span : Span) → CoreTree
+  -- the operand is over one slot more, the last
+  CoreExists : (operand : CoreTree) → (span : Span) → CoreTree

@@ -1,0 +1,6 @@
+-- What public clauses say.
+pub mod Core
+pub mod Holds
+pub mod CoreOf
+pub mod Steps
+pub mod Laws

@@ -1,0 +1,4 @@
+//! Names, macros and the core of a formula file.
+#![tactic(auto)]
+
+pub mod laws;
