@@ -1,4 +1,5 @@
 pub mod Aligned
 pub mod Chops
+pub mod Local
 pub mod Means
 pub mod Tracks
