@@ -2,4 +2,6 @@ pub mod Aligned
 pub mod Chops
 pub mod Local
 pub mod Means
+pub mod StepList
 pub mod Tracks
+pub mod Words

@@ -27,7 +27,7 @@ pub record SamePart (u v : Word) (b e x y : ℕ) : Type 0 where
   pub letters : (m m' : ℕ) → b ≤ m → m ≤ e → Beside b x m m' → letter_at u m ≡ letter_at v m'
 
 -- a part of it
-inner_part : (u v : Word) (b e x y : ℕ) → SamePart u v b e x y → (m k m' k' : ℕ) → b ≤ m → m ≤ k → k ≤ e → Beside b x m m' → Beside b x k k' → SamePart u v m k m' k'
+pub inner_part : (u v : Word) (b e x y : ℕ) → SamePart u v b e x y → (m k m' k' : ℕ) → b ≤ m → m ≤ k → k ≤ e → Beside b x m m' → Beside b x k k' → SamePart u v m k m' k'
 inner_part u v b e x y s m k m' k' lo up hi beside_m beside_k = record {
   begins = up;
   inside = omega (arith, hi, s.inside);

@@ -3,4 +3,5 @@ pub mod Core
 pub mod Holds
 pub mod CoreOf
 pub mod Steps
+pub mod StepWords
 pub mod Laws

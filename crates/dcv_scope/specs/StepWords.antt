@@ -1,0 +1,54 @@
+-- The words of a step are an operation of `dcv_language` on the words of its operands.
+--     basic_words          the set of a form without a formula in it
+--     TakesOne             a step whose one operand is the step before it
+--     TakesTwo             a step whose second operand is the step before it, and whose first ends where the second's steps begin
+--     IsOperation          what the words of a step are, by its operator
+use Rattle.std.specs.Prelude.{◌≡◌, ℕ, suc, ◌+◌, ◌<◌, List, Some}
+use Rattle.std.specs.List.{slice_get}
+use Rattle.dcv_logic.specs.Satisfaction.{compares}
+use Rattle.dcv_language.specs.Language.{Language, outside, HaveSameBehaviours}
+use Rattle.dcv_language.specs.Operations.{intersection, union, agreement, chop, star, projection}
+use Rattle.dcv_language.specs.Atoms.{constant, point, run, every, unit, slen, scount, sdur}
+use Rattle.dcv_scope.specs.Core.{PlainBasic, BasicConstant, BasicPoint, BasicRun, BasicEvery, BasicUnit, BasicSlen, BasicScount, BasicSdur}
+use Rattle.dcv_scope.specs.Holds.{truth_holds, words_of}
+use Rattle.dcv_scope.specs.Steps.{PlainOp, OpAtom, OpNot, OpAnd, OpOr, OpIff, OpChop, OpStar, OpExists, PlainStep, steps_before}
+
+abbrev pub basic_words : PlainBasic → Language
+basic_words (BasicConstant truth) = constant truth
+basic_words (BasicPoint p) = point (truth_holds p)
+basic_words (BasicRun p) = run (truth_holds p)
+basic_words (BasicEvery p) = every (truth_holds p)
+basic_words (BasicUnit p) = unit (truth_holds p)
+basic_words (BasicSlen relation n) = slen (λ steps. compares relation steps n)
+basic_words (BasicScount p relation n) = scount (truth_holds p) (λ count. compares relation count n)
+basic_words (BasicSdur p relation n) = sdur (truth_holds p) (λ count. compares relation count n)
+
+-- step n has this operand, which is over so many slots, and its words are the operation on the operand's
+pub record TakesOne (steps : List PlainStep) (n : ℕ) (step : PlainStep) (operand slots : ℕ) (operation : Language → Language) : Type 0 where
+  pub step_before : PlainStep
+  pub is_there : slice_get steps operand ≡ Some step_before
+  pub is_before : suc operand ≡ n
+  pub width : step_before.slots ≡ slots
+  pub words : HaveSameBehaviours step.slots (words_of step.core) (operation (words_of step_before.core))
+
+-- step n has these two operands, over as many slots as itself
+pub record TakesTwo (steps : List PlainStep) (n : ℕ) (step : PlainStep) (first second : ℕ) (operation : Language → Language → Language) : Type 0 where
+  pub first_step : PlainStep
+  pub second_step : PlainStep
+  pub first_is_there : slice_get steps first ≡ Some first_step
+  pub second_is_there : slice_get steps second ≡ Some second_step
+  pub first_is_before : suc first + steps_before second_step.core ≡ second
+  pub second_is_before : suc second ≡ n
+  pub first_width : first_step.slots ≡ step.slots
+  pub second_width : second_step.slots ≡ step.slots
+  pub words : HaveSameBehaviours step.slots (words_of step.core) (operation (words_of first_step.core) (words_of second_step.core))
+
+abbrev pub IsOperation : List PlainStep → ℕ → PlainStep → PlainOp → Type 0
+IsOperation steps n step (OpAtom basic) = HaveSameBehaviours step.slots (words_of step.core) (basic_words basic)
+IsOperation steps n step (OpNot d) = TakesOne steps n step d step.slots outside
+IsOperation steps n step (OpAnd c d) = TakesTwo steps n step c d intersection
+IsOperation steps n step (OpOr c d) = TakesTwo steps n step c d union
+IsOperation steps n step (OpIff c d) = TakesTwo steps n step c d agreement
+IsOperation steps n step (OpChop c d) = TakesTwo steps n step c d chop
+IsOperation steps n step (OpStar d) = TakesOne steps n step d step.slots star
+IsOperation steps n step (OpExists d) = TakesOne steps n step d (suc step.slots) projection
