@@ -1,5 +1,6 @@
 pub mod Aligned
 pub mod Chops
+pub mod Examples
 pub mod Local
 pub mod Means
 pub mod StepList

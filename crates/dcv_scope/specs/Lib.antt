@@ -3,5 +3,7 @@ pub mod Core
 pub mod Holds
 pub mod CoreOf
 pub mod Steps
+pub mod Names
+pub mod Measures
 pub mod StepWords
 pub mod Laws
