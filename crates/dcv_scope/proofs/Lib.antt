@@ -3,6 +3,7 @@ pub mod Chops
 pub mod Examples
 pub mod Local
 pub mod Means
+pub mod NameRows
 pub mod StepList
 pub mod Tracks
 pub mod Words

@@ -7,3 +7,5 @@ pub mod Names
 pub mod Measures
 pub mod StepWords
 pub mod Laws
+-- For the proofs alone: what the walks over the text have in sight.
+pub mod Sights
