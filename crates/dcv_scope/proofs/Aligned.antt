@@ -1,6 +1,6 @@
 -- Searches over two intervals of one length agree where what is searched for agrees at the instants that stand side by side.
-use Rattle.std.proofs.Common.{◌≡◌, ℕ, zero, suc, ◌+◌, ◌-◌, ◌<◌, ◌≤◌, Bool, true, false, cond, List, [], ◌∷◌, length, refl, sym, ap, ◌∙◌, arith}
-use Rattle.std.specs.Prelude.{◌||◌, ◌&&◌, ◌==◌, not, nat_lt}
+use Rattle.std.proofs.Common.{◌≡◌, ℕ, zero, suc, ◌+◌, ◌-◌, ◌<◌, ◌≤◌, Bool, true, false, cond, [], ◌∷◌, length, refl, ap, ◌∙◌, arith}
+use Rattle.std.specs.Prelude.{◌||◌, ◌&&◌, ◌==◌, not}
 use Rattle.std.proofs.lemmas.Bool.Decides.{nat_tests}
 use Rattle.dcv_logic.specs.Track.{Track}
 use Rattle.dcv_logic.specs.Search.{some_from, some_between, each_between, count_from, count_between, some_track}
@@ -15,7 +15,7 @@ some_from-beside zero i j p q h = refl
 some_from-beside (suc n) i j p q h =
     let head : p i ≡ q j = h i j (omega arith) (omega arith) (omega arith) in
     let rest : some_from (i + 1) n p ≡ some_from (j + 1) n q =
-        some_from-beside n (i + 1) (j + 1) p q (λ m m' lo hi beside. h m m' (omega (arith, lo)) (omega (arith, hi)) (omega (arith, beside))) in
+    some_from-beside n (i + 1) (j + 1) p q (λ m m' lo hi beside. h m m' (omega (arith, lo)) (omega (arith, hi)) (omega (arith, beside))) in
     λ k. head k || rest k
 
 pub count_from-beside : (n i j : ℕ) (p q : ℕ → Bool) → ((m m' : ℕ) → i ≤ m → m < i + n → Beside i j m m' → p m ≡ q m') → count_from i n p ≡ count_from j n q
@@ -23,7 +23,7 @@ count_from-beside zero i j p q h = refl
 count_from-beside (suc n) i j p q h =
     let head : p i ≡ q j = h i j (omega arith) (omega arith) (omega arith) in
     let rest : count_from (i + 1) n p ≡ count_from (j + 1) n q =
-        count_from-beside n (i + 1) (j + 1) p q (λ m m' lo hi beside. h m m' (omega (arith, lo)) (omega (arith, hi)) (omega (arith, beside))) in
+    count_from-beside n (i + 1) (j + 1) p q (λ m m' lo hi beside. h m m' (omega (arith, lo)) (omega (arith, hi)) (omega (arith, beside))) in
     λ k. cond (head k) 1 0 + rest k
 
 module _ (b e x y : ℕ) (level : Beside b x e y) where
@@ -75,20 +75,20 @@ module _ (c d : ℕ → ℕ → Bool) where
   star-beside (suc n) b e x y level h =
       let here : (b == e) ≡ (x == y) = equal-beside b e x y level in
       let cut : some_between (b + 1) e (λ m. c b m && star c n m e) ≡ some_between (x + 1) y (λ m. d x m && star d n m y) =
-          some_between-beside (b + 1) e (x + 1) y (omega (arith, level)) (λ m. c b m && star c n m e) (λ m. d x m && star d n m y)
-          (λ m m' lo hi beside.
-              let first : c b m ≡ d x m' = h b m x m' (omega arith) (omega (arith, lo)) hi (omega arith) (omega (arith, beside)) in
-              let rest : star c n m e ≡ star d n m' y = star-beside n m e m' y (omega (arith, level, beside))
-                  (λ s t s' t' low up high beside_s beside_t. h s t s' t' (omega (arith, low, lo)) up high (omega (arith, beside, beside_s)) (omega (arith, beside, beside_t))) in
-              λ i. first i && rest i) in
+      some_between-beside (b + 1) e (x + 1) y (omega (arith, level)) (λ m. c b m && star c n m e) (λ m. d x m && star d n m y)
+      (λ m m' lo hi beside.
+      let first : c b m ≡ d x m' = h b m x m' (omega arith) (omega (arith, lo)) hi (omega arith) (omega (arith, beside)) in
+      let rest : star c n m e ≡ star d n m' y = star-beside n m e m' y (omega (arith, level, beside))
+      (λ s t s' t' low up high beside_s beside_t. h s t s' t' (omega (arith, low, lo)) up high (omega (arith, beside, beside_s)) (omega (arith, beside, beside_t))) in
+      λ i. first i && rest i) in
       λ i. here i || cut i
 
   pub star-same : (n b e : ℕ) → ((m k : ℕ) → b ≤ m → m ≤ k → k ≤ e → c m k ≡ d m k) → star c n b e ≡ star d n b e
   star-same n b e h = star-beside n b e b e refl
       (λ m k m' k' lo up hi beside_m beside_k.
-          let same_m : m ≡ m' = omega (arith, beside_m) in
-          let same_k : k ≡ k' = omega (arith, beside_k) in
-          h m k lo up hi ∙ (λ i. d (same_m i) (same_k i)))
+      let same_m : m ≡ m' = omega (arith, beside_m) in
+      let same_k : k ≡ k' = omega (arith, beside_k) in
+      h m k lo up hi ∙ (λ i. d (same_m i) (same_k i)))
 
 -- ---- tracks
 

@@ -1,19 +1,17 @@
 -- The definitions tried on worked files, whose answers were worked out by hand.
-use Rattle.std.proofs.Common.{◌≡◌, ℕ, suc, ◌+◌, Bool, true, false, List, [], ◌∷◌, ◌++◌, Option, Some, None, map, refl}
+use Rattle.std.proofs.Common.{◌≡◌, ℕ, suc, ◌+◌, true, false, List, [], ◌∷◌, ◌++◌, Some, None, map, refl}
 use Rattle.dcv_syntax.specs.declared.names.Name.{Name}
 use Rattle.dcv_syntax.specs.declared.names.Span.{Span}
-use Rattle.dcv_syntax.specs.declared.formulas.Relation.TheVariants.{Equal}
-use Rattle.dcv_syntax.specs.Plain.{PlainPropKind, PropConstant, PropCall, PropNot, PropAnd, PropIff, PlainArguments, no_arguments, argument, PlainPropOperands, no_prop_operands, prop_operand, PlainProp, PlainFormulaKind, FormulaPt, FormulaExt, FormulaPoint, FormulaEvery, FormulaCall, FormulaNot, FormulaAnd, FormulaImplies, FormulaChop, FormulaStar, FormulaSomewhere, FormulaEverywhere, FormulaExists, PlainFormulaOperands, no_formula_operands, formula_operand, PlainMacroBody, FormulaBody, PropBody, PlainMacro, PlainFile}
+use Rattle.dcv_syntax.specs.Plain.{PlainPropKind, PropCall, PropNot, PropAnd, PropIff, no_arguments, PlainPropOperands, no_prop_operands, prop_operand, PlainProp, PlainFormulaKind, FormulaPt, FormulaExt, FormulaPoint, FormulaEvery, FormulaCall, FormulaAnd, FormulaImplies, FormulaChop, FormulaStar, FormulaEverywhere, FormulaExists, PlainFormulaOperands, no_formula_operands, formula_operand, FormulaBody, PropBody, PlainMacro, PlainFile}
 use Rattle.dcv_word.specs.Behaviour.{Word}
 use Rattle.dcv_logic.specs.Models.{models}
-use Rattle.dcv_scope.specs.declared.faults.ScopeFault.{ScopeFault}
 use Rattle.dcv_scope.specs.declared.faults.ScopeFault.TheVariants.{TooMany, Duplicate, Taken, Unknown, Kind, Arity}
-use Rattle.dcv_scope.specs.Core.{PlainTruth, TruthConstant, TruthSlot, TruthNot, BasicPoint, BasicRun, BasicConstant}
+use Rattle.dcv_scope.specs.Core.{TruthConstant, TruthSlot, BasicPoint, BasicRun, BasicConstant}
 use Rattle.dcv_scope.specs.Holds.{words_of}
 use Rattle.dcv_scope.specs.CoreOf.{core_of_file}
 use Rattle.dcv_scope.specs.Steps.{PlainOp, OpAtom, OpNot, OpAnd, OpOr, OpChop, OpStar, PlainStep, steps_of}
 use Rattle.dcv_scope.specs.Names.{fault_of_names}
-use Rattle.dcv_scope.specs.Measures.{Measure, measure_of_file, slots_of_file}
+use Rattle.dcv_scope.specs.Measures.{measure_of_file, slots_of_file}
 
 -- ---- to write files by hand
 
@@ -63,11 +61,11 @@ two_props p q = prop_operand p (place 0 0) (place 0 0) (prop_operand q (place 0 
 abbrev many_forms : PlainFile
 many_forms = file_of (named 112 4 ∷ []) [] (FormulaChop (
     formula_operand (FormulaAnd (
-        formula_operand FormulaPt (place 14 16) (place 14 16) (
-        formula_operand (FormulaPoint (record { kind = plain_name (named 112 21); span = place 21 22 })) (place 20 23) (place 20 23)
-        no_formula_operands))) (place 14 23) (place 13 24) (
+    formula_operand FormulaPt (place 14 16) (place 14 16) (
+    formula_operand (FormulaPoint (record { kind = plain_name (named 112 21); span = place 21 22 })) (place 20 23) (place 20 23)
+    no_formula_operands))) (place 14 23) (place 13 24) (
     formula_operand (FormulaEverywhere
-        (FormulaStar (FormulaImplies FormulaPt (place 30 32) FormulaExt (place 36 39)) (place 30 39)) (place 29 41)) (place 27 41) (place 27 41)
+    (FormulaStar (FormulaImplies FormulaPt (place 30 32) FormulaExt (place 36 39)) (place 30 39)) (place 29 41)) (place 27 41) (place 27 41)
     no_formula_operands))) (place 13 41) (place 13 41)
 
 record Row : Type 0 where

@@ -1,13 +1,13 @@
 -- What a core says of an interval depends on the letters of that interval alone: two words whose letters agree there, instant
 -- by instant, say the same, wherever the intervals begin.
-use Rattle.std.proofs.Common.{◌≡◌, ℕ, zero, suc, ◌+◌, ◌-◌, ◌<◌, ◌≤◌, Bool, true, false, not, List, [], ◌∷◌, ◌++◌, length, take, drop, refl, sym, ap, ◌∙◌, arith, length-take, length-drop}
-use Rattle.std.specs.Prelude.{◌||◌, ◌&&◌, ◌==◌, nat_lt, slice_index_or}
+use Rattle.std.proofs.Common.{◌≡◌, ℕ, suc, ◌+◌, ◌-◌, ◌<◌, ◌≤◌, Bool, true, false, not, [], ◌∷◌, ◌++◌, length, drop, refl, sym, ap, ◌∙◌, arith, length-take, length-drop}
+use Rattle.std.specs.Prelude.{◌||◌, ◌&&◌, ◌==◌, nat_lt}
 use Rattle.std.proofs.lemmas.Bool.Decides.{nat_tests}
 use Rattle.std.proofs.lemmas.List.{get_or-take, get_or-drop}
 use Rattle.dcv_word.specs.Behaviour.{Word}
 use Rattle.dcv_language.specs.Operations.{with_track}
 use Rattle.dcv_logic.specs.Track.{Track, truth_at, track_of}
-use Rattle.dcv_logic.specs.Search.{some_between, each_between, count_from, count_between, some_track}
+use Rattle.dcv_logic.specs.Search.{each_between, count_from, some_track}
 use Rattle.dcv_logic.specs.Value.{iff}
 use Rattle.dcv_logic.specs.Satisfaction.{compares, star}
 use Rattle.dcv_logic.proofs.InWords.{some_track-found, track-length, track-values}
@@ -70,9 +70,9 @@ module _ (u v : Word) (b e x y : ℕ) (s : SamePart u v b e x y) where
   run_local : (p : PlainTruth) → (nat_lt b e && each_between b (e - 1) (holds_at p u)) ≡ (nat_lt x y && each_between x (y - 1) (holds_at p v))
   run_local p =
       and_given (nat_lt b e) (each_between b (e - 1) (holds_at p u)) (each_between x (y - 1) (holds_at p v)) (λ more.
-          let lt : b < e = less_only b e more in
-          each_between-beside b (e - 1) x (y - 1) (omega (arith, s.level, lt)) (holds_at p u) (holds_at p v)
-          (λ m m' lo hi beside. here p m m' lo (omega (arith, hi)) beside))
+      let lt : b < e = less_only b e more in
+      each_between-beside b (e - 1) x (y - 1) (omega (arith, s.level, lt)) (holds_at p u) (holds_at p v)
+      (λ m m' lo hi beside. here p m m' lo (omega (arith, hi)) beside))
       ∙ ap (λ t. t && each_between x (y - 1) (holds_at p v)) (less-beside b e x y s.level)
 
   basic_local : (basic : PlainBasic) → basic_holds basic u b e ≡ basic_holds basic v x y
@@ -91,8 +91,8 @@ module _ (u v : Word) (b e x y : ℕ) (s : SamePart u v b e x y) where
   basic_local (BasicScount p relation n) = ap (λ c. compares relation c n) (count_between-beside b e x y s.level (holds_at p u) (holds_at p v) (here p))
   basic_local (BasicSdur p relation n) =
       ap (λ c. compares relation c n) (
-          count_from-beside (e - b) b x (holds_at p u) (holds_at p v) (λ m m' lo hi beside. here p m m' lo (omega (arith, hi, s.begins)) beside)
-          ∙ ap (λ n. count_from x n (holds_at p v)) steps)
+      count_from-beside (e - b) b x (holds_at p u) (holds_at p v) (λ m m' lo hi beside. here p m m' lo (omega (arith, hi, s.begins)) beside)
+      ∙ ap (λ n. count_from x n (holds_at p v)) steps)
 
 -- a track of one word, moved to the other
 abbrev moved : Track → ℕ → ℕ → ℕ → Track
@@ -113,7 +113,7 @@ module _ (u v : Word) (b e x y : ℕ) (s : SamePart u v b e x y) (track : Track)
         let in_u : m < length u = omega (arith, s.inside, hi) in
         let back : m' + b - x ≡ m = omega (arith, beside, lo) in
         let truth : truth_at track m ≡ truth_at (moved track b x (length v)) m' =
-            sym (track-values (length v) (λ i. truth_at track (i + b - x)) m' in_v ∙ ap (truth_at track) back) in
+        sym (track-values (length v) (λ i. truth_at track (i + b - x)) m' in_v ∙ ap (truth_at track) back) in
         with_track-letter u track m level in_u
         ∙ (λ i. s.letters m m' lo hi beside i ++ truth i ∷ [])
         ∙ sym (with_track-letter v (moved track b x (length v)) m' moved_level in_v);
@@ -148,9 +148,9 @@ local (CoreIff c d span) u v b e x y s =
 local (CoreChop c d span) u v b e x y s =
     some_between-beside b e x y s.level (λ m. core_holds c u b m && core_holds d u m e) (λ m. core_holds c v x m && core_holds d v m y)
     (λ m m' lo hi beside.
-        let one = local c u v b m x m' (inner_part u v b e x y s b m x m' (omega arith) lo hi (omega arith) beside) in
-        let two = local d u v m e m' y (inner_part u v b e x y s m e m' y lo hi (omega arith) beside s.level) in
-        λ i. one i && two i)
+    let one = local c u v b m x m' (inner_part u v b e x y s b m x m' (omega arith) lo hi (omega arith) beside) in
+    let two = local d u v m e m' y (inner_part u v b e x y s m e m' y lo hi (omega arith) beside s.level) in
+    λ i. one i && two i)
 local (CoreStar d span) u v b e x y s =
     star-beside (core_holds d u) (core_holds d v) (e - b) b e x y s.level
     (λ m k m' k' lo up hi beside_m beside_k. local d u v m k m' k' (inner_part u v b e x y s m k m' k' lo up hi beside_m beside_k))
@@ -158,9 +158,9 @@ local (CoreStar d span) u v b e x y s =
 local (CoreExists d span) u v b e x y s =
     by_both (some_track (length u) (λ track. core_holds d (with_track u track) b e)) (some_track (length v) (λ track. core_holds d (with_track v track) x y))
     (some_moved u v b e x y (λ track. core_holds d (with_track u track) b e) (λ track. core_holds d (with_track v track) x y) s
-        (λ track other level other_level same. local d (with_track u track) (with_track v other) b e x y same))
+    (λ track other level other_level same. local d (with_track u track) (with_track v other) b e x y same))
     (some_moved v u x y b e (λ track. core_holds d (with_track v track) x y) (λ track. core_holds d (with_track u track) b e) (other_way u v b e x y s)
-        (λ track other level other_level same. local d (with_track v track) (with_track u other) x y b e same))
+    (λ track other level other_level same. local d (with_track v track) (with_track u other) x y b e same))
 
 -- a part of a word is a word with the same letters
 pub part_same : (word : Word) (b e : ℕ) → b ≤ e → e < length word → SamePart word (part_of word b e) b e 0 (e - b)

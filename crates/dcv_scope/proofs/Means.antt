@@ -1,24 +1,24 @@
 -- The core means what the text means: by induction on the text, where what is in sight agrees over the word, and over each
 -- word with further slots.
-use Rattle.std.proofs.Common.{◌≡◌, ℕ, zero, suc, ◌+◌, ◌-◌, ◌<◌, ◌≤◌, Bool, true, false, cond, List, [], ◌∷◌, ◌++◌, Option, Some, None, length, map, refl, sym, ap, subst, ◌∙◌, arith, All, length-append}
+use Rattle.std.proofs.Common.{◌≡◌, ℕ, ◌+◌, ◌-◌, ◌<◌, ◌≤◌, Bool, true, false, cond, List, [], ◌∷◌, ◌++◌, Option, Some, None, length, map, refl, sym, ap, ◌∙◌, arith, length-append}
 use Rattle.std.specs.Prelude.{◌||◌, ◌&&◌, ◌==◌, not, nat_lt, bytes_eq}
 use Rattle.std.specs.List.{zip}
 use Rattle.dcv_syntax.specs.declared.names.Name.{Name}
 use Rattle.dcv_syntax.specs.declared.names.Span.{Span}
 use Rattle.dcv_syntax.specs.Spans.{covering}
 use Rattle.dcv_syntax.specs.Plain.{PlainPropKind, PropConstant, PropCall, PropNot, PropAnd, PropOr, PropImplies, PropIff, PlainArguments, no_arguments, argument, PlainPropOperands, no_prop_operands, prop_operand, PlainFormulaKind, FormulaConstant, FormulaPt, FormulaExt, FormulaPoint, FormulaRun, FormulaEvery, FormulaUnit, FormulaSlen, FormulaScount, FormulaSdur, FormulaCall, FormulaNot, FormulaAnd, FormulaOr, FormulaImplies, FormulaIff, FormulaChop, FormulaStar, FormulaSomewhere, FormulaEverywhere, FormulaExists, FormulaForAll, PlainFormulaOperands, no_formula_operands, formula_operand, arguments_of, PlainMacroBody, FormulaBody, PropBody, PlainMacro, PlainFile}
-use Rattle.dcv_word.specs.Behaviour.{Word, IsBehaviour}
+use Rattle.dcv_word.specs.Behaviour.{Word}
 use Rattle.dcv_language.specs.Operations.{with_track}
-use Rattle.dcv_logic.specs.Track.{Track, truth_at, track_of, slot_track}
+use Rattle.dcv_logic.specs.Track.{Track, truth_at, slot_track}
 use Rattle.dcv_logic.specs.Search.{some_between, each_between, some_track}
 use Rattle.dcv_logic.specs.Environment.{Environment, Meaning, PropMeaning, FormulaMeaning, found, bind, bind_all}
-use Rattle.dcv_logic.specs.Value.{value, track_value, macro_value, call_value, argument_tracks, all_true, some_true, iff_all, iff}
-use Rattle.dcv_logic.specs.Satisfaction.{compares, satisfies, macro_holds, all_hold, some_hold, iff_holds, chop_holds, star, somewhere}
-use Rattle.dcv_logic.specs.Models.{declared_from, macro_meaning, body_meaning, with_macros, goal_environment, models}
+use Rattle.dcv_logic.specs.Value.{value, call_value, argument_tracks, all_true, some_true, iff_all, iff}
+use Rattle.dcv_logic.specs.Satisfaction.{compares, satisfies, macro_holds, all_hold, some_hold, iff_holds, chop_holds}
+use Rattle.dcv_logic.specs.Models.{declared_from, macro_meaning, body_meaning, with_macros, goal_environment}
 use Rattle.dcv_logic.proofs.InWords.{track-values}
-use Rattle.dcv_scope.specs.Core.{PlainTruth, TruthConstant, TruthSlot, PlainBasic, BasicConstant, BasicPoint, CoreTree, CoreAtom, CoreAnd, CoreOr, CoreIff, CoreChop}
-use Rattle.dcv_scope.specs.Holds.{letter_at, truth_holds, all_truths, some_truth, iff_truths, holds_at, core_holds, words_of}
-use Rattle.dcv_scope.specs.CoreOf.{Expansion, PropExpansion, FormulaExpansion, Sight, bind_slot, bind_arguments, truth_of_macro, truth_without, truth_of_call, truth_of, argument_truths, operand_truths, core_of_macro, core_of, list_core, joined, body_expansion, expansion_of, with_expansions, declared_slots, goal_sight, core_of_file}
+use Rattle.dcv_scope.specs.Core.{PlainTruth, TruthSlot, CoreTree, CoreAnd, CoreOr, CoreIff, CoreChop}
+use Rattle.dcv_scope.specs.Holds.{letter_at, all_truths, some_truth, iff_truths, holds_at, core_holds}
+use Rattle.dcv_scope.specs.CoreOf.{Expansion, PropExpansion, FormulaExpansion, Sight, bind_slot, bind_arguments, truth_of_call, truth_of, argument_truths, operand_truths, core_of_macro, core_of, joined, body_expansion, expansion_of, with_expansions, declared_slots, goal_sight}
 use Rattle.dcv_scope.specs.Laws.{CoreMeansText, WordsAreModels}
 use Rattle.std.proofs.Math.Bool.{or-false}
 use Rattle.dcv_scope.proofs.Tracks.{with_track-length, with_track-letter, slot_track-truth, Further, further_itself, further_on, further_by_track, slot_further, slot_behind}
@@ -190,12 +190,13 @@ module _ (env : Environment) (sight : Sight) where
 
     arguments_read : (arguments : PlainArguments) (word : Word) → Agree word env sight → AllRead word (argument_tracks env arguments) (argument_truths sight arguments)
     arguments_read no_arguments word a = tt
-    arguments_read (argument p span arguments) word a =
-        ((λ last f i lt.
-            let here : i < env.instants = omega (arith, lt, a.instants) in
-            track-values env.instants (value env p) i here
-            ∙ prop_means p last (agree_further word last f env sight a) i (omega (arith, lt, f.level))),
-        arguments_read arguments word a)
+    arguments_read (argument p span arguments) word a = (
+      (λ last f i lt.
+          let here : i < env.instants = omega (arith, lt, a.instants) in
+          track-values env.instants (value env p) i here
+          ∙ prop_means p last (agree_further word last f env sight a) i (omega (arith, lt, f.level))),
+      arguments_read arguments word a,
+    )
 
     all_mean : (operands : PlainPropOperands) (word : Word) → Agree word env sight → (i : ℕ) → i < length word → all_true env operands i ≡ all_truths (operand_truths sight operands) (letter_at word i)
     all_mean no_prop_operands word a i lt = refl
@@ -295,21 +296,21 @@ mutual
       ∙ sym (somewhere-chop (core_holds (core_of sight d d_span) word) b e)
   formula_means (FormulaEverywhere d d_span) span env sight word a w b e le lt =
       ap not (
-          some_between-same _ _ b e (λ x lo hi. some_between-same _ _ x e (λ y up high. ap not (formula_means d d_span env sight word a w x y up (omega (arith, high, lt)))))
-          ∙ sym (somewhere-chop (λ x y. not (core_holds (core_of sight d d_span) word x y)) b e))
+      some_between-same _ _ b e (λ x lo hi. some_between-same _ _ x e (λ y up high. ap not (formula_means d d_span env sight word a w x y up (omega (arith, high, lt)))))
+      ∙ sym (somewhere-chop (λ x y. not (core_holds (core_of sight d d_span) word x y)) b e))
   formula_means (FormulaExists name d d_span) span env sight word a w b e le lt =
       let inner = core_of (bind_slot sight name.text) d d_span in
       ap (λ n. some_track n (λ track. satisfies (bind env name.text track) d b e)) a.instants
       ∙ some_track-same (length word) (λ track. satisfies (bind env name.text track) d b e) (λ track. core_holds inner (with_track word track) b e)
-        (λ track level. formula_means d d_span (bind env name.text track) (bind_slot sight name.text) (with_track word track)
-            (agree_bind word env sight name.text track a w level) (widths_bind word sight.slots track w level) b e le (omega (arith, lt, with_track-length word track level)))
+      (λ track level. formula_means d d_span (bind env name.text track) (bind_slot sight name.text) (with_track word track)
+      (agree_bind word env sight name.text track a w level) (widths_bind word sight.slots track w level) b e le (omega (arith, lt, with_track-length word track level)))
   formula_means (FormulaForAll name d d_span) span env sight word a w b e le lt =
       let inner = core_of (bind_slot sight name.text) d d_span in
       ap not (
-          ap (λ n. some_track n (λ track. not (satisfies (bind env name.text track) d b e))) a.instants
-          ∙ some_track-same (length word) (λ track. not (satisfies (bind env name.text track) d b e)) (λ track. not (core_holds inner (with_track word track) b e))
-            (λ track level. ap not (formula_means d d_span (bind env name.text track) (bind_slot sight name.text) (with_track word track)
-                (agree_bind word env sight name.text track a w level) (widths_bind word sight.slots track w level) b e le (omega (arith, lt, with_track-length word track level)))))
+      ap (λ n. some_track n (λ track. not (satisfies (bind env name.text track) d b e))) a.instants
+      ∙ some_track-same (length word) (λ track. not (satisfies (bind env name.text track) d b e)) (λ track. not (core_holds inner (with_track word track) b e))
+      (λ track level. ap not (formula_means d d_span (bind env name.text track) (bind_slot sight name.text) (with_track word track)
+      (agree_bind word env sight name.text track a w level) (widths_bind word sight.slots track w level) b e le (omega (arith, lt, with_track-length word track level)))))
 
   ands_mean : (operands : PlainFormulaOperands) (first : Span) (so_far : CoreTree) (env : Environment) (sight : Sight) (word : Word) → Agree word env sight → Widths sight.slots word
       → (b e : ℕ) → b ≤ e → e < length word → (core_holds so_far word b e && all_hold env operands b e) ≡ core_holds (joined sight CoreAnd first operands so_far) word b e
@@ -345,7 +346,7 @@ mutual
       let front = core_holds so_far word in
       let here = core_holds (core_of sight d d_span) word in
       some_between-same _ _ b e (λ l lo hi. ap (λ t. front b l && t)
-          (some_between-same _ _ l e (λ m low high. ap (λ t. t && chop_holds env operands m e) (formula_means d d_span env sight word a w l m low (omega (arith, high, lt))))))
+      (some_between-same _ _ l e (λ m low high. ap (λ t. t && chop_holds env operands m e) (formula_means d d_span env sight word a w l m low (omega (arith, high, lt))))))
       ∙ sym (chop-assoc front here (chop_holds env operands) b e)
       ∙ chops_mean operands first (CoreChop so_far (core_of sight d d_span) (covering first outer)) env sight word a w b e le lt
 
@@ -390,10 +391,10 @@ declared_agree word k w [] slot le name = tt
 declared_agree word k w (n ∷ names) slot le name =
     either word (bytes_eq n.text name) (slot_track word slot) (TruthSlot slot) (found (declared_from (slot + 1) names word) name) (found (declared_slots (slot + 1) names) name)
     (λ further f i lt.
-        let more = f.more i lt in
-        slot_track-truth word slot i lt
-        ∙ sym (slot_further (letter_at word i) more.0 slot (omega (arith, le, w i lt)))
-        ∙ ap (λ l. truth_at l slot) (sym more.1))
+    let more = f.more i lt in
+    slot_track-truth word slot i lt
+    ∙ sym (slot_further (letter_at word i) more.0 slot (omega (arith, le, w i lt)))
+    ∙ ap (λ l. truth_at l slot) (sym more.1))
     (declared_agree word k w names (slot + 1) (omega (arith, le)) name)
 
 goal_agrees : (file : PlainFile) (word : Word) → Widths (length file.variables) word → Agree word (goal_environment file word) (goal_sight file)

@@ -1,5 +1,5 @@
 -- Faults along the code's lists are those along the plain tree's operands.
-use Rattle.std.proofs.Common.{◌≡◌, ℕ, Bool, true, false, cond, List, [], ◌∷◌, ◌++◌, Option, Some, None, Vec, Global, length, map, refl, sym, ap, ◌∙◌, ◌+◌, ◌<◌, zero, suc, take, drop, arith}
+use Rattle.std.proofs.Common.{◌≡◌, ℕ, List, [], ◌∷◌, ◌++◌, Option, Some, None, Vec, Global, length, map, refl, sym, ap, ◌∙◌, ◌+◌, ◌<◌, zero, suc, take, drop, arith}
 use Rattle.std.specs.Option.{option_or}
 use Rattle.std.proofs.lemmas.List.{length-map, map-append, append-nil, append_assoc}
 use Rattle.std.specs.Prelude.{slice_index_or}
@@ -123,7 +123,7 @@ list-step role sight names i d lt =
 
 pub macro_faults : (sight : InSight) (m : PlainMacro) → first_fault (occurrences_in_macro sight m)
     ≡ option_or (option_or (fault_at (occurs m.name Defined sight)) (first_fault (occurrences_in_list Parameter (record sight { defining = m.name.text ∷ [] }) [] m.parameters)))
-      (first_fault (occurrences_in_body (record sight { defining = m.name.text ∷ []; variables = texts m.parameters ++ sight.variables }) m.body))
+    (first_fault (occurrences_in_body (record sight { defining = m.name.text ∷ []; variables = texts m.parameters ++ sight.variables }) m.body))
 macro_faults sight m =
     first_fault-append (occurs m.name Defined sight ∷ occurrences_in_list Parameter (record sight { defining = m.name.text ∷ [] }) [] m.parameters)
     (occurrences_in_body (record sight { defining = m.name.text ∷ []; variables = texts m.parameters ++ sight.variables }) m.body)
@@ -137,7 +137,7 @@ faults_from variables (m ∷ macros) earlier goal =
     let first = first_fault (occurrences_in_macro here (plain_macro m)) in
     let later = first_fault (occurrences_in_formula (top_sight variables (earlier ++ (m ∷ macros))) goal) in
     let behind : behind_macro here (plain_macro m) ≡ top_sight variables (earlier ++ m ∷ []) =
-        ap (λ ms. record here { macros = ms }) (sym (map-append (λ (x : Macro). macro_in_sight (plain_macro x)) earlier (m ∷ []))) in
+    ap (λ ms. record here { macros = ms }) (sym (map-append (λ (x : Macro). macro_in_sight (plain_macro x)) earlier (m ∷ []))) in
     first_fault-append (occurrences_in_macro here (plain_macro m)) (occurrences_from (behind_macro here (plain_macro m)) (map plain_macro macros) goal)
     ∙ ap (λ sight. option_or first (first_fault (occurrences_from sight (map plain_macro macros) goal))) behind
     ∙ ap (option_or first) (faults_from variables macros (earlier ++ m ∷ []) goal)
@@ -146,7 +146,7 @@ faults_from variables (m ∷ macros) earlier goal =
 
 pub file_faults : (file : File) → fault_of_names (plain_file file)
     ≡ option_or (option_or (first_fault (occurrences_in_list Declared nothing_in_sight [] file.variables.items)) (faults_of_macros file.variables.items [] file.macros.items))
-      (first_fault (occurrences_in_formula (top_sight file.variables.items file.macros.items) (plain_formula_kind file.goal.formula.kind)))
+    (first_fault (occurrences_in_formula (top_sight file.variables.items file.macros.items) (plain_formula_kind file.goal.formula.kind)))
 file_faults file =
     let variables = file.variables.items in
     let list = occurrences_in_list Declared nothing_in_sight [] variables in

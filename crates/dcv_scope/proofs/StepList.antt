@@ -3,12 +3,11 @@ use Rattle.std.proofs.Common.{◌≡◌, ℕ, zero, suc, ◌+◌, ◌-◌, ◌<�
 use Rattle.std.specs.List.{slice_get}
 use Rattle.std.proofs.Math.Nat.{eq-or-lt_of_le}
 use Rattle.std.proofs.lemmas.Option.{slice_get_within}
-use Rattle.dcv_word.specs.Behaviour.{Word, IsBehaviour}
 use Rattle.dcv_language.specs.Language.{Language, HaveSameBehaviours}
-use Rattle.dcv_language.specs.Operations.{intersection, union, agreement, chop, star, projection}
+use Rattle.dcv_language.specs.Operations.{intersection, union, agreement, chop}
 use Rattle.dcv_scope.specs.Core.{CoreTree, CoreAtom, CoreNot, CoreAnd, CoreOr, CoreIff, CoreChop, CoreStar, CoreExists}
 use Rattle.dcv_scope.specs.Holds.{words_of}
-use Rattle.dcv_scope.specs.Steps.{PlainOp, OpAtom, OpNot, OpAnd, OpOr, OpIff, OpChop, OpStar, OpExists, PlainStep, steps_before, own_step, steps_from, steps_of}
+use Rattle.dcv_scope.specs.Steps.{OpAtom, PlainStep, steps_before, own_step, steps_from, steps_of}
 use Rattle.dcv_scope.specs.StepWords.{TakesOne, TakesTwo, IsOperation}
 use Rattle.dcv_scope.specs.Laws.{SameNonempty, StepsAreOperations, LastStepIsCore}
 use Rattle.dcv_scope.proofs.Words.{words_of_atom, words_of_not, words_of_and, words_of_or, words_of_iff, words_of_chop, words_of_star, words_of_exists}

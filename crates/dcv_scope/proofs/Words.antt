@@ -1,23 +1,22 @@
 -- The words of each form: satisfaction on parts of a word is satisfaction on the whole of these parts.
-use Rattle.std.proofs.Common.{◌≡◌, ℕ, zero, suc, ◌+◌, ◌-◌, ◌<◌, ◌≤◌, Bool, true, false, cond, not, List, [], ◌∷◌, ◌++◌, length, take, drop, refl, sym, ap, ◌∙◌, arith, length-take, length-drop}
+use Rattle.std.proofs.Common.{◌≡◌, ℕ, zero, suc, ◌+◌, ◌-◌, ◌<◌, ◌≤◌, Bool, true, false, cond, not, List, [], ◌∷◌, length, take, drop, refl, sym, ap, ◌∙◌, arith, length-take, length-drop}
 use Rattle.std.specs.Prelude.{◌||◌, ◌&&◌, ◌==◌, nat_lt}
 use Rattle.std.specs.List.{list_all, count_by}
 use Rattle.std.proofs.lemmas.List.{get_or-take, get_or-drop}
 use Rattle.std.proofs.lemmas.List.Sums.{sum_by-cons}
 use Rattle.std.proofs.lemmas.Bool.Decides.{nat_tests}
-use Rattle.dcv_syntax.specs.declared.names.Span.{Span}
 use Rattle.dcv_word.specs.Behaviour.{Word}
-use Rattle.dcv_language.specs.Operations.{some_below, some_track, with_track, iff, chop, star_within, star, projection}
+use Rattle.dcv_language.specs.Operations.{some_below, some_track, with_track, iff, star_within}
 use Rattle.dcv_language.specs.Atoms.{all_but_last}
 use Rattle.dcv_logic.specs.Search.{some_from, some_between, each_between, count_from, count_between, some_track as some_truths}
 use Rattle.dcv_logic.specs.Value.{iff as same_truths}
 use Rattle.dcv_logic.specs.Satisfaction.{compares, star as star_of}
 use Rattle.dcv_logic.proofs.SearchSteps.{star_enough}
-use Rattle.dcv_scope.specs.Core.{PlainTruth, PlainBasic, BasicConstant, BasicPoint, BasicRun, BasicEvery, BasicUnit, BasicSlen, BasicScount, BasicSdur, CoreTree, CoreAtom, CoreNot, CoreAnd, CoreOr, CoreIff, CoreChop, CoreStar, CoreExists}
+use Rattle.dcv_scope.specs.Core.{PlainTruth, BasicConstant, BasicPoint, BasicRun, BasicEvery, BasicUnit, BasicSlen, BasicScount, BasicSdur, CoreTree}
 use Rattle.dcv_scope.specs.Holds.{letter_at, truth_holds, holds_at, core_holds, words_of}
 use Rattle.dcv_scope.specs.Laws.{WordsOfAtom, WordsOfNot, WordsOfAnd, WordsOfOr, WordsOfIff, WordsOfChop, WordsOfStar, WordsOfExists}
 use Rattle.dcv_scope.proofs.Tracks.{with_track-length}
-use Rattle.dcv_scope.proofs.Aligned.{Beside, star-beside}
+use Rattle.dcv_scope.proofs.Aligned.{star-beside}
 use Rattle.dcv_scope.proofs.Local.{SamePart, inner_part, local}
 
 -- the whole of a nonempty word
@@ -86,7 +85,7 @@ some_from-below zero i p q h = refl
 some_from-below (suc n) i p q h =
     let head : p i ≡ q 0 = ap p (omega arith) ∙ h 0 (omega arith) in
     let rest : some_from (i + 1) n p ≡ some_below n (λ m. q (suc m)) =
-        some_from-below n (i + 1) p (λ m. q (suc m)) (λ m lt. ap p (omega arith) ∙ h (suc m) (omega (arith, lt))) in
+    some_from-below n (i + 1) p (λ m. q (suc m)) (λ m lt. ap p (omega arith) ∙ h (suc m) (omega (arith, lt))) in
     λ j. head j || rest j
 
 pub words_of_chop : WordsOfChop
@@ -99,10 +98,10 @@ words_of_chop c d span (letter ∷ letters) some =
     ap (λ n. some_from 0 n holds) count
     ∙ some_from-below (length word) 0 holds (λ m. words_of c (take (suc m) word) && words_of d (drop m word))
     (λ m lt.
-        let at : 0 + m ≡ m = omega arith in
-        let one = front_words c word m lt in
-        let two = rest_words d word m lt in
-        ap holds at ∙ ap (λ e. core_holds c word 0 m && core_holds d word m e) last ∙ (λ i. one i && two i))
+    let at : 0 + m ≡ m = omega arith in
+    let one = front_words c word m lt in
+    let two = rest_words d word m lt in
+    ap holds at ∙ ap (λ e. core_holds c word 0 m && core_holds d word m e) last ∙ (λ i. one i && two i))
 
 -- ---- star
 
@@ -126,16 +125,16 @@ star_words d (suc n) (a ∷ b ∷ letters) some le =
     ∙ ap (λ k. some_from (0 + 1) k cut) count
     ∙ some_from-below (length (b ∷ letters)) (0 + 1) cut (λ m. words_of d (a ∷ take (suc m) (b ∷ letters)) && star_within n (words_of d) (drop m (b ∷ letters)))
     (λ m lt.
-        let at : 0 + 1 + m ≡ suc m = omega arith in
-        let inside : suc m < length word = omega (arith, lt) in
-        let rest = drop m (b ∷ letters) in
-        let same : SamePart word rest (suc m) e 0 (length rest - 1) = rest_same word (suc m) inside in
-        let one = front_words d word (suc m) inside in
-        let two : star_of (core_holds d word) n (suc m) e ≡ star_within n (words_of d) rest =
-            star-beside (core_holds d word) (core_holds d rest) n (suc m) e 0 (length rest - 1) same.level
-            (λ i k i' k' lo up hi beside_i beside_k. local d word rest i k i' k' (inner_part word rest (suc m) e 0 (length rest - 1) same i k i' k' lo up hi beside_i beside_k))
-            ∙ star_words d n rest (omega (arith, lt, length-drop m (b ∷ letters))) (omega (arith, le, lt, length-drop m (b ∷ letters))) in
-        ap cut at ∙ (λ i. one i && two i))
+    let at : 0 + 1 + m ≡ suc m = omega arith in
+    let inside : suc m < length word = omega (arith, lt) in
+    let rest = drop m (b ∷ letters) in
+    let same : SamePart word rest (suc m) e 0 (length rest - 1) = rest_same word (suc m) inside in
+    let one = front_words d word (suc m) inside in
+    let two : star_of (core_holds d word) n (suc m) e ≡ star_within n (words_of d) rest =
+    star-beside (core_holds d word) (core_holds d rest) n (suc m) e 0 (length rest - 1) same.level
+    (λ i k i' k' lo up hi beside_i beside_k. local d word rest i k i' k' (inner_part word rest (suc m) e 0 (length rest - 1) same i k i' k' lo up hi beside_i beside_k))
+    ∙ star_words d n rest (omega (arith, lt, length-drop m (b ∷ letters))) (omega (arith, le, lt, length-drop m (b ∷ letters))) in
+    ap cut at ∙ (λ i. one i && two i))
 
 pub words_of_star : WordsOfStar
 words_of_star d span [] some = absurd (omega (arith, some))
@@ -161,9 +160,9 @@ words_of_exists d span (letter ∷ letters) some =
     let word = letter ∷ letters in
     some_track-alike (length word) (λ track. core_holds d (with_track word track) 0 (length letters)) (λ track. words_of d (with_track word track))
     (λ track level.
-        let as_long = with_track-length word track level in
-        ap (core_holds d (with_track word track) 0) (omega (arith, as_long))
-        ∙ sym (whole d (with_track word track) (omega (arith, as_long))))
+    let as_long = with_track-length word track level in
+    ap (core_holds d (with_track word track) 0) (omega (arith, as_long))
+    ∙ sym (whole d (with_track word track) (omega (arith, as_long))))
 
 -- ---- atoms
 

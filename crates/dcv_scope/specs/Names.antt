@@ -3,11 +3,11 @@
 --     occurrences_in_file  the occurrences of a file, in text order
 --     fault_at             the fault of an occurrence, if it has one
 --     fault_of_names       the first fault of a file; a file is well-named where it has none
-use Rattle.std.specs.Prelude.{ℕ, ◌+◌, Bool, true, false, ◌||◌, not, ◌==◌, nat_le, nat_lt, List, [], ◌∷◌, ◌++◌, Option, Some, None, length, map, bytes_eq, if◌then◌else◌}
+use Rattle.std.specs.Prelude.{ℕ, ◌+◌, Bool, true, false, ◌||◌, ◌==◌, nat_le, List, [], ◌∷◌, ◌++◌, Option, Some, None, length, map, bytes_eq, if◌then◌else◌}
 use Rattle.std.specs.List.{list_any}
 use Rattle.std.specs.Option.{option_or}
 use Rattle.dcv_syntax.specs.declared.names.Name.{Name}
-use Rattle.dcv_syntax.specs.Plain.{PlainProp, PlainPropKind, PropConstant, PropCall, PropNot, PropAnd, PropOr, PropImplies, PropIff, PlainArguments, no_arguments, argument, PlainPropOperands, no_prop_operands, prop_operand, PlainFormulaKind, FormulaConstant, FormulaPt, FormulaExt, FormulaPoint, FormulaRun, FormulaEvery, FormulaUnit, FormulaSlen, FormulaScount, FormulaSdur, FormulaCall, FormulaNot, FormulaAnd, FormulaOr, FormulaImplies, FormulaIff, FormulaChop, FormulaStar, FormulaSomewhere, FormulaEverywhere, FormulaExists, FormulaForAll, PlainFormulaOperands, no_formula_operands, formula_operand, arguments_of, PlainMacroBody, FormulaBody, PropBody, PlainMacro, PlainFile}
+use Rattle.dcv_syntax.specs.Plain.{PlainPropKind, PropConstant, PropCall, PropNot, PropAnd, PropOr, PropImplies, PropIff, PlainArguments, no_arguments, argument, PlainPropOperands, no_prop_operands, prop_operand, PlainFormulaKind, FormulaConstant, FormulaPt, FormulaExt, FormulaPoint, FormulaRun, FormulaEvery, FormulaUnit, FormulaSlen, FormulaScount, FormulaSdur, FormulaCall, FormulaNot, FormulaAnd, FormulaOr, FormulaImplies, FormulaIff, FormulaChop, FormulaStar, FormulaSomewhere, FormulaEverywhere, FormulaExists, FormulaForAll, PlainFormulaOperands, no_formula_operands, formula_operand, arguments_of, PlainMacroBody, FormulaBody, PropBody, PlainMacro, PlainFile}
 use Rattle.dcv_logic.specs.Environment.{found}
 use Rattle.dcv_scope.specs.declared.faults.ScopeFault.{ScopeFault}
 use Rattle.dcv_scope.specs.declared.faults.ScopeFault.TheVariants.{TooMany, Duplicate, Taken, Unknown, Kind, Arity}

@@ -3,7 +3,7 @@
 --     TakesOne             a step whose one operand is the step before it
 --     TakesTwo             a step whose second operand is the step before it, and whose first ends where the second's steps begin
 --     IsOperation          what the words of a step are, by its operator
-use Rattle.std.specs.Prelude.{◌≡◌, ℕ, suc, ◌+◌, ◌<◌, List, Some}
+use Rattle.std.specs.Prelude.{◌≡◌, ℕ, suc, ◌+◌, List, Some}
 use Rattle.std.specs.List.{slice_get}
 use Rattle.dcv_logic.specs.Satisfaction.{compares}
 use Rattle.dcv_language.specs.Language.{Language, outside, HaveSameBehaviours}

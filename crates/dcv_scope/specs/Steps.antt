@@ -2,7 +2,7 @@
 --     PlainOp          an operator; its operands are the numbers of earlier steps
 --     PlainStep        a step: its operator, its place, the number of slots over which it is judged, and its core
 --     steps_from       the steps of a core, where some steps are before them
-use Rattle.std.specs.Prelude.{ℕ, suc, ◌+◌, ◌-◌, List, [], ◌∷◌, ◌++◌}
+use Rattle.std.specs.Prelude.{ℕ, suc, ◌+◌, List, [], ◌∷◌, ◌++◌}
 use Rattle.dcv_syntax.specs.declared.names.Span.{Span}
 use Rattle.dcv_scope.specs.Core.{PlainBasic, CoreTree, CoreAtom, CoreNot, CoreAnd, CoreOr, CoreIff, CoreChop, CoreStar, CoreExists}
 

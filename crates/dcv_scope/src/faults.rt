@@ -1,9 +1,8 @@
-// What can be wrong with a file that is a sentence.
-use std::alloc::{AllocError, AllocFailed};
+// What can be wrong with the names of a file that is a sentence.
 use thiserror::Error;
 
-/// The first fault of a file's names, else of its goal. Its place is an offset in bytes, counted from 0: that of the name, or
-/// of the goal. Of names at one offset the first in the order of the variants counts, and a fault of a name before the goal's.
+/// The first fault of a file's names. Its place is the offset of the name in bytes, counted from 0. Of faults at one offset
+/// the first in the order of the variants counts.
 #[derive(Clone, Copy, Debug, PartialEq, Eq, Error)]
 pub enum ScopeFault {
     /// The 17th declared variable, the 9th parameter of a macro, or the 257th macro.
@@ -24,15 +23,4 @@ pub enum ScopeFault {
     /// The name is used with another number of arguments than it has parameters.
     #[error("the name at offset {at} has another number of parameters")]
     Arity { at: u32 },
-    /// With its macros replaced the goal has more than 65,536 nodes.
-    #[error("the goal at offset {at} is too large")]
-    Size { at: u32 },
-    /// With its macros replaced the goal is nested more than 512 deep.
-    #[error("the goal at offset {at} is nested too deeply")]
-    Depth { at: u32 },
-    /// With its macros replaced the goal has more than 32 slots.
-    #[error("the goal at offset {at} has too many slots")]
-    Slots { at: u32 },
-    #[error("out of memory")]
-    Memory,
 }

@@ -88,7 +88,11 @@ impl<'a> Names<'a> {
     {
         let at = name.span.start;
         if self.is_variable(&name.text) {
-            return if arguments == 0 { None } else { Some(ScopeFault::Arity { at }) };
+            return if arguments == 0 {
+                None
+            } else {
+                Some(ScopeFault::Arity { at })
+            };
         }
         let Some(called) = self.called(&name.text) else {
             return Some(ScopeFault::Unknown { at });
@@ -162,8 +166,8 @@ impl<'a> Names<'a> {
     // What is in sight in a macro of that name, behind these parameters.
     fn defining(&self, name: &'a Name, parameters: &'a [Name]) -> Result<Names<'a>, AllocError>
         ensures { IfOk result (λ inner. in_sight_of inner ≡ record (in_sight_of self.now) {
-            defining = name.now.text ∷ [];
-            variables = texts parameters.now ++ (in_sight_of self.now).variables;
+          defining = name.now.text ∷ [];
+          variables = texts parameters.now ++ (in_sight_of self.now).variables;
         }) }
     {
         let mut variables = Vec::new(self.alloc);
@@ -209,9 +213,10 @@ impl<'a> Names<'a> {
             FormulaKind::Slen(_, _) => Ok(None),
             FormulaKind::Scount(prop, _, _) => Ok(self.prop(prop)),
             FormulaKind::Sdur(prop, _, _) => Ok(self.prop(prop)),
-            FormulaKind::Call(name, arguments) => Ok(self
-                .at_formula(name, arguments.len())
-                .or(self.arguments(arguments))),
+            FormulaKind::Call(name, arguments) => Ok(
+                self.at_formula(name, arguments.len())
+                    .or(self.arguments(arguments)),
+            ),
             FormulaKind::Not(body) => self.formula(body),
             FormulaKind::And(operands) => self.operands(operands),
             FormulaKind::Or(operands) => self.operands(operands),
@@ -244,7 +249,11 @@ impl<'a> Names<'a> {
 
     // A quantified name, and the formula that it stands before.
     #[cycle(names_of_formula)]
-    fn quantified(&self, name: &'a Name, body: &'a Formula) -> Result<Option<ScopeFault>, AllocError>
+    fn quantified(
+        &self,
+        name: &'a Name,
+        body: &'a Formula,
+    ) -> Result<Option<ScopeFault>, AllocError>
         ensures { IfOk result (λ fault. fault ≡ option_or (fault_at (occurs name.now Quantified (in_sight_of self.now)))
             (first_fault (occurrences_in_formula (in_sight_too (in_sight_of self.now) name.now.text) (plain_formula_kind body.now.kind)))) }
     {
@@ -392,10 +401,12 @@ fn in_macro<'a>(
     let heading = outside.defining(&defined.name, &[])?;
     let inside = outside.defining(&defined.name, &defined.parameters)?;
     let body = inside.body(&defined.body)?;
-    Ok(outside
-        .at_definition(&defined.name)
-        .or(heading.parameters(&defined.parameters))
-        .or(body))
+    Ok(
+        outside
+            .at_definition(&defined.name)
+            .or(heading.parameters(&defined.parameters))
+            .or(body),
+    )
 }
 
 // The first fault of the macros.
@@ -411,9 +422,10 @@ fn macros(alloc: Global, file: &File) -> Result<Option<ScopeFault>, AllocError>
     Ok(None)
 }
 
-/// The first fault of the file's names.
+/// The first fault of the names of the file: of its variables, its macros in order, whether they are called or not, and its
+/// goal. It does not depend on the size of what the macros stand for.
 #[tactic(auto, using(crate::proofs::NameRows::file_faults))]
-pub(crate) fn fault_of_names(alloc: Global, file: &File) -> Result<Option<ScopeFault>, AllocError>
+pub fn fault_of_names(alloc: Global, file: &File) -> Result<Option<ScopeFault>, AllocError>
     ensures { IfOk result (λ fault. fault ≡ fault_of_names (plain_file file.now)) }
 {
     let at_goal = outermost(alloc, &file.variables, &file.macros)?;

@@ -17,3 +17,4 @@ mod tokens;
 mod trees;
 #[cfg(test)]
 mod word;
+mod scope;

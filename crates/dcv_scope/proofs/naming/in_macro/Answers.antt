@@ -17,7 +17,7 @@ returns c =
     let outside : in_sight_of c.in_ok-outside.outside ≡ sight = c.in_ok-outside.ensures in
     let heading : in_sight_of c.in_ok-heading.heading ≡ within [] sight = c.in_ok-heading.ensures ∙ ap (within []) outside in
     let inside : in_sight_of c.in_ok-inside.inside ≡ within parameters sight =
-        c.in_ok-inside.ensures ∙ (λ i. within (c.deref.ensures.value i) (outside i)) in
+    c.in_ok-inside.ensures ∙ (λ i. within (c.deref.ensures.value i) (outside i)) in
     let at_name = c.at_definition.ensures ∙ ap (λ (s : InSight). fault_at (occurs name Defined s)) outside in
     let at_parameters = c.parameters.ensures ∙ (λ i. first_fault (occurrences_in_list Parameter (heading i) [] (c.deref-2.ensures.value i))) in
     let in_body = c.in_ok-body.ensures ∙ ap (λ s. first_fault (occurrences_in_body s (plain_body defined.body))) inside in

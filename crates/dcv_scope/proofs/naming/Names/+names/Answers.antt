@@ -1,4 +1,4 @@
-use Rattle.std.proofs.Common.{◌≡◌, ℕ, Option, length, ap, sym, ◌∙◌}
+use Rattle.std.proofs.Common.{ℕ, Option, length, ap, sym, ◌∙◌}
 use Rattle.std.specs.Option.{option_or}
 use Rattle.dcv_syntax.specs.Views.{plain_prop_kind}
 use Rattle.dcv_scope.specs.declared.faults.ScopeFault.{ScopeFault}
