@@ -4,6 +4,7 @@ pub mod Examples
 pub mod Local
 pub mod Means
 pub mod NameRows
+pub mod Sizes
 pub mod StepList
 pub mod Tracks
 pub mod Words

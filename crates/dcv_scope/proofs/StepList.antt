@@ -32,7 +32,7 @@ le_or_more (suc i) (suc b) = further (le_or_more i b)
     further (inl le) = inl (omega (arith, le))
     further (inr more) = inr (omega (arith, more))
 
-some_same : (x y : PlainStep) → Some x ≡ Some y → x ≡ y
+pub some_same : (x y : PlainStep) → Some x ≡ Some y → x ≡ y
 some_same x y e = ap (λ o. of o) e
   where
     of : Option PlainStep → PlainStep

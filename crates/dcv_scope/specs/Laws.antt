@@ -1,5 +1,5 @@
 -- The laws that `src/laws.rt` proves.
-use Rattle.std.specs.Prelude.{◌≡◌, ℕ, suc, ◌-◌, ◌<◌, ◌≤◌, length, Some}
+use Rattle.std.specs.Prelude.{◌≡◌, ℕ, suc, ◌-◌, ◌*◌, ◌<◌, ◌≤◌, length, Some}
 use Rattle.std.specs.List.{All, slice_get}
 use Rattle.dcv_syntax.specs.declared.names.Span.{Span}
 use Rattle.dcv_syntax.specs.Plain.{PlainFile}
@@ -12,6 +12,7 @@ use Rattle.dcv_language.specs.Language.{Language, outside}
 use Rattle.dcv_language.specs.Operations.{intersection, union, agreement, chop, star, projection}
 use Rattle.dcv_scope.specs.CoreOf.{core_of_file}
 use Rattle.dcv_scope.specs.Steps.{PlainStep, steps_of, steps_before}
+use Rattle.dcv_scope.specs.Measures.{measure_of_file, slots_of_file}
 use Rattle.dcv_scope.specs.StepWords.{basic_words, IsOperation}
 
 -- over each word of the declared variables the core holds on an interval exactly where the goal does
@@ -68,3 +69,14 @@ StepsAreOperations = (k : ℕ) (core : CoreTree) (n : ℕ) (step : PlainStep)
 abbrev pub LastStepIsCore : Type 0
 LastStepIsCore = (k : ℕ) (core : CoreTree) → (step : PlainStep) × (slice_get (steps_of k core) (steps_before core) ≡ Some step)
     × (length (steps_of k core) ≡ suc (steps_before core)) × (step.core ≡ core) × (step.slots ≡ k)
+
+-- ---- how large a core is
+
+-- the core of a file has fewer than twice as many steps as its goal has nodes
+abbrev pub StepsAreFew : Type 0
+StepsAreFew = (file : PlainFile) → length (steps_of (length file.variables) (core_of_file file)) < 2 * (measure_of_file file).size
+
+-- and each step is over no more slots than the goal has
+abbrev pub SlotsAreFew : Type 0
+SlotsAreFew = (file : PlainFile) (n : ℕ) (step : PlainStep)
+    → slice_get (steps_of (length file.variables) (core_of_file file)) n ≡ Some step → step.slots ≤ slots_of_file file

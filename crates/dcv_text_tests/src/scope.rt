@@ -1,6 +1,6 @@
 // The first fault of the names of texts.
 use dcv_reader::read_file;
-use dcv_scope::{fault_of_names, ScopeFault};
+use dcv_scope::{ScopeFault, fault_of_names};
 use std::alloc::Global;
 use std::test::Fail;
 
@@ -20,26 +20,56 @@ const WELL_NAMED: [&[u8]; 6] = [
 const FAULTS: [(&[u8], ScopeFault); 17] = [
     (b"infer [[r]];", ScopeFault::Unknown { at: 8 }),
     (b"var p,p;infer pt;", ScopeFault::Duplicate { at: 6 }),
-    (b"var p; define p as pt; infer pt;", ScopeFault::Taken { at: 14 }),
+    (
+        b"var p; define p as pt; infer pt;",
+        ScopeFault::Taken { at: 14 },
+    ),
     (b"var p; infer p;", ScopeFault::Kind { at: 13 }),
-    (b"define f(a) as [[a]]; infer f;", ScopeFault::Arity { at: 28 }),
+    (
+        b"define f(a) as [[a]]; infer f;",
+        ScopeFault::Arity { at: 28 },
+    ),
     // macros that are not called
-    (b"define f as [[r]]; infer pt;", ScopeFault::Unknown { at: 14 }),
+    (
+        b"define f as [[r]]; infer pt;",
+        ScopeFault::Unknown { at: 14 },
+    ),
     // names that are an earlier macro's, or that of the macro being defined
-    (b"define f as pt; define f as ext; infer f;", ScopeFault::Taken { at: 23 }),
-    (b"define f as pt; define g(f) as pt; infer pt;", ScopeFault::Taken { at: 25 }),
-    (b"define f as ex f. pt; infer pt;", ScopeFault::Taken { at: 15 }),
+    (
+        b"define f as pt; define f as ext; infer f;",
+        ScopeFault::Taken { at: 23 },
+    ),
+    (
+        b"define f as pt; define g(f) as pt; infer pt;",
+        ScopeFault::Taken { at: 25 },
+    ),
+    (
+        b"define f as ex f. pt; infer pt;",
+        ScopeFault::Taken { at: 15 },
+    ),
     // a macro sees neither itself nor the names of its caller, and a quantified name ends with its formula
     (b"define f as f; infer f;", ScopeFault::Unknown { at: 12 }),
-    (b"define f as [[q]]; infer ex q. f;", ScopeFault::Unknown { at: 14 }),
-    (b"infer (ex q. [[q]]) ^ [[q]];", ScopeFault::Unknown { at: 24 }),
+    (
+        b"define f as [[q]]; infer ex q. f;",
+        ScopeFault::Unknown { at: 14 },
+    ),
+    (
+        b"infer (ex q. [[q]]) ^ [[q]];",
+        ScopeFault::Unknown { at: 24 },
+    ),
     // the kind counts before the number of arguments, and the earlier name before both
     (b"prop g(a) as a; infer g;", ScopeFault::Kind { at: 22 }),
     (b"define f as pt; infer <f>;", ScopeFault::Kind { at: 23 }),
     (b"var p; infer <p(r)>;", ScopeFault::Arity { at: 14 }),
     // the 17th variable, which has the name of the first, and the 9th parameter
-    (b"var a,b,c,d,e,f,g,h,i,j,k,l,m,n,o,p,a;infer pt;", ScopeFault::TooMany { at: 36 }),
-    (b"define f(a,b,c,d,e,g,h,i,a) as pt;infer pt;", ScopeFault::TooMany { at: 25 }),
+    (
+        b"var a,b,c,d,e,f,g,h,i,j,k,l,m,n,o,p,a;infer pt;",
+        ScopeFault::TooMany { at: 36 },
+    ),
+    (
+        b"define f(a,b,c,d,e,g,h,i,a) as pt;infer pt;",
+        ScopeFault::TooMany { at: 25 },
+    ),
 ];
 
 // For the prover: the bound is what a text of `read_file` has to meet.
