@@ -5,6 +5,7 @@ pub mod Local
 pub mod Means
 pub mod NameRows
 pub mod Sizes
+pub mod Slots
 pub mod StepList
 pub mod Tracks
 pub mod Words

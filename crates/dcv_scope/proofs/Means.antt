@@ -405,7 +405,7 @@ goal_agrees file word w =
       macros = λ name. tt;
     })
 
-goal_slots : (macros : List PlainMacro) (sight : Sight) → (with_expansions sight macros).slots ≡ sight.slots
+pub goal_slots : (macros : List PlainMacro) (sight : Sight) → (with_expansions sight macros).slots ≡ sight.slots
 goal_slots [] sight = refl
 goal_slots (m ∷ macros) sight = goal_slots macros _
 

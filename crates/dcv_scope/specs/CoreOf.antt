@@ -3,6 +3,10 @@
 -- A call stands for the macro's body, a parameter for the core of its argument, and each other name for a slot: declared
 -- variables for the first, in order, and a quantified name for the one behind those in use where it stands. The defaults
 -- are those of satisfaction: a name without a meaning is false, and a list without operands is true, false or one instant.
+--     Sight, Expansion     what is in sight, and what a macro stands for
+--     truth_of             the core of a proposition
+--     core_of              the core of a formula that stands in a place
+--     core_of_file         the core of a file's goal
 use Rattle.std.specs.Prelude.{ℕ, ◌+◌, true, false, List, [], ◌∷◌, ◌++◌, Option, Some, None, map, length}
 use Rattle.std.specs.List.{zip}
 use Rattle.dcv_syntax.specs.declared.names.Name.{Name}

@@ -12,6 +12,7 @@ use Rattle.dcv_language.specs.Language.{Language, outside}
 use Rattle.dcv_language.specs.Operations.{intersection, union, agreement, chop, star, projection}
 use Rattle.dcv_scope.specs.CoreOf.{core_of_file}
 use Rattle.dcv_scope.specs.Steps.{PlainStep, steps_of, steps_before}
+use Rattle.dcv_scope.specs.Slots.{OpIsBelow}
 use Rattle.dcv_scope.specs.Measures.{measure_of_file, slots_of_file}
 use Rattle.dcv_scope.specs.StepWords.{basic_words, IsOperation}
 
@@ -80,3 +81,8 @@ StepsAreFew = (file : PlainFile) → length (steps_of (length file.variables) (c
 abbrev pub SlotsAreFew : Type 0
 SlotsAreFew = (file : PlainFile) (n : ℕ) (step : PlainStep)
     → slice_get (steps_of (length file.variables) (core_of_file file)) n ≡ Some step → step.slots ≤ slots_of_file file
+
+-- and a step's proposition names only slots over which the step is judged
+abbrev pub SlotsAreInUse : Type 0
+SlotsAreInUse = (file : PlainFile) (n : ℕ) (step : PlainStep)
+    → slice_get (steps_of (length file.variables) (core_of_file file)) n ≡ Some step → OpIsBelow step.slots step.op

@@ -1,7 +1,7 @@
 //! Laws of the core. Each function here does nothing: its contract is the law.
 ghost use Rattle.dcv_scope.specs.Laws.{CoreMeansText, WordsAreModels, CoreIsLocal};
 ghost use Rattle.dcv_scope.specs.Laws.{WordsOfAtom, WordsOfNot, WordsOfAnd, WordsOfOr, WordsOfIff, WordsOfChop, WordsOfStar, WordsOfExists};
-ghost use Rattle.dcv_scope.specs.Laws.{StepsAreOperations, LastStepIsCore, StepsAreFew, SlotsAreFew};
+ghost use Rattle.dcv_scope.specs.Laws.{StepsAreOperations, LastStepIsCore, StepsAreFew, SlotsAreFew, SlotsAreInUse};
 
 /// The core of a file means what the text means, whether or not its names are well used.
 pub fn core_means_text()
@@ -32,8 +32,10 @@ pub fn steps_are_operations()
     ensures last { LastStepIsCore }
 {}
 
-/// The measures that are taken on the text bound the core: the number of its steps, and the slots of each.
+/// The measures that are taken on the text bound the core: the number of its steps, and the slots of each. Its propositions
+/// name no other slots.
 pub fn measures_bound_core()
     ensures steps { StepsAreFew }
     ensures slots { SlotsAreFew }
+    ensures in_use { SlotsAreInUse }
 {}

@@ -2,7 +2,10 @@
 ghost use Rattle.std.specs.Prelude.{◌≡◌, ◌==◌, ◌++◌, ◌∷◌, [], IfOk, MatchOption, Some, None, length, map, if◌then◌else◌};
 ghost use Rattle.dcv_syntax.specs.Views.{plain_prop_kind, plain_formula_kind, plain_body, plain_macro, plain_file};
 ghost use Rattle.dcv_logic.specs.Environment.{found};
-ghost use Rattle.dcv_scope.specs.Names.{stands_in, taken_names, macro_in_sight, Declared, Parameter, Defined, Quantified, AtFormula, AtProposition, occurs, fault_at, in_sight_too, occurrences_in_prop, occurrences_in_formula, occurrences_in_list, occurrences_in_macro, behind_macro, occurrences_from, nothing_in_sight, texts, first_fault, fault_of_names, occurrences_in_body};
+ghost use Rattle.dcv_scope.specs.Names.{stands_in, taken_names, macro_in_sight, in_sight_too, nothing_in_sight, texts};
+ghost use Rattle.dcv_scope.specs.Names.{Declared, Parameter, Defined, Quantified, AtFormula, AtProposition, occurs, fault_at};
+ghost use Rattle.dcv_scope.specs.Names.{occurrences_in_prop, occurrences_in_formula, occurrences_in_list, occurrences_in_body};
+ghost use Rattle.dcv_scope.specs.Names.{occurrences_in_macro, first_fault, fault_of_names};
 ghost use Rattle.std.specs.Option.{option_or, is_some};
 ghost use Rattle.dcv_scope.specs.declared.faults.ScopeFault.TheVariants.{Arity};
 ghost use Rattle.dcv_scope.specs.Sights.{in_sight_of, first_of, top_sight, faults_of_macros};
@@ -43,7 +46,8 @@ impl<'a> Names<'a> {
         ensures taken { is_some result ≡ stands_in name.now (map (λ m. m.0) (in_sight_of self.now).macros) }
         ensures signature { MatchOption result
             (found (in_sight_of self.now).macros name.now ≡ None)
-            (λ called. found (in_sight_of self.now).macros name.now ≡ Some (macro_in_sight (plain_macro called.now)).1) }
+            (λ called. found (in_sight_of self.now).macros name.now
+            ≡ Some (macro_in_sight (plain_macro called.now)).1) }
     {
         for called in self.macros {
             if called.name.text.as_bytes() == name.as_bytes() {
@@ -107,7 +111,8 @@ impl<'a> Names<'a> {
     #[cycle(names)]
     #[tactic(auto, using(crate::proofs::NameRows::rows))]
     fn prop(&self, prop: &Prop) -> Option<ScopeFault>
-        ensures { result ≡ first_fault (occurrences_in_prop (in_sight_of self.now) (plain_prop_kind prop.now.kind)) }
+        ensures { result ≡ first_fault
+            (occurrences_in_prop (in_sight_of self.now) (plain_prop_kind prop.now.kind)) }
     {
         match &prop.kind {
             PropKind::Constant(_) => None,
@@ -124,7 +129,8 @@ impl<'a> Names<'a> {
 
     #[cycle(names)]
     fn arguments(&self, arguments: &[Prop]) -> Option<ScopeFault>
-        ensures { result ≡ first_of (λ (p : Prop). first_fault (occurrences_in_prop (in_sight_of self.now) (plain_prop_kind p.kind))) arguments.now }
+        ensures { result ≡ first_of (λ (p : Prop). first_fault
+            (occurrences_in_prop (in_sight_of self.now) (plain_prop_kind p.kind))) arguments.now }
     {
         for argument in arguments {
             let fault = self.prop(argument);
@@ -137,7 +143,8 @@ impl<'a> Names<'a> {
 
     #[cycle(names)]
     fn prop_operands(&self, operands: &[PropOperand]) -> Option<ScopeFault>
-        ensures { result ≡ first_of (λ (o : PropOperand). first_fault (occurrences_in_prop (in_sight_of self.now) (plain_prop_kind o.prop.kind))) operands.now }
+        ensures { result ≡ first_of (λ (o : PropOperand). first_fault
+            (occurrences_in_prop (in_sight_of self.now) (plain_prop_kind o.prop.kind))) operands.now }
     {
         for operand in operands {
             let fault = self.prop(&operand.prop);
@@ -200,7 +207,8 @@ impl<'a> Names<'a> {
     #[cycle(names_of_formula)]
     #[tactic(auto, using(crate::proofs::NameRows::formula_rows))]
     fn formula(&self, formula: &'a Formula) -> Result<Option<ScopeFault>, AllocError>
-        ensures { IfOk result (λ fault. fault ≡ first_fault (occurrences_in_formula (in_sight_of self.now) (plain_formula_kind formula.now.kind))) }
+        ensures { IfOk result (λ fault. fault ≡ first_fault
+            (occurrences_in_formula (in_sight_of self.now) (plain_formula_kind formula.now.kind))) }
     {
         match &formula.kind {
             FormulaKind::Constant(_) => Ok(None),
@@ -236,7 +244,8 @@ impl<'a> Names<'a> {
 
     #[cycle(names_of_formula)]
     fn operands(&self, operands: &'a [FormulaOperand]) -> Result<Option<ScopeFault>, AllocError>
-        ensures { IfOk result (λ fault. fault ≡ first_of (λ (o : FormulaOperand). first_fault (occurrences_in_formula (in_sight_of self.now) (plain_formula_kind o.formula.kind))) operands.now) }
+        ensures { IfOk result (λ fault. fault ≡ first_of (λ (o : FormulaOperand). first_fault
+            (occurrences_in_formula (in_sight_of self.now) (plain_formula_kind o.formula.kind))) operands.now) }
     {
         for operand in operands {
             let fault = self.formula(&operand.formula)?;
@@ -254,8 +263,10 @@ impl<'a> Names<'a> {
         name: &'a Name,
         body: &'a Formula,
     ) -> Result<Option<ScopeFault>, AllocError>
-        ensures { IfOk result (λ fault. fault ≡ option_or (fault_at (occurs name.now Quantified (in_sight_of self.now)))
-            (first_fault (occurrences_in_formula (in_sight_too (in_sight_of self.now) name.now.text) (plain_formula_kind body.now.kind)))) }
+        ensures { IfOk result (λ fault. fault ≡ option_or
+            (fault_at (occurs name.now Quantified (in_sight_of self.now)))
+            (first_fault (occurrences_in_formula
+            (in_sight_too (in_sight_of self.now) name.now.text) (plain_formula_kind body.now.kind)))) }
     {
         let inside = self.bind(name)?;
         let fault = inside.formula(body)?;
@@ -308,7 +319,8 @@ impl<'a> Names<'a> {
 
     // The first fault in what a macro stands for.
     fn body(&self, body: &'a MacroBody) -> Result<Option<ScopeFault>, AllocError>
-        ensures { IfOk result (λ fault. fault ≡ first_fault (occurrences_in_body (in_sight_of self.now) (plain_body body.now))) }
+        ensures { IfOk result (λ fault. fault ≡ first_fault
+            (occurrences_in_body (in_sight_of self.now) (plain_body body.now))) }
     {
         match body {
             MacroBody::Formula(formula) => self.formula(formula),
@@ -395,7 +407,8 @@ fn in_macro<'a>(
     earlier: &'a [Macro],
     defined: &'a Macro,
 ) -> Result<Option<ScopeFault>, AllocError>
-    ensures { IfOk result (λ fault. fault ≡ first_fault (occurrences_in_macro (top_sight variables.now earlier.now) (plain_macro defined.now))) }
+    ensures { IfOk result (λ fault. fault ≡ first_fault
+        (occurrences_in_macro (top_sight variables.now earlier.now) (plain_macro defined.now))) }
 {
     let outside = outermost(alloc, variables, earlier)?;
     let heading = outside.defining(&defined.name, &[])?;

@@ -1,0 +1,39 @@
+-- Which slots a proposition names.
+--     IsBelow k p        each slot in the proposition is one of the first k
+--     OpIsBelow k op     so is each slot in the operator's proposition, where it has one
+use Rattle.std.specs.Prelude.{ℕ, ◌<◌}
+use Rattle.dcv_scope.specs.Core.{PlainTruth, TruthConstant, TruthSlot, TruthNot, TruthAnd, TruthOr, TruthIff, PlainTruths, no_truths, truth_operand, PlainBasic, BasicConstant, BasicPoint, BasicRun, BasicEvery, BasicUnit, BasicSlen, BasicScount, BasicSdur}
+use Rattle.dcv_scope.specs.Steps.{PlainOp, OpAtom, OpNot, OpAnd, OpOr, OpIff, OpChop, OpStar, OpExists}
+
+abbrev mutual
+  pub IsBelow : ℕ → PlainTruth → Type 0
+  IsBelow k (TruthConstant truth) = Unit {0}
+  IsBelow k (TruthSlot slot) = slot < k
+  IsBelow k (TruthNot p) = IsBelow k p
+  IsBelow k (TruthAnd operands) = AreBelow k operands
+  IsBelow k (TruthOr operands) = AreBelow k operands
+  IsBelow k (TruthIff operands) = AreBelow k operands
+
+  pub AreBelow : ℕ → PlainTruths → Type 0
+  AreBelow k no_truths = Unit {0}
+  AreBelow k (truth_operand p operands) = IsBelow k p × AreBelow k operands
+
+abbrev pub BasicIsBelow : ℕ → PlainBasic → Type 0
+BasicIsBelow k (BasicConstant truth) = Unit {0}
+BasicIsBelow k (BasicPoint p) = IsBelow k p
+BasicIsBelow k (BasicRun p) = IsBelow k p
+BasicIsBelow k (BasicEvery p) = IsBelow k p
+BasicIsBelow k (BasicUnit p) = IsBelow k p
+BasicIsBelow k (BasicSlen relation n) = Unit {0}
+BasicIsBelow k (BasicScount p relation n) = IsBelow k p
+BasicIsBelow k (BasicSdur p relation n) = IsBelow k p
+
+abbrev pub OpIsBelow : ℕ → PlainOp → Type 0
+OpIsBelow k (OpAtom basic) = BasicIsBelow k basic
+OpIsBelow k (OpNot d) = Unit {0}
+OpIsBelow k (OpAnd c d) = Unit {0}
+OpIsBelow k (OpOr c d) = Unit {0}
+OpIsBelow k (OpIff c d) = Unit {0}
+OpIsBelow k (OpChop c d) = Unit {0}
+OpIsBelow k (OpStar d) = Unit {0}
+OpIsBelow k (OpExists d) = Unit {0}
