@@ -19,4 +19,3 @@ mod tokens;
 mod trees;
 #[cfg(test)]
 mod word;
-mod scope;
