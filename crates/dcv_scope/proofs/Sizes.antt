@@ -1,19 +1,19 @@
 -- The measures of the text bound the core: how many steps it has, and how deep its quantifiers are.
-use Rattle.std.proofs.Common.{◌≡◌, ℕ, zero, suc, ◌+◌, ◌-◌, ◌*◌, ◌<◌, ◌≤◌, max, Bool, true, false, cond, List, [], ◌∷◌, ◌++◌, Option, Some, None, length, map, refl, sym, ap, subst, ◌∙◌, ◌⊎◌, inl, inr, arith, length-append}
+use Rattle.std.proofs.Common.{◌≡◌, ℕ, zero, suc, ◌+◌, ◌*◌, ◌≤◌, max, Bool, true, false, cond, List, [], ◌∷◌, ◌++◌, Option, Some, None, length, map, refl, subst, arith}
 use Rattle.std.specs.Prelude.{bytes_eq}
 use Rattle.std.specs.List.{zip, slice_get}
 use Rattle.dcv_syntax.specs.declared.names.Name.{Name}
 use Rattle.dcv_syntax.specs.declared.names.Span.{Span}
 use Rattle.dcv_syntax.specs.Spans.{covering}
-use Rattle.dcv_syntax.specs.Plain.{PlainPropKind, PropConstant, PropCall, PropNot, PropAnd, PropOr, PropImplies, PropIff, PlainArguments, no_arguments, argument, PlainPropOperands, no_prop_operands, prop_operand, PlainFormulaKind, FormulaConstant, FormulaPt, FormulaExt, FormulaPoint, FormulaRun, FormulaEvery, FormulaUnit, FormulaSlen, FormulaScount, FormulaSdur, FormulaCall, FormulaNot, FormulaAnd, FormulaOr, FormulaImplies, FormulaIff, FormulaChop, FormulaStar, FormulaSomewhere, FormulaEverywhere, FormulaExists, FormulaForAll, PlainFormulaOperands, no_formula_operands, formula_operand, arguments_of, PlainMacroBody, FormulaBody, PropBody, PlainMacro, PlainFile}
+use Rattle.dcv_syntax.specs.Plain.{PlainPropKind, PropConstant, PropCall, PropNot, PropAnd, PropOr, PropImplies, PropIff, PlainArguments, no_arguments, argument, PlainFormulaKind, FormulaConstant, FormulaPt, FormulaExt, FormulaPoint, FormulaRun, FormulaEvery, FormulaUnit, FormulaSlen, FormulaScount, FormulaSdur, FormulaCall, FormulaNot, FormulaAnd, FormulaOr, FormulaImplies, FormulaIff, FormulaChop, FormulaStar, FormulaSomewhere, FormulaEverywhere, FormulaExists, FormulaForAll, PlainFormulaOperands, no_formula_operands, formula_operand, arguments_of, PlainMacroBody, FormulaBody, PropBody, PlainMacro, PlainFile}
 use Rattle.std.proofs.lemmas.Option.{slice_get_within}
 use Rattle.dcv_logic.specs.Environment.{found}
-use Rattle.dcv_scope.specs.Core.{PlainTruth, BasicConstant, PlainBasic, CoreTree, CoreAtom, CoreNot, CoreAnd, CoreOr, CoreIff, CoreChop, CoreStar, CoreExists}
-use Rattle.dcv_scope.specs.CoreOf.{Expansion, PropExpansion, FormulaExpansion, Sight, bind_slot, bind_arguments, argument_truths, core_of_macro, core_of, list_core, joined, body_expansion, expansion_of, with_expansions, declared_slots, goal_sight, core_of_file}
+use Rattle.dcv_scope.specs.Core.{PlainTruth, PlainBasic, CoreTree, CoreAtom, CoreNot, CoreAnd, CoreOr, CoreIff, CoreChop, CoreStar, CoreExists}
+use Rattle.dcv_scope.specs.CoreOf.{Expansion, PropExpansion, FormulaExpansion, Sight, bind_slot, bind_arguments, argument_truths, core_of_macro, core_of, joined, body_expansion, expansion_of, with_expansions, core_of_file}
 use Rattle.dcv_scope.specs.Steps.{PlainStep, steps_before, steps_from, steps_of}
 use Rattle.dcv_scope.specs.Laws.{StepsAreFew, SlotsAreFew}
 use Rattle.dcv_scope.proofs.StepList.{some_same, steps_from-length}
-use Rattle.dcv_scope.specs.Measures.{Measure, leaf, under, quantified, nothing, beside, Measured, measure_of_macro, measure_of_name, measure_of_prop, measures_of_arguments, measure_of_prop_operands, name_in_sight, measure_of_formula, measure_of_operands, measure_of_body, macro_measure, with_measures, measure_of_file, slots_of_file}
+use Rattle.dcv_scope.specs.Measures.{Measure, leaf, under, nothing, beside, Measured, measure_of_macro, measure_of_name, measure_of_prop, measures_of_arguments, name_in_sight, measure_of_formula, measure_of_operands, measure_of_body, macro_measure, with_measures, measure_of_file}
 
 -- how deep the quantifiers of a core are
 abbrev pub nesting : CoreTree → ℕ

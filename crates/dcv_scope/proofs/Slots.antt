@@ -1,5 +1,5 @@
 -- The propositions of a core name only slots in use.
-use Rattle.std.proofs.Common.{◌≡◌, ℕ, zero, suc, ◌+◌, ◌<◌, ◌≤◌, Bool, true, false, cond, List, [], ◌∷◌, ◌++◌, Option, Some, None, length, map, refl, sym, subst, arith}
+use Rattle.std.proofs.Common.{◌≡◌, ℕ, zero, suc, ◌+◌, ◌≤◌, Bool, true, false, cond, List, [], ◌∷◌, ◌++◌, Option, Some, None, length, map, sym, subst, arith}
 use Rattle.std.specs.Prelude.{bytes_eq}
 use Rattle.std.specs.List.{zip, slice_get}
 use Rattle.std.proofs.lemmas.Option.{slice_get_within}
@@ -8,8 +8,8 @@ use Rattle.dcv_syntax.specs.declared.names.Span.{Span}
 use Rattle.dcv_syntax.specs.Spans.{covering}
 use Rattle.dcv_syntax.specs.Plain.{PlainPropKind, PropConstant, PropCall, PropNot, PropAnd, PropOr, PropImplies, PropIff, PlainArguments, no_arguments, argument, PlainPropOperands, no_prop_operands, prop_operand, PlainFormulaKind, FormulaConstant, FormulaPt, FormulaExt, FormulaPoint, FormulaRun, FormulaEvery, FormulaUnit, FormulaSlen, FormulaScount, FormulaSdur, FormulaCall, FormulaNot, FormulaAnd, FormulaOr, FormulaImplies, FormulaIff, FormulaChop, FormulaStar, FormulaSomewhere, FormulaEverywhere, FormulaExists, FormulaForAll, PlainFormulaOperands, no_formula_operands, formula_operand, arguments_of, PlainMacroBody, FormulaBody, PropBody, PlainMacro, PlainFile}
 use Rattle.dcv_logic.specs.Environment.{found}
-use Rattle.dcv_scope.specs.Core.{PlainTruth, TruthConstant, TruthSlot, TruthNot, TruthAnd, TruthOr, TruthIff, PlainTruths, no_truths, truth_operand, PlainBasic, CoreTree, CoreAtom, CoreNot, CoreAnd, CoreOr, CoreIff, CoreChop, CoreStar, CoreExists}
-use Rattle.dcv_scope.specs.CoreOf.{Expansion, PropExpansion, FormulaExpansion, Sight, bind_slot, bind_arguments, truth_of_call, truth_of, argument_truths, operand_truths, core_of_macro, core_of, list_core, joined, body_expansion, expansion_of, with_expansions, declared_slots, goal_sight, core_of_file}
+use Rattle.dcv_scope.specs.Core.{PlainTruth, TruthConstant, TruthSlot, TruthNot, TruthAnd, TruthOr, TruthIff, PlainTruths, no_truths, truth_operand, CoreTree, CoreAtom, CoreNot, CoreAnd, CoreOr, CoreIff, CoreChop, CoreStar, CoreExists}
+use Rattle.dcv_scope.specs.CoreOf.{Expansion, PropExpansion, FormulaExpansion, Sight, bind_slot, bind_arguments, truth_of_call, truth_of, argument_truths, operand_truths, core_of_macro, core_of, joined, body_expansion, expansion_of, with_expansions, declared_slots, goal_sight, core_of_file}
 use Rattle.dcv_scope.specs.Steps.{PlainStep, steps_before, steps_from, steps_of}
 use Rattle.dcv_scope.specs.Slots.{IsBelow, AreBelow, BasicIsBelow, OpIsBelow}
 use Rattle.dcv_scope.specs.Laws.{SlotsAreInUse}
@@ -205,7 +205,7 @@ file_below : (file : PlainFile) → CoreBelow (length file.variables) (core_of_f
 file_below file =
     let slots : (goal_sight file).slots ≡ length file.variables = goal_slots file.macros _ in
     let s : SightBelow (length file.variables) (goal_sight file) =
-        macros_below (length file.variables) file.macros _ (record { names = declared_below (length file.variables) file.variables 0 (omega arith); macros = λ name. tt }) in
+    macros_below (length file.variables) file.macros _ (record { names = declared_below (length file.variables) file.variables 0 (omega arith); macros = λ name. tt }) in
     subst (λ k. CoreBelow k (core_of_file file)) slots
     (core_below file.goal.formula.kind file.goal.formula.span (goal_sight file) (subst (λ k. SightBelow k (goal_sight file)) (sym slots) s))
 
