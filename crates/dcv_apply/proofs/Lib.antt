@@ -1,5 +1,9 @@
 mod FaultFacts
+mod Hits
+mod MemoFacts
 mod NewNumbers
+mod PlaceFacts
+mod Remembering
 mod Sides
 mod Whole
 pub mod FirstLetters

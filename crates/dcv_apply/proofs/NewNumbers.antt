@@ -1,15 +1,145 @@
--- The merge of one number into its new one, which stays the same however the merge goes on.
-use Rattle.std.proofs.Common.{◌≡◌, ℕ, ◌<◌, Bool, List, [], ◌∷◌, length, Some, sym, ◌∙◌}
+-- What renumbering the two sides of a node tells of the node, and what places became while the arena grows.
+use Rattle.std.proofs.Common.{◌≡◌, ℕ, ◌<◌, ◌≤◌, Bool, true, false, cond, List, [], ◌∷◌, ◌++◌, length, set, get_or, Some, slice_get, Contains, ◌⊎◌, inl, inr, refl, sym, ap, subst, ◌∙◌, arith}
+use Rattle.std.proofs.lemmas.Bool.{cases_order}
+use Rattle.std.proofs.lemmas.List.{get_or_past, length-append, length-set}
 use Rattle.std.proofs.lemmas.Option.{slice_get-get_or, same_Some}
-use Rattle.dcv_arena.specs.Arena.{ArenaValue, value_of}
+use Rattle.dcv_arena.specs.Arena.{ArenaValue, IsArena, IsRef, level_of, value_of, KeepsRefs, AddsOnlyNodesOfFunction, count_with}
 use Rattle.dcv_arena.specs.declared.nodes.Ref.{Ref}
-use Rattle.dcv_apply.specs.Merged.{AgreesWithMerged}
-use Rattle.dcv_apply.specs.Renumbered.{new_number, renumbered}
+use Rattle.dcv_arena.specs.declared.nodes.Ref.TheVariants.{Leaf, Place}
+use Rattle.dcv_apply.specs.Merged.{AgreesBehind}
+use Rattle.dcv_apply.specs.Operands.{DependsFrom, IsOperandFrom}
+use Rattle.dcv_apply.specs.Renumbered.{renumbered, GivesNew, alone, IsNewRef, HoldsPlaces}
+use Rattle.dcv_apply.specs.Sources.{FixesSlot}
+use Rattle.dcv_apply.proofs.OperandFacts.{part_number}
+use Rattle.dcv_apply.proofs.Sides.{side_adds, side_full}
 
--- a merge that knows the new numbers, and maybe others later, gives these at each letter
-pub knows_new : (new later : List ℕ) (from : ArenaValue) (root : Ref) (slots : ℕ) → ((letter : List Bool) → length letter ≡ slots → value_of from root letter < length new)
-    → ((numbers : List ℕ) (number : ℕ) → new_number new numbers ≡ Some number → new_number later numbers ≡ Some number)
-    → AgreesWithMerged (λ numbers number. new_number later numbers ≡ Some number) (λ letter. value_of from root letter ∷ []) slots (renumbered new from root)
-knows_new new later from root slots covers known letter number size given =
-    let old = value_of from root letter in
-    same_Some (renumbered new from root letter) number (sym (known (old ∷ []) (renumbered new from root letter) (slice_get-get_or new old 0 (covers letter size))) ∙ given)
+pub one_new : (new numbers : List ℕ) (first second : ℕ) → GivesNew new numbers first → GivesNew new numbers second → first ≡ second
+one_new new numbers first second one other = same_Some first second (sym one ∙ other)
+
+-- the list gives what the renumbered function has
+pub given_new : (new : List ℕ) (from : ArenaValue) (root : Ref) (letter : List Bool) (number : ℕ) → value_of from root letter < length new
+    → GivesNew new (alone from root letter) number → number ≡ renumbered new from root letter
+given_new new from root letter number covered given =
+    same_Some number (renumbered new from root letter) (sym given ∙ slice_get-get_or new (value_of from root letter) 0 covered)
+
+pub agrees_new : (new : List ℕ) (from : ArenaValue) (root : Ref) (slots : ℕ) → ((letter : List Bool) → length letter ≡ slots → value_of from root letter < length new)
+    → AgreesBehind (GivesNew new) (alone from root) slots [] (renumbered new from root)
+agrees_new new from root slots covers values number size given = sym (given_new new from root values number (covers values (omega arith)) given)
+
+-- ---- refs with new numbers
+
+pub new_leaf : (new : List ℕ) (from arena : ArenaValue) (root : Ref) (number result : ℕ) → root ≡ Leaf number → slice_get new number ≡ Some result → IsNewRef new from arena root (Leaf result)
+new_leaf new from arena root number result leaf given = record {
+  is_ref = tt;
+  level = λ slot before within. within;
+  value = λ letter size. ap (λ root. slice_get new (value_of from root letter)) leaf ∙ given;
+}
+
+pub new_grown : (new : List ℕ) (from old now : ArenaValue) (root result : Ref) → KeepsRefs old now → IsNewRef new from old root result → IsNewRef new from now root result
+new_grown new from old now root result kept is = record {
+  is_ref = kept.refs result is.is_ref;
+  level = λ slot before within. let was = is.level slot before (omega (arith, kept.slots)) in omega (arith, kept.levels result is.is_ref);
+  value = λ letter size. subst (GivesNew new (alone from root letter)) (sym (kept.values result letter is.is_ref)) (is.value letter (size ∙ kept.slots));
+}
+
+pub places_grown : (new : List ℕ) (from old now : ArenaValue) (became : List (ℕ × Ref)) → KeepsRefs old now → HoldsPlaces new from old became → HoldsPlaces new from now became
+places_grown new from old now became kept holds place result there = new_grown new from old now (Place place) result kept (holds place result there)
+
+pub places_more : (new : List ℕ) (from arena : ArenaValue) (old now : List (ℕ × Ref)) (root : Ref) (place : ℕ) (result : Ref)
+    → ((one : ℕ × Ref) → Contains now one → Contains old one ⊎ (one ≡ (place, result)))
+    → root ≡ Place place → IsNewRef new from arena root result → HoldsPlaces new from arena old → HoldsPlaces new from arena now
+places_more new from arena old now root place result adds node is holds other ref there = elim (adds (other, ref) there) [
+  | inl before ↦ holds other ref before
+  | inr e ↦ subst (λ (one : ℕ × Ref). IsNewRef new from arena (Place one.0) one.1) (sym e) (subst (λ root. IsNewRef new from arena root result) node is)
+]
+
+-- ---- the sides of a node
+
+module _ {from : ArenaValue} (is : IsArena from) {root : Ref} {place slot : ℕ} (node : root ≡ Place place) (ref : IsRef from root) (at : slot ≡ level_of from (Place place)) (lo hi : Ref)
+    (at_place : (letter : List Bool) → value_of from (Place place) letter ≡ cond (get_or letter slot false) (value_of from hi letter) (value_of from lo letter)) where
+  values : (letter : List Bool) → value_of from root letter ≡ cond (get_or letter slot false) (value_of from hi letter) (value_of from lo letter)
+  values letter = ap (λ root. value_of from root letter) node ∙ at_place letter
+
+  level : slot ≡ level_of from root
+  level = at ∙ ap (level_of from) (sym node)
+
+  own : IsOperandFrom from from slot (0, root)
+  own = record {
+    is_operand = ref;
+    depends = let here : slot ≤ level_of from (Place place) = omega arith in subst (DependsFrom from slot) (sym node) here;
+  }
+
+  side : (part : Ref) (value : Bool) → IsRef from part → slot < level_of from part → cond value hi lo ≡ part → FixesSlot (alone from root) (alone from part) slot value
+  side part value part_ref later is_part = record {
+    at = λ letter inside. ap (λ number. number ∷ []) (part_number is own refl node part part_ref (λ _. later) lo hi value is_part values letter inside);
+  }
+
+  module _ (lo_ref : IsRef from lo) (lo_later : slot < level_of from lo) where
+    pub low : FixesSlot (alone from root) (alone from lo) slot false
+    low = side lo false lo_ref lo_later refl
+
+    -- at letters without the slot it is false
+    past : (letter : List Bool) → length letter ≤ slot → value_of from root letter ≡ value_of from lo letter
+    past letter short = values letter ∙ (λ i. cond (get_or_past letter slot false short i) (value_of from hi letter) (value_of from lo letter))
+
+    inside_covered : (bound slots : ℕ) (letter : List Bool) → ((letter : List Bool) → length letter ≡ slots → value_of from root letter < bound) → length letter ≡ slots → slot < length letter → value_of from lo letter < bound
+    inside_covered bound slots letter covers size inside =
+        let same : value_of from lo letter ≡ value_of from root (set letter slot false) = part_number is own refl node lo lo_ref (λ _. lo_later) lo hi false refl values letter inside in
+        subst (λ number. number < bound) (sym same) (covers (set letter slot false) (length-set letter slot false ∙ size))
+
+    outside_covered : (bound slots : ℕ) (letter : List Bool) → ((letter : List Bool) → length letter ≡ slots → value_of from root letter < bound) → length letter ≡ slots → length letter ≤ slot → value_of from lo letter < bound
+    outside_covered bound slots letter covers size short = subst (λ number. number < bound) (past letter short) (covers letter size)
+
+    pub lo_covered : (bound slots : ℕ) → ((letter : List Bool) → length letter ≡ slots → value_of from root letter < bound) → (letter : List Bool) → length letter ≡ slots → value_of from lo letter < bound
+    lo_covered bound slots covers letter size = elim (cases_order slot (length letter)) [
+      | inl equal ↦ outside_covered bound slots letter covers size (omega arith)
+      | inr (inl inside) ↦ inside_covered bound slots letter covers size inside
+      | inr (inr short) ↦ outside_covered bound slots letter covers size (omega arith)
+    ]
+
+    -- where no letter has the slot, the low side is the function
+    pub lo_is_new : (new : List ℕ) (arena : ArenaValue) (result : Ref) → arena.slots ≤ slot → IsNewRef new from arena lo result → IsNewRef new from arena root result
+    lo_is_new new arena result outside is_new = record {
+      is_ref = is_new.is_ref;
+      level = λ early before within. is_new.level early (omega (arith, level)) within;
+      value = λ letter size. ap (λ number. slice_get new number) (past letter (omega arith)) ∙ is_new.value letter size;
+    }
+
+    agrees_past : (gives : List ℕ → ℕ → Type 0) (slots : ℕ) (front : List Bool) (function : List Bool → ℕ) → slots ≤ slot
+        → AgreesBehind gives (alone from root) slots front function → AgreesBehind gives (alone from lo) slots front function
+    agrees_past gives slots front function outside agrees rest number size given =
+        agrees rest number size (subst (λ number'. gives (number' ∷ []) number) (sym (past (front ++ rest) (omega (arith, length-append front rest)))) given)
+
+    -- what was added for the low side is of the function, whether letters have the slot or not
+    pub lo_adds : (gives : List ℕ → ℕ → Type 0) (old now : ArenaValue)
+        → ((front : List Bool) (function : List Bool → ℕ) → length front ≤ level_of from lo → length front ≤ old.slots → AgreesBehind gives (alone from lo) old.slots front function → AddsOnlyNodesOfFunction old now function)
+        → (front : List Bool) (function : List Bool → ℕ) → length front ≤ slot → length front ≤ old.slots → AgreesBehind gives (alone from root) old.slots front function → AddsOnlyNodesOfFunction old now function
+    lo_adds gives old now stray front function below within agrees =
+        let outside : old.slots ≤ slot → AddsOnlyNodesOfFunction old now function = λ short. stray front function (omega arith) within (agrees_past gives old.slots front function short agrees) in
+        elim (cases_order slot old.slots) [
+          | inl equal ↦ outside (omega arith)
+          | inr (inl inside) ↦ side_adds low gives gives old now front function inside below (λ _ _ given. given)
+              (λ longer other h behind. stray longer other (omega arith) (omega arith) behind) agrees
+          | inr (inr short) ↦ outside (omega arith)
+        ]
+
+    pub lo_full : (gives : List ℕ → ℕ → Type 0) (limit : ℕ) (old : ArenaValue)
+        → ((front : List Bool) (function : List Bool → ℕ) → length front ≤ level_of from lo → length front ≤ old.slots → AgreesBehind gives (alone from lo) old.slots front function → limit < count_with old function)
+        → (front : List Bool) (function : List Bool → ℕ) → length front ≤ slot → length front ≤ old.slots → AgreesBehind gives (alone from root) old.slots front function → limit < count_with old function
+    lo_full gives limit old full front function below within agrees =
+        let outside : old.slots ≤ slot → limit < count_with old function = λ short. full front function (omega arith) within (agrees_past gives old.slots front function short agrees) in
+        elim (cases_order slot old.slots) [
+          | inl equal ↦ outside (omega arith)
+          | inr (inl inside) ↦ side_full low gives gives limit old front function inside below (λ _ _ given. given)
+              (λ longer other h behind. full longer other (omega arith) (omega arith) behind) agrees
+          | inr (inr short) ↦ outside (omega arith)
+        ]
+
+  module _ (hi_ref : IsRef from hi) (hi_later : slot < level_of from hi) where
+    pub high : FixesSlot (alone from root) (alone from hi) slot true
+    high = side hi true hi_ref hi_later refl
+
+    pub hi_covered : (bound slots : ℕ) → slot < slots → ((letter : List Bool) → length letter ≡ slots → value_of from root letter < bound) → (letter : List Bool) → length letter ≡ slots → value_of from hi letter < bound
+    hi_covered bound slots inner covers letter size =
+        let same : value_of from hi letter ≡ value_of from root (set letter slot true) = part_number is own refl node hi hi_ref (λ _. hi_later) lo hi true refl values letter (omega arith) in
+        subst (λ number. number < bound) (sym same) (covers (set letter slot true) (length-set letter slot true ∙ size))

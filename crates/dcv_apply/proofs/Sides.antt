@@ -8,32 +8,28 @@ use Rattle.dcv_arena.specs.declared.nodes.Ref.{Ref}
 use Rattle.dcv_arena.proofs.Behind.{behind_fronts}
 use Rattle.dcv_arena.proofs.Together.{new_is_one_more, added_are_counted}
 use Rattle.dcv_apply.specs.Operands.{numbers_at, merged_at}
-use Rattle.dcv_apply.specs.Sources.{numbers_in, merged_by}
+use Rattle.dcv_apply.specs.Sources.{FixesSlot, numbers_in, merged_by}
 use Rattle.dcv_apply.specs.Merged.{MeansMerged, AgreesBehind}
-use Rattle.dcv_apply.specs.declared.merging.Merging.{Merging}
-use Rattle.dcv_apply.specs.declared.operands.Ending.{Ending}
-use Rattle.dcv_apply.specs.declared.operands.Ending.TheVariants.{Plain, BothLast}
-
--- the one function has at each letter what the other has where the slot has this value
-pub record FixesSlot (whole part : List Bool → List ℕ) (slot : ℕ) (value : Bool) : Type 0 where
-  pub at : (letter : List Bool) → slot < length letter → part letter ≡ whole (set letter slot value)
+use Rattle.dcv_apply.specs.declared.merging.Operation.{Operation}
+use Rattle.dcv_apply.specs.declared.operands.LastSlot.{LastSlot}
+use Rattle.dcv_apply.specs.declared.operands.LastSlot.TheVariants.{Kept, Merged}
 
 -- operands with the slot fixed are merged so
-merged_with : (ending : Ending) (first second : ArenaValue) (operands parts : List (ℕ × Ref)) (slot : ℕ) (value : Bool)
+merged_with : (last_slot : LastSlot) (first second : ArenaValue) (operands parts : List (ℕ × Ref)) (slot : ℕ) (value : Bool)
     → ((letter : List Bool) → slot < length letter → numbers_at first second parts letter ≡ numbers_at first second operands (set letter slot value))
-    → (letter : List Bool) → slot < length letter → merged_at ending first second parts letter ≡ merged_at ending first second operands (set letter slot value)
-merged_with Plain first second operands parts slot value numbers letter inside = numbers letter inside
-merged_with BothLast first second operands parts slot value numbers letter inside =
+    → (letter : List Bool) → slot < length letter → merged_at last_slot first second parts letter ≡ merged_at last_slot first second operands (set letter slot value)
+merged_with Kept first second operands parts slot value numbers letter inside = numbers letter inside
+merged_with Merged first second operands parts slot value numbers letter inside =
     let at : (last : Bool) → numbers_at first second parts (letter ++ last ∷ []) ≡ numbers_at first second operands (set letter slot value ++ last ∷ []) = λ last.
     numbers (letter ++ last ∷ []) (omega (arith, length-append letter (last ∷ []))) ∙ ap (numbers_at first second operands) (set-append_left letter (last ∷ []) slot value inside) in
     λ i. at false i ++ at true i
 
-pub merged_side : (merging : Merging) (operands parts items : List (ℕ × Ref)) (slot : ℕ) (value : Bool) → parts ≡ items
-    → ((letter : List Bool) → slot < length letter → numbers_in merging.sources items letter ≡ numbers_in merging.sources operands (set letter slot value))
-    → FixesSlot (merged_by merging operands) (merged_by merging parts) slot value
-merged_side merging operands parts items slot value same numbers = record {
-  at = merged_with merging.ending merging.sources.first.now merging.sources.second.now operands parts slot value
-      (λ letter inside. ap (λ list. numbers_in merging.sources list letter) same ∙ numbers letter inside);
+pub merged_side : (operation : Operation) (operands given parts : List (ℕ × Ref)) (slot : ℕ) (value : Bool) → given ≡ operands
+    → ((letter : List Bool) → slot < length letter → numbers_in operation.sources parts letter ≡ numbers_in operation.sources given (set letter slot value))
+    → FixesSlot (merged_by operation operands) (merged_by operation parts) slot value
+merged_side operation operands given parts slot value same numbers = record {
+  at = merged_with operation.last_slot operation.sources.first.now operation.sources.second.now operands parts slot value
+      (λ letter inside. numbers letter inside ∙ ap (λ list. numbers_in operation.sources list (set letter slot value)) same);
 }
 
 -- a front that goes on with false up to the slot, and has this value there

@@ -1,8 +1,13 @@
 -- What is merged at all letters, of which none need begin alike.
-use Rattle.std.proofs.Common.{◌≡◌, ℕ, Bool, List, [], sym, ◌∙◌, arith}
-use Rattle.dcv_arena.specs.Arena.{ArenaValue, value_of, table_of, AddsOnlyNodesOf, AddsOnlyNodesOfFunction}
+use Rattle.std.proofs.Common.{◌≡◌, ℕ, ◌<◌, ◌≤◌, Bool, List, [], length, Result, Err, IfOk, sym, ◌∙◌, arith}
+use Rattle.std.proofs.lemmas.Result.{IfOk-weaker}
+use Rattle.dcv_arena.specs.Arena.{ArenaValue, IsArena, IsRef, value_of, table_of, KeepsRefs, AddsOnlyNodesOf, AddsOnlyNodesOfFunction, count_with}
 use Rattle.dcv_arena.specs.declared.nodes.Ref.{Ref}
-use Rattle.dcv_apply.specs.Merged.{MeansMerged, AgreesWithMerged, AgreesBehind}
+use Rattle.dcv_arena.proofs.Growth.{keeps_all}
+use Rattle.dcv_apply.specs.declared.faults.ApplyFault.{ApplyFault}
+use Rattle.dcv_apply.specs.declared.faults.ApplyFault.TheVariants.{Full, States, Memory}
+use Rattle.dcv_apply.specs.Merged.{MeansMerged, AgreesWithMerged, AgreesBehind, IsApplied}
+use Rattle.dcv_apply.proofs.Sides.{adds_nothing}
 
 module _ (gives : List ℕ → ℕ → Type 0) (numbers : List Bool → List ℕ) where
   pub from_start : (slots : ℕ) (function : List Bool → ℕ) → AgreesWithMerged gives numbers slots function → AgreesBehind gives numbers slots [] function
@@ -15,3 +20,39 @@ module _ (gives : List ℕ → ℕ → Type 0) (numbers : List Bool → List ℕ
   unfolding table_of
   adds_root old new root one same stray merged =
       stray (value_of new root) (λ letter number size given. one (numbers letter) (value_of new root letter) number (merged letter (size ∙ sym same)) given)
+
+  -- what is known behind every front is known of the whole
+  pub applied : (old new : ArenaValue) (too_many : ℕ → Type 0) (result : Result Ref ApplyFault)
+      → ((list : List ℕ) (first second : ℕ) → gives list first → gives list second → first ≡ second)
+      → IfOk result (IsRef new) → IfOk result (MeansMerged gives numbers new)
+      → ((front : List Bool) (function : List Bool → ℕ) → length front ≤ 0 → AgreesBehind gives numbers old.slots front function → AddsOnlyNodesOfFunction old new function)
+      → ((limit : ℕ) → result ≡ Err (Full limit) → limit ≡ old.limit)
+      → ((limit : ℕ) (front : List Bool) (function : List Bool → ℕ) → result ≡ Err (Full limit) → length front ≤ 0 → AgreesBehind gives numbers old.slots front function → limit < count_with old function)
+      → ((limit : ℕ) → result ≡ Err (States limit) → too_many limit)
+      → KeepsRefs old new → IsArena new
+      → IsApplied gives too_many numbers old new result
+  applied old new too_many result one is_ref value stray limit full states kept is = record {
+    is_ref = is_ref;
+    value = value;
+    adds = IfOk-weaker result _ _ (λ root merged. adds_root old new root one kept.slots (λ function agrees. stray [] function (omega arith) (from_start old.slots function agrees)) merged) value;
+    stray = λ function agrees. stray [] function (omega arith) (from_start old.slots function agrees);
+    limit = limit;
+    full = λ limit function e agrees. full limit [] function e (omega arith) (from_start old.slots function agrees);
+    states = states;
+    kept = kept;
+    arena = is;
+  }
+
+  -- where memory ran out before anything was done
+  pub applied_nothing : (arena : ArenaValue) (too_many : ℕ → Type 0) → IsArena arena → IsApplied gives too_many numbers arena arena (Err Memory)
+  applied_nothing arena too_many is = record {
+    is_ref = tt;
+    value = tt;
+    adds = tt;
+    stray = λ function agrees. adds_nothing arena function;
+    limit = λ limit e. cc;
+    full = λ limit function e agrees. cc;
+    states = λ limit e. cc;
+    kept = keeps_all arena;
+    arena = is;
+  }

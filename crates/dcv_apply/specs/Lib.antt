@@ -1,10 +1,13 @@
--- what public clauses cite: operands and their numbers, what they are merged into, new numbers, and first letters
+-- what public clauses cite: operands and their numbers, what they are merged into, a memo, new numbers, and first letters with what
+-- a search for them has found
 pub mod Operands
 pub mod Merged
+pub mod Memo
 pub mod Renumbered
 pub mod FirstLetters
+pub mod Walk
 -- for the `From`s of the faults alone
 pub mod Faults
--- for proofs alone: the same words of the structs that hold the parts, and what a walk has found
+-- for proofs alone: the same words of the structs that hold the parts, and a memo's cache
 pub mod Sources
-pub mod Walk
+pub mod Remembered

@@ -2,9 +2,12 @@
 --     MeansMerged gives numbers arena root       the ref has the number that the merge gives, at each letter
 --     AgreesWithMerged gives numbers slots function    the function has that number, at each letter where the merge gives one
 --     AgreesBehind gives numbers slots front function    the same at the letters that begin with a front
-use Rattle.std.specs.Prelude.{◌≡◌, ℕ, ◌+◌, Bool, List, ◌++◌, length}
-use Rattle.dcv_arena.specs.Arena.{ArenaValue, value_of}
+--     IsApplied gives too_many numbers old new result    what merging answers, and what becomes of the arena
+use Rattle.std.specs.Prelude.{◌≡◌, ℕ, ◌+◌, ◌<◌, Bool, List, ◌++◌, length, Result, Err, IfOk}
+use Rattle.dcv_arena.specs.Arena.{ArenaValue, IsArena, IsRef, value_of, KeepsRefs, AddsOnlyNodesOf, AddsOnlyNodesOfFunction, count_with}
 use Rattle.dcv_arena.specs.declared.nodes.Ref.{Ref}
+use Rattle.dcv_apply.specs.declared.faults.ApplyFault.{ApplyFault}
+use Rattle.dcv_apply.specs.declared.faults.ApplyFault.TheVariants.{Full, States}
 
 abbrev pub MeansMerged : (List ℕ → ℕ → Type 0) → (List Bool → List ℕ) → ArenaValue → Ref → Type 0
 MeansMerged gives numbers arena root = (letter : List Bool) → length letter ≡ arena.slots → gives (numbers letter) (value_of arena root letter)
@@ -15,3 +18,17 @@ AgreesWithMerged gives numbers slots function = (letter : List Bool) (number : �
 abbrev pub AgreesBehind : (List ℕ → ℕ → Type 0) → (List Bool → List ℕ) → ℕ → List Bool → (List Bool → ℕ) → Type 0
 AgreesBehind gives numbers slots front function = (values : List Bool) (number : ℕ) → length front + length values ≡ slots
     → gives (numbers (front ++ values)) number → function (front ++ values) ≡ number
+
+-- The result is the pointwise merge, and has brought no other node. After a refusal too, what was added are nodes of each function that
+-- the result might have been: each such function has more nodes that are new than there is room, or the merge has too many numbers. The
+-- refs that there were mean what they meant.
+pub record IsApplied (gives : List ℕ → ℕ → Type 0) (too_many : ℕ → Type 0) (numbers : List Bool → List ℕ) (old new : ArenaValue) (result : Result Ref ApplyFault) : Type 0 where
+  pub is_ref : IfOk result (IsRef new)
+  pub value : IfOk result (MeansMerged gives numbers new)
+  pub adds : IfOk result (AddsOnlyNodesOf old new)
+  pub stray : (function : List Bool → ℕ) → AgreesWithMerged gives numbers old.slots function → AddsOnlyNodesOfFunction old new function
+  pub limit : (limit : ℕ) → result ≡ Err (Full limit) → limit ≡ old.limit
+  pub full : (limit : ℕ) (function : List Bool → ℕ) → result ≡ Err (Full limit) → AgreesWithMerged gives numbers old.slots function → limit < count_with old function
+  pub states : (limit : ℕ) → result ≡ Err (States limit) → too_many limit
+  pub kept : KeepsRefs old new
+  pub arena : IsArena new

@@ -3,14 +3,14 @@
 --     IsOperand first second operand         the ref is one of its arena's
 --     numbers_at first second operands letter    the operands' numbers at a letter, in order; a slot that the letter does not have is false
 --     numbers_at_both first second operands letter    their numbers where the slot after the letter is false, and then those where it is true
---     merged_at ending first second operands letter   the numbers that are merged there
+--     merged_at last_slot first second operands letter   the numbers that are merged there
 --     DependsFrom arena slot ref             the ref's function depends on no slot before this one
 use Rattle.std.specs.Prelude.{ℕ, ◌==◌, ◌≤◌, Bool, false, true, if◌then◌else◌, List, [], ◌∷◌, ◌++◌, map}
 use Rattle.dcv_arena.specs.Arena.{ArenaValue, IsRef, level_of, value_of}
 use Rattle.dcv_arena.specs.declared.nodes.Ref.{Ref}
 use Rattle.dcv_arena.specs.declared.nodes.Ref.TheVariants.{Leaf, Place}
-use Rattle.dcv_apply.specs.declared.operands.Ending.{Ending}
-use Rattle.dcv_apply.specs.declared.operands.Ending.TheVariants.{Plain, BothLast}
+use Rattle.dcv_apply.specs.declared.operands.LastSlot.{LastSlot}
+use Rattle.dcv_apply.specs.declared.operands.LastSlot.TheVariants.{Kept, Merged}
 
 abbrev pub arena_at : ArenaValue → ArenaValue → ℕ → ArenaValue
 arena_at first second place = if place == 0 then first else second
@@ -33,9 +33,9 @@ DependsFrom arena slot (Leaf number) = Unit {0}
 DependsFrom arena slot (Place place) = slot ≤ level_of arena (Place place)
 
 -- the numbers that are merged at a letter
-abbrev pub merged_at : Ending → ArenaValue → ArenaValue → List (ℕ × Ref) → List Bool → List ℕ
-merged_at Plain first second operands letter = numbers_at first second operands letter
-merged_at BothLast first second operands letter = numbers_at_both first second operands letter
+abbrev pub merged_at : LastSlot → ArenaValue → ArenaValue → List (ℕ × Ref) → List Bool → List ℕ
+merged_at Kept first second operands letter = numbers_at first second operands letter
+merged_at Merged first second operands letter = numbers_at_both first second operands letter
 
 -- an operand that depends on no slot before this one
 pub record IsOperandFrom (first second : ArenaValue) (slot : ℕ) (operand : ℕ × Ref) : Type 0 where

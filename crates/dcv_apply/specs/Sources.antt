@@ -1,13 +1,19 @@
 -- The same words of the arenas that an operation holds.
+--     HasArenas sources                     what is true of every arena is true of both
 --     IsIn sources operand                  the ref is one of its arena's
 --     IsFrom sources slot operand           and depends on no slot before this one
 --     numbers_in sources operands letter    the operands' numbers at a letter
---     merged_by merging operands letter     the numbers that are merged there
-use Rattle.std.specs.Prelude.{ℕ, Bool, List}
+--     merged_by operation operands letter     the numbers that are merged there
+use Rattle.std.specs.Prelude.{◌≡◌, ℕ, ◌<◌, Bool, List, length, slice_set}
+use Rattle.dcv_arena.specs.Arena.{IsArena}
 use Rattle.dcv_arena.specs.declared.nodes.Ref.{Ref}
 use Rattle.dcv_apply.specs.Operands.{IsOperand, IsOperandFrom, number_at, numbers_at, merged_at}
 use Rattle.dcv_apply.specs.declared.operands.Sources.{Sources}
-use Rattle.dcv_apply.specs.declared.merging.Merging.{Merging}
+use Rattle.dcv_apply.specs.declared.merging.Operation.{Operation}
+
+pub record HasArenas (sources : Sources) : Type 0 where
+  pub first : IsArena sources.first.now
+  pub second : IsArena sources.second.now
 
 abbrev pub IsIn : Sources → ℕ × Ref → Type 0
 IsIn sources operand = IsOperand sources.first.now sources.second.now operand
@@ -21,5 +27,8 @@ number_in sources letter operand = number_at sources.first.now sources.second.no
 abbrev pub numbers_in : Sources → List (ℕ × Ref) → List Bool → List ℕ
 numbers_in sources operands letter = numbers_at sources.first.now sources.second.now operands letter
 
-abbrev pub merged_by : Merging → List (ℕ × Ref) → List Bool → List ℕ
-merged_by merging operands letter = merged_at merging.ending merging.sources.first.now merging.sources.second.now operands letter
+abbrev pub merged_by : Operation → List (ℕ × Ref) → List Bool → List ℕ
+merged_by operation operands letter = merged_at operation.last_slot operation.sources.first.now operation.sources.second.now operands letter
+
+pub record FixesSlot (whole part : List Bool → List ℕ) (slot : ℕ) (value : Bool) : Type 0 where
+  pub at : (letter : List Bool) → slot < length letter → part letter ≡ whole (slice_set letter slot value)

@@ -3,7 +3,8 @@
 //!
 //! ```text
 //! // the function that is, at each letter, what `merge` makes of f's and g's numbers there
-//! let root = apply(alloc, &mut arena, &first, &second, &[(0, f), (1, g)], &mut merge)?;
+//! let mut memo = Memo::new(alloc, 65_536)?;
+//! let root = apply(alloc, &mut arena, &first, &second, &[(0, f), (1, g)], &mut merge, &mut memo, 0)?;
 //! // each of its numbers, with the first letter that has it
 //! let found = least_letters(alloc, &arena, root)?;
 //! ```
@@ -11,11 +12,13 @@
 
 mod faults;
 mod first_letters;
+mod memo;
 mod merging;
 mod operands;
 mod renumbering;
 
 pub use faults::{ApplyFault, MergeFault};
-pub use first_letters::least_letters;
+pub use first_letters::{LetterSearch, least_letters};
+pub use memo::Memo;
 pub use merging::{Merge, apply, apply_last};
-pub use renumbering::remap;
+pub use renumbering::{Remapping, remap};

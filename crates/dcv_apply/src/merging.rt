@@ -1,19 +1,21 @@
-// Functions are merged letter by letter: `Apply` of R. E. Bryant (1986) for any number of operands at once. Nothing
-// is remembered, so a node that several paths lead to is gone through once for each path, which is slow where the
-// operands share much.
-ghost use Rattle.std.specs.Prelude.{◌≡◌, ◌≤◌, ◌<◌, ℕ, List, Bool, Err, Ok, length, IfOk};
+// Functions are merged letter by letter: `Apply` of R. E. Bryant (1986) for any number of operands at once. A memo keeps
+// what operands were merged into, so that each list of operands is gone through once while the memo has room; what it
+// forgets is merged again. Each visit makes a vector for its operands, which is half of the time that it takes.
+ghost use Rattle.std.specs.Prelude.{◌≡◌, ◌≤◌, ◌<◌, ◌+◌, ℕ, List, Bool, Err, Ok, length, IfOk, true, false};
 ghost use Rattle.std.specs.List.{All};
-ghost use Rattle.dcv_arena.specs.Arena.{IsRef, IsArena, level_of, value_of, KeepsRefs, AddsOnlyNodesOf, AddsOnlyNodesOfFunction, count_with};
+ghost use Rattle.dcv_arena.specs.Arena.{IsRef, IsArena, level_of, KeepsRefs, AddsOnlyNodesOfFunction, count_with};
 ghost use Rattle.dcv_apply.specs.Operands.{IsOperand, numbers_at, numbers_at_both};
-ghost use Rattle.dcv_apply.specs.Sources.{IsFrom, merged_by};
-ghost use Rattle.dcv_apply.specs.Merged.{MeansMerged, AgreesWithMerged, AgreesBehind};
+ghost use Rattle.dcv_apply.specs.Sources.{HasArenas, IsIn, IsFrom, FixesSlot, merged_by};
+ghost use Rattle.dcv_apply.specs.Memo.{HoldsRound, KeepsOthers};
+ghost use Rattle.dcv_apply.specs.Merged.{MeansMerged, AgreesBehind, IsApplied};
 ghost use Rattle.dcv_apply.specs.declared.faults.MergeFault.TheVariants.{States as MergeStates};
 ghost use Rattle.dcv_apply.specs.declared.faults.ApplyFault.TheVariants.{Full, States};
 
 use crate::faults::{ApplyFault, MergeFault};
-use crate::operands::{Ending, Operand, Sources};
+use crate::memo::{Key, Memo};
+use crate::operands::{LastSlot, Operand, Sources};
 use dcv_arena::{Arena, Ref};
-use std::alloc::Global;
+use std::alloc::{AllocError, Global};
 
 /// What numbers are merged into, list by list. Where the numbers are states of automata, the list has those that
 /// are reached at one letter, and is merged into the number of the state that comes next.
@@ -43,6 +45,9 @@ pub trait Merge {
 /// An operand is a place, 0 for `first` and else `second`, and a ref of that arena. A slot that the letters of
 /// `arena` do not have counts as false. All operands are followed at once, from slot to slot, as R. E. Bryant's
 /// `Apply` follows two (1986), and a slot on which none of them depends is passed over.
+///
+/// What operands were merged into is looked up in `memo`, in this round, and put there. So a round is given to one
+/// operation alone: this one or `apply_last`, with these sources, one merge, and one arena for what comes of it.
 pub fn apply<G: Merge>(
     alloc: Global,
     arena: &mut Arena,
@@ -50,37 +55,30 @@ pub fn apply<G: Merge>(
     second: &Arena,
     operands: &[(u32, Ref)],
     merge: &mut G,
+    memo: &mut Memo,
+    round: u32,
 ) -> Result<Ref, ApplyFault>
     requires operands { All (IsOperand first.now second.now) operands.now }
     requires may { (letter : List Bool) → length letter ≡ arena.old.slots → G.may merge.old (numbers_at first.now second.now operands.now letter) }
+    requires holds { HoldsRound (G.gives merge.old) (numbers_at first.now second.now) arena.old round memo.old }
 
-    // The result is the pointwise merge, and has brought no other node.
-    ensures is_ref { IfOk result (IsRef arena.new) }
-    ensures value { IfOk result (MeansMerged (G.gives merge.new) (numbers_at first.now second.now operands.now) arena.new) }
-    ensures adds { IfOk result (AddsOnlyNodesOf arena.old arena.new) }
-
-    // After a refusal too, what was added are nodes of each function that the result might have been.
-    ensures stray { (function : List Bool → ℕ) → AgreesWithMerged (G.gives merge.new) (numbers_at first.now second.now operands.now) arena.old.slots function
-        → AddsOnlyNodesOfFunction arena.old arena.new function }
-
-    // Each such function has more nodes that are new than there is room, or the merge has too many numbers.
-    ensures limit { (limit : ℕ) → result ≡ Err (Full limit) → limit ≡ arena.old.limit }
-    ensures full { (limit : ℕ) (function : List Bool → ℕ) → result ≡ Err (Full limit)
-        → AgreesWithMerged (G.gives merge.new) (numbers_at first.now second.now operands.now) arena.old.slots function → limit < count_with arena.old function }
-    ensures states { (limit : ℕ) → result ≡ Err (States limit) → G.full merge.new limit }
-
-    // The refs that there were mean what they meant, and so do the numbers that were merged.
-    ensures kept { KeepsRefs arena.old arena.new }
-    ensures arena { IsArena arena.new }
+    // What merging answers, and what becomes of the arena; numbers that were merged are merged so from then on.
+    ensures merged { IsApplied (G.gives merge.new) (G.full merge.new) (numbers_at first.now second.now operands.now) arena.old arena.new result }
     ensures known { (numbers : List ℕ) (number : ℕ) → G.gives merge.old numbers number → G.gives merge.new numbers number }
     ensures may_kept { (numbers : List ℕ) → G.may merge.old numbers → G.may merge.new numbers }
+
+    // The memo holds what this merge gives, in the round, and of other rounds only what it held.
+    ensures holds { HoldsRound (G.gives merge.new) (numbers_at first.now second.now) arena.new round memo.new }
+    ensures others { KeepsOthers round memo.old memo.new }
+    ensures capacity { memo.new.capacity ≡ memo.old.capacity }
 {
-    let merging = Merging {
+    let operation = Operation {
         alloc,
         sources: Sources { first, second },
-        ending: Ending::Plain,
+        last_slot: LastSlot::Kept,
+        round,
     };
-    merging.merge_from(arena, operands, 0, merge)
+    operation.apply(arena, operands, merge, memo)
 }
 
 /// The same with the slot just after those of `arena` merged too: what is merged at a letter are all the operands'
@@ -92,88 +90,163 @@ pub fn apply_last<G: Merge>(
     second: &Arena,
     operands: &[(u32, Ref)],
     merge: &mut G,
+    memo: &mut Memo,
+    round: u32,
 ) -> Result<Ref, ApplyFault>
     requires operands { All (IsOperand first.now second.now) operands.now }
     requires may { (letter : List Bool) → length letter ≡ arena.old.slots → G.may merge.old (numbers_at_both first.now second.now operands.now letter) }
+    requires holds { HoldsRound (G.gives merge.old) (numbers_at_both first.now second.now) arena.old round memo.old }
 
-    // The result is the pointwise merge, and has brought no other node.
-    ensures is_ref { IfOk result (IsRef arena.new) }
-    ensures value { IfOk result (MeansMerged (G.gives merge.new) (numbers_at_both first.now second.now operands.now) arena.new) }
-    ensures adds { IfOk result (AddsOnlyNodesOf arena.old arena.new) }
-
-    // After a refusal too, what was added are nodes of each function that the result might have been.
-    ensures stray { (function : List Bool → ℕ) → AgreesWithMerged (G.gives merge.new) (numbers_at_both first.now second.now operands.now) arena.old.slots function
-        → AddsOnlyNodesOfFunction arena.old arena.new function }
-
-    // Each such function has more nodes that are new than there is room, or the merge has too many numbers.
-    ensures limit { (limit : ℕ) → result ≡ Err (Full limit) → limit ≡ arena.old.limit }
-    ensures full { (limit : ℕ) (function : List Bool → ℕ) → result ≡ Err (Full limit)
-        → AgreesWithMerged (G.gives merge.new) (numbers_at_both first.now second.now operands.now) arena.old.slots function → limit < count_with arena.old function }
-    ensures states { (limit : ℕ) → result ≡ Err (States limit) → G.full merge.new limit }
-
-    // The refs that there were mean what they meant, and so do the numbers that were merged.
-    ensures kept { KeepsRefs arena.old arena.new }
-    ensures arena { IsArena arena.new }
+    // What merging answers, and what becomes of the arena; numbers that were merged are merged so from then on.
+    ensures merged { IsApplied (G.gives merge.new) (G.full merge.new) (numbers_at_both first.now second.now operands.now) arena.old arena.new result }
     ensures known { (numbers : List ℕ) (number : ℕ) → G.gives merge.old numbers number → G.gives merge.new numbers number }
     ensures may_kept { (numbers : List ℕ) → G.may merge.old numbers → G.may merge.new numbers }
+
+    // The memo holds what this merge gives, in the round, and of other rounds only what it held.
+    ensures holds { HoldsRound (G.gives merge.new) (numbers_at_both first.now second.now) arena.new round memo.new }
+    ensures others { KeepsOthers round memo.old memo.new }
+    ensures capacity { memo.new.capacity ≡ memo.old.capacity }
 {
-    let merging = Merging {
+    let operation = Operation {
         alloc,
         sources: Sources { first, second },
-        ending: Ending::BothLast,
+        last_slot: LastSlot::Merged,
+        round,
     };
-    merging.merge_from(arena, operands, 0, merge)
+    operation.apply(arena, operands, merge, memo)
 }
 
 // What does not change while functions are merged.
 #[derive(Drop)]
-struct Merging<'a> {
+struct Operation<'a> {
     alloc: Global,
     sources: Sources<'a>,
-    ending: Ending,
+    last_slot: LastSlot,
+    round: u32,
 }
 
-impl Merging<'_> {
-    // The merge of operands that depend on no slot before `from`.
-    fn merge_from<G: Merge>(
+impl Operation<'_> {
+    // The merge of these operands.
+    fn apply<G: Merge>(
         &self,
         arena: &mut Arena,
         operands: &[Operand],
-        from: u8,
         merge: &mut G,
+        memo: &mut Memo,
     ) -> Result<Ref, ApplyFault>
-        requires from { from ≤ arena.old.slots }
-        requires operands { All (IsFrom self.now.sources from) operands.now }
+        requires operands { All (IsIn self.now.sources) operands.now }
         requires may { (letter : List Bool) → length letter ≡ arena.old.slots
             → G.may merge.old (merged_by self.now operands.now letter) }
+        requires holds { HoldsRound (G.gives merge.old) (merged_by self.now) arena.old self.now.round memo.old }
+        ensures merged { IsApplied (G.gives merge.new) (G.full merge.new) (merged_by self.now operands.now) arena.old arena.new result }
+        ensures known { (numbers : List ℕ) (number : ℕ) → G.gives merge.old numbers number → G.gives merge.new numbers number }
+        ensures may_kept { (numbers : List ℕ) → G.may merge.old numbers → G.may merge.new numbers }
+        ensures holds { HoldsRound (G.gives merge.new) (merged_by self.now) arena.new self.now.round memo.new }
+        ensures others { KeepsOthers self.now.round memo.old memo.new }
+        ensures capacity { memo.new.capacity ≡ memo.old.capacity }
+    {
+        // for the prover: of an arena that was asked it is known what is true of every arena.
+        let _ = (
+            self.sources.first.slots(),
+            self.sources.second.slots(),
+            arena.slots(),
+        );
+        let operands = operands.to_vec(self.alloc)?;
+        let key = Key {
+            round: self.round,
+            operands,
+        };
+        self.apply_from(arena, key, 0, merge, memo)
+    }
+
+    // What is remembered of the operands with the value in the slot fixed.
+    fn side(&self, key: &Key, slot: u8, value: bool) -> Result<Key, AllocError>
+        requires round { key.now.round ≡ self.now.round }
+        requires operands { All (IsFrom self.now.sources slot) key.now.operands.items }
+        ensures round { IfOk result (λ side. side.round ≡ self.now.round) }
+        ensures from { IfOk result (λ side. All (IsFrom self.now.sources (slot + 1)) side.operands.items) }
+        ensures fixed { IfOk result (λ side. FixesSlot (merged_by self.now key.now.operands.items) (merged_by self.now side.operands.items) slot value) }
+    {
+        let operands = self
+            .sources
+            .cofactors(self.alloc, &key.operands, slot, value)?;
+        Ok(Key {
+            round: key.round,
+            operands,
+        })
+    }
+
+    // The first slot that one of the operands depends on, or `slots` where none depends on one before that.
+    fn first_slot(&self, key: &Key, slots: u8) -> u8
+        requires { All (IsIn self.now.sources) key.now.operands.items }
+        ensures bound { result ≤ slots }
+        ensures from { All (IsFrom self.now.sources result) key.now.operands.items }
+        ensures last { (slot : ℕ) → slot ≤ slots → All (IsFrom self.now.sources slot) key.now.operands.items → slot ≤ result }
+    {
+        self.sources.first_slot(&key.operands, slots)
+    }
+
+    // The numbers that are merged at each letter of so many slots, where the operands depend on none of them.
+    fn numbers(&self, key: &Key, slots: u8) -> Result<Vec<u32>, AllocError>
+        requires bound { slots ≤ 32 }
+        requires operands { All (IsFrom self.now.sources slots) key.now.operands.items }
+        ensures { IfOk result (λ numbers. (letter : List Bool) → length letter ≡ slots
+            → numbers.items ≡ merged_by self.now key.now.operands.items letter) }
+    {
+        self.sources
+            .merged(self.alloc, self.last_slot, &key.operands, slots)
+    }
+
+    // The merge of operands that depend on no slot before `from`.
+    fn apply_from<G: Merge>(
+        &self,
+        arena: &mut Arena,
+        key: Key,
+        from: u8,
+        merge: &mut G,
+        memo: &mut Memo,
+    ) -> Result<Ref, ApplyFault>
+        requires sources { HasArenas self.now.sources }
+        requires from { from ≤ arena.old.slots }
+        requires round { key.round ≡ self.now.round }
+        requires operands { All (IsFrom self.now.sources from) key.operands.items }
+        requires may { (letter : List Bool) → length letter ≡ arena.old.slots
+            → G.may merge.old (merged_by self.now key.operands.items letter) }
+        requires holds { HoldsRound (G.gives merge.old) (merged_by self.now) arena.old self.now.round memo.old }
         ensures is_ref { IfOk result (IsRef arena.new) }
         ensures level { IfOk result (λ root. from ≤ level_of arena.new root) }
-        ensures value { IfOk result (MeansMerged (G.gives merge.new) (merged_by self.now operands.now) arena.new) }
+        ensures value { IfOk result (MeansMerged (G.gives merge.new) (merged_by self.now key.operands.items) arena.new) }
         ensures stray { (front : List Bool) (function : List Bool → ℕ) → length front ≤ from
-            → AgreesBehind (G.gives merge.new) (merged_by self.now operands.now) arena.old.slots front function
+            → AgreesBehind (G.gives merge.new) (merged_by self.now key.operands.items) arena.old.slots front function
             → AddsOnlyNodesOfFunction arena.old arena.new function }
         ensures limit { (limit : ℕ) → result ≡ Err (Full limit) → limit ≡ arena.old.limit }
         ensures full { (limit : ℕ) (front : List Bool) (function : List Bool → ℕ) → result ≡ Err (Full limit) → length front ≤ from
-            → AgreesBehind (G.gives merge.new) (merged_by self.now operands.now) arena.old.slots front function
+            → AgreesBehind (G.gives merge.new) (merged_by self.now key.operands.items) arena.old.slots front function
             → limit < count_with arena.old function }
         ensures states { (limit : ℕ) → result ≡ Err (States limit) → G.full merge.new limit }
         ensures kept { KeepsRefs arena.old arena.new }
         ensures arena { IsArena arena.new }
         ensures known { (numbers : List ℕ) (number : ℕ) → G.gives merge.old numbers number → G.gives merge.new numbers number }
         ensures may_kept { (numbers : List ℕ) → G.may merge.old numbers → G.may merge.new numbers }
+        ensures holds { HoldsRound (G.gives merge.new) (merged_by self.now) arena.new self.now.round memo.new }
+        ensures others { KeepsOthers self.now.round memo.old memo.new }
+        ensures capacity { memo.new.capacity ≡ memo.old.capacity }
     {
         let slots = arena.slots();
-        let slot = self.sources.first_slot(operands, slots);
+        let slot = self.first_slot(&key, slots);
         if slot == slots {
-            let numbers = self
-                .sources
-                .merged(self.alloc, self.ending, operands, slots)?;
+            let numbers = self.numbers(&key, slots)?;
             return Ok(arena.leaf(merge.leaf(&numbers)?));
         }
-        let when_false = self.sources.cofactors(self.alloc, operands, slot, false)?;
-        let lo = self.merge_from(arena, &when_false, slot + 1, merge)?;
-        let when_true = self.sources.cofactors(self.alloc, operands, slot, true)?;
-        let hi = self.merge_from(arena, &when_true, slot + 1, merge)?;
-        Ok(arena.node(slot, lo, hi)?)
+        if let Some(root) = memo.get(&key) {
+            return Ok(root);
+        }
+        let when_false = self.side(&key, slot, false)?;
+        let lo = self.apply_from(arena, when_false, slot + 1, merge, memo)?;
+        let when_true = self.side(&key, slot, true)?;
+        let hi = self.apply_from(arena, when_true, slot + 1, merge, memo)?;
+        let root = arena.node(slot, lo, hi)?;
+        memo.put(key, root);
+        Ok(root)
     }
 }

@@ -15,9 +15,9 @@ pub(crate) type Operand = (u32, Ref);
 // Which numbers are merged at a letter: those of the operands there, or those where the slot after the letter
 // is false and then those where it is true.
 #[derive(Clone, Copy)]
-pub(crate) enum Ending {
-    Plain,
-    BothLast,
+pub(crate) enum LastSlot {
+    Kept,
+    Merged,
 }
 
 // The arenas whose functions are merged.
@@ -149,19 +149,19 @@ impl Sources<'_> {
     pub(crate) fn merged(
         &self,
         alloc: Global,
-        ending: Ending,
+        last_slot: LastSlot,
         operands: &[Operand],
         slots: u8,
     ) -> Result<Vec<u32>, AllocError>
         requires bound { slots ≤ 32 }
         requires operands { All (IsFrom self.now slots) operands.now }
         ensures { IfOk result (λ numbers. (letter : List Bool) → length letter ≡ slots
-            → numbers.items ≡ merged_at ending self.now.first.now self.now.second.now operands.now letter) }
+            → numbers.items ≡ merged_at last_slot self.now.first.now self.now.second.now operands.now letter) }
     {
         let mut numbers = Vec::new(alloc);
-        match ending {
-            Ending::Plain => self.push_numbers(operands, slots, &mut numbers)?,
-            Ending::BothLast => {
+        match last_slot {
+            LastSlot::Kept => self.push_numbers(operands, slots, &mut numbers)?,
+            LastSlot::Merged => {
                 self.push_fixed(alloc, operands, slots, false, &mut numbers)?;
                 self.push_fixed(alloc, operands, slots, true, &mut numbers)?;
             }

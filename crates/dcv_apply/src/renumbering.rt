@@ -1,39 +1,18 @@
-// Numbers are exchanged for others by a list. It is a merge of one operand, and slow as such: it goes through a node
-// once for each path that leads to it.
-ghost use Rattle.std.specs.Prelude.{◌≡◌, ◌≢◌, ◌≤◌, ◌<◌, ℕ, List, Bool, Err, length, IfOk};
-ghost use Rattle.dcv_arena.specs.Arena.{IsRef, IsArena, value_of, KeepsRefs, AddsOnlyNodesOf, AddsOnlyNodesOfFunction, count_with};
-ghost use Rattle.dcv_apply.specs.Renumbered.{renumbered};
+// Numbers are exchanged for others by a list, in the functions of one arena and into another. Each node is gone through once,
+// as in the simplest recursions over diagrams (R. E. Bryant, 1986, with the marks of the nodes that were met), and what its
+// place became is kept, so that the time is linear in the nodes, of many roots too.
+ghost use Rattle.std.specs.Prelude.{◌≡◌, ◌≢◌, ◌≤◌, ◌<◌, ◌⊎◌, ℕ, List, Bool, Err, length, IfOk, IfSome, Contains};
+ghost use Rattle.dcv_arena.specs.Arena.{ArenaValue, IsRef, IsArena, level_of, value_of, KeepsRefs, AddsOnlyNodesOf, AddsOnlyNodesOfFunction, count_with};
+ghost use Rattle.dcv_arena.specs.declared.nodes.Ref.{Ref as AnyRef};
+ghost use Rattle.dcv_arena.specs.declared.nodes.Ref.TheVariants.{Place as AnyPlace};
+ghost use Rattle.dcv_apply.specs.Merged.{AgreesBehind};
+ghost use Rattle.dcv_apply.specs.Renumbered.{renumbered, GivesNew, alone, IsNewRef, HoldsPlaces, HoldsNew};
 ghost use Rattle.dcv_apply.specs.declared.faults.ApplyFault.TheVariants.{Full, States};
 
-use crate::faults::{ApplyFault, MergeFault};
-use crate::merging::{Merge, apply};
+use crate::faults::ApplyFault;
 use dcv_arena::{Arena, Ref};
+use indexmap::IndexMap;
 use std::alloc::Global;
-
-// A number is merged into the one that the list has at its place.
-#[derive(Drop)]
-struct Renumbering<'a> {
-    new: &'a [u32],
-}
-
-impl Merge for Renumbering<'_> {
-    ghost use Rattle.std.specs.Prelude.{◌≡◌, Some, IsSome};
-    ghost use Rattle.dcv_apply.specs.Renumbered.{new_number};
-    ghost use Rattle.std.proofs.Common.{sym, ◌∙◌};
-    ghost use Rattle.std.proofs.lemmas.Option.{same_Some};
-
-    ghost may = { λ renumbering numbers. IsSome (new_number renumbering.new.now numbers) };
-
-    ghost gives = { λ renumbering numbers number. new_number renumbering.new.now numbers ≡ Some number };
-
-    ghost full = { λ renumbering limit. ⊥ };
-
-    fn leaf(&mut self, leaves: &[u32]) -> Result<u32, MergeFault> {
-        Ok(self.new[leaves[0] as usize])
-    }
-
-    ghost one_number = { λ renumbering numbers first second one other. same_Some first second (sym one ∙ other) };
-}
 
 /// The function that has, at each letter, the new number of the number that `root` has there. `map` has at each
 /// place the new number of that place. A slot that the letters of `arena` do not have counts as false.
@@ -62,12 +41,135 @@ pub fn remap(
     ensures kept { KeepsRefs arena.old arena.new }
     ensures arena { IsArena arena.new }
 {
-    apply(
-        alloc,
-        arena,
-        from,
-        from,
-        &[(0, root)],
-        &mut Renumbering { new: map },
-    )
+    Remapping::new(alloc, from, map).remap(arena, root)
+}
+
+/// Renumbers many functions of one arena by one list, into another arena, and goes through each of their nodes once.
+///
+/// All calls of `remap` are given one arena for the results, where only other operations may have been at work between.
+#[derive(Drop)]
+pub struct Remapping<'a> {
+    numbers: Numbers<'a>,
+    places: Places,
+}
+
+impl<'a> Remapping<'a> {
+    /// `map` has at each place the new number of that place.
+    pub fn new(alloc: Global, from: &'a Arena, map: &'a [u32]) -> Remapping<'a>
+        ensures from { result.numbers.from.now ≡ from.now }
+        ensures map { result.numbers.new.now ≡ map.now }
+        ensures holds { (arena : ArenaValue) → HoldsNew result arena }
+    {
+        Remapping {
+            numbers: Numbers { from, new: map },
+            places: Places {
+                became: IndexMap::new(alloc),
+            },
+        }
+    }
+}
+
+impl Remapping<'_> {
+    /// The function that has, at each letter, the new number of the number that `root` has there. A slot that the
+    /// letters of `arena` do not have counts as false.
+    pub fn remap(&mut self, arena: &mut Arena, root: Ref) -> Result<Ref, ApplyFault>
+        requires root { IsRef self.old.numbers.from.now root }
+        requires map { (letter : List Bool) → length letter ≡ arena.old.slots
+            → value_of self.old.numbers.from.now root letter < length self.old.numbers.new.now }
+        requires holds { HoldsNew self.old arena.old }
+
+        // The result has the new numbers, and no node has come but its own, after a refusal too.
+        ensures is_ref { IfOk result (IsRef arena.new) }
+        ensures value { IfOk result (λ new. (letter : List Bool) → length letter ≡ arena.old.slots
+            → value_of arena.new new letter ≡ renumbered self.old.numbers.new.now self.old.numbers.from.now root letter) }
+        ensures adds { IfOk result (AddsOnlyNodesOf arena.old arena.new) }
+        ensures stray { AddsOnlyNodesOfFunction arena.old arena.new (renumbered self.old.numbers.new.now self.old.numbers.from.now root) }
+
+        // It has more nodes that are new than there is room; and there are never too many numbers.
+        ensures full { (limit : ℕ) → result ≡ Err (Full limit) → (limit ≡ arena.old.limit)
+            × (limit < count_with arena.old (renumbered self.old.numbers.new.now self.old.numbers.from.now root)) }
+        ensures states { (limit : ℕ) → result ≢ Err (States limit) }
+
+        // The refs that there were mean what they meant, and the numbers and what was kept of them stay.
+        ensures kept { KeepsRefs arena.old arena.new }
+        ensures arena { IsArena arena.new }
+        ensures numbers { self.new.numbers ≡ self.old.numbers }
+        ensures holds { HoldsNew self.new arena.new }
+    {
+        // for the prover: of an arena that was asked it is known what is true of every arena.
+        let _ = arena.slots();
+        self.numbers.renumber(arena, root, &mut self.places)
+    }
+}
+
+// Whose functions get which numbers.
+#[derive(Drop)]
+struct Numbers<'a> {
+    from: &'a Arena,
+    new: &'a [u32],
+}
+
+impl Numbers<'_> {
+    // The ref with the new numbers.
+    fn renumber(&self, arena: &mut Arena, root: Ref, places: &mut Places) -> Result<Ref, ApplyFault>
+        requires root { IsRef self.now.from.now root }
+        requires map { (letter : List Bool) → length letter ≡ arena.old.slots → value_of self.now.from.now root letter < length self.now.new.now }
+        requires arena { IsArena arena.old }
+        requires holds { HoldsPlaces self.now.new.now self.now.from.now arena.old places.old.became.entries }
+        ensures new { IfOk result (IsNewRef self.now.new.now self.now.from.now arena.new root) }
+        ensures stray { (front : List Bool) (function : List Bool → ℕ) → length front ≤ level_of self.now.from.now root → length front ≤ arena.old.slots
+            → AgreesBehind (GivesNew self.now.new.now) (alone self.now.from.now root) arena.old.slots front function
+            → AddsOnlyNodesOfFunction arena.old arena.new function }
+        ensures limit { (limit : ℕ) → result ≡ Err (Full limit) → limit ≡ arena.old.limit }
+        ensures full { (limit : ℕ) (front : List Bool) (function : List Bool → ℕ) → result ≡ Err (Full limit)
+            → length front ≤ level_of self.now.from.now root → length front ≤ arena.old.slots
+            → AgreesBehind (GivesNew self.now.new.now) (alone self.now.from.now root) arena.old.slots front function
+            → limit < count_with arena.old function }
+        ensures states { (limit : ℕ) → result ≢ Err (States limit) }
+        ensures kept { KeepsRefs arena.old arena.new }
+        ensures arena { IsArena arena.new }
+        ensures holds { HoldsPlaces self.now.new.now self.now.from.now arena.new places.new.became.entries }
+    {
+        match root {
+            Ref::Leaf(number) => Ok(arena.leaf(self.new[number as usize])),
+            Ref::Place(place) => {
+                if let Some(new) = places.get(place) {
+                    return Ok(new);
+                }
+                let slot = self.from.level(root);
+                let (lo, hi) = self.from.split(root, slot);
+                let new_lo = self.renumber(arena, lo, places)?;
+                if arena.slots() <= slot {
+                    // No letter has this slot, so it is false at all of them.
+                    places.put(place, new_lo);
+                    return Ok(new_lo);
+                }
+                let new_hi = self.renumber(arena, hi, places)?;
+                let new = arena.node(slot, new_lo, new_hi)?;
+                places.put(place, new);
+                Ok(new)
+            }
+        }
+    }
+}
+
+// What places became.
+#[derive(Drop)]
+struct Places {
+    became: IndexMap<u32, Ref>,
+}
+
+impl Places {
+    fn get(&self, place: u32) -> Option<Ref>
+        ensures { IfSome result (λ new. Contains self.now.became.entries (place, new)) }
+    {
+        self.became.get(&place).copied()
+    }
+
+    // Keeps what a place became, unless memory runs out, which changes nothing.
+    fn put(&mut self, place: u32, new: Ref)
+        ensures { (one : ℕ × AnyRef) → Contains self.new.became.entries one → Contains self.old.became.entries one ⊎ (one ≡ (place, new)) }
+    {
+        let _ = self.became.insert(place, new);
+    }
 }

@@ -4,7 +4,10 @@ ghost use Rattle.std.specs.List.{All};
 ghost use Rattle.dcv_arena.specs.Arena.{IsRef, KeepsRefs};
 ghost use Rattle.dcv_apply.specs.Operands.{IsOperand, numbers_at};
 
-use dcv_apply::{ApplyFault, Merge, MergeFault, apply, apply_last, least_letters, remap};
+use dcv_apply::{
+    ApplyFault, LetterSearch, Memo, Merge, MergeFault, Remapping, apply, apply_last, least_letters,
+    remap,
+};
 use dcv_arena::{Arena, ArenaFault, Ref};
 use dcv_word::Letter;
 use indexmap::IndexSet;
@@ -197,7 +200,10 @@ fn merged<G: Merge>(
     requires may { (letter : List Bool) → length letter ≡ 3 → G.may merge.old (numbers_at first.now second.now operands.now letter) }
 {
     let mut arena = Arena::new(alloc, 3, 100);
-    let root = apply(alloc, &mut arena, first, second, operands, merge)?;
+    let mut memo = Memo::new(alloc, 100)?;
+    let root = apply(
+        alloc, &mut arena, first, second, operands, merge, &mut memo, 0,
+    )?;
     Ok(table(&arena, root))
 }
 
@@ -253,7 +259,17 @@ fn last_slot(rt: HostRuntime) -> Result<(), Fail> {
     let r = value(&mut first, 2)?;
     let mut arena = Arena::new(alloc, 2, 100);
     let operands = [(0, r), (1, p)];
-    let root = apply_last(alloc, &mut arena, &first, &first, &operands, &mut Digits)?;
+    let mut memo = Memo::new(alloc, 100)?;
+    let root = apply_last(
+        alloc,
+        &mut arena,
+        &first,
+        &first,
+        &operands,
+        &mut Digits,
+        &mut memo,
+        0,
+    )?;
     // Both numbers where slot 2 is false, and then both where it is true.
     for (letter, number) in [(0b00, 10), (0b01, 10), (0b10, 111), (0b11, 111)] {
         assert_eq!(rt; arena.eval(root, &Letter::new(2, letter)), number);
@@ -262,18 +278,116 @@ fn last_slot(rt: HostRuntime) -> Result<(), Fail> {
     Ok(())
 }
 
-#[test]
-fn full(rt: HostRuntime) -> Result<(), Fail> {
-    let alloc = rt.alloc();
+// The conjunction of two slots in an arena for so many nodes.
+fn conjunction_within(alloc: Global, limit: u32) -> Result<u32, ApplyFault> {
     let mut first = Arena::new(alloc, 3, 100);
     let p = value(&mut first, 0)?;
     let r = value(&mut first, 2)?;
-    let two = [(0, p), (1, r)];
-    let mut arena = Arena::new(alloc, 3, 2);
-    assert!(rt; apply(alloc, &mut arena, &first, &first, &two, &mut Conjunction).is_ok());
-    let mut arena = Arena::new(alloc, 3, 1);
-    let result = apply(alloc, &mut arena, &first, &first, &two, &mut Conjunction);
-    assert_eq!(rt; result, Err(ApplyFault::Full { limit: 1 }));
+    let mut arena = Arena::new(alloc, 3, limit);
+    let mut memo = Memo::new(alloc, 100)?;
+    apply(
+        alloc,
+        &mut arena,
+        &first,
+        &first,
+        &[(0, p), (1, r)],
+        &mut Conjunction,
+        &mut memo,
+        0,
+    )?;
+    Ok(arena.len())
+}
+
+#[test]
+fn nodes_are_limited(rt: HostRuntime) {
+    let alloc = rt.alloc();
+    let cases = [
+        (0, Err(ApplyFault::Full { limit: 0 })),
+        (1, Err(ApplyFault::Full { limit: 1 })),
+        (2, Ok(2)),
+        (3, Ok(2)),
+    ];
+    for (limit, expected) in cases {
+        assert_eq!(rt; conjunction_within(alloc, limit), expected, "at {limit}");
+    }
+}
+
+// The parity of so many slots merged alone, with a memo of so many entries and at most so many merges: how many merges there were,
+// how many entries then, and how many nodes.
+fn parity_merged(
+    alloc: Global,
+    slots: u8,
+    capacity: usize,
+    limit: u32,
+) -> Result<(u32, usize, u32), ApplyFault>
+    requires slots { slots ≤ 32 }
+    requires capacity { 1 ≤ capacity }
+{
+    let mut first = Arena::new(alloc, slots, 100);
+    let root = parity(&mut first)?;
+    let mut arena = Arena::new(alloc, slots, 100);
+    let mut memo = Memo::new(alloc, capacity)?;
+    let mut sum = Sum { calls: 0, limit };
+    apply(
+        alloc,
+        &mut arena,
+        &first,
+        &first,
+        &[(0, root)],
+        &mut sum,
+        &mut memo,
+        0,
+    )?;
+    Ok((sum.calls, memo.len(), arena.len()))
+}
+
+// Two nodes stand at the last slot, and each is gone through once while it is remembered. A memo of one entry has always
+// just remembered the other node, so every letter is merged.
+#[test]
+fn what_was_merged_is_remembered(rt: HostRuntime) -> Result<(), Fail> {
+    let alloc = rt.alloc();
+    assert_eq!(rt; parity_merged(alloc, 16, 64, 4)?, (4, 31, 31));
+    assert_eq!(rt; parity_merged(alloc, 16, 31, 4)?, (4, 31, 31));
+    assert_eq!(rt; parity_merged(alloc, 16, 1, 65_536)?, (65_536, 1, 31));
+    assert_eq!(rt;
+        parity_merged(alloc, 16, 64, 3),
+        Err(ApplyFault::States { limit: 3 })
+    );
+    Ok(())
+}
+
+#[test]
+fn rounds_are_kept_apart(rt: HostRuntime) -> Result<(), Fail> {
+    let alloc = rt.alloc();
+    let mut first = Arena::new(alloc, 3, 100);
+    let mut second = Arena::new(alloc, 3, 100);
+    let two = two(&mut first, &mut second)?;
+    let mut arena = Arena::new(alloc, 3, 100);
+    let mut memo = Memo::new(alloc, 100)?;
+    let least = apply(
+        alloc,
+        &mut arena,
+        &first,
+        &second,
+        &two,
+        &mut Conjunction,
+        &mut memo,
+        0,
+    )?;
+    let digits = apply(
+        alloc,
+        &mut arena,
+        &first,
+        &second,
+        &two,
+        &mut Digits,
+        &mut memo,
+        1,
+    )?;
+    assert_eq!(rt; table(&arena, least), [0, 0, 0, 0, 0, 1, 0, 1]);
+    assert_eq!(rt; table(&arena, digits), [0, 1, 0, 1, 10, 11, 10, 11]);
+    // Each round has an entry for both operands at slot 0, and one for each of the two sides.
+    assert_eq!(rt; memo.len(), 6);
     Ok(())
 }
 
@@ -285,7 +399,17 @@ fn too_many_states(rt: HostRuntime) -> Result<(), Fail> {
     let mut first = Arena::new(alloc, 3, 100);
     let root = parity(&mut first)?;
     let mut sum = Sum { calls: 0, limit: 2 };
-    let result = apply(alloc, &mut arena, &first, &first, &[(0, root)], &mut sum);
+    let mut memo = Memo::new(alloc, 100)?;
+    let result = apply(
+        alloc,
+        &mut arena,
+        &first,
+        &first,
+        &[(0, root)],
+        &mut sum,
+        &mut memo,
+        0,
+    );
     assert_eq!(rt; result, Err(ApplyFault::States { limit: 2 }));
     assert_eq!(rt; table(&arena, before), [0, 1, 1, 0, 1, 0, 0, 1]);
     assert_eq!(rt;
@@ -304,35 +428,39 @@ fn renumbered(rt: HostRuntime) -> Result<(), Fail> {
     let new = remap(alloc, &mut arena, &first, root, &[5, 7])?;
     assert_eq!(rt; table(&arena, new), [5, 7, 5, 7, 5, 7, 5, 7]);
     // The two numbers become one, and so the function a leaf.
-    let new = remap(alloc, &mut arena, &first, root, &[6, 6])?;
-    assert_eq!(rt; new, Ref::Leaf(6));
+    let mut remapping = Remapping::new(alloc, &first, &[6, 6]);
+    assert_eq!(rt; remapping.remap(&mut arena, root)?, Ref::Leaf(6));
     Ok(())
 }
 
+// The second function is 1 where slot 0 is false, which was found already, and 2 where it is true.
 #[test]
 fn first_letters(rt: HostRuntime) -> Result<(), Fail> {
     let alloc = rt.alloc();
     let mut arena = Arena::new(alloc, 4, 100);
-    let root = parity(&mut arena)?;
-    let found = least_letters(alloc, &arena, root)?;
-    let expected = [(0, Letter::new(4, 0)), (1, Letter::new(4, 1))];
-    assert_eq!(rt; found.as_slice(), expected.as_slice());
+    let odd = parity(&mut arena)?;
+    let second = arena.node(0, Ref::Leaf(1), Ref::Leaf(2))?;
+    let expected = [
+        (0, Letter::new(4, 0b0000)),
+        (1, Letter::new(4, 0b0001)),
+        (2, Letter::new(4, 0b1000)),
+    ];
+    let found = least_letters(alloc, &arena, odd)?;
+    assert_eq!(rt; found.as_slice(), &expected[..2]);
+    let mut letters = LetterSearch::new(alloc, &arena);
+    letters.search(odd)?;
+    letters.search(second)?;
+    assert_eq!(rt; letters.found(), expected.as_slice());
     Ok(())
 }
 
+// What was walked or merged once is not gone through again, so 2 ^ 32 letters are no trouble.
 #[test]
 fn thirty_two_slots(rt: HostRuntime) -> Result<(), Fail> {
     let alloc = rt.alloc();
     let mut arena = Arena::new(alloc, 32, 100);
-    // A node is walked once, and a slot on which no operand depends is passed over: 2 ^ 32 letters are no trouble.
     let root = parity(&mut arena)?;
     assert_eq!(rt; least_letters(alloc, &arena, root)?.len(), 2);
-    let found = least_letters(alloc, &arena, Ref::Leaf(9))?;
-    assert_eq!(rt; found.as_slice(), [(9, Letter::new(32, 0))].as_slice());
-    let mut sum = Sum { calls: 0, limit: 1 };
-    let first = Arena::new(alloc, 32, 0);
-    let operands = [(0, Ref::Leaf(3)), (1, Ref::Leaf(4))];
-    let root = apply(alloc, &mut arena, &first, &first, &operands, &mut sum)?;
-    assert_eq!(rt; root, Ref::Leaf(7));
+    assert_eq!(rt; parity_merged(alloc, 32, 100, 4)?, (4, 63, 63));
     Ok(())
 }

@@ -9,4 +9,8 @@ pub remap-requires-clause-map : goal.remap-requires-clause-map
 remap-requires-clause-map g c letter size = is_digit (get_or letter 2 false) _ (c.in_ok-root.ensures.value letter)
 
 pub remap-requires-2-clause-map : goal.remap-requires-2-clause-map
-remap-requires-2-clause-map g c letter size = is_digit (get_or letter 2 false) _ (c.in_ok-root.ensures.value letter)
+remap-requires-2-clause-map g c letter size =
+    rw (c.new-remapping.ensures.from, c.new-remapping.ensures.map) (is_digit (get_or letter 2 false) _ (c.in_ok-root.ensures.value letter))
+
+pub remap-requires-2-clause-holds : goal.remap-requires-2-clause-holds
+remap-requires-2-clause-holds g c = c.new-remapping.ensures.holds c.remap.new.arena

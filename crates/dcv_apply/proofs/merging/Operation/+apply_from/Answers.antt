@@ -1,0 +1,304 @@
+use Rattle.std.proofs.Common.{rules, ◌≡◌, ◌<◌, ◌≤◌, true, false, length, replicate, set, Err, sym, ap, subst, ◌∙◌, arith}
+use Rattle.std.proofs.lemmas.List.{length-replicate, length-set}
+use Rattle.std.proofs.lemmas.Result.{err_from_is_err_and}
+use Rattle.dcv_arena.specs.Arena.{AddsOnlyNodesOfFunction}
+use Rattle.dcv_arena.proofs.Roots.{kept_in_turn}
+use Rattle.dcv_apply.specs.Sources.{merged_by}
+use Rattle.dcv_apply.specs.Merged.{MeansMerged}
+use Rattle.dcv_apply.specs.Remembered.{entry}
+use Rattle.dcv_apply.proofs.Sides.{side_adds, side_full, adds_in_turn, merged_adds, node_full, sides_add, sides_full, sides_merged, agrees_at}
+use Rattle.dcv_apply.proofs.Remembering.{holds_grown, holds_known, holds_less, holds_more, others_in_turn, others_less, others_more}
+use Rattle.dcv_apply.proofs.Hits.{level_at_hit}
+use Rattle.dcv_apply.proofs.FaultFacts.{full_from_arena}
+use Rattle.dcv_apply.proofs.merging.Operation.+apply_from.Goals as goal
+
+pub leaf-requires : goal.leaf-requires
+leaf-requires g t c =
+    let blank = replicate c.args.arena.now.slots false in
+    let size : length blank ≡ c.args.arena.now.slots = length-replicate c.args.arena.now.slots false in
+    subst (λ numbers. g.G.Merge.may c.args.merge.now numbers) (sym (c.in_ok-numbers.ensures blank (size ∙ sym c.slots-slots.ensures.slots)) ∙ sym c.deref.ensures.value) (c.requires.may blank size)
+
+pub apply_from-requires : goal.apply_from-requires
+apply_from-requires g t c κs within =
+    let slot = c.first_slot-slot.result in
+    let inner : slot < c.args.arena.now.slots = omega (arith, c.slots-slots.ensures.slots) in
+    let side = c.in_ok-when_false.ensures.fixed in (
+      search rules,
+      (
+        search rules,
+        (
+          c.requires.sources,
+          (
+            omega arith,
+            (
+              c.in_ok-when_false.ensures.round,
+              (
+                c.in_ok-when_false.ensures.from,
+                (
+                  λ letter size. subst (g.G.Merge.may c.args.merge.now) (sym (side.at letter (omega arith))) (c.requires.may (set letter slot false) (length-set letter slot false ∙ size)),
+                  holds_less (merged_by c.args.self.now) c.args.self.now.round (g.G.Merge.gives c.args.merge.now) c.args.arena.now c.args.memo.now c.get.new.self c.get.ensures.kept c.requires.holds,
+                ),
+              ),
+            ),
+          ),
+        ),
+      ),
+    )
+
+pub returns-in_err-lo-clause-stray : goal.returns-in_err-lo-clause-stray
+returns-in_err-lo-clause-stray g t c front function below agrees =
+    let slot = c.first_slot-slot.result in
+    let inner : slot < c.args.arena.now.slots = omega (arith, c.slots-slots.ensures.slots) in
+    let from : c.args.from ≤ slot = c.first_slot-slot.ensures.last c.args.from (omega (arith, c.slots-slots.ensures.slots)) c.requires.operands in
+    let side = c.in_ok-when_false.ensures.fixed in
+    side_adds side (g.G.Merge.gives c.apply_from.new.merge) (g.G.Merge.gives c.apply_from.new.merge) c.args.arena.now c.apply_from.new.arena front function inner (omega arith)
+    (λ _ _ given. given) c.apply_from.ensures.stray agrees
+
+pub returns-in_err-lo-clause-full : goal.returns-in_err-lo-clause-full
+returns-in_err-lo-clause-full g t c limit front function e below agrees =
+    let slot = c.first_slot-slot.result in
+    let inner : slot < c.args.arena.now.slots = omega (arith, c.slots-slots.ensures.slots) in
+    let from : c.args.from ≤ slot = c.first_slot-slot.ensures.last c.args.from (omega (arith, c.slots-slots.ensures.slots)) c.requires.operands in
+    let side = c.in_ok-when_false.ensures.fixed in
+    let p = err_from_is_err_and c.from_residual-in_err-lo.result c.from_residual-in_err-lo.ensures.1 in
+    let fault = c.in_err-lo.was ∙ ap Err (sym p.2) ∙ sym p.1 ∙ e in
+    side_full side (g.G.Merge.gives c.apply_from.new.merge) (g.G.Merge.gives c.apply_from.new.merge) limit c.args.arena.now front function inner (omega arith)
+    (λ _ _ given. given) (λ front function. c.apply_from.ensures.full limit front function fault) agrees
+
+pub returns-clause-kept : goal.returns-clause-kept
+returns-clause-kept g t c =
+    kept_in_turn c.args.arena.now c.apply_from.new.arena c.node.new.self c.apply_from.ensures.kept
+    (kept_in_turn c.apply_from.new.arena c.apply_from-2.new.arena c.node.new.self c.apply_from-2.ensures.kept c.node.ensures.kept)
+
+pub apply_from-requires-2 : goal.apply_from-requires-2
+apply_from-requires-2 g t c κs within =
+    let slot = c.first_slot-slot.result in
+    let same = c.apply_from.ensures.kept.slots in
+    let inner : slot < c.args.arena.now.slots = omega (arith, c.slots-slots.ensures.slots) in
+    let side = c.in_ok-when_true.ensures.fixed in (
+      search rules,
+      (
+        search rules,
+        (
+          c.requires.sources,
+          (
+            omega (arith, same),
+            (
+              c.in_ok-when_true.ensures.round,
+              (
+                c.in_ok-when_true.ensures.from,
+                (
+                  λ letter size. subst (g.G.Merge.may c.apply_from.new.merge) (sym (side.at letter (omega (arith, same))))
+                      (c.apply_from.ensures.may_kept _ (c.requires.may (set letter slot true) (length-set letter slot true ∙ size ∙ same))),
+                  c.apply_from.ensures.holds,
+                ),
+              ),
+            ),
+          ),
+        ),
+      ),
+    )
+
+pub returns-in_err-when_true-clause-stray : goal.returns-in_err-when_true-clause-stray
+returns-in_err-when_true-clause-stray g t c front function below agrees =
+    let slot = c.first_slot-slot.result in
+    let inner : slot < c.args.arena.now.slots = omega (arith, c.slots-slots.ensures.slots) in
+    let from : c.args.from ≤ slot = c.first_slot-slot.ensures.last c.args.from (omega (arith, c.slots-slots.ensures.slots)) c.requires.operands in
+    let side = c.in_ok-when_false.ensures.fixed in
+    side_adds side (g.G.Merge.gives c.apply_from.new.merge) (g.G.Merge.gives c.apply_from.new.merge) c.args.arena.now c.apply_from.new.arena front function inner (omega arith)
+    (λ _ _ given. given) c.apply_from.ensures.stray agrees
+
+pub returns-in_err-hi-clause-stray : goal.returns-in_err-hi-clause-stray
+returns-in_err-hi-clause-stray g t c front function below agrees =
+    let slot = c.first_slot-slot.result in
+    let inner : slot < c.args.arena.now.slots = omega (arith, c.slots-slots.ensures.slots) in
+    let from : c.args.from ≤ slot = c.first_slot-slot.ensures.last c.args.from (omega (arith, c.slots-slots.ensures.slots)) c.requires.operands in
+    let low = c.in_ok-when_false.ensures.fixed in
+    let high = c.in_ok-when_true.ensures.fixed in
+    sides_add low high (g.G.Merge.gives c.apply_from.new.merge) (g.G.Merge.gives c.apply_from-2.new.merge) c.apply_from-2.ensures.known
+    c.args.arena.now c.apply_from.new.arena c.apply_from-2.new.arena c.apply_from.ensures.kept c.apply_from-2.ensures.kept inner
+    front function (omega arith) c.apply_from.ensures.stray c.apply_from-2.ensures.stray agrees
+
+pub returns-in_err-hi-clause-full : goal.returns-in_err-hi-clause-full
+returns-in_err-hi-clause-full g t c limit front function e below agrees =
+    let slot = c.first_slot-slot.result in
+    let inner : slot < c.args.arena.now.slots = omega (arith, c.slots-slots.ensures.slots) in
+    let from : c.args.from ≤ slot = c.first_slot-slot.ensures.last c.args.from (omega (arith, c.slots-slots.ensures.slots)) c.requires.operands in
+    let low = c.in_ok-when_false.ensures.fixed in
+    let high = c.in_ok-when_true.ensures.fixed in
+    let p = err_from_is_err_and c.from_residual-in_err-hi.result c.from_residual-in_err-hi.ensures.1 in
+    let fault = c.in_err-hi.was ∙ ap Err (sym p.2) ∙ sym p.1 ∙ e in
+    sides_full low high (g.G.Merge.gives c.apply_from.new.merge) (g.G.Merge.gives c.apply_from-2.new.merge) c.apply_from-2.ensures.known
+    c.args.arena.now c.apply_from.new.arena c.apply_from-2.new.arena c.apply_from.ensures.kept c.apply_from-2.ensures.kept inner
+    limit front function c.slots-slots.ensures.arena c.apply_from.ensures.arena (omega arith) c.apply_from.ensures.stray (λ front function. c.apply_from-2.ensures.full limit front function fault) agrees
+
+pub returns-clause-level : goal.returns-clause-level
+returns-clause-level g t c =
+    let from : c.args.from ≤ c.first_slot-slot.result = c.first_slot-slot.ensures.last c.args.from (omega (arith, c.slots-slots.ensures.slots)) c.requires.operands in
+    omega (arith, c.in_ok-root.ensures.level)
+
+pub returns-clause-value : goal.returns-clause-value
+returns-clause-value g t c letter size =
+    let slot = c.first_slot-slot.result in
+    let inner : slot < c.args.arena.now.slots = omega (arith, c.slots-slots.ensures.slots) in
+    let low = c.in_ok-when_false.ensures.fixed in
+    let high = c.in_ok-when_true.ensures.fixed in
+    subst (g.G.Merge.gives c.apply_from-2.new.merge _) (sym (c.in_ok-root.ensures.value letter))
+    (sides_merged low high (g.G.Merge.gives c.apply_from.new.merge) (g.G.Merge.gives c.apply_from-2.new.merge) c.apply_from-2.ensures.known
+    c.args.arena.now c.apply_from.new.arena c.apply_from-2.new.arena c.apply_from.ensures.kept c.apply_from-2.ensures.kept inner
+    c.in_ok-lo.lo c.in_ok-hi.hi c.in_ok-lo.ensures.is_ref c.in_ok-lo.ensures.value c.in_ok-hi.ensures.value letter (size ∙ c.node.ensures.kept.slots))
+
+pub returns-in_err-root-clause-stray : goal.returns-in_err-root-clause-stray
+returns-in_err-root-clause-stray g t c front function below agrees =
+    let slot = c.first_slot-slot.result in
+    let inner : slot < c.args.arena.now.slots = omega (arith, c.slots-slots.ensures.slots) in
+    let from : c.args.from ≤ slot = c.first_slot-slot.ensures.last c.args.from (omega (arith, c.slots-slots.ensures.slots)) c.requires.operands in
+    let low = c.in_ok-when_false.ensures.fixed in
+    let high = c.in_ok-when_true.ensures.fixed in
+    subst (λ new. AddsOnlyNodesOfFunction c.args.arena.now new function) (sym c.in_err-root.ensures.err)
+    (sides_add low high (g.G.Merge.gives c.apply_from.new.merge) (g.G.Merge.gives c.apply_from-2.new.merge) c.apply_from-2.ensures.known
+    c.args.arena.now c.apply_from.new.arena c.apply_from-2.new.arena c.apply_from.ensures.kept c.apply_from-2.ensures.kept inner
+    front function (omega arith) c.apply_from.ensures.stray c.apply_from-2.ensures.stray agrees)
+
+pub returns-in_err-root-clause-limit : goal.returns-in_err-root-clause-limit
+returns-in_err-root-clause-limit g t c limit e =
+    let p = err_from_is_err_and c.from_residual-in_err-root.result c.from_residual-in_err-root.ensures.1 in
+    let fault = c.in_err-root.was ∙ ap Err (full_from_arena _ _ _ limit p.1 p.2 e) in
+    ((c.node.ensures.full limit).0 fault).0 ∙ c.apply_from-2.ensures.kept.limit ∙ c.apply_from.ensures.kept.limit
+
+pub returns-in_err-root-clause-full : goal.returns-in_err-root-clause-full
+returns-in_err-root-clause-full g t c limit front function e below agrees =
+    let slot = c.first_slot-slot.result in
+    let old = c.args.arena.now in
+    let one = c.apply_from.new.arena in
+    let two = c.apply_from-2.new.arena in
+    let gives = g.G.Merge.gives c.apply_from-2.new.merge in
+    let whole = merged_by c.args.self.now c.args.key.operands.items in
+    let inner : slot < old.slots = omega (arith, c.slots-slots.ensures.slots) in
+    let from : c.args.from ≤ slot = c.first_slot-slot.ensures.last c.args.from (omega (arith, c.slots-slots.ensures.slots)) c.requires.operands in
+    let kept = kept_in_turn old one two c.apply_from.ensures.kept c.apply_from-2.ensures.kept in
+    let low = c.in_ok-when_false.ensures.fixed in
+    let high = c.in_ok-when_true.ensures.fixed in
+    let p = err_from_is_err_and c.from_residual-in_err-root.result c.from_residual-in_err-root.ensures.1 in
+    let fault = c.in_err-root.was ∙ ap Err (full_from_arena _ _ _ limit p.1 p.2 e) in
+    let is_full = (c.node.ensures.full limit).0 fault in
+    let adds = sides_add low high (g.G.Merge.gives c.apply_from.new.merge) gives c.apply_from-2.ensures.known
+    old one two c.apply_from.ensures.kept c.apply_from-2.ensures.kept inner
+    front function (omega arith) c.apply_from.ensures.stray c.apply_from-2.ensures.stray agrees in
+    let merged = sides_merged low high (g.G.Merge.gives c.apply_from.new.merge) gives c.apply_from-2.ensures.known
+    old one two c.apply_from.ensures.kept c.apply_from-2.ensures.kept inner
+    c.in_ok-lo.lo c.in_ok-hi.hi c.in_ok-lo.ensures.is_ref c.in_ok-lo.ensures.value c.in_ok-hi.ensures.value in
+    let lo_ref = c.apply_from-2.ensures.kept.refs c.in_ok-lo.lo c.in_ok-lo.ensures.is_ref in
+    let lo_level = c.apply_from-2.ensures.kept.levels c.in_ok-lo.lo c.in_ok-lo.ensures.is_ref in
+    let more = node_full gives whole front function old two slot c.in_ok-lo.lo c.in_ok-hi.hi
+    c.slots-slots.ensures.arena c.apply_from-2.ensures.arena kept adds lo_ref c.in_ok-hi.ensures.is_ref (omega (arith, kept.slots))
+    (omega (arith, lo_level, c.in_ok-lo.ensures.level)) (omega (arith, c.in_ok-hi.ensures.level)) is_full.1 (omega arith) merged (agrees_at gives whole old.slots two.slots front function kept.slots agrees) in
+    omega (arith, more, is_full.0, is_full.2)
+
+pub returns-clause-stray : goal.returns-clause-stray
+returns-clause-stray g t c front function below agrees =
+    let slot = c.first_slot-slot.result in
+    let old = c.args.arena.now in
+    let one = c.apply_from.new.arena in
+    let two = c.apply_from-2.new.arena in
+    let new = c.node.new.self in
+    let gives = g.G.Merge.gives c.apply_from-2.new.merge in
+    let whole = merged_by c.args.self.now c.args.key.operands.items in
+    let inner : slot < old.slots = omega (arith, c.slots-slots.ensures.slots) in
+    let from : c.args.from ≤ slot = c.first_slot-slot.ensures.last c.args.from (omega (arith, c.slots-slots.ensures.slots)) c.requires.operands in
+    let low = c.in_ok-when_false.ensures.fixed in
+    let high = c.in_ok-when_true.ensures.fixed in
+    let adds = sides_add low high (g.G.Merge.gives c.apply_from.new.merge) gives c.apply_from-2.ensures.known
+    old one two c.apply_from.ensures.kept c.apply_from-2.ensures.kept inner
+    front function (omega arith) c.apply_from.ensures.stray c.apply_from-2.ensures.stray agrees in
+    let merged = sides_merged low high (g.G.Merge.gives c.apply_from.new.merge) gives c.apply_from-2.ensures.known
+    old one two c.apply_from.ensures.kept c.apply_from-2.ensures.kept inner
+    c.in_ok-lo.lo c.in_ok-hi.hi c.in_ok-lo.ensures.is_ref c.in_ok-lo.ensures.value c.in_ok-hi.ensures.value in
+    let means : MeansMerged gives whole new c.in_ok-root.root = λ letter size.
+    subst (gives (whole letter)) (sym (c.in_ok-root.ensures.value letter)) (merged letter (size ∙ c.node.ensures.kept.slots)) in
+    adds_in_turn old two new function c.node.ensures.kept.slots adds
+    (merged_adds gives whole front function two new c.in_ok-root.root c.node.ensures.arena c.in_ok-root.ensures.is_ref (omega (arith, c.in_ok-root.ensures.level)) means
+    (agrees_at gives whole old.slots new.slots front function (c.node.ensures.kept.slots ∙ c.apply_from-2.ensures.kept.slots ∙ c.apply_from.ensures.kept.slots) agrees) c.in_ok-root.ensures.adds)
+
+-- ---- what the memo holds, exit by exit
+
+pub returns-in_err-leaf-clause-holds : goal.returns-in_err-leaf-clause-holds
+returns-in_err-leaf-clause-holds g t c =
+    holds_known (merged_by c.args.self.now) c.args.self.now.round (g.G.Merge.gives c.args.merge.now) (g.G.Merge.gives c.leaf.new.self) c.args.arena.now c.args.memo.now c.leaf.ensures.known c.requires.holds
+
+pub returns-then-slot-slots-clause-holds : goal.returns-then-slot-slots-clause-holds
+returns-then-slot-slots-clause-holds g t c =
+    holds_known (merged_by c.args.self.now) c.args.self.now.round (g.G.Merge.gives c.args.merge.now) (g.G.Merge.gives c.leaf.new.self) c.args.arena.now c.args.memo.now c.leaf.ensures.known c.requires.holds
+
+pub returns-in-Some-clause-is_ref : goal.returns-in-Some-clause-is_ref
+returns-in-Some-clause-is_ref g t c =
+    (c.requires.holds (entry c.args.key.round c.args.key.operands.items c.in-Some.root) c.in-Some.ensures.found c.requires.round).0
+
+pub returns-in-Some-clause-level : goal.returns-in-Some-clause-level
+returns-in-Some-clause-level g t c =
+    let held = c.requires.holds (entry c.args.key.round c.args.key.operands.items c.in-Some.root) c.in-Some.ensures.found c.requires.round in
+    let slot = c.first_slot-slot.result in
+    let from : c.args.from ≤ slot = c.first_slot-slot.ensures.last c.args.from (omega (arith, c.slots-slots.ensures.slots)) c.requires.operands in
+    let level = level_at_hit c.args.self.now c.args.key.operands.items (g.G.Merge.gives c.args.merge.now) c.args.arena.now c.in-Some.root slot
+    c.requires.sources c.first_slot-slot.ensures.from (omega (arith, c.slots-slots.ensures.slots)) (g.met.G.Merge.one_number c.args.merge.now) c.slots-slots.ensures.arena held.0 held.1 in
+    omega (arith, level)
+
+pub returns-in-Some-clause-value : goal.returns-in-Some-clause-value
+returns-in-Some-clause-value g t c =
+    (c.requires.holds (entry c.args.key.round c.args.key.operands.items c.in-Some.root) c.in-Some.ensures.found c.requires.round).1
+
+pub returns-in-Some-clause-holds : goal.returns-in-Some-clause-holds
+returns-in-Some-clause-holds g t c =
+    holds_less (merged_by c.args.self.now) c.args.self.now.round (g.G.Merge.gives c.args.merge.now) c.args.arena.now c.args.memo.now c.get.new.self c.get.ensures.kept c.requires.holds
+
+pub returns-in_err-when_false-clause-holds : goal.returns-in_err-when_false-clause-holds
+returns-in_err-when_false-clause-holds g t c =
+    holds_less (merged_by c.args.self.now) c.args.self.now.round (g.G.Merge.gives c.args.merge.now) c.args.arena.now c.args.memo.now c.get.new.self c.get.ensures.kept c.requires.holds
+
+pub returns-in_err-hi-clause-others : goal.returns-in_err-hi-clause-others
+returns-in_err-hi-clause-others g t c =
+    let round = c.args.self.now.round in
+    let asked = others_less round c.args.memo.now c.get.new.self c.get.ensures.kept in
+    others_in_turn round c.args.memo.now c.apply_from.new.memo c.apply_from-2.new.memo
+    (others_in_turn round c.args.memo.now c.get.new.self c.apply_from.new.memo asked c.apply_from.ensures.others) c.apply_from-2.ensures.others
+
+pub returns-in_err-root-clause-holds : goal.returns-in_err-root-clause-holds
+returns-in_err-root-clause-holds g t c =
+    let gives = g.G.Merge.gives c.apply_from-2.new.merge in
+    holds_grown (merged_by c.args.self.now) c.args.self.now.round gives gives c.apply_from-2.new.arena c.node.new.self c.apply_from-2.new.memo
+    (λ _ _ given. given) c.node.ensures.kept c.apply_from-2.ensures.holds
+
+pub returns-in_err-root-clause-others : goal.returns-in_err-root-clause-others
+returns-in_err-root-clause-others g t c =
+    let round = c.args.self.now.round in
+    let asked = others_less round c.args.memo.now c.get.new.self c.get.ensures.kept in
+    others_in_turn round c.args.memo.now c.apply_from.new.memo c.apply_from-2.new.memo
+    (others_in_turn round c.args.memo.now c.get.new.self c.apply_from.new.memo asked c.apply_from.ensures.others) c.apply_from-2.ensures.others
+
+pub returns-clause-holds : goal.returns-clause-holds
+returns-clause-holds g t c =
+    let slot = c.first_slot-slot.result in
+    let two = c.apply_from-2.new.arena in
+    let new = c.node.new.self in
+    let gives = g.G.Merge.gives c.apply_from-2.new.merge in
+    let whole = merged_by c.args.self.now c.args.key.operands.items in
+    let inner : slot < c.args.arena.now.slots = omega (arith, c.slots-slots.ensures.slots) in
+    let low = c.in_ok-when_false.ensures.fixed in
+    let high = c.in_ok-when_true.ensures.fixed in
+    let merged = sides_merged low high (g.G.Merge.gives c.apply_from.new.merge) gives c.apply_from-2.ensures.known
+    c.args.arena.now c.apply_from.new.arena two c.apply_from.ensures.kept c.apply_from-2.ensures.kept inner
+    c.in_ok-lo.lo c.in_ok-hi.hi c.in_ok-lo.ensures.is_ref c.in_ok-lo.ensures.value c.in_ok-hi.ensures.value in
+    let means : MeansMerged gives whole new c.in_ok-root.root = λ letter size.
+    subst (gives (whole letter)) (sym (c.in_ok-root.ensures.value letter)) (merged letter (size ∙ c.node.ensures.kept.slots)) in
+    holds_more (merged_by c.args.self.now) c.args.self.now.round gives new c.apply_from-2.new.memo c.put.new.self
+    (entry c.args.key.round c.args.key.operands.items c.in_ok-root.root) c.put.ensures.adds c.in_ok-root.ensures.is_ref means
+    (holds_grown (merged_by c.args.self.now) c.args.self.now.round gives gives two new c.apply_from-2.new.memo (λ _ _ given. given) c.node.ensures.kept c.apply_from-2.ensures.holds)
+
+pub returns-clause-others : goal.returns-clause-others
+returns-clause-others g t c =
+    let round = c.args.self.now.round in
+    let asked = others_less round c.args.memo.now c.get.new.self c.get.ensures.kept in
+    let added = others_more round c.apply_from-2.new.memo c.put.new.self (entry c.args.key.round c.args.key.operands.items c.in_ok-root.root) c.put.ensures.adds c.requires.round in
+    others_in_turn round c.args.memo.now c.apply_from-2.new.memo c.put.new.self
+    (others_in_turn round c.args.memo.now c.apply_from.new.memo c.apply_from-2.new.memo
+    (others_in_turn round c.args.memo.now c.get.new.self c.apply_from.new.memo asked c.apply_from.ensures.others) c.apply_from-2.ensures.others) added

@@ -1,0 +1,20 @@
+-- The entries of the cache that a memo stands on, as plain data.
+--     entry_of pair             the entry that a key and its ref are
+--     Adds entry old new        nothing is remembered that was not before, but for this entry
+--     KeepsEntries old new      nothing is remembered that was not before
+use Rattle.std.specs.Prelude.{◌≡◌, ℕ, List, Contains, ◌⊎◌}
+use Rattle.dcv_arena.specs.declared.nodes.Ref.{Ref}
+use Rattle.dcv_apply.specs.Memo.{EntryValue, MemoValue}
+use Rattle.dcv_apply.specs.declared.memo.Key.{Key}
+
+abbrev pub entry : ℕ → List (ℕ × Ref) → Ref → EntryValue
+entry round operands root = record { round = round; operands = operands; root = root }
+
+abbrev pub entry_of : Key × Ref → EntryValue
+entry_of pair = entry pair.0.round pair.0.operands.items pair.1
+
+abbrev pub KeepsEntries : MemoValue → MemoValue → Type 0
+KeepsEntries old new = (one : EntryValue) → Contains new.entries one → Contains old.entries one
+
+abbrev pub Adds : EntryValue → MemoValue → MemoValue → Type 0
+Adds added old new = (one : EntryValue) → Contains new.entries one → Contains old.entries one ⊎ (one ≡ added)
