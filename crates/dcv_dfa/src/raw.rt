@@ -1,0 +1,92 @@
+// Raw automata: not yet minimal, their states in any order, any of them the start.
+ghost use Rattle.std.specs.Prelude.{◌≡◌, ◌<◌, length, slice_get, slice_index_or, Some, false};
+ghost use Rattle.dcv_arena.specs.Arena.{IsRef};
+ghost use Rattle.dcv_dfa.specs.Raw.{IsRaw, RawValue, raw_value};
+
+use dcv_arena::{Arena, Ref};
+use std::marker::Model;
+
+/// An automaton as an exploration leaves it. It has at least one state, and its start and all numbers of its rows are
+/// states.
+#[derive(Debug, Drop)]
+pub struct Raw {
+    arena: Arena,
+    rows: Vec<Ref>,
+    accepting: Vec<bool>,
+    start: u32,
+}
+
+impl Model for Raw {
+    ghost use Rattle.dcv_dfa.specs.Raw.{RawValue, IsRaw, raw_value};
+
+    ghost Value = { RawValue };
+
+    ghost view = { λ raw. raw_value raw.arena raw.rows.items raw.accepting.items raw.start };
+
+    ghost invariant = { λ raw. IsRaw (raw_value raw.arena raw.rows.items raw.accepting.items raw.start) };
+}
+
+impl Raw {
+    /// The automaton with these rows and flags, one of each a state.
+    pub fn new(arena: Arena, rows: Vec<Ref>, accepting: Vec<bool>, start: u32) -> Raw
+        requires { IsRaw (raw_value arena rows.items accepting.items start) }
+        ensures { result ≡ raw_value arena rows.items accepting.items start }
+    {
+        Raw {
+            arena,
+            rows,
+            accepting,
+            start,
+        }
+    }
+
+    /// How many states there are.
+    pub fn states(&self) -> u32
+        ensures states { result ≡ length self.now.rows }
+        ensures some { 0 < result }
+        ensures raw { IsRaw self.now }
+    {
+        self.rows.len() as u32
+    }
+
+    /// How many variables the letters have.
+    pub fn slots(&self) -> u8
+        ensures slots { result ≡ self.now.arena.slots }
+        ensures raw { IsRaw self.now }
+    {
+        self.arena.slots()
+    }
+
+    /// The state in which words begin.
+    pub fn start(&self) -> u32
+        ensures start { result ≡ self.now.start }
+        ensures state { result < length self.now.rows }
+    {
+        self.start
+    }
+
+    /// Whether a state accepts.
+    pub fn accepting(&self, state: u32) -> bool
+        requires { state < length self.now.rows }
+        ensures { result ≡ slice_index_or self.now.accepting state false }
+    {
+        self.accepting[state as usize]
+    }
+
+    /// The function from letters to the states that come next.
+    pub fn row(&self, state: u32) -> Ref
+        requires { state < length self.now.rows }
+        ensures row { slice_get self.now.rows state ≡ Some result }
+        ensures is_ref { IsRef self.now.arena result }
+    {
+        self.rows[state as usize]
+    }
+
+    /// The arena of the rows.
+    pub fn arena(&self) -> &Arena
+        ensures arena { result.now ≡ self.now.arena }
+        ensures raw { IsRaw self.now }
+    {
+        &self.arena
+    }
+}
