@@ -29,15 +29,23 @@ pub trait Merge {
     /// That there are more different numbers to give than this limit.
     ghost full: { Self → ℕ → Type 0 };
 
+    /// What a merge may become by calls: nothing else is done to it.
+    ghost becomes: { Self → Self → Type 0 };
+
     /// The number that these are merged into.
     fn leaf(&mut self, leaves: &[u32]) -> Result<u32, MergeFault>
         requires { may self.old leaves.now }
         ensures gives { IfOk result (gives self.new leaves.now) }
         ensures known { (numbers : List ℕ) (number : ℕ) → gives self.old numbers number → gives self.new numbers number }
         ensures kept { (numbers : List ℕ) → may self.old numbers → may self.new numbers }
-        ensures full { (limit : ℕ) → result ≡ Err (MergeStates limit) → full self.new limit };
+        ensures full { (limit : ℕ) → result ≡ Err (MergeStates limit) → full self.new limit }
+        ensures becomes { becomes self.old self.new };
 
     ghost one_number: { (merge : Self) (numbers : List ℕ) (first second : ℕ) → gives merge numbers first → gives merge numbers second → first ≡ second };
+
+    ghost stays: { (merge : Self) → becomes merge merge };
+
+    ghost goes_on: { (first second third : Self) → becomes first second → becomes second third → becomes first third };
 }
 
 /// The function whose number at each letter is what the operands' numbers there are merged into, in order.
@@ -66,6 +74,7 @@ pub fn apply<G: Merge>(
     ensures merged { IsApplied (G.gives merge.new) (G.full merge.new) (numbers_at first.now second.now operands.now) arena.old arena.new result }
     ensures known { (numbers : List ℕ) (number : ℕ) → G.gives merge.old numbers number → G.gives merge.new numbers number }
     ensures may_kept { (numbers : List ℕ) → G.may merge.old numbers → G.may merge.new numbers }
+    ensures becomes { G.becomes merge.old merge.new }
 
     // The memo holds what this merge gives, in the round, and of other rounds only what it held.
     ensures holds { HoldsRound (G.gives merge.new) (numbers_at first.now second.now) arena.new round memo.new }
@@ -101,6 +110,7 @@ pub fn apply_last<G: Merge>(
     ensures merged { IsApplied (G.gives merge.new) (G.full merge.new) (numbers_at_both first.now second.now operands.now) arena.old arena.new result }
     ensures known { (numbers : List ℕ) (number : ℕ) → G.gives merge.old numbers number → G.gives merge.new numbers number }
     ensures may_kept { (numbers : List ℕ) → G.may merge.old numbers → G.may merge.new numbers }
+    ensures becomes { G.becomes merge.old merge.new }
 
     // The memo holds what this merge gives, in the round, and of other rounds only what it held.
     ensures holds { HoldsRound (G.gives merge.new) (numbers_at_both first.now second.now) arena.new round memo.new }
@@ -141,6 +151,7 @@ impl Operation<'_> {
         ensures merged { IsApplied (G.gives merge.new) (G.full merge.new) (merged_by self.now operands.now) arena.old arena.new result }
         ensures known { (numbers : List ℕ) (number : ℕ) → G.gives merge.old numbers number → G.gives merge.new numbers number }
         ensures may_kept { (numbers : List ℕ) → G.may merge.old numbers → G.may merge.new numbers }
+        ensures becomes { G.becomes merge.old merge.new }
         ensures holds { HoldsRound (G.gives merge.new) (merged_by self.now) arena.new self.now.round memo.new }
         ensures others { KeepsOthers self.now.round memo.old memo.new }
         ensures capacity { memo.new.capacity ≡ memo.old.capacity }
@@ -228,6 +239,7 @@ impl Operation<'_> {
         ensures arena { IsArena arena.new }
         ensures known { (numbers : List ℕ) (number : ℕ) → G.gives merge.old numbers number → G.gives merge.new numbers number }
         ensures may_kept { (numbers : List ℕ) → G.may merge.old numbers → G.may merge.new numbers }
+        ensures becomes { G.becomes merge.old merge.new }
         ensures holds { HoldsRound (G.gives merge.new) (merged_by self.now) arena.new self.now.round memo.new }
         ensures others { KeepsOthers self.now.round memo.old memo.new }
         ensures capacity { memo.new.capacity ≡ memo.old.capacity }

@@ -28,11 +28,17 @@ impl Merge for Conjunction {
 
     ghost full = { λ merge limit. ⊥ };
 
+    ghost becomes = { λ old new. Unit {0} };
+
     fn leaf(&mut self, leaves: &[u32]) -> Result<u32, MergeFault> {
         Ok(leaves.iter().fold(1, |least, leaf| least.min(*leaf)))
     }
 
     ghost one_number = { λ merge numbers first second one other. one ∙ sym other };
+
+    ghost stays = { λ merge. tt };
+
+    ghost goes_on = { λ first second third one other. tt };
 }
 
 // Numbers are merged into their sum, up to the last number of 32 bits. Calls are counted, and there are `limit` at most.
@@ -43,14 +49,16 @@ struct Sum {
 }
 
 impl Merge for Sum {
-    ghost use Rattle.std.specs.Prelude.{◌≡◌, ◌+◌, fold, min};
-    ghost use Rattle.std.proofs.Common.{sym, ◌∙◌};
+    ghost use Rattle.std.specs.Prelude.{◌≡◌, ◌≤◌, ◌+◌, fold, min};
+    ghost use Rattle.std.proofs.Common.{rules, arith, sym, ◌∙◌};
 
     ghost may = { λ merge numbers. Unit {0} };
 
     ghost gives = { λ merge numbers number. number ≡ fold (λ a b. min (a + b) 4294967295) 0 numbers };
 
     ghost full = { λ merge limit. (merge.calls ≡ merge.limit) × (limit ≡ merge.limit) };
+
+    ghost becomes = { λ old new. (old.calls ≤ new.calls) × (new.limit ≡ old.limit) };
 
     fn leaf(&mut self, leaves: &[u32]) -> Result<u32, MergeFault> {
         if self.calls == self.limit {
@@ -61,6 +69,10 @@ impl Merge for Sum {
     }
 
     ghost one_number = { λ merge numbers first second one other. one ∙ sym other };
+
+    ghost stays = { Prim.search (rules, arith) };
+
+    ghost goes_on = { Prim.search (rules, arith) };
 }
 
 // Numbers are merged into the number whose decimal digits they are, in order.
@@ -77,6 +89,8 @@ impl Merge for Digits {
 
     ghost full = { λ merge limit. ⊥ };
 
+    ghost becomes = { λ old new. Unit {0} };
+
     fn leaf(&mut self, leaves: &[u32]) -> Result<u32, MergeFault> {
         Ok(
             leaves.iter().fold(0, |number, leaf| {
@@ -86,6 +100,10 @@ impl Merge for Digits {
     }
 
     ghost one_number = { λ merge numbers first second one other. one ∙ sym other };
+
+    ghost stays = { λ merge. tt };
+
+    ghost goes_on = { λ first second third one other. tt };
 }
 
 // Sums are numbered in the order in which they come, as an explorer numbers states, and there are ten at most.
@@ -106,6 +124,8 @@ impl Merge for Numbering {
 
     ghost full = { λ merge limit. (10 ≤ length merge.seen.keys) × (limit ≡ 10) };
 
+    ghost becomes = { λ old new. Unit {0} };
+
     fn leaf(&mut self, leaves: &[u32]) -> Result<u32, MergeFault> {
         if self.seen.len() >= 10 {
             return Err(MergeFault::States { limit: 10 });
@@ -118,6 +138,10 @@ impl Merge for Numbering {
     }
 
     ghost one_number = { λ merge numbers first second one other. same_Some first second (sym one ∙ other) };
+
+    ghost stays = { λ merge. tt };
+
+    ghost goes_on = { λ first second third one other. tt };
 }
 
 // The value of a slot, as 0 or 1.
