@@ -23,7 +23,7 @@ pub node_laws : IsEquivalence is_same_node
 node_laws = decided is_same_node same_node
 
 -- a list without repeats, and which has the same nodes
-record IsOnce (nodes once : List (ℕ × List ℕ)) : Type 0 where
+pub record IsOnce (nodes once : List (ℕ × List ℕ)) : Type 0 where
   pub apart : AllPairs (λ a b. a ≢ b) once
   pub members : (q : ℕ × List ℕ) → is_member is_same_node once q ≡ is_member is_same_node nodes q
 
@@ -47,7 +47,7 @@ once_more node nodes once false e is = record {
 }
 
 -- the list that `node_count` counts by
-each_once : (nodes : List (ℕ × List ℕ)) → IsOnce nodes (unique_keys is_same_node nodes)
+pub each_once : (nodes : List (ℕ × List ℕ)) → IsOnce nodes (unique_keys is_same_node nodes)
 each_once [] = record { apart = λ i j d before within. absurd (omega arith); members = λ q. refl }
 each_once (node ∷ nodes) = once_more node nodes (unique_keys is_same_node nodes) (is_member is_same_node nodes node) refl (each_once nodes)
 
