@@ -5,3 +5,5 @@
 mod apply;
 #[cfg(test)]
 mod arena;
+#[cfg(test)]
+mod explore;
