@@ -1,7 +1,7 @@
 // Raw automata: not yet minimal, their states in any order, any of them the start.
 ghost use Rattle.std.specs.Prelude.{◌≡◌, ◌<◌, length, slice_get, slice_index_or, Some, false};
 ghost use Rattle.dcv_arena.specs.Arena.{IsRef};
-ghost use Rattle.dcv_dfa.specs.Raw.{IsRaw, RawValue, raw_value};
+ghost use Rattle.dcv_dfa.specs.Raw.{IsRaw, raw_value};
 
 use dcv_arena::{Arena, Ref};
 use std::marker::Model;
