@@ -188,6 +188,8 @@ impl Merge for Differ {
 
     ghost full = { λ merge limit. ⊥ };
 
+    ghost becomes = { λ old new. Unit {0} };
+
     fn leaf(&mut self, leaves: &[u32]) -> Result<u32, MergeFault> {
         Ok(
             leaves
@@ -197,4 +199,8 @@ impl Merge for Differ {
     }
 
     ghost one_number = { λ merge numbers first second one other. one ∙ sym other };
+
+    ghost stays = { λ merge. tt };
+
+    ghost goes_on = { λ first second third one other. tt };
 }

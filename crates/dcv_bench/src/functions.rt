@@ -1,5 +1,6 @@
 // The functions that are measured: random ones, bits of a product, and parities.
-ghost use Rattle.std.specs.Prelude.{◌≤◌, ◌<◌, ℕ, Bool, List, IfOk};
+ghost use Rattle.std.specs.Prelude.{◌≤◌, ◌<◌, ◌+◌, ℕ, Bool, List, IfOk};
+ghost use Rattle.dcv_bench.specs.Bits.{IsFrom};
 ghost use Rattle.dcv_arena.specs.Arena.{IsArena, IsRef, KeepsRefs, level_of, value_of};
 
 use dcv_arena::{Arena, ArenaFault, Ref};
@@ -33,9 +34,7 @@ impl Function {
     pub(crate) fn build(self, arena: &mut Arena, slot: u8, front: u32) -> Result<Ref, ArenaFault>
         requires slot { slot ≤ arena.old.slots }
         requires arena { IsArena arena.old }
-        ensures is_ref { IfOk result (IsRef arena.new) }
-        ensures level { IfOk result (λ root. slot ≤ level_of arena.new root) }
-        ensures bound { IfOk result (λ root. (letter : List Bool) → value_of arena.new root letter < 2) }
+        ensures from { IfOk result (IsFrom arena.new slot) }
         ensures kept { KeepsRefs arena.old arena.new }
         ensures arena { IsArena arena.new }
     {
@@ -70,9 +69,33 @@ pub(crate) fn parity(arena: &mut Arena, each: u8) -> Result<Ref, ArenaFault>
 {
     let (mut even, mut odd) = (arena.leaf(0), arena.leaf(1));
     for slot in (0..arena.slots()).rev() {
-        if each == 0 || slot % each == 0 {
-            (even, odd) = (arena.node(slot, even, odd)?, arena.node(slot, odd, even)?);
-        }
+        let counts = each != 0 && slot % each == 0;
+        (even, odd) = counted(arena, slot, counts, even, odd)?;
     }
     Ok(even)
+}
+
+// The two parities from a slot on, by those from the next slot on, where the slot counts or does not.
+fn counted(
+    arena: &mut Arena,
+    slot: u8,
+    counts: bool,
+    even: Ref,
+    odd: Ref,
+) -> Result<(Ref, Ref), ArenaFault>
+    requires slot { slot < arena.old.slots }
+    requires even { IsFrom arena.old (slot + 1) even }
+    requires odd { IsFrom arena.old (slot + 1) odd }
+    ensures kept { KeepsRefs arena.old arena.new }
+    ensures even { IfOk result (λ roots. IsFrom arena.new slot roots.0) }
+    ensures odd { IfOk result (λ roots. IsFrom arena.new slot roots.1) }
+{
+    // for the prover: of an arena that was asked it is known what is true of every arena.
+    let _ = arena.slots();
+    if !counts {
+        return Ok((even, odd));
+    }
+    let new_even = arena.node(slot, even, odd)?;
+    let new_odd = arena.node(slot, odd, even)?;
+    Ok((new_even, new_odd))
 }
