@@ -129,6 +129,8 @@ fn built(arena: &mut Arena, first: Function, second: Function) -> Result<(Ref, R
     ensures other { IfOk result (λ roots. IsRef arena.new roots.1) }
     ensures bound { IfOk result (λ roots. (letter : List Bool) → value_of arena.new roots.0 letter < 2) }
 {
+    // for the prover: of an arena that was asked it is known what is true of every arena.
+    let _ = arena.slots();
     let one = first.build(arena, 0, 0)?;
     let other = second.build(arena, 0, 0)?;
     Ok((one, other))
