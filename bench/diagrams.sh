@@ -15,8 +15,9 @@
 #
 # A case is a word of dcv_bench's arguments, beside its slots and how often it is done.
 #
-# The last figures: 27 November 2026, four processors of a shared machine under full load (Intel(R) Xeon(R) Processor @ 2.50GHz), the least of five runs, in
-# nanoseconds. The goal is at most twice the time of C. It is reached where nodes are built, and nowhere else:
+# The last figures: 27 November 2026, an Intel Xeon at 2.5 GHz, four processors that others kept busy, so they scatter by a
+# quarter; the least of five runs, in nanoseconds. The goal is at most twice the time of C. It is reached where nodes are
+# built, and nowhere else:
 #
 #   case         slots      size       rattle            C  times
 #   build           16      8316      2145126      1521355   1.41
@@ -33,11 +34,11 @@
 #   letters         16         2       304318        63463   4.80
 #   letters         20         2      2670658       598555   4.46
 #
-# Of the instructions of a merge (multiplier, 16 slots) the memo takes 40 in a hundred: the cache that forgets the least used hashes a key
-# twice, keeps an allocated entry in a list and in a table, and is dropped entry by entry. The C program's memo is one store and one
-# compare, and stays from one time to the next. Two look-ups of each operand's node, for its slot and for its children, take 20
-# more, and malloc 15, nearly all of it for the memo's entries. Counted instructions of one operation (callgrind; C beside nodes
-# of 20 bytes, of 12, and of 12 with operands in place):
+# Of the instructions of a merge (multiplier, 16 slots; callgrind) the memo takes 42 in a hundred, with its entries dropped at the
+# end, and malloc 16 more, nearly all of it for those entries: the cache that forgets the least used hashes a key at each look-up and
+# at each entry, and keeps an entry in a list and in a table. The C program's memo is one compare and one store, and is made once
+# for all times. Following the operands (their first slot, their parts, the next keys) takes 28, and nodes 12. Instructions of one
+# operation, in C, and in Rattle with nodes of 20 bytes, with nodes of 12, and with the operands of a visit in place too:
 #
 #   build 16        9922117   15108664   15028473   15028473
 #   random 16       5234054   41542086   42411283   35764344
