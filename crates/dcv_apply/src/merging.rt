@@ -1,6 +1,6 @@
 // Functions are merged letter by letter: `Apply` of R. E. Bryant (1986) for any number of operands at once. A memo keeps
 // what operands were merged into, so that each list of operands is gone through once while the memo has room; what it
-// forgets is merged again. Each visit makes a vector for its operands, which is half of the time that it takes.
+// forgets is merged again. The operands of a visit lie in place where they are few, and take no memory of their own.
 ghost use Rattle.std.specs.Prelude.{◌≡◌, ◌≤◌, ◌<◌, ◌+◌, ℕ, List, Bool, Err, Ok, length, IfOk, true, false};
 ghost use Rattle.std.specs.List.{All};
 ghost use Rattle.dcv_arena.specs.Arena.{IsRef, IsArena, level_of, KeepsRefs, AddsOnlyNodesOfFunction, count_with};

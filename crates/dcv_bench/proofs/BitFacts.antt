@@ -17,14 +17,6 @@ kept_from old new slot root kept from = record {
   bound = λ letter. omega (arith, kept.values root letter from.is_ref, from.bound letter);
 }
 
--- and a function that depends on no slot before a later one depends on none before an earlier one
-pub from_earlier : (arena : ArenaValue) (slot later : ℕ) (root : Ref) → slot ≤ later → IsFrom arena later root → IsFrom arena slot root
-from_earlier arena slot later root before from = record {
-  is_ref = from.is_ref;
-  level = omega (arith, from.level);
-  bound = from.bound;
-}
-
 pub node_from : (old new : ArenaValue) (slot : ℕ) (lo hi node : Ref) → IsFrom old (slot + 1) lo → IsFrom old (slot + 1) hi
     → IsRef new node → slot ≤ level_of new node
     → ((letter : List Bool) → value_of new node letter ≡ cond (get_or letter slot false) (value_of old hi letter) (value_of old lo letter))
