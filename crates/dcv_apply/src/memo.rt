@@ -3,7 +3,7 @@
 ghost use Rattle.std.specs.Prelude.{◌≡◌, ◌≤◌, ◌==◌, [], length, IfOk, IfSome, Contains};
 ghost use Rattle.dcv_apply.specs.Remembered.{entry, KeepsEntries, Adds};
 
-use crate::operands::Operand;
+use crate::operands::Operands;
 use dcv_arena::Ref;
 use lru::LruCache;
 use std::alloc::{AllocError, Global};
@@ -14,7 +14,7 @@ use std::num::NonZeroUsize;
 #[derive(Debug, PartialEq, Eq, Hash, Drop)]
 pub(crate) struct Key {
     pub(crate) round: u32,
-    pub(crate) operands: Vec<Operand>,
+    pub(crate) operands: Operands,
 }
 
 /// What operations remember: for a round and operands, the ref that they were merged into.

@@ -1,6 +1,6 @@
 // Functions are merged letter by letter: `Apply` of R. E. Bryant (1986) for any number of operands at once. A memo keeps
 // what operands were merged into, so that each list of operands is gone through once while the memo has room; what it
-// forgets is merged again. Each visit makes a vector for its operands, which is half of the time that it takes.
+// forgets is merged again. The operands of a visit lie in place where they are few, and take no memory of their own.
 ghost use Rattle.std.specs.Prelude.{◌≡◌, ◌≤◌, ◌<◌, ◌+◌, ℕ, List, Bool, Err, Ok, length, IfOk, true, false};
 ghost use Rattle.std.specs.List.{All};
 ghost use Rattle.dcv_arena.specs.Arena.{IsRef, IsArena, level_of, KeepsRefs, AddsOnlyNodesOfFunction, count_with};
@@ -13,8 +13,9 @@ ghost use Rattle.dcv_apply.specs.declared.faults.ApplyFault.TheVariants.{Full, S
 
 use crate::faults::{ApplyFault, MergeFault};
 use crate::memo::{Key, Memo};
-use crate::operands::{LastSlot, Operand, Sources};
+use crate::operands::{LastSlot, Numbers, Operand, Sources};
 use dcv_arena::{Arena, Ref};
+use smallvec::SmallVec;
 use std::alloc::{AllocError, Global};
 
 /// What numbers are merged into, list by list. Where the numbers are states of automata, the list has those that
@@ -162,7 +163,7 @@ impl Operation<'_> {
             self.sources.second.slots(),
             arena.slots(),
         );
-        let operands = operands.to_vec(self.alloc)?;
+        let operands = SmallVec::from_slice(self.alloc, operands)?;
         let key = Key {
             round: self.round,
             operands,
@@ -198,7 +199,7 @@ impl Operation<'_> {
     }
 
     // The numbers that are merged at each letter of so many slots, where the operands depend on none of them.
-    fn numbers(&self, key: &Key, slots: u8) -> Result<Vec<u32>, AllocError>
+    fn numbers(&self, key: &Key, slots: u8) -> Result<Numbers, AllocError>
         requires bound { slots ≤ 32 }
         requires operands { All (IsFrom self.now.sources slots) key.now.operands.items }
         ensures { IfOk result (λ numbers. (letter : List Bool) → length letter ≡ slots

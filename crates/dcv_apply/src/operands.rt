@@ -7,10 +7,16 @@ ghost use Rattle.dcv_apply.specs.Sources.{IsIn, IsFrom, number_in, numbers_in};
 
 use dcv_arena::{Arena, Ref};
 use dcv_word::Letter;
+use smallvec::SmallVec;
 use std::alloc::{AllocError, Global};
 
 // A place, 0 for the first arena and else the second, and a ref there.
 pub(crate) type Operand = (u32, Ref);
+
+// The operands of one visit, and the numbers that are merged in one. Most have few, which take no memory of their own.
+pub(crate) type Operands = SmallVec<Operand, 2>;
+
+pub(crate) type Numbers = SmallVec<u32, 4>;
 
 // Which numbers are merged at a letter: those of the operands there, or those where the slot after the letter
 // is false and then those where it is true.
@@ -87,13 +93,13 @@ impl Sources<'_> {
         operands: &[Operand],
         slot: u8,
         value: bool,
-    ) -> Result<Vec<Operand>, AllocError>
+    ) -> Result<Operands, AllocError>
         requires { All (IsFrom self.now slot) operands.now }
         ensures from { IfOk result (λ parts. All (IsFrom self.now (slot + 1)) parts.items) }
         ensures numbers { IfOk result (λ parts. (letter : List Bool) → slot < length letter
             → numbers_in self.now parts.items letter ≡ numbers_in self.now operands.now (slice_set letter slot value)) }
     {
-        let mut parts = Vec::with_capacity(alloc, operands.len())?;
+        let mut parts = SmallVec::new(alloc);
         for operand in operands {
             parts.push(self.cofactor(*operand, slot, value))?;
         }
@@ -115,7 +121,7 @@ impl Sources<'_> {
         &self,
         operands: &[Operand],
         slots: u8,
-        numbers: &mut Vec<u32>,
+        numbers: &mut Numbers,
     ) -> Result<(), AllocError>
         requires { All (IsFrom self.now slots) operands.now }
         ensures { OnOk result ((letter : List Bool) → length letter ≤ slots
@@ -134,7 +140,7 @@ impl Sources<'_> {
         operands: &[Operand],
         slots: u8,
         value: bool,
-        numbers: &mut Vec<u32>,
+        numbers: &mut Numbers,
     ) -> Result<(), AllocError>
         requires bound { slots ≤ 32 }
         requires operands { All (IsFrom self.now slots) operands.now }
@@ -152,13 +158,13 @@ impl Sources<'_> {
         last_slot: LastSlot,
         operands: &[Operand],
         slots: u8,
-    ) -> Result<Vec<u32>, AllocError>
+    ) -> Result<Numbers, AllocError>
         requires bound { slots ≤ 32 }
         requires operands { All (IsFrom self.now slots) operands.now }
         ensures { IfOk result (λ numbers. (letter : List Bool) → length letter ≡ slots
             → numbers.items ≡ merged_at last_slot self.now.first.now self.now.second.now operands.now letter) }
     {
-        let mut numbers = Vec::new(alloc);
+        let mut numbers = SmallVec::new(alloc);
         match last_slot {
             LastSlot::Kept => self.push_numbers(operands, slots, &mut numbers)?,
             LastSlot::Merged => {

@@ -9,7 +9,7 @@ use Rattle.dcv_arena.specs.declared.faults.ArenaFault.{ArenaFault}
 use Rattle.dcv_arena.specs.declared.faults.ArenaFault.TheVariants.{Memory}
 use Rattle.dcv_arena.specs.declared.nodes.Ref.TheVariants.{Place}
 use Rattle.dcv_arena.specs.declared.nodes.Node.{Node}
-use Rattle.dcv_arena.specs.contracts.nodes.NodePartialEq.TheImpl.{eq-value as node_eq}
+use Rattle.dcv_arena.specs.contracts.stored.StoredNodePartialEq.TheImpl.{eq-value as node_eq}
 use Rattle.dcv_arena.proofs.Same.{same_nodes, absent_there}
 use Rattle.dcv_arena.proofs.Growth.{grown, length-grown, is_reduced_grown, keeps_grown, keeps_all, adds_grown, slice_get-push_last, stands}
 

@@ -3,5 +3,6 @@ pub mod Diagram
 pub mod Arena
 -- the statements that `src/laws.rt` proves
 pub mod Laws
--- for proofs alone: what looking for a node answers
+-- for proofs alone: the form in which an arena keeps its nodes, and what looking for a node answers
+pub mod Stored
 pub mod Placing

@@ -18,6 +18,7 @@
 mod faults;
 pub mod laws;
 mod nodes;
+mod stored;
 
 pub use faults::ArenaFault;
 pub use nodes::{Arena, Ref};

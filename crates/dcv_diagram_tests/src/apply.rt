@@ -1,8 +1,9 @@
 // Tests of `dcv_apply`: merges of several kinds, with functions whose tables were worked out by hand.
-ghost use Rattle.std.specs.Prelude.{◌≡◌, ◌≤◌, ◌<◌, Bool, List, length, IfOk};
+ghost use Rattle.std.specs.Prelude.{◌≡◌, ◌≤◌, ◌<◌, ◌+◌, Bool, List, length, IfOk};
 ghost use Rattle.std.specs.List.{All};
-ghost use Rattle.dcv_arena.specs.Arena.{IsRef, KeepsRefs};
+ghost use Rattle.dcv_arena.specs.Arena.{IsRef, KeepsRefs, value_of};
 ghost use Rattle.dcv_apply.specs.Operands.{IsOperand, numbers_at};
+ghost use Rattle.dcv_diagram_tests.specs.Bits.{IsFrom};
 
 use dcv_apply::{
     ApplyFault, LetterSearch, Memo, Merge, MergeFault, Remapping, apply, apply_last, least_letters,
@@ -168,12 +169,27 @@ fn same(arena: &mut Arena) -> Result<Ref, ArenaFault>
 fn parity(arena: &mut Arena) -> Result<Ref, ArenaFault>
     ensures kept { KeepsRefs arena.old arena.new }
     ensures is_ref { IfOk result (IsRef arena.new) }
+    ensures bound { IfOk result (λ root. (letter : List Bool) → value_of arena.new root letter < 2) }
 {
     let (mut even, mut odd) = (arena.leaf(0), arena.leaf(1));
     for slot in (0..arena.slots()).rev() {
-        (even, odd) = (arena.node(slot, even, odd)?, arena.node(slot, odd, even)?);
+        (even, odd) = flipped(arena, slot, even, odd)?;
     }
     Ok(even)
+}
+
+// The parity of the slots from this one on, and its negation, by those of the slots behind it.
+fn flipped(arena: &mut Arena, slot: u8, even: Ref, odd: Ref) -> Result<(Ref, Ref), ArenaFault>
+    requires slot { slot < arena.old.slots }
+    requires even { IsFrom arena.old (slot + 1) even }
+    requires odd { IsFrom arena.old (slot + 1) odd }
+    ensures kept { KeepsRefs arena.old arena.new }
+    ensures even { IfOk result (λ roots. IsFrom arena.new slot roots.0) }
+    ensures odd { IfOk result (λ roots. IsFrom arena.new slot roots.1) }
+{
+    let new_even = arena.node(slot, even, odd)?;
+    let new_odd = arena.node(slot, odd, even)?;
+    Ok((new_even, new_odd))
 }
 
 // The numbers of a function of three slots, in the letters' order.
@@ -486,5 +502,18 @@ fn thirty_two_slots(rt: HostRuntime) -> Result<(), Fail> {
     let root = parity(&mut arena)?;
     assert_eq!(rt; least_letters(alloc, &arena, root)?.len(), 2);
     assert_eq!(rt; parity_merged(alloc, 32, 100, 4)?, (4, 63, 63));
+    Ok(())
+}
+
+// Each node is renumbered once, so this takes no longer than 63 nodes ask for. The letter has one slot that is true.
+#[test]
+fn thirty_two_slots_renumbered(rt: HostRuntime) -> Result<(), Fail> {
+    let alloc = rt.alloc();
+    let mut arena = Arena::new(alloc, 32, 100);
+    let root = parity(&mut arena)?;
+    let mut results = Arena::new(alloc, 32, 100);
+    let new = remap(alloc, &mut results, &arena, root, &[7, 5])?;
+    assert_eq!(rt; results.len(), 63);
+    assert_eq!(rt; results.eval(new, &Letter::new(32, 1)), 5);
     Ok(())
 }

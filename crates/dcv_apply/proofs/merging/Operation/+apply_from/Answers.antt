@@ -16,7 +16,7 @@ pub leaf-requires : goal.leaf-requires
 leaf-requires g t c =
     let blank = replicate c.args.arena.now.slots false in
     let size : length blank ≡ c.args.arena.now.slots = length-replicate c.args.arena.now.slots false in
-    subst (λ numbers. g.G.Merge.may c.args.merge.now numbers) (sym (c.in_ok-numbers.ensures blank (size ∙ sym c.slots-slots.ensures.slots)) ∙ sym c.deref.ensures.value) (c.requires.may blank size)
+    subst (λ numbers. g.G.Merge.may c.args.merge.now numbers) (sym (c.in_ok-numbers.ensures blank (size ∙ sym c.slots-slots.ensures.slots)) ∙ sym c.deref.ensures) (c.requires.may blank size)
 
 pub apply_from-requires : goal.apply_from-requires
 apply_from-requires g t c κs within =

@@ -13,6 +13,6 @@ returns c =
     let fixed = c.in_ok-parts.ensures.numbers longer (omega (arith, length_push letter c.args.value))
     ∙ ap (numbers_at first second c.args.operands.now) (set_at letter c.args.value [] c.args.value c.args.slots size) in
     pushed longer (omega (arith, length_push letter c.args.value))
-    ∙ (λ i. c.args.numbers.now.items ++ numbers_at first second (c.deref.ensures.value i) longer)
+    ∙ (λ i. c.args.numbers.now.items ++ numbers_at first second (c.deref.ensures i) longer)
     ∙ (λ i. c.args.numbers.now.items ++ fixed i))
     c.push_numbers.ensures

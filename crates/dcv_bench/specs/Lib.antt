@@ -1,0 +1,2 @@
+-- what clauses of the measured functions cite
+pub mod Bits

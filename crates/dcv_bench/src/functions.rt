@@ -1,0 +1,101 @@
+// The functions that are measured: random ones, bits of a product, and parities.
+ghost use Rattle.std.specs.Prelude.{◌≤◌, ◌<◌, ◌+◌, ℕ, Bool, List, IfOk};
+ghost use Rattle.dcv_bench.specs.Bits.{IsFrom};
+ghost use Rattle.dcv_arena.specs.Arena.{IsArena, IsRef, KeepsRefs, level_of, value_of};
+
+use dcv_arena::{Arena, ArenaFault, Ref};
+
+// A function of letters by its number at each, 0 or 1. A letter is a number, with slot 0 as its highest bit.
+#[derive(Clone, Copy)]
+pub(crate) enum Function {
+    // A number that seems to be random, one for each seed.
+    Random { seed: u64 },
+    // A bit of the product of the letter's two halves.
+    Product { bit: u32 },
+}
+
+impl Function {
+    // The number at a letter.
+    fn number(self, slots: u8, letter: u32) -> u32
+        ensures { result < 2 }
+    {
+        let bits = match self {
+            Function::Random { seed } => mixed(seed ^ u64::from(letter)) >> 63,
+            Function::Product { bit } => {
+                let half = u32::from(slots) / 2;
+                let (high, low) = (letter.wrapping_shr(half), letter & mask(half));
+                u64::from(high.wrapping_mul(low).wrapping_shr(bit))
+            }
+        };
+        if bits & 1 == 1 { 1 } else { 0 }
+    }
+
+    // The diagram of the function behind the slots before `slot`, where the letter begins with these values.
+    pub(crate) fn build(self, arena: &mut Arena, slot: u8, front: u32) -> Result<Ref, ArenaFault>
+        requires slot { slot ≤ arena.old.slots }
+        requires arena { IsArena arena.old }
+        ensures from { IfOk result (IsFrom arena.new slot) }
+        ensures kept { KeepsRefs arena.old arena.new }
+        ensures arena { IsArena arena.new }
+    {
+        if slot == arena.slots() {
+            return Ok(arena.leaf(self.number(slot, front)));
+        }
+        let lo = self.build(arena, slot + 1, front.wrapping_mul(2))?;
+        let hi = self.build(arena, slot + 1, front.wrapping_mul(2) | 1)?;
+        arena.node(slot, lo, hi)
+    }
+}
+
+// The number of so many bits, all of them 1.
+fn mask(bits: u32) -> u32 {
+    1u32.wrapping_shl(bits).wrapping_sub(1)
+}
+
+// A number whose highest bits seem to be random: G. L. Steele, D. Lea and C. H. Flood, "Fast Splittable Pseudorandom
+// Number Generators", 2014.
+fn mixed(seed: u64) -> u64 {
+    let first = seed.wrapping_mul(0x9E37_79B9_7F4A_7C15);
+    let second = (first ^ (first >> 30)).wrapping_mul(0xBF58_476D_1CE4_E5B9);
+    let third = (second ^ (second >> 27)).wrapping_mul(0x94D0_49BB_1331_11EB);
+    third ^ (third >> 31)
+}
+
+// Whether an odd number of the slots are true, of every slot or of each so many.
+pub(crate) fn parity(arena: &mut Arena, each: u8) -> Result<Ref, ArenaFault>
+    ensures kept { KeepsRefs arena.old arena.new }
+    ensures is_ref { IfOk result (IsRef arena.new) }
+    ensures bound { IfOk result (λ root. (letter : List Bool) → value_of arena.new root letter < 2) }
+{
+    let (mut even, mut odd) = (arena.leaf(0), arena.leaf(1));
+    for slot in (0..arena.slots()).rev() {
+        let counts = each != 0 && slot % each == 0;
+        (even, odd) = counted(arena, slot, counts, even, odd)?;
+    }
+    Ok(even)
+}
+
+// The two parities from a slot on, by those from the next slot on, where the slot counts or does not.
+fn counted(
+    arena: &mut Arena,
+    slot: u8,
+    counts: bool,
+    even: Ref,
+    odd: Ref,
+) -> Result<(Ref, Ref), ArenaFault>
+    requires slot { slot < arena.old.slots }
+    requires even { IsFrom arena.old (slot + 1) even }
+    requires odd { IsFrom arena.old (slot + 1) odd }
+    ensures kept { KeepsRefs arena.old arena.new }
+    ensures even { IfOk result (λ roots. IsFrom arena.new slot roots.0) }
+    ensures odd { IfOk result (λ roots. IsFrom arena.new slot roots.1) }
+{
+    // for the prover: of an arena that was asked it is known what is true of every arena.
+    let _ = arena.slots();
+    if !counts {
+        return Ok((even, odd));
+    }
+    let new_even = arena.node(slot, even, odd)?;
+    let new_odd = arena.node(slot, odd, even)?;
+    Ok((new_even, new_odd))
+}

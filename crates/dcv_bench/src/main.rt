@@ -1,0 +1,36 @@
+//! Measures the operations on diagrams: `dcv_bench CASE SLOTS TIMES` does what a case says so many times, and tells how
+//! large its result is. With a fourth word, `timed`, it also tells the nanoseconds of processor time that each time took.
+//!
+//! Nothing here is promised by a contract but that it ends. `bench/diagrams.sh` runs each case beside a program in C.
+#![tactic(auto)]
+
+mod cases;
+mod functions;
+
+use crate::cases::{Case, measure};
+use anyhow::{Result, bail};
+use std::env;
+
+fn main(rt: HostRuntime) -> Result<()> {
+    let alloc = rt.alloc();
+    let mut words = Vec::new(alloc);
+    for word in env::args(&rt)?.skip(1) {
+        words.push(word)?;
+    }
+    if words.len() < 3 {
+        bail!("usage: dcv_bench CASE SLOTS TIMES [timed]");
+    }
+    let Some(case) = Case::named(words[0].as_str()) else {
+        bail!("no such case");
+    };
+    let slots: u8 = words[1].as_str().parse()?;
+    let times: u32 = words[2].as_str().parse()?;
+    let (size, time) = measure(&rt, alloc, case, slots, times)?;
+    if words.len() > 3 {
+        let each = time.as_nanos() / u128::from(times.max(1));
+        println!(rt; "{size} {each}")?;
+    } else {
+        println!(rt; "{size}")?;
+    }
+    Ok(())
+}
