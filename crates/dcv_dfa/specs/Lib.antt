@@ -1,2 +1,3 @@
--- what public clauses cite, here and above: raw automata as plain data, and what they accept
+-- what public clauses cite, here and above: raw automata as plain data with what they accept, and automata that are operands
 pub mod Raw
+pub mod Table

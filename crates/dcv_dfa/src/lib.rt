@@ -8,8 +8,12 @@
 //! raw.states() // how many
 //! raw.arena().eval(raw.row(raw.start()), &letter) // the state after one letter
 //! ```
+//!
+//! A [`Table`] is what machines read of their operands; a raw automaton is one.
 #![tactic(auto)]
 
 mod raw;
+mod table;
 
 pub use raw::Raw;
+pub use table::Table;

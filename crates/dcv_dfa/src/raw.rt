@@ -1,8 +1,9 @@
 // Raw automata: not yet minimal, their states in any order, any of them the start.
 ghost use Rattle.std.specs.Prelude.{◌≡◌, ◌<◌, length, slice_get, slice_index_or, Some, false};
 ghost use Rattle.dcv_arena.specs.Arena.{IsRef};
-ghost use Rattle.dcv_dfa.specs.Raw.{IsRaw, raw_value};
+ghost use Rattle.dcv_dfa.specs.Raw.{IsRaw, raw_value, automaton_of, row_of};
 
+use crate::table::Table;
 use dcv_arena::{Arena, Ref};
 use std::marker::Model;
 
@@ -88,5 +89,41 @@ impl Raw {
         ensures raw { IsRaw self.now }
     {
         &self.arena
+    }
+}
+
+impl Table for Raw {
+    ghost automaton = { automaton_of };
+
+    ghost slots = { λ raw. raw.arena.slots };
+
+    ghost states = { λ raw. length raw.rows };
+
+    ghost arena = { λ raw. raw.arena };
+
+    ghost row_at = { row_of };
+
+    fn slots(&self) -> u8 {
+        self.arena().slots()
+    }
+
+    fn states(&self) -> u32 {
+        Raw::states(self)
+    }
+
+    fn start(&self) -> u32 {
+        Raw::start(self)
+    }
+
+    fn accepting(&self, state: u32) -> bool {
+        Raw::accepting(self, state)
+    }
+
+    fn row(&self, state: u32) -> Ref {
+        Raw::row(self, state)
+    }
+
+    fn arena(&self) -> &Arena {
+        Raw::arena(self)
     }
 }
