@@ -1,0 +1,5 @@
+//! Tests of the machines of operations through public calls alone. The expected values were worked out by hand.
+#![tactic(auto)]
+
+#[cfg(test)]
+mod operations;

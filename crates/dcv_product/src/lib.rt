@@ -1,0 +1,13 @@
+//! Machines that read a word in two automata at once, and join what the two say of it: both accept, one or the other does, or
+//! they agree.
+//!
+//! ```text
+//! let both = Product::and(&first, &second);
+//! let raw = explore(alloc, &both, limits)?; // accepts the words that both automata accept
+//! ```
+#![tactic(auto)]
+
+mod join;
+mod product;
+
+pub use product::{Pair, Product};

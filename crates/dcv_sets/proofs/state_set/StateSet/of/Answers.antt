@@ -1,0 +1,13 @@
+use Rattle.std.proofs.Common.{◌∙◌, subst, List, ℕ, rules}
+use Rattle.std.specs.List.Sorted.{IsPermutation}
+use Rattle.smallvec.proofs.SmallVecLemmas.{items-with_items}
+use Rattle.dcv_sets.proofs.SameSets.{sorted_is_set}
+use Rattle.dcv_sets.proofs.state_set.StateSet.of.Goals as goal
+
+pub returns : goal.returns
+returns c =
+    let sorted = c.sort_unstable.new.self in
+    let unsorted = c.deref_mut.ensures.value ∙ c.in_ok-sorted.ensures.ok in
+    let moved = subst (λ (listed : List ℕ). IsPermutation listed sorted) unsorted c.sort_unstable.ensures.permutation in
+    rw (items-with_items c.in_ok-sorted.sorted sorted (search rules)) at c.dedup.ensures.items
+    ∙ sorted_is_set c.args.states.now sorted moved c.sort_unstable.ensures.sorted

@@ -1,0 +1,2 @@
+-- what public clauses cite: the rows of listed states as operands
+pub mod Rows
