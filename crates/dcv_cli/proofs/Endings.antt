@@ -1,6 +1,7 @@
 -- How the answer of a command ends a run.
 use Rattle.std.proofs.Common.{◌≡◌, ℕ, true, false, List, [], Option, None, Some, Result, Ok, Err, refl, sym, ap, subst, append-nil, zero-le}
-use Rattle.std.specs.Prelude.{OnErr, IfErr}
+use Rattle.std.specs.Prelude.{OnErr, IfErr, IsTrue, MatchBool}
+use mathlib.Core.Bool.{true≢false}
 use Rattle.std.specs.Bool.{OnTrue, OnFalse}
 use Rattle.dcv_io.specs.Disk.{Disk}
 use Rattle.dcv_io.specs.Written.{Appends}
@@ -9,10 +10,10 @@ use Rattle.dcv_cli.specs.declared.refusal.Refusal.TheVariants.{Usage, Open, Read
 use Rattle.dcv_cli.specs.declared.status.Status.{Status}
 use Rattle.dcv_cli.specs.Ending.{EndsBy, IsExplained, LeavesOver, Tells}
 use Rattle.dcv_cli.specs.Outcome.{Outcome, refused}
-use Rattle.dcv_cli.specs.Refusal.{status_of, message_of, Only, is_write_refusal}
+use Rattle.dcv_cli.specs.Refusal.{status_of, message_of, Only, is_write_refusal, is_usage_refusal}
 use Rattle.dcv_cli.specs.Request.{Check, AsksFor}
 use Rattle.dcv_cli.specs.Right.{ForHeld}
-use Rattle.dcv_cli.specs.Status.{is_determined, is_silent, is_input}
+use Rattle.dcv_cli.specs.Status.{is_determined, is_silent, is_input, is_of_request}
 
 -- nothing is written where nothing changes
 pub nothing_told : (written : Option (List ℕ)) → Appends written written []
@@ -59,6 +60,22 @@ module _ (Right : Outcome → Type 0) (old new : Option (List ℕ)) where
   ends_refused refusal status err_old err_new before after is right silent told =
       let P : List ℕ → Type 0 = λ message. Tells message err_old err_new before after in
       subst (λ (s : Status). OnTrue (is_determined s) (EndsBy Right s old new P)) (sym is) (of_refusal P refusal right silent told)
+
+-- a run that is refused neither for its words nor for want of memory was asked for something
+module _ (P Q : Type 0) where
+  of_request : (refusal : Refusal) → MatchBool (is_usage_refusal {T = Status} (Err refusal)) P Q → IsTrue (is_of_request (status_of refusal)) → Q
+  of_request Usage asked of = absurd (true≢false (sym of))
+  of_request Memory asked of = absurd (true≢false (sym of))
+  of_request Open asked of = asked
+  of_request Read asked of = asked
+  of_request Length asked of = asked
+  of_request (Text fault at) asked of = asked
+  of_request Form asked of = asked
+  of_request Write asked of = asked
+
+  pub asked_for : (refusal : Refusal) (status : Status) → status ≡ status_of refusal
+      → MatchBool (is_usage_refusal {T = Status} (Err refusal)) P Q → IsTrue (is_of_request status) → Q
+  asked_for refusal status is asked of = of_request refusal asked (subst (λ (s : Status). IsTrue (is_of_request s)) is of)
 
 abbrev Nothing : (List ℕ → Option (List ℕ)) → Type 0
 Nothing held = let none : List ℕ = [] in none ≡ []

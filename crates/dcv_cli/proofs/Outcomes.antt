@@ -17,6 +17,10 @@ use Rattle.dcv_language.specs.VerdictText.{verdict_text}
 use Rattle.dcv_sentence.specs.Faults.{IsFirstFault}
 use Rattle.dcv_sentence.specs.declared.faults.ReadFault.{ReadFault}
 use Rattle.dcv_sentence.specs.declared.faults.ReadFault.TheVariants.{Byte as ByteAt, Syntax as SyntaxAt, Number as NumberAt, Name as NameAt, Nest as NestAt, Memory as ReadMemory}
+use Rattle.dcv_scope.specs.Faults.{fault_of_file}
+use Rattle.dcv_scope.specs.declared.faults.ScopeFault.{ScopeFault}
+use Rattle.dcv_scope.specs.declared.faults.ScopeFault.TheVariants.{TooMany, Duplicate, Taken, Unknown, Kind, Arity, Size, Depth, Slots}
+use Rattle.dcv_scope.specs.declared.faults.ScopeFault.TheVariants.{Memory as ScopeMemory}
 use Rattle.dcv_cli.specs.declared.refusal.TheConstants.{MOST_BYTES}
 use Rattle.dcv_cli.specs.declared.refusal.Refusal.{Refusal}
 use Rattle.dcv_cli.specs.declared.refusal.Refusal.TheVariants.{Usage, Open, Read as ReadRefusal, Length, Text, Form, Write, Memory}
@@ -24,9 +28,9 @@ use Rattle.dcv_cli.specs.declared.status.Status.{Status}
 use Rattle.dcv_cli.specs.Check.{IsChecked, OtherForm, Decided}
 use Rattle.dcv_cli.specs.Ending.{EndsBy, IsExplained, AddsFront, StopsWithin}
 use Rattle.dcv_cli.specs.FirstForm.{is_first_form}
-use Rattle.dcv_cli.specs.FormulaFile.{TooLong, Faulty, IsFormulaFile, OnText, Refused, Read}
+use Rattle.dcv_cli.specs.FormulaFile.{TooLong, Faulty, HasNoCore, IsSentence, IsFormulaFile, OnText, Refused, Read}
 use Rattle.dcv_cli.specs.Outcome.{Outcome, refused}
-use Rattle.dcv_cli.specs.Refusal.{Only, status_of, refusal_of_taking, refusal_of_reading}
+use Rattle.dcv_cli.specs.Refusal.{Only, status_of, refusal_of_taking, refusal_of_reading, refusal_of_scope}
 use Rattle.dcv_cli.specs.Request.{Request, Check, AsksFor}
 use Rattle.dcv_cli.specs.Right.{Fulfilled, FulfilsOver, IsRightOver}
 use Rattle.dcv_cli.specs.declared.check.Report.{Report}
@@ -45,6 +49,20 @@ explains_reading text (NumberAt at) short is = Refused _ (Faulty short (NumberAt
 explains_reading text (NameAt at) short is = Refused _ (Faulty short (NameAt at) (is (λ e. cc)) refl) refl
 explains_reading text (NestAt at) short is = Refused _ (Faulty short (NestAt at) (is (λ e. cc)) refl) refl
 explains_reading text ReadMemory short is = tt
+
+-- a refusal of the names or of the goal is right
+pub explains_scope : (text : List ℕ) (file : PlainFile) (fault : ScopeFault) → IsSentence text file
+    → (fault ≢ ScopeMemory → fault_of_file file ≡ Some fault) → IsExplained (OnText text Only IsChecked) (refusal_of_scope fault)
+explains_scope text file (TooMany at) holds is = Refused _ (HasNoCore file holds (TooMany at) (is (λ e. cc)) refl) refl
+explains_scope text file (Duplicate at) holds is = Refused _ (HasNoCore file holds (Duplicate at) (is (λ e. cc)) refl) refl
+explains_scope text file (Taken at) holds is = Refused _ (HasNoCore file holds (Taken at) (is (λ e. cc)) refl) refl
+explains_scope text file (Unknown at) holds is = Refused _ (HasNoCore file holds (Unknown at) (is (λ e. cc)) refl) refl
+explains_scope text file (Kind at) holds is = Refused _ (HasNoCore file holds (Kind at) (is (λ e. cc)) refl) refl
+explains_scope text file (Arity at) holds is = Refused _ (HasNoCore file holds (Arity at) (is (λ e. cc)) refl) refl
+explains_scope text file (Size at) holds is = Refused _ (HasNoCore file holds (Size at) (is (λ e. cc)) refl) refl
+explains_scope text file (Depth at) holds is = Refused _ (HasNoCore file holds (Depth at) (is (λ e. cc)) refl) refl
+explains_scope text file (Slots at) holds is = Refused _ (HasNoCore file holds (Slots at) (is (λ e. cc)) refl) refl
+explains_scope text file ScopeMemory holds is = tt
 
 -- a file that is not decided is refused
 pub explains_other_form : (text : List ℕ) (file : PlainFile) → IsFormulaFile text file → IsFalse (is_first_form file)

@@ -11,6 +11,8 @@ use Rattle.dcv_logic.specs.Models.{models}
 use Rattle.dcv_language.specs.Language.{Language}
 use Rattle.dcv_language.specs.Verdict.{Verdict, IsVerdict}
 use Rattle.dcv_reader.specs.Laws.{SomeReading}
+use Rattle.dcv_scope.specs.Faults.{fault_of_file}
+use Rattle.dcv_scope.specs.declared.faults.ScopeFault.{ScopeFault}
 use Rattle.dcv_cli.specs.declared.decision.Demand.{Demand}
 use Rattle.dcv_cli.specs.declared.decision.Demand.TheVariants.{Always, Never, Variable}
 use Rattle.dcv_cli.specs.declared.refusal.TheConstants.{MOST_BYTES}
@@ -19,10 +21,10 @@ use Rattle.dcv_cli.specs.declared.status.Status.TheVariants.{Usage}
 use Rattle.dcv_cli.specs.Check.{IsChecked, OtherForm, Decided}
 use Rattle.dcv_cli.specs.Demand.{meets, AsksOfEach}
 use Rattle.dcv_cli.specs.FirstForm.{is_bare, is_declared, has_one_at_most, has_no_macro, is_atom, is_atom_everywhere, is_first_form}
-use Rattle.dcv_cli.specs.FormulaFile.{TooLong, Faulty, OnText, Refused, Read}
+use Rattle.dcv_cli.specs.FormulaFile.{TooLong, Faulty, HasNoCore, IsSentence, OnText, Refused, Read}
 use Rattle.dcv_cli.specs.Laws.{AreHeld, SomeOutcome}
 use Rattle.dcv_cli.specs.Outcome.{Outcome, refused, answered}
-use Rattle.dcv_cli.specs.Refusal.{Only, refusal_of_reading}
+use Rattle.dcv_cli.specs.Refusal.{Only, refusal_of_reading, refusal_of_scope}
 use Rattle.dcv_cli.specs.Request.{Request, Check, request_of}
 use Rattle.dcv_cli.specs.Right.{IsRight, Misused, Fulfilled}
 use Rattle.dcv_cli.proofs.EachLetter.{models_constant, models_variable}
@@ -102,14 +104,20 @@ some_check : (file : PlainFile) (form : Bool) → is_first_form file ≡ form �
 some_check file true is = let found = some_verdict file is in (answered found.0, Decided is found.0 found.1 refl)
 some_check file false is = (refused Form Only, OtherForm is refl)
 
+-- a sentence is a formula file, or has no core
+some_on_sentence : (text : List ℕ) (file : PlainFile) → IsSentence text file → (fault : Option ScopeFault) → fault_of_file file ≡ fault
+    → (outcome : Outcome) × OnText text Only IsChecked outcome
+some_on_sentence text file holds (Some fault) is = (refused (refusal_of_scope fault) Only, Refused _ (HasNoCore file holds fault is refl) refl)
+some_on_sentence text file holds None is =
+    let done = some_check file (is_first_form file) refl in
+    (done.0, Read file (record { sentence = holds; has_core = is }) done.1)
+
 module _ (some_reading : SomeReading) where
   some_on_short : (text : List ℕ) → length text ≤ MOST_BYTES → (outcome : Outcome) × OnText text Only IsChecked outcome
   some_on_short text short =
       elim (some_reading text) [
         | inl first ↦ (refused (refusal_of_reading first.0) Only, Refused _ (Faulty short first.0 first.1 refl) refl)
-        | inr read ↦
-            let done = some_check read.0 (is_first_form read.0) refl in
-            (done.0, Read read.0 (record { fits = short; no_fault = read.2; spelled = read.1 }) done.1)
+        | inr read ↦ some_on_sentence text read.0 (record { fits = short; no_fault = read.2; spelled = read.1 }) (fault_of_file read.0) refl
       ]
 
   some_on_text : (text : List ℕ) (fits : Bool) → nat_le (length text) MOST_BYTES ≡ fits → (outcome : Outcome) × OnText text Only IsChecked outcome

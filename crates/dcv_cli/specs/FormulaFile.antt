@@ -1,28 +1,37 @@
 -- What a text comes to that is given as a formula file. Every command that reads one cites these words.
 --     IsRefused text refusal    the text is no formula file, for this reason
---     IsFormulaFile text file   the text has no fault, and spells the file
+--     IsSentence text file      the text has no fault, and spells the file
+--     IsFormulaFile text file   nor does the file have one, in its names or its goal
 --     OnText ..                 the outcomes that are right where a command is given this text
 --     OnFile ..                 the same, where the text is held under a name
-use Rattle.std.specs.Prelude.{◌≡◌, ℕ, ◌<◌, ◌≤◌, List, Option, IsSomeAnd, length}
+use Rattle.std.specs.Prelude.{◌≡◌, ℕ, ◌<◌, ◌≤◌, List, Option, None, Some, IsSomeAnd, length}
 use Rattle.dcv_syntax.specs.Plain.{PlainFile}
 use Rattle.dcv_sentence.specs.Faults.{HasFault, IsFirstFault}
 use Rattle.dcv_reader.specs.Spelling.{Spells}
 use Rattle.dcv_sentence.specs.declared.faults.ReadFault.{ReadFault}
+use Rattle.dcv_scope.specs.Faults.{fault_of_file}
+use Rattle.dcv_scope.specs.declared.faults.ScopeFault.{ScopeFault}
 use Rattle.dcv_cli.specs.declared.refusal.TheConstants.{MOST_BYTES}
 use Rattle.dcv_cli.specs.declared.refusal.Refusal.{Refusal}
 use Rattle.dcv_cli.specs.declared.refusal.Refusal.TheVariants.{Length}
 use Rattle.dcv_cli.specs.Outcome.{Outcome, refused}
-use Rattle.dcv_cli.specs.Refusal.{refusal_of_reading, Which}
+use Rattle.dcv_cli.specs.Refusal.{refusal_of_reading, refusal_of_scope, Which}
 
--- It is longer than a formula file may be, or it has a fault, the first of which counts.
-pub data IsRefused (text : List ℕ) (refusal : Refusal) : Type 0 where
-  TooLong : MOST_BYTES < length text → refusal ≡ Length → IsRefused text refusal
-  Faulty : length text ≤ MOST_BYTES → (fault : ReadFault) → IsFirstFault text fault → refusal ≡ refusal_of_reading fault → IsRefused text refusal
-
-pub record IsFormulaFile (text : List ℕ) (file : PlainFile) : Type 0 where
+pub record IsSentence (text : List ℕ) (file : PlainFile) : Type 0 where
   pub fits : length text ≤ MOST_BYTES
   pub no_fault : (fault : ReadFault) → HasFault text fault → ⊥
   pub spelled : Spells text file
+
+-- It is longer than a formula file may be; or it has a fault, the first of which counts; or the file that it spells has one.
+pub data IsRefused (text : List ℕ) (refusal : Refusal) : Type 0 where
+  TooLong : MOST_BYTES < length text → refusal ≡ Length → IsRefused text refusal
+  Faulty : length text ≤ MOST_BYTES → (fault : ReadFault) → IsFirstFault text fault → refusal ≡ refusal_of_reading fault → IsRefused text refusal
+  HasNoCore : (file : PlainFile) → IsSentence text file → (fault : ScopeFault) → fault_of_file file ≡ Some fault
+      → refusal ≡ refusal_of_scope fault → IsRefused text refusal
+
+pub record IsFormulaFile (text : List ℕ) (file : PlainFile) : Type 0 where
+  pub sentence : IsSentence text file
+  pub has_core : fault_of_file file ≡ None
 
 -- The text is refused, and the outcome says so and which of the request's files it is; or it is a formula file, and the
 -- outcome is right for that. What the command does with the file is its own part, `RightFor`.

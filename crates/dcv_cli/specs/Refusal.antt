@@ -8,12 +8,16 @@ use Rattle.dcv_io.specs.declared.fault.TakeFault.{TakeFault}
 use Rattle.dcv_io.specs.declared.fault.TakeFault.TheVariants.{Open as TakeOpen, Read as TakeRead, TooLong, Memory as TakeMemory}
 use Rattle.dcv_sentence.specs.declared.faults.ReadFault.{ReadFault}
 use Rattle.dcv_sentence.specs.declared.faults.ReadFault.TheVariants.{Byte as ByteAt, Syntax as SyntaxAt, Number as NumberAt, Name as NameAt, Nest as NestAt, Memory as ReadMemory}
+use Rattle.dcv_scope.specs.declared.faults.ScopeFault.{ScopeFault}
+use Rattle.dcv_scope.specs.declared.faults.ScopeFault.TheVariants.{TooMany as ManyAt, Duplicate as DuplicateAt, Taken as TakenAt, Unknown as UnknownAt}
+use Rattle.dcv_scope.specs.declared.faults.ScopeFault.TheVariants.{Kind as KindAt, Arity as ArityAt, Size as SizeAt, Depth as DepthAt, Slots as SlotsAt}
+use Rattle.dcv_scope.specs.declared.faults.ScopeFault.TheVariants.{Memory as ScopeMemory}
 use Rattle.dcv_language.specs.VerdictText.{line}
 use Rattle.dcv_cli.specs.declared.refusal.TheConstants.{MOST_BYTES}
 use Rattle.dcv_cli.specs.declared.refusal.Refusal.{Refusal}
 use Rattle.dcv_cli.specs.declared.refusal.Refusal.TheVariants.{Usage, Open, Read, Length, Text, Form, Write, Memory}
 use Rattle.dcv_cli.specs.declared.refusal.TextFault.{TextFault}
-use Rattle.dcv_cli.specs.declared.refusal.TextFault.TheVariants.{Byte, Syntax, Number, Name, Nest}
+use Rattle.dcv_cli.specs.declared.refusal.TextFault.TheVariants.{Byte, Syntax, Number, Name, Nest, Many, Duplicate, Taken, Unknown, Kind, Arity, Size, Depth, Slots}
 use Rattle.dcv_cli.specs.declared.status.Status.{Status}
 use Rattle.dcv_cli.specs.declared.status.Status.TheVariants.{Usage as StatusUsage, Formula, Input, Output, Memory as StatusMemory}
 
@@ -32,6 +36,15 @@ text_word_of Syntax = codes "syntax"
 text_word_of Number = codes "number"
 text_word_of Name = codes "name"
 text_word_of Nest = codes "nest"
+text_word_of Many = codes "many"
+text_word_of Duplicate = codes "duplicate"
+text_word_of Taken = codes "taken"
+text_word_of Unknown = codes "unknown"
+text_word_of Kind = codes "kind"
+text_word_of Arity = codes "arity"
+text_word_of Size = codes "size"
+text_word_of Depth = codes "depth"
+text_word_of Slots = codes "slots"
 
 -- what is refused, in a word
 abbrev pub word_of : Refusal → List ℕ
@@ -84,6 +97,18 @@ refusal_of_reading (NumberAt at) = Text Number at
 refusal_of_reading (NameAt at) = Text Name at
 refusal_of_reading (NestAt at) = Text Nest at
 refusal_of_reading ReadMemory = Memory
+
+abbrev pub refusal_of_scope : ScopeFault → Refusal
+refusal_of_scope (ManyAt at) = Text Many at
+refusal_of_scope (DuplicateAt at) = Text Duplicate at
+refusal_of_scope (TakenAt at) = Text Taken at
+refusal_of_scope (UnknownAt at) = Text Unknown at
+refusal_of_scope (KindAt at) = Text Kind at
+refusal_of_scope (ArityAt at) = Text Arity at
+refusal_of_scope (SizeAt at) = Text Size at
+refusal_of_scope (DepthAt at) = Text Depth at
+refusal_of_scope (SlotsAt at) = Text Slots at
+refusal_of_scope ScopeMemory = Memory
 
 -- ---- which refusal a call ended with
 

@@ -19,6 +19,7 @@ use crate::refusal::{MOST_BYTES, Refusal};
 use crate::status::Status;
 use dcv_io::{Files, Sink, read_all, write_all};
 use dcv_reader::read_file;
+use dcv_scope::expand;
 use std::alloc::Global;
 
 /// What is written for a file that is not refused, and the status with which the run then ends.
@@ -67,9 +68,11 @@ fn judge(alloc: Global, text: &[u8]) -> Result<Report, Refusal>
     ensures own { IfErr result (λ refusal. IsTrue (is_of_text refusal)) }
 {
     let file = read_file(alloc, text)?;
+    let core = expand(alloc, &file);
     let verdict = decide(alloc, &file);
     // for the prover: a tree that is dropped at the end would give each exit an arm for each form of a formula
     drop(file);
+    core?;
     let Some(verdict) = verdict? else {
         return Err(Refusal::Form);
     };

@@ -3,13 +3,13 @@ ghost use Rattle.std.specs.Prelude.{◌≡◌, is_err, OnOk, OnErr};
 ghost use Rattle.std.specs.List.{flat_map};
 ghost use Rattle.dcv_io.specs.Faults.{RisesIf};
 ghost use Rattle.dcv_io.specs.Written.{Appends, AppendsPrefix};
-ghost use Rattle.dcv_cli.specs.declared.refusal.Refusal.TheVariants.{Memory};
-ghost use Rattle.dcv_cli.specs.declared.refusal.Refusal.TheVariants.{Write};
-ghost use Rattle.dcv_cli.specs.Refusal.{status_of, text_word_of, word_of, place_of, message_of, refusal_of_taking, refusal_of_reading};
+ghost use Rattle.dcv_cli.specs.declared.refusal.Refusal.TheVariants.{Memory, Text, Write};
+ghost use Rattle.dcv_cli.specs.Refusal.{status_of, text_word_of, word_of, place_of, message_of, refusal_of_taking, refusal_of_reading, refusal_of_scope};
 
 use crate::status::Status;
 use dcv_io::{Failed, Sink, TakeFault, write_all};
 use dcv_reader::ReadFault;
+use dcv_scope::ScopeFault;
 use itoa::Buffer;
 use std::alloc::{AllocError, AllocFailed};
 
@@ -29,6 +29,24 @@ pub enum TextFault {
     Name,
     /// A definition or the goal is nested too deeply.
     Nest,
+    /// A name is one too many of its list, or of the macros.
+    Many,
+    /// A name stands in its list a second time.
+    Duplicate,
+    /// A name is that of a macro, or a macro's that of a variable.
+    Taken,
+    /// A name has no meaning there.
+    Unknown,
+    /// A name has another kind than is asked for there.
+    Kind,
+    /// A name is used with another number of arguments than it has parameters.
+    Arity,
+    /// The goal with its macros in place has too many nodes.
+    Size,
+    /// The goal with its macros in place is nested too deeply.
+    Depth,
+    /// The goal has too many variables, declared and quantified.
+    Slots,
 }
 
 impl TextFault {
@@ -42,6 +60,15 @@ impl TextFault {
             TextFault::Number => b"number",
             TextFault::Name => b"name",
             TextFault::Nest => b"nest",
+            TextFault::Many => b"many",
+            TextFault::Duplicate => b"duplicate",
+            TextFault::Taken => b"taken",
+            TextFault::Unknown => b"unknown",
+            TextFault::Kind => b"kind",
+            TextFault::Arity => b"arity",
+            TextFault::Size => b"size",
+            TextFault::Depth => b"depth",
+            TextFault::Slots => b"slots",
         }
     }
 }
@@ -126,6 +153,13 @@ impl Refusal {
     }
 }
 
+// A text is refused for this fault.
+fn of_text(fault: TextFault, at: u32) -> Refusal
+    ensures { result ≡ Text fault at }
+{
+    Refusal::Text { fault, at }
+}
+
 // Writes the pieces, one after another, up to the first write that fails.
 fn write_pieces<S: Sink>(sink: &mut S, pieces: &[&[u8]]) -> Result<(), Failed>
     ensures ok { OnOk result (Appends (S.written sink.old) (S.written sink.new) (flat_map (λ piece. piece.now) pieces.now)) }
@@ -156,27 +190,31 @@ impl From<ReadFault> for Refusal {
 
     fn from(fault: ReadFault) -> Self {
         match fault {
-            ReadFault::Byte { at } => Refusal::Text {
-                fault: TextFault::Byte,
-                at,
-            },
-            ReadFault::Syntax { at } => Refusal::Text {
-                fault: TextFault::Syntax,
-                at,
-            },
-            ReadFault::Number { at } => Refusal::Text {
-                fault: TextFault::Number,
-                at,
-            },
-            ReadFault::Name { at } => Refusal::Text {
-                fault: TextFault::Name,
-                at,
-            },
-            ReadFault::Nest { at } => Refusal::Text {
-                fault: TextFault::Nest,
-                at,
-            },
+            ReadFault::Byte { at } => of_text(TextFault::Byte, at),
+            ReadFault::Syntax { at } => of_text(TextFault::Syntax, at),
+            ReadFault::Number { at } => of_text(TextFault::Number, at),
+            ReadFault::Name { at } => of_text(TextFault::Name, at),
+            ReadFault::Nest { at } => of_text(TextFault::Nest, at),
             ReadFault::Memory => Refusal::Memory,
+        }
+    }
+}
+
+impl From<ScopeFault> for Refusal {
+    ghost from_gives = { λ fault refusal. refusal ≡ refusal_of_scope fault };
+
+    fn from(fault: ScopeFault) -> Self {
+        match fault {
+            ScopeFault::TooMany { at } => of_text(TextFault::Many, at),
+            ScopeFault::Duplicate { at } => of_text(TextFault::Duplicate, at),
+            ScopeFault::Taken { at } => of_text(TextFault::Taken, at),
+            ScopeFault::Unknown { at } => of_text(TextFault::Unknown, at),
+            ScopeFault::Kind { at } => of_text(TextFault::Kind, at),
+            ScopeFault::Arity { at } => of_text(TextFault::Arity, at),
+            ScopeFault::Size { at } => of_text(TextFault::Size, at),
+            ScopeFault::Depth { at } => of_text(TextFault::Depth, at),
+            ScopeFault::Slots { at } => of_text(TextFault::Slots, at),
+            ScopeFault::Memory => Refusal::Memory,
         }
     }
 }

@@ -5,5 +5,3 @@
 mod apply;
 #[cfg(test)]
 mod arena;
-#[cfg(test)]
-mod explore;

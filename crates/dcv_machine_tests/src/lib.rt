@@ -3,3 +3,5 @@
 
 #[cfg(test)]
 mod operations;
+#[cfg(test)]
+mod parts;

@@ -9,12 +9,12 @@ use dcv_arena::{Arena, Ref};
 use dcv_dfa::{Raw, Table};
 use dcv_explore::{ExploreFault, Limits, explore};
 use dcv_language::machine_laws::operations_accept;
-use dcv_product::Product;
+use dcv_product::{And, Iff, Or};
 use dcv_project::Exists;
 use std::alloc::Global;
 use std::test::Fail;
 
-const LIMITS: Limits = Limits {
+pub(crate) const LIMITS: Limits = Limits {
     states: 100,
     nodes: 100,
 };
@@ -26,7 +26,7 @@ fn both<T: Table>(alloc: Global, first: &T, second: &T) -> Result<Raw, ExploreFa
         (intersection (accepts (T.automaton first.now)) (accepts (T.automaton second.now)))) }
 {
     operations_accept();
-    explore(alloc, &Product::and(first, second), LIMITS)
+    explore(alloc, &And::new(first, second), LIMITS)
 }
 
 // What the automaton accepts with some truths in its last slot.
@@ -40,7 +40,7 @@ fn some_track<T: Table>(alloc: Global, operand: &T) -> Result<Raw, ExploreFault>
 }
 
 // Over one variable, the words whose last letter is true.
-fn ends_true(alloc: Global) -> Result<Raw, Fail>
+pub(crate) fn ends_true(alloc: Global) -> Result<Raw, Fail>
     ensures { IfOk result (λ raw. raw.arena.slots ≡ 1) }
 {
     let mut arena = Arena::new(alloc, 1, 1);
@@ -51,7 +51,7 @@ fn ends_true(alloc: Global) -> Result<Raw, Fail>
 }
 
 // Over one variable, the words of even length.
-fn is_even(alloc: Global) -> Result<Raw, Fail>
+pub(crate) fn is_even(alloc: Global) -> Result<Raw, Fail>
     ensures { IfOk result (λ raw. raw.arena.slots ≡ 1) }
 {
     let arena = Arena::new(alloc, 1, 0);
@@ -61,7 +61,7 @@ fn is_even(alloc: Global) -> Result<Raw, Fail>
 }
 
 // How many states and nodes there are, and how many states accept.
-fn counts(raw: &Raw) -> (u32, u32, u32) {
+pub(crate) fn counts(raw: &Raw) -> (u32, u32, u32) {
     let mut accepting = 0u32;
     for state in 0..raw.states() {
         if raw.accepting(state) {
@@ -83,7 +83,7 @@ fn both_accept(rt: HostRuntime) -> Result<(), Fail> {
 fn one_or_the_other_accepts(rt: HostRuntime) -> Result<(), Fail> {
     let alloc = rt.alloc();
     let (first, second) = (ends_true(alloc)?, is_even(alloc)?);
-    let raw = explore(alloc, &Product::or(&first, &second), LIMITS)?;
+    let raw = explore(alloc, &Or::new(&first, &second), LIMITS)?;
     assert_eq!(rt; counts(&raw), (4, 2, 3));
     Ok(())
 }
@@ -92,7 +92,7 @@ fn one_or_the_other_accepts(rt: HostRuntime) -> Result<(), Fail> {
 fn both_or_neither_accept(rt: HostRuntime) -> Result<(), Fail> {
     let alloc = rt.alloc();
     let (first, second) = (ends_true(alloc)?, is_even(alloc)?);
-    let raw = explore(alloc, &Product::iff(&first, &second), LIMITS)?;
+    let raw = explore(alloc, &Iff::new(&first, &second), LIMITS)?;
     assert_eq!(rt; counts(&raw), (4, 2, 2));
     Ok(())
 }

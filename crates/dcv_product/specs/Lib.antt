@@ -1,3 +1,2 @@
--- what the machine of a product is: how its operands' truths are joined, and the states that are kept as numbers
-pub mod Join
+-- the machine of a product: the states that are kept as numbers
 pub mod Merged

@@ -2,7 +2,7 @@
 //! they agree.
 //!
 //! ```text
-//! let both = Product::and(&first, &second);
+//! let both = And::new(&first, &second);
 //! let raw = explore(alloc, &both, limits)?; // accepts the words that both automata accept
 //! ```
 #![tactic(auto)]
@@ -10,4 +10,5 @@
 mod join;
 mod product;
 
-pub use product::{Pair, Product};
+pub use join::{Alike, Both, Either, Join};
+pub use product::{And, Iff, Or, Pair, Product};

@@ -101,10 +101,14 @@ fn verdicts_of_texts(rt: HostRuntime) -> Result<(), Fail> {
             SOMETIMES,
             "",
         ),
-        ("var p; infer [[q]];", 3, "", OTHER_FORM),
-        ("infer [[p]];", 3, "", OTHER_FORM),
         ("var p, q; infer [[p]];", 3, "", OTHER_FORM),
         ("var p; infer <p> ^ true;", 3, "", OTHER_FORM),
+        (
+            "var q; define F(a) as (ex q. [[q <=> a]]); infer F(!q);",
+            3,
+            "",
+            OTHER_FORM,
+        ),
     ] {
         expect(
             &rt,
@@ -131,6 +135,124 @@ fn first_faults_of_texts(rt: HostRuntime) -> Result<(), Fail> {
         ("infer a234567890123456789012345;", "fault name at 6\n"),
         ("var p; infer [[p]]; -", "fault byte at 20\n"),
     ] {
+        expect(
+            &rt,
+            alloc,
+            &["check", "f"],
+            text.as_bytes(),
+            &WHOLE,
+            (3, "", err),
+        )?;
+    }
+    Ok(())
+}
+
+#[test]
+fn faults_of_names(rt: HostRuntime) -> Result<(), Fail> {
+    let alloc = rt.alloc();
+    for (text, err) in [
+        ("infer [[r]];", "fault unknown at 8\n"),
+        ("var p; infer [[r]]^pt;", "fault unknown at 15\n"),
+        ("var p,p;infer pt;", "fault duplicate at 6\n"),
+        ("var p; define p as pt; infer pt;", "fault taken at 14\n"),
+        ("var p; infer p;", "fault kind at 13\n"),
+        ("define f(a) as [[a]]; infer f;", "fault arity at 28\n"),
+        (
+            "var a,b,c,d,e,f,g,h,i,j,k,l,m,n,o,p,q;infer [[a]];",
+            "fault many at 36\n",
+        ),
+        // of a macro that is not called
+        ("define f as [[r]]; infer pt;", "fault unknown at 14\n"),
+        // the text comes before the names
+        ("infer [[r]]", "fault syntax at 11\n"),
+    ] {
+        expect(
+            &rt,
+            alloc,
+            &["check", "f"],
+            text.as_bytes(),
+            &WHOLE,
+            (3, "", err),
+        )?;
+    }
+    Ok(())
+}
+
+// So many macros, each the one before it twice, and the last as the goal. Its lines begin as `define m001 as m000 && m000;`, with
+// as many digits as are asked for.
+fn doubled(alloc: Global, digits: usize, macros: u32) -> Result<String, AllocError> {
+    let mut text = String::new(alloc);
+    for number in 0..macros {
+        if number == 0 {
+            write!(text, "define m{number:0digits$} as pt;\n")?;
+        } else {
+            let before = number - 1;
+            write!(
+                text,
+                "define m{number:0digits$} as m{before:0digits$} && m{before:0digits$};\n"
+            )?;
+        }
+    }
+    if macros > 0 {
+        let last = macros - 1;
+        write!(text, "infer m{last:0digits$};")?;
+    }
+    Ok(text)
+}
+
+// A goal that begins with a piece so many times.
+fn repeated(alloc: Global, piece: &str, count: usize) -> Result<String, AllocError> {
+    let mut text = String::new(alloc);
+    text.push_str("infer ")?;
+    for _ in 0..count {
+        text.push_str(piece)?;
+    }
+    text.push_str("pt;")?;
+    Ok(text)
+}
+
+#[test]
+fn faults_of_goals(rt: HostRuntime) -> Result<(), Fail> {
+    let alloc = rt.alloc();
+    for (text, err) in [
+        (doubled(alloc, 2, 30)?, "fault size at 778\n"),
+        (doubled(alloc, 3, 256)?, "fault size at 7420\n"),
+        (doubled(alloc, 2, 15)?, OTHER_FORM),
+        (repeated(alloc, "[]", 171)?, "fault depth at 6\n"),
+        (repeated(alloc, "[]", 170)?, OTHER_FORM),
+        (repeated(alloc, "ex a. ", 33)?, "fault slots at 6\n"),
+        (repeated(alloc, "ex a. ", 32)?, OTHER_FORM),
+    ] {
+        expect(
+            &rt,
+            alloc,
+            &["check", "f"],
+            text.as_bytes(),
+            &WHOLE,
+            (3, "", err),
+        )?;
+    }
+    Ok(())
+}
+
+// Macros from `F0`, with this body, up to `F99`, each of which calls the one before it with its argument twice.
+fn chain(alloc: Global, body: &str) -> Result<String, AllocError> {
+    let mut text = String::new(alloc);
+    write!(text, "var p; define F0(a) as {body};")?;
+    for before in 0..99 {
+        let number = before + 1;
+        write!(text, "define F{number}(a) as F{before}(a && a);")?;
+    }
+    text.push_str("infer F99(p);")?;
+    Ok(text)
+}
+
+// An argument of 2^99 nodes counts nothing where it is not used.
+#[test]
+fn arguments_that_are_not_used(rt: HostRuntime) -> Result<(), Fail> {
+    let alloc = rt.alloc();
+    for (body, err) in [("pt", OTHER_FORM), ("[[a]]", "fault size at 2887\n")] {
+        let text = chain(alloc, body)?;
         expect(
             &rt,
             alloc,

@@ -2,7 +2,11 @@
 --     PlainOp          an operator; its operands are the numbers of earlier steps
 --     PlainStep        a step: its operator, its place, the number of slots over which it is judged, and its core
 --     steps_from       the steps of a core, where some steps are before them
-use Rattle.std.specs.Prelude.{ℕ, suc, ◌+◌, List, [], ◌∷◌, ◌++◌}
+--     PlainCore        what contracts see of a core: the number of declared variables, and the steps, without their cores
+--     Pushed           one step more
+--     Made             the steps of a core more
+--     HasRoom          there are numbers enough for these steps and their slots
+use Rattle.std.specs.Prelude.{◌≡◌, ℕ, suc, ◌+◌, ◌^◌, ◌<◌, max, List, [], ◌∷◌, ◌++◌, length, map}
 use Rattle.dcv_syntax.specs.declared.names.Span.{Span}
 use Rattle.dcv_scope.specs.Core.{PlainBasic, CoreTree, CoreAtom, CoreNot, CoreAnd, CoreOr, CoreIff, CoreChop, CoreStar, CoreExists}
 
@@ -63,3 +67,45 @@ steps_from n k (CoreExists d span) = steps_from n (k + 1) d ++ own_step (OpExist
 -- the steps of a core over k slots
 abbrev pub steps_of : ℕ → CoreTree → List PlainStep
 steps_of k core = steps_from 0 k core
+
+-- ---- cores that are made step by step
+
+-- a step without its core
+pub record CoreStep : Type 0 where
+  pub op : PlainOp
+  pub span : Span
+  pub slots : ℕ
+
+abbrev pub without_core : PlainStep → CoreStep
+without_core step = record { op = step.op; span = step.span; slots = step.slots }
+
+-- what contracts see of a core
+pub record PlainCore : Type 0 where
+  pub declared : ℕ
+  pub steps : List CoreStep
+
+-- the new core has one step more, which has this number
+pub record Pushed (old : PlainCore) (op : PlainOp) (span : Span) (slots : ℕ) (new : PlainCore) (number : ℕ) : Type 0 where
+  pub added : new ≡ record old { steps = old.steps ++ record { op = op; span = span; slots = slots } ∷ [] }
+  pub place : number ≡ length old.steps
+
+-- the new core has the steps of a tree more, the last of which has this number
+pub record Made (old : PlainCore) (slots : ℕ) (core : CoreTree) (new : PlainCore) (last : ℕ) : Type 0 where
+  pub added : new ≡ record old { steps = old.steps ++ map without_core (steps_from (length old.steps) slots core) }
+  pub place : last ≡ length old.steps + steps_before core
+
+-- how deep the quantifiers of a core are
+abbrev pub nesting : CoreTree → ℕ
+nesting (CoreAtom basic span) = 0
+nesting (CoreNot d span) = nesting d
+nesting (CoreAnd c d span) = max (nesting c) (nesting d)
+nesting (CoreOr c d span) = max (nesting c) (nesting d)
+nesting (CoreIff c d span) = max (nesting c) (nesting d)
+nesting (CoreChop c d span) = max (nesting c) (nesting d)
+nesting (CoreStar d span) = nesting d
+nesting (CoreExists d span) = suc (nesting d)
+
+-- there are numbers enough for the steps and slots of this tree
+pub record HasRoom (old : PlainCore) (slots : ℕ) (core : CoreTree) : Type 0 where
+  pub enough_steps : suc (length old.steps + steps_before core) < 2 ^ 32
+  pub enough_slots : slots + nesting core < 256

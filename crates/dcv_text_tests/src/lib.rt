@@ -8,8 +8,6 @@ mod grammar;
 #[cfg(test)]
 mod io;
 #[cfg(test)]
-mod scope;
-#[cfg(test)]
 mod shown;
 #[cfg(test)]
 mod syntax;

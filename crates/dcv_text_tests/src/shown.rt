@@ -34,21 +34,25 @@ fn names(text: &mut String, shown: &[Name]) -> Result<(), AllocError> {
     Ok(())
 }
 
+// How a relation is written.
+fn sign(relation: Relation) -> &'static str {
+    match relation {
+        Relation::Equal => "=",
+        Relation::Less => "<",
+        Relation::AtMost => "<=",
+        Relation::Greater => ">",
+        Relation::AtLeast => ">=",
+    }
+}
+
 fn measure(
     text: &mut String,
     form: &str,
     relation: Relation,
     span: Span,
 ) -> Result<(), AllocError> {
-    let sign = match relation {
-        Relation::Equal => "=",
-        Relation::Less => "<",
-        Relation::AtMost => "<=",
-        Relation::Greater => ">",
-        Relation::AtLeast => ">=",
-    };
     text.push_str(form)?;
-    node(text, sign, span)
+    node(text, sign(relation), span)
 }
 
 fn number(text: &mut String, number: Number) -> Result<(), AllocError> {

@@ -9,5 +9,5 @@ returns g c =
     let slots = g.T.Table.slots c.args.first.now in
     let first = g.T.Table.automaton c.args.first.now in
     let second = g.T.Table.automaton c.args.second.now in
-    accepts_the_set c.explore.result _ (and_machine slots first second) (intersection (accepts first) (accepts second)) c.and.ensures
+    accepts_the_set c.explore.result _ (and_machine slots first second) (intersection (accepts first) (accepts second)) c.new.ensures
     (c.operations_accept.ensures.and slots first second) c.explore.ensures.accepts

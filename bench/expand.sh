@@ -1,0 +1,40 @@
+#!/usr/bin/env bash
+# Measures how long the program takes to read a file, find the faults of its names and its goal, and make its core. Each file
+# is refused at the end by `fault form` or for its size, so nothing is decided. Told is the least time of a whole run of the
+# program in milliseconds, of so many runs (RUNS, 20 by custom); the first line is a file of 9 bytes, so it is the time of a start.
+#
+#   bench/expand.sh
+#
+#   small     infer pt;
+#   largest   a goal of 65,536 nodes, 43,695 steps, in macros that double
+#   written   a goal of 65,536 nodes that is written out, in 98,312 bytes
+#   unused    100 macros that hand on their argument twice, and never use it: 2^99 nodes if it were expanded
+#   refused   256 macros that double: 2^255 nodes, refused for their size
+#
+# FIGURES
+set -euo pipefail
+here=$(cd "$(dirname "$(readlink -f "${BASH_SOURCE[0]}")")" && pwd)
+program=$here/../crates/dcvalid/out/dcvalid
+[ -x "$program" ] || { echo "build the program first: ./dcvalid check examples/always.dc" >&2; exit 1; }
+files=$(mktemp -d)
+trap 'rm -rf "$files"' EXIT
+
+# macros m0, m1, .., each the one before it twice
+doubled() { awk -v n="$1" 'BEGIN { printf "define m0 as pt;\n"; for (i = 1; i < n; i++) printf "define m%d as m%d && m%d;\n", i, i - 1, i - 1 }'; }
+
+echo 'infer pt;' >"$files/small"
+{ doubled 15; echo 'infer m14 && m12 && m10 && m8 && m6 && m4 && m2 && m1 && m1;'; } >"$files/largest"
+awk 'BEGIN { printf "infer true"; for (i = 0; i < 32767; i++) printf "^pt"; print ";" }' >"$files/written"
+awk 'BEGIN { print "var p; define F0(a) as pt;"; for (i = 1; i < 100; i++) printf "define F%d(a) as F%d(a && a);\n", i, i - 1; print "infer F99(p);" }' >"$files/unused"
+{ doubled 256; echo 'infer m255;'; } >"$files/refused"
+
+for file in small largest written unused refused; do
+  least=
+  for _ in $(seq "${RUNS:-20}"); do
+    begun=${EPOCHREALTIME/./}
+    said=$("$program" check "$files/$file" 2>&1) || true
+    took=$((${EPOCHREALTIME/./} - begun))
+    [ -n "$least" ] && [ "$least" -le "$took" ] || least=$took
+  done
+  printf '%-8s %7d bytes %5d.%03d ms  %s\n' "$file" "$(wc -c <"$files/$file")" $((least / 1000)) $((least % 1000)) "$said"
+done

@@ -1,0 +1,47 @@
+use Rattle.std.proofs.Common.{◌≡◌, ◌+◌, ◌*◌, drop}
+use Rattle.dcv_logic.proofs.Measures.{work, list_work}
+use Rattle.dcv_scope.specs.Core.{CoreTree}
+use Rattle.dcv_scope.specs.CoreOf.{joined, list_core}
+use Rattle.dcv_scope.specs.Steps.{Made}
+use Rattle.dcv_scope.specs.Expansions.{sight_of, join_of, unit_of, operands_of}
+use Rattle.dcv_scope.proofs.WorkLeft.{work_left}
+use Rattle.dcv_scope.proofs.expansion.Sight.+cores.Given as goal
+
+-- what was made and the operands to come join to the whole
+abbrev pub invariant-list-loop-operand : goal.invariant-list-loop-operand
+invariant-list-loop-operand l =
+    let sight = sight_of l.self in
+    (so_far : CoreTree) × (Made l.fn.core l.self.slots so_far l.core l.last)
+    × (joined sight (join_of l.join) l.first.span (operands_of (drop l.operand-index l.rest)) so_far
+    ≡ list_core sight (join_of l.join) (unit_of l.join) (operands_of l.operands) l.fn.span)
+
+-- a call of a macro goes on with fewer macros, and every other call deeper into the formula
+abbrev pub decreases-formula : goal.decreases-formula
+decreases-formula l = 3 * (work_left l.self.now + work 0 l.formula.now.kind)
+
+abbrev pub decreases-call : goal.decreases-call
+decreases-call l = 3 * work_left l.self.now
+
+abbrev pub decreases-not : goal.decreases-not
+decreases-not l = 3 * (work_left l.self.now + work 0 l.body.now.kind) + 1
+
+abbrev pub decreases-star : goal.decreases-star
+decreases-star l = 3 * (work_left l.self.now + work 0 l.body.now.kind) + 1
+
+abbrev pub decreases-implies : goal.decreases-implies
+decreases-implies l = 3 * (work_left l.self.now + (work 0 l.premise.now.kind + work 0 l.conclusion.now.kind)) + 2
+
+abbrev pub decreases-somewhere : goal.decreases-somewhere
+decreases-somewhere l = 3 * (work_left l.self.now + work 0 l.body.now.kind) + 1
+
+abbrev pub decreases-everywhere : goal.decreases-everywhere
+decreases-everywhere l = 3 * (work_left l.self.now + work 0 l.body.now.kind) + 2
+
+abbrev pub decreases-exists : goal.decreases-exists
+decreases-exists l = 3 * (work_left l.self.now + work 0 l.body.now.kind) + 1
+
+abbrev pub decreases-for_all : goal.decreases-for_all
+decreases-for_all l = 3 * (work_left l.self.now + work 0 l.body.now.kind) + 2
+
+abbrev pub decreases-list : goal.decreases-list
+decreases-list l = 3 * (work_left l.self.now + list_work 0 l.operands.now)

@@ -1,0 +1,5 @@
+use Rattle.dcv_scope.proofs.MadeSteps.{then_ok, chopped_round}
+use Rattle.dcv_scope.proofs.expansion.Sight.chop_round.Goals as goal
+
+pub returns : goal.returns
+returns c = then_ok c.push-2.result c.push-2.ensures (λ last. chopped_round c.in_ok-first.ensures c.in_ok-second.ensures)

@@ -1,0 +1,11 @@
+use Rattle.std.proofs.Common.{◌≡◌, ◌++◌, map, take, drop}
+use Rattle.std.specs.Prelude.{Option}
+use Rattle.dcv_scope.specs.declared.measures.Share.{Share}
+use Rattle.dcv_scope.specs.Linear.{capped_share}
+use Rattle.dcv_scope.specs.Walk.{share_under}
+use Rattle.dcv_scope.proofs.measures.MacroMeasure.under.Given as goal
+
+-- the shares so far are done, and the others as they were
+abbrev pub invariant-loop-place : goal.invariant-loop-place
+invariant-loop-place l =
+    l.shares ≡ map (λ (s : Option Share). capped_share (share_under l.deeper l.quantifiers s)) (take l.place l.self.shares) ++ drop l.place l.self.shares

@@ -1,0 +1,108 @@
+-- For the proofs alone: what the expansion has in sight, in the words of `CoreOf`.
+use Rattle.std.specs.Prelude.{◌≡◌, ℕ, suc, ◌+◌, ◌<◌, true, false, List, [], ◌∷◌, ◌++◌, Some, map, length, if◌then◌else◌}
+use Rattle.dcv_syntax.specs.declared.names.Span.{Span}
+use Rattle.dcv_syntax.specs.declared.names.Name.{Name}
+use Rattle.dcv_syntax.specs.declared.files.Macro.{Macro}
+use Rattle.dcv_syntax.specs.declared.propositions.Prop.{Prop}
+use Rattle.dcv_syntax.specs.declared.formulas.FormulaOperand.{FormulaOperand}
+use Rattle.dcv_syntax.specs.Plain.{PlainFormulaOperands, formula_operands_of}
+use Rattle.dcv_syntax.specs.Views.{plain_prop_kind, plain_formula_operand, plain_macro}
+use Rattle.dcv_logic.specs.Environment.{found}
+use Rattle.dcv_logic.specs.Scope.{IsNewest}
+use Rattle.dcv_scope.specs.declared.expansion.Meaning.{Meaning}
+use Rattle.dcv_scope.specs.declared.expansion.Meaning.TheVariants.{Slot, Argument}
+use Rattle.dcv_scope.specs.declared.expansion.Binding.{Binding}
+use Rattle.dcv_scope.specs.declared.expansion.Called.{Called}
+use Rattle.dcv_scope.specs.declared.expansion.Sight.{Sight as SightOfCode}
+use Rattle.dcv_scope.specs.declared.expansion.Join.{Join}
+use Rattle.dcv_scope.specs.declared.expansion.Join.TheVariants.{And, Or, Iff, Chop}
+use Rattle.dcv_scope.specs.declared.measures.MacroMeasure.{MacroMeasure}
+use Rattle.dcv_scope.specs.Core.{PlainTruth, TruthConstant, TruthSlot, PlainBasic, BasicConstant, BasicPoint, CoreTree, CoreAnd, CoreOr, CoreIff, CoreChop}
+use Rattle.dcv_scope.specs.CoreOf.{Sight, Expansion, PropExpansion, FormulaExpansion, expansion_of, with_expansions, declared_slots, truth_of}
+use Rattle.dcv_scope.specs.Steps.{PlainOp, OpAtom, OpAnd, OpOr, OpIff, OpChop, PlainCore}
+use Rattle.dcv_scope.specs.Linear.{uses_parameter, AreMeasuresOf, variables_alone}
+use Rattle.dcv_scope.specs.Unused.{PassesOver}
+use Rattle.dcv_scope.specs.TruthViews.{plain_truth}
+
+-- what a name stands for
+abbrev pub meant : Meaning → PlainTruth
+meant (Slot slot) = TruthSlot slot
+meant (Argument truth) = plain_truth truth.now
+
+abbrev pub names_of : List Binding → List (List ℕ × PlainTruth)
+names_of = map (λ (b : Binding). (b.name.now.text, meant b.meaning))
+
+-- the declared variables and these macros
+unfoldable pub top_sight_of : List Name → List Macro → Sight
+top_sight_of variables macros =
+    with_expansions (record { slots = length variables; truths = declared_slots 0 variables; macros = [] }) (map plain_macro macros)
+
+-- what the code has in sight
+abbrev pub sight_of : SightOfCode → Sight
+sight_of s = record {
+  slots = s.slots;
+  truths = names_of s.names.items;
+  macros = (top_sight_of s.variables.now s.macros.now).macros;
+}
+
+-- the measures are those of the macros, and there are numbers enough for the variables
+pub record IsSight (s : SightOfCode) : Type 0 where
+  pub few : length s.variables.now < 256
+  pub measured : AreMeasuresOf (variables_alone s.variables.now) (map plain_macro s.macros.now) s.uses.now
+
+-- what a macro stands for does not depend on its argument at place j
+abbrev pub ExpansionPassesOver : ℕ → Expansion → Type 0
+ExpansionPassesOver j (PropExpansion c) = PassesOver j c
+ExpansionPassesOver j (FormulaExpansion c) = (k : ℕ) → PassesOver j (c k)
+
+-- this macro stands under a name, and its measure tells which arguments it uses
+pub record IsCalled (s : SightOfCode) (name : List ℕ) (called : Called) : Type 0 where
+  pub newest : IsNewest s.macros.now name called.defined.now called.macros.now
+  pub few : length called.variables.now < 256
+  pub measured : AreMeasuresOf (variables_alone called.variables.now) (map plain_macro called.macros.now) called.uses.now
+  pub expansion : found (sight_of s).macros name ≡ Some (expansion_of (top_sight_of called.variables.now called.macros.now) (plain_macro called.defined.now))
+  pub skips : (j : ℕ) → uses_parameter called.measure.now j ≡ false
+      → ExpansionPassesOver j (expansion_of (top_sight_of called.variables.now called.macros.now) (plain_macro called.defined.now))
+
+-- the arguments from place j on, where those that are not used are left out
+abbrev pub used_from : MacroMeasure → ℕ → List PlainTruth → List PlainTruth
+used_from measure j [] = []
+used_from measure j (p ∷ truths) = (if uses_parameter measure j then p else TruthConstant false) ∷ used_from measure (j + 1) truths
+
+-- the propositions of a list
+abbrev pub truths_in : Sight → List Prop → List PlainTruth
+truths_in sight = map (λ (p : Prop). truth_of sight (plain_prop_kind p.kind))
+
+-- the joins of a list
+abbrev pub join_of : Join → CoreTree → CoreTree → Span → CoreTree
+join_of And = CoreAnd
+join_of Or = CoreOr
+join_of Iff = CoreIff
+join_of Chop = CoreChop
+
+abbrev pub join_op : Join → ℕ → ℕ → PlainOp
+join_op And = OpAnd
+join_op Or = OpOr
+join_op Iff = OpIff
+join_op Chop = OpChop
+
+-- what a list without operands stands for
+abbrev pub unit_of : Join → PlainBasic
+unit_of And = BasicConstant true
+unit_of Or = BasicConstant false
+unit_of Iff = BasicConstant true
+unit_of Chop = BasicPoint (TruthConstant true)
+
+abbrev pub operands_of : List FormulaOperand → PlainFormulaOperands
+operands_of operands = formula_operands_of (map plain_formula_operand operands)
+
+-- the new core has the last three steps of `true ^ D ^ true` more, behind `true` and D, which have these numbers
+pub record IsChoppedRound (old : PlainCore) (before part : ℕ) (span : Span) (slots : ℕ) (new : PlainCore) (last : ℕ) : Type 0 where
+  pub added : new ≡ record old {
+    steps = old.steps
+        ++ record { op = OpChop before part; span = span; slots = slots }
+        ∷ record { op = OpAtom (BasicConstant true); span = span; slots = slots }
+        ∷ record { op = OpChop (length old.steps) (suc (length old.steps)); span = span; slots = slots }
+        ∷ [];
+  }
+  pub place : last ≡ suc (suc (length old.steps))

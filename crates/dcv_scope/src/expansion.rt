@@ -1,0 +1,621 @@
+// The core of the goal: a walk over the text, in which a call goes on in the body of its macro.
+ghost use Rattle.std.specs.Prelude.{◌≡◌, ◌≢◌, ◌<◌, ◌≤◌, ◌+◌, ◌^◌, ◌++◌, [], length, map, false, Some, None, IfOk, MatchOption};
+ghost use Rattle.std.specs.List.{AllByRecursion};
+ghost use Rattle.std.specs.Option.{option_map};
+ghost use Rattle.dcv_syntax.specs.Spans.{covering};
+ghost use Rattle.dcv_syntax.specs.Views.{plain_prop_kind, plain_formula_kind, plain_macro, plain_file};
+ghost use Rattle.dcv_logic.specs.Environment.{found};
+ghost use Rattle.dcv_logic.specs.Scope.{IsNewest};
+ghost use Rattle.dcv_scope.specs.Core.{TruthConstant, TruthNot, TruthOr, no_truths, truth_operand, BasicConstant};
+ghost use Rattle.dcv_scope.specs.Core.{CoreAtom, CoreNot, CoreOr, CoreStar, CoreExists};
+ghost use Rattle.dcv_scope.specs.CoreOf.{bind_slot, bind_arguments, declared_slots, truth_of_call, truth_of};
+ghost use Rattle.dcv_scope.specs.CoreOf.{core_of_macro, somewhere_core, core_of, list_core, core_of_file};
+ghost use Rattle.dcv_scope.specs.Measures.{measure_of_file, slots_of_file};
+ghost use Rattle.dcv_scope.specs.Linear.{AreMeasuresOf, variables_alone};
+ghost use Rattle.dcv_scope.specs.Steps.{Made, HasRoom, without_core, steps_of};
+ghost use Rattle.dcv_scope.specs.StepViews.{plain_operator};
+ghost use Rattle.dcv_scope.specs.TruthViews.{plain_truth, plain_basic};
+ghost use Rattle.dcv_scope.specs.Names.{texts};
+ghost use Rattle.dcv_scope.specs.Expansions.{meant, names_of, sight_of, top_sight_of, IsSight, IsCalled, used_from, truths_in};
+ghost use Rattle.dcv_scope.specs.Expansions.{join_of, join_op, unit_of, operands_of, IsChoppedRound};
+
+use crate::measures::MacroMeasure;
+use crate::steps::{Core, Operator};
+use crate::truths::{Basic, Truth};
+use dcv_syntax::{
+    File, Formula, FormulaKind, FormulaOperand, Macro, MacroBody, Name, Prop, PropKind,
+    PropOperand, Span, Text,
+};
+use std::alloc::{AllocError, Global};
+
+// What a name stands for.
+#[derive(Clone, Copy, Drop)]
+enum Meaning<'a> {
+    Slot(u8),
+    Argument(&'a Truth),
+}
+
+impl Meaning<'_> {
+    fn truth(&self, alloc: Global) -> Result<Truth, AllocError>
+        ensures { IfOk result (λ truth. plain_truth truth ≡ meant self.now) }
+    {
+        match self {
+            Meaning::Slot(slot) => Ok(Truth::Slot(*slot)),
+            Meaning::Argument(truth) => truth.copy(alloc),
+        }
+    }
+}
+
+#[derive(Clone, Copy, Drop)]
+struct Binding<'a> {
+    name: &'a Name,
+    meaning: Meaning<'a>,
+}
+
+// What is in sight at a form.
+#[derive(Drop)]
+struct Sight<'a> {
+    alloc: Global,
+    // How many slots are in use.
+    slots: u8,
+    // Declared variables, parameters and quantified names, the newest first.
+    names: Vec<Binding<'a>>,
+    variables: &'a [Name],
+    // The macros before this one, in order, with their measures.
+    macros: &'a [Macro],
+    uses: &'a [MacroMeasure],
+}
+
+// A macro that is called, and what its body sees: the declared variables and the macros before it.
+#[derive(Drop)]
+struct Called<'a> {
+    defined: &'a Macro,
+    measure: &'a MacroMeasure,
+    variables: &'a [Name],
+    macros: &'a [Macro],
+    uses: &'a [MacroMeasure],
+}
+
+// The last macro of the name, and those before it.
+fn newest<'a>(macros: &'a [Macro], name: &Text) -> Option<(&'a Macro, &'a [Macro])>
+    ensures { MatchOption result
+        (AllByRecursion (λ m. m.name.text ≢ name.now) macros.now)
+        (λ found. IsNewest macros.now name.now found.0.now found.1.now) }
+{
+    let mut earlier = macros;
+    while let Some((last, before)) = earlier.split_last() {
+        if last.name.text.as_bytes() == name.as_bytes() {
+            return Some((last, before));
+        }
+        earlier = before;
+    }
+    None
+}
+
+// These names, and then the declared variables.
+fn with_variables<'a>(
+    mut names: Vec<Binding<'a>>,
+    variables: &'a [Name],
+) -> Result<Vec<Binding<'a>>, AllocError>
+    requires { length variables.now < 256 }
+    ensures { IfOk result (λ all. names_of all.items ≡ names_of names.entry.items ++ declared_slots 0 variables.now) }
+{
+    for (slot, name) in variables.iter().enumerate() {
+        names.push(Binding {
+            name,
+            meaning: Meaning::Slot(slot as u8),
+        })?;
+    }
+    Ok(names)
+}
+
+impl<'a> Called<'a> {
+    // What the macro's body sees, where its parameters stand for these arguments.
+    fn inside(
+        &self,
+        alloc: Global,
+        slots: u8,
+        arguments: &'a [Truth],
+    ) -> Result<Sight<'a>, AllocError>
+        requires few { length self.now.variables.now < 256 }
+        requires measured { AreMeasuresOf (variables_alone self.now.variables.now) (map plain_macro self.now.macros.now) self.now.uses.now }
+        ensures sight { IfOk result (λ inner. sight_of inner ≡ record (bind_arguments
+            (top_sight_of self.now.variables.now self.now.macros.now)
+            (texts self.now.defined.now.parameters.items) (map plain_truth arguments.now)) { slots = slots }) }
+        ensures macros { IfOk result (λ inner. inner.macros.now ≡ self.now.macros.now) }
+        ensures is_sight { IfOk result IsSight }
+    {
+        let mut names = Vec::new(alloc);
+        for (parameter, argument) in self.defined.parameters.iter().zip(arguments) {
+            names.push(Binding {
+                name: parameter,
+                meaning: Meaning::Argument(argument),
+            })?;
+        }
+        Ok(Sight {
+            alloc,
+            slots,
+            names: with_variables(names, self.variables)?,
+            variables: self.variables,
+            macros: self.macros,
+            uses: self.uses,
+        })
+    }
+}
+
+impl<'a> Sight<'a> {
+    // What the name stands for as a variable, parameter or quantified name.
+    fn meaning(&self, name: &Text) -> Option<Meaning<'a>>
+        ensures { option_map meant result ≡ found (sight_of self.now).truths name.now }
+    {
+        for binding in &self.names {
+            if binding.name.text.as_bytes() == name.as_bytes() {
+                return Some(binding.meaning);
+            }
+        }
+        None
+    }
+
+    // The macro that a name stands for.
+    fn called(&self, name: &Text) -> Option<Called<'a>>
+        requires is_sight { IsSight self.now }
+        ensures { MatchOption result
+            (found (sight_of self.now).macros name.now ≡ None)
+            (IsCalled self.now name.now) }
+    {
+        let Some((defined, macros)) = newest(self.macros, name) else {
+            return None;
+        };
+        Some(Called {
+            defined,
+            measure: &self.uses[macros.len()],
+            variables: self.variables,
+            macros,
+            uses: &self.uses[..macros.len()],
+        })
+    }
+
+    // The proposition over slots that a proposition stands for.
+    #[cycle(truths)]
+    #[tactic(auto, using(crate::proofs::TextRows::prop_rows))]
+    fn prop(&self, prop: &Prop) -> Result<Truth, AllocError>
+        requires is_sight { IsSight self.now }
+        ensures { IfOk result (λ truth. plain_truth truth
+            ≡ truth_of (sight_of self.now) (plain_prop_kind prop.now.kind)) }
+    {
+        match &prop.kind {
+            PropKind::Constant(truth) => Ok(Truth::Constant(*truth)),
+            PropKind::Call(name, arguments) => self.named(name, arguments),
+            PropKind::Not(operand) => self.opposite(operand),
+            PropKind::And(operands) => Ok(Truth::And(self.prop_operands(operands)?)),
+            PropKind::Or(operands) => Ok(Truth::Or(self.prop_operands(operands)?)),
+            PropKind::Implies(premise, conclusion) => self.implication(premise, conclusion),
+            PropKind::Iff(operands) => Ok(Truth::Iff(self.prop_operands(operands)?)),
+        }
+    }
+
+    // `!P`
+    #[cycle(truths)]
+    fn opposite(&self, prop: &Prop) -> Result<Truth, AllocError>
+        requires is_sight { IsSight self.now }
+        ensures { IfOk result (λ truth. plain_truth truth
+            ≡ TruthNot (truth_of (sight_of self.now) (plain_prop_kind prop.now.kind))) }
+    {
+        Ok(Truth::Not(Box::new(self.alloc, self.prop(prop)?)?))
+    }
+
+    // `P => Q`, which is `!P || Q`
+    #[cycle(truths)]
+    #[tactic(auto, using(crate::proofs::TruthRows::truth_rows))]
+    fn implication(&self, premise: &Prop, conclusion: &Prop) -> Result<Truth, AllocError>
+        requires is_sight { IsSight self.now }
+        ensures { IfOk result (λ truth. plain_truth truth ≡ TruthOr (truth_operand
+            (TruthNot (truth_of (sight_of self.now) (plain_prop_kind premise.now.kind))) (truth_operand
+            (truth_of (sight_of self.now) (plain_prop_kind conclusion.now.kind)) no_truths))) }
+    {
+        let mut operands = Vec::new(self.alloc);
+        operands.push(self.opposite(premise)?)?;
+        operands.push(self.prop(conclusion)?)?;
+        Ok(Truth::Or(operands))
+    }
+
+    // A name with its arguments: a variable, parameter or quantified name hides a macro.
+    #[cycle(truths)]
+    fn named(&self, name: &Name, arguments: &[Prop]) -> Result<Truth, AllocError>
+        requires is_sight { IsSight self.now }
+        ensures { IfOk result (λ truth. plain_truth truth ≡ truth_of_call
+            (found (sight_of self.now).truths name.now.text) (found (sight_of self.now).macros name.now.text)
+            (truths_in (sight_of self.now) arguments.now)) }
+    {
+        if let Some(meaning) = self.meaning(&name.text) {
+            return if arguments.is_empty() {
+                meaning.truth(self.alloc)
+            } else {
+                Ok(Truth::Constant(false))
+            };
+        }
+        let Some(called) = self.called(&name.text) else {
+            return Ok(Truth::Constant(false));
+        };
+        match &called.defined.body {
+            MacroBody::Formula(_) => Ok(Truth::Constant(false)),
+            MacroBody::Prop(body) => {
+                let arguments = self.arguments(called.measure, arguments)?;
+                let inside = called.inside(self.alloc, self.slots, &arguments)?;
+                inside.prop(body)
+            }
+        }
+    }
+
+    // The arguments of a macro. One that the macro does not use is left out.
+    #[cycle(truths)]
+    fn arguments(
+        &self,
+        measure: &MacroMeasure,
+        arguments: &[Prop],
+    ) -> Result<Vec<Truth>, AllocError>
+        requires is_sight { IsSight self.now }
+        ensures { IfOk result (λ truths. map plain_truth truths.items
+            ≡ used_from measure.now 0 (truths_in (sight_of self.now) arguments.now)) }
+    {
+        let mut truths = Vec::new(self.alloc);
+        for (place, argument) in arguments.iter().enumerate() {
+            let truth = if measure.uses(place) {
+                self.prop(argument)?
+            } else {
+                Truth::Constant(false)
+            };
+            truths.push(truth)?;
+        }
+        Ok(truths)
+    }
+
+    // The operands of a list.
+    #[cycle(truths)]
+    fn prop_operands(&self, operands: &[PropOperand]) -> Result<Vec<Truth>, AllocError>
+        requires is_sight { IsSight self.now }
+        ensures { IfOk result (λ truths. map plain_truth truths.items
+            ≡ map (λ o. truth_of (sight_of self.now) (plain_prop_kind o.prop.kind)) operands.now) }
+    {
+        let mut truths = Vec::new(self.alloc);
+        for operand in operands {
+            truths.push(self.prop(&operand.prop)?)?;
+        }
+        Ok(truths)
+    }
+}
+
+// From the first operand to another, the parentheses of both in it.
+fn reach(first: &FormulaOperand, last: &FormulaOperand) -> Span
+    ensures { result ≡ covering first.now.span last.now.span }
+{
+    first.span.to(last.span)
+}
+
+// What joins the formulas of a list.
+#[derive(Clone, Copy, Drop)]
+enum Join {
+    And,
+    Or,
+    Iff,
+    Chop,
+}
+
+impl Join {
+    fn operator(self, first: u32, second: u32) -> Operator
+        ensures { plain_operator result ≡ join_op self first second }
+    {
+        match self {
+            Join::And => Operator::And(first, second),
+            Join::Or => Operator::Or(first, second),
+            Join::Iff => Operator::Iff(first, second),
+            Join::Chop => Operator::Chop(first, second),
+        }
+    }
+
+    // What a list without operands stands for.
+    fn unit(self) -> Basic
+        ensures { plain_basic result ≡ unit_of self }
+    {
+        match self {
+            Join::And => Basic::Constant(true),
+            Join::Or => Basic::Constant(false),
+            Join::Iff => Basic::Constant(true),
+            Join::Chop => Basic::Point(Truth::Constant(true)),
+        }
+    }
+}
+
+impl<'a> Sight<'a> {
+    // What is in sight behind a quantifier.
+    fn bind(&self, name: &'a Name) -> Result<Sight<'a>, AllocError>
+        requires slots { self.now.slots + 1 < 256 }
+        requires is_sight { IsSight self.now }
+        ensures sight { IfOk result (λ inner. sight_of inner ≡ bind_slot (sight_of self.now) name.now.text) }
+        ensures macros { IfOk result (λ inner. inner.macros.now ≡ self.now.macros.now) }
+        ensures is_sight { IfOk result IsSight }
+    {
+        let mut names = Vec::new(self.alloc);
+        names.push(Binding {
+            name,
+            meaning: Meaning::Slot(self.slots),
+        })?;
+        for outer in &self.names {
+            names.push(*outer)?;
+        }
+        Ok(Sight {
+            names,
+            slots: self.slots + 1,
+            ..*self
+        })
+    }
+
+    // A form without a formula in it.
+    fn atom(&self, basic: Basic, span: Span, core: &mut Core) -> Result<u32, AllocError>
+        requires { HasRoom core.old self.now.slots (CoreAtom (plain_basic basic) span) }
+        ensures { IfOk result (Made core.old self.now.slots (CoreAtom (plain_basic basic) span) core.new) }
+    {
+        core.push(Operator::Atom(basic), span, self.slots)
+    }
+
+    // The end of `true ^ D ^ true`, behind `true` and D.
+    fn chop_round(
+        &self,
+        before: u32,
+        part: u32,
+        span: Span,
+        core: &mut Core,
+    ) -> Result<u32, AllocError>
+        requires { length core.old.steps + 3 < 2 ^ 32 }
+        ensures { IfOk result (IsChoppedRound core.old before part span self.now.slots core.new) }
+    {
+        let first = core.push(Operator::Chop(before, part), span, self.slots)?;
+        let second = self.atom(Basic::Constant(true), span, core)?;
+        core.push(Operator::Chop(first, second), span, self.slots)
+    }
+
+    // Adds the steps of a formula, and gives the number of the last.
+    #[cycle(cores)]
+    #[tactic(auto, using(crate::proofs::TextRows::formula_rows))]
+    fn formula(&self, formula: &'a Formula, core: &mut Core) -> Result<u32, AllocError>
+        requires is_sight { IsSight self.now }
+        requires room { HasRoom core.old self.now.slots
+            (core_of (sight_of self.now) (plain_formula_kind formula.now.kind) formula.now.span) }
+        ensures { IfOk result (Made core.old self.now.slots
+            (core_of (sight_of self.now) (plain_formula_kind formula.now.kind) formula.now.span) core.new) }
+    {
+        let span = formula.span;
+        match &formula.kind {
+            FormulaKind::Constant(truth) => self.atom(Basic::Constant(*truth), span, core),
+            FormulaKind::Pt => self.atom(Basic::Point(Truth::Constant(true)), span, core),
+            FormulaKind::Ext => self.atom(Basic::Run(Truth::Constant(true)), span, core),
+            FormulaKind::Point(prop) => self.atom(Basic::Point(self.prop(prop)?), span, core),
+            FormulaKind::Run(prop) => self.atom(Basic::Run(self.prop(prop)?), span, core),
+            FormulaKind::Every(prop) => self.atom(Basic::Every(self.prop(prop)?), span, core),
+            FormulaKind::Unit(prop) => self.atom(Basic::Unit(self.prop(prop)?), span, core),
+            FormulaKind::Slen(relation, number) => {
+                self.atom(Basic::Slen(*relation, number.value), span, core)
+            }
+            FormulaKind::Scount(prop, relation, number) => {
+                let truth = self.prop(prop)?;
+                self.atom(Basic::Scount(truth, *relation, number.value), span, core)
+            }
+            FormulaKind::Sdur(prop, relation, number) => {
+                let truth = self.prop(prop)?;
+                self.atom(Basic::Sdur(truth, *relation, number.value), span, core)
+            }
+            FormulaKind::Call(name, arguments) => self.call(name, arguments, span, core),
+            FormulaKind::Not(body) => self.not(body, span, core),
+            FormulaKind::And(operands) => self.list(Join::And, operands, span, core),
+            FormulaKind::Or(operands) => self.list(Join::Or, operands, span, core),
+            FormulaKind::Implies(premise, conclusion) => {
+                self.implies(premise, conclusion, span, core)
+            }
+            FormulaKind::Iff(operands) => self.list(Join::Iff, operands, span, core),
+            FormulaKind::Chop(operands) => self.list(Join::Chop, operands, span, core),
+            FormulaKind::Star(body) => self.star(body, span, core),
+            FormulaKind::Somewhere(body) => self.somewhere(body, span, core),
+            FormulaKind::Everywhere(body) => self.everywhere(body, span, core),
+            FormulaKind::Exists(name, body) => self.exists(name, body, span, core),
+            FormulaKind::ForAll(name, body) => self.for_all(name, body, span, core),
+        }
+    }
+
+    // `f(P, Q, ..)`
+    #[cycle(cores)]
+    fn call(
+        &self,
+        name: &Name,
+        arguments: &[Prop],
+        span: Span,
+        core: &mut Core,
+    ) -> Result<u32, AllocError>
+        requires is_sight { IsSight self.now }
+        requires room { HasRoom core.old self.now.slots (core_of_macro (found (sight_of self.now).macros name.now.text)
+            self.now.slots (truths_in (sight_of self.now) arguments.now) span) }
+        ensures { IfOk result (Made core.old self.now.slots (core_of_macro (found (sight_of self.now).macros name.now.text)
+            self.now.slots (truths_in (sight_of self.now) arguments.now) span) core.new) }
+    {
+        let Some(called) = self.called(&name.text) else {
+            return self.atom(Basic::Constant(false), span, core);
+        };
+        match &called.defined.body {
+            MacroBody::Prop(_) => self.atom(Basic::Constant(false), span, core),
+            MacroBody::Formula(body) => {
+                let arguments = self.arguments(called.measure, arguments)?;
+                let inside = called.inside(self.alloc, self.slots, &arguments)?;
+                inside.formula(body, core)
+            }
+        }
+    }
+
+    // `!D`
+    #[cycle(cores)]
+    fn not(&self, body: &'a Formula, span: Span, core: &mut Core) -> Result<u32, AllocError>
+        requires is_sight { IsSight self.now }
+        requires room { HasRoom core.old self.now.slots
+            (CoreNot (core_of (sight_of self.now) (plain_formula_kind body.now.kind) body.now.span) span) }
+        ensures { IfOk result (Made core.old self.now.slots
+            (CoreNot (core_of (sight_of self.now) (plain_formula_kind body.now.kind) body.now.span) span) core.new) }
+    {
+        let operand = self.formula(body, core)?;
+        core.push(Operator::Not(operand), span, self.slots)
+    }
+
+    // `D*`
+    #[cycle(cores)]
+    fn star(&self, body: &'a Formula, span: Span, core: &mut Core) -> Result<u32, AllocError>
+        requires is_sight { IsSight self.now }
+        requires room { HasRoom core.old self.now.slots
+            (CoreStar (core_of (sight_of self.now) (plain_formula_kind body.now.kind) body.now.span) span) }
+        ensures { IfOk result (Made core.old self.now.slots
+            (CoreStar (core_of (sight_of self.now) (plain_formula_kind body.now.kind) body.now.span) span) core.new) }
+    {
+        let operand = self.formula(body, core)?;
+        core.push(Operator::Star(operand), span, self.slots)
+    }
+
+    // `C => D`, which is `!C || D`
+    #[cycle(cores)]
+    fn implies(
+        &self,
+        premise: &'a Formula,
+        conclusion: &'a Formula,
+        span: Span,
+        core: &mut Core,
+    ) -> Result<u32, AllocError>
+        requires is_sight { IsSight self.now }
+        requires room { HasRoom core.old self.now.slots (CoreOr
+            (CoreNot (core_of (sight_of self.now) (plain_formula_kind premise.now.kind) premise.now.span) span)
+            (core_of (sight_of self.now) (plain_formula_kind conclusion.now.kind) conclusion.now.span) span) }
+        ensures { IfOk result (Made core.old self.now.slots (CoreOr
+            (CoreNot (core_of (sight_of self.now) (plain_formula_kind premise.now.kind) premise.now.span) span)
+            (core_of (sight_of self.now) (plain_formula_kind conclusion.now.kind) conclusion.now.span) span) core.new) }
+    {
+        let first = self.not(premise, span, core)?;
+        let second = self.formula(conclusion, core)?;
+        core.push(Operator::Or(first, second), span, self.slots)
+    }
+
+    // `<>D`, which is `true ^ D ^ true`
+    #[cycle(cores)]
+    fn somewhere(&self, body: &'a Formula, span: Span, core: &mut Core) -> Result<u32, AllocError>
+        requires is_sight { IsSight self.now }
+        requires room { HasRoom core.old self.now.slots (somewhere_core
+            (core_of (sight_of self.now) (plain_formula_kind body.now.kind) body.now.span) span) }
+        ensures { IfOk result (Made core.old self.now.slots (somewhere_core
+            (core_of (sight_of self.now) (plain_formula_kind body.now.kind) body.now.span) span) core.new) }
+    {
+        let before = self.atom(Basic::Constant(true), span, core)?;
+        let part = self.formula(body, core)?;
+        self.chop_round(before, part, span, core)
+    }
+
+    // `[]D`, which is `!(true ^ !D ^ true)`
+    #[cycle(cores)]
+    fn everywhere(&self, body: &'a Formula, span: Span, core: &mut Core) -> Result<u32, AllocError>
+        requires is_sight { IsSight self.now }
+        requires room { HasRoom core.old self.now.slots (CoreNot (somewhere_core (CoreNot
+            (core_of (sight_of self.now) (plain_formula_kind body.now.kind) body.now.span) span) span) span) }
+        ensures { IfOk result (Made core.old self.now.slots (CoreNot (somewhere_core (CoreNot
+            (core_of (sight_of self.now) (plain_formula_kind body.now.kind) body.now.span) span) span) span) core.new) }
+    {
+        let before = self.atom(Basic::Constant(true), span, core)?;
+        let part = self.not(body, span, core)?;
+        let somewhere = self.chop_round(before, part, span, core)?;
+        core.push(Operator::Not(somewhere), span, self.slots)
+    }
+
+    // `ex p. D`
+    #[cycle(cores)]
+    fn exists(
+        &self,
+        name: &'a Name,
+        body: &'a Formula,
+        span: Span,
+        core: &mut Core,
+    ) -> Result<u32, AllocError>
+        requires is_sight { IsSight self.now }
+        requires room { HasRoom core.old self.now.slots (CoreExists (core_of
+            (bind_slot (sight_of self.now) name.now.text) (plain_formula_kind body.now.kind) body.now.span) span) }
+        ensures { IfOk result (Made core.old self.now.slots (CoreExists (core_of
+            (bind_slot (sight_of self.now) name.now.text) (plain_formula_kind body.now.kind) body.now.span) span) core.new) }
+    {
+        let operand = self.bind(name)?.formula(body, core)?;
+        core.push(Operator::Exists(operand), span, self.slots)
+    }
+
+    // `all p. D`, which is `!(ex p. !D)`
+    #[cycle(cores)]
+    fn for_all(
+        &self,
+        name: &'a Name,
+        body: &'a Formula,
+        span: Span,
+        core: &mut Core,
+    ) -> Result<u32, AllocError>
+        requires is_sight { IsSight self.now }
+        requires room { HasRoom core.old self.now.slots (CoreNot (CoreExists (CoreNot (core_of
+            (bind_slot (sight_of self.now) name.now.text) (plain_formula_kind body.now.kind) body.now.span) span) span) span) }
+        ensures { IfOk result (Made core.old self.now.slots (CoreNot (CoreExists (CoreNot (core_of
+            (bind_slot (sight_of self.now) name.now.text) (plain_formula_kind body.now.kind) body.now.span) span) span) span) core.new) }
+    {
+        let operand = self.bind(name)?.not(body, span, core)?;
+        let exists = core.push(Operator::Exists(operand), span, self.slots)?;
+        core.push(Operator::Not(exists), span, self.slots)
+    }
+
+    // The operands of a list, joined from the left.
+    #[cycle(cores)]
+    fn list(
+        &self,
+        join: Join,
+        operands: &'a [FormulaOperand],
+        span: Span,
+        core: &mut Core,
+    ) -> Result<u32, AllocError>
+        requires is_sight { IsSight self.now }
+        requires room { HasRoom core.old self.now.slots
+            (list_core (sight_of self.now) (join_of join) (unit_of join) (operands_of operands.now) span) }
+        ensures { IfOk result (Made core.old self.now.slots
+            (list_core (sight_of self.now) (join_of join) (unit_of join) (operands_of operands.now) span) core.new) }
+    {
+        let Some((first, rest)) = operands.split_first() else {
+            return self.atom(join.unit(), span, core);
+        };
+        let mut last = self.formula(&first.formula, core)?;
+        for operand in rest {
+            let second = self.formula(&operand.formula, core)?;
+            let covered = reach(first, operand);
+            last = core.push(join.operator(last, second), covered, self.slots)?;
+        }
+        Ok(last)
+    }
+}
+
+/// The core of the goal of a file, each macro of which has its measure.
+pub(crate) fn core_of_goal(
+    alloc: Global,
+    file: &File,
+    uses: &[MacroMeasure],
+) -> Result<Core, AllocError>
+    requires size { (measure_of_file (plain_file file.now)).size ≤ 65536 }
+    requires slots { slots_of_file (plain_file file.now) ≤ 32 }
+    requires measured { AreMeasuresOf (variables_alone file.now.variables.items) (plain_file file.now).macros uses.now }
+    ensures declared { IfOk result (λ core. core.declared ≡ length (plain_file file.now).variables) }
+    ensures steps { IfOk result (λ core. core.steps ≡ map without_core
+        (steps_of (length (plain_file file.now).variables) (core_of_file (plain_file file.now)))) }
+{
+    let declared = file.variables.len() as u8;
+    let sight = Sight {
+        alloc,
+        slots: declared,
+        names: with_variables(Vec::new(alloc), &file.variables)?,
+        variables: &file.variables,
+        macros: &file.macros,
+        uses,
+    };
+    let mut core = Core::new(alloc, declared);
+    sight.formula(&file.goal.formula, &mut core)?;
+    Ok(core)
+}

@@ -1,0 +1,603 @@
+// Measures of macros and of the goal, taken on the text: of each macro once, whose body is never entered again.
+ghost use Rattle.std.specs.Prelude.{◌≡◌, ◌++◌, ◌∷◌, [], IfOk, Some, None, length, map, drop};
+ghost use Rattle.std.specs.Option.{option_map};
+ghost use Rattle.dcv_syntax.specs.Views.{plain_prop_kind, plain_formula_kind, plain_body, plain_macro, plain_file};
+ghost use Rattle.dcv_logic.specs.Environment.{found};
+ghost use Rattle.dcv_scope.specs.Measures.{leaf, nothing, measure_of_file};
+ghost use Rattle.dcv_scope.specs.Names.{fault_of_names};
+ghost use Rattle.dcv_scope.specs.Linear.{AreMeasuresOf, variables_alone, measure_with, numbers_of, share_of, uses_parameter, capped_numbers};
+ghost use Rattle.dcv_scope.specs.Linear.{capped_share, capped_macro};
+ghost use Rattle.dcv_scope.specs.Walk.{numbers_beside, numbers_under, shares_beside, share_under, share_within};
+ghost use Rattle.dcv_scope.specs.Walk.{constant, argument_at, linear_beside, linear_under, linear_within, linear_with, linear_at};
+ghost use Rattle.dcv_scope.specs.Walk.{linear_of_name, linear_of_macro, linear_of_prop, linear_of_formula, linear_of_body};
+ghost use Rattle.dcv_scope.specs.Walk.{linear_in_sight, leaves, quantified_leaves, parameters_from, name_too, first_linear, all_in_turn, IsMeasured};
+ghost use Rattle.dcv_scope.specs.Walk.{linear_of, with_linears, declared_alone, linear_measures};
+
+use dcv_syntax::{
+    File, Formula, FormulaKind, FormulaOperand, Macro, MacroBody, Name, Prop, PropKind,
+    PropOperand, Text,
+};
+use std::alloc::{AllocError, Global};
+
+/// The most parameters that a macro has.
+const PARAMETERS: usize = 8;
+
+/// How many nodes a goal or a body has, how deep they are nested, and how deep its quantifiers are. Each number stops at the
+/// greatest of its type.
+#[derive(Clone, Copy, Debug)]
+pub(crate) struct Measure {
+    pub(crate) size: u32,
+    pub(crate) depth: u32,
+    pub(crate) quantifiers: u32,
+}
+
+impl Measure {
+    // One node.
+    fn leaf() -> Measure
+        ensures { result ≡ numbers_of leaf }
+    {
+        Measure {
+            size: 1,
+            depth: 1,
+            quantifiers: 0,
+        }
+    }
+
+    fn nothing() -> Measure
+        ensures { result ≡ numbers_of nothing }
+    {
+        Measure {
+            size: 0,
+            depth: 0,
+            quantifiers: 0,
+        }
+    }
+
+    // Side by side.
+    fn beside(self, other: Measure) -> Measure
+        ensures { result ≡ capped_numbers (numbers_beside self other) }
+    {
+        Measure {
+            size: self.size.saturating_add(other.size),
+            depth: self.depth.max(other.depth),
+            quantifiers: self.quantifiers.max(other.quantifiers),
+        }
+    }
+
+    // Below so many nodes more, so much deeper, and below so many quantifiers.
+    fn under(self, nodes: u32, deeper: u32, quantifiers: u32) -> Measure
+        ensures { result ≡ capped_numbers (numbers_under nodes deeper quantifiers self) }
+    {
+        Measure {
+            size: nodes.saturating_add(self.size),
+            depth: deeper.saturating_add(self.depth),
+            quantifiers: quantifiers.saturating_add(self.quantifiers),
+        }
+    }
+}
+
+/// How often a macro's expansion has an argument, and how deep below the root its deepest use is, in nodes and in quantifiers.
+#[derive(Clone, Copy, Debug)]
+pub(crate) struct Share {
+    uses: u32,
+    depth: u32,
+    quantifiers: u32,
+}
+
+impl Share {
+    fn beside(self, other: Share) -> Share
+        ensures { Some result ≡ capped_share (shares_beside (Some self) (Some other)) }
+    {
+        Share {
+            uses: self.uses.saturating_add(other.uses),
+            depth: self.depth.max(other.depth),
+            quantifiers: self.quantifiers.max(other.quantifiers),
+        }
+    }
+
+    fn under(self, deeper: u32, quantifiers: u32) -> Share
+        ensures { Some result ≡ capped_share (share_under deeper quantifiers (Some self)) }
+    {
+        Share {
+            uses: self.uses,
+            depth: deeper.saturating_add(self.depth),
+            quantifiers: quantifiers.saturating_add(self.quantifiers),
+        }
+    }
+
+    // What this share of something has of another, of which that has this much.
+    fn within(self, inner: Share) -> Share
+        ensures { Some result ≡ capped_share (share_within self (Some inner)) }
+    {
+        Share {
+            uses: self.uses.saturating_mul(inner.uses),
+            depth: self.depth.saturating_add(inner.depth),
+            quantifiers: self.quantifiers.saturating_add(inner.quantifiers),
+        }
+    }
+
+    // What the uses of something of that measure come to.
+    fn of(self, argument: Measure) -> Measure
+        ensures { result ≡ capped_numbers (numbers_of (share_of self (measure_with argument))) }
+    {
+        Measure {
+            size: self.uses.saturating_mul(argument.size),
+            depth: self.depth.saturating_add(argument.depth),
+            quantifiers: self.quantifiers.saturating_add(argument.quantifiers),
+        }
+    }
+}
+
+/// The measure of a macro as a function of its arguments' measures: its own nodes, and a share of each argument that is used.
+/// Sizes add up, and depths go by the greatest.
+#[derive(Clone, Copy, Debug)]
+pub(crate) struct MacroMeasure {
+    own: Measure,
+    shares: [Option<Share>; PARAMETERS],
+}
+
+impl MacroMeasure {
+    // The same whatever the arguments.
+    #[tactic(auto, unfolding(crate::specs::Walk::constant, crate::specs::Linear::capped_macro))]
+    fn constant(own: Measure) -> MacroMeasure
+        ensures { result ≡ capped_macro (constant (measure_with own)) }
+    {
+        MacroMeasure {
+            own,
+            shares: [None; PARAMETERS],
+        }
+    }
+
+    // That of the argument at a place. A ninth argument, which no well-named file has, counts nothing.
+    #[tactic(auto, unfolding(crate::specs::Walk::argument_at, crate::specs::Linear::capped_macro))]
+    fn argument(place: usize) -> MacroMeasure
+        ensures { result ≡ capped_macro (argument_at place) }
+    {
+        let mut shares = [None; PARAMETERS];
+        if place < PARAMETERS {
+            shares[place] = Some(Share {
+                uses: 1,
+                depth: 0,
+                quantifiers: 0,
+            });
+        }
+        MacroMeasure {
+            own: Measure::nothing(),
+            shares,
+        }
+    }
+
+    #[tactic(auto, unfolding(crate::specs::Walk::linear_beside, crate::specs::Linear::capped_macro))]
+    fn beside(self, other: MacroMeasure) -> MacroMeasure
+        ensures { result ≡ capped_macro (linear_beside self other) }
+    {
+        let mut shares = self.shares;
+        for place in 0..PARAMETERS {
+            shares[place] = beside(self.shares[place], other.shares[place]);
+        }
+        MacroMeasure {
+            own: self.own.beside(other.own),
+            shares,
+        }
+    }
+
+    #[tactic(auto, unfolding(crate::specs::Walk::linear_under, crate::specs::Linear::capped_macro))]
+    fn under(self, nodes: u32, deeper: u32, quantifiers: u32) -> MacroMeasure
+        ensures { result ≡ capped_macro (linear_under nodes deeper quantifiers self) }
+    {
+        let mut shares = self.shares;
+        for place in 0..PARAMETERS {
+            shares[place] = under(self.shares[place], deeper, quantifiers);
+        }
+        MacroMeasure {
+            own: self.own.under(nodes, deeper, quantifiers),
+            shares,
+        }
+    }
+
+    // The share of something with this measure.
+    #[tactic(auto, unfolding(crate::specs::Walk::linear_within, crate::specs::Linear::capped_macro))]
+    fn within(self, share: Share) -> MacroMeasure
+        ensures { result ≡ capped_macro (linear_within share self) }
+    {
+        let mut shares = self.shares;
+        for place in 0..PARAMETERS {
+            shares[place] = within(share, self.shares[place]);
+        }
+        MacroMeasure {
+            own: share.of(self.own),
+            shares,
+        }
+    }
+
+    /// The macro's expansion has the argument at this place.
+    pub(crate) fn uses(&self, parameter: usize) -> bool
+        ensures { result ≡ uses_parameter self.now parameter }
+    {
+        match self.shares.get(parameter) {
+            Some(share) => share.is_some(),
+            None => false,
+        }
+    }
+}
+
+// Both shares of one argument.
+fn beside(share: Option<Share>, other: Option<Share>) -> Option<Share>
+    ensures { result ≡ capped_share (shares_beside share other) }
+{
+    match (share, other) {
+        (Some(share), Some(other)) => Some(share.beside(other)),
+        (Some(share), None) => Some(share),
+        (None, other) => other,
+    }
+}
+
+fn under(share: Option<Share>, deeper: u32, quantifiers: u32) -> Option<Share>
+    ensures { result ≡ capped_share (share_under deeper quantifiers share) }
+{
+    match share {
+        Some(share) => Some(share.under(deeper, quantifiers)),
+        None => None,
+    }
+}
+
+fn within(outer: Share, share: Option<Share>) -> Option<Share>
+    ensures { result ≡ capped_share (share_within outer share) }
+{
+    match share {
+        Some(share) => Some(outer.within(share)),
+        None => None,
+    }
+}
+
+// What is in sight in a macro's body or in the goal.
+#[derive(Drop)]
+struct Sight<'a> {
+    alloc: Global,
+    // Quantified names, the innermost first, the macro's parameters, and the declared variables.
+    quantified: Vec<&'a Name>,
+    parameters: &'a [Name],
+    declared: &'a [Name],
+    // The macros before this one, in order, and their measures.
+    macros: &'a [Macro],
+    measures: &'a [MacroMeasure],
+}
+
+impl<'a> Sight<'a> {
+    // The measure of the quantified name.
+    fn bound(&self, name: &Text) -> Option<MacroMeasure>
+        ensures { result ≡ option_map capped_macro (found (quantified_leaves self.now.quantified.items) name.now) }
+    {
+        for other in &self.quantified {
+            if other.text.as_bytes() == name.as_bytes() {
+                return Some(leaf());
+            }
+        }
+        None
+    }
+
+    // The argument for which the parameter of that name stands.
+    fn parameter(&self, name: &Text) -> Option<MacroMeasure>
+        ensures { result ≡ option_map capped_macro (found (parameters_from 0 self.now.parameters.now) name.now) }
+    {
+        for (place, parameter) in self.parameters.iter().enumerate() {
+            if parameter.text.as_bytes() == name.as_bytes() {
+                return Some(MacroMeasure::argument(place));
+            }
+        }
+        None
+    }
+
+    // The measure of the declared variable.
+    fn variable(&self, name: &Text) -> Option<MacroMeasure>
+        ensures { result ≡ option_map capped_macro (found (leaves self.now.declared.now) name.now) }
+    {
+        for other in self.declared {
+            if other.text.as_bytes() == name.as_bytes() {
+                return Some(leaf());
+            }
+        }
+        None
+    }
+
+    // A quantified name hides a parameter, and a parameter a declared variable.
+    #[tactic(auto, using(crate::proofs::LookUps::found_in_turn))]
+    fn named(&self, name: &Text) -> Option<MacroMeasure>
+        ensures { result ≡ option_map capped_macro (found (linear_in_sight self.now).names name.now) }
+    {
+        self.bound(name)
+            .or(self.parameter(name))
+            .or(self.variable(name))
+    }
+
+    // The measure of the macro of that name, the newest first.
+    fn called(&self, name: &Text) -> Option<MacroMeasure>
+        requires measured { IsMeasured self.now }
+        ensures { result ≡ option_map capped_macro (found (linear_in_sight self.now).macros name.now) }
+    {
+        for place in (0..self.macros.len()).rev() {
+            if self.macros[place].name.text.as_bytes() == name.as_bytes() {
+                return Some(self.measures[place]);
+            }
+        }
+        None
+    }
+
+    // The measure of a proposition.
+    #[cycle(props)]
+    #[tactic(auto, using(crate::proofs::LinearRows::rows))]
+    fn prop(&self, prop: &Prop) -> MacroMeasure
+        requires measured { IsMeasured self.now }
+        ensures { result ≡ capped_macro
+            (linear_of_prop (linear_in_sight self.now) (plain_prop_kind prop.now.kind)) }
+    {
+        match &prop.kind {
+            PropKind::Constant(_) => leaf(),
+            PropKind::Call(name, arguments) => self.use_of(name, arguments),
+            PropKind::Not(operand) => self.prop(operand).under(1, 1, 0),
+            PropKind::And(operands) => self.prop_operands(operands).under(1, 1, 0),
+            PropKind::Or(operands) => self.prop_operands(operands).under(1, 1, 0),
+            PropKind::Implies(premise, conclusion) => {
+                let refuted = self.prop(premise).under(1, 1, 0);
+                refuted.beside(self.prop(conclusion)).under(1, 1, 0)
+            }
+            PropKind::Iff(operands) => self.prop_operands(operands).under(1, 1, 0),
+        }
+    }
+
+    #[cycle(props)]
+    fn prop_operands(&self, operands: &[PropOperand]) -> MacroMeasure
+        requires measured { IsMeasured self.now }
+        ensures { result ≡ capped_macro (all_in_turn (λ (o : PropOperand). linear_of_prop
+            (linear_in_sight self.now) (plain_prop_kind o.prop.kind)) (constant nothing) operands.now) }
+    {
+        let mut all = MacroMeasure::constant(Measure::nothing());
+        for operand in operands {
+            all = all.beside(self.prop(&operand.prop));
+        }
+        all
+    }
+
+    // A name where a proposition is asked for, with these arguments.
+    #[cycle(props)]
+    fn use_of(&self, name: &Name, arguments: &[Prop]) -> MacroMeasure
+        requires measured { IsMeasured self.now }
+        ensures { let sight = linear_in_sight self.now in result ≡ capped_macro (linear_of_name
+            (found sight.names name.now.text) (found sight.macros name.now.text)
+            (map (λ (p : Prop). linear_of_prop sight (plain_prop_kind p.kind)) arguments.now)) }
+    {
+        match self.named(&name.text) {
+            Some(named) => named,
+            None => self.call(name, arguments),
+        }
+    }
+
+    // A macro at these arguments.
+    #[cycle(props)]
+    fn call(&self, name: &Name, arguments: &[Prop]) -> MacroMeasure
+        requires measured { IsMeasured self.now }
+        ensures { let sight = linear_in_sight self.now in result ≡ capped_macro (linear_of_macro
+            (found sight.macros name.now.text)
+            (map (λ (p : Prop). linear_of_prop sight (plain_prop_kind p.kind)) arguments.now)) }
+    {
+        match self.called(&name.text) {
+            Some(called) => self.expanded(called, arguments),
+            None => leaf(),
+        }
+    }
+
+    // What a macro measures at these arguments.
+    #[cycle(props)]
+    fn expanded(&self, called: MacroMeasure, arguments: &[Prop]) -> MacroMeasure
+        requires measured { IsMeasured self.now }
+        ensures { result ≡ capped_macro (linear_at called
+            (map (λ (p : Prop). linear_of_prop (linear_in_sight self.now) (plain_prop_kind p.kind)) arguments.now)) }
+    {
+        let mut whole = MacroMeasure::constant(called.own);
+        for place in 0..PARAMETERS {
+            whole = self.with_argument(whole, called.shares[place], arguments, place);
+        }
+        whole
+    }
+
+    // What an argument adds, of which the macro has this share.
+    #[cycle(props)]
+    fn with_argument(
+        &self,
+        whole: MacroMeasure,
+        share: Option<Share>,
+        arguments: &[Prop],
+        place: usize,
+    ) -> MacroMeasure
+        requires measured { IsMeasured self.now }
+        requires capped { whole ≡ capped_macro whole }
+        ensures { result ≡ capped_macro (linear_with whole share (first_linear (drop place
+            (map (λ (p : Prop). linear_of_prop (linear_in_sight self.now) (plain_prop_kind p.kind)) arguments.now)))) }
+    {
+        match share {
+            Some(share) => whole.beside(self.argument(arguments, place).within(share)),
+            None => whole,
+        }
+    }
+
+    // The argument at a place. One that is missing, as none is in a well-named file, counts as one node.
+    #[cycle(props)]
+    fn argument(&self, arguments: &[Prop], place: usize) -> MacroMeasure
+        requires measured { IsMeasured self.now }
+        ensures { result ≡ capped_macro (first_linear (drop place
+            (map (λ (p : Prop). linear_of_prop (linear_in_sight self.now) (plain_prop_kind p.kind)) arguments.now))) }
+    {
+        if place < arguments.len() {
+            self.prop(&arguments[place])
+        } else {
+            leaf()
+        }
+    }
+}
+
+impl<'a> Sight<'a> {
+    // What is in sight behind a quantifier.
+    fn bind(&self, name: &'a Name) -> Result<Sight<'a>, AllocError>
+        ensures sight { IfOk result (λ inner.
+            linear_in_sight inner ≡ name_too (linear_in_sight self.now) name.now.text) }
+        ensures measured { IfOk result (λ inner. IsMeasured self.now → IsMeasured inner) }
+    {
+        let mut quantified = Vec::new(self.alloc);
+        quantified.push(name)?;
+        for outer in &self.quantified {
+            quantified.push(*outer)?;
+        }
+        Ok(Sight {
+            quantified,
+            ..*self
+        })
+    }
+
+    // The measure of a formula.
+    #[cycle(formulas)]
+    #[tactic(auto, using(crate::proofs::LinearRows::formula_rows))]
+    fn formula(&self, formula: &'a Formula) -> Result<MacroMeasure, AllocError>
+        requires measured { IsMeasured self.now }
+        ensures { IfOk result (λ measure. measure ≡ capped_macro
+            (linear_of_formula (linear_in_sight self.now) (plain_formula_kind formula.now.kind))) }
+    {
+        match &formula.kind {
+            FormulaKind::Constant(_) => Ok(leaf()),
+            FormulaKind::Pt => Ok(leaf().under(1, 1, 0)),
+            FormulaKind::Ext => Ok(leaf().under(1, 1, 0)),
+            FormulaKind::Point(prop) => Ok(self.prop(prop).under(1, 1, 0)),
+            FormulaKind::Run(prop) => Ok(self.prop(prop).under(1, 1, 0)),
+            FormulaKind::Every(prop) => Ok(self.prop(prop).under(1, 1, 0)),
+            FormulaKind::Unit(prop) => Ok(self.prop(prop).under(1, 1, 0)),
+            FormulaKind::Slen(_, _) => Ok(leaf()),
+            FormulaKind::Scount(prop, _, _) => Ok(self.prop(prop).under(1, 1, 0)),
+            FormulaKind::Sdur(prop, _, _) => Ok(self.prop(prop).under(1, 1, 0)),
+            FormulaKind::Call(name, arguments) => Ok(self.call(name, arguments)),
+            FormulaKind::Not(body) => Ok(self.formula(body)?.under(1, 1, 0)),
+            FormulaKind::And(operands) => Ok(self.operands(operands)?.under(1, 1, 0)),
+            FormulaKind::Or(operands) => Ok(self.operands(operands)?.under(1, 1, 0)),
+            FormulaKind::Implies(premise, conclusion) => {
+                let refuted = self.formula(premise)?.under(1, 1, 0);
+                Ok(refuted.beside(self.formula(conclusion)?).under(1, 1, 0))
+            }
+            FormulaKind::Iff(operands) => Ok(self.operands(operands)?.under(1, 1, 0)),
+            FormulaKind::Chop(operands) => Ok(self.operands(operands)?.under(1, 1, 0)),
+            FormulaKind::Star(body) => Ok(self.formula(body)?.under(1, 1, 0)),
+            FormulaKind::Somewhere(body) => Ok(self.formula(body)?.under(3, 1, 0)),
+            FormulaKind::Everywhere(body) => Ok(self.formula(body)?.under(5, 3, 0)),
+            FormulaKind::Exists(name, body) => Ok(self.quantified(name, body)?.under(1, 1, 1)),
+            FormulaKind::ForAll(name, body) => Ok(self.quantified(name, body)?.under(3, 3, 1)),
+        }
+    }
+
+    #[cycle(formulas)]
+    fn operands(&self, operands: &'a [FormulaOperand]) -> Result<MacroMeasure, AllocError>
+        requires measured { IsMeasured self.now }
+        ensures { IfOk result (λ measure. measure ≡ capped_macro (all_in_turn (λ (o : FormulaOperand).
+            linear_of_formula (linear_in_sight self.now) (plain_formula_kind o.formula.kind)) (constant nothing) operands.now)) }
+    {
+        let mut all = MacroMeasure::constant(Measure::nothing());
+        for operand in operands {
+            let measure = self.formula(&operand.formula)?;
+            all = all.beside(measure);
+        }
+        Ok(all)
+    }
+
+    // The formula behind a quantifier.
+    #[cycle(formulas)]
+    fn quantified(&self, name: &'a Name, body: &'a Formula) -> Result<MacroMeasure, AllocError>
+        requires measured { IsMeasured self.now }
+        ensures { IfOk result (λ measure. measure ≡ capped_macro (linear_of_formula
+            (name_too (linear_in_sight self.now) name.now.text) (plain_formula_kind body.now.kind))) }
+    {
+        let inside = self.bind(name)?;
+        let measure = inside.formula(body)?;
+        Ok(measure)
+    }
+
+    // What a macro stands for.
+    fn body(&self, body: &'a MacroBody) -> Result<MacroMeasure, AllocError>
+        requires measured { IsMeasured self.now }
+        ensures { IfOk result (λ measure. measure ≡ capped_macro
+            (linear_of_body (linear_in_sight self.now) (plain_body body.now))) }
+    {
+        match body {
+            MacroBody::Formula(formula) => self.formula(formula),
+            MacroBody::Prop(prop) => Ok(self.prop(prop)),
+        }
+    }
+}
+
+// One node.
+fn leaf() -> MacroMeasure
+    ensures { result ≡ capped_macro (constant leaf) }
+{
+    MacroMeasure::constant(Measure::leaf())
+}
+
+// The measure of a macro, before which these variables and macros are in sight.
+fn measure_of_macro<'a>(
+    alloc: Global,
+    declared: &'a [Name],
+    earlier: &'a [Macro],
+    measures: &'a [MacroMeasure],
+    defined: &'a Macro,
+) -> Result<MacroMeasure, AllocError>
+    requires measured { measures.now ≡ linear_measures declared.now (map plain_macro earlier.now) }
+    ensures { IfOk result (λ measure. measure ≡ capped_macro (linear_of
+        (with_linears (declared_alone declared.now) (map plain_macro earlier.now)) (plain_macro defined.now))) }
+{
+    let sight = Sight {
+        alloc,
+        quantified: Vec::new(alloc),
+        parameters: &defined.parameters,
+        declared,
+        macros: earlier,
+        measures,
+    };
+    let measure = sight.body(&defined.body)?;
+    Ok(measure)
+}
+
+/// The measure of each macro, as a function of its arguments', in order. The work is linear in the text.
+pub(crate) fn measures_of_macros(
+    alloc: Global,
+    file: &File,
+) -> Result<Vec<MacroMeasure>, AllocError>
+    requires well_named { fault_of_names (plain_file file.now) ≡ None }
+    ensures measured { IfOk result (λ measures. AreMeasuresOf
+        (variables_alone file.now.variables.items) (plain_file file.now).macros measures.items) }
+    ensures numbers { IfOk result (λ measures. measures.items
+        ≡ linear_measures file.now.variables.items (plain_file file.now).macros) }
+{
+    let mut measures = Vec::new(alloc);
+    for (place, defined) in file.macros.iter().enumerate() {
+        let earlier = &file.macros[..place];
+        let measure = measure_of_macro(alloc, &file.variables, earlier, &measures, defined)?;
+        measures.push(measure)?;
+    }
+    Ok(measures)
+}
+
+/// The measure of the goal, where these are those of the macros. No macro is expanded.
+pub(crate) fn measure_of_goal(
+    alloc: Global,
+    file: &File,
+    macros: &[MacroMeasure],
+) -> Result<Measure, AllocError>
+    requires well_named { fault_of_names (plain_file file.now) ≡ None }
+    requires numbers { macros.now ≡ linear_measures file.now.variables.items (plain_file file.now).macros }
+    ensures { IfOk result (λ measure. measure ≡ capped_numbers (numbers_of (measure_of_file (plain_file file.now)))) }
+{
+    let sight = Sight {
+        alloc,
+        quantified: Vec::new(alloc),
+        parameters: &[],
+        declared: &file.variables,
+        macros: &file.macros,
+        measures: macros,
+    };
+    let measure = sight.formula(&file.goal.formula)?;
+    Ok(measure.own)
+}
