@@ -11,7 +11,13 @@
 #   unused    100 macros that hand on their argument twice, and never use it: 2^99 nodes if it were expanded
 #   refused   256 macros that double: 2^255 nodes, refused for their size
 #
-# FIGURES
+# The last figures: 27 November 2026, an Intel Xeon at 2.5 GHz, the least of 40 runs. The goal is 50 ms for 65,536 nodes.
+#
+#   small         10 bytes     1.096 ms  fault form
+#   largest      413 bytes     8.037 ms  fault form
+#   written    98313 bytes    23.392 ms  fault form
+#   unused      2992 bytes     1.640 ms  fault form
+#   refused     7096 bytes     1.951 ms  fault size at 7090
 set -euo pipefail
 here=$(cd "$(dirname "$(readlink -f "${BASH_SOURCE[0]}")")" && pwd)
 program=$here/../crates/dcvalid/out/dcvalid
