@@ -8,6 +8,7 @@ pub mod Listed
 pub mod Members
 pub mod Placed
 pub mod Refs
+pub mod Renumbered
 pub mod Roots
 pub mod Same
 pub mod Tables

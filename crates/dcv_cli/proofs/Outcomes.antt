@@ -35,8 +35,7 @@ use Rattle.dcv_cli.specs.Request.{Request, Check, AsksFor}
 use Rattle.dcv_cli.specs.Right.{Fulfilled, FulfilsOver, IsRightOver}
 use Rattle.dcv_cli.specs.declared.check.Report.{Report}
 use Rattle.dcv_cli.specs.Seen.{reported}
-use Rattle.dcv_cli.specs.Status.{is_determined}
-use Rattle.dcv_cli.specs.Verdict.{status_of_verdict}
+use Rattle.dcv_cli.specs.Status.{is_determined, status_of_verdict}
 
 -- ---- for a text
 

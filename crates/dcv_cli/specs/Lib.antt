@@ -2,7 +2,6 @@
 pub mod Request
 pub mod Status
 pub mod Refusal
-pub mod Verdict
 pub mod Outcome
 pub mod FormulaFile
 pub mod FirstForm

@@ -10,7 +10,7 @@ use Rattle.dcv_cli.specs.declared.refusal.Refusal.{Refusal}
 use Rattle.dcv_cli.specs.declared.status.Status.{Status}
 use Rattle.dcv_cli.specs.declared.status.Status.TheVariants.{Usage}
 use Rattle.dcv_cli.specs.Refusal.{status_of, words_of, Which, ended}
-use Rattle.dcv_cli.specs.Verdict.{status_of_verdict}
+use Rattle.dcv_cli.specs.Status.{status_of_verdict}
 
 -- how a run ends, and what it adds to the output and to the messages
 pub record Outcome : Type 0 where

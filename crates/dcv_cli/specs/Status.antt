@@ -1,5 +1,6 @@
 -- The statuses of a run, and how they group.
-use Rattle.std.specs.Prelude.{ℕ, Bool, true, false}
+use Rattle.std.specs.Prelude.{ℕ, Bool, true, false, is_none, if◌then◌else◌}
+use Rattle.dcv_language.specs.Verdict.{Verdict}
 use Rattle.dcv_cli.specs.declared.status.Status.{Status}
 use Rattle.dcv_cli.specs.declared.status.Status.TheVariants.{Valid, NotValid, Usage, Formula, Input, Output, Memory}
 
@@ -12,6 +13,10 @@ code_of Formula = 3
 code_of Input = 5
 code_of Output = 6
 code_of Memory = 7
+
+-- of a run that answers with this verdict: valid where there is no counterexample
+abbrev pub status_of_verdict : Verdict → Status
+status_of_verdict verdict = if is_none verdict.counterexample then Valid else NotValid
 
 -- the status of a run that answers
 abbrev pub is_answer : Status → Bool

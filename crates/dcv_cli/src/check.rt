@@ -77,7 +77,7 @@ fn judge(alloc: Global, text: &[u8]) -> Result<Report, Refusal>
         return Err(Refusal::Form);
     };
     Ok(Report {
-        status: verdict.status(),
+        status: Status::of(&verdict),
         text: verdict.text(alloc)?,
     })
 }

@@ -4,11 +4,11 @@ ghost use Rattle.dcv_syntax.specs.Views.{plain_file};
 ghost use Rattle.dcv_logic.specs.Models.{models};
 ghost use Rattle.dcv_language.specs.Language.{Language};
 ghost use Rattle.dcv_language.specs.Verdict.{IsVerdict};
+ghost use Rattle.dcv_print.specs.Verdict.{letters_of, seen_verdict};
 ghost use Rattle.dcv_cli.specs.FirstForm.{is_first_form, is_declared as names_the_variable};
 ghost use Rattle.dcv_cli.specs.Demand.{meets, AsksOfEach, IsLeastLetter};
-ghost use Rattle.dcv_cli.specs.Verdict.{letters_of, seen_verdict};
 
-use crate::verdict::Verdict;
+use dcv_print::Verdict;
 use dcv_syntax::{File, FormulaKind, Name, PropKind};
 use dcv_word::{Letter, Word};
 use std::alloc::{AllocError, Global};

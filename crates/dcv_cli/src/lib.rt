@@ -18,7 +18,6 @@ pub mod laws;
 mod refusal;
 mod running;
 mod status;
-mod verdict;
 mod words;
 
 pub use running::run;

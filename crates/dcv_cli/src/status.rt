@@ -1,6 +1,9 @@
 // How a run ends.
 ghost use Rattle.std.specs.Prelude.{◌≡◌};
-ghost use Rattle.dcv_cli.specs.Status.{code_of};
+ghost use Rattle.dcv_print.specs.Verdict.{seen_verdict};
+ghost use Rattle.dcv_cli.specs.Status.{code_of, status_of_verdict};
+
+use dcv_print::Verdict;
 
 /// How a run ended.
 #[derive(Clone, Copy, Debug, PartialEq, Eq)]
@@ -22,6 +25,17 @@ pub enum Status {
 }
 
 impl Status {
+    /// Of a run that answers with this verdict: valid where there is no counterexample.
+    pub fn of(verdict: &Verdict) -> Status
+        ensures { result ≡ status_of_verdict (seen_verdict verdict.now) }
+    {
+        if verdict.is_valid() {
+            Status::Valid
+        } else {
+            Status::NotValid
+        }
+    }
+
     /// The program's exit status.
     pub fn code(self) -> u8
         ensures { result ≡ code_of self }

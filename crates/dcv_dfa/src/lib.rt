@@ -9,11 +9,19 @@
 //! raw.arena().eval(raw.row(raw.start()), &letter) // the state after one letter
 //! ```
 //!
-//! A [`Table`] is what machines read of their operands; a raw automaton is one.
+//! An [`Auto`] is canonical for what it accepts: the least automaton, with its states in one order. [`Auto::node_lines`] numbers
+//! the nodes of its rows, children before their nodes. What is true of raw and canonical automata as tables is in [`laws`].
+//!
+//! A [`Table`] is what machines read of their operands; both are tables.
 #![tactic(auto)]
 
+mod auto;
+pub mod laws;
+mod node_lines;
 mod raw;
 mod table;
 
+pub use auto::Auto;
+pub use node_lines::{Child, NodeLine, NodeLines};
 pub use raw::Raw;
 pub use table::Table;

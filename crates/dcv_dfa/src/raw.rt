@@ -1,7 +1,8 @@
 // Raw automata: not yet minimal, their states in any order, any of them the start.
-ghost use Rattle.std.specs.Prelude.{◌≡◌, ◌<◌, length, slice_get, slice_index_or, Some, false};
+ghost use Rattle.std.specs.Prelude.{◌≡◌, ◌<◌, not, length, map, slice_get, slice_index_or, Some, false};
 ghost use Rattle.dcv_arena.specs.Arena.{IsRef};
 ghost use Rattle.dcv_dfa.specs.Raw.{IsRaw, raw_value, automaton_of, row_of};
+ghost use Rattle.dcv_dfa.specs.Auto.{complement_of};
 
 use crate::table::Table;
 use dcv_arena::{Arena, Ref};
@@ -83,12 +84,41 @@ impl Raw {
         self.rows[state as usize]
     }
 
+    /// The rows of all states, in order.
+    pub fn rows(&self) -> &[Ref]
+        ensures rows { result.now ≡ self.now.rows }
+        ensures raw { IsRaw self.now }
+    {
+        &self.rows
+    }
+
     /// The arena of the rows.
     pub fn arena(&self) -> &Arena
         ensures arena { result.now ≡ self.now.arena }
         ensures raw { IsRaw self.now }
     {
         &self.arena
+    }
+}
+
+impl Raw {
+    // Each flag turned, but for that of state 0 where it stands alone.
+    pub(crate) fn turned(self, alone: bool) -> Raw
+        ensures turned { result ≡ complement_of alone self }
+        ensures raw { IsRaw self }
+    {
+        let mut raw = self;
+        turn(&mut raw.accepting[usize::from(alone)..]);
+        raw
+    }
+}
+
+// Turns each flag.
+fn turn(flags: &mut [bool])
+    ensures { flags.new ≡ map not flags.old }
+{
+    for flag in flags.iter_mut() {
+        *flag = !*flag;
     }
 }
 

@@ -59,17 +59,17 @@ steps_from-length (CoreExists d span) n k = one_more (steps_from n (k + 1) d) _ 
 
 -- ---- lists that have steps from some place on
 
-abbrev Has : List PlainStep → ℕ → List PlainStep → Type 0
+abbrev pub Has : List PlainStep → ℕ → List PlainStep → Type 0
 Has all n steps = (i : ℕ) → i < length steps → slice_get all (n + i) ≡ slice_get steps i
 
-has_left : (all : List PlainStep) (n : ℕ) (xs ys : List PlainStep) → Has all n (xs ++ ys) → Has all n xs
+pub has_left : (all : List PlainStep) (n : ℕ) (xs ys : List PlainStep) → Has all n (xs ++ ys) → Has all n xs
 has_left all n xs ys h i lt = h i (omega (arith, lt, length-append xs ys)) ∙ slice_get-left xs ys i lt
 
 has_right : (all : List PlainStep) (n : ℕ) (xs ys : List PlainStep) (m : ℕ) → m ≡ n + length xs → Has all n (xs ++ ys) → Has all m ys
 has_right all n xs ys m e h i lt =
     ap (slice_get all) (omega (arith, e)) ∙ h (length xs + i) (omega (arith, lt, length-append xs ys)) ∙ slice_get-right xs ys i
 
-has_one : (all : List PlainStep) (n : ℕ) (step : PlainStep) → Has all n (step ∷ []) → slice_get all n ≡ Some step
+pub has_one : (all : List PlainStep) (n : ℕ) (step : PlainStep) → Has all n (step ∷ []) → slice_get all n ≡ Some step
 has_one all n step h = ap (slice_get all) (omega arith) ∙ h 0 (omega arith)
 
 -- the step at which a core ends
@@ -81,16 +81,16 @@ pub record IsLast (all : List PlainStep) (n k : ℕ) (core : CoreTree) : Type 0 
 
 module _ (all : List PlainStep) (n k : ℕ) where
   -- an operator of one operand: what its operand has, and its own step
-  last_of_one : (xs : List PlainStep) (before : ℕ) (step : PlainStep) → length xs ≡ suc before → Has all n (xs ++ step ∷ []) → slice_get all (n + suc before) ≡ Some step
+  pub last_of_one : (xs : List PlainStep) (before : ℕ) (step : PlainStep) → length xs ≡ suc before → Has all n (xs ++ step ∷ []) → slice_get all (n + suc before) ≡ Some step
   last_of_one xs before step e h = has_one all (n + suc before) step (has_right all n xs (step ∷ []) (n + suc before) (omega (arith, e)) h)
 
-  last_of_two : (xs ys : List PlainStep) (b c : ℕ) (step : PlainStep) → length xs ≡ suc b → length ys ≡ suc c → Has all n ((xs ++ ys) ++ step ∷ []) → slice_get all (n + suc (suc (b + c))) ≡ Some step
+  pub last_of_two : (xs ys : List PlainStep) (b c : ℕ) (step : PlainStep) → length xs ≡ suc b → length ys ≡ suc c → Has all n ((xs ++ ys) ++ step ∷ []) → slice_get all (n + suc (suc (b + c))) ≡ Some step
   last_of_two xs ys b c step e f h = has_one all (n + suc (suc (b + c))) step (has_right all n (xs ++ ys) (step ∷ []) (n + suc (suc (b + c))) (omega (arith, e, f, length-append xs ys)) h)
 
-  first_of_two : (xs ys : List PlainStep) (step : PlainStep) → Has all n ((xs ++ ys) ++ step ∷ []) → Has all n xs
+  pub first_of_two : (xs ys : List PlainStep) (step : PlainStep) → Has all n ((xs ++ ys) ++ step ∷ []) → Has all n xs
   first_of_two xs ys step h = has_left all n xs ys (has_left all n (xs ++ ys) (step ∷ []) h)
 
-  second_of_two : (xs ys : List PlainStep) (step : PlainStep) (b : ℕ) → length xs ≡ suc b → Has all n ((xs ++ ys) ++ step ∷ []) → Has all (suc (n + b)) ys
+  pub second_of_two : (xs ys : List PlainStep) (step : PlainStep) (b : ℕ) → length xs ≡ suc b → Has all n ((xs ++ ys) ++ step ∷ []) → Has all (suc (n + b)) ys
   second_of_two xs ys step b e h = has_right all n xs ys (suc (n + b)) (omega (arith, e)) (has_left all n (xs ++ ys) (step ∷ []) h)
 
 pub last_step : (all : List PlainStep) (core : CoreTree) (n k : ℕ) → Has all n (steps_from n k core) → IsLast all (n + steps_before core) k core
@@ -150,28 +150,28 @@ says_own : (all : List PlainStep) (n : ℕ) (own : PlainStep) → slice_get all 
 says_own all n own there is step e = subst (λ (s : PlainStep). IsOperation all n s s.op) (some_same own step (sym there ∙ e)) is
 
 -- a place among the steps of an operator is among its operand's, or its own
-module _ (all : List PlainStep) (n : ℕ) where
-  by_place_of_one : (b : ℕ) → ((i : ℕ) → i ≤ b → Says all (n + i)) → Says all (n + suc b) → (i : ℕ) → i ≤ suc b → Says all (n + i)
+module _ (Said : ℕ → Type 0) (n : ℕ) where
+  pub by_place_of_one : (b : ℕ) → ((i : ℕ) → i ≤ b → Said (n + i)) → Said (n + suc b) → (i : ℕ) → i ≤ suc b → Said (n + i)
   by_place_of_one b inner own i le = pick (eq-or-lt_of_le le)
     where
-      pick : (i ≡ suc b) ⊎ (i < suc b) → Says all (n + i)
-      pick (inl e) = subst (λ j. Says all (n + j)) (sym e) own
+      pick : (i ≡ suc b) ⊎ (i < suc b) → Said (n + i)
+      pick (inl e) = subst (λ j. Said (n + j)) (sym e) own
       pick (inr lt) = inner i (omega (arith, lt))
 
-  by_place_of_two : (b c : ℕ) → ((i : ℕ) → i ≤ b → Says all (n + i)) → ((i : ℕ) → i ≤ c → Says all (suc (n + b) + i)) → Says all (n + suc (suc (b + c)))
-      → (i : ℕ) → i ≤ suc (suc (b + c)) → Says all (n + i)
+  pub by_place_of_two : (b c : ℕ) → ((i : ℕ) → i ≤ b → Said (n + i)) → ((i : ℕ) → i ≤ c → Said (suc (n + b) + i)) → Said (n + suc (suc (b + c)))
+      → (i : ℕ) → i ≤ suc (suc (b + c)) → Said (n + i)
   by_place_of_two b c first second own i le = pick (eq-or-lt_of_le le)
     where
-      among : (b + 1 ≡ i) ⊎ (b + 1 < i) → i < suc (suc (b + c)) → Says all (n + i)
-      among (inl e) lt = subst (Says all) (omega (arith, e)) (second 0 (omega arith))
-      among (inr more) lt = subst (Says all) (omega (arith, more)) (second (i - (b + 1)) (omega (arith, lt, more)))
+      among : (b + 1 ≡ i) ⊎ (b + 1 < i) → i < suc (suc (b + c)) → Said (n + i)
+      among (inl e) lt = subst Said (omega (arith, e)) (second 0 (omega arith))
+      among (inr more) lt = subst Said (omega (arith, more)) (second (i - (b + 1)) (omega (arith, lt, more)))
 
-      below : (i ≤ b) ⊎ (b + 1 ≤ i) → i < suc (suc (b + c)) → Says all (n + i)
+      below : (i ≤ b) ⊎ (b + 1 ≤ i) → i < suc (suc (b + c)) → Said (n + i)
       below (inl le) lt = first i le
       below (inr more) lt = among (eq-or-lt_of_le more) lt
 
-      pick : (i ≡ suc (suc (b + c))) ⊎ (i < suc (suc (b + c))) → Says all (n + i)
-      pick (inl e) = subst (λ j. Says all (n + j)) (sym e) own
+      pick : (i ≡ suc (suc (b + c))) ⊎ (i < suc (suc (b + c))) → Said (n + i)
+      pick (inl e) = subst (λ j. Said (n + j)) (sym e) own
       pick (inr lt) = below (le_or_more i b) lt
 
 two_operands : (all : List PlainStep) (c d : CoreTree) (n k : ℕ) (own : PlainStep) (operation : Language → Language → Language)
@@ -194,46 +194,46 @@ each_step all (CoreAtom basic span) n k h = λ i le.
     (λ word behaves. words_of_atom basic span word behaves.nonempty)
 each_step all (CoreNot d span) n k h =
     let inner = has_left all n (steps_from n k d) _ h in
-    by_place_of_one all n (steps_before d) (each_step all d n k inner)
+    by_place_of_one (Says all) n (steps_before d) (each_step all d n k inner)
     (says_own all _ _ (last_of_one all n k (steps_from n k d) (steps_before d) _ (steps_from-length d n k) h)
     (takes_one all d _ (n + suc (steps_before d)) (n + steps_before d) k k _ (last_step all d n k inner) (omega arith) (words_of_not d span)))
 each_step all (CoreAnd c d span) n k h =
-    by_place_of_two all n (steps_before c) (steps_before d)
+    by_place_of_two (Says all) n (steps_before c) (steps_before d)
     (each_step all c n k (first_of_two all n k (steps_from n k c) (steps_from (suc (n + steps_before c)) k d) _ h))
     (each_step all d (suc (n + steps_before c)) k (second_of_two all n k (steps_from n k c) (steps_from (suc (n + steps_before c)) k d) _ (steps_before c) (steps_from-length c n k) h))
     (says_own all _ _ (last_of_two all n k (steps_from n k c) (steps_from (suc (n + steps_before c)) k d) (steps_before c) (steps_before d) _ (steps_from-length c n k) (steps_from-length d _ k) h)
     (two_operands all c d n k _ intersection h refl (words_of_and c d span)))
 each_step all (CoreOr c d span) n k h =
-    by_place_of_two all n (steps_before c) (steps_before d)
+    by_place_of_two (Says all) n (steps_before c) (steps_before d)
     (each_step all c n k (first_of_two all n k (steps_from n k c) (steps_from (suc (n + steps_before c)) k d) _ h))
     (each_step all d (suc (n + steps_before c)) k (second_of_two all n k (steps_from n k c) (steps_from (suc (n + steps_before c)) k d) _ (steps_before c) (steps_from-length c n k) h))
     (says_own all _ _ (last_of_two all n k (steps_from n k c) (steps_from (suc (n + steps_before c)) k d) (steps_before c) (steps_before d) _ (steps_from-length c n k) (steps_from-length d _ k) h)
     (two_operands all c d n k _ union h refl (words_of_or c d span)))
 each_step all (CoreIff c d span) n k h =
-    by_place_of_two all n (steps_before c) (steps_before d)
+    by_place_of_two (Says all) n (steps_before c) (steps_before d)
     (each_step all c n k (first_of_two all n k (steps_from n k c) (steps_from (suc (n + steps_before c)) k d) _ h))
     (each_step all d (suc (n + steps_before c)) k (second_of_two all n k (steps_from n k c) (steps_from (suc (n + steps_before c)) k d) _ (steps_before c) (steps_from-length c n k) h))
     (says_own all _ _ (last_of_two all n k (steps_from n k c) (steps_from (suc (n + steps_before c)) k d) (steps_before c) (steps_before d) _ (steps_from-length c n k) (steps_from-length d _ k) h)
     (two_operands all c d n k _ agreement h refl (words_of_iff c d span)))
 each_step all (CoreChop c d span) n k h =
-    by_place_of_two all n (steps_before c) (steps_before d)
+    by_place_of_two (Says all) n (steps_before c) (steps_before d)
     (each_step all c n k (first_of_two all n k (steps_from n k c) (steps_from (suc (n + steps_before c)) k d) _ h))
     (each_step all d (suc (n + steps_before c)) k (second_of_two all n k (steps_from n k c) (steps_from (suc (n + steps_before c)) k d) _ (steps_before c) (steps_from-length c n k) h))
     (says_own all _ _ (last_of_two all n k (steps_from n k c) (steps_from (suc (n + steps_before c)) k d) (steps_before c) (steps_before d) _ (steps_from-length c n k) (steps_from-length d _ k) h)
     (two_operands all c d n k _ chop h refl (words_of_chop c d span)))
 each_step all (CoreStar d span) n k h =
     let inner = has_left all n (steps_from n k d) _ h in
-    by_place_of_one all n (steps_before d) (each_step all d n k inner)
+    by_place_of_one (Says all) n (steps_before d) (each_step all d n k inner)
     (says_own all _ _ (last_of_one all n k (steps_from n k d) (steps_before d) _ (steps_from-length d n k) h)
     (takes_one all d _ (n + suc (steps_before d)) (n + steps_before d) k k _ (last_step all d n k inner) (omega arith) (words_of_star d span)))
 each_step all (CoreExists d span) n k h =
     let inner = has_left all n (steps_from n (k + 1) d) _ h in
     let last = last_step all d n (k + 1) inner in
-    by_place_of_one all n (steps_before d) (each_step all d n (k + 1) inner)
+    by_place_of_one (Says all) n (steps_before d) (each_step all d n (k + 1) inner)
     (says_own all _ _ (last_of_one all n k (steps_from n (k + 1) d) (steps_before d) _ (steps_from-length d n (k + 1)) h)
     (takes_one all d _ (n + suc (steps_before d)) (n + steps_before d) k (suc k) _ (subst (λ j. IsLast all (n + steps_before d) j d) (omega arith) last) (omega arith) (words_of_exists d span)))
 
-has_itself : (steps : List PlainStep) → Has steps 0 steps
+pub has_itself : (steps : List PlainStep) → Has steps 0 steps
 has_itself steps i lt = ap (slice_get steps) (omega arith)
 
 pub steps_are_operations : StepsAreOperations

@@ -4,7 +4,7 @@ use Rattle.std.specs.Prelude.{IsSome}
 use Rattle.std.proofs.lemmas.Result.{err_from_is_err_and}
 use Rattle.dcv_syntax.specs.Views.{plain_file}
 use Rattle.dcv_cli.specs.FirstForm.{is_first_form}
-use Rattle.dcv_cli.specs.Verdict.{seen_verdict}
+use Rattle.dcv_print.specs.Verdict.{seen_verdict}
 use Rattle.dcv_cli.proofs.Outcomes.{explains_reading, explains_scope, explains_other_form, answers_verdict, other_of_none}
 use Rattle.dcv_cli.proofs.check.judge.Goals as goal
 
@@ -36,4 +36,4 @@ returns-clause-ok c =
       sentence = record { fits = c.requires; no_fault = c.in_ok-file.ensures.no_fault; spelled = c.in_ok-file.ensures.spelled };
       has_core = c.in_ok-core.ensures.no_fault;
     })
-    (c.in_ok-verdict.ensures.form.0 some) (rw c.in-Some.is at c.in_ok-verdict.ensures.verdict) c.status.ensures c.in_ok-text.ensures
+    (c.in_ok-verdict.ensures.form.0 some) (rw c.in-Some.is at c.in_ok-verdict.ensures.verdict) c.of.ensures c.in_ok-text.ensures

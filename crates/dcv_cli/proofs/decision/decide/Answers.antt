@@ -5,7 +5,7 @@ use Rattle.std.proofs.Common.{List}
 use Rattle.dcv_syntax.specs.Views.{plain_file}
 use Rattle.dcv_logic.specs.Models.{models}
 use Rattle.dcv_language.specs.Verdict.{IsVerdict}
-use Rattle.dcv_cli.specs.Verdict.{seen_verdict}
+use Rattle.dcv_print.specs.Verdict.{seen_verdict}
 use Rattle.dcv_cli.proofs.decision.decide.Goals as goal
 
 pub returns-clause-verdict : goal.returns-clause-verdict

@@ -1,0 +1,10 @@
+pub mod Embeddings
+pub mod FoundAgain
+pub mod Accepting
+pub mod StepFacts
+pub mod Building
+pub mod Joining
+pub mod FaultFacts
+pub mod SlotSteps
+pub mod Lists
+pub mod ListSteps

@@ -1,0 +1,143 @@
+use Rattle.std.proofs.Common.{rules, ◌≡◌, ◌+◌, ℕ, List, [], map, drop, Err, refl, ap, sym, subst, ◌∙◌, arith}
+use Rattle.std.proofs.lemmas.Result.{err_from_is_err_and}
+use Rattle.dcv_scope.specs.declared.truths.Truth.{Truth}
+use Rattle.dcv_scope.specs.Core.{PlainTruth, TruthConstant, TruthNot}
+use Rattle.dcv_scope.specs.Holds.{truth_holds}
+use Rattle.dcv_scope.specs.TruthViews.{plain_truth, truths_of}
+use Rattle.dcv_atoms.specs.declared.faults.AtomFault.TheVariants.{Nodes}
+use Rattle.dcv_atoms.specs.Parts.{number_of_truth, parts}
+use Rattle.dcv_atoms.specs.Functions.{list_of}
+use Rattle.dcv_atoms.specs.Built.{Builds, Exceeds, OnTheWay}
+use Rattle.dcv_atoms.proofs.Building.{builds_there}
+use Rattle.dcv_atoms.proofs.FaultFacts.{same_fault}
+use Rattle.dcv_atoms.proofs.ListSteps.{on_ok, if_ok, means_at, operand_exceeds, not_means, not_is, not_builds, not_exceeds, left_is, none_left}
+use Rattle.dcv_atoms.proofs.ListSteps.{way_goes_on, way_exceeds, way_means, way_ends, way_ends_over}
+use Rattle.dcv_atoms.proofs.proposition.+diagrams.Goals as goal
+
+pub diagram-returns-in-Constant-clause-builds : goal.diagram-returns-in-Constant-clause-builds
+diagram-returns-in-Constant-clause-builds t c =
+    let arena = c.args.arena.now in
+    let number : c.from.result ≡ number_of_truth c.in-Constant.truth = search rules in
+    subst (λ whole. Builds arena arena (parts whole)) (sym (ap plain_truth c.in-Constant.is))
+    (builds_there arena c.leaf.result (TruthConstant c.in-Constant.truth) (record {
+      is_ref = c.leaf.ensures.is_ref;
+      slots_are = refl;
+      value = λ letter size. c.leaf.ensures.value letter ∙ number;
+    }))
+
+pub diagram-returns-in_err-root-in-Not-clause-exceeds : goal.diagram-returns-in_err-root-in-Not-clause-exceeds
+diagram-returns-in_err-root-in-Not-clause-exceeds t c limit e =
+    let p = err_from_is_err_and c.from_residual.result c.from_residual.ensures.1 in
+    let more = c.diagram.ensures.exceeds limit (c.in_err-root-in-Not.was ∙ ap Err (same_fault _ _ _ (Nodes limit) p.1 p.2 e)) in
+    let part = plain_truth c.deref.result.now in
+    let same : TruthNot part ≡ plain_truth c.args.truth.now = ap (λ (truth : Truth). TruthNot (plain_truth truth)) c.deref.ensures ∙ sym (ap plain_truth c.in-Not.is) in
+    subst (λ whole. Exceeds c.args.arena.now (parts whole) limit) same (operand_exceeds c.args.arena.now (parts part) (TruthNot part) limit refl more)
+
+pub diagram-returns-in_ok-root-in-Not-clause-means : goal.diagram-returns-in_ok-root-in-Not-clause-means
+diagram-returns-in_ok-root-in-Not-clause-means t c =
+    let part = plain_truth c.deref.result.now in
+    let same : TruthNot part ≡ plain_truth c.args.truth.now = ap (λ (truth : Truth). TruthNot (plain_truth truth)) c.deref.ensures ∙ sym (ap plain_truth c.in-Not.is) in
+    let old = c.args.arena.now in
+    let middle = c.diagram.new.arena in
+    let root = c.in_ok-root-in-Not.root in
+    let one = c.in_ok-root-in-Not.ensures in
+    let whole = plain_truth c.args.truth.now in
+    if_ok c.opposite.result (λ opposite means. not_is old middle root part whole same one.means one.builds c.opposite.new.arena opposite means)
+    (c.opposite.ensures.means (truth_holds part) (not_means old middle root part whole same one.means one.builds))
+
+pub diagram-returns-in_ok-root-in-Not-clause-builds : goal.diagram-returns-in_ok-root-in-Not-clause-builds
+diagram-returns-in_ok-root-in-Not-clause-builds t c =
+    let part = plain_truth c.deref.result.now in
+    let same : TruthNot part ≡ plain_truth c.args.truth.now = ap (λ (truth : Truth). TruthNot (plain_truth truth)) c.deref.ensures ∙ sym (ap plain_truth c.in-Not.is) in
+    let old = c.args.arena.now in
+    let middle = c.diagram.new.arena in
+    let root = c.in_ok-root-in-Not.root in
+    let one = c.in_ok-root-in-Not.ensures in
+    let whole = plain_truth c.args.truth.now in
+    on_ok c.opposite.result (λ late. not_builds old middle root part whole same one.means one.builds c.opposite.new.arena late)
+    (c.opposite.ensures.builds part (not_means old middle root part whole same one.means one.builds))
+
+pub diagram-returns-in_ok-root-in-Not-clause-exceeds : goal.diagram-returns-in_ok-root-in-Not-clause-exceeds
+diagram-returns-in_ok-root-in-Not-clause-exceeds t c limit e =
+    let part = plain_truth c.deref.result.now in
+    let same : TruthNot part ≡ plain_truth c.args.truth.now = ap (λ (truth : Truth). TruthNot (plain_truth truth)) c.deref.ensures ∙ sym (ap plain_truth c.in-Not.is) in
+    let old = c.args.arena.now in
+    let middle = c.diagram.new.arena in
+    let root = c.in_ok-root-in-Not.root in
+    let one = c.in_ok-root-in-Not.ensures in
+    let whole = plain_truth c.args.truth.now in
+    not_exceeds old middle root part whole same one.means one.builds limit
+    (c.opposite.ensures.exceeds limit part e (not_means old middle root part whole same one.means one.builds))
+
+-- ---- the operands of a list
+
+pub list-returns-in_err-root-clause-exceeds : goal.list-returns-in_err-root-clause-exceeds
+list-returns-in_err-root-clause-exceeds t c limit e =
+    let p = err_from_is_err_and c.from_residual.result c.from_residual.ensures.1 in
+    let more = c.diagram.ensures.exceeds limit (c.in_err-root.was ∙ ap Err (same_fault _ _ _ (Nodes limit) p.1 p.2 e)) in
+    let operands = c.args.operands.now in
+    let place = c.loop-operand.operand-index in
+    let item = c.operand-item.result in
+    let listed = map plain_truth operands in
+    let old = c.args.arena.now in
+    let here = c.loop-operand.arena in
+    let all = c.loop-operand.all in
+    let left = left_is operands place (place + 1) item c.loop-operand-test.true c.operand-item.is (omega arith) in
+    let way = subst (λ (left : List PlainTruth). OnTheWay old here c.args.join listed left all.arena all.root) left c.loop-operand.invariant in
+    way_exceeds old here c.args.join listed (map plain_truth (drop (place + 1) operands)) (plain_truth item) all.arena all.root limit way more
+
+pub list-loop-operand-preserved : goal.list-loop-operand-preserved
+list-loop-operand-preserved t c =
+    let operands = c.args.operands.now in
+    let place = c.loop-operand.operand-index in
+    let item = c.operand-item.result in
+    let listed = map plain_truth operands in
+    let old = c.args.arena.now in
+    let here = c.loop-operand.arena in
+    let there = c.diagram.new.arena in
+    let all = c.loop-operand.all in
+    let next = c.in_ok-all.all in
+    let one = c.in_ok-root.ensures in
+    let left = left_is operands place (place + 1) item c.loop-operand-test.true c.operand-item.is (omega arith) in
+    let way = subst (λ (left : List PlainTruth). OnTheWay old here c.args.join listed left all.arena all.root) left c.loop-operand.invariant in
+    way_goes_on old here there c.args.join listed (map plain_truth (drop (place + 1) operands)) (plain_truth item) all.arena next.arena all.root c.in_ok-root.root next.root
+    way one.arena one.builds one.means c.in_ok-all.ensures.joins
+
+module _ (t : ℕ) (c : goal.list-After-drop-all-inside-5 t) where
+  abbrev listed : List PlainTruth
+  listed = map plain_truth c.args.operands.now
+
+  abbrev whole : PlainTruth
+  whole = list_of c.args.join (truths_of listed)
+
+  way_end : OnTheWay c.args.arena.now c.loop-operand.arena c.args.join listed [] c.loop-operand.all.arena c.loop-operand.all.root
+  way_end =
+      subst (λ (left : List PlainTruth). OnTheWay c.args.arena.now c.loop-operand.arena c.args.join listed left c.loop-operand.all.arena c.loop-operand.all.root)
+      (none_left c.args.operands.now c.loop-operand.operand-index c.loop-operand-test.false) c.loop-operand.invariant
+
+pub list-returns-clause-means : goal.list-returns-clause-means
+list-returns-clause-means t c =
+    let old = c.args.arena.now in
+    let here = c.loop-operand.arena in
+    let all = c.loop-operand.all in
+    let way = way_end t c in
+    if_ok c.put.result (λ root means. means_at c.put.new.arena root here.slots old.slots (truth_holds (whole t c)) way.leads.kept.slots means)
+    (c.put.ensures.means (truth_holds (whole t c)) (way_means old here c.args.join (listed t c) all.arena all.root way))
+
+pub list-returns-clause-builds : goal.list-returns-clause-builds
+list-returns-clause-builds t c =
+    let old = c.args.arena.now in
+    let here = c.loop-operand.arena in
+    let all = c.loop-operand.all in
+    let way = way_end t c in
+    way_ends old here c.args.join (listed t c) all.arena all.root way c.put.new.arena c.put.result c.put.ensures.kept c.put.ensures.adds
+    (c.put.ensures.means (truth_holds (whole t c)) (way_means old here c.args.join (listed t c) all.arena all.root way))
+
+pub list-returns-clause-exceeds : goal.list-returns-clause-exceeds
+list-returns-clause-exceeds t c limit e =
+    let old = c.args.arena.now in
+    let here = c.loop-operand.arena in
+    let all = c.loop-operand.all in
+    let way = way_end t c in
+    way_ends_over old here c.args.join (listed t c) all.arena all.root way limit way.arena
+    (c.put.ensures.full limit (truth_holds (whole t c)) e (way_means old here c.args.join (listed t c) all.arena all.root way))

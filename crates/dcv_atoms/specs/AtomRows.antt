@@ -1,0 +1,133 @@
+-- The working machine of each form, over the states that the code keeps.
+--     kept_.., .._found              what a state of a form's machine is kept as, and the state that is kept so
+--     machine_by slots basic P       the machine of a form, with this test of a letter for its proposition
+--     test_of basic                  whether its proposition holds in a letter
+--     atom_machine slots basic       the machine of a form
+--     after_letter basic from holds  the state after a letter in which the proposition holds, or does not
+-- A state that is none of a form's own is found to be one from which no word is accepted, or the start.
+use Rattle.std.specs.Prelude.{ℕ, Bool, false, List, [], Option, None, Some}
+use Rattle.dcv_logic.specs.Satisfaction.{compares}
+use Rattle.dcv_language.specs.Automaton.{WorkingMachine}
+use Rattle.dcv_language.specs.AtomMachines.{ConstantState, One, constant_machine}
+use Rattle.dcv_language.specs.AtomMachines.{PointState, PointStart, PointGood, PointBad, point_machine}
+use Rattle.dcv_language.specs.AtomMachines.{RunState, RunStart, RunFirst, RunOk, RunLast, RunDead, run_machine}
+use Rattle.dcv_language.specs.AtomMachines.{EveryState, EveryStart, EveryOk, EveryBad, every_machine}
+use Rattle.dcv_language.specs.AtomMachines.{UnitState, UnitStart, UnitOne, UnitGood, UnitDead, unit_machine}
+use Rattle.dcv_language.specs.AtomMachines.{slen_machine, scount_machine, DurationState, DurationStart, Lasted as DurationLasted, sdur_machine}
+use Rattle.dcv_scope.specs.Core.{PlainBasic, BasicConstant, BasicPoint, BasicRun, BasicEvery, BasicUnit, BasicSlen, BasicScount, BasicSdur}
+use Rattle.dcv_scope.specs.Holds.{truth_holds}
+use Rattle.dcv_atoms.specs.declared.states.AtomMacro.{AtomMacro}
+use Rattle.dcv_atoms.specs.declared.states.AtomMacro.TheVariants.{Start, First, Good, Last, Bad, Count, Lasted}
+use Rattle.dcv_atoms.specs.Embedded.{embedded}
+
+-- ---- constants
+
+abbrev pub kept_constant : ConstantState → AtomMacro
+kept_constant One = Start
+
+abbrev pub constant_found : AtomMacro → ConstantState
+constant_found state = One
+
+-- ---- one instant, where P holds
+
+abbrev pub kept_point : PointState → AtomMacro
+kept_point PointStart = Start
+kept_point PointGood = Good
+kept_point PointBad = Bad
+
+abbrev pub point_found : AtomMacro → PointState
+point_found Start = PointStart
+point_found Good = PointGood
+point_found state = PointBad
+
+-- ---- more than one instant, and P at each but the last
+
+abbrev pub kept_run : RunState → AtomMacro
+kept_run RunStart = Start
+kept_run RunFirst = First
+kept_run RunOk = Good
+kept_run RunLast = Last
+kept_run RunDead = Bad
+
+abbrev pub run_found : AtomMacro → RunState
+run_found Start = RunStart
+run_found First = RunFirst
+run_found Good = RunOk
+run_found Last = RunLast
+run_found state = RunDead
+
+-- ---- P at each instant
+
+abbrev pub kept_every : EveryState → AtomMacro
+kept_every EveryStart = Start
+kept_every EveryOk = Good
+kept_every EveryBad = Bad
+
+abbrev pub every_found : AtomMacro → EveryState
+every_found Start = EveryStart
+every_found Good = EveryOk
+every_found state = EveryBad
+
+-- ---- two instants, and P at the first
+
+abbrev pub kept_unit : UnitState → AtomMacro
+kept_unit UnitStart = Start
+kept_unit UnitOne = First
+kept_unit UnitGood = Good
+kept_unit UnitDead = Bad
+
+abbrev pub unit_found : AtomMacro → UnitState
+unit_found Start = UnitStart
+unit_found First = UnitOne
+unit_found Good = UnitGood
+unit_found state = UnitDead
+
+-- ---- measures
+
+abbrev pub kept_count : Option ℕ → AtomMacro
+kept_count None = Start
+kept_count (Some count) = Count count
+
+abbrev pub count_found : AtomMacro → Option ℕ
+count_found (Count count) = Some count
+count_found state = None
+
+abbrev pub kept_duration : DurationState → AtomMacro
+kept_duration DurationStart = Start
+kept_duration (DurationLasted count last) = Lasted count last
+
+abbrev pub duration_found : AtomMacro → DurationState
+duration_found (Lasted count last) = DurationLasted count last
+duration_found state = DurationStart
+
+-- ---- all of them
+
+abbrev pub machine_by : ℕ → PlainBasic → (List Bool → Bool) → WorkingMachine AtomMacro
+machine_by slots (BasicConstant truth) P = embedded kept_constant constant_found (constant_machine slots truth)
+machine_by slots (BasicPoint p) P = embedded kept_point point_found (point_machine slots P)
+machine_by slots (BasicRun p) P = embedded kept_run run_found (run_machine slots P)
+machine_by slots (BasicEvery p) P = embedded kept_every every_found (every_machine slots P)
+machine_by slots (BasicUnit p) P = embedded kept_unit unit_found (unit_machine slots P)
+machine_by slots (BasicSlen relation n) P = embedded kept_count count_found (slen_machine slots n (λ steps. compares relation steps n))
+machine_by slots (BasicScount p relation n) P = embedded kept_count count_found (scount_machine slots P n (λ count. compares relation count n))
+machine_by slots (BasicSdur p relation n) P = embedded kept_duration duration_found (sdur_machine slots P n (λ count. compares relation count n))
+
+-- a form without a proposition asks nothing of a letter
+abbrev pub test_of : PlainBasic → List Bool → Bool
+test_of (BasicConstant truth) letter = false
+test_of (BasicPoint p) letter = truth_holds p letter
+test_of (BasicRun p) letter = truth_holds p letter
+test_of (BasicEvery p) letter = truth_holds p letter
+test_of (BasicUnit p) letter = truth_holds p letter
+test_of (BasicSlen relation n) letter = false
+test_of (BasicScount p relation n) letter = truth_holds p letter
+test_of (BasicSdur p relation n) letter = truth_holds p letter
+
+abbrev pub atom_machine : ℕ → PlainBasic → WorkingMachine AtomMacro
+atom_machine slots basic = machine_by slots basic (test_of basic)
+
+abbrev pub after_letter : PlainBasic → AtomMacro → Bool → AtomMacro
+after_letter basic from holds = (machine_by 0 basic (λ letter. holds)).next from []
+
+abbrev pub is_accepted : PlainBasic → AtomMacro → Bool
+is_accepted basic state = (machine_by 0 basic (λ letter. false)).accepting state

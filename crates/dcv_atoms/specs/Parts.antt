@@ -1,0 +1,48 @@
+-- The parts of a proposition, and how many nodes their diagrams have. A part is each node of the proposition's tree, and is seen as
+-- a function from letters to numbers: 1 where it holds, and 0 where it does not.
+--     number_of_truth holds          1 or 0
+--     number_at p letter             1 where the proposition holds in the letter
+--     parts p, all_parts operands    a proposition's parts, each behind those of its operands
+--     basic_parts basic              the parts of a form's proposition, and none where it has no proposition
+--     part_nodes slots parts         how many nodes their diagrams have together, each counted once
+--     atom_nodes slots basic         how many those of the parts of a form's proposition have
+use Rattle.std.specs.Prelude.{ℕ, Bool, List, [], ◌∷◌, ◌++◌, map, if◌then◌else◌}
+use Rattle.dcv_arena.specs.Diagram.{as_table, node_count}
+use Rattle.dcv_scope.specs.Core.{PlainTruth, TruthConstant, TruthSlot, TruthNot, TruthAnd, TruthOr, TruthIff, PlainTruths, no_truths, truth_operand}
+use Rattle.dcv_scope.specs.Core.{PlainBasic, BasicConstant, BasicPoint, BasicRun, BasicEvery, BasicUnit, BasicSlen, BasicScount, BasicSdur}
+use Rattle.dcv_scope.specs.Holds.{truth_holds}
+
+abbrev pub number_of_truth : Bool → ℕ
+number_of_truth holds = if holds then 1 else 0
+
+abbrev pub number_at : PlainTruth → List Bool → ℕ
+number_at p letter = number_of_truth (truth_holds p letter)
+
+abbrev mutual
+  pub parts : PlainTruth → List PlainTruth
+  parts (TruthConstant truth) = TruthConstant truth ∷ []
+  parts (TruthSlot slot) = TruthSlot slot ∷ []
+  parts (TruthNot p) = parts p ++ TruthNot p ∷ []
+  parts (TruthAnd operands) = all_parts operands ++ TruthAnd operands ∷ []
+  parts (TruthOr operands) = all_parts operands ++ TruthOr operands ∷ []
+  parts (TruthIff operands) = all_parts operands ++ TruthIff operands ∷ []
+
+  pub all_parts : PlainTruths → List PlainTruth
+  all_parts no_truths = []
+  all_parts (truth_operand p operands) = parts p ++ all_parts operands
+
+abbrev pub basic_parts : PlainBasic → List PlainTruth
+basic_parts (BasicConstant truth) = []
+basic_parts (BasicPoint p) = parts p
+basic_parts (BasicRun p) = parts p
+basic_parts (BasicEvery p) = parts p
+basic_parts (BasicUnit p) = parts p
+basic_parts (BasicSlen relation n) = []
+basic_parts (BasicScount p relation n) = parts p
+basic_parts (BasicSdur p relation n) = parts p
+
+abbrev pub part_nodes : ℕ → List PlainTruth → ℕ
+part_nodes slots listed = node_count slots (map (λ p. as_table slots (number_at p)) listed)
+
+abbrev pub atom_nodes : ℕ → PlainBasic → ℕ
+atom_nodes slots basic = part_nodes slots (basic_parts basic)

@@ -1,0 +1,192 @@
+// The machine of a form.
+ghost use Rattle.std.specs.Prelude.{◌≡◌, ◌<◌, ◌≤◌, ◌==◌, ℕ, List, [], Bool, false, Err, length, IfOk, OnOk, IsTrue, slice_index_or};
+ghost use Rattle.dcv_arena.specs.Arena.{IsRef, IsArena};
+ghost use Rattle.dcv_scope.specs.Core.{PlainBasic};
+ghost use Rattle.dcv_scope.specs.TruthViews.{plain_basic};
+ghost use Rattle.dcv_atoms.specs.declared.states.AtomMacro.{AtomMacro};
+ghost use Rattle.dcv_atoms.specs.declared.faults.AtomFault.TheVariants.{Nodes};
+ghost use Rattle.dcv_atoms.specs.AtomRows.{atom_machine, test_of, after_letter};
+ghost use Rattle.dcv_atoms.specs.Functions.{Means};
+ghost use Rattle.dcv_atoms.specs.Leaves.{IsThree, state_told};
+ghost use Rattle.dcv_atoms.specs.Numbers.{HasRoom};
+ghost use Rattle.dcv_atoms.specs.Parts.{basic_parts, atom_nodes};
+ghost use Rattle.dcv_atoms.specs.Built.{Builds, Exceeds};
+ghost use Rattle.dcv_atoms.specs.Steps.{IsAtom};
+ghost use Rattle.dcv_atoms.specs.SameStates.{same_states};
+
+use crate::faults::AtomFault;
+use crate::proposition::diagram;
+use crate::rows;
+use crate::states::AtomMacro;
+use dcv_arena::{Arena, Ref};
+use dcv_explore::{Limits, Machine, Operands};
+use dcv_scope::{Basic, Core, Op};
+use std::alloc::{AllocError, Global};
+use std::marker::Model;
+
+/// A form of a core, with the diagram of its proposition.
+#[derive(Debug, Drop)]
+pub struct Atom<'a> {
+    basic: &'a Basic,
+    arena: Arena,
+    // the letters in which the proposition holds; of a form without one, none
+    root: Ref,
+}
+
+impl<'a> Model for Atom<'a> {
+    ghost use Rattle.std.specs.Coded.{codes};
+    ghost use Rattle.dcv_scope.specs.TruthCode.{truth_code};
+    ghost use Rattle.dcv_scope.specs.TruthViews.{plain_basic};
+    ghost use Rattle.dcv_atoms.specs.AtomValue.{AtomValue, IsAtomValue, atom_value};
+
+    ghost Value = { AtomValue };
+
+    ghost coded = { Prim.hlevel (codes, truth_code) };
+
+    ghost view = { λ atom. atom_value (plain_basic atom.basic.now) atom.arena atom.root };
+
+    ghost invariant = { λ atom. IsAtomValue (atom_value (plain_basic atom.basic.now) atom.arena atom.root) };
+}
+
+impl<'a> Atom<'a> {
+    /// The machine of a step that is an atom.
+    ///
+    /// Letters of more than 32 slots are none, and no state has a number for a count of 2 ^ 32: such a step, which no text has,
+    /// counts as want of memory.
+    pub fn new(
+        alloc: Global,
+        core: &'a Core,
+        step: u32,
+        limits: Limits,
+    ) -> Result<Atom<'a>, AtomFault>
+        requires atom { (basic : PlainBasic) × (slots : ℕ) × IsAtom core.now step basic slots }
+
+        // The machine is the row of the step's form, over the step's slots.
+        ensures form { (basic : PlainBasic) (slots : ℕ) → IsAtom core.now step basic slots → IfOk result (λ atom. atom.form ≡ basic) }
+        ensures slots { (basic : PlainBasic) (slots : ℕ) → IsAtom core.now step basic slots → IfOk result (λ atom. atom.arena.slots ≡ slots) }
+        ensures row { (basic : PlainBasic) (slots : ℕ) → IsAtom core.now step basic slots
+            → IfOk result (λ atom. ⟦<Atom<'a> as Machine>⟧.machine atom ≡ atom_machine slots basic) }
+
+        // The limit is exceeded exactly where its proposition's parts have more nodes.
+        ensures within { (basic : PlainBasic) (slots : ℕ) → IsAtom core.now step basic slots → OnOk result (atom_nodes slots basic ≤ limits.nodes) }
+        ensures limit { (limit : ℕ) → result ≡ Err (Nodes limit) → limit ≡ limits.nodes }
+        ensures exceeds { (limit : ℕ) (basic : PlainBasic) (slots : ℕ) → result ≡ Err (Nodes limit) → IsAtom core.now step basic slots
+            → limit < atom_nodes slots basic }
+    {
+        let Op::Atom(basic) = core.op(step) else {
+            unreachable!();
+        };
+        Atom::of(alloc, basic, core.slots(step), limits.nodes)
+    }
+
+    // The machine of a form over so many slots, where its proposition may have so many nodes.
+    fn of(alloc: Global, basic: &'a Basic, slots: u8, limit: u32) -> Result<Atom<'a>, AtomFault>
+        ensures form { IfOk result (λ atom. atom.form ≡ plain_basic basic.now) }
+        ensures slots { IfOk result (λ atom. atom.arena.slots ≡ slots) }
+        ensures within { OnOk result (atom_nodes slots (plain_basic basic.now) ≤ limit) }
+        ensures exceeds { (other : ℕ) → result ≡ Err (Nodes other) → (other ≡ limit) × (other < atom_nodes slots (plain_basic basic.now)) }
+    {
+        if slots > 32 || !has_room(basic) {
+            return Err(AtomFault::Memory);
+        }
+        let mut arena = Arena::new(alloc, slots, limit);
+        let root = proposition(alloc, &mut arena, basic)?;
+        Ok(Atom { basic, arena, root })
+    }
+
+    /// How many nodes the diagrams of all parts of the proposition have, each counted once.
+    pub fn nodes(&self) -> u32
+        ensures { result ≡ atom_nodes self.now.arena.slots self.now.form }
+    {
+        self.arena.len()
+    }
+}
+
+// Whether there is a number for one more than that with which the form compares.
+fn has_room(basic: &Basic) -> bool
+    ensures { IsTrue result → HasRoom (plain_basic basic.now) }
+{
+    match basic {
+        Basic::Slen(_, number) | Basic::Scount(_, _, number) | Basic::Sdur(_, _, number) => {
+            *number < u32::MAX
+        }
+        _ => true,
+    }
+}
+
+// The letters in which the form's proposition holds; none, where it has no proposition.
+#[tactic(auto, using(crate::proofs::Building::builds_nothing))]
+fn proposition(alloc: Global, arena: &mut Arena, basic: &Basic) -> Result<Ref, AtomFault>
+    requires arena { IsArena arena.old }
+    ensures means { IfOk result (λ root. Means arena.new root arena.old.slots (test_of (plain_basic basic.now))) }
+    ensures builds { OnOk result (Builds arena.old arena.new (basic_parts (plain_basic basic.now))) }
+    ensures exceeds { (limit : ℕ) → result ≡ Err (Nodes limit) → Exceeds arena.old (basic_parts (plain_basic basic.now)) limit }
+    ensures arena { IsArena arena.new }
+{
+    match basic {
+        Basic::Point(truth)
+        | Basic::Run(truth)
+        | Basic::Every(truth)
+        | Basic::Unit(truth)
+        | Basic::Scount(truth, _, _)
+        | Basic::Sdur(truth, _, _) => diagram(alloc, arena, truth),
+        Basic::Constant(_) | Basic::Slen(_, _) => Ok(arena.leaf(0)),
+    }
+}
+
+impl Machine for Atom<'_> {
+    type Macro = AtomMacro;
+
+    ghost both_last = { false };
+
+    ghost State = { AtomMacro };
+
+    ghost state = { λ state. state };
+
+    ghost machine = { λ atom. atom_machine atom.arena.slots atom.form };
+
+    ghost operand = { λ atom place. atom.arena };
+
+    ghost may = { λ atom leaves. IsThree leaves };
+
+    ghost merged = { λ atom leaves. after_letter atom.form
+        (state_told (slice_index_or leaves 0 0) (slice_index_or leaves 1 0)) (slice_index_or leaves 2 0 == 1) };
+
+    fn both_last(&self) -> bool {
+        false
+    }
+
+    fn slots(&self) -> u8 {
+        self.arena.slots()
+    }
+
+    fn start(&self, _alloc: Global) -> Result<AtomMacro, AllocError> {
+        Ok(AtomMacro::Start)
+    }
+
+    fn arena(&self, _place: u32) -> &Arena {
+        &self.arena
+    }
+
+    // The state is told by two leaves, and the letter by the proposition.
+    fn operands(&self, from: &AtomMacro, to: &mut Operands) -> Result<(), AllocError> {
+        to.push(0, Ref::Leaf(from.number()))?;
+        to.push(0, Ref::Leaf(from.count()))?;
+        to.push(0, self.root)
+    }
+
+    fn merge(&self, _alloc: Global, leaves: &[u32]) -> Result<AtomMacro, AllocError> {
+        let from = AtomMacro::told(leaves[0], leaves[1]);
+        Ok(rows::after(self.basic, from, leaves[2] == 1))
+    }
+
+    fn copy(&self, _alloc: Global, of: &AtomMacro) -> Result<AtomMacro, AllocError> {
+        Ok(*of)
+    }
+
+    fn accepts(&self, of: &AtomMacro) -> bool {
+        rows::accepts(self.basic, *of)
+    }
+
+    ghost sameness = { same_states };
+}

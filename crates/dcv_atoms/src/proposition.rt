@@ -1,0 +1,94 @@
+// The diagram of a proposition, in an arena that gets the nodes of its parts and no others.
+//
+// The operands of a list are joined two by two, from the left, as R. E. Bryant's `Apply` joins two functions (1986): all at once they
+// would take as many steps as they have truths together, which is exponential in the slots.
+ghost use Rattle.std.specs.Prelude.{◌≡◌, ℕ, Bool, List, [], ◌∷◌, Err, map, not, IfOk, OnOk};
+ghost use Rattle.dcv_arena.specs.Arena.{IsRef, IsArena};
+ghost use Rattle.dcv_scope.specs.Core.{PlainTruth, TruthConstant, TruthSlot, TruthNot};
+ghost use Rattle.dcv_scope.specs.Holds.{truth_holds};
+ghost use Rattle.dcv_scope.specs.TruthViews.{plain_truth, truths_of};
+ghost use Rattle.dcv_atoms.specs.Parts.{parts};
+ghost use Rattle.dcv_atoms.specs.Functions.{Means, list_of};
+ghost use Rattle.dcv_atoms.specs.Built.{Builds, Exceeds};
+ghost use Rattle.dcv_atoms.specs.declared.faults.AtomFault.TheVariants.{Nodes};
+
+use crate::faults::AtomFault;
+use crate::functions::{Function, Join};
+use dcv_arena::{Arena, Ref};
+use dcv_scope::Truth;
+use std::alloc::Global;
+
+// The letters in which the proposition holds.
+#[cycle(diagrams)]
+#[tactic(auto, using(crate::proofs::Lists::list_rows))]
+pub(crate) fn diagram(alloc: Global, arena: &mut Arena, truth: &Truth) -> Result<Ref, AtomFault>
+    requires arena { IsArena arena.old }
+    ensures means { IfOk result (λ root. Means arena.new root arena.old.slots (truth_holds (plain_truth truth.now))) }
+    ensures builds { OnOk result (Builds arena.old arena.new (parts (plain_truth truth.now))) }
+    ensures exceeds { (limit : ℕ) → result ≡ Err (Nodes limit) → Exceeds arena.old (parts (plain_truth truth.now)) limit }
+    ensures arena { IsArena arena.new }
+{
+    match truth {
+        Truth::Constant(truth) => Ok(arena.leaf(u32::from(*truth))),
+        Truth::Slot(slot) => value(arena, *slot),
+        Truth::Not(operand) => {
+            let root = diagram(alloc, arena, operand)?;
+            opposite(alloc, arena, root)
+        }
+        Truth::And(operands) => list(alloc, arena, Join::And, operands),
+        Truth::Or(operands) => list(alloc, arena, Join::Or, operands),
+        Truth::Iff(operands) => list(alloc, arena, Join::Iff, operands),
+    }
+}
+
+// The letters in which the slot is true. One that letters do not have is false in them.
+fn value(arena: &mut Arena, slot: u8) -> Result<Ref, AtomFault>
+    requires arena { IsArena arena.old }
+    ensures means { IfOk result (λ root. Means arena.new root arena.old.slots (truth_holds (TruthSlot slot))) }
+    ensures builds { OnOk result (Builds arena.old arena.new (TruthSlot slot ∷ [])) }
+    ensures exceeds { (limit : ℕ) → result ≡ Err (Nodes limit) → Exceeds arena.old (TruthSlot slot ∷ []) limit }
+    ensures arena { IsArena arena.new }
+{
+    let (no, yes) = (arena.leaf(0), arena.leaf(1));
+    if slot >= arena.slots() {
+        return Ok(no);
+    }
+    Ok(arena.node(slot, no, yes)?)
+}
+
+// The letters in which it does not hold.
+fn opposite(alloc: Global, arena: &mut Arena, root: Ref) -> Result<Ref, AtomFault>
+    requires arena { IsArena arena.old }
+    requires root { IsRef arena.old root }
+    ensures means { (P : List Bool → Bool) → Means arena.old root arena.old.slots P
+        → IfOk result (λ root. Means arena.new root arena.old.slots (λ letter. not (P letter))) }
+    ensures builds { (p : PlainTruth) → Means arena.old root arena.old.slots (truth_holds p)
+        → OnOk result (Builds arena.old arena.new (TruthNot p ∷ [])) }
+    ensures exceeds { (limit : ℕ) (p : PlainTruth) → result ≡ Err (Nodes limit) → Means arena.old root arena.old.slots (truth_holds p)
+        → Exceeds arena.old (TruthNot p ∷ []) limit }
+    ensures arena { IsArena arena.new }
+{
+    // it holds exactly where it is as true as what is false
+    let never = Function::constant(alloc, arena.slots(), false);
+    let opposite = never.with(alloc, Join::Iff, arena, root)?;
+    opposite.put(alloc, arena)
+}
+
+// The letters in which the operands are joined to true.
+#[cycle(diagrams)]
+fn list(alloc: Global, arena: &mut Arena, join: Join, operands: &[Truth]) -> Result<Ref, AtomFault>
+    requires arena { IsArena arena.old }
+    ensures means { IfOk result (λ root. Means arena.new root arena.old.slots
+        (truth_holds (list_of join (truths_of (map plain_truth operands.now))))) }
+    ensures builds { OnOk result (Builds arena.old arena.new (parts (list_of join (truths_of (map plain_truth operands.now))))) }
+    ensures exceeds { (limit : ℕ) → result ≡ Err (Nodes limit)
+        → Exceeds arena.old (parts (list_of join (truths_of (map plain_truth operands.now)))) limit }
+    ensures arena { IsArena arena.new }
+{
+    let mut all = Function::constant(alloc, arena.slots(), join.unit());
+    for operand in operands {
+        let root = diagram(alloc, arena, operand)?;
+        all = all.with(alloc, join, arena, root)?;
+    }
+    all.put(alloc, arena)
+}

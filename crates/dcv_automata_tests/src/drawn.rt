@@ -1,0 +1,75 @@
+// Each table of two states over one slot, and drawn tables over two slots, against the slow quotient.
+ghost use Rattle.std.specs.Prelude.{◌<◌};
+
+use crate::minimal::minimal_text;
+use crate::tables::State;
+use std::alloc::Global;
+use std::test::Fail;
+
+// Numbers that seem to be random: a linear congruential generator (D. H. Lehmer, 1951), with D. E. Knuth's multiplier.
+#[derive(Drop)]
+struct Draws {
+    seed: u64,
+}
+
+impl Draws {
+    // A number below this one.
+    fn below(&mut self, bound: u32) -> u32
+        requires { 0 < bound }
+        ensures { result < bound }
+    {
+        self.seed = self
+            .seed
+            .wrapping_mul(6_364_136_223_846_793_005)
+            .wrapping_add(1_442_695_040_888_963_407);
+        ((self.seed >> 33) % u64::from(bound)) as u32
+    }
+
+    // A table of so many states over two slots.
+    fn table(&mut self, alloc: Global, count: u32) -> Result<Vec<State>, Fail> {
+        let mut states = Vec::new(alloc);
+        for _ in 0..count {
+            let accepts = self.below(2) == 1;
+            let row = vec![in alloc;
+                self.below(count),
+                self.below(count),
+                self.below(count),
+                self.below(count),
+            ]?;
+            states.push(State { accepts, row })?;
+        }
+        Ok(states)
+    }
+}
+
+// The table of two states over one slot that these six bits tell.
+fn table_of_bits(alloc: Global, bits: u32) -> Result<Vec<State>, Fail> {
+    let mut states = Vec::new(alloc);
+    for code in [bits & 7, (bits >> 3) & 7] {
+        let row = vec![in alloc; code & 1, (code >> 1) & 1]?;
+        let accepts = code >> 2 == 1;
+        states.push(State { accepts, row })?;
+    }
+    Ok(states)
+}
+
+#[test]
+fn two_states(rt: HostRuntime) -> Result<(), Fail> {
+    let alloc = rt.alloc();
+    for bits in 0..64 {
+        minimal_text(alloc, 1, &table_of_bits(alloc, bits)?, 0)?;
+    }
+    Ok(())
+}
+
+#[test]
+fn drawn_tables(rt: HostRuntime) -> Result<(), Fail> {
+    let alloc = rt.alloc();
+    let mut draws = Draws { seed: 20_260_101 };
+    for _ in 0..500 {
+        let count = draws.below(5) + 1;
+        let states = draws.table(alloc, count)?;
+        minimal_text(alloc, 2, &states, draws.below(count))?;
+    }
+    Ok(())
+}

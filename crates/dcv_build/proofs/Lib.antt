@@ -1,0 +1,12 @@
+mod Agreement
+mod Arms
+mod AtSteps
+mod FaultFacts
+mod Negation
+mod Operands
+mod OverLaws
+mod PostOrder
+mod Progress
+mod SameRows
+mod Settled
+mod Waiting

@@ -1,0 +1,143 @@
+-- A canonical automaton with turned flags is the canonical one of the machine that is its own, turned. The machine has just its states
+-- and its nodes.
+use Rattle.std.proofs.Common.{◌≡◌, ℕ, zero, suc, ◌<◌, List, [], ◌∷◌, length, map, get_or, Some, slice_get, refl, sym, ap, subst, ◌∙◌, arith}
+use Rattle.std.specs.Option.{option_map}
+use Rattle.std.specs.List.{range_with_len}
+use Rattle.std.proofs.lemmas.List.{length-map}
+use Rattle.std.proofs.lemmas.List.FromFn.{get_or-range_with_len, length-range_with_len}
+use Rattle.std.proofs.lemmas.Option.{slice_get-map, slice_get-get_or, slice_get_within, get_or_from_slice_get, same_Some}
+use Rattle.dcv_word.specs.Behaviour.{Word}
+use Rattle.dcv_arena.specs.Arena.{value_of}
+use Rattle.dcv_arena.specs.declared.nodes.Ref.{Ref}
+use Rattle.dcv_arena.specs.declared.nodes.Ref.TheVariants.{Leaf}
+use Rattle.dcv_arena.proofs.Counts.{count_exact}
+use Rattle.dcv_language.specs.Automaton.{Automaton, WorkingMachine, IsReached, state_from, accepts}
+use Rattle.dcv_language.specs.Canonical.{IsCanonical}
+use Rattle.dcv_language.specs.Complement.{stands_alone}
+use Rattle.dcv_language.specs.Language.{outside}
+use Rattle.dcv_language.specs.OperationMachines.{not_machine}
+use Rattle.dcv_language.specs.Table.{Table, leads_to}
+use Rattle.dcv_language.proofs.Behaviours.{Widths}
+use Rattle.dcv_language.proofs.Canonicals.{canonical_for_same_behaviours}
+use Rattle.dcv_language.proofs.Complements.{complement_is_canonical}
+use Rattle.dcv_language.proofs.OperationRuns.{not_accepts}
+use Rattle.dcv_language.proofs.Runs.{start_is_reached}
+use Rattle.dcv_dfa.specs.Raw.{RawValue, IsRaw, automaton_of, raw_accepts, next_in, row_of}
+use Rattle.dcv_dfa.specs.Auto.{IsAuto, table_of_states, count_of_nodes, complement_of}
+use Rattle.dcv_dfa.proofs.Complements.{table_of_complement}
+use Rattle.dcv_dfa.proofs.States.{table_has_the_states, table_leads_as_the_states, leads_below}
+use Rattle.dcv_explore.specs.declared.explorer.Limits.{Limits}
+use Rattle.dcv_explore.specs.Exploring.{IsExploring}
+use Rattle.dcv_explore.specs.Reached.{HasCounts}
+use Rattle.dcv_explore.proofs.Finished.{counts}
+use Rattle.dcv_build.specs.Building.{IsOwn, IsBuilt}
+
+-- ---- the numbers below a number
+
+place_in_range : (n place number : ℕ) → slice_get (range_with_len 0 n) place ≡ Some number → (place ≡ number) × (number < n)
+place_in_range n place number there =
+    let within = slice_get_within (range_with_len 0 n) place number there in
+    let size = length-range_with_len 0 n in
+    let below : place < n = omega (arith, within, size) in
+    let same : place ≡ number = omega (arith, get_or-range_with_len 0 n place number below, get_or_from_slice_get (range_with_len 0 n) place number number there) in
+    (same, omega (arith, below, same))
+
+in_range : (n number : ℕ) → number < n → slice_get (range_with_len 0 n) number ≡ Some number
+in_range n number below =
+    let size = length-range_with_len 0 n in
+    slice_get-get_or (range_with_len 0 n) number number (omega (arith, below, size))
+    ∙ ap Some (get_or-range_with_len 0 n number number below ∙ omega arith)
+
+-- ---- the turned machine
+
+module _ (slots : ℕ) (operand : Automaton ℕ) where
+  -- it steps as the operand does
+  steps_alike : (word : Word) (state : ℕ) → state_from (not_machine slots operand).automaton state word ≡ state_from operand state word
+  steps_alike [] state = refl
+  steps_alike (letter ∷ word) state = steps_alike word (operand.next state letter)
+
+module _ (raw : RawValue) (is : IsRaw raw) (auto : IsAuto raw) where
+  abbrev turned_machine : WorkingMachine ℕ
+  turned_machine = not_machine raw.arena.slots (automaton_of raw)
+
+  abbrev states : List ℕ
+  states = range_with_len 0 (length raw.rows)
+
+  reached_by : (state : ℕ) (word : Word) → Widths raw.arena.slots word → leads_to (table_of_states raw) word ≡ state → IsReached turned_machine state
+  reached_by state word widths leads = record {
+    word = word;
+    widths = widths;
+    leads = steps_alike raw.arena.slots (automaton_of raw) word raw.start ∙ sym (table_leads_as_the_states raw word is auto.start widths) ∙ leads;
+  }
+
+  each_is_reached : (state : ℕ) → state < length raw.rows → IsReached turned_machine state
+  each_is_reached zero below = subst (IsReached turned_machine) auto.start (start_is_reached turned_machine)
+  each_is_reached (suc state) below =
+      let count = table_has_the_states raw in
+      let least = auto.canonical.least (suc state) (omega arith) (omega (arith, below, count)) in
+      reached_by (suc state) _ least.behaviour.widths least.member
+
+  states_are : (place d : ℕ) → place < length states → get_or states place d ≡ place
+  states_are place d within = get_or-range_with_len 0 (length raw.rows) place d (omega (arith, within, length-range_with_len 0 (length raw.rows))) ∙ omega arith
+
+  exploring : IsExploring turned_machine (length raw.rows) states raw.arena raw.rows (map turned_machine.accepting states)
+  exploring = record {
+    known = record {
+      are_reached = record {
+        reached = λ place d within.
+            subst (IsReached turned_machine) (sym (states_are place d within))
+            (each_is_reached place (omega (arith, within, length-range_with_len 0 (length raw.rows))));
+        once = λ i j d before within same.
+            omega (arith, before, same, states_are i d (omega arith), states_are j d within);
+      };
+      within = omega (arith, length-range_with_len 0 (length raw.rows));
+      bound = is.states;
+    };
+    start = in_range (length raw.rows) 0 (omega (arith, is.start)) ∙ ap Some (sym auto.start);
+    arena_is = is.arena;
+    slots = refl;
+    behind = omega (arith, length-range_with_len 0 (length raw.rows));
+    flags_beside = length-map states turned_machine.accepting ∙ length-range_with_len 0 (length raw.rows);
+    refs = is.rows;
+    steps = λ place row state at_row at_state letter size.
+        let here = place_in_range (length raw.rows) place state at_state in
+        let same : row_of raw state ≡ row = ap (row_of raw) (sym here.0) ∙ get_or_from_slice_get raw.rows place row (Leaf 0) at_row in
+        let below = leads_below raw is state here.1 letter size in
+        ap (λ (r : Ref). slice_get states (value_of raw.arena r letter)) (sym same) ∙ in_range (length raw.rows) (next_in raw state letter) below;
+    flags = λ place flag state at_flag at_state.
+        same_Some flag (turned_machine.accepting state) (sym at_flag ∙ slice_get-map turned_machine.accepting states place ∙ ap (option_map turned_machine.accepting) at_state);
+    nodes = auto.nodes;
+  }
+
+  turned_counts : HasCounts turned_machine (length raw.rows) (length raw.arena.nodes)
+  turned_counts = counts turned_machine (length raw.rows) states raw.arena raw.rows (map turned_machine.accepting states) exploring (sym (length-range_with_len 0 (length raw.rows)))
+
+  nodes_are : length raw.arena.nodes ≡ count_of_nodes raw
+  nodes_are = count_exact raw.arena is.arena.reduced raw.rows is.rows auto.nodes
+
+  -- the complement, which has the same rows
+  pub complement_is_built : (limits : Limits) → IsOwn limits raw → (result : RawValue) → IsRaw result → IsAuto result → result ≡ complement_of (stands_alone auto.access) raw
+      → IsBuilt turned_machine 0 limits result
+  complement_is_built limits own result result_is_raw result_is_auto same = record {
+    fits = record {
+      states = length raw.rows;
+      nodes = length raw.arena.nodes;
+      counts = turned_counts;
+      states_within = own.states;
+      nodes_within = omega (arith, own.nodes, nodes_are);
+    };
+    slots = ap (λ (r : RawValue). r.arena.slots) same;
+    access = auto.access;
+    canonical =
+        canonical_for_same_behaviours raw.arena.slots (outside (raw_accepts raw)) (accepts turned_machine.automaton) (table_of_states result) auto.access
+        (λ word behaves. sym (not_accepts raw.arena.slots (automaton_of raw) word behaves.nonempty))
+        (subst (λ (table : Table). IsCanonical raw.arena.slots (outside (raw_accepts raw)) table auto.access)
+        (sym (ap table_of_states same ∙ table_of_complement raw auto.access is.flags))
+        (complement_is_canonical raw.arena.slots (raw_accepts raw) (table_of_states raw) auto.access auto.canonical));
+    own = record {
+      raw = result_is_raw;
+      auto_is = result_is_auto;
+      states = omega (arith, own.states, ap (λ (r : RawValue). length r.rows) same);
+      nodes = omega (arith, own.nodes, ap count_of_nodes same);
+    };
+  }

@@ -1,0 +1,53 @@
+-- The budget of a core: its steps are built in order, each over the canonical tables of the earlier ones, and each must stay within
+-- the limits.
+--     IsDone steps limits tables          the first steps have these canonical tables, and their rows are within the limits
+--     IsWithinBudget steps limits         so it is with all of them
+--     IsOver steps limits kind number     so it is with all steps before this one, and it has too many of this kind
+--     IsAutomatonOf k L auto              the canonical automaton of a set over k variables
+use Rattle.std.specs.Prelude.{◌≡◌, ℕ, ◌≤◌, List, length, Some, slice_get}
+use Rattle.dcv_word.specs.Behaviour.{Word}
+use Rattle.dcv_language.specs.Table.{Table}
+use Rattle.dcv_language.specs.Canonical.{IsCanonical}
+use Rattle.dcv_language.specs.Language.{Language}
+use Rattle.dcv_scope.specs.Holds.{words_of}
+use Rattle.dcv_scope.specs.Steps.{PlainStep}
+use Rattle.dcv_dfa.specs.Raw.{RawValue}
+use Rattle.dcv_dfa.specs.Auto.{table_of_states}
+use Rattle.dcv_explore.specs.declared.explorer.Limits.{Limits}
+use Rattle.dcv_explore.specs.Budget.{Row, IsWithin, Kind, Exceeds}
+use Rattle.dcv_build.specs.Rows.{row_of}
+
+-- the row of a step, where there is a table for each earlier step
+abbrev pub row_at : PlainStep → List Table → Row
+row_at step tables = row_of step.op step.slots tables
+
+-- the table is canonical for the words of the step, and its row was within the limits
+pub record IsStepDone (limits : Limits) (tables : List Table) (step : PlainStep) (table : Table) : Type 0 where
+  pub access : List Word
+  pub canonical : IsCanonical step.slots (words_of step.core) table access
+  pub within : IsWithin (row_at step tables) limits
+
+pub record IsDone (steps : List PlainStep) (limits : Limits) (tables : List Table) : Type 0 where
+  pub no_more : length tables ≤ length steps
+  pub each : (number : ℕ) (step : PlainStep) (table : Table) → slice_get steps number ≡ Some step → slice_get tables number ≡ Some table
+      → IsStepDone limits tables step table
+
+pub record IsWithinBudget (steps : List PlainStep) (limits : Limits) : Type 0 where
+  pub tables : List Table
+  pub done : IsDone steps limits tables
+  pub all : length tables ≡ length steps
+
+pub record IsOver (steps : List PlainStep) (limits : Limits) (kind : Kind) (number : ℕ) : Type 0 where
+  pub tables : List Table
+  pub done : IsDone steps limits tables
+  pub before : length tables ≡ number
+  pub step : PlainStep
+  pub is_there : slice_get steps number ≡ Some step
+  pub exceeds : Exceeds kind (row_at step tables) limits
+
+-- ---- what is built
+
+pub record IsAutomatonOf (k : ℕ) (L : Language) (auto : RawValue) : Type 0 where
+  pub slots : auto.arena.slots ≡ k
+  pub access : List Word
+  pub canonical : IsCanonical k L (table_of_states auto) access

@@ -1,0 +1,13 @@
+-- The cores that can be built: a core is a list of steps, and so has those of a tree only where some call has made it so.
+--     IsCoreOf tree core     the core has the steps of this tree, over its declared variables
+--     IsCore core            it has those of some tree
+use Rattle.std.specs.Prelude.{◌≡◌, map}
+use Rattle.dcv_scope.specs.Core.{CoreTree}
+use Rattle.dcv_scope.specs.Steps.{PlainCore, without_core, steps_of}
+
+abbrev pub IsCoreOf : CoreTree → PlainCore → Type 0
+IsCoreOf tree core = core.steps ≡ map without_core (steps_of core.declared tree)
+
+pub record IsCore (core : PlainCore) : Type 0 where
+  pub tree : CoreTree
+  pub is : IsCoreOf tree core

@@ -1,0 +1,69 @@
+// From a machine to its canonical automaton, within the limits.
+ghost use Rattle.std.specs.Prelude.{◌≡◌, ◌≤◌, ◌-◌, IfOk};
+ghost use Rattle.dcv_dfa.specs.Raw.{IsRaw};
+ghost use Rattle.dcv_build.specs.Building.{IsLeastOf, Settles, fault_at};
+
+use crate::faults::BuildFault;
+use dcv_dfa::{Auto, Raw};
+use dcv_explore::{ExploreFault, Limits, Machine, explore};
+use dcv_minimise::minimise;
+use std::alloc::{AllocError, Global};
+
+// The canonical automaton of what the machine of a step accepts. The parts of its proposition, if it has one, have so many nodes,
+// which count towards the limit.
+pub(crate) fn settle<M: Machine>(
+    alloc: Global,
+    machine: &M,
+    parts: u32,
+    limits: Limits,
+    step: u32,
+) -> Result<Auto, BuildFault>
+    requires { parts ≤ limits.nodes }
+    ensures { Settles (M.machine machine.now) parts limits step result }
+{
+    match explore(alloc, machine, without_parts(limits, parts)) {
+        Ok(raw) => Ok(least(alloc, raw)?),
+        Err(fault) => Err(at_step(step, limits, fault)),
+    }
+}
+
+// What the parts of a proposition leave to the rows.
+fn without_parts(limits: Limits, parts: u32) -> Limits
+    requires { parts ≤ limits.nodes }
+    ensures states { result.states ≡ limits.states }
+    ensures nodes { result.nodes ≡ limits.nodes - parts }
+{
+    Limits {
+        states: limits.states,
+        nodes: limits.nodes - parts,
+    }
+}
+
+// The fault of a step, with the whole limit.
+fn at_step(step: u32, limits: Limits, fault: ExploreFault) -> BuildFault
+    ensures { result ≡ fault_at step limits fault }
+{
+    match fault {
+        ExploreFault::States { .. } => BuildFault::States {
+            step,
+            limit: limits.states,
+        },
+        ExploreFault::Nodes { .. } => BuildFault::Nodes {
+            step,
+            limit: limits.nodes,
+        },
+        ExploreFault::Memory => BuildFault::Memory,
+    }
+}
+
+// The canonical automaton of what the raw one accepts.
+fn least(alloc: Global, raw: Raw) -> Result<Auto, AllocError>
+    ensures raw { IsRaw raw }
+    ensures least { IfOk result (IsLeastOf raw) }
+{
+    // for the prover: what is true of every raw and of every canonical automaton.
+    let _raw_states = raw.states();
+    let auto = minimise(alloc, raw)?;
+    let _states = auto.states();
+    Ok(auto)
+}

@@ -1,0 +1,10 @@
+pub mod Complements
+pub mod Examples
+pub mod LineStates
+pub mod NodeCounts
+pub mod Numberings
+pub mod Reduced
+pub mod SameLines
+pub mod Splits
+pub mod States
+pub mod Visits

@@ -1,0 +1,81 @@
+use Rattle.std.proofs.Common.{◌≡◌, ◌<◌, ℕ, List, length, Contains, ◌⊎◌, inl, inr, sym, ap, subst, ◌∙◌, arith}
+use Rattle.std.specs.List.{All}
+use Rattle.indexmap.proofs.MapLemmas.{OnOk-map}
+use Rattle.dcv_minimise.specs.Partition.{block_of}
+use Rattle.dcv_minimise.specs.Lists.{list_at}
+use Rattle.dcv_minimise.specs.Index.{StandAbove}
+use Rattle.dcv_minimise.specs.Members.{IsComplete, IsListing}
+use Rattle.dcv_minimise.proofs.IndexFacts.{is_bounded, lead_to}
+use Rattle.dcv_minimise.proofs.MemberFacts.{is_in, others_go}
+use Rattle.dcv_minimise.proofs.RoundFacts.{refined_on}
+use Rattle.dcv_minimise.proofs.refine.Refining.round.Goals as goal
+use Rattle.dcv_minimise.proofs.refine.Refining.round.Goals.{In_ok-listed, After-deref-6}
+
+pub above-requires : goal.above-requires
+above-requires c = is_bounded c.args.raw.now c.args.index.now.nodes c.args.index.now.rows c.requires.index
+
+listing : (c : In_ok-listed) → IsListing c.args.self.now.partition.blocks.items c.args.self.now.partition.witness.items c.in_ok-looked.looked.items c.in_ok-listed.listed.states.items c.in_ok-listed.listed.full.keys
+listing c =
+    let states = c.in_ok-listed.listed.states.items in
+    let full = c.in_ok-listed.listed.full.keys in
+    subst (λ looked. IsListing c.args.self.now.partition.blocks.items c.args.self.now.partition.witness.items looked states full) c.deref-4.ensures.value
+    (subst (λ witness. IsListing c.args.self.now.partition.blocks.items witness c.deref-4.result.now states full) c.deref-3.ensures.value
+    (subst (λ blocks. IsListing blocks c.deref-3.result.now c.deref-4.result.now states full) c.deref-2.ensures.value c.in_ok-listed.ensures.listing))
+
+pub split-requires-clause-full : goal.split-requires-clause-full
+split-requires-clause-full c = (listing (goal.at.split-requires-clause-full c).In_ok-listed).each_full
+
+pub split-requires-clause-others : goal.split-requires-clause-others
+split-requires-clause-others c =
+    let raw = c.args.raw.now in
+    let is = c.requires.refining.is_raw in
+    let moved = c.args.self.now.moved.items in
+    let looked = c.in_ok-looked.looked.items in
+    let nodes = c.args.index.now.nodes in
+    let rows = c.args.index.now.rows in
+    let above = subst (λ moved. StandAbove nodes rows moved looked) c.deref.ensures.value c.in_ok-looked.ensures.above in
+    others_go raw is c.args.self.now.partition.blocks.items c.args.self.now.partition.witness.items moved looked c.in_ok-listed.listed.states.items c.in_ok-listed.listed.full.keys
+    c.requires.refining.refined.witnessed c.requires.refining.refined.stable (lead_to raw is nodes rows c.requires.index moved looked above) (listing (goal.at.split-requires-clause-others c).In_ok-listed)
+
+-- the lists as they were gone through
+complete : (c : After-deref-6) → IsComplete c.args.self.now.partition.blocks.items (length c.args.self.now.partition.witness.items) c.list.new.self.lists.items
+complete c =
+    subst (λ witness. IsComplete c.args.self.now.partition.blocks.items (length witness) c.list.new.self.lists.items) c.deref-3.ensures.value
+    (subst (λ blocks. IsComplete blocks (length c.deref-3.result.now) c.list.new.self.lists.items) c.deref-2.ensures.value c.in_ok-listed.ensures.complete)
+
+same_size : (c : After-deref-6) → length c.deref-5.result.now ≡ length c.args.self.now.partition.blocks.items
+same_size c = omega (arith, ap length c.deref-5.ensures.value, c.in_ok-self.ensures.witnessed.each, c.requires.refining.refined.witnessed.each)
+
+pub follow-requires-clause-has : goal.follow-requires-clause-has
+follow-requires-clause-has c state inside =
+    let old = c.args.self.now.partition.blocks.items in
+    let new = c.split.new.self.blocks.items in
+    let lists = c.list.new.self.lists.items in
+    let moved = c.in_ok-self.field-0.items in
+    let before : state < length old = omega (arith, same_size c, inside) in
+    let there : state < length c.args.raw.now.rows = omega (arith, before, c.requires.refining.refined.witnessed.each) in
+    elim (is_in moved state) [
+      | inl one ↦ inl (subst (λ list. Contains list state) (sym c.deref-6.ensures.value) one)
+      | inr stays ↦
+          let same : block_of c.deref-5.result.now state ≡ block_of old state = ap (λ blocks. block_of blocks state) c.deref-5.ensures.value ∙ c.in_ok-self.ensures.stayed state there stays in
+          inr (subst (λ at. Contains (list_at lists at) state) (sym same) ((complete c).has state before))
+    ]
+
+pub follow-requires-clause-states : goal.follow-requires-clause-states
+follow-requires-clause-states c at state one = omega (arith, same_size c, (complete c).states at state one)
+
+pub returns-clause-refining : goal.returns-clause-refining
+returns-clause-refining c =
+    let raw = c.args.raw.now in
+    let was = c.requires.refining in
+    let all = c.in_ok-self.ensures in
+    let old = c.args.self.now.partition in
+    let new = c.split.new.self in
+    let moved = c.in_ok-self.field-0.items in
+    let lists = c.follow.new.self.lists.items in
+    OnOk-map c.follow.result _ _ (λ done. record {
+      is_raw = was.is_raw;
+      refined = refined_on raw was.is_raw old.blocks.items new.blocks.items all.round old.witness.items new.witness.items c.args.self.now.moved.items moved was.refined all.witnessed all.stayed;
+      complete = subst (λ count. IsComplete new.blocks.items count lists) (c.len.ensures ∙ new.witness.ok.0) (subst (λ blocks. IsComplete blocks c.len.result lists) c.deref-5.ensures.value done);
+      states = all.states;
+    }) c.follow.ensures

@@ -1,0 +1,198 @@
+// The automaton whose states are blocks (after A. Nerode, 1958). Of each block that words lead to one state is kept, the one
+// with the least word, and the states are numbered in the order of these words. The start gets a state of its own only where
+// no block has its row: whether it accepts does not matter, since no word is empty.
+ghost use Rattle.std.specs.Prelude.{◌≡◌, ◌≢◌, ◌<◌, ◌^◌, length, drop, slice_index_or, IfOk};
+ghost use Rattle.std.specs.List.{All, AllPairs};
+ghost use Rattle.dcv_dfa.specs.Raw.{IsRaw, automaton_of};
+ghost use Rattle.dcv_reach.specs.Reached.{IsReached, states_of};
+ghost use Rattle.dcv_minimise.specs.Minimal.{IsMinimalOf};
+ghost use Rattle.dcv_minimise.specs.Partition.{IsPartition, block_of};
+ghost use Rattle.dcv_minimise.specs.Classes.{HasFirsts, IsFirstLike, AreKept, IsKeptList, AreBlockNumbers, AreNumbers};
+ghost use Rattle.dcv_minimise.specs.Folded.{HasRows, flags_of, IsFirstOf};
+
+use dcv_apply::Remapping;
+use dcv_arena::{Arena, Ref};
+use dcv_dfa::{Auto, Raw};
+use dcv_reach::{Found, Reached};
+use std::alloc::{AllocError, Global};
+
+// The states that are kept: with their rows and flags they are the states 0, 1, 2, .. of the new automaton.
+#[derive(Drop)]
+struct Kept {
+    states: Vec<u32>,
+    // Whether the first of them is a start that stands alone.
+    alone: bool,
+}
+
+// Rows, in an arena that has their nodes and no others.
+#[derive(Drop)]
+struct Rows {
+    arena: Arena,
+    rows: Vec<Ref>,
+}
+
+/// The canonical automaton whose states are the blocks of the reached states, in the order of their least words, and the start
+/// where it stands alone.
+pub(crate) fn fold(
+    alloc: Global,
+    raw: &Raw,
+    reached: &Reached,
+    blocks: &[u32],
+) -> Result<Auto, AllocError>
+    requires partition { IsPartition raw.now blocks.now }
+    requires reached { IsReached raw.now.arena.slots (automaton_of raw.now) reached.now.found }
+    ensures { IfOk result (IsMinimalOf raw.now) }
+{
+    let found = reached.found();
+    let kept = keep(alloc, raw, found, blocks)?;
+    let numbers = numbers_of(alloc, &kept.states, blocks)?;
+    let new = rows_of(alloc, raw, &kept.states, &numbers)?;
+    let accepting = flags(alloc, raw, &kept)?;
+    let folded = Raw::new(new.arena, new.rows, accepting, 0);
+    Ok(Auto::new(folded, kept.alone))
+}
+
+// The start and the first state of each class, without the start where a class has its row. That class is then the first.
+fn keep(alloc: Global, raw: &Raw, found: &[Found], blocks: &[u32]) -> Result<Kept, AllocError>
+    requires partition { IsPartition raw.now blocks.now }
+    requires reached { IsReached raw.now.arena.slots (automaton_of raw.now) found.now }
+    ensures kept { IfOk result (λ kept. AreKept raw.now blocks.now (states_of found.now) kept.states.items kept.alone) }
+    ensures list { IfOk result (λ kept. IsKeptList raw.now blocks.now kept.states.items) }
+{
+    // for the prover: of an automaton that was asked it is known what is true of every one.
+    let _ = raw.slots();
+    let mut states = first_states(alloc, raw.start(), found, blocks)?;
+    match like_start(alloc, raw, &states, blocks)? {
+        Some(place) => {
+            let own = states.remove(place + 1);
+            states[0] = own;
+            Ok(Kept {
+                states,
+                alone: false,
+            })
+        }
+        None => Ok(Kept {
+            states,
+            alone: true,
+        }),
+    }
+}
+
+// The start, and behind it the first of these states in each block.
+fn first_states(
+    alloc: Global,
+    start: u32,
+    found: &[Found],
+    blocks: &[u32],
+) -> Result<Vec<u32>, AllocError>
+    requires states { All (λ state. state < length blocks.now) (states_of found.now) }
+    requires blocks { All (λ block. block < length blocks.now) blocks.now }
+    ensures { IfOk result (λ states. HasFirsts blocks.now (states_of found.now) (length (states_of found.now)) start states.items) }
+{
+    let mut met = vec![in alloc; false; blocks.len()]?;
+    let mut states = vec![in alloc; start]?;
+    for one in found {
+        let block = blocks[one.state as usize] as usize;
+        if met[block] {
+            continue;
+        }
+        met[block] = true;
+        states.push(one.state)?;
+    }
+    Ok(states)
+}
+
+// The place, behind the start, of the first of these states that has the start's row: whose letters lead to the same blocks.
+fn like_start(
+    alloc: Global,
+    raw: &Raw,
+    states: &[u32],
+    blocks: &[u32],
+) -> Result<Option<usize>, AllocError>
+    requires states { All (λ state. state < length raw.now.rows) states.now }
+    requires some { 0 < length states.now }
+    requires blocks { length blocks.now ≡ length raw.now.rows }
+    ensures { IfOk result (IsFirstLike raw.now blocks.now (slice_index_or states.now 0 0) (drop 1 states.now)) }
+{
+    let through = rows_of(alloc, raw, states, blocks)?;
+    Ok(first_place(through.rows[0], &through.rows[1..]))
+}
+
+// The rows of these states, with new numbers in place of the states to which they lead. Functions are equal exactly where their
+// refs are.
+fn rows_of(alloc: Global, raw: &Raw, states: &[u32], numbers: &[u32]) -> Result<Rows, AllocError>
+    requires states { All (λ state. state < length raw.now.rows) states.now }
+    requires numbers { length numbers.now ≡ length raw.now.rows }
+    ensures rows { IfOk result (λ new. HasRows raw.now states.now numbers.now new.arena new.rows.items) }
+    ensures count { IfOk result (λ new. length new.rows.items ≡ length states.now) }
+    ensures raw { IsRaw raw.now }
+{
+    let mut arena = Arena::new(alloc, raw.slots(), u32::MAX);
+    let mut remapping = Remapping::new(alloc, raw.arena(), numbers);
+    let mut rows = Vec::new(alloc);
+    for state in states {
+        let old = raw.row(*state);
+        match remapping.remap(&mut arena, old) {
+            Ok(new) => rows.push(new)?,
+            // The limit is the largest there is, so an arena that is full is as good as one without memory.
+            Err(_) => return Err(AllocError),
+        }
+    }
+    Ok(Rows { arena, rows })
+}
+
+// The first place of a ref among others.
+fn first_place(own: Ref, others: &[Ref]) -> Option<usize>
+    ensures { IsFirstOf own others.now result }
+{
+    others.iter().position(|other| *other == own)
+}
+
+// For each state the number of the kept state in its block, and 0 where none is in it.
+fn numbers_of(alloc: Global, kept: &[u32], blocks: &[u32]) -> Result<Vec<u32>, AllocError>
+    requires kept { All (λ state. state < length blocks.now) kept.now }
+    requires some { 0 < length kept.now }
+    requires bound { length kept.now < 2 ^ 32 }
+    requires blocks { All (λ block. block < length blocks.now) blocks.now }
+    requires apart { AllPairs (λ first second. block_of blocks.now first ≢ block_of blocks.now second) kept.now }
+    ensures { IfOk result (λ numbers. AreNumbers blocks.now kept.now numbers.items) }
+{
+    let of_block = numbers_of_blocks(alloc, kept, blocks)?;
+    let mut numbers = Vec::new(alloc);
+    for block in blocks {
+        numbers.push(of_block[*block as usize])?;
+    }
+    Ok(numbers)
+}
+
+// For each block the number of the kept state that is in it.
+fn numbers_of_blocks(alloc: Global, kept: &[u32], blocks: &[u32]) -> Result<Vec<u32>, AllocError>
+    requires kept { All (λ state. state < length blocks.now) kept.now }
+    requires some { 0 < length kept.now }
+    requires bound { length kept.now < 2 ^ 32 }
+    requires blocks { All (λ block. block < length blocks.now) blocks.now }
+    requires apart { AllPairs (λ first second. block_of blocks.now first ≢ block_of blocks.now second) kept.now }
+    ensures { IfOk result (λ numbers. AreBlockNumbers blocks.now kept.now numbers.items) }
+{
+    let mut numbers = vec![in alloc; 0; blocks.len()]?;
+    for (number, state) in kept.iter().enumerate() {
+        numbers[blocks[*state as usize] as usize] = number as u32;
+    }
+    Ok(numbers)
+}
+
+// Which of the kept states accept. A start that stands alone does not.
+fn flags(alloc: Global, raw: &Raw, kept: &Kept) -> Result<Vec<bool>, AllocError>
+    requires states { All (λ state. state < length raw.now.rows) kept.now.states.items }
+    requires some { 0 < length kept.now.states.items }
+    ensures { IfOk result (λ flags. flags.items ≡ flags_of raw.now kept.now.states.items kept.now.alone) }
+{
+    let mut accepting = Vec::new(alloc);
+    for state in &kept.states {
+        accepting.push(raw.accepting(*state))?;
+    }
+    if kept.alone {
+        accepting[0] = false;
+    }
+    Ok(accepting)
+}

@@ -1,0 +1,99 @@
+// States in blocks by what they go on to accept. Each round divides the blocks by the blocks to which letters lead (E. F. Moore,
+// "Gedanken-experiments on sequential machines", 1956), but looks only at states that lead to one that moved in the round before.
+ghost use Rattle.std.specs.Prelude.{◌≤◌, ◌<◌, ℕ, length, IfOk, OnOk, Contains};
+ghost use Rattle.std.specs.List.{All};
+ghost use Rattle.dcv_minimise.specs.Partition.{IsPartition};
+ghost use Rattle.dcv_minimise.specs.Index.{IsIndex};
+ghost use Rattle.dcv_minimise.specs.Refining.{IsRefining};
+
+mod division;
+mod index;
+mod keys;
+mod lists;
+mod members;
+mod partition;
+mod votes;
+
+use dcv_dfa::Raw;
+use index::Index;
+use members::Members;
+use partition::Partition;
+use std::alloc::{AllocError, Global};
+
+/// The block of each state: two states have one block exactly where they go on to accept the same words.
+///
+/// The time is that of the nodes above and below the states that move. A state moves only with a part that is no more than
+/// half of its block, so it moves as often as the logarithm of their number at most.
+pub(crate) fn refine(alloc: Global, raw: &Raw) -> Result<Vec<u32>, AllocError>
+    ensures { IfOk result (λ blocks. IsPartition raw.now blocks.items) }
+{
+    let index = Index::new(alloc, raw)?;
+    let mut refining = Refining::new(alloc, raw)?;
+    'rounds: while !refining.moved.is_empty() {
+        refining.round(alloc, raw, &index)?;
+    }
+    Ok(refining.partition.into_blocks())
+}
+
+// The blocks between two rounds, and the states that moved in the last one.
+#[derive(Drop)]
+struct Refining {
+    partition: Partition,
+    members: Members,
+    moved: Vec<u32>,
+}
+
+impl Refining {
+    // The blocks by flags, as if they had all been one.
+    fn new(alloc: Global, raw: &Raw) -> Result<Refining, AllocError>
+        ensures { IfOk result (λ refining. IsRefining raw.now refining.partition.blocks.items refining.partition.witness.items
+            refining.members.lists.items refining.moved.items) }
+    {
+        let all = every_state(alloc, raw.states())?;
+        let partition = Partition::by_flags(alloc, raw)?;
+        let mut members = Members::new(alloc);
+        members.follow(alloc, &partition.blocks, partition.witness.len(), &all)?;
+        let moved = partition.outside_first(alloc)?;
+        Ok(Refining {
+            partition,
+            members,
+            moved,
+        })
+    }
+
+    // One round.
+    fn round(&mut self, alloc: Global, raw: &Raw, index: &Index) -> Result<(), AllocError>
+        requires index { IsIndex raw.now index.now.nodes index.now.rows }
+        requires refining { IsRefining raw.now self.old.partition.blocks.items self.old.partition.witness.items self.old.members.lists.items self.old.moved.items }
+        ensures refining { OnOk result (IsRefining raw.now self.new.partition.blocks.items self.new.partition.witness.items self.new.members.lists.items self.new.moved.items) }
+        ensures more { OnOk result (0 < length self.new.moved.items → length self.old.partition.witness.items < length self.new.partition.witness.items) }
+        ensures no_fewer { OnOk result (length self.old.partition.witness.items ≤ length self.new.partition.witness.items) }
+    {
+        let looked = index.above(alloc, &self.moved)?;
+        let listed = self.members.list(
+            alloc,
+            &self.partition.blocks,
+            &self.partition.witness,
+            &looked,
+        )?;
+        self.moved = self.partition.split(alloc, raw, &listed)?;
+        self.members.follow(
+            alloc,
+            &self.partition.blocks,
+            self.partition.witness.len(),
+            &self.moved,
+        )
+    }
+}
+
+// The numbers of so many states.
+fn every_state(alloc: Global, states: u32) -> Result<Vec<u32>, AllocError>
+    ensures each { IfOk result (λ all. (state : ℕ) → state < states → Contains all.items state) }
+    ensures only { IfOk result (λ all. All (λ state. state < states) all.items) }
+{
+    let mut all = Vec::new(alloc);
+    for state in 0..states {
+        all.push(state)?;
+    }
+    Ok(all)
+}

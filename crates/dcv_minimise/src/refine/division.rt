@@ -1,0 +1,133 @@
+// One round's division of the blocks: each state that does not go with the witness of its block gets the number of another.
+ghost use Rattle.std.specs.Prelude.{◌≡◌, ◌<◌, ◌+◌, ◌^◌, ℕ, length, slice_index_or, IfOk, OnOk};
+ghost use Rattle.std.specs.List.{All};
+ghost use Rattle.dcv_minimise.specs.Keys.{IsKeys};
+ghost use Rattle.dcv_minimise.specs.Rounds.{IsState, IsWitnessed};
+ghost use Rattle.dcv_minimise.specs.Division.{IsDividing, IsDivision, IsDivided, IsSettled, HasNumber};
+
+use super::keys::Keys;
+use super::members::Listed;
+use super::votes::choose;
+use dcv_arena::Ref;
+use dcv_dfa::Raw;
+use indexmap::IndexSet;
+use std::alloc::{AllocError, Global};
+
+// A state gets a number.
+#[derive(Clone, Copy, Debug)]
+pub(crate) struct Move {
+    pub(crate) state: u32,
+    pub(crate) number: u32,
+}
+
+// The states of a block with one key.
+#[derive(Clone, Copy, Debug, PartialEq, Eq, Hash)]
+pub(crate) struct Part {
+    pub(crate) block: u32,
+    pub(crate) key: Ref,
+}
+
+// The division so far. The parts have the numbers from `count` on.
+#[derive(Drop)]
+struct Division<'a> {
+    count: usize,
+    keys: Keys<'a>,
+    parts: IndexSet<Part>,
+    moves: Vec<Move>,
+}
+
+// Which of the listed states get another number, and which. Witnesses of blocks that are listed in full may change, and those of new
+// numbers are added.
+pub(crate) fn divide(
+    alloc: Global,
+    raw: &Raw,
+    blocks: &[u32],
+    witness: &mut Vec<u32>,
+    listed: &Listed,
+) -> Result<Vec<Move>, AllocError>
+    requires witnessed { IsWitnessed raw.now blocks.now witness.old.items }
+    requires listed { All (IsState raw.now) listed.now.states.items }
+    ensures { IfOk result (λ moves. IsDivided raw.now blocks.now listed.now.full.keys witness.old.items witness.new.items listed.now.states.items moves.items) }
+{
+    let mut keys = Keys::new(alloc, raw, blocks);
+    choose(alloc, raw, blocks, witness, &mut keys, listed)?;
+    settle_all(alloc, raw, blocks, witness, keys, &listed.states)
+}
+
+// The same with the witnesses as they are.
+fn settle_all(
+    alloc: Global,
+    raw: &Raw,
+    blocks: &[u32],
+    witness: &mut Vec<u32>,
+    keys: Keys<'_>,
+    listed: &[u32],
+) -> Result<Vec<Move>, AllocError>
+    requires witnessed { IsWitnessed raw.now blocks.now witness.old.items }
+    requires keys { IsKeys raw.now blocks.now keys }
+    requires listed { All (IsState raw.now) listed.now }
+    ensures { IfOk result (λ moves. IsDivision raw.now blocks.now witness.old.items witness.new.items listed.now moves.items) }
+{
+    let mut division = Division {
+        count: witness.len(),
+        keys,
+        parts: IndexSet::new(alloc),
+        moves: Vec::new(alloc),
+    };
+    for state in listed {
+        division.settle(raw, blocks, witness, *state)?;
+    }
+    Ok(division.moves)
+}
+
+impl Division<'_> {
+    // Finds out whether a state keeps its number.
+    fn settle(
+        &mut self,
+        raw: &Raw,
+        blocks: &[u32],
+        witness: &mut Vec<u32>,
+        state: u32,
+    ) -> Result<(), AllocError>
+        requires state { state < length raw.now.rows }
+        requires keys { IsKeys raw.now blocks.now self.old.keys }
+        requires dividing { IsDividing raw.now blocks.now self.old.count self.old.keys.scratch witness.old.items self.old.parts.keys self.old.moves.items }
+        ensures keys { IsKeys raw.now blocks.now self.new.keys }
+        ensures dividing { OnOk result (IsDividing raw.now blocks.now self.old.count self.new.keys.scratch witness.new.items self.new.parts.keys self.new.moves.items) }
+        ensures settled { OnOk result (IsSettled raw.now blocks.now witness.new.items self.new.moves.items state) }
+        ensures count { self.new.count ≡ self.old.count }
+
+        // What was settled is settled, and the blocks that there were have the witnesses that they had.
+        ensures kept { OnOk result ((other : ℕ) → IsState raw.now other → IsSettled raw.now blocks.now witness.old.items self.old.moves.items other
+            → IsSettled raw.now blocks.now witness.new.items self.new.moves.items other) }
+        ensures firsts { OnOk result ((block : ℕ) → block < self.old.count → slice_index_or witness.new.items block 0 ≡ slice_index_or witness.old.items block 0) }
+    {
+        let block = blocks[state as usize];
+        let key = self.keys.of(raw, state)?;
+        let kept = self.keys.of(raw, witness[block as usize])?;
+        if key == kept {
+            return Ok(());
+        }
+        let number = self.number(witness, Part { block, key }, state)?;
+        self.moves.push(Move { state, number })?;
+        Ok(())
+    }
+
+    // The number of a part, which is added where it is not there, with the state as its witness.
+    fn number(&mut self, witness: &mut Vec<u32>, part: Part, state: u32) -> Result<u32, AllocError>
+        requires size { length witness.old.items ≡ self.old.count + length self.old.parts.keys }
+        requires bound { length witness.old.items < 2 ^ 32 }
+        ensures number { IfOk result (HasNumber self.old.count self.old.parts.keys self.new.parts.keys witness.old.items witness.new.items part state) }
+        ensures count { self.new.count ≡ self.old.count }
+        ensures keys { self.new.keys ≡ self.old.keys }
+        ensures moves { self.new.moves ≡ self.old.moves }
+    {
+        let (place, is_new) = self.parts.insert_full(part)?;
+        let number = (self.count + place) as u32;
+        if !is_new {
+            return Ok(number);
+        }
+        witness.push(state)?;
+        Ok(number)
+    }
+}

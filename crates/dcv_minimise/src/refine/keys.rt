@@ -1,0 +1,47 @@
+// The rows of states by blocks. Two states have one key exactly where each letter leads from both to one block.
+ghost use Rattle.std.specs.Prelude.{◌≡◌, ◌<◌, List, ℕ, length, IfOk};
+ghost use Rattle.dcv_arena.specs.Arena.{KeepsRefs};
+ghost use Rattle.dcv_minimise.specs.Keys.{IsKeys, IsKeyOf, blocks_in};
+
+use dcv_apply::Remapping;
+use dcv_arena::{Arena, Ref};
+use dcv_dfa::Raw;
+use std::alloc::{AllocError, Global};
+
+// Each node of the rows is gone through once, however many states are asked for.
+#[derive(Drop)]
+pub(crate) struct Keys<'a> {
+    pub(crate) remapping: Remapping<'a>,
+    pub(crate) scratch: Arena,
+}
+
+impl<'a> Keys<'a> {
+    // The keys by these blocks.
+    pub(crate) fn new(alloc: Global, raw: &'a Raw, blocks: &'a [u32]) -> Keys<'a>
+        requires { length blocks.now ≡ length raw.now.rows }
+        ensures { IsKeys raw.now blocks.now result }
+    {
+        let arena = raw.arena();
+        Keys {
+            remapping: Remapping::new(alloc, arena, blocks),
+            scratch: Arena::new(alloc, arena.slots(), u32::MAX),
+        }
+    }
+}
+
+impl Keys<'_> {
+    // The key of a state. An arena that holds as many nodes as there are numbers counts as memory that has run out.
+    pub(crate) fn of(&mut self, raw: &Raw, state: u32) -> Result<Ref, AllocError>
+        requires state { state < length raw.now.rows }
+        requires keys { IsKeys raw.now (blocks_in self.old) self.old }
+        ensures key { (blocks : List ℕ) → IsKeys raw.now blocks self.old → IfOk result (IsKeyOf raw.now blocks self.new.scratch state) }
+        ensures kept { KeepsRefs self.old.scratch self.new.scratch }
+        ensures keys { (blocks : List ℕ) → IsKeys raw.now blocks self.old → IsKeys raw.now blocks self.new }
+    {
+        let row = raw.row(state);
+        match self.remapping.remap(&mut self.scratch, row) {
+            Ok(key) => Ok(key),
+            Err(_) => Err(AllocError),
+        }
+    }
+}

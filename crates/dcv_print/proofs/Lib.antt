@@ -1,0 +1,2 @@
+mod LeastWords
+mod Texts

@@ -1,0 +1,11 @@
+mod FirstWord
+mod Counting
+mod Listing
+mod Separating
+mod Beginning
+mod Walking
+mod Moving
+mod Certificates
+mod AccessWords
+mod Tallying
+mod Sizing

@@ -1,0 +1,25 @@
+use Rattle.std.proofs.Common.{ℕ, ◌<◌, List, [], ◌∷◌, ◌++◌, map, All, Vec, Global, sym, ap, subst, ◌∙◌}
+use Rattle.dcv_shortest.specs.declared.proof.Suffix.{Suffix}
+use Rattle.dcv_shortest.specs.declared.proof.Suffix.TheVariants.{Empty}
+use Rattle.dcv_shortest.specs.Vertices.{raw_of}
+use Rattle.dcv_shortest.specs.Tallies.{AreSizes}
+use Rattle.dcv_shortest.proofs.Beginning.{begun, two_blocks}
+use Rattle.dcv_shortest.proofs.partition.Partition.new.Goals as goal
+
+pub returns-clause-separates : goal.returns-clause-separates
+returns-clause-separates c =
+    let raw = raw_of c.args.vertices.now in
+    let part = c.in_ok-with_flag.field-0 in
+    record {
+      separation = begun raw c.requires c.push.new.self.items c.in_ok-blocks.blocks.items (map (λ (part : Vec ℕ Global). part.items) c.push-2.new.self.items) c.rarer_flag.result part.items
+          (c.in_ok-push.ensures.items ∙ ap (λ (suffixes : List Suffix). suffixes ++ Empty ∷ []) c.new-suffixes.ensures.items)
+          c.in_ok-blocks.ensures
+          (ap (map (λ (part : Vec ℕ Global). part.items)) (c.in_ok-push-2.ensures.items ∙ ap (λ (parts : List (Vec ℕ Global)). parts ++ part ∷ []) c.new-parts.ensures.items))
+          c.in_ok-with_flag.ensures;
+      numbers = subst (All (λ block. block < 2)) (sym c.in_ok-blocks.ensures) (two_blocks raw c.requires);
+      sizes = subst (λ blocks. AreSizes blocks 2 c.in_ok-sizes.sizes.items) c.deref.ensures.value c.in_ok-sizes.ensures;
+    }
+
+pub sizes_of-requires : goal.sizes_of-requires
+sizes_of-requires c =
+    subst (All (λ block. block < 2)) (sym (c.deref.ensures.value ∙ c.in_ok-blocks.ensures)) (two_blocks (raw_of c.args.vertices.now) c.requires)

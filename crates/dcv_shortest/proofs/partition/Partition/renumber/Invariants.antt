@@ -1,0 +1,13 @@
+use Rattle.std.proofs.Common.{◌≡◌, take, length}
+use Rattle.dcv_shortest.specs.Partition.{raw_in}
+use Rattle.dcv_shortest.proofs.Moving.{AreMoved}
+use Rattle.dcv_shortest.proofs.partition.Partition.renumber.Given as goal
+
+abbrev pub invariant-loop-state : goal.invariant-loop-state
+invariant-loop-state l = record {
+  vertices : raw_in l.self ≡ raw_in l.fn.self;
+  suffixes : l.self.suffixes ≡ l.fn.self.suffixes;
+  parts : l.self.parts ≡ l.fn.self.parts;
+  count : l.self.count ≡ l.fn.self.count;
+  moved : AreMoved l.fn.self.count (length l.fn.self.blocks.items) l.fn.self.blocks.items (take l.state-index l.part) l.self.blocks.items l.left.keys;
+}
