@@ -1,6 +1,6 @@
 /* The operations on diagrams as a plain C program does them, to be measured beside `dcv_bench`: nodes of 12 bytes, each once,
-   found by an open table of places; a memo of bounded size, one for all times, in which a new entry takes the place of an
-   older one with the same hash; renumbering and first letters by place. It takes the same words and tells the same numbers. */
+   found by an open table of places; for each merge a memo of bounded size that forgets the entry that was used least lately;
+   renumbering and first letters by place. It takes the same words and tells the same numbers. */
 #include <stdint.h>
 #include <stdio.h>
 #include <stdlib.h>
@@ -125,10 +125,92 @@ static Ref parity(Arena *a, uint8_t each) {
 
 /* ---- merging two functions */
 
+/* An entry stands in the chain of its hash, and in a list by last use. Entries are numbers of places plus 1, 0 where there is none. */
 typedef struct {
   Ref one, other, result;
-  uint32_t round; /* 0 where there is no entry */
+  uint32_t next, newer, older;
 } Entry;
+
+typedef struct {
+  Entry *entries;
+  uint32_t *chains;
+  uint32_t count, room, newest, oldest;
+} Memo;
+
+static void memo_free(Memo *m) {
+  free(m->entries);
+  free(m->chains);
+}
+
+static uint32_t *chain(const Memo *m, Ref one, Ref other) {
+  uint64_t key = ((uint64_t)one.number << 32 | other.number) ^ ((uint64_t)one.is_leaf << 63) ^ ((uint64_t)other.is_leaf << 31);
+  return &m->chains[fold(key ^ 0x243F6A8885A308D3, 0x13198A2E03707345) & (m->room - 1)];
+}
+
+static Entry *entry(const Memo *m, uint32_t number) { return &m->entries[number - 1]; }
+
+static void unlist(Memo *m, Entry *e) {
+  if (e->newer) entry(m, e->newer)->older = e->older;
+  else m->newest = e->older;
+  if (e->older) entry(m, e->older)->newer = e->newer;
+  else m->oldest = e->newer;
+}
+
+static void list_newest(Memo *m, uint32_t number) {
+  Entry *e = entry(m, number);
+  e->newer = 0;
+  e->older = m->newest;
+  if (m->newest) entry(m, m->newest)->newer = number;
+  else m->oldest = number;
+  m->newest = number;
+}
+
+static const Ref *memo_get(Memo *m, Ref one, Ref other) {
+  if (!m->room) return NULL;
+  for (uint32_t at = *chain(m, one, other); at; at = entry(m, at)->next) {
+    Entry *e = entry(m, at);
+    if (!same(e->one, one) || !same(e->other, other)) continue;
+    unlist(m, e);
+    list_newest(m, at);
+    return &e->result;
+  }
+  return NULL;
+}
+
+static void memo_grow(Memo *m) {
+  m->room = m->room ? m->room * 2 : 8;
+  m->entries = realloc(m->entries, m->room * sizeof(Entry));
+  free(m->chains);
+  m->chains = calloc(m->room, sizeof(uint32_t));
+  if (!m->entries || !m->chains) fail("out of memory");
+  for (uint32_t at = 1; at <= m->count; at++) {
+    uint32_t *first = chain(m, entry(m, at)->one, entry(m, at)->other);
+    entry(m, at)->next = *first;
+    *first = at;
+  }
+}
+
+static void forget(Memo *m, uint32_t number) {
+  Entry *e = entry(m, number);
+  uint32_t *at = chain(m, e->one, e->other);
+  while (*at != number) at = &entry(m, *at)->next;
+  *at = e->next;
+  unlist(m, e);
+}
+
+/* The operands have no entry. */
+static void memo_put(Memo *m, Ref one, Ref other, Ref result) {
+  uint32_t number = m->oldest;
+  if (m->count == ENTRIES) forget(m, number);
+  else {
+    if (m->count == m->room) memo_grow(m);
+    number = ++m->count;
+  }
+  uint32_t *first = chain(m, one, other);
+  *entry(m, number) = (Entry){one, other, result, *first, 0, 0};
+  *first = number;
+  list_newest(m, number);
+}
 
 static uint32_t differ(uint32_t one, uint32_t other) { return one != other; }
 
@@ -143,26 +225,27 @@ static void children(const Arena *from, Ref root, uint32_t slot, Ref *lo, Ref *h
   *hi = (Ref){n->hi, n->hi_is_leaf};
 }
 
-static Ref merge(Arena *to, const Arena *from, Ref one, Ref other, Entry *memo, uint32_t round) {
+static Ref merge(Arena *to, const Arena *from, Ref one, Ref other, Memo *memo) {
   uint32_t a = slot_of(from, one), b = slot_of(from, other), slot = a < b ? a : b;
   if (slot >= to->slots) return leaf(differ(one.number, other.number));
-  uint64_t key = ((uint64_t)one.number << 32 | other.number) ^ ((uint64_t)one.is_leaf << 63) ^ ((uint64_t)other.is_leaf << 31);
-  Entry *entry = &memo[fold(key ^ 0x243F6A8885A308D3, 0x13198A2E03707345) & (ENTRIES - 1)];
-  if (entry->round == round && same(entry->one, one) && same(entry->other, other)) return entry->result;
+  const Ref *known = memo_get(memo, one, other);
+  if (known) return *known;
   Ref one_lo, one_hi, other_lo, other_hi;
   children(from, one, slot, &one_lo, &one_hi);
   children(from, other, slot, &other_lo, &other_hi);
-  Ref lo = merge(to, from, one_lo, other_lo, memo, round);
-  Ref hi = merge(to, from, one_hi, other_hi, memo, round);
+  Ref lo = merge(to, from, one_lo, other_lo, memo);
+  Ref hi = merge(to, from, one_hi, other_hi, memo);
   Ref result = node(to, (uint8_t)slot, lo, hi);
-  *entry = (Entry){one, other, result, round};
+  memo_put(memo, one, other, result);
   return result;
 }
 
-static size_t merged(const Arena *from, Ref one, Ref other, Entry *memo, uint32_t round) {
+static size_t merged(const Arena *from, Ref one, Ref other) {
   Arena to = arena_new(from->slots);
-  merge(&to, from, one, other, memo, round);
+  Memo memo = {NULL, NULL, 0, 0, 0, 0};
+  merge(&to, from, one, other, &memo);
   size_t size = to.count;
+  memo_free(&memo);
   arena_free(&to);
   return size;
 }
@@ -258,15 +341,13 @@ int main(int count, char **words) {
   uint32_t middle = slots / 2;
   Ref one = is_parity ? parity(&a, 1) : build(&a, (Function){is_random, (uint64_t)1 << 40, middle}, 0, 0);
   Ref other = is_parity ? parity(&a, 2) : build(&a, (Function){is_random, (uint64_t)2 << 40, middle - 1}, 0, 0);
-  Entry *memo = calloc(ENTRIES, sizeof(Entry));
-  if (!memo) fail("out of memory");
   double before = processor_time();
   size_t size = 0;
   for (int i = 0; i < times; i++) {
     if (!strcmp(name, "build")) size = rebuilt(slots);
     else if (!strcmp(name, "remap")) size = renumbered(&a, one);
     else if (!strcmp(name, "letters")) size = letters(&a, one);
-    else size = merged(&a, one, other, memo, (uint32_t)i + 1);
+    else size = merged(&a, one, other);
   }
   double each = (processor_time() - before) / (times ? times : 1);
   if (count > 4) printf("%zu %.0f\n", size, each);

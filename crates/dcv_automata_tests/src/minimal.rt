@@ -1,4 +1,4 @@
-// The minimal automata of raw ones that were written by hand, with their start in each place that it can have, and of a long chain.
+// The minimal automata of raw ones that were written by hand, whose starts are folded or stand alone, and of a long chain.
 use crate::examples::{EACH_LETTER, FEWER_THAN_THREE, LAST_LETTER, ODD_DIFFERENCES, ONE_LETTER};
 use crate::shown::text_of_auto;
 use crate::slow::quotient;

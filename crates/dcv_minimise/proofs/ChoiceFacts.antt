@@ -1,5 +1,5 @@
 -- Witnesses that are chosen one after another.
-use Rattle.std.proofs.Common.{◌≡◌, ◌≢◌, ℕ, ◌<◌, List, length, eqb, get_or, set, position, Some, ◌⊎◌, inl, inr, Contains, refl, sym, ap, subst, ◌∙◌, arith, eqb-true, get_or-set_same, get_or-set_other}
+use Rattle.std.proofs.Common.{◌≡◌, ℕ, List, eqb, get_or, set, position, Some, inl, inr, Contains, sym, ap, subst, ◌∙◌, arith, eqb-true, get_or-set_same, get_or-set_other}
 use Rattle.std.proofs.lemmas.Bool.{cases_eq}
 use Rattle.std.proofs.lemmas.List.Elements.{Contains-get_or}
 use Rattle.std.proofs.lemmas.List.Quantifiers.{position-Some}
@@ -21,13 +21,4 @@ chosen_one raw blocks full witness state is inside there block within = elim (ca
       ap (λ at. get_or (set witness (block_of blocks state) state) at 0) same ∙ get_or-set_same witness (block_of blocks state) state 0 (is.numbers state inside) in
       inr (subst (Contains full) (sym same) there, (omega (arith, here, inside, is.each), ap (block_of blocks) here ∙ sym same))
   | inr other ↦ inl (get_or-set_other witness (block_of blocks state) block state 0 other)
-]
-
-pub chosen_in_turn : (blocks full first second third : List ℕ) → length second ≡ length first → IsChosen blocks full first second → IsChosen blocks full second third → IsChosen blocks full first third
-chosen_in_turn blocks full first second third size early late block within = elim (late block (omega (arith, size, within))) [
-  | inr other ↦ inr other
-  | inl same ↦ elim (early block within) [
-    | inl before ↦ inl (same ∙ before)
-    | inr other ↦ inr (other.0, (omega (arith, same, other.1.0), ap (block_of blocks) same ∙ other.1.1))
-  ]
 ]

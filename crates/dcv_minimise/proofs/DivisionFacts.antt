@@ -1,14 +1,14 @@
 -- A division of the blocks, once its moves are made, is a round of refinement.
-use Rattle.std.proofs.Common.{◌≡◌, ◌≢◌, ℕ, ◌<◌, ◌≤◌, List, length, map, get_or, ◌⊎◌, inl, inr, Contains, sym, ap, subst, ◌∙◌, arith}
-use Rattle.std.specs.List.{All, AllPairs}
+use Rattle.std.proofs.Common.{◌≡◌, ℕ, ◌<◌, List, length, map, get_or, ◌⊎◌, inl, inr, Contains, sym, ap, subst, ◌∙◌, arith}
+use Rattle.std.specs.List.{All}
 use Rattle.std.proofs.lemmas.Bool.{cases_order}
-use Rattle.std.proofs.lemmas.List.{get_or_default, length-map}
+use Rattle.std.proofs.lemmas.List.{length-map}
 use Rattle.std.proofs.lemmas.List.Elements.{All-contains, All-map}
 use Rattle.dcv_arena.proofs.Members.{Contains-map}
 use Rattle.dcv_dfa.specs.Raw.{RawValue}
 use Rattle.dcv_minimise.specs.Partition.{block_of}
 use Rattle.dcv_minimise.specs.Rounds.{IsState, HaveOneRow, AreAlike, IsRound, HaveStayed, IsWitnessed, witness_of}
-use Rattle.dcv_minimise.specs.Division.{move_to, IsGrouped, IsMove, IsSettled, HasMoved, IsDivision}
+use Rattle.dcv_minimise.specs.Division.{move_to, IsMove, IsSettled, HasMoved, IsDivision}
 use Rattle.dcv_minimise.specs.declared.refine.division.Move.{Move}
 use Rattle.dcv_minimise.proofs.Alike.{alike_turned, alike_through}
 

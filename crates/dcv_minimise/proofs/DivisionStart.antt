@@ -1,14 +1,14 @@
 -- The division before any listed state is settled, and one more state that is.
-use Rattle.std.proofs.Common.{◌≡◌, ◌≢◌, ℕ, ◌<◌, ◌+◌, List, [], ◌∷◌, length, take, get_or, Some, None, slice_get, sym, subst, ap, ◌∙◌, arith}
-use Rattle.std.specs.List.{All, AllPairs}
+use Rattle.std.proofs.Common.{◌≡◌, ℕ, ◌<◌, ◌+◌, List, [], length, take, get_or, sym, subst, ap, ◌∙◌, arith}
+use Rattle.std.specs.List.{All}
 use Rattle.std.proofs.lemmas.List.{get_or_default}
-use Rattle.std.proofs.lemmas.List.Elements.{All-nil, All-more, All-weaker, All-take, All-contains}
+use Rattle.std.proofs.lemmas.List.Elements.{All-nil, All-more, All-take}
 use Rattle.std.proofs.lemmas.Option.{none-some}
 use Rattle.dcv_arena.specs.Arena.{ArenaValue}
 use Rattle.dcv_dfa.specs.Raw.{RawValue}
 use Rattle.dcv_minimise.specs.Partition.{block_of}
-use Rattle.dcv_minimise.specs.Rounds.{IsState, AreAlike, IsWitnessed}
-use Rattle.dcv_minimise.specs.Division.{IsGrouped, IsPart, IsMove, IsDividing, IsSettled}
+use Rattle.dcv_minimise.specs.Rounds.{IsState, IsWitnessed}
+use Rattle.dcv_minimise.specs.Division.{IsGrouped, IsMove, IsDividing, IsSettled}
 use Rattle.dcv_minimise.specs.declared.refine.division.Move.{Move}
 use Rattle.dcv_minimise.specs.declared.refine.division.Part.{Part}
 

@@ -1,59 +1,11 @@
--- The blocks by flags are told apart by the empty word, and each has a witness.
-use Rattle.std.proofs.Common.{◌≡◌, ◌≢◌, ℕ, zero, suc, ◌<◌, ◌≤◌, Bool, true, false, List, [], ◌∷◌, length, get_or, eqb, position, None, Some, ◌⊎◌, inl, inr, refl, sym, ap, ◌∙◌, arith}
+-- The witnesses of the blocks by flags: state 0, and the first state that is in the other block.
+use Rattle.std.proofs.Common.{◌≡◌, ℕ, zero, suc, ◌<◌, ◌≤◌, List, [], ◌∷◌, length, get_or, eqb, position, None, Some, inl, inr, arith}
 use Rattle.std.specs.List.{position_or_len}
 use Rattle.std.proofs.lemmas.Bool.{cases_lt, eqb-true, eqb-false, cases_eq}
-use Rattle.std.proofs.lemmas.List.Elements.{All-nil}
 use Rattle.std.proofs.lemmas.List.Quantifiers.{position-Some}
 use Rattle.std.proofs.lemmas.List.Sums.{fails_before_first}
-use Rattle.dcv_language.specs.Folding.{AreApartFrom}
-use Rattle.dcv_dfa.specs.Raw.{RawValue, is_accepting, automaton_of}
 use Rattle.dcv_minimise.specs.Partition.{block_of}
-use Rattle.dcv_minimise.specs.Rounds.{IsState, IsWitnessed, IsTold, IsByFlag, IsByNumber, flag_block}
-
-same_flag : (first a b : Bool) → flag_block first a ≡ flag_block first b → a ≡ b
-same_flag true true true e = refl
-same_flag true true false e = absurd (omega arith)
-same_flag true false true e = absurd (omega arith)
-same_flag true false false e = refl
-same_flag false true true e = refl
-same_flag false true false e = absurd (omega arith)
-same_flag false false true e = absurd (omega arith)
-same_flag false false false e = refl
-
-pub two_blocks : (first a : Bool) → flag_block first a < 2
-two_blocks true true = omega arith
-two_blocks true false = omega arith
-two_blocks false true = omega arith
-two_blocks false false = omega arith
-
-pub own_flag : (first : Bool) → flag_block first first ≡ 0
-own_flag true = refl
-own_flag false = refl
-
-apart_by_flag : (raw : RawValue) (first second : ℕ) → is_accepting raw first ≢ is_accepting raw second → AreApartFrom raw.arena.slots (automaton_of raw) first second
-apart_by_flag raw first second differ = record {
-  suffix = [];
-  widths = All-nil (λ letter. length letter ≡ raw.arena.slots);
-  differ = differ;
-}
-
-pub told_by_flag : (raw : RawValue) (blocks : List ℕ) → IsByFlag raw blocks → IsTold raw blocks
-told_by_flag raw blocks is = record {
-  flags = λ first second f s same.
-      same_flag (is_accepting raw 0) (is_accepting raw first) (is_accepting raw second) (sym (is first f) ∙ same ∙ is second s);
-  apart = λ first second f s differ.
-      apart_by_flag raw first second (λ same. differ (is first f ∙ ap (flag_block (is_accepting raw 0)) same ∙ sym (is second s)));
-}
-
-pub witnessed_by_number : (raw : RawValue) (blocks witness : List ℕ) → length blocks ≡ length raw.rows → IsByNumber blocks witness → IsWitnessed raw blocks witness
-witnessed_by_number raw blocks witness size is = record {
-  each = size;
-  numbers = λ state inside. is.numbers state (omega (arith, size));
-  states = λ block within. omega (arith, size, is.states block within);
-  own = is.own;
-}
-
--- ---- the witnesses
+use Rattle.dcv_minimise.specs.Rounds.{IsByNumber}
 
 module _ (blocks : List ℕ) (some : 0 < length blocks) (two : (state : ℕ) → state < length blocks → block_of blocks state < 2) (first_is : block_of blocks 0 ≡ 0) where
   none_first : position (λ block. eqb block 1) blocks ≡ None → length blocks ≤ position_or_len (λ block. eqb block 1) blocks

@@ -1,5 +1,5 @@
 -- What stands above the moved states has all rows that lead to one of them.
-use Rattle.std.proofs.Common.{◌≡◌, ℕ, zero, suc, ◌<◌, ◌≤◌, ◌+◌, Bool, true, false, if◌then◌else◌, List, length, slice_index_or, replicate, Contains, inl, inr, ap, subst, ◌∙◌, arith}
+use Rattle.std.proofs.Common.{◌≡◌, ℕ, zero, suc, ◌<◌, ◌≤◌, ◌+◌, Bool, false, if◌then◌else◌, List, length, slice_index_or, replicate, Contains, inl, inr, ap, subst, ◌∙◌, arith}
 use Rattle.std.proofs.lemmas.Bool.{cases_Bool}
 use Rattle.std.proofs.lemmas.List.{length-replicate}
 use Rattle.dcv_arena.specs.Arena.{IsRef, level_of, value_of}
@@ -8,7 +8,7 @@ use Rattle.dcv_arena.specs.declared.nodes.Ref.TheVariants.{Leaf, Place}
 use Rattle.dcv_dfa.specs.Raw.{RawValue, IsRaw, row_of}
 use Rattle.dcv_minimise.specs.Rounds.{IsState}
 use Rattle.dcv_minimise.specs.Lists.{listed_at}
-use Rattle.dcv_minimise.specs.Index.{IsWithin, IsAbove, IsIndex, IsBounded, IsFollowed, IsClosed, StandAbove, LeadTo}
+use Rattle.dcv_minimise.specs.Index.{IsWithin, IsIndex, IsBounded, IsFollowed, IsClosed, StandAbove, LeadTo}
 use Rattle.dcv_minimise.specs.declared.refine.lists.Lists.{Lists}
 use Rattle.dcv_minimise.proofs.RoundFacts.{next_state}
 

@@ -1,5 +1,5 @@
 -- Two functions of letters agree at each letter, or differ at one.
-use Rattle.std.proofs.Common.{◌≡◌, ◌≢◌, ℕ, zero, suc, Bool, true, false, List, [], ◌∷◌, length, ◌⊎◌, inl, inr, ap, arith}
+use Rattle.std.proofs.Common.{◌≡◌, ◌≢◌, ℕ, zero, suc, Bool, true, false, List, [], ◌∷◌, length, ◌⊎◌, inl, inr, arith}
 use Rattle.std.proofs.lemmas.Bool.{cases_eq}
 
 same_at_none : (f g : List Bool → ℕ) → f [] ≡ g [] → (letter : List Bool) → length letter ≡ 0 → f letter ≡ g letter

@@ -1,10 +1,7 @@
--- A number more in one of several lists.
-use Rattle.std.proofs.Common.{◌≡◌, ◌≢◌, ℕ, zero, suc, ◌<◌, List, [], ◌∷◌, ◌++◌, length, set, Vec, Option, Some, slice_get, ◌⊎◌, inl, inr, Contains, refl, sym, ap, subst, ◌∙◌, arith}
-use Rattle.std.proofs.lemmas.Bool.{cases_eq}
-use Rattle.std.proofs.lemmas.List.{length-set}
-use Rattle.std.proofs.lemmas.List.Elements.{Contains-push, Contains-push_cases, Contains-append_left}
+-- What stands in a list of lists where one of them is written.
+use Rattle.std.proofs.Common.{◌≡◌, ◌≢◌, ℕ, zero, suc, ◌<◌, List, [], ◌∷◌, length, set, Vec, Option, Some, slice_get, refl, ap, arith}
 use Rattle.std.specs.Option.{option_map_or}
-use Rattle.dcv_minimise.specs.Lists.{AddsAt, list_at}
+use Rattle.dcv_minimise.specs.Lists.{list_at}
 
 pub get_set_same : {X : Type 0} (xs : List X) (i : ℕ) (v : X) → i < length xs → slice_get (set xs i v) i ≡ Some v
 get_set_same [] i v within = absurd (omega arith)
@@ -24,23 +21,3 @@ module _ {Z : Type 0} (old : List (Vec ℕ Z)) (place number : ℕ) (vector : Ve
 
   pub list_else : (at : ℕ) → at ≢ place → list_at (set old place vector) at ≡ list_at old at
   list_else at other = ap (λ (found : Option (Vec ℕ Z)). option_map_or (λ one. one.items) found []) (get_set_other old place at vector other)
-
-  pub adds_by_set : vector.items ≡ list_at old place ++ number ∷ [] → AddsAt old (set old place vector) place number
-  adds_by_set more = record {
-    size = length-set old place vector;
-    keeps = λ at one c. elim (cases_eq at place) [
-      | inl same ↦
-          subst (λ at. Contains (list_at (set old place vector) at) one) (sym same)
-          (subst (λ list. Contains list one) (sym (list_there ∙ more)) (Contains-append_left (list_at old place) (number ∷ []) one (subst (λ at. Contains (list_at old at) one) same c)))
-      | inr other ↦ subst (λ list. Contains list one) (sym (list_else at other)) c
-    ];
-    has = λ there. subst (λ list. Contains list number) (sym (list_there ∙ more)) (Contains-push (list_at old place) number);
-    only = λ at one c. elim (cases_eq at place) [
-      | inl same ↦
-          elim (Contains-push_cases (list_at old place) number one (subst (λ list. Contains list one) (list_there ∙ more) (subst (λ at. Contains (list_at (set old place vector) at) one) same c))) [
-            | inl before ↦ inl (subst (λ at. Contains (list_at old at) one) (sym same) before)
-            | inr last ↦ inr (sym last)
-          ]
-      | inr other ↦ inl (subst (λ list. Contains list one) (list_else at other) c)
-    ];
-  }

@@ -1,8 +1,8 @@
 -- Marking on the way up.
 use Rattle.std.proofs.Common.{◌≡◌, ℕ, zero, suc, ◌<◌, ◌≤◌, ◌+◌, take, Bool, true, false, if◌then◌else◌, List, [], ◌∷◌, ◌++◌, length, eqb, get_or, Some, slice_get, ◌⊎◌, inl, inr, Contains, refl, sym, ap, subst, ◌∙◌, arith}
 use Rattle.std.specs.List.{All, IsDistinct, list_any}
-use Rattle.std.proofs.lemmas.Bool.{cases_Bool, eqb-true}
-use Rattle.std.proofs.lemmas.List.Elements.{All-weaker, All-more, All-contains, All-contains_itself, Contains-get_or, All-append, Contains-push_cases, Contains-append_left, Contains-append_right}
+use Rattle.std.proofs.lemmas.Bool.{eqb-true}
+use Rattle.std.proofs.lemmas.List.Elements.{All-weaker, All-more, All-contains, All-contains_itself, Contains-get_or, All-append, Contains-push_cases, Contains-append_right}
 use Rattle.std.proofs.lemmas.List.Folds.{Any-from_list_any}
 use Rattle.std.proofs.lemmas.Map.Steps.{length-le_from_distinct_below}
 use Rattle.std.proofs.lemmas.Option.{slice_get_within, slice_get-get_or, get_or_from_slice_get, same_Some}
@@ -103,13 +103,6 @@ module _ (nodes rows : Lists) where
         contains_at new_marked at.0 place (grows.stay at.0 place (at_of_contains marked place at));
     each_row = λ state c. grows.kept state (was.each_row state c);
   }
-
-pub grows_by_list : (marked looked new_marked more : List ℕ) → ((at place : ℕ) → slice_get marked at ≡ Some place → slice_get new_marked at ≡ Some place)
-    → Grows marked looked new_marked (looked ++ more)
-grows_by_list marked looked new_marked more stay = record { stay = stay; kept = λ state c. Contains-append_left looked more state c }
-
-pub grows_itself : (marked looked : List ℕ) → Grows marked looked marked looked
-grows_itself marked looked = record { stay = λ at place there. there; kept = λ state c. c }
 
 pub grows_in_turn : (a b c d e f : List ℕ) → Grows a b c d → Grows c d e f → Grows a b e f
 grows_in_turn a b c d e f one other = record {

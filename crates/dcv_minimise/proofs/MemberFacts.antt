@@ -1,10 +1,10 @@
 -- A state that a round does not list goes with the witness of its block.
-use Rattle.std.proofs.Common.{◌≡◌, ◌≢◌, ℕ, ◌<◌, true, false, Bool, List, length, eqb, get_or, ◌⊎◌, inl, inr, Contains, refl, sym, ap, subst, ◌∙◌, arith}
+use Rattle.std.proofs.Common.{◌≡◌, ℕ, List, length, eqb, get_or, ◌⊎◌, inl, inr, Contains, refl, sym, ap, subst, ◌∙◌, arith}
 use Rattle.std.specs.Cmp.{nat_eq_equiv}
-use Rattle.std.specs.List.{All, list_any}
+use Rattle.std.specs.List.{list_any}
 use Rattle.std.proofs.lemmas.Bool.{cases_Bool, false≢true, eqb-true}
 use Rattle.std.proofs.lemmas.Map.Views.{Contains-from_any, list_any-from_Contains}
-use Rattle.dcv_dfa.specs.Raw.{RawValue, IsRaw, next_in}
+use Rattle.dcv_dfa.specs.Raw.{RawValue, IsRaw}
 use Rattle.dcv_minimise.specs.Partition.{block_of}
 use Rattle.dcv_minimise.specs.Rounds.{IsState, HaveOneRow, IsWitnessed, IsStableBut, witness_of}
 use Rattle.dcv_minimise.specs.Index.{LeadTo}

@@ -1,5 +1,5 @@
 -- Listing the states of a block, and putting states into the lists of their blocks.
-use Rattle.std.proofs.Common.{◌≡◌, ◌≢◌, ℕ, ◌<◌, ◌≤◌, ◌+◌, List, [], ◌∷◌, ◌++◌, length, eqb, get_or, set, take, Vec, ◌⊎◌, inl, inr, Contains, refl, sym, ap, subst, ◌∙◌, arith}
+use Rattle.std.proofs.Common.{◌≡◌, ◌≢◌, ℕ, ◌<◌, ◌≤◌, ◌+◌, List, [], ◌∷◌, ◌++◌, length, eqb, get_or, set, take, Vec, ◌⊎◌, inl, inr, Contains, sym, ap, subst, ◌∙◌, arith}
 use Rattle.std.specs.List.{All}
 use Rattle.std.proofs.lemmas.Bool.{cases_eq}
 use Rattle.std.proofs.lemmas.List.{length-set, get_or_default, take_more}
@@ -88,9 +88,6 @@ pub record IsOwnSoFar (blocks : List ℕ) (block : ℕ) (list : List ℕ) (count
   pub only : (state : ℕ) → Contains own state → Contains list state × (block_of blocks state ≡ block)
 
 module _ (blocks : List ℕ) (block : ℕ) (list : List ℕ) (count : ℕ) (within : count < length list) (own : List ℕ) (was : IsOwnSoFar blocks block list count own) where
-  one : ℕ
-  one = get_or list count 0
-
   cases_taken : (state : ℕ) → Contains (take (count + 1) list) state → Contains (take count list) state ⊎ (get_or list count 0 ≡ state)
   cases_taken state c = Contains-push_cases (take count list) (get_or list count 0) state (subst (λ list. Contains list state) (take_more list count 0 within) c)
 

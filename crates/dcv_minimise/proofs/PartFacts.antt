@@ -1,17 +1,15 @@
--- What inserting a part leaves: the parts as they were, or with the part at their end.
-use Rattle.std.proofs.Common.{◌≡◌, ◌≢◌, ℕ, ◌+◌, ◌≤◌, Bool, true, false, if◌then◌else◌, List, [], ◌∷◌, ◌++◌, length, Some, slice_get, nat_eq, inl, inr, refl, sym, ap, ◌∙◌, arith}
-use Rattle.std.proofs.lemmas.Bool.{false≢true, cases_Bool}
+-- What inserting a part leaves where it is not there: the parts with it at their end.
+use Rattle.std.proofs.Common.{◌≡◌, ◌≢◌, ℕ, ◌+◌, Bool, true, false, if◌then◌else◌, List, [], ◌∷◌, ◌++◌, length, Some, slice_get, nat_eq, inl, inr, refl, sym, ap, ◌∙◌}
+use Rattle.std.proofs.lemmas.Bool.{false≢true}
 use Rattle.std.specs.Bool.{Decides}
 use Rattle.std.specs.Cmp.{unsigned_Decides}
 use Rattle.std.specs.List.{list_any}
 use Rattle.std.proofs.lemmas.Bool.Decides.{Decides-and}
-use Rattle.std.proofs.lemmas.List.{length_push}
-use Rattle.std.proofs.lemmas.Option.{slice_get_within}
 use Rattle.std.proofs.lemmas.Map.Keys.{any_passes_from_place}
 use Rattle.indexmap.specs.IndexSet.{insert_key}
 use Rattle.dcv_arena.proofs.Same.{same_refs}
 use Rattle.dcv_arena.specs.contracts.nodes.RefPartialEq.TheImpl.{eq-value as ref_eq}
-use Rattle.dcv_minimise.specs.Division.{IsThere, IsAdded}
+use Rattle.dcv_minimise.specs.Division.{IsAdded}
 use Rattle.dcv_minimise.specs.declared.refine.division.Part.{Part}
 use Rattle.dcv_minimise.specs.contracts.refine.division.PartPartialEq.TheImpl.{eq-value as part_eq}
 use Rattle.dcv_minimise.proofs.Places.{pushed_cases}
@@ -34,17 +32,6 @@ module _ (count : ℕ) (old new : List Part) (was : List ℕ) (part : Part) (pla
   chosen : (found : Bool) → list_any (part_eq.it part) old ≡ found → new ≡ (if found then old else old ++ part ∷ [])
   chosen found e = inserted ∙ ap (λ found. if found then old else old ++ part ∷ []) e
 
-  pub is_there : list_any (part_eq.it part) old ≡ true → IsThere count old new was was part (count + place)
-  is_there found =
-      let same : new ≡ old = chosen true found in
-      record {
-        place = place;
-        at = ap (λ parts. slice_get parts place) (sym same) ∙ there;
-        number_is = refl;
-        parts = same;
-        witness = refl;
-      }
-
   pub is_added : (state : ℕ) → list_any (part_eq.it part) old ≡ false → IsAdded count old new was (was ++ state ∷ []) part state (count + place)
   is_added state none =
       let more : new ≡ old ++ part ∷ [] = chosen false none in
@@ -59,14 +46,3 @@ module _ (count : ℕ) (old new : List Part) (was : List ℕ) (part : Part) (pla
         parts = more;
         witness = refl;
       }
-
-  -- a place of a part is no greater than their number
-  pub place_within : place ≤ length old
-  place_within = elim (cases_Bool (list_any (part_eq.it part) old)) [
-    | inl found ↦
-        let same : new ≡ old = chosen true found in
-        omega (arith, slice_get_within old place part (ap (λ parts. slice_get parts place) (sym same) ∙ there))
-    | inr none ↦
-        let more : new ≡ old ++ part ∷ [] = chosen false none in
-        omega (arith, slice_get_within (old ++ part ∷ []) place part (ap (λ parts. slice_get parts place) (sym more) ∙ there), length_push old part)
-  ]

@@ -1,12 +1,12 @@
 -- What a round keeps: two blocks stay apart, one block has one flag, and what a round does not move leads where it did.
-use Rattle.std.proofs.Common.{◌≡◌, ◌≢◌, ℕ, ◌<◌, Bool, List, [], ◌∷◌, length, ◌⊎◌, inl, inr, Contains, sym, subst, ◌∙◌, arith}
+use Rattle.std.proofs.Common.{◌≡◌, ◌≢◌, ℕ, ◌<◌, Bool, List, [], ◌∷◌, length, inl, inr, Contains, sym, subst, ◌∙◌, arith}
 use Rattle.std.proofs.lemmas.Bool.{cases_eq}
 use Rattle.std.proofs.lemmas.List.Elements.{All-cons}
 use Rattle.dcv_arena.specs.declared.nodes.Ref.TheVariants.{Leaf}
 use Rattle.dcv_language.specs.Folding.{AreApartFrom}
 use Rattle.dcv_dfa.specs.Raw.{RawValue, IsRaw, next_in, automaton_of}
 use Rattle.dcv_minimise.specs.Partition.{block_of, IsPartition}
-use Rattle.dcv_minimise.specs.Rounds.{IsState, HaveOneRow, AreAlike, IsRound, HaveStayed, IsWitnessed, IsTold, IsStableBut, IsRefined}
+use Rattle.dcv_minimise.specs.Rounds.{IsState, IsRound, HaveStayed, IsWitnessed, IsTold, IsStableBut, IsRefined}
 use Rattle.dcv_minimise.proofs.Letters.{differ_or_agree}
 use Rattle.dcv_minimise.proofs.WitnessFacts.{few_blocks}
 

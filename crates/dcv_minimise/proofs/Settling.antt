@@ -1,6 +1,5 @@
 -- One more state is settled: it goes with the witness of its block, or moves to a part that is there, or to a new one.
-use Rattle.std.proofs.Common.{◌≡◌, ◌≢◌, ℕ, ◌<◌, ◌≤◌, ◌+◌, ◌-◌, List, [], ◌∷◌, ◌++◌, length, get_or, Some, slice_get, ◌⊎◌, inl, inr, Contains, refl, sym, ap, subst, ◌∙◌, arith}
-use Rattle.std.specs.List.{All, AllPairs}
+use Rattle.std.proofs.Common.{◌≡◌, ◌≢◌, ℕ, ◌<◌, ◌+◌, ◌-◌, List, [], ◌∷◌, ◌++◌, length, get_or, Some, slice_get, inl, inr, Contains, refl, sym, ap, subst, ◌∙◌, arith}
 use Rattle.std.proofs.lemmas.Bool.{cases_lt}
 use Rattle.std.proofs.lemmas.List.{get_or_append_left, get_or_push, get_or_default, length_push}
 use Rattle.std.proofs.lemmas.List.Elements.{All-push, All-weaker, Contains-push, Contains-append_left}
@@ -10,7 +9,7 @@ use Rattle.dcv_arena.specs.Arena.{ArenaValue, IsArena, KeepsRefs}
 use Rattle.dcv_dfa.specs.Raw.{RawValue}
 use Rattle.dcv_minimise.specs.Partition.{block_of}
 use Rattle.dcv_minimise.specs.Rounds.{IsState, HaveOneRow, AreAlike, witness_of}
-use Rattle.dcv_minimise.specs.Division.{move_to, IsGrouped, IsPart, IsMove, IsDividing, IsSettled, IsThere, IsAdded, HasNumber}
+use Rattle.dcv_minimise.specs.Division.{move_to, IsGrouped, IsPart, IsMove, IsDividing, IsSettled, HasNumber}
 use Rattle.dcv_minimise.specs.declared.refine.division.Move.{Move}
 use Rattle.dcv_minimise.specs.declared.refine.division.Part.{Part}
 use Rattle.dcv_minimise.proofs.Places.{pushed_cases}

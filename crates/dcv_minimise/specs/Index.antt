@@ -16,7 +16,7 @@ use Rattle.dcv_arena.specs.declared.nodes.Ref.{Ref}
 use Rattle.dcv_arena.specs.declared.nodes.Ref.TheVariants.{Leaf, Place}
 use Rattle.dcv_dfa.specs.Raw.{RawValue, row_of, next_in}
 use Rattle.dcv_minimise.specs.Rounds.{IsState}
-use Rattle.dcv_minimise.specs.Lists.{listed_at, HasList}
+use Rattle.dcv_minimise.specs.Lists.{listed_at}
 use Rattle.dcv_minimise.specs.declared.refine.lists.Lists.{Lists}
 
 abbrev pub IsWithin : RawValue → Ref → Type 0

@@ -1,4 +1,4 @@
-use Rattle.std.proofs.Common.{◌≡◌, length, vec_len}
+use Rattle.std.proofs.Common.{◌≡◌, length}
 use Rattle.std.specs.List.{All}
 use Rattle.dcv_arena.specs.Arena.{IsArena}
 use Rattle.dcv_automata_tests.specs.Below.{IsBelow}

@@ -1,7 +1,6 @@
-use Rattle.std.proofs.Common.{◌<◌, subst, sym, arith, inl, inr}
-use Rattle.std.specs.List.{All, Contains}
-use Rattle.std.proofs.lemmas.Bool.{cases_lt}
-use Rattle.std.proofs.lemmas.List.Elements.{All-push, Contains-push, Contains-append_left}
+use Rattle.std.proofs.Common.{◌<◌, subst, sym, arith}
+use Rattle.std.specs.List.{All}
+use Rattle.std.proofs.lemmas.List.Elements.{All-push}
 use Rattle.dcv_minimise.proofs.Pushed.{each_more}
 use Rattle.dcv_minimise.proofs.refine.every_state.Goals as goal
 

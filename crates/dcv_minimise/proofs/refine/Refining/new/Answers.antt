@@ -1,6 +1,5 @@
-use Rattle.std.proofs.Common.{◌≡◌, ◌<◌, ℕ, List, length, Contains, inl, sym, ap, subst, ◌∙◌, arith}
+use Rattle.std.proofs.Common.{◌<◌, length, Contains, inl, sym, ap, subst, ◌∙◌, arith}
 use Rattle.std.specs.List.{All}
-use Rattle.dcv_minimise.specs.Rounds.{IsState}
 use Rattle.dcv_minimise.specs.Members.{IsComplete}
 use Rattle.dcv_minimise.proofs.RoundFacts.{stable_at_start}
 use Rattle.dcv_minimise.proofs.refine.Refining.new.Goals as goal

@@ -1,8 +1,7 @@
-use Rattle.std.proofs.Common.{◌<◌, ◌+◌, [], ℕ, length, take, get_or, Some, None, slice_get, sym, subst, ap, ◌∙◌, arith, refl}
+use Rattle.std.proofs.Common.{subst, ◌∙◌, arith, refl}
 use Rattle.std.specs.List.{All}
 use Rattle.std.proofs.lemmas.List.{take_all}
-use Rattle.std.proofs.lemmas.List.Elements.{All-nil, All-more, All-weaker, All-take}
-use Rattle.dcv_minimise.specs.Rounds.{IsState}
+use Rattle.std.proofs.lemmas.List.Elements.{All-nil}
 use Rattle.dcv_minimise.specs.Division.{IsDividing, IsSettled}
 use Rattle.dcv_minimise.proofs.DivisionStart.{dividing_start, settled_more}
 use Rattle.dcv_minimise.proofs.refine.division.settle_all.Goals as goal

@@ -1,4 +1,4 @@
-use Rattle.std.proofs.Common.{length, take, subst}
+use Rattle.std.proofs.Common.{subst}
 use Rattle.std.specs.List.{All, Contains}
 use Rattle.std.proofs.lemmas.List.{take_all}
 use Rattle.dcv_minimise.proofs.MarkFacts.{MarksFirst, marks_one_more}

@@ -1,4 +1,4 @@
-use Rattle.std.proofs.Common.{◌<◌, length, refl, sym, ap, subst, ◌∙◌, arith}
+use Rattle.std.proofs.Common.{◌<◌, length, refl, ap, subst, arith}
 use Rattle.dcv_arena.specs.Arena.{ArenaValue}
 use Rattle.dcv_minimise.proofs.AddFacts.{GoesTo, AreFirstAbove, one_above}
 use Rattle.dcv_minimise.proofs.refine.index.nodes_above.Goals as goal

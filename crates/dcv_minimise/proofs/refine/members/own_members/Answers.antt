@@ -1,4 +1,4 @@
-use Rattle.std.proofs.Common.{◌≡◌, ◌≢◌, ◌+◌, ℕ, Vec, Global, take, Contains, sym, ap, subst, ◌∙◌}
+use Rattle.std.proofs.Common.{◌+◌, ℕ, Vec, Global, Contains, sym, subst, ◌∙◌}
 use Rattle.std.proofs.lemmas.List.{take_all}
 use Rattle.dcv_minimise.proofs.MemberSteps.{IsOwnSoFar, own_pushed, own_passed}
 use Rattle.dcv_minimise.proofs.refine.members.own_members.Goals as goal

@@ -1,4 +1,4 @@
-use Rattle.std.proofs.Common.{length, take, slice_index_or, slice_set, sym, subst, arith}
+use Rattle.std.proofs.Common.{take, slice_index_or, slice_set, sym, subst, arith}
 use Rattle.std.proofs.lemmas.List.{length-set, take_more, take_all}
 use Rattle.dcv_minimise.specs.Division.{move_to, HasMoved}
 use Rattle.dcv_minimise.proofs.MoveFacts.{has_moved_more}

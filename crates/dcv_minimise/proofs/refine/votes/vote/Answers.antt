@@ -1,4 +1,4 @@
-use Rattle.std.proofs.Common.{◌≡◌, ◌<◌, sym, inl, inr, refl, ◌∙◌}
+use Rattle.std.proofs.Common.{sym, ◌∙◌}
 use Rattle.dcv_minimise.specs.Partition.{block_of}
 use Rattle.dcv_minimise.proofs.ChoiceFacts.{chosen_one, found_among}
 use Rattle.dcv_minimise.proofs.refine.votes.vote.Goals as goal

@@ -1,4 +1,4 @@
-use Rattle.std.proofs.Common.{◌+◌, inl, inr, ap, sym, subst, ◌∙◌}
+use Rattle.std.proofs.Common.{◌+◌, inr, sym, subst, ◌∙◌}
 use Rattle.std.proofs.lemmas.Bool.{not-true}
 use Rattle.dcv_minimise.specs.Division.{HasNumber}
 use Rattle.dcv_minimise.proofs.PartFacts.{is_added}

@@ -1,4 +1,4 @@
-use Rattle.std.proofs.Common.{◌≡◌, ◌<◌, ◌+◌, List, [], ◌∷◌, ◌++◌, length, refl, sym, subst, ap, ◌∙◌, arith}
+use Rattle.std.proofs.Common.{◌≡◌, ◌<◌, [], ◌∷◌, ◌++◌, length, refl, sym, subst, ◌∙◌, arith}
 use Rattle.std.proofs.lemmas.Bool.{false≢true}
 use Rattle.std.proofs.lemmas.List.{get_or_read}
 use Rattle.dcv_arena.proofs.Same.{same_refs}
@@ -6,7 +6,6 @@ use Rattle.dcv_minimise.specs.Partition.{block_of}
 use Rattle.dcv_minimise.specs.Rounds.{HaveOneRow, witness_of}
 use Rattle.dcv_minimise.specs.Keys.{IsKeys, IsKeyOf}
 use Rattle.dcv_minimise.specs.Division.{move_to, IsPart, IsDividing}
-use Rattle.dcv_minimise.specs.declared.refine.division.Move.{Move}
 use Rattle.dcv_minimise.specs.declared.refine.division.Part.{Part}
 use Rattle.dcv_minimise.specs.declared.refine.keys.Keys.{Keys}
 use Rattle.dcv_minimise.proofs.WitnessFacts.{few_grouped}

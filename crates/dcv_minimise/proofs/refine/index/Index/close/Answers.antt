@@ -1,6 +1,6 @@
-use Rattle.std.proofs.Common.{◌≡◌, ℕ, ◌<◌, ◌+◌, List, length, Some, slice_get, get_or, slice_index_or, inl, inr, sym, ap, subst, ◌∙◌, arith}
+use Rattle.std.proofs.Common.{◌≡◌, ℕ, ◌<◌, List, length, Some, get_or, inl, inr, sym, ap, subst, ◌∙◌, arith}
 use Rattle.std.proofs.lemmas.Bool.{cases_lt}
-use Rattle.std.proofs.lemmas.Option.{same_Some, slice_get-get_or}
+use Rattle.std.proofs.lemmas.Option.{slice_get-get_or}
 use Rattle.dcv_arena.specs.declared.nodes.Ref.TheVariants.{Place}
 use Rattle.dcv_minimise.specs.Index.{IsFollowed}
 use Rattle.dcv_minimise.proofs.MarkFacts.{few_marked, followed_on, grows_in_turn, at_of_contains, stood_before}

@@ -1,8 +1,7 @@
-use Rattle.std.proofs.Common.{◌≡◌, length, subst, sym, refl, ◌∙◌, arith, ap}
+use Rattle.std.proofs.Common.{◌≡◌, length, subst, sym, refl, arith}
 use Rattle.std.specs.Vec.{with_items}
 use Rattle.std.proofs.lemmas.List.{with_items_is}
 use Rattle.indexmap.proofs.MapLemmas.{OnOk-map}
-use Rattle.dcv_arena.specs.declared.nodes.Ref.TheVariants.{Leaf, Place}
 use Rattle.dcv_minimise.specs.Lists.{AddsAt, Adds}
 use Rattle.dcv_minimise.specs.declared.refine.lists.Lists.{Lists}
 use Rattle.dcv_minimise.proofs.AddFacts.{adds_leaf, adds_place}

@@ -1,5 +1,4 @@
-use Rattle.std.proofs.Common.{◌≡◌, ◌<◌, ℕ, List, length, Contains, sym, ap, subst, ◌∙◌, arith}
-use Rattle.std.specs.List.{All}
+use Rattle.std.proofs.Common.{◌≡◌, ◌<◌, ℕ, List, length, Contains, ap, subst, ◌∙◌}
 use Rattle.dcv_minimise.specs.Partition.{block_of}
 use Rattle.dcv_minimise.specs.Lists.{list_at}
 use Rattle.dcv_minimise.specs.Members.{IsBlockAdded}

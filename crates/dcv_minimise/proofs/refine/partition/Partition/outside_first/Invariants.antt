@@ -1,4 +1,4 @@
-use Rattle.std.proofs.Common.{◌≡◌, ◌≢◌, ℕ, ◌<◌, length, Contains}
+use Rattle.std.proofs.Common.{◌≢◌, ℕ, ◌<◌, length, Contains}
 use Rattle.std.specs.List.{All}
 use Rattle.dcv_minimise.specs.Partition.{block_of}
 use Rattle.dcv_minimise.proofs.refine.partition.Partition.outside_first.Given as goal
