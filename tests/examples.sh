@@ -1,15 +1,14 @@
 #!/usr/bin/env bash
-# Runs ./dcvalid on every file of examples/ and compares the exit status and the first line. It says which are decided
-# today. Run it by hand: tests/examples.sh
+# Runs ./dcvalid on every file of examples/ and compares the exit status and the first line: which of them always hold. Run it by
+# hand: tests/examples.sh
 here=$(dirname "$(dirname "$(readlink -f "${BASH_SOURCE[0]}")")") || exit 1
 failed=0
 
 # the wanted status and first line of a file, which is on standard output or else on standard error
 wanted() {
   case $1 in
-    always.dc) echo '0 valid' ;;
-    door_closed.dc) echo '1 not valid' ;;
-    *) echo '3 fault form' ;;
+    always.dc | gas_burner.dc) echo '0 valid' ;;
+    *) echo '1 not valid' ;;
   esac
 }
 

@@ -1,12 +1,15 @@
 -- How the answer of a command ends a run.
-use Rattle.std.proofs.Common.{◌≡◌, ℕ, true, false, List, [], Option, None, Some, Result, Ok, Err, refl, sym, ap, subst, append-nil, zero-le}
-use Rattle.std.specs.Prelude.{OnErr, IfErr, IsTrue, MatchBool}
+use Rattle.std.proofs.Common.{◌≡◌, ℕ, true, false, List, [], Option, None, Some, Result, Ok, Err, length, refl, sym, ap, ◌∙◌, subst, append-nil, zero-le, arith}
+use Rattle.std.proofs.Math.Seq.{take-length}
+use Rattle.std.specs.Prelude.{OnOk, OnErr, IfErr, IsTrue, MatchBool, is_err, ⊤}
 use mathlib.Core.Bool.{true≢false}
 use Rattle.std.specs.Bool.{OnTrue, OnFalse}
 use Rattle.dcv_io.specs.Disk.{Disk}
-use Rattle.dcv_io.specs.Written.{Appends}
+use Rattle.dcv_io.specs.Faults.{RisesIf}
+use Rattle.dcv_io.specs.Written.{Appends, AppendsPrefix}
+use Rattle.dcv_io.specs.declared.fault.Failed.{Failed}
 use Rattle.dcv_cli.specs.declared.refusal.Refusal.{Refusal}
-use Rattle.dcv_cli.specs.declared.refusal.Refusal.TheVariants.{Usage, Open, Read, Length, Text, Form, Write, Memory}
+use Rattle.dcv_cli.specs.declared.refusal.Refusal.TheVariants.{Usage, Open, Read, Length, Text, Budget, Write, Memory}
 use Rattle.dcv_cli.specs.declared.status.Status.{Status}
 use Rattle.dcv_cli.specs.Ending.{EndsBy, IsExplained, LeavesOver, Tells}
 use Rattle.dcv_cli.specs.Outcome.{Outcome, refused}
@@ -22,6 +25,13 @@ nothing_told (Some bytes) = ap Some (sym (append-nil bytes))
 
 nothing_tells : (written : Option (List ℕ)) (count : ℕ) → Tells [] written written count count
 nothing_tells written count = record { front = (0, zero-le, nothing_told written); whole = λ none. nothing_told written }
+
+-- a message that was written, or a front of it where a write failed
+pub tells : (message : List ℕ) (old new : Option (List ℕ)) (before after : ℕ) (result : Result ⊤ Failed) → OnOk result (Appends old new message)
+    → OnErr result (AppendsPrefix old new message) → RisesIf (is_err result) before after → Tells message old new before after
+tells message old new before after (Ok done) whole front count =
+    record { front = (length message, omega arith, subst (λ (bytes : List ℕ). Appends old new bytes) (sym (take-length message)) whole); whole = λ none. whole }
+tells message old new before after (Err failed) whole front count = record { front = front; whole = λ none. absurd (true≢false (sym count.risen ∙ none)) }
 
 module _ (Right : Outcome → Type 0) (old new : Option (List ℕ)) where
   -- an answer says nothing on the messages
@@ -46,7 +56,7 @@ module _ (Right : Outcome → Type 0) (old new : Option (List ℕ)) where
       → P (message_of refusal) → OnTrue (is_determined (status_of refusal)) (EndsBy Right (status_of refusal) old new P)
   of_refusal P Length right silent told = told_refusal P Length right silent told
   of_refusal P (Text fault at) right silent told = told_refusal P (Text fault at) right silent told
-  of_refusal P Form right silent told = told_refusal P Form right silent told
+  of_refusal P (Budget over) right silent told = told_refusal P (Budget over) right silent told
   of_refusal P Usage right silent told = tt
   of_refusal P Open right silent told = tt
   of_refusal P Read right silent told = tt
@@ -70,7 +80,7 @@ module _ (P Q : Type 0) where
   of_request Read asked of = asked
   of_request Length asked of = asked
   of_request (Text fault at) asked of = asked
-  of_request Form asked of = asked
+  of_request (Budget over) asked of = asked
   of_request Write asked of = asked
 
   pub asked_for : (refusal : Refusal) (status : Status) → status ≡ status_of refusal
@@ -95,7 +105,7 @@ module _ (words : List (List ℕ)) (name : List ℕ) (told : Option Disk) (old n
   of_input Usage silent = tt
   of_input Length silent = tt
   of_input (Text fault at) silent = tt
-  of_input Form silent = tt
+  of_input (Budget over) silent = tt
   of_input Write silent = tt
   of_input Memory silent = tt
 

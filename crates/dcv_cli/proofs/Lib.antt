@@ -1,9 +1,6 @@
-pub mod EachLetter
+pub mod Budgets
 pub mod Endings
-pub mod FormTests
-pub mod Letters
 pub mod OneOutcome
 pub mod Outcomes
 pub mod Pieces
-pub mod Singles
 pub mod SomeOutcome

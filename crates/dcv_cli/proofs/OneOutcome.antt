@@ -1,29 +1,94 @@
 -- One outcome at most is right.
-use Rattle.std.proofs.Common.{◌≡◌, ℕ, ◌<◌, List, length, Option, None, Some, refl, sym, ap, ◌∙◌, subst, arith}
-use Rattle.std.specs.Prelude.{IsSomeAnd}
-use mathlib.Core.Bool.{true≢false}
+use Rattle.std.proofs.Common.{◌≡◌, ◌≢◌, ℕ, ◌<◌, Bool, true, false, List, length, Option, None, Some, refl, sym, ap, ◌∙◌, subst, arith}
+use Rattle.std.specs.Prelude.{IsSomeAnd, is_none, slice_get, if◌then◌else◌}
+use Rattle.std.specs.Option.{option_map}
 use Rattle.dcv_syntax.specs.Plain.{PlainFile}
 use Rattle.dcv_logic.specs.Models.{models}
 use Rattle.dcv_language.specs.Laws.{OneVerdict}
+use Rattle.dcv_language.specs.Verdict.{Verdict}
 use Rattle.dcv_sentence.specs.Faults.{FaultIsUnique}
+use Rattle.dcv_sentence.specs.declared.faults.ReadFault.{ReadFault}
+use Rattle.dcv_sentence.specs.declared.faults.ReadFault.TheVariants.{Byte as ByteAt, Syntax as SyntaxAt, Number as NumberAt, Name as NameAt, Nest as NestAt, Memory as ReadMemory}
 use Rattle.dcv_reader.specs.Spelling.{SpellsOne}
+use Rattle.dcv_scope.specs.CoreOf.{core_of_file}
+use Rattle.dcv_scope.specs.Steps.{PlainStep}
 use Rattle.dcv_scope.specs.Faults.{fault_of_file}
 use Rattle.dcv_scope.specs.declared.faults.ScopeFault.{ScopeFault}
+use Rattle.dcv_scope.specs.declared.faults.ScopeFault.TheVariants.{TooMany, Duplicate, Taken, Unknown, Kind, Arity, Size, Depth, Slots, Memory as ScopeMemory}
+use Rattle.dcv_explore.specs.declared.explorer.Limits.{Limits}
+use Rattle.dcv_build.specs.Laws.{OneStepIsOver, WithinExcludesOver}
+use Rattle.dcv_cli.specs.declared.limits.TheConstants.{DEFAULT_LIMITS}
+use Rattle.dcv_cli.specs.declared.over.Over.{Over}
 use Rattle.dcv_cli.specs.declared.refusal.Refusal.{Refusal}
+use Rattle.dcv_cli.specs.declared.refusal.Refusal.TheVariants.{Budget}
 use Rattle.dcv_cli.specs.declared.refusal.TheConstants.{MOST_BYTES}
-use Rattle.dcv_cli.specs.Check.{IsChecked, OtherForm, Decided}
+use Rattle.dcv_cli.specs.declared.status.Status.TheVariants.{Valid, NotValid, Usage, Formula, Budget as StatusBudget, Memory as OutOfMemory}
+use Rattle.dcv_cli.specs.Budget.{steps_of_file, kind_of, IsFirstOver}
+use Rattle.dcv_cli.specs.Check.{IsChecked, OverBudget, Decided}
 use Rattle.dcv_cli.specs.FormulaFile.{IsRefused, TooLong, Faulty, HasNoCore, IsSentence, IsFormulaFile, OnText, Refused, Read}
 use Rattle.dcv_cli.specs.Laws.{OneOutcome}
 use Rattle.dcv_cli.specs.Outcome.{Outcome, refused, answered, Agrees}
-use Rattle.dcv_cli.specs.Refusal.{Which, Only, refusal_of_reading, refusal_of_scope}
+use Rattle.dcv_cli.specs.Refusal.{Which, Only, status_of, refusal_of_reading, refusal_of_scope}
 use Rattle.dcv_cli.specs.Request.{Request, Check, AsksFor, IsTaken}
 use Rattle.dcv_cli.specs.Right.{Fulfils, Misused, Fulfilled}
+use Rattle.dcv_cli.specs.Status.{status_of_verdict}
 
--- outcomes that are the same agree
-same_agrees : (one other : Outcome) → one ≡ other → Agrees one other
-same_agrees one other e = record { status = ap (λ (o : Outcome). o.status) e; report = ap (λ (o : Outcome). o.out) e; message = λ told. ap (λ (o : Outcome). o.err) e }
+-- outcomes that are the same agree, where they are of no step over the limits
+same_agrees : (one other : Outcome) → one ≡ other → one.status ≢ StatusBudget → Agrees one other
+same_agrees one other e within = record {
+  status = ap (λ (o : Outcome). o.status) e;
+  report = ap (λ (o : Outcome). o.out) e;
+  message = λ taken within. ap (λ (o : Outcome). o.err) e;
+  step = λ over. absurd (within over);
+}
 
-module _ (one_tree : SpellsOne) (one_fault : FaultIsUnique) (one_verdict : OneVerdict) where
+-- ---- statuses that are not that of a step over the limits
+
+no_usage_budget : Usage ≢ StatusBudget
+no_usage_budget e = cc
+
+no_formula_budget : Formula ≢ StatusBudget
+no_formula_budget e = cc
+
+no_memory_budget : OutOfMemory ≢ StatusBudget
+no_memory_budget e = cc
+
+reading_is_formula : (fault : ReadFault) → status_of (refusal_of_reading fault) ≢ StatusBudget
+reading_is_formula (ByteAt at) = no_formula_budget
+reading_is_formula (SyntaxAt at) = no_formula_budget
+reading_is_formula (NumberAt at) = no_formula_budget
+reading_is_formula (NameAt at) = no_formula_budget
+reading_is_formula (NestAt at) = no_formula_budget
+reading_is_formula ReadMemory = no_memory_budget
+
+scope_is_formula : (fault : ScopeFault) → status_of (refusal_of_scope fault) ≢ StatusBudget
+scope_is_formula (TooMany at) = no_formula_budget
+scope_is_formula (Duplicate at) = no_formula_budget
+scope_is_formula (Taken at) = no_formula_budget
+scope_is_formula (Unknown at) = no_formula_budget
+scope_is_formula (Kind at) = no_formula_budget
+scope_is_formula (Arity at) = no_formula_budget
+scope_is_formula (Size at) = no_formula_budget
+scope_is_formula (Depth at) = no_formula_budget
+scope_is_formula (Slots at) = no_formula_budget
+scope_is_formula ScopeMemory = no_memory_budget
+
+refused_is_formula : (text : List ℕ) (refusal : Refusal) → IsRefused text refusal → status_of refusal ≢ StatusBudget
+refused_is_formula text refusal (TooLong long e) over = no_formula_budget (sym (ap status_of e) ∙ over)
+refused_is_formula text refusal (Faulty short fault is e) over = reading_is_formula fault (sym (ap status_of e) ∙ over)
+refused_is_formula text refusal (HasNoCore file is fault has e) over = scope_is_formula fault (sym (ap status_of e) ∙ over)
+
+answer_is_no_refusal : (verdict : Verdict) → status_of_verdict verdict ≢ StatusBudget
+answer_is_no_refusal verdict e = by (is_none verdict.counterexample) e
+  where
+    by : (none : Bool) → (if none then Valid else NotValid) ≢ StatusBudget
+    by true e = cc
+    by false e = cc
+
+one_some : (first second : ℕ) → Some first ≡ Some second → first ≡ second
+one_some first second e = cc
+
+module _ (one_tree : SpellsOne) (one_fault : FaultIsUnique) (one_verdict : OneVerdict) (one_step : OneStepIsOver) (none_over : WithinExcludesOver) where
   one_sentence : (text : List ℕ) (f g : PlainFile) → IsSentence text f → IsSentence text g → f ≡ g
   one_sentence text f g s t = one_tree text f g s.spelled t.spelled
 
@@ -63,28 +128,56 @@ module _ (one_tree : SpellsOne) (one_fault : FaultIsUnique) (one_verdict : OneVe
   one_file text f g s t = one_sentence text f g s.sentence t.sentence
 
   one_on_text : (text : List ℕ) (which : Which) (RightFor : PlainFile → Outcome → Type 0)
-      → ((file : PlainFile) (a b : Outcome) → RightFor file a → RightFor file b → a ≡ b)
-      → (a b : Outcome) → OnText text which RightFor a → OnText text which RightFor b → a ≡ b
-  one_on_text text which RightFor one a b (Refused r is e) (Refused s is' e') = e ∙ ap (λ r. refused r which) (one_refusal text r s is is') ∙ sym e'
+      → ((file : PlainFile) (a b : Outcome) → RightFor file a → RightFor file b → Agrees a b)
+      → (a b : Outcome) → OnText text which RightFor a → OnText text which RightFor b → Agrees a b
+  one_on_text text which RightFor one a b (Refused r is e) (Refused s is' e') =
+      same_agrees a b (e ∙ ap (λ r. refused r which) (one_refusal text r s is is') ∙ sym e')
+      (λ over. refused_is_formula text r is (sym (ap (λ (o : Outcome). o.status) e) ∙ over))
   one_on_text text which RightFor one a b (Refused r is e) (Read file is' right) = absurd (refused_or_read text r file is is')
   one_on_text text which RightFor one a b (Read file is right) (Refused s is' e') = absurd (refused_or_read text s file is' is)
   one_on_text text which RightFor one a b (Read f is right) (Read g is' right') =
       one f a b right (subst (λ (file : PlainFile). RightFor file b) (one_file text g f is' is) right')
 
   one_on_file : (text : Option (List ℕ)) (which : Which) (RightFor : PlainFile → Outcome → Type 0)
-      → ((file : PlainFile) (a b : Outcome) → RightFor file a → RightFor file b → a ≡ b)
-      → (a b : Outcome) → IsSomeAnd text (λ bytes. OnText bytes which RightFor a) → IsSomeAnd text (λ bytes. OnText bytes which RightFor b) → a ≡ b
+      → ((file : PlainFile) (a b : Outcome) → RightFor file a → RightFor file b → Agrees a b)
+      → (a b : Outcome) → IsSomeAnd text (λ bytes. OnText bytes which RightFor a) → IsSomeAnd text (λ bytes. OnText bytes which RightFor b) → Agrees a b
   one_on_file None which RightFor one a b p q = absurd p
   one_on_file (Some text) which RightFor one a b p q = one_on_text text which RightFor one a b p q
 
-  one_check : (file : PlainFile) (a b : Outcome) → IsChecked file a → IsChecked file b → a ≡ b
-  one_check file a b (OtherForm other e) (OtherForm other' e') = e ∙ sym e'
-  one_check file a b (OtherForm other e) (Decided form v is e') = absurd (true≢false (sym form ∙ other))
-  one_check file a b (Decided form v is e) (OtherForm other e') = absurd (true≢false (sym form ∙ other))
-  one_check file a b (Decided form v is e) (Decided form' u is' e') = e ∙ ap answered (one_verdict (length file.variables) (models file) v u is is') ∙ sym e'
+  -- one step is the first over the limits, and its part of the text begins at one place
+  one_over : (limits : Limits) (file : PlainFile) (a b : Outcome) (over another : Over) → IsFirstOver limits file over → IsFirstOver limits file another
+      → a ≡ refused (Budget over) Only → b ≡ refused (Budget another) Only → Agrees a b
+  one_over limits file a b over another is is' e e' =
+      let same : over.step ≡ another.step =
+      one_step (length file.variables) (core_of_file file) limits (kind_of over.excess) (kind_of another.excess) over.step another.step is.is_over is'.is_over in
+      let places : Some over.at ≡ Some another.at =
+      sym is.begins ∙ ap (λ number. option_map (λ (step : PlainStep). step.span.start) (slice_get (steps_of_file file) number)) same ∙ is'.begins in
+      record {
+        status = ap (λ (o : Outcome). o.status) e ∙ sym (ap (λ (o : Outcome). o.status) e');
+        report = ap (λ (o : Outcome). o.out) e ∙ sym (ap (λ (o : Outcome). o.out) e');
+        message = λ taken within. absurd (within (ap (λ (o : Outcome). o.status) e));
+        step = λ budget. record {
+          first = over;
+          second = another;
+          one_is = ap (λ (o : Outcome). o.err) e;
+          other_is = ap (λ (o : Outcome). o.err) e';
+          step = same;
+          place = one_some over.at another.at places;
+        };
+      }
 
-  one_fulfilled : (request : Request) (held : List ℕ → Option (List ℕ)) (a b : Outcome) → Fulfils request held a → Fulfils request held b → a ≡ b
-  one_fulfilled (Check name) held a b p q = one_on_file (held name) Only IsChecked one_check a b p q
+  one_check : (limits : Limits) (file : PlainFile) (a b : Outcome) → IsChecked limits file a → IsChecked limits file b → Agrees a b
+  one_check limits file a b (OverBudget over is e) (OverBudget another is' e') = one_over limits file a b over another is is' e e'
+  one_check limits file a b (OverBudget over is e) (Decided within v is' e') =
+      absurd (none_over (length file.variables) (core_of_file file) limits (kind_of over.excess) over.step within is.is_over)
+  one_check limits file a b (Decided within v is' e') (OverBudget over is e) =
+      absurd (none_over (length file.variables) (core_of_file file) limits (kind_of over.excess) over.step within is.is_over)
+  one_check limits file a b (Decided within v is e) (Decided within' u is' e') =
+      same_agrees a b (e ∙ ap answered (one_verdict (length file.variables) (models file) v u is is') ∙ sym e')
+      (λ over. answer_is_no_refusal v (sym (ap (λ (o : Outcome). o.status) e) ∙ over))
+
+  one_fulfilled : (request : Request) (held : List ℕ → Option (List ℕ)) (a b : Outcome) → Fulfils request held a → Fulfils request held b → Agrees a b
+  one_fulfilled (Check name) held a b p q = one_on_file (held name) Only (IsChecked DEFAULT_LIMITS) (one_check DEFAULT_LIMITS) a b p q
 
   -- words that ask for something are taken, and ask for one thing
   taken_of_asked : (words : List (List ℕ)) (request : Request) → AsksFor words request → IsTaken words
@@ -98,9 +191,9 @@ module _ (one_tree : SpellsOne) (one_fault : FaultIsUnique) (one_verdict : OneVe
 
   pub one_outcome : OneOutcome
   one_outcome words held one other (Misused not s o) (Misused not' s' o') =
-      record { status = s ∙ sym s'; report = o ∙ sym o'; message = λ told. absurd (told s) }
+      record { status = s ∙ sym s'; report = o ∙ sym o'; message = λ told within. absurd (told s); step = λ budget. absurd (no_usage_budget (sym s ∙ budget)) }
   one_outcome words held one other (Misused not s o) (Fulfilled request asked right) = absurd (not (taken_of_asked words request asked))
   one_outcome words held one other (Fulfilled request asked right) (Misused not s o) = absurd (not (taken_of_asked words request asked))
   one_outcome words held one other (Fulfilled r asked right) (Fulfilled s asked' right') =
-      same_agrees one other (one_fulfilled r held one other right
-      (subst (λ (request : Request). Fulfils request held other) (one_request words s r asked' asked) right'))
+      one_fulfilled r held one other right
+      (subst (λ (request : Request). Fulfils request held other) (one_request words s r asked' asked) right')

@@ -1,7 +1,7 @@
 -- How each step of a command leads to a right outcome.
-use Rattle.std.proofs.Common.{◌≡◌, ◌≢◌, ℕ, suc, ◌<◌, ◌≤◌, List, [], length, replicate, Option, None, Some, Err, Vec, Global, refl, ap, inl, inr, arith}
+use Rattle.std.proofs.Common.{◌≡◌, ◌≢◌, ℕ, suc, ◌<◌, ◌≤◌, List, [], length, replicate, Option, None, Some, Err, Vec, Global, refl, inl, inr, arith}
 use Rattle.std.specs.Bool.{OnTrue}
-use Rattle.std.specs.Prelude.{Bool, true, false, IfSome, IsSome, is_some, IsTrue, IsFalse}
+use Rattle.std.specs.Prelude.{Bool, true, false, IfSome, IsTrue, is_none, if◌then◌else◌}
 use Rattle.std.proofs.Math.ListN.{length-replicate}
 use Rattle.std.proofs.Math.Seq.{take-length}
 use Rattle.dcv_io.specs.Disk.{Disk, held_of, WhereTold, ReadsPast}
@@ -21,71 +21,87 @@ use Rattle.dcv_scope.specs.Faults.{fault_of_file}
 use Rattle.dcv_scope.specs.declared.faults.ScopeFault.{ScopeFault}
 use Rattle.dcv_scope.specs.declared.faults.ScopeFault.TheVariants.{TooMany, Duplicate, Taken, Unknown, Kind, Arity, Size, Depth, Slots}
 use Rattle.dcv_scope.specs.declared.faults.ScopeFault.TheVariants.{Memory as ScopeMemory}
+use Rattle.dcv_cli.specs.declared.limits.TheConstants.{DEFAULT_LIMITS}
 use Rattle.dcv_cli.specs.declared.refusal.TheConstants.{MOST_BYTES}
 use Rattle.dcv_cli.specs.declared.refusal.Refusal.{Refusal}
-use Rattle.dcv_cli.specs.declared.refusal.Refusal.TheVariants.{Usage, Open, Read as ReadRefusal, Length, Text, Form, Write, Memory}
+use Rattle.dcv_cli.specs.declared.refusal.Refusal.TheVariants.{Usage, Open, Read as ReadRefusal, Length, Text, Budget, Write, Memory}
 use Rattle.dcv_cli.specs.declared.status.Status.{Status}
-use Rattle.dcv_cli.specs.Check.{IsChecked, OtherForm, Decided}
+use Rattle.dcv_scope.specs.Steps.{PlainStep}
+use Rattle.dcv_explore.specs.declared.explorer.Limits.{Limits}
+use Rattle.dcv_build.specs.Budget.{IsWithinBudget}
+use Rattle.dcv_cli.specs.Budget.{steps_of_file, NamesFirstOver}
+use Rattle.dcv_cli.specs.Check.{IsChecked, OverBudget, Decided}
 use Rattle.dcv_cli.specs.Ending.{EndsBy, IsExplained, AddsFront, StopsWithin}
-use Rattle.dcv_cli.specs.FirstForm.{is_first_form}
 use Rattle.dcv_cli.specs.FormulaFile.{TooLong, Faulty, HasNoCore, IsSentence, IsFormulaFile, OnText, Refused, Read}
 use Rattle.dcv_cli.specs.Outcome.{Outcome, refused}
-use Rattle.dcv_cli.specs.Refusal.{Only, status_of, refusal_of_taking, refusal_of_reading, refusal_of_scope}
+use Rattle.dcv_cli.specs.Refusal.{Only, status_of, is_of_text, refusal_of_taking, refusal_of_reading, refusal_of_scope}
 use Rattle.dcv_cli.specs.Request.{Request, Check, AsksFor}
 use Rattle.dcv_cli.specs.Right.{Fulfilled, FulfilsOver, IsRightOver}
 use Rattle.dcv_cli.specs.declared.check.Report.{Report}
 use Rattle.dcv_cli.specs.Seen.{reported}
-use Rattle.dcv_cli.specs.Status.{is_determined, status_of_verdict}
+use Rattle.dcv_cli.specs.declared.status.Status.TheVariants.{Valid, NotValid}
+use Rattle.dcv_cli.specs.Status.{is_determined, is_answer, status_of_verdict}
 
 -- ---- for a text
 
 -- a refusal of the reader is right
-pub explains_reading : (text : List ℕ) (fault : ReadFault) → length text ≤ MOST_BYTES → (fault ≢ ReadMemory → IsFirstFault text fault)
-    → IsExplained (OnText text Only IsChecked) (refusal_of_reading fault)
-explains_reading text (ByteAt at) short is = Refused _ (Faulty short (ByteAt at) (is (λ e. cc)) refl) refl
-explains_reading text (SyntaxAt at) short is = Refused _ (Faulty short (SyntaxAt at) (is (λ e. cc)) refl) refl
-explains_reading text (NumberAt at) short is = Refused _ (Faulty short (NumberAt at) (is (λ e. cc)) refl) refl
-explains_reading text (NameAt at) short is = Refused _ (Faulty short (NameAt at) (is (λ e. cc)) refl) refl
-explains_reading text (NestAt at) short is = Refused _ (Faulty short (NestAt at) (is (λ e. cc)) refl) refl
-explains_reading text ReadMemory short is = tt
+pub explains_reading : (limits : Limits) (text : List ℕ) (fault : ReadFault) → length text ≤ MOST_BYTES → (fault ≢ ReadMemory → IsFirstFault text fault)
+    → IsExplained (OnText text Only (IsChecked limits)) (refusal_of_reading fault)
+explains_reading limits text (ByteAt at) short is = Refused _ (Faulty short (ByteAt at) (is (λ e. cc)) refl) refl
+explains_reading limits text (SyntaxAt at) short is = Refused _ (Faulty short (SyntaxAt at) (is (λ e. cc)) refl) refl
+explains_reading limits text (NumberAt at) short is = Refused _ (Faulty short (NumberAt at) (is (λ e. cc)) refl) refl
+explains_reading limits text (NameAt at) short is = Refused _ (Faulty short (NameAt at) (is (λ e. cc)) refl) refl
+explains_reading limits text (NestAt at) short is = Refused _ (Faulty short (NestAt at) (is (λ e. cc)) refl) refl
+explains_reading limits text ReadMemory short is = tt
 
 -- a refusal of the names or of the goal is right
-pub explains_scope : (text : List ℕ) (file : PlainFile) (fault : ScopeFault) → IsSentence text file
-    → (fault ≢ ScopeMemory → fault_of_file file ≡ Some fault) → IsExplained (OnText text Only IsChecked) (refusal_of_scope fault)
-explains_scope text file (TooMany at) holds is = Refused _ (HasNoCore file holds (TooMany at) (is (λ e. cc)) refl) refl
-explains_scope text file (Duplicate at) holds is = Refused _ (HasNoCore file holds (Duplicate at) (is (λ e. cc)) refl) refl
-explains_scope text file (Taken at) holds is = Refused _ (HasNoCore file holds (Taken at) (is (λ e. cc)) refl) refl
-explains_scope text file (Unknown at) holds is = Refused _ (HasNoCore file holds (Unknown at) (is (λ e. cc)) refl) refl
-explains_scope text file (Kind at) holds is = Refused _ (HasNoCore file holds (Kind at) (is (λ e. cc)) refl) refl
-explains_scope text file (Arity at) holds is = Refused _ (HasNoCore file holds (Arity at) (is (λ e. cc)) refl) refl
-explains_scope text file (Size at) holds is = Refused _ (HasNoCore file holds (Size at) (is (λ e. cc)) refl) refl
-explains_scope text file (Depth at) holds is = Refused _ (HasNoCore file holds (Depth at) (is (λ e. cc)) refl) refl
-explains_scope text file (Slots at) holds is = Refused _ (HasNoCore file holds (Slots at) (is (λ e. cc)) refl) refl
-explains_scope text file ScopeMemory holds is = tt
+pub explains_scope : (limits : Limits) (text : List ℕ) (file : PlainFile) (fault : ScopeFault) → IsSentence text file
+    → (fault ≢ ScopeMemory → fault_of_file file ≡ Some fault) → IsExplained (OnText text Only (IsChecked limits)) (refusal_of_scope fault)
+explains_scope limits text file (TooMany at) holds is = Refused _ (HasNoCore file holds (TooMany at) (is (λ e. cc)) refl) refl
+explains_scope limits text file (Duplicate at) holds is = Refused _ (HasNoCore file holds (Duplicate at) (is (λ e. cc)) refl) refl
+explains_scope limits text file (Taken at) holds is = Refused _ (HasNoCore file holds (Taken at) (is (λ e. cc)) refl) refl
+explains_scope limits text file (Unknown at) holds is = Refused _ (HasNoCore file holds (Unknown at) (is (λ e. cc)) refl) refl
+explains_scope limits text file (Kind at) holds is = Refused _ (HasNoCore file holds (Kind at) (is (λ e. cc)) refl) refl
+explains_scope limits text file (Arity at) holds is = Refused _ (HasNoCore file holds (Arity at) (is (λ e. cc)) refl) refl
+explains_scope limits text file (Size at) holds is = Refused _ (HasNoCore file holds (Size at) (is (λ e. cc)) refl) refl
+explains_scope limits text file (Depth at) holds is = Refused _ (HasNoCore file holds (Depth at) (is (λ e. cc)) refl) refl
+explains_scope limits text file (Slots at) holds is = Refused _ (HasNoCore file holds (Slots at) (is (λ e. cc)) refl) refl
+explains_scope limits text file ScopeMemory holds is = tt
 
--- a file that is not decided is refused
-pub explains_other_form : (text : List ℕ) (file : PlainFile) → IsFormulaFile text file → IsFalse (is_first_form file)
-    → OnText text Only IsChecked (refused Form Only)
-explains_other_form text file holds other = Read file holds (OtherForm other refl)
+-- a step that is over the limits is named
+pub explains_over : (limits : Limits) (text : List ℕ) (file : PlainFile) (refusal : Refusal) → IsFormulaFile text file
+    → NamesFirstOver (steps_of_file file) limits refusal → IsExplained (OnText text Only (IsChecked limits)) refusal
+explains_over limits text file (Budget over) holds is = Read file holds (OverBudget over is refl)
+explains_over limits text file Memory holds is = tt
+explains_over limits text file _ holds is = absurd is
+
+-- and is a refusal of the text
+pub over_is_of_text : (steps : List PlainStep) (limits : Limits) (refusal : Refusal) → NamesFirstOver steps limits refusal → IsTrue (is_of_text refusal)
+over_is_of_text steps limits (Budget over) is = refl
+over_is_of_text steps limits Memory is = refl
+over_is_of_text steps limits _ is = absurd is
 
 -- the verdict, in bytes and with its status
-pub answers_verdict : (text : List ℕ) (file : PlainFile) (verdict : Verdict) (status : Status) (out : List ℕ)
-    → IsFormulaFile text file → IsTrue (is_first_form file) → IsVerdict (length file.variables) (models file) verdict
+pub answers_verdict : (limits : Limits) (text : List ℕ) (file : PlainFile) (verdict : Verdict) (status : Status) (out : List ℕ)
+    → IsFormulaFile text file → IsWithinBudget (steps_of_file file) limits → IsVerdict (length file.variables) (models file) verdict
     → status ≡ status_of_verdict verdict → out ≡ verdict_text verdict
-    → OnText text Only IsChecked (record { status = status; out = out; err = [] })
-answers_verdict text file verdict status out holds form is s o =
-    Read file holds (Decided form verdict is (λ i. record { status = s i; out = o i; err = [] }))
+    → OnText text Only (IsChecked limits) (record { status = status; out = out; err = [] })
+answers_verdict limits text file verdict status out holds within is s o =
+    Read file holds (Decided within verdict is (λ i. record { status = s i; out = o i; err = [] }))
 
--- what the decision did not answer is of another form
-pub other_of_none : {X : Type 0} (form : Bool) (verdict : Option X) → verdict ≡ None → (IsTrue form → IsSome verdict) → IsFalse form
-other_of_none true verdict none some = let wrong : IsSome verdict = some refl in absurd (let none_is : is_some verdict ≡ false = ap is_some none in cc)
-other_of_none false verdict none some = refl
+-- such a run answers
+pub answer_of_verdict : (verdict : Verdict) → IsTrue (is_answer (status_of_verdict verdict))
+answer_of_verdict verdict = by (is_none verdict.counterexample)
+  where
+    by : (none : Bool) → IsTrue (is_answer (if none then Valid else NotValid))
+    by true = refl
+    by false = refl
 
 -- ---- for a file
 
 -- what is right for a text is right for the name where it is held, or may be
 pub fulfils_check : (told : Option Disk) (name text : List ℕ) (outcome : Outcome) → IfSome (held_of told) (λ held. held name ≡ Some text)
-    → OnText text Only IsChecked outcome → FulfilsOver (Check name) told outcome
+    → OnText text Only (IsChecked DEFAULT_LIMITS) outcome → FulfilsOver (Check name) told outcome
 fulfils_check None name text outcome there right = record { held = λ n. Some text; same = tt; holds = right }
 fulfils_check (Some disk) name text outcome there right = record { held = disk.held; same = refl; holds = rw there right }
 
@@ -114,10 +130,10 @@ explains_taking told new name TakeMemory past = tt
 
 -- a refusal of the text is one of what is held
 pub explains_text : (told : Option Disk) (name text : List ℕ) (refusal : Refusal) → IfSome (held_of told) (λ held. held name ≡ Some text)
-    → IsExplained (OnText text Only IsChecked) refusal → IsExplained (FulfilsOver (Check name) told) refusal
+    → IsExplained (OnText text Only (IsChecked DEFAULT_LIMITS)) refusal → IsExplained (FulfilsOver (Check name) told) refusal
 explains_text told name text Length there h = fulfils_check told name text _ there h
 explains_text told name text (Text fault at) there h = fulfils_check told name text _ there h
-explains_text told name text Form there h = fulfils_check told name text _ there h
+explains_text told name text (Budget over) there h = fulfils_check told name text _ there h
 explains_text told name text Usage there h = tt
 explains_text told name text Open there h = tt
 explains_text told name text ReadRefusal there h = tt
@@ -158,7 +174,7 @@ on_true true h = h
 on_true false h = tt
 
 module _ (told : Option Disk) (name text : List ℕ) (report : Report) (old new : Option (List ℕ))
-    (there : IfSome (held_of told) (λ held. held name ≡ Some text)) (right : OnText text Only IsChecked (reported report)) where
+    (there : IfSome (held_of told) (λ held. held name ≡ Some text)) (right : OnText text Only (IsChecked DEFAULT_LIMITS) (reported report)) where
   fulfils : FulfilsOver (Check name) told (reported report)
   fulfils = fulfils_check told name text (reported report) there right
 

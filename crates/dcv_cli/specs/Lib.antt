@@ -4,11 +4,10 @@ pub mod Status
 pub mod Refusal
 pub mod Outcome
 pub mod FormulaFile
-pub mod FirstForm
+pub mod Budget
 pub mod Check
 pub mod Right
 pub mod Ending
 pub mod Laws
--- how clauses within the crate see values of the code, and what the decision of the first form rests on
+-- how clauses within the crate see values of the code
 pub mod Seen
-pub mod Demand

@@ -1,5 +1,6 @@
 -- What each refusal says, and what it comes from.
 --     words_of refusal       the words of its line, as `fault syntax at 12`
+--     over_words over        those of the first step that is over the limits, as `budget states 30000 at 12 step 3`
 --     message_of refusal     the line
 --     ended which words      the words where a request reads more than one formula file, and this one is refused
 use Rattle.std.specs.Prelude.{ℕ, Bool, true, false, List, ◌++◌, Option, None, Some, Result, Err, codes}
@@ -13,19 +14,23 @@ use Rattle.dcv_scope.specs.declared.faults.ScopeFault.TheVariants.{TooMany as Ma
 use Rattle.dcv_scope.specs.declared.faults.ScopeFault.TheVariants.{Kind as KindAt, Arity as ArityAt, Size as SizeAt, Depth as DepthAt, Slots as SlotsAt}
 use Rattle.dcv_scope.specs.declared.faults.ScopeFault.TheVariants.{Memory as ScopeMemory}
 use Rattle.dcv_language.specs.VerdictText.{line}
+use Rattle.dcv_cli.specs.declared.over.Excess.{Excess}
+use Rattle.dcv_cli.specs.declared.over.Excess.TheVariants.{States, Nodes}
+use Rattle.dcv_cli.specs.declared.over.Over.{Over}
 use Rattle.dcv_cli.specs.declared.refusal.TheConstants.{MOST_BYTES}
 use Rattle.dcv_cli.specs.declared.refusal.Refusal.{Refusal}
-use Rattle.dcv_cli.specs.declared.refusal.Refusal.TheVariants.{Usage, Open, Read, Length, Text, Form, Write, Memory}
+use Rattle.dcv_cli.specs.declared.refusal.Refusal.TheVariants.{Usage, Open, Read, Length, Text, Budget, Write, Memory}
 use Rattle.dcv_cli.specs.declared.refusal.TextFault.{TextFault}
 use Rattle.dcv_cli.specs.declared.refusal.TextFault.TheVariants.{Byte, Syntax, Number, Name, Nest, Many, Duplicate, Taken, Unknown, Kind, Arity, Size, Depth, Slots}
 use Rattle.dcv_cli.specs.declared.status.Status.{Status}
-use Rattle.dcv_cli.specs.declared.status.Status.TheVariants.{Usage as StatusUsage, Formula, Input, Output, Memory as StatusMemory}
+use Rattle.dcv_cli.specs.declared.status.Status.TheVariants.{Usage as StatusUsage, Formula, Budget as StatusBudget, Input, Output, Memory as StatusMemory}
 
 abbrev pub status_of : Refusal → Status
 status_of Usage = StatusUsage
 status_of Open = Input
 status_of Read = Input
 status_of Write = Output
+status_of (Budget over) = StatusBudget
 status_of Memory = StatusMemory
 status_of _ = Formula
 
@@ -53,7 +58,7 @@ word_of Open = codes "open"
 word_of Read = codes "read"
 word_of Length = codes "length"
 word_of (Text fault at) = text_word_of fault
-word_of Form = codes "form"
+word_of (Budget over) = codes "budget"
 word_of Write = codes "write"
 word_of Memory = codes "memory"
 
@@ -67,8 +72,29 @@ abbrev pub with_place : List ℕ → Option ℕ → List ℕ
 with_place words None = words
 with_place words (Some at) = words ++ codes " at " ++ decimal at
 
+abbrev pub fault_words : Refusal → List ℕ
+fault_words refusal = with_place (codes "fault " ++ word_of refusal) (place_of refusal)
+
+-- what a step has too many of, in a word
+abbrev pub excess_word_of : Excess → List ℕ
+excess_word_of States = codes "states"
+excess_word_of Nodes = codes "nodes"
+
+abbrev pub over_words : Over → List ℕ
+over_words over =
+    codes "budget " ++ excess_word_of over.excess ++ codes " " ++ decimal over.limit ++ codes " at " ++ decimal over.at ++ codes " step " ++ decimal over.step
+
+-- what is over the limits, where that is why
+abbrev pub over_of : Refusal → Option Over
+over_of (Budget over) = Some over
+over_of _ = None
+
+abbrev pub over_or_fault : Option Over → List ℕ → List ℕ
+over_or_fault None fault = fault
+over_or_fault (Some over) fault = over_words over
+
 abbrev pub words_of : Refusal → List ℕ
-words_of refusal = with_place (codes "fault " ++ word_of refusal) (place_of refusal)
+words_of refusal = over_or_fault (over_of refusal) (fault_words refusal)
 
 abbrev pub message_of : Refusal → List ℕ
 message_of refusal = line (words_of refusal)

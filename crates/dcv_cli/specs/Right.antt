@@ -4,6 +4,7 @@
 --     ForHeld told P                    P of what the files tell that they hold
 use Rattle.std.specs.Prelude.{◌≡◌, ℕ, List, [], Option, IfSome}
 use Rattle.dcv_io.specs.Disk.{Disk, held_of}
+use Rattle.dcv_cli.specs.declared.limits.TheConstants.{DEFAULT_LIMITS}
 use Rattle.dcv_cli.specs.declared.status.Status.TheVariants.{Usage}
 use Rattle.dcv_cli.specs.Check.{IsChecked}
 use Rattle.dcv_cli.specs.FormulaFile.{OnFile}
@@ -12,7 +13,7 @@ use Rattle.dcv_cli.specs.Refusal.{Only}
 use Rattle.dcv_cli.specs.Request.{Request, Check, AsksFor, IsTaken}
 
 abbrev pub Fulfils : Request → (List ℕ → Option (List ℕ)) → Outcome → Type 0
-Fulfils (Check name) held outcome = OnFile held name Only IsChecked outcome
+Fulfils (Check name) held outcome = OnFile held name Only (IsChecked DEFAULT_LIMITS) outcome
 
 -- Words that are no command's are refused, in whatever words. Else what fulfils their request is right.
 pub data IsRight (words : List (List ℕ)) (held : List ℕ → Option (List ℕ)) (outcome : Outcome) : Type 0 where

@@ -2,7 +2,7 @@
 use Rattle.std.specs.Prelude.{ℕ, Bool, true, false, is_none, if◌then◌else◌}
 use Rattle.dcv_language.specs.Verdict.{Verdict}
 use Rattle.dcv_cli.specs.declared.status.Status.{Status}
-use Rattle.dcv_cli.specs.declared.status.Status.TheVariants.{Valid, NotValid, Usage, Formula, Input, Output, Memory}
+use Rattle.dcv_cli.specs.declared.status.Status.TheVariants.{Valid, NotValid, Usage, Formula, Budget, Input, Output, Memory}
 
 -- the program's exit status
 abbrev pub code_of : Status → ℕ
@@ -10,6 +10,7 @@ code_of Valid = 0
 code_of NotValid = 1
 code_of Usage = 2
 code_of Formula = 3
+code_of Budget = 4
 code_of Input = 5
 code_of Output = 6
 code_of Memory = 7
@@ -29,12 +30,14 @@ abbrev pub is_determined : Status → Bool
 is_determined Valid = true
 is_determined NotValid = true
 is_determined Formula = true
+is_determined Budget = true
 is_determined _ = false
 
 -- the status of a run that is refused before anything is written, whatever it was asked for
 abbrev pub is_silent : Status → Bool
 is_silent Usage = true
 is_silent Formula = true
+is_silent Budget = true
 is_silent _ = false
 
 -- the status of a run that a fault of the files ended

@@ -1,5 +1,5 @@
 // The command `check`: from a file's name to the verdict of its formula.
-ghost use Rattle.std.specs.Prelude.{◌≡◌, ◌≤◌, [], ◌∷◌, is_err, length, IfOk, IfErr, OnErr, IsFalse, IsTrue};
+ghost use Rattle.std.specs.Prelude.{◌≡◌, ◌≤◌, [], ◌∷◌, length, IfOk, IfErr, OnErr, IsFalse, IsTrue};
 ghost use Rattle.std.specs.Bool.{OnFalse, OnTrue};
 ghost use Rattle.dcv_io.specs.Asked.{Asks};
 ghost use Rattle.dcv_io.specs.Disk.{held_of};
@@ -14,12 +14,16 @@ ghost use Rattle.dcv_cli.specs.Right.{FulfilsOver};
 ghost use Rattle.dcv_cli.specs.Seen.{reported};
 ghost use Rattle.dcv_cli.specs.Status.{is_answer};
 
-use crate::decision::decide;
+use crate::budget::{automaton_of, verdict_of};
+use crate::limits::DEFAULT_LIMITS;
 use crate::refusal::{MOST_BYTES, Refusal};
 use crate::status::Status;
+use dcv_explore::Limits;
 use dcv_io::{Files, Sink, read_all, write_all};
+use dcv_language::laws::verdict_of_same_behaviours;
 use dcv_reader::read_file;
 use dcv_scope::expand;
+use dcv_scope::laws::core_means_text;
 use std::alloc::Global;
 
 /// What is written for a file that is not refused, and the status with which the run then ends.
@@ -54,28 +58,28 @@ pub fn check<F: Files, O: Sink>(
     ensures held { held_of (F.told files.new) ≡ held_of (F.told files.old) }
 {
     let text = read_all(alloc, files, name, MOST_BYTES)?;
-    let report = judge(alloc, &text)?;
+    let report = judge(alloc, &text, DEFAULT_LIMITS)?;
     write_all(out, &report.text)?;
     Ok(report.status)
 }
 
 // The verdict of the formula that the text spells.
-fn judge(alloc: Global, text: &[u8]) -> Result<Report, Refusal>
+fn judge(alloc: Global, text: &[u8], limits: Limits) -> Result<Report, Refusal>
     requires { length text.now ≤ MOST_BYTES }
-    ensures ok { IfOk result (λ report. OnText text.now Only IsChecked (reported report)) }
+    ensures ok { IfOk result (λ report. OnText text.now Only (IsChecked limits) (reported report)) }
     ensures answer { IfOk result (λ report. IsTrue (is_answer report.status)) }
-    ensures refused { IfErr result (IsExplained (OnText text.now Only IsChecked)) }
+    ensures refused { IfErr result (IsExplained (OnText text.now Only (IsChecked limits))) }
     ensures own { IfErr result (λ refusal. IsTrue (is_of_text refusal)) }
 {
+    core_means_text();
+    verdict_of_same_behaviours();
     let file = read_file(alloc, text)?;
     let core = expand(alloc, &file);
-    let verdict = decide(alloc, &file);
     // for the prover: a tree that is dropped at the end would give each exit an arm for each form of a formula
     drop(file);
-    core?;
-    let Some(verdict) = verdict? else {
-        return Err(Refusal::Form);
-    };
+    let core = core?;
+    let auto = automaton_of(alloc, &core, limits)?;
+    let verdict = verdict_of(alloc, &auto)?;
     Ok(Report {
         status: Status::of(&verdict),
         text: verdict.text(alloc)?,

@@ -1,6 +1,7 @@
 //! Laws on what is right, each the contract of a function that does nothing.
 ghost use Rattle.dcv_cli.specs.Laws.{OneOutcome, SomeOutcome};
 
+use dcv_build::laws::one_step_is_over;
 use dcv_language::laws::one_verdict;
 use dcv_reader::laws::{one_fault, one_tree, some_reading};
 
@@ -12,10 +13,11 @@ pub fn one_outcome()
     one_tree();
     one_fault();
     one_verdict();
+    one_step_is_over();
 }
 
-/// Some outcome is right for all words, where the files that they name are held. So no words and no text leave
-/// [`run`](crate::run) nothing to answer but that memory has run out.
+/// Some outcome is right for all words, where the files that they name are held, unless the text is that of a formula file. So no words
+/// and no text that has a fault leave [`run`](crate::run) nothing to answer but that memory has run out.
 pub fn some_outcome()
     ensures { SomeOutcome }
 {

@@ -12,9 +12,11 @@
 //! `not valid`, `satisfiable`, a counterexample of the one instant `0` and an example of the one instant `1`.
 #![tactic(auto)]
 
+mod budget;
 mod check;
-mod decision;
 pub mod laws;
+mod limits;
+mod over;
 mod refusal;
 mod running;
 mod status;

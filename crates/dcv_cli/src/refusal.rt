@@ -4,8 +4,11 @@ ghost use Rattle.std.specs.List.{flat_map};
 ghost use Rattle.dcv_io.specs.Faults.{RisesIf};
 ghost use Rattle.dcv_io.specs.Written.{Appends, AppendsPrefix};
 ghost use Rattle.dcv_cli.specs.declared.refusal.Refusal.TheVariants.{Memory, Text, Write};
-ghost use Rattle.dcv_cli.specs.Refusal.{status_of, text_word_of, word_of, place_of, message_of, refusal_of_taking, refusal_of_reading, refusal_of_scope};
+ghost use Rattle.dcv_language.specs.VerdictText.{line};
+ghost use Rattle.dcv_cli.specs.Refusal.{status_of, text_word_of, word_of, over_of, place_of, fault_words, message_of};
+ghost use Rattle.dcv_cli.specs.Refusal.{refusal_of_taking, refusal_of_reading, refusal_of_scope};
 
+use crate::over::Over;
 use crate::status::Status;
 use dcv_io::{Failed, Sink, TakeFault, write_all};
 use dcv_reader::ReadFault;
@@ -86,8 +89,8 @@ pub enum Refusal {
     Length,
     /// The file's text is no formula file, as the byte at this offset shows.
     Text { fault: TextFault, at: u32 },
-    /// The file's formula has no form that can be decided.
-    Form,
+    /// A step of the file's formula is over the limits.
+    Budget(Over),
     /// The report could not be written.
     Write,
     /// Memory ran out.
@@ -102,7 +105,8 @@ impl Refusal {
         match self {
             Refusal::Usage => Status::Usage,
             Refusal::Open | Refusal::Read => Status::Input,
-            Refusal::Length | Refusal::Text { .. } | Refusal::Form => Status::Formula,
+            Refusal::Length | Refusal::Text { .. } => Status::Formula,
+            Refusal::Budget(_) => Status::Budget,
             Refusal::Write => Status::Output,
             Refusal::Memory => Status::Memory,
         }
@@ -118,9 +122,19 @@ impl Refusal {
             Refusal::Read => b"read",
             Refusal::Length => b"length",
             Refusal::Text { fault, .. } => fault.word(),
-            Refusal::Form => b"form",
+            Refusal::Budget(_) => b"budget",
             Refusal::Write => b"write",
             Refusal::Memory => b"memory",
+        }
+    }
+
+    // What is over the limits, where that is why.
+    fn over(self) -> Option<Over>
+        ensures { result ≡ over_of self }
+    {
+        match self {
+            Refusal::Budget(over) => Some(over),
+            _ => None,
         }
     }
 
@@ -139,6 +153,18 @@ impl Refusal {
     pub fn tell<S: Sink>(self, sink: &mut S) -> Result<(), Failed>
         ensures ok { OnOk result (Appends (S.written sink.old) (S.written sink.new) (message_of self)) }
         ensures failed { OnErr result (AppendsPrefix (S.written sink.old) (S.written sink.new) (message_of self)) }
+        ensures faults { RisesIf (is_err result) (S.faults sink.old) (S.faults sink.new) }
+    {
+        match self.over() {
+            Some(over) => over.tell(sink),
+            None => self.tell_fault(sink),
+        }
+    }
+
+    // Writes the line of a fault.
+    fn tell_fault<S: Sink>(self, sink: &mut S) -> Result<(), Failed>
+        ensures ok { OnOk result (Appends (S.written sink.old) (S.written sink.new) (line (fault_words self))) }
+        ensures failed { OnErr result (AppendsPrefix (S.written sink.old) (S.written sink.new) (line (fault_words self))) }
         ensures faults { RisesIf (is_err result) (S.faults sink.old) (S.faults sink.new) }
     {
         let word = self.word();
@@ -161,7 +187,7 @@ fn of_text(fault: TextFault, at: u32) -> Refusal
 }
 
 // Writes the pieces, one after another, up to the first write that fails.
-fn write_pieces<S: Sink>(sink: &mut S, pieces: &[&[u8]]) -> Result<(), Failed>
+pub(crate) fn write_pieces<S: Sink>(sink: &mut S, pieces: &[&[u8]]) -> Result<(), Failed>
     ensures ok { OnOk result (Appends (S.written sink.old) (S.written sink.new) (flat_map (λ piece. piece.now) pieces.now)) }
     ensures failed { OnErr result (AppendsPrefix (S.written sink.old) (S.written sink.new) (flat_map (λ piece. piece.now) pieces.now)) }
     ensures faults { RisesIf (is_err result) (S.faults sink.old) (S.faults sink.new) }

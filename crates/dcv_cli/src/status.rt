@@ -14,8 +14,10 @@ pub enum Status {
     NotValid,
     /// The words ask for nothing that the program does.
     Usage,
-    /// The file holds no formula that can be decided.
+    /// The file holds no formula: its text has a fault.
     Formula,
+    /// A step of the formula is over the limits.
+    Budget,
     /// The file could not be opened or read.
     Input,
     /// The report could not be written.
@@ -45,6 +47,7 @@ impl Status {
             Status::NotValid => 1,
             Status::Usage => 2,
             Status::Formula => 3,
+            Status::Budget => 4,
             Status::Input => 5,
             Status::Output => 6,
             Status::Memory => 7,

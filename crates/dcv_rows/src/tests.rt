@@ -11,6 +11,9 @@ use std::test::Fail;
 // The longest text that a formula file may have.
 const MOST_BYTES: usize = 262_144;
 
+// Room for each report and each message of these tests.
+const ROOM: usize = 30_000;
+
 // What a run wrote, and its exit status.
 #[derive(Drop)]
 struct Ran {
@@ -48,8 +51,8 @@ fn run_of(alloc: Global, words: &[&str], text: &[u8], outside: &Outside) -> Resu
     }
     let mut files = MemFiles::new(alloc, outside.reads, outside.failing_reads)?;
     files.hold("f", text)?;
-    let mut out = MemSink::new(alloc, 1000, outside.writes, outside.failing_writes)?;
-    let mut err = MemSink::new(alloc, 1000, &[], outside.failing_messages)?;
+    let mut out = MemSink::new(alloc, ROOM, outside.writes, outside.failing_writes)?;
+    let mut err = MemSink::new(alloc, ROOM, &[], outside.failing_messages)?;
     let status = run(alloc, &given, &mut files, &mut out, &mut err);
     Ok(Ran {
         status: status.code(),
@@ -85,7 +88,10 @@ const ALWAYS_OF_NONE: &str = "valid\nsatisfiable\nexample 1\n-\n";
 
 const NEVER: &str = "not valid\nnot satisfiable\ncounterexample 1\n0\n";
 
-const OTHER_FORM: &str = "fault form\n";
+// What is said of `pt`, which holds at one instant alone.
+const ONE_INSTANT: &str = "not valid\nsatisfiable\ncounterexample 2\n0\n0\nexample 1\n0\n";
+
+const ONE_INSTANT_OF_NONE: &str = "not valid\nsatisfiable\ncounterexample 2\n-\n-\nexample 1\n-\n";
 
 #[test]
 fn verdicts_of_texts(rt: HostRuntime) -> Result<(), Fail> {
@@ -101,13 +107,23 @@ fn verdicts_of_texts(rt: HostRuntime) -> Result<(), Fail> {
             SOMETIMES,
             "",
         ),
-        ("var p, q; infer [[p]];", 3, "", OTHER_FORM),
-        ("var p; infer <p> ^ true;", 3, "", OTHER_FORM),
+        ("var p; infer true^<p>;", 1, SOMETIMES, ""),
+        ("var p; infer all q. (<q> => <p>);", 1, SOMETIMES, ""),
+        ("var p; infer (<p>)* <=> pt;", 0, ALWAYS, ""),
+        ("infer pt^pt;", 1, ONE_INSTANT_OF_NONE, ""),
+        ("var p; infer ({{p}})*;", 1, ONE_INSTANT, ""),
+        // a quantifier of a macro captures nothing of the caller
         (
             "var q; define F(a) as (ex q. [[q <=> a]]); infer F(!q);",
-            3,
+            0,
+            ALWAYS,
             "",
-            OTHER_FORM,
+        ),
+        (
+            "var p; prop g(a) as !a; infer [[g(g(p))]] <=> [[p]];",
+            0,
+            ALWAYS,
+            "",
         ),
     ] {
         expect(
@@ -117,6 +133,108 @@ fn verdicts_of_texts(rt: HostRuntime) -> Result<(), Fail> {
             text.as_bytes(),
             &WHOLE,
             (status, out, err),
+        )?;
+    }
+    Ok(())
+}
+
+// Texts that are not valid and satisfiable, each with its counterexample and its example.
+#[test]
+fn least_behaviours_of_texts(rt: HostRuntime) -> Result<(), Fail> {
+    let alloc = rt.alloc();
+    for (text, behaviours) in [
+        (
+            "var p; infer !<p> && [[p]];",
+            "counterexample 1\n0\nexample 2\n1\n1\n",
+        ),
+        (
+            "var p, q; infer [p]^<q>;",
+            "counterexample 1\n00\nexample 2\n10\n01\n",
+        ),
+        (
+            "infer ex q. [q]^<!q>;",
+            "counterexample 1\n-\nexample 2\n-\n-\n",
+        ),
+        (
+            "var p; infer scount p >= 2;",
+            "counterexample 1\n0\nexample 2\n1\n1\n",
+        ),
+        (
+            "var p; infer sdur p >= 2;",
+            "counterexample 1\n0\nexample 3\n1\n1\n0\n",
+        ),
+        (
+            "var p, q; infer [[p && q]];",
+            "counterexample 1\n00\nexample 1\n11\n",
+        ),
+        (
+            "var a,b,c,d,e;infer [[a]];",
+            "counterexample 1\n00000\nexample 1\n10000\n",
+        ),
+    ] {
+        let out = format!(in alloc; "not valid\nsatisfiable\n{behaviours}")?;
+        expect(
+            &rt,
+            alloc,
+            &["check", "f"],
+            text.as_bytes(),
+            &WHOLE,
+            (1, out.as_str(), ""),
+        )?;
+    }
+    let never = "not valid\nnot satisfiable\ncounterexample 1\n-\n";
+    expect(
+        &rt,
+        alloc,
+        &["check", "f"],
+        b"infer false;",
+        &WHOLE,
+        (1, never, ""),
+    )?;
+    Ok(())
+}
+
+// A counterexample of 10,001 instants.
+#[test]
+fn longest_counterexample(rt: HostRuntime) -> Result<(), Fail> {
+    let alloc = rt.alloc();
+    let mut out = String::from_str(alloc, "not valid\nsatisfiable\ncounterexample 10001\n")?;
+    for _ in 0..10_001 {
+        out.push_str("-\n")?;
+    }
+    out.push_str("example 1\n-\n")?;
+    expect(
+        &rt,
+        alloc,
+        &["check", "f"],
+        b"infer slen <= 9999;",
+        &WHOLE,
+        (1, out.as_str(), ""),
+    )?;
+    Ok(())
+}
+
+// The pairs of two counts of 202 and of 10,002 states are more than the limit of 30,000.
+#[test]
+fn steps_over_the_limits(rt: HostRuntime) -> Result<(), Fail> {
+    let alloc = rt.alloc();
+    for (text, err) in [
+        (
+            "var p, q; infer scount p = 200 && scount q = 200;",
+            "budget states 30000 at 16 step 2\n",
+        ),
+        (
+            "var p, q; infer pt || (scount p >= 9999 <=> scount q >= 9999);",
+            "budget states 30000 at 23 step 3\n",
+        ),
+    ] {
+        expect(
+            &rt,
+            alloc,
+            &["check", "f"],
+            text.as_bytes(),
+            &WHOLE,
+            (4, "", err),
         )?;
     }
     Ok(())
@@ -211,17 +329,28 @@ fn repeated(alloc: Global, piece: &str, count: usize) -> Result<String, AllocErr
     Ok(text)
 }
 
+// `pt` in so many parentheses.
+fn nested(alloc: Global, count: usize) -> Result<String, AllocError> {
+    let mut text = String::from_str(alloc, "infer ")?;
+    for _ in 0..count {
+        text.push('(')?;
+    }
+    text.push_str("pt")?;
+    for _ in 0..count {
+        text.push(')')?;
+    }
+    text.push(';')?;
+    Ok(text)
+}
+
 #[test]
 fn faults_of_goals(rt: HostRuntime) -> Result<(), Fail> {
     let alloc = rt.alloc();
     for (text, err) in [
         (doubled(alloc, 2, 30)?, "fault size at 778\n"),
         (doubled(alloc, 3, 256)?, "fault size at 7420\n"),
-        (doubled(alloc, 2, 15)?, OTHER_FORM),
         (repeated(alloc, "[]", 171)?, "fault depth at 6\n"),
-        (repeated(alloc, "[]", 170)?, OTHER_FORM),
         (repeated(alloc, "ex a. ", 33)?, "fault slots at 6\n"),
-        (repeated(alloc, "ex a. ", 32)?, OTHER_FORM),
     ] {
         expect(
             &rt,
@@ -230,6 +359,29 @@ fn faults_of_goals(rt: HostRuntime) -> Result<(), Fail> {
             text.as_bytes(),
             &WHOLE,
             (3, "", err),
+        )?;
+    }
+    Ok(())
+}
+
+// The largest goals that are decided: of 49,151 nodes, as deep as may be, with as many slots as may be (a table over all letters
+// would have 2^32 columns), and with as many parentheses as may be. All of them hold at one instant alone.
+#[test]
+fn goals_within_the_limits(rt: HostRuntime) -> Result<(), Fail> {
+    let alloc = rt.alloc();
+    for text in [
+        doubled(alloc, 2, 15)?,
+        repeated(alloc, "[]", 170)?,
+        repeated(alloc, "ex a. ", 32)?,
+        nested(alloc, 500)?,
+    ] {
+        expect(
+            &rt,
+            alloc,
+            &["check", "f"],
+            text.as_bytes(),
+            &WHOLE,
+            (1, ONE_INSTANT_OF_NONE, ""),
         )?;
     }
     Ok(())
@@ -251,16 +403,12 @@ fn chain(alloc: Global, body: &str) -> Result<String, AllocError> {
 #[test]
 fn arguments_that_are_not_used(rt: HostRuntime) -> Result<(), Fail> {
     let alloc = rt.alloc();
-    for (body, err) in [("pt", OTHER_FORM), ("[[a]]", "fault size at 2887\n")] {
+    for (body, wanted) in [
+        ("pt", (1, ONE_INSTANT, "")),
+        ("[[a]]", (3, "", "fault size at 2887\n")),
+    ] {
         let text = chain(alloc, body)?;
-        expect(
-            &rt,
-            alloc,
-            &["check", "f"],
-            text.as_bytes(),
-            &WHOLE,
-            (3, "", err),
-        )?;
+        expect(&rt, alloc, &["check", "f"], text.as_bytes(), &WHOLE, wanted)?;
     }
     Ok(())
 }

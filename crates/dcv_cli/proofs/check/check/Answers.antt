@@ -2,6 +2,7 @@
 use Rattle.std.proofs.Common.{ℕ, List, subst}
 use Rattle.std.proofs.lemmas.Result.{err_from_is_err_and}
 use Rattle.dcv_io.specs.Written.{Appends, AppendsStrictPrefix}
+use Rattle.dcv_cli.specs.declared.limits.TheConstants.{DEFAULT_LIMITS}
 use Rattle.dcv_cli.specs.Check.{IsChecked}
 use Rattle.dcv_cli.specs.Ending.{IsExplained}
 use Rattle.dcv_cli.specs.FormulaFile.{OnText}
@@ -19,29 +20,29 @@ pub returns-in_err-report-clause-refused : goal.returns-in_err-report-clause-ref
 returns-in_err-report-clause-refused g c =
     let p = err_from_is_err_and c.from_residual-in_err-report.result c.from_residual-in_err-report.ensures.1 in
     rw (p.1, p.2) (explains_text (g.F.Files.told c.args.files.now) c.args.name.now c.in_ok-text.text.items c.in_err-report.field-0.0 c.in_ok-text.ensures.ok
-    (subst (λ (text : List ℕ). IsExplained (OnText text Only IsChecked) c.in_err-report.field-0.0) c.deref.ensures.value c.in_err-report.ensures.refused))
+    (subst (λ (text : List ℕ). IsExplained (OnText text Only (IsChecked DEFAULT_LIMITS)) c.in_err-report.field-0.0) c.deref.ensures.value c.in_err-report.ensures.refused))
 
 pub returns-in_err-write_all-clause-front : goal.returns-in_err-write_all-clause-front
 returns-in_err-write_all-clause-front g c =
     part_front (g.F.Files.told c.args.files.now) c.args.name.now c.in_ok-text.text.items c.in_ok-report.report (g.O.Sink.written c.args.out.now) (g.O.Sink.written c.write_all.new.sink)
-    c.in_ok-text.ensures.ok (subst (λ (text : List ℕ). OnText text Only IsChecked (reported c.in_ok-report.report)) c.deref.ensures.value c.in_ok-report.ensures.ok)
+    c.in_ok-text.ensures.ok (subst (λ (text : List ℕ). OnText text Only (IsChecked DEFAULT_LIMITS) (reported c.in_ok-report.report)) c.deref.ensures.value c.in_ok-report.ensures.ok)
     (subst (AppendsStrictPrefix (g.O.Sink.written c.args.out.now) (g.O.Sink.written c.write_all.new.sink)) c.deref-2.ensures.value c.in_err-write_all.ensures.failed)
 
 pub returns-in_err-write_all-clause-stops : goal.returns-in_err-write_all-clause-stops
 returns-in_err-write_all-clause-stops g c =
     on_true _
     (part_stops (g.F.Files.told c.args.files.now) c.args.name.now c.in_ok-text.text.items c.in_ok-report.report (g.O.Sink.written c.args.out.now) (g.O.Sink.written c.write_all.new.sink)
-    c.in_ok-text.ensures.ok (subst (λ (text : List ℕ). OnText text Only IsChecked (reported c.in_ok-report.report)) c.deref.ensures.value c.in_ok-report.ensures.ok)
+    c.in_ok-text.ensures.ok (subst (λ (text : List ℕ). OnText text Only (IsChecked DEFAULT_LIMITS) (reported c.in_ok-report.report)) c.deref.ensures.value c.in_ok-report.ensures.ok)
     (subst (AppendsStrictPrefix (g.O.Sink.written c.args.out.now) (g.O.Sink.written c.write_all.new.sink)) c.deref-2.ensures.value c.in_err-write_all.ensures.failed))
 
 pub returns-clause-ok : goal.returns-clause-ok
 returns-clause-ok g c =
     whole_ends (g.F.Files.told c.args.files.now) c.args.name.now c.in_ok-text.text.items c.in_ok-report.report (g.O.Sink.written c.args.out.now) (g.O.Sink.written c.write_all.new.sink)
-    c.in_ok-text.ensures.ok (subst (λ (text : List ℕ). OnText text Only IsChecked (reported c.in_ok-report.report)) c.deref.ensures.value c.in_ok-report.ensures.ok)
+    c.in_ok-text.ensures.ok (subst (λ (text : List ℕ). OnText text Only (IsChecked DEFAULT_LIMITS) (reported c.in_ok-report.report)) c.deref.ensures.value c.in_ok-report.ensures.ok)
     (subst (Appends (g.O.Sink.written c.args.out.now) (g.O.Sink.written c.write_all.new.sink)) c.deref-2.ensures.value c.in_ok-write_all.ensures.ok)
 
 pub returns-clause-front : goal.returns-clause-front
 returns-clause-front g c =
     whole_front (g.F.Files.told c.args.files.now) c.args.name.now c.in_ok-text.text.items c.in_ok-report.report (g.O.Sink.written c.args.out.now) (g.O.Sink.written c.write_all.new.sink)
-    c.in_ok-text.ensures.ok (subst (λ (text : List ℕ). OnText text Only IsChecked (reported c.in_ok-report.report)) c.deref.ensures.value c.in_ok-report.ensures.ok)
+    c.in_ok-text.ensures.ok (subst (λ (text : List ℕ). OnText text Only (IsChecked DEFAULT_LIMITS) (reported c.in_ok-report.report)) c.deref.ensures.value c.in_ok-report.ensures.ok)
     (subst (Appends (g.O.Sink.written c.args.out.now) (g.O.Sink.written c.write_all.new.sink)) c.deref-2.ensures.value c.in_ok-write_all.ensures.ok)

@@ -1,0 +1,68 @@
+#!/usr/bin/env bash
+# Measures whole runs of `dcvalid check`: the least time of so many runs (RUNS, 5 by custom) in milliseconds, start and end of the process
+# included, and the most memory that one took. With MONA=1 each file of examples/ and each small chain is asked of MONA too (Debian's
+# package `mona`), as bench/to_mona.py puts it; a line below tells the length of its least counterexample.
+#
+#   bench/check.sh            every case
+#   bench/check.sh CASE..     these
+#
+#   the examples        each file of examples/
+#   slen N, scount N    a chain: `slen <= N`, `scount p >= N`
+#   product N           a state for each pair of counts up to N
+#   projection N        a quantifier over a count up to N
+#   window N            at most 3 instants with p in any N: a set of counts
+#   m14                 macros that double: 32,767 steps
+#   slots 32            a goal with as many quantifiers as may be
+#
+# Goals: a start at most 5 ms, slen 9999 at most 200 ms, product 150 (some 23,000 states) at most 200 ms, m14 at most 2 s.
+set -euo pipefail
+here=$(cd "$(dirname "$(readlink -f "${BASH_SOURCE[0]}")")" && pwd)
+program=$here/../crates/dcvalid/out/dcvalid
+[ -x "$program" ] || { echo "build the program first: ./dcvalid check examples/always.dc" >&2; exit 1; }
+files=$(mktemp -d)
+trap 'rm -rf "$files"' EXIT
+
+cp "$here"/../examples/*.dc "$files"
+echo 'infer true;' >"$files/start"
+for n in 99 999 9999; do
+  echo "infer slen <= $n;" >"$files/slen $n"
+  echo "var p; infer scount p >= $n;" >"$files/scount $n"
+done
+for n in 50 100 150; do
+  echo "var p, q; infer scount p <= $n && scount q <= $n;" >"$files/product $n"
+done
+for n in 99 999; do
+  echo "var p; infer ex q. [[q <=> !p]] && scount q >= $n;" >"$files/projection $n"
+done
+for n in 10 20 30; do
+  echo "var p; infer [](slen < $n => scount p <= 3);" >"$files/window $n"
+done
+awk 'BEGIN { print "define m0 as pt;"; for (i = 1; i < 15; i++) printf "define m%d as m%d && m%d;\n", i, i - 1, i - 1; print "infer m14;" }' >"$files/m14"
+{ printf 'infer '; for _ in $(seq 32); do printf 'ex a. '; done; echo 'pt;'; } >"$files/slots 32"
+
+# The least time and the most memory of the command, and its first line.
+measure() {
+  local least= most= begun took kept
+  for _ in $(seq "${RUNS:-5}"); do
+    begun=${EPOCHREALTIME/./}
+    /usr/bin/time -o "$files/.kept" -f %M "$@" >"$files/.out" 2>"$files/.err" || true
+    took=$((${EPOCHREALTIME/./} - begun))
+    kept=$(tail -n 1 "$files/.kept")
+    [ -n "$least" ] && [ "$least" -le "$took" ] || least=$took
+    [ -n "$most" ] && [ "$most" -ge "$kept" ] || most=$kept
+  done
+  awk -v t="$least" -v m="$most" 'BEGIN { printf "%9.1f ms %7.1f MB", t / 1000, m / 1024 }'
+}
+
+printf '%-22s %12s %10s  %s\n' case time memory answer
+for file in "$files"/*; do
+  name=$(basename "$file")
+  [ $# -eq 0 ] || [[ " $* " == *" $name "* ]] || continue
+  figures=$(measure "$program" check "$file")
+  printf '%-22s %s  %s\n' "$name" "$figures" "$(cat "$files/.out" "$files/.err" | head -n 1)"
+  if [ -n "${MONA:-}" ] && [[ $name != *9999 && $name != slots* && $name != m14 ]]; then
+    python3 "$here/to_mona.py" "$file" >"$files/.mona"
+    figures=$(measure timeout 60 mona -q "$files/.mona")
+    printf '%-22s %s  %s\n' '  by MONA' "$figures" "$(grep -m 1 -i -E 'valid|least length' "$files/.out")"
+  fi
+done

@@ -1,0 +1,96 @@
+-- What `build` answers of a core is what is right for the steps of its file, and the verdict of its automaton is that of its words.
+use Rattle.std.proofs.Common.{◌≡◌, ℕ, ◌<◌, List, length, map, Option, None, Some, Result, Ok, Err, sym, ap, ◌∙◌, subst}
+use Rattle.std.specs.Prelude.{IfOk, slice_get}
+use Rattle.std.specs.Option.{option_map}
+use Rattle.std.proofs.lemmas.Option.{slice_get-map, slice_get_within}
+use Rattle.dcv_language.specs.Language.{Language, HaveSameBehaviours}
+use Rattle.dcv_language.specs.Laws.{VerdictOfSameBehaviours}
+use Rattle.dcv_language.specs.Verdict.{Verdict, IsVerdict}
+use Rattle.dcv_syntax.specs.Plain.{PlainFile}
+use Rattle.dcv_logic.specs.Models.{models}
+use Rattle.dcv_scope.specs.Core.{CoreTree}
+use Rattle.dcv_scope.specs.CoreOf.{core_of_file}
+use Rattle.dcv_scope.specs.Holds.{words_of}
+use Rattle.dcv_scope.specs.Laws.{WordsAreModels}
+use Rattle.dcv_scope.specs.Steps.{PlainCore, PlainStep, CoreStep, without_core, steps_of}
+use Rattle.dcv_dfa.specs.Laws.{TableAcceptsAsTheStates}
+use Rattle.dcv_dfa.specs.Raw.{RawValue, IsRaw, raw_accepts}
+use Rattle.dcv_language.specs.Table.{table_accepts}
+use Rattle.dcv_dfa.specs.Auto.{IsAuto, table_of_states}
+use Rattle.dcv_explore.specs.declared.explorer.Limits.{Limits}
+use Rattle.dcv_explore.specs.Budget.{Kind}
+use Rattle.dcv_build.specs.Budget.{IsAutomatonOf, IsOver, IsWithinBudget}
+use Rattle.dcv_build.specs.Given.{IsCoreOf}
+use Rattle.dcv_cli.specs.declared.over.Excess.{Excess}
+use Rattle.dcv_cli.specs.declared.over.Over.{Over}
+use Rattle.dcv_cli.specs.declared.refusal.Refusal.{Refusal}
+use Rattle.dcv_cli.specs.Budget.{steps_of_file, kind_of, limit_of, IsFirstOverIn, NamesFirstOver}
+
+-- ---- steps of a core, with and without their trees
+
+-- the place of a step that is over the limits is one of the core's
+pub over_is_there : (core : PlainCore) (tree : CoreTree) (limits : Limits) (kind : Kind) (step : ℕ) → IsCoreOf tree core
+    → IsOver (steps_of core.declared tree) limits kind step → step < length core.steps
+over_is_there core tree limits kind step is over = slice_get_within core.steps step (without_core over.step) (ap (λ steps. slice_get steps step) is
+    ∙ slice_get-map without_core (steps_of core.declared tree) step ∙ ap (option_map without_core) over.is_there)
+
+begins_there : (steps : List PlainStep) (step at : ℕ) → option_map (λ (s : CoreStep). s.span.start) (slice_get (map without_core steps) step) ≡ Some at
+    → option_map (λ (s : PlainStep). s.span.start) (slice_get steps step) ≡ Some at
+begins_there steps step at begins = by (slice_get steps step) (ap (option_map (λ (s : CoreStep). s.span.start)) (sym (slice_get-map without_core steps step)) ∙ begins)
+  where
+    by : (found : Option PlainStep) → option_map (λ (s : CoreStep). s.span.start) (option_map without_core found) ≡ Some at
+        → option_map (λ (s : PlainStep). s.span.start) found ≡ Some at
+    by None e = e
+    by (Some s) e = e
+
+module _ (core : PlainCore) (tree : CoreTree) (limits : Limits) (is : IsCoreOf tree core) where
+  pub first_over : (excess : Excess) (limit step : ℕ) (over : Over) → limit ≡ limit_of excess limits
+      → IsOver (steps_of core.declared tree) limits (kind_of excess) step → over.excess ≡ excess → over.limit ≡ limit → over.step ≡ step
+      → option_map (λ (s : CoreStep). s.span.start) (slice_get core.steps step) ≡ Some over.at → IsFirstOverIn (steps_of core.declared tree) limits over
+  first_over excess limit step over limit_is is_over same_excess same_limit same_step begins = record {
+    is_over =
+        subst (λ e. IsOver (steps_of core.declared tree) limits (kind_of e) over.step) (sym same_excess)
+        (subst (λ n. IsOver (steps_of core.declared tree) limits (kind_of excess) n) (sym same_step) is_over);
+    limit = same_limit ∙ limit_is ∙ ap (λ e. limit_of e limits) (sym same_excess);
+    begins =
+        begins_there (steps_of core.declared tree) over.step over.at
+        (ap (λ steps. option_map (λ (s : CoreStep). s.span.start) (slice_get steps over.step)) (sym is)
+        ∙ ap (λ n. option_map (λ (s : CoreStep). s.span.start) (slice_get core.steps n)) same_step ∙ begins);
+  }
+
+-- ---- verdicts
+
+-- the verdict of what an automaton accepts is that of each set whose canonical automaton it is
+pub verdict_of_automaton : {E V : Type 0} (seen : V → Verdict) (accept : TableAcceptsAsTheStates) (move : VerdictOfSameBehaviours)
+    (auto : RawValue) (result : Result V E) → IsRaw auto → IsAuto auto → IfOk result (λ v. IsVerdict auto.arena.slots (raw_accepts auto) (seen v))
+    → (k : ℕ) (L : Language) → IsAutomatonOf k L auto → IfOk result (λ v. IsVerdict k L (seen v))
+verdict_of_automaton seen accept move auto (Err e) raw is verdict k L of = tt
+verdict_of_automaton seen accept move auto (Ok v) raw is verdict k L of =
+    let same : HaveSameBehaviours k (raw_accepts auto) L = λ word b.
+    sym (subst (λ k. HaveSameBehaviours k (table_accepts (table_of_states auto)) (raw_accepts auto)) of.slots (accept auto raw is.start) word b) ∙ of.canonical.exact word b in
+    move k (raw_accepts auto) L (seen v) same (subst (λ k. IsVerdict k (raw_accepts auto) (seen v)) of.slots verdict)
+
+-- ---- what is said of a core, said of the file that it is of
+
+module _ (file : PlainFile) (core : PlainCore) (declared : core.declared ≡ length file.variables) (steps : core.steps ≡ map without_core (steps_of_file file)) where
+  core_of_the_file : IsCoreOf (core_of_file file) core
+  core_of_the_file = subst (λ k. core.steps ≡ map without_core (steps_of k (core_of_file file))) (sym declared) steps
+
+  pub over_in_file : (limits : Limits) (refusal : Refusal) → ((tree : CoreTree) → IsCoreOf tree core → NamesFirstOver (steps_of core.declared tree) limits refusal)
+      → NamesFirstOver (steps_of_file file) limits refusal
+  over_in_file limits refusal over =
+      subst (λ k. NamesFirstOver (steps_of k (core_of_file file)) limits refusal) declared (over (core_of_file file) core_of_the_file)
+
+  pub within_in_file : (limits : Limits) → ((tree : CoreTree) → IsCoreOf tree core → IsWithinBudget (steps_of core.declared tree) limits)
+      → IsWithinBudget (steps_of_file file) limits
+  within_in_file limits within =
+      subst (λ k. IsWithinBudget (steps_of k (core_of_file file)) limits) declared (within (core_of_file file) core_of_the_file)
+
+  pub verdict_of_file : (auto : RawValue) (verdict : Verdict) → WordsAreModels → VerdictOfSameBehaviours
+      → ((tree : CoreTree) → IsCoreOf tree core → IsAutomatonOf core.declared (words_of tree) auto)
+      → ((k : ℕ) (L : Language) → IsAutomatonOf k L auto → IsVerdict k L verdict) → IsVerdict (length file.variables) (models file) verdict
+  verdict_of_file auto verdict models_are move canonical judged =
+      let of_words : IsVerdict (length file.variables) (words_of (core_of_file file)) verdict =
+      subst (λ k. IsVerdict k (words_of (core_of_file file)) verdict) declared
+      (judged core.declared (words_of (core_of_file file)) (canonical (core_of_file file) core_of_the_file)) in
+      move (length file.variables) (words_of (core_of_file file)) (models file) verdict (models_are file) of_words

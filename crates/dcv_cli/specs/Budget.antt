@@ -1,0 +1,43 @@
+-- The budget of a formula file: the steps of its goal's core, and the first that is over the limits.
+--     steps_of_file file              the steps, in post-order
+--     kind_of, limit_of               what there is too much of, and how much there may be
+--     IsFirstOver limits file over    this step is the first over the limits, with what it has too much of and where its text begins
+--     NamesFirstOver steps limits r   the refusal names the first of these steps that is over the limits, or memory ran out
+use Rattle.std.specs.Prelude.{◌≡◌, ℕ, List, Some, length, slice_get}
+use Rattle.std.specs.Option.{option_map}
+use Rattle.dcv_syntax.specs.Plain.{PlainFile}
+use Rattle.dcv_scope.specs.CoreOf.{core_of_file}
+use Rattle.dcv_scope.specs.Steps.{PlainStep, steps_of}
+use Rattle.dcv_explore.specs.declared.explorer.Limits.{Limits}
+use Rattle.dcv_explore.specs.Budget.{Kind, TooManyStates, TooManyNodes}
+use Rattle.dcv_build.specs.Budget.{IsOver}
+use Rattle.dcv_cli.specs.declared.over.Excess.{Excess}
+use Rattle.dcv_cli.specs.declared.over.Excess.TheVariants.{States, Nodes}
+use Rattle.dcv_cli.specs.declared.over.Over.{Over}
+use Rattle.dcv_cli.specs.declared.refusal.Refusal.{Refusal}
+use Rattle.dcv_cli.specs.declared.refusal.Refusal.TheVariants.{Budget, Memory}
+
+abbrev pub steps_of_file : PlainFile → List PlainStep
+steps_of_file file = steps_of (length file.variables) (core_of_file file)
+
+abbrev pub kind_of : Excess → Kind
+kind_of States = TooManyStates
+kind_of Nodes = TooManyNodes
+
+abbrev pub limit_of : Excess → Limits → ℕ
+limit_of States limits = limits.states
+limit_of Nodes limits = limits.nodes
+
+-- of any steps
+pub record IsFirstOverIn (steps : List PlainStep) (limits : Limits) (over : Over) : Type 0 where
+  pub is_over : IsOver steps limits (kind_of over.excess) over.step
+  pub limit : over.limit ≡ limit_of over.excess limits
+  pub begins : option_map (λ step. step.span.start) (slice_get steps over.step) ≡ Some over.at
+
+abbrev pub IsFirstOver : Limits → PlainFile → Over → Type 0
+IsFirstOver limits file over = IsFirstOverIn (steps_of_file file) limits over
+
+abbrev pub NamesFirstOver : List PlainStep → Limits → Refusal → Type 0
+NamesFirstOver steps limits (Budget over) = IsFirstOverIn steps limits over
+NamesFirstOver steps limits Memory = Unit {0}
+NamesFirstOver steps limits _ = ⊥

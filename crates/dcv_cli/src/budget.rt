@@ -1,0 +1,69 @@
+// The automaton of a core with its verdict, or the refusal that names the first step over the limits.
+ghost use Rattle.std.specs.Prelude.{◌≡◌, ◌<◌, ℕ, Some, length, slice_get, IfOk, IfErr, OnOk};
+ghost use Rattle.std.specs.Option.{option_map};
+ghost use Rattle.dcv_language.specs.Language.{Language};
+ghost use Rattle.dcv_language.specs.Verdict.{IsVerdict};
+ghost use Rattle.dcv_scope.specs.Core.{CoreTree};
+ghost use Rattle.dcv_scope.specs.Holds.{words_of};
+ghost use Rattle.dcv_scope.specs.Steps.{steps_of};
+ghost use Rattle.dcv_build.specs.Budget.{IsAutomatonOf, IsWithinBudget};
+ghost use Rattle.dcv_build.specs.Given.{IsCore, IsCoreOf};
+ghost use Rattle.dcv_print.specs.Verdict.{seen_verdict};
+ghost use Rattle.dcv_cli.specs.Budget.{NamesFirstOver};
+
+use crate::over::{Excess, Over};
+use crate::refusal::Refusal;
+use dcv_build::{BuildFault, build};
+use dcv_dfa::Auto;
+use dcv_dfa::laws::tables_accept_the_same;
+use dcv_explore::Limits;
+use dcv_language::laws::verdict_of_same_behaviours;
+use dcv_print::{Verdict, verdict};
+use dcv_scope::Core;
+use std::alloc::{AllocError, Global};
+
+/// The canonical automaton of the core's words.
+pub(crate) fn automaton_of(alloc: Global, core: &Core, limits: Limits) -> Result<Auto, Refusal>
+    requires { IsCore core.now }
+    ensures canonical { (tree : CoreTree) → IsCoreOf tree core.now → IfOk result (IsAutomatonOf core.now.declared (words_of tree)) }
+    ensures within { (tree : CoreTree) → IsCoreOf tree core.now → OnOk result (IsWithinBudget (steps_of core.now.declared tree) limits) }
+    ensures over { (tree : CoreTree) → IsCoreOf tree core.now → IfErr result (NamesFirstOver (steps_of core.now.declared tree) limits) }
+{
+    match build(alloc, core, limits) {
+        Ok(auto) => Ok(auto),
+        Err(BuildFault::States { step, limit }) => {
+            Err(Refusal::Budget(over(core, Excess::States, limit, step)))
+        }
+        Err(BuildFault::Nodes { step, limit }) => {
+            Err(Refusal::Budget(over(core, Excess::Nodes, limit, step)))
+        }
+        Err(BuildFault::Memory) => Err(Refusal::Memory),
+    }
+}
+
+// A step of the core that has more than the limit, with the place where its part of the text begins.
+fn over(core: &Core, excess: Excess, limit: u32, step: u32) -> Over
+    requires { step < length core.now.steps }
+    ensures excess { result.excess ≡ excess }
+    ensures limit { result.limit ≡ limit }
+    ensures step { result.step ≡ step }
+    ensures place { option_map (λ s. s.span.start) (slice_get core.now.steps step) ≡ Some result.at }
+{
+    Over {
+        excess,
+        limit,
+        at: core.span(step).start,
+        step,
+    }
+}
+
+/// The verdict of each set whose canonical automaton this is.
+pub(crate) fn verdict_of(alloc: Global, auto: &Auto) -> Result<Verdict, AllocError>
+    ensures { (k : ℕ) (L : Language) → IsAutomatonOf k L auto.now → IfOk result (λ verdict. IsVerdict k L (seen_verdict verdict)) }
+{
+    tables_accept_the_same();
+    verdict_of_same_behaviours();
+    // for the prover: what is true of every canonical automaton.
+    let _ = auto.states();
+    verdict(alloc, auto)
+}

@@ -1,0 +1,64 @@
+// What is said of the first step of a goal that is over the limits.
+ghost use Rattle.std.specs.Prelude.{◌≡◌, is_err, OnOk, OnErr};
+ghost use Rattle.dcv_io.specs.Faults.{RisesIf};
+ghost use Rattle.dcv_io.specs.Written.{Appends, AppendsPrefix};
+ghost use Rattle.dcv_language.specs.VerdictText.{line};
+ghost use Rattle.dcv_cli.specs.Refusal.{excess_word_of, over_words};
+
+use crate::refusal::write_pieces;
+use dcv_io::{Failed, Sink};
+use itoa::Buffer;
+
+/// What a step has too many of.
+#[derive(Clone, Copy, Debug, PartialEq, Eq)]
+pub enum Excess {
+    /// States of the machine that is explored for it.
+    States,
+    /// Nodes of the rows of these states, with those of its proposition.
+    Nodes,
+}
+
+impl Excess {
+    // What it is, in a word.
+    fn word(self) -> &'static [u8]
+        ensures { result.now ≡ excess_word_of self }
+    {
+        match self {
+            Excess::States => b"states",
+            Excess::Nodes => b"nodes",
+        }
+    }
+}
+
+/// The first step of a goal that is over the limits: what it has more of than the limit, the offset at which its part of the text
+/// begins, and its number, from 0, in the order in which steps are built.
+#[derive(Clone, Copy, Debug, PartialEq, Eq)]
+pub struct Over {
+    pub excess: Excess,
+    pub limit: u32,
+    pub at: u32,
+    pub step: u32,
+}
+
+impl Over {
+    /// Writes the line that says so. It takes no memory.
+    pub fn tell<S: Sink>(self, sink: &mut S) -> Result<(), Failed>
+        ensures ok { OnOk result (Appends (S.written sink.old) (S.written sink.new) (line (over_words self))) }
+        ensures failed { OnErr result (AppendsPrefix (S.written sink.old) (S.written sink.new) (line (over_words self))) }
+        ensures faults { RisesIf (is_err result) (S.faults sink.old) (S.faults sink.new) }
+    {
+        let (mut limit, mut at, mut step) = (Buffer::new(), Buffer::new(), Buffer::new());
+        let pieces: [&[u8]; 9] = [
+            b"budget ",
+            self.excess.word(),
+            b" ",
+            limit.format(self.limit).as_bytes(),
+            b" at ",
+            at.format(self.at).as_bytes(),
+            b" step ",
+            step.format(self.step).as_bytes(),
+            b"\n",
+        ];
+        write_pieces(sink, &pieces)
+    }
+}
