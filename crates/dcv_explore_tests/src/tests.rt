@@ -241,6 +241,7 @@ struct Pair {
 
 impl Machine for Pair {
     ghost use Rattle.std.specs.Prelude.{◌≡◌, ◌+◌, ◌==◌, ◌&&◌, ℕ, false, length, min, slice_index_or};
+    ghost use Rattle.std.proofs.Common.{rules};
     ghost use Rattle.dcv_arena.specs.Arena.{value_of};
     ghost use Rattle.dcv_arena.specs.declared.nodes.Ref.TheVariants.{Place};
 
