@@ -28,7 +28,8 @@ same_operand a b =
 same_keys : (a b : Key) → key_eq.it a b ≡ true → (a.round ≡ b.round) × (a.operands.items ≡ b.operands.items)
 same_keys a b t =
     let items = pointwise_decides same_operand a.operands.items b.operands.items in
-    (Decides-and (nat_eq a.round b.round) (pointwise operand_eq a.operands.items b.operands.items) (unsigned_Decides a.round b.round) items).0 t
+    let parts = Decides-and (nat_eq a.round b.round) (pointwise operand_eq a.operands.items b.operands.items) (unsigned_Decides a.round b.round) items in
+    ((Decides-and (nat_eq a.digest b.digest) _ (unsigned_Decides a.digest b.digest) parts).0 t).1
 
 -- so each makes the same entry with a ref
 pub same_entry : (a b : Key) (root : Ref) → key_eq.it a b ≡ true → entry_of (a, root) ≡ entry_of (b, root)

@@ -3,18 +3,60 @@
 ghost use Rattle.std.specs.Prelude.{◌≡◌, ◌≤◌, ◌==◌, [], length, IfOk, IfSome, Contains};
 ghost use Rattle.dcv_apply.specs.Remembered.{entry, KeepsEntries, Adds};
 
-use crate::operands::Operands;
+use crate::operands::{Operand, Operands};
 use dcv_arena::Ref;
 use lru::LruCache;
 use std::alloc::{AllocError, Global};
+use std::hash::{Hash, Hasher};
 use std::marker::Model;
 use std::num::NonZeroUsize;
 
-// What is remembered of: operands, in a round.
-#[derive(Debug, PartialEq, Eq, Hash, Drop)]
+// What is remembered of: operands, in a round. The digest is a number that they were mixed into once, so that neither a look-up nor
+// an entry goes over the operands again to hash them.
+#[derive(Debug, PartialEq, Eq, Drop)]
 pub(crate) struct Key {
+    digest: u64,
     pub(crate) round: u32,
     pub(crate) operands: Operands,
+}
+
+impl Key {
+    pub(crate) fn new(round: u32, operands: Operands) -> Key
+        ensures round { result.round ≡ round }
+        ensures operands { result.operands.items ≡ operands.items }
+    {
+        let digest = operands.iter().fold(u64::from(round), mixed_with);
+        Key {
+            digest,
+            round,
+            operands,
+        }
+    }
+}
+
+impl Hash for Key {
+    ghost use Rattle.std.proofs.Common.{rules};
+    ghost use Rattle.std.specs.Hash as fed;
+    ghost use Rattle.std.specs.Cmp.Rules.{hashing};
+
+    ghost hash_input = { λ key. fed.u64 key.digest };
+
+    ghost respects_eq = { Prim.search (hashing, rules) };
+
+    fn hash<H: Hasher>(&self, state: &mut H) {
+        state.write_u64(self.digest);
+    }
+}
+
+// The digest of what comes before an operand and of the operand.
+fn mixed_with(before: u64, operand: &Operand) -> u64 {
+    let (place, root) = *operand;
+    let number = match root {
+        Ref::Leaf(number) => u64::from(number) << 1 | 1,
+        Ref::Place(number) => u64::from(number) << 1,
+    };
+    let mixed = (before ^ number ^ u64::from(place) << 33).wrapping_mul(0x9E37_79B9_7F4A_7C15);
+    mixed ^ mixed >> 29
 }
 
 /// What operations remember: for a round and operands, the ref that they were merged into.

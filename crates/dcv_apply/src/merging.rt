@@ -5,7 +5,7 @@ ghost use Rattle.std.specs.Prelude.{◌≡◌, ◌≤◌, ◌<◌, ◌+◌, ℕ,
 ghost use Rattle.std.specs.List.{All};
 ghost use Rattle.dcv_arena.specs.Arena.{IsRef, IsArena, level_of, KeepsRefs, AddsOnlyNodesOfFunction, count_with};
 ghost use Rattle.dcv_apply.specs.Operands.{IsOperand, numbers_at, numbers_at_both};
-ghost use Rattle.dcv_apply.specs.Sources.{HasArenas, IsIn, IsFrom, FixesSlot, merged_by};
+ghost use Rattle.dcv_apply.specs.Sources.{HasArenas, IsIn, IsFrom, IsSide, merged_by};
 ghost use Rattle.dcv_apply.specs.Memo.{HoldsRound, KeepsOthers};
 ghost use Rattle.dcv_apply.specs.Merged.{MeansMerged, AgreesBehind, IsApplied};
 ghost use Rattle.dcv_apply.specs.declared.faults.MergeFault.TheVariants.{States as MergeStates};
@@ -164,28 +164,22 @@ impl Operation<'_> {
             arena.slots(),
         );
         let operands = SmallVec::from_slice(self.alloc, operands)?;
-        let key = Key {
-            round: self.round,
-            operands,
-        };
+        let key = Key::new(self.round, operands);
         self.apply_from(arena, key, 0, merge, memo)
     }
 
-    // What is remembered of the operands with the value in the slot fixed.
-    fn side(&self, key: &Key, slot: u8, value: bool) -> Result<Key, AllocError>
+    // What is remembered of the operands with false in the slot, and with true.
+    fn sides(&self, key: &Key, slot: u8) -> Result<(Key, Key), AllocError>
         requires round { key.now.round ≡ self.now.round }
         requires operands { All (IsFrom self.now.sources slot) key.now.operands.items }
-        ensures round { IfOk result (λ side. side.round ≡ self.now.round) }
-        ensures from { IfOk result (λ side. All (IsFrom self.now.sources (slot + 1)) side.operands.items) }
-        ensures fixed { IfOk result (λ side. FixesSlot (merged_by self.now key.now.operands.items) (merged_by self.now side.operands.items) slot value) }
+        ensures when_false { IfOk result (λ sides. IsSide self.now key.now.operands.items slot false sides.0) }
+        ensures when_true { IfOk result (λ sides. IsSide self.now key.now.operands.items slot true sides.1) }
     {
-        let operands = self
-            .sources
-            .cofactors(self.alloc, &key.operands, slot, value)?;
-        Ok(Key {
-            round: key.round,
-            operands,
-        })
+        let (when_false, when_true) = self.sources.sides(self.alloc, &key.operands, slot)?;
+        Ok((
+            Key::new(key.round, when_false),
+            Key::new(key.round, when_true),
+        ))
     }
 
     // The first slot that one of the operands depends on, or `slots` where none depends on one before that.
@@ -254,9 +248,8 @@ impl Operation<'_> {
         if let Some(root) = memo.get(&key) {
             return Ok(root);
         }
-        let when_false = self.side(&key, slot, false)?;
+        let (when_false, when_true) = self.sides(&key, slot)?;
         let lo = self.apply_from(arena, when_false, slot + 1, merge, memo)?;
-        let when_true = self.side(&key, slot, true)?;
         let hi = self.apply_from(arena, when_true, slot + 1, merge, memo)?;
         let root = arena.node(slot, lo, hi)?;
         memo.put(key, root);

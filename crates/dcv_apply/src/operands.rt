@@ -1,9 +1,9 @@
 // The operands of an operation: refs of two arenas, followed together from slot to slot, and their numbers where
 // they depend on no slot more.
-ghost use Rattle.std.specs.Prelude.{◌≡◌, ◌≤◌, ◌<◌, ◌+◌, [], ◌∷◌, ◌++◌, List, Bool, ℕ, length, slice_set, IfOk, OnOk};
+ghost use Rattle.std.specs.Prelude.{◌≡◌, ◌≤◌, ◌<◌, ◌+◌, [], ◌∷◌, ◌++◌, List, Bool, false, true, ℕ, length, slice_set, IfOk, OnOk};
 ghost use Rattle.std.specs.List.{All};
 ghost use Rattle.dcv_apply.specs.Operands.{arena_at, merged_at};
-ghost use Rattle.dcv_apply.specs.Sources.{IsIn, IsFrom, number_in, numbers_in};
+ghost use Rattle.dcv_apply.specs.Sources.{IsIn, IsFrom, HaveSideOf, number_in, numbers_in};
 
 use dcv_arena::{Arena, Ref};
 use dcv_word::Letter;
@@ -69,41 +69,47 @@ impl Sources<'_> {
         first
     }
 
-    // The operand with the value in the slot fixed.
-    fn cofactor(&self, operand: Operand, slot: u8, value: bool) -> Operand
+    // The operand with false in the slot, and with true.
+    fn parts(&self, operand: Operand, slot: u8) -> (Operand, Operand)
         requires { IsFrom self.now slot operand }
-        ensures from { IsFrom self.now (slot + 1) result }
-        ensures number { (letter : List Bool) → slot < length letter
-            → number_in self.now letter result ≡ number_in self.now (slice_set letter slot value) operand }
+        ensures lo_from { IsFrom self.now (slot + 1) result.0 }
+        ensures hi_from { IsFrom self.now (slot + 1) result.1 }
+        ensures lo_number { (letter : List Bool) → slot < length letter
+            → number_in self.now letter result.0 ≡ number_in self.now (slice_set letter slot false) operand }
+        ensures hi_number { (letter : List Bool) → slot < length letter
+            → number_in self.now letter result.1 ≡ number_in self.now (slice_set letter slot true) operand }
     {
         let (place, root) = operand;
         match root {
-            Ref::Leaf(_) => operand,
+            Ref::Leaf(_) => (operand, operand),
             Ref::Place(_) => {
                 let (lo, hi) = self.arena(place).split(root, slot);
-                (place, if value { hi } else { lo })
+                ((place, lo), (place, hi))
             }
         }
     }
 
-    // The operands with the value in the slot fixed.
-    pub(crate) fn cofactors(
+    // The operands with false in the slot, and with true.
+    pub(crate) fn sides(
         &self,
         alloc: Global,
         operands: &[Operand],
         slot: u8,
-        value: bool,
-    ) -> Result<Operands, AllocError>
+    ) -> Result<(Operands, Operands), AllocError>
         requires { All (IsFrom self.now slot) operands.now }
-        ensures from { IfOk result (λ parts. All (IsFrom self.now (slot + 1)) parts.items) }
-        ensures numbers { IfOk result (λ parts. (letter : List Bool) → slot < length letter
-            → numbers_in self.now parts.items letter ≡ numbers_in self.now operands.now (slice_set letter slot value)) }
+        ensures lo_from { IfOk result (λ sides. All (IsFrom self.now (slot + 1)) sides.0.items) }
+        ensures hi_from { IfOk result (λ sides. All (IsFrom self.now (slot + 1)) sides.1.items) }
+        ensures lo_numbers { IfOk result (λ sides. HaveSideOf self.now operands.now slot false sides.0.items) }
+        ensures hi_numbers { IfOk result (λ sides. HaveSideOf self.now operands.now slot true sides.1.items) }
     {
-        let mut parts = SmallVec::new(alloc);
+        let mut when_false = SmallVec::new(alloc);
+        let mut when_true = SmallVec::new(alloc);
         for operand in operands {
-            parts.push(self.cofactor(*operand, slot, value))?;
+            let (lo, hi) = self.parts(*operand, slot);
+            when_false.push(lo)?;
+            when_true.push(hi)?;
         }
-        Ok(parts)
+        Ok((when_false, when_true))
     }
 
     // The number of an operand that depends on none of the first slots, at a letter that has no others.
@@ -112,8 +118,13 @@ impl Sources<'_> {
         ensures { (letter : List Bool) → length letter ≤ slots → result ≡ number_in self.now letter operand }
     {
         let (place, root) = operand;
-        let arena = self.arena(place);
-        arena.eval(root, &Letter::new(arena.slots(), 0))
+        match root {
+            Ref::Leaf(number) => number,
+            Ref::Place(_) => {
+                let arena = self.arena(place);
+                arena.eval(root, &Letter::new(arena.slots(), 0))
+            }
+        }
     }
 
     // Adds the numbers of such operands.
@@ -133,22 +144,22 @@ impl Sources<'_> {
         Ok(())
     }
 
-    // Adds the numbers of such operands where the slot after a letter of so many slots has the value.
-    fn push_fixed(
+    // Adds the numbers of such operands where the slot after a letter of so many slots is false, and then those where it is true.
+    fn push_sides(
         &self,
         alloc: Global,
         operands: &[Operand],
         slots: u8,
-        value: bool,
         numbers: &mut Numbers,
     ) -> Result<(), AllocError>
         requires bound { slots ≤ 32 }
         requires operands { All (IsFrom self.now slots) operands.now }
-        ensures { OnOk result ((letter : List Bool) → length letter ≡ slots
-            → numbers.new.items ≡ numbers.old.items ++ numbers_in self.now operands.now (letter ++ value ∷ [])) }
+        ensures { OnOk result ((letter : List Bool) → length letter ≡ slots → numbers.new.items ≡ numbers.old.items
+            ++ (numbers_in self.now operands.now (letter ++ false ∷ []) ++ numbers_in self.now operands.now (letter ++ true ∷ []))) }
     {
-        let parts = self.cofactors(alloc, operands, slots, value)?;
-        self.push_numbers(&parts, slots + 1, numbers)
+        let (when_false, when_true) = self.sides(alloc, operands, slots)?;
+        self.push_numbers(&when_false, slots + 1, numbers)?;
+        self.push_numbers(&when_true, slots + 1, numbers)
     }
 
     // The numbers that are merged at each letter of so many slots, where the operands depend on none of them.
@@ -167,10 +178,7 @@ impl Sources<'_> {
         let mut numbers = SmallVec::new(alloc);
         match last_slot {
             LastSlot::Kept => self.push_numbers(operands, slots, &mut numbers)?,
-            LastSlot::Merged => {
-                self.push_fixed(alloc, operands, slots, false, &mut numbers)?;
-                self.push_fixed(alloc, operands, slots, true, &mut numbers)?;
-            }
+            LastSlot::Merged => self.push_sides(alloc, operands, slots, &mut numbers)?,
         }
         Ok(numbers)
     }

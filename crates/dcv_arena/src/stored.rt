@@ -1,13 +1,14 @@
 // The form in which an arena keeps its nodes, 12 bytes each. What it stands for is the node itself, so nothing else
 // speaks of it.
 ghost use Rattle.std.specs.Prelude.{◌≡◌};
-ghost use Rattle.dcv_arena.specs.Stored.{ref_of, number_of, is_leaf};
+ghost use Rattle.dcv_arena.specs.Stored.{ref_of, number_of, is_leaf, code_of};
 
 use crate::nodes::{Node, Ref};
+use std::hash::{Hash, Hasher};
 use std::marker::Model;
 
 // A node with the numbers of its children apart from whether they are leaves.
-#[derive(Clone, Copy, Debug, PartialEq, Eq, Hash)]
+#[derive(Clone, Copy, Debug, PartialEq, Eq)]
 pub(crate) struct StoredNode {
     lo: u32,
     hi: u32,
@@ -42,7 +43,32 @@ impl Model for StoredNode {
     } };
 }
 
+// A node is hashed as one number.
+impl Hash for StoredNode {
+    ghost use Rattle.std.proofs.Common.{rules};
+    ghost use Rattle.std.specs.Hash as fed;
+    ghost use Rattle.std.specs.Cmp.Rules.{hashing};
+
+    ghost hash_input = { λ node. fed.u128 (code_of node) };
+
+    ghost respects_eq = { Prim.search (hashing, rules) };
+
+    fn hash<H: Hasher>(&self, state: &mut H) {
+        state.write_u128(self.code());
+    }
+}
+
 impl StoredNode {
+    // The node as one number.
+    fn code(self) -> u128
+        ensures { result ≡ code_of self }
+    {
+        let numbers = u128::from(self.lo) + u128::from(self.hi) * 0x1_0000_0000;
+        let lo_is_leaf = if self.lo_is_leaf { 1 } else { 0 };
+        let hi_is_leaf = if self.hi_is_leaf { 2 } else { 0 };
+        numbers + (u128::from(self.slot) * 4 + lo_is_leaf + hi_is_leaf) * 0x1_0000_0000_0000_0000
+    }
+
     // The form of a node.
     pub(crate) fn new(node: Node) -> StoredNode
         ensures { result ≡ node }

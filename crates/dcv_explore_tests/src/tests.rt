@@ -1,8 +1,11 @@
-// Tests of `dcv_explore`: a counter, with exact limits.
-ghost use Rattle.std.specs.Prelude.{◌<◌, length};
+// Tests of `dcv_explore`: counters, with exact limits, and a pair of counters with memos of two capacities.
+ghost use Rattle.std.specs.Prelude.{◌≡◌, ◌≤◌, ◌<◌, length};
 
+use dcv_apply::Memo;
 use dcv_arena::{Arena, Ref};
-use dcv_explore::{ExploreFault, Limits, Machine, Operands, explore};
+use dcv_dfa::Raw;
+use dcv_explore::{ExploreFault, Limits, Machine, Operands, explore, explore_with};
+use dcv_word::Letter;
 use std::alloc::{AllocError, Global};
 use std::test::Fail;
 
@@ -225,5 +228,150 @@ fn rows_beyond_their_limit(rt: HostRuntime) -> Result<(), Fail> {
         Err(ExploreFault::Nodes { limit: 3 })
     );
     assert!(rt; refused);
+    Ok(())
+}
+
+// Two counters, each up to 2: the first counts at the letters with the first variable, the other at those with the second. The
+// arena's first two nodes are the values of the two variables.
+#[derive(Drop)]
+struct Pair {
+    arena: Arena,
+    ghost within: { 1 < length arena.nodes },
+}
+
+impl Machine for Pair {
+    ghost use Rattle.std.specs.Prelude.{◌≡◌, ◌+◌, ◌==◌, ◌&&◌, ℕ, false, length, min, slice_index_or};
+    ghost use Rattle.std.proofs.Common.{rules};
+    ghost use Rattle.dcv_arena.specs.Arena.{value_of};
+    ghost use Rattle.dcv_arena.specs.declared.nodes.Ref.TheVariants.{Place};
+
+    type Macro = (u32, u32);
+
+    ghost both_last = { false };
+
+    ghost State = { ℕ × ℕ };
+
+    ghost state = { λ counts. counts };
+
+    ghost machine = { λ pair. record {
+      slots = 2;
+      automaton = record {
+        start = (0, 0);
+        next = λ counts letter. (min (counts.0 + value_of pair.arena (Place 0) letter) 2, min (counts.1 + value_of pair.arena (Place 1) letter) 2);
+        accepting = λ counts. (counts.0 == 2) && (counts.1 == 2);
+      };
+    } };
+
+    ghost operand = { λ pair place. pair.arena };
+
+    ghost may = { λ pair numbers. length numbers ≡ 4 };
+
+    ghost merged = { λ pair numbers. (min (slice_index_or numbers 0 0 + slice_index_or numbers 2 0) 2, min (slice_index_or numbers 1 0 + slice_index_or numbers 3 0) 2) };
+
+    fn both_last(&self) -> bool {
+        false
+    }
+
+    fn slots(&self) -> u8 {
+        2
+    }
+
+    fn start(&self, _alloc: Global) -> Result<(u32, u32), AllocError> {
+        Ok((0, 0))
+    }
+
+    fn arena(&self, _place: u32) -> &Arena {
+        &self.arena
+    }
+
+    fn operands(&self, from: &(u32, u32), to: &mut Operands) -> Result<(), AllocError> {
+        to.push(0, Ref::Leaf(from.0))?;
+        to.push(0, Ref::Leaf(from.1))?;
+        to.push(0, Ref::Place(0))?;
+        to.push(0, Ref::Place(1))
+    }
+
+    fn merge(&self, _alloc: Global, leaves: &[u32]) -> Result<(u32, u32), AllocError> {
+        let first = leaves[0].saturating_add(leaves[2]).min(2);
+        let second = leaves[1].saturating_add(leaves[3]).min(2);
+        Ok((first, second))
+    }
+
+    fn copy(&self, _alloc: Global, of: &(u32, u32)) -> Result<(u32, u32), AllocError> {
+        Ok(*of)
+    }
+
+    fn accepts(&self, of: &(u32, u32)) -> bool {
+        of.0 == 2 && of.1 == 2
+    }
+
+    ghost sameness = { Prim.search rules };
+}
+
+// The states that come next from a state of an automaton of two variables, letter by letter.
+fn next_states(raw: &Raw, state: u32) -> [u32; 4]
+    requires slots { raw.now.arena.slots ≡ 2 }
+    requires state { state < length raw.now.rows }
+{
+    let mut next = [0; 4];
+    for bits in 0..4u32 {
+        next[bits as usize] = raw.arena().eval(raw.row(state), &Letter::new(2, bits));
+    }
+    next
+}
+
+// What the pair of counters explores to with a memo of so many entries.
+fn pair_explored(alloc: Global, capacity: usize) -> Result<Raw, Fail>
+    requires { 1 ≤ capacity }
+{
+    let mut arena = Arena::new(alloc, 2, 2);
+    let _ = arena.node(0, Ref::Leaf(0), Ref::Leaf(1))?;
+    let _ = arena.node(1, Ref::Leaf(0), Ref::Leaf(1))?;
+    if arena.len() < 2 {
+        return Err(Fail::new("one node stands for two variables"));
+    }
+    let limits = Limits {
+        states: 9,
+        nodes: 12,
+    };
+    let mut memo = Memo::new(alloc, capacity)?;
+    let raw = explore_with(alloc, &Pair { arena }, limits, &mut memo)?;
+    if memo.len() < 1 {
+        return Err(Fail::new("nothing was remembered"));
+    }
+    Ok(raw)
+}
+
+// The states in the order in which they are met: (0, 0), (0, 1), (1, 0), (1, 1), (0, 2), (1, 2), (2, 0), (2, 1), (2, 2).
+const NEXT: [[u32; 4]; 9] = [
+    [0, 1, 2, 3],
+    [1, 4, 3, 5],
+    [2, 3, 6, 7],
+    [3, 5, 7, 8],
+    [4, 4, 5, 5],
+    [5, 5, 8, 8],
+    [6, 7, 6, 7],
+    [7, 8, 7, 8],
+    [8, 8, 8, 8],
+];
+
+// Whether an automaton is the pair of counters: its states and nodes, its start, its rows as tables, and its flags.
+fn is_the_pair(raw: &Raw) -> bool {
+    if raw.slots() != 2 || raw.states() != 9 || raw.arena().len() != 12 || raw.start() != 0 {
+        return false;
+    }
+    for state in 0..9u32 {
+        if next_states(raw, state) != NEXT[state as usize] || raw.accepting(state) != (state == 8) {
+            return false;
+        }
+    }
+    true
+}
+
+#[test]
+fn capacity_changes_nothing(rt: HostRuntime) -> Result<(), Fail> {
+    let alloc = rt.alloc();
+    assert!(rt; is_the_pair(&pair_explored(alloc, 1)?));
+    assert!(rt; is_the_pair(&pair_explored(alloc, 65_536)?));
     Ok(())
 }

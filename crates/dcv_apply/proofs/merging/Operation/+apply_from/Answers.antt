@@ -22,7 +22,7 @@ pub apply_from-requires : goal.apply_from-requires
 apply_from-requires g t c κs within =
     let slot = c.first_slot-slot.result in
     let inner : slot < c.args.arena.now.slots = omega (arith, c.slots-slots.ensures.slots) in
-    let side = c.in_ok-when_false.ensures.fixed in (
+    let side = c.in_ok-when_false.ensures.when_false.fixed in (
       search rules,
       (
         search rules,
@@ -31,9 +31,9 @@ apply_from-requires g t c κs within =
           (
             omega arith,
             (
-              c.in_ok-when_false.ensures.round,
+              c.in_ok-when_false.ensures.when_false.round,
               (
-                c.in_ok-when_false.ensures.from,
+                c.in_ok-when_false.ensures.when_false.from,
                 (
                   λ letter size. subst (g.G.Merge.may c.args.merge.now) (sym (side.at letter (omega arith))) (c.requires.may (set letter slot false) (length-set letter slot false ∙ size)),
                   holds_less (merged_by c.args.self.now) c.args.self.now.round (g.G.Merge.gives c.args.merge.now) c.args.arena.now c.args.memo.now c.get.new.self c.get.ensures.kept c.requires.holds,
@@ -50,7 +50,7 @@ returns-in_err-lo-clause-stray g t c front function below agrees =
     let slot = c.first_slot-slot.result in
     let inner : slot < c.args.arena.now.slots = omega (arith, c.slots-slots.ensures.slots) in
     let from : c.args.from ≤ slot = c.first_slot-slot.ensures.last c.args.from (omega (arith, c.slots-slots.ensures.slots)) c.requires.operands in
-    let side = c.in_ok-when_false.ensures.fixed in
+    let side = c.in_ok-when_false.ensures.when_false.fixed in
     side_adds side (g.G.Merge.gives c.apply_from.new.merge) (g.G.Merge.gives c.apply_from.new.merge) c.args.arena.now c.apply_from.new.arena front function inner (omega arith)
     (λ _ _ given. given) c.apply_from.ensures.stray agrees
 
@@ -59,7 +59,7 @@ returns-in_err-lo-clause-full g t c limit front function e below agrees =
     let slot = c.first_slot-slot.result in
     let inner : slot < c.args.arena.now.slots = omega (arith, c.slots-slots.ensures.slots) in
     let from : c.args.from ≤ slot = c.first_slot-slot.ensures.last c.args.from (omega (arith, c.slots-slots.ensures.slots)) c.requires.operands in
-    let side = c.in_ok-when_false.ensures.fixed in
+    let side = c.in_ok-when_false.ensures.when_false.fixed in
     let p = err_from_is_err_and c.from_residual-in_err-lo.result c.from_residual-in_err-lo.ensures.1 in
     let fault = c.in_err-lo.was ∙ ap Err (sym p.2) ∙ sym p.1 ∙ e in
     side_full side (g.G.Merge.gives c.apply_from.new.merge) (g.G.Merge.gives c.apply_from.new.merge) limit c.args.arena.now front function inner (omega arith)
@@ -75,7 +75,7 @@ apply_from-requires-2 g t c κs within =
     let slot = c.first_slot-slot.result in
     let same = c.apply_from.ensures.kept.slots in
     let inner : slot < c.args.arena.now.slots = omega (arith, c.slots-slots.ensures.slots) in
-    let side = c.in_ok-when_true.ensures.fixed in (
+    let side = c.in_ok-when_false.ensures.when_true.fixed in (
       search rules,
       (
         search rules,
@@ -84,9 +84,9 @@ apply_from-requires-2 g t c κs within =
           (
             omega (arith, same),
             (
-              c.in_ok-when_true.ensures.round,
+              c.in_ok-when_false.ensures.when_true.round,
               (
-                c.in_ok-when_true.ensures.from,
+                c.in_ok-when_false.ensures.when_true.from,
                 (
                   λ letter size. subst (g.G.Merge.may c.apply_from.new.merge) (sym (side.at letter (omega (arith, same))))
                       (c.apply_from.ensures.may_kept _ (c.requires.may (set letter slot true) (length-set letter slot true ∙ size ∙ same))),
@@ -99,22 +99,13 @@ apply_from-requires-2 g t c κs within =
       ),
     )
 
-pub returns-in_err-when_true-clause-stray : goal.returns-in_err-when_true-clause-stray
-returns-in_err-when_true-clause-stray g t c front function below agrees =
-    let slot = c.first_slot-slot.result in
-    let inner : slot < c.args.arena.now.slots = omega (arith, c.slots-slots.ensures.slots) in
-    let from : c.args.from ≤ slot = c.first_slot-slot.ensures.last c.args.from (omega (arith, c.slots-slots.ensures.slots)) c.requires.operands in
-    let side = c.in_ok-when_false.ensures.fixed in
-    side_adds side (g.G.Merge.gives c.apply_from.new.merge) (g.G.Merge.gives c.apply_from.new.merge) c.args.arena.now c.apply_from.new.arena front function inner (omega arith)
-    (λ _ _ given. given) c.apply_from.ensures.stray agrees
-
 pub returns-in_err-hi-clause-stray : goal.returns-in_err-hi-clause-stray
 returns-in_err-hi-clause-stray g t c front function below agrees =
     let slot = c.first_slot-slot.result in
     let inner : slot < c.args.arena.now.slots = omega (arith, c.slots-slots.ensures.slots) in
     let from : c.args.from ≤ slot = c.first_slot-slot.ensures.last c.args.from (omega (arith, c.slots-slots.ensures.slots)) c.requires.operands in
-    let low = c.in_ok-when_false.ensures.fixed in
-    let high = c.in_ok-when_true.ensures.fixed in
+    let low = c.in_ok-when_false.ensures.when_false.fixed in
+    let high = c.in_ok-when_false.ensures.when_true.fixed in
     sides_add low high (g.G.Merge.gives c.apply_from.new.merge) (g.G.Merge.gives c.apply_from-2.new.merge) c.apply_from-2.ensures.known
     c.args.arena.now c.apply_from.new.arena c.apply_from-2.new.arena c.apply_from.ensures.kept c.apply_from-2.ensures.kept inner
     front function (omega arith) c.apply_from.ensures.stray c.apply_from-2.ensures.stray agrees
@@ -124,8 +115,8 @@ returns-in_err-hi-clause-full g t c limit front function e below agrees =
     let slot = c.first_slot-slot.result in
     let inner : slot < c.args.arena.now.slots = omega (arith, c.slots-slots.ensures.slots) in
     let from : c.args.from ≤ slot = c.first_slot-slot.ensures.last c.args.from (omega (arith, c.slots-slots.ensures.slots)) c.requires.operands in
-    let low = c.in_ok-when_false.ensures.fixed in
-    let high = c.in_ok-when_true.ensures.fixed in
+    let low = c.in_ok-when_false.ensures.when_false.fixed in
+    let high = c.in_ok-when_false.ensures.when_true.fixed in
     let p = err_from_is_err_and c.from_residual-in_err-hi.result c.from_residual-in_err-hi.ensures.1 in
     let fault = c.in_err-hi.was ∙ ap Err (sym p.2) ∙ sym p.1 ∙ e in
     sides_full low high (g.G.Merge.gives c.apply_from.new.merge) (g.G.Merge.gives c.apply_from-2.new.merge) c.apply_from-2.ensures.known
@@ -141,8 +132,8 @@ pub returns-clause-value : goal.returns-clause-value
 returns-clause-value g t c letter size =
     let slot = c.first_slot-slot.result in
     let inner : slot < c.args.arena.now.slots = omega (arith, c.slots-slots.ensures.slots) in
-    let low = c.in_ok-when_false.ensures.fixed in
-    let high = c.in_ok-when_true.ensures.fixed in
+    let low = c.in_ok-when_false.ensures.when_false.fixed in
+    let high = c.in_ok-when_false.ensures.when_true.fixed in
     subst (g.G.Merge.gives c.apply_from-2.new.merge _) (sym (c.in_ok-root.ensures.value letter))
     (sides_merged low high (g.G.Merge.gives c.apply_from.new.merge) (g.G.Merge.gives c.apply_from-2.new.merge) c.apply_from-2.ensures.known
     c.args.arena.now c.apply_from.new.arena c.apply_from-2.new.arena c.apply_from.ensures.kept c.apply_from-2.ensures.kept inner
@@ -153,8 +144,8 @@ returns-in_err-root-clause-stray g t c front function below agrees =
     let slot = c.first_slot-slot.result in
     let inner : slot < c.args.arena.now.slots = omega (arith, c.slots-slots.ensures.slots) in
     let from : c.args.from ≤ slot = c.first_slot-slot.ensures.last c.args.from (omega (arith, c.slots-slots.ensures.slots)) c.requires.operands in
-    let low = c.in_ok-when_false.ensures.fixed in
-    let high = c.in_ok-when_true.ensures.fixed in
+    let low = c.in_ok-when_false.ensures.when_false.fixed in
+    let high = c.in_ok-when_false.ensures.when_true.fixed in
     subst (λ new. AddsOnlyNodesOfFunction c.args.arena.now new function) (sym c.in_err-root.ensures.err)
     (sides_add low high (g.G.Merge.gives c.apply_from.new.merge) (g.G.Merge.gives c.apply_from-2.new.merge) c.apply_from-2.ensures.known
     c.args.arena.now c.apply_from.new.arena c.apply_from-2.new.arena c.apply_from.ensures.kept c.apply_from-2.ensures.kept inner
@@ -177,8 +168,8 @@ returns-in_err-root-clause-full g t c limit front function e below agrees =
     let inner : slot < old.slots = omega (arith, c.slots-slots.ensures.slots) in
     let from : c.args.from ≤ slot = c.first_slot-slot.ensures.last c.args.from (omega (arith, c.slots-slots.ensures.slots)) c.requires.operands in
     let kept = kept_in_turn old one two c.apply_from.ensures.kept c.apply_from-2.ensures.kept in
-    let low = c.in_ok-when_false.ensures.fixed in
-    let high = c.in_ok-when_true.ensures.fixed in
+    let low = c.in_ok-when_false.ensures.when_false.fixed in
+    let high = c.in_ok-when_false.ensures.when_true.fixed in
     let p = err_from_is_err_and c.from_residual-in_err-root.result c.from_residual-in_err-root.ensures.1 in
     let fault = c.in_err-root.was ∙ ap Err (full_from_arena _ _ _ limit p.1 p.2 e) in
     let is_full = (c.node.ensures.full limit).0 fault in
@@ -206,8 +197,8 @@ returns-clause-stray g t c front function below agrees =
     let whole = merged_by c.args.self.now c.args.key.operands.items in
     let inner : slot < old.slots = omega (arith, c.slots-slots.ensures.slots) in
     let from : c.args.from ≤ slot = c.first_slot-slot.ensures.last c.args.from (omega (arith, c.slots-slots.ensures.slots)) c.requires.operands in
-    let low = c.in_ok-when_false.ensures.fixed in
-    let high = c.in_ok-when_true.ensures.fixed in
+    let low = c.in_ok-when_false.ensures.when_false.fixed in
+    let high = c.in_ok-when_false.ensures.when_true.fixed in
     let adds = sides_add low high (g.G.Merge.gives c.apply_from.new.merge) gives c.apply_from-2.ensures.known
     old one two c.apply_from.ensures.kept c.apply_from-2.ensures.kept inner
     front function (omega arith) c.apply_from.ensures.stray c.apply_from-2.ensures.stray agrees in
@@ -283,8 +274,8 @@ returns-clause-holds g t c =
     let gives = g.G.Merge.gives c.apply_from-2.new.merge in
     let whole = merged_by c.args.self.now c.args.key.operands.items in
     let inner : slot < c.args.arena.now.slots = omega (arith, c.slots-slots.ensures.slots) in
-    let low = c.in_ok-when_false.ensures.fixed in
-    let high = c.in_ok-when_true.ensures.fixed in
+    let low = c.in_ok-when_false.ensures.when_false.fixed in
+    let high = c.in_ok-when_false.ensures.when_true.fixed in
     let merged = sides_merged low high (g.G.Merge.gives c.apply_from.new.merge) gives c.apply_from-2.ensures.known
     c.args.arena.now c.apply_from.new.arena two c.apply_from.ensures.kept c.apply_from-2.ensures.kept inner
     c.in_ok-lo.lo c.in_ok-hi.hi c.in_ok-lo.ensures.is_ref c.in_ok-lo.ensures.value c.in_ok-hi.ensures.value in
