@@ -1,4 +1,4 @@
-// The functions that are measured: random ones, bits of a product, and parities.
+// The functions that are measured, or that measured machines go on by: random ones, bits of a product, and parities.
 ghost use Rattle.std.specs.Prelude.{◌≤◌, ◌<◌, ◌+◌, ℕ, Bool, List, IfOk};
 ghost use Rattle.dcv_bench.specs.Bits.{IsFrom};
 ghost use Rattle.dcv_arena.specs.Arena.{IsArena, IsRef, KeepsRefs, level_of, value_of};
@@ -12,6 +12,10 @@ pub(crate) enum Function {
     Random { seed: u64 },
     // A bit of the product of the letter's two halves.
     Product { bit: u32 },
+    // Whether an odd number of these bits are set.
+    Odd { mask: u32 },
+    // Whether an even number of them are.
+    Even { mask: u32 },
 }
 
 impl Function {
@@ -26,6 +30,8 @@ impl Function {
                 let (high, low) = (letter.wrapping_shr(half), letter & mask(half));
                 u64::from(high.wrapping_mul(low).wrapping_shr(bit))
             }
+            Function::Odd { mask } => u64::from((letter & mask).count_ones()),
+            Function::Even { mask } => u64::from((letter & mask).count_ones()) ^ 1,
         };
         if bits & 1 == 1 { 1 } else { 0 }
     }

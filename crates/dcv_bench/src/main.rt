@@ -1,13 +1,17 @@
 //! Measures the operations on diagrams: `dcv_bench CASE SLOTS TIMES` does what a case says so many times, and tells how
 //! large its result is. With a fourth word, `timed`, it also tells the nanoseconds of processor time that each time took.
+//! `dcv_bench EXPLORATION SIZE TIMES` does the same with explorations of that size, and tells how many states there are.
 //!
-//! Nothing here is promised by a contract but that it ends. `bench/diagrams.sh` runs each case beside a program in C.
+//! Nothing here is promised by a contract but that it ends. `bench/diagrams.sh` and `bench/explorations.sh` run each case.
 #![tactic(auto)]
 
 mod cases;
+mod explorations;
 mod functions;
+mod rings;
 
 use crate::cases::{Case, measure};
+use crate::explorations::Exploration;
 use anyhow::{Result, bail};
 use std::env;
 
@@ -20,12 +24,20 @@ fn main(rt: HostRuntime) -> Result<()> {
     if words.len() < 3 {
         bail!("usage: dcv_bench CASE SLOTS TIMES [timed]");
     }
-    let Some(case) = Case::named(words[0].as_str()) else {
-        bail!("no such case");
-    };
-    let slots: u8 = words[1].as_str().parse()?;
     let times: u32 = words[2].as_str().parse()?;
-    let (size, time) = measure(&rt, alloc, case, slots, times)?;
+    let (size, time) = match Exploration::named(words[0].as_str()) {
+        Some(exploration) => {
+            let size: u32 = words[1].as_str().parse()?;
+            explorations::measure(&rt, alloc, exploration, size, times)?
+        }
+        None => {
+            let Some(case) = Case::named(words[0].as_str()) else {
+                bail!("no such case");
+            };
+            let slots: u8 = words[1].as_str().parse()?;
+            measure(&rt, alloc, case, slots, times)?
+        }
+    };
     if words.len() > 3 {
         let each = time.as_nanos() / u128::from(times.max(1));
         println!(rt; "{size} {each}")?;

@@ -1,0 +1,59 @@
+#!/usr/bin/env bash
+# Measures explorations. Proves and builds `dcv_bench` with rt, builds explorations.c with clang, explores each case so many
+# times, and tells the least nanoseconds of processor time that one state took, in Rattle and, where C has the case too, in C,
+# and their quotient. The numbers of states must be the same. What is worked with are rings of SIZE states, which are explored
+# before the time begins: at each letter a state goes on by one, or does not, and the last goes on to the first.
+#
+#   bench/explorations.sh            every case
+#   bench/explorations.sh CASE..     these
+#
+#   counter     one ring, which goes on where the one variable is true; its own rows of one node
+#   grid        the product of two, one of which goes on where the variable is false; rows of one node
+#   wide        the product of two, which go on by the parity of the first and of the last four of eight variables; rows of 21 nodes
+#   shared      the same, but each goes on from the double of the state, so that four states have one row
+#   chop        the chop of two that go on where the one variable is true, the second smaller by one; sets of up to so many states
+#   exists      the quantifier over a ring that depends on the other of two variables; sets of one state
+#   sets        the quantifier over the product of two rings, one for each of two variables; sets of up to SIZE states
+#
+# A case is a word of dcv_bench's arguments, beside its size and how often it is done.
+set -euo pipefail
+here=$(cd "$(dirname "$(readlink -f "${BASH_SOURCE[0]}")")" && pwd)
+runs=${RUNS:-5}
+built=$(mktemp -d)
+trap 'rm -rf "$built"' EXIT
+
+clang -O2 -Wall -Wextra -o "$built/c" "$here/explorations.c"
+(cd "$here/../crates/dcv_bench" && rt run -- multiplier 6 1 >"$built/log" 2>&1) || { cat "$built/log"; exit 1; }
+rattle=$here/../crates/dcv_bench/out/dcv_bench
+
+# How many states there are, and the least time of an exploration.
+least() {
+  local program=$1 size= best= each found
+  shift
+  for _ in $(seq "$runs"); do
+    read -r found each < <("$program" "$@" timed)
+    [ -z "$size" ] || [ "$size" = "$found" ] || { echo "states differ: $*" >&2; exit 1; }
+    size=$found
+    [ -n "$best" ] && [ "$best" -le "$each" ] || best=$each
+  done
+  echo "$size $best"
+}
+
+printf '%-8s %6s %8s %8s %8s %6s\n' case size states rattle C times
+while read -r name size times; do
+  [ $# -eq 0 ] || [[ " $* " == *" $name "* ]] || continue
+  read -r states mine < <(least "$rattle" "$name" "$size" "$times")
+  expected=$states theirs=
+  case $name in grid | wide | shared) read -r expected theirs < <(least "$built/c" "$name" "$size" "$times") ;; esac
+  [ "$states" = "$expected" ] || { echo "$name $size: $states states in Rattle, $expected in C" >&2; exit 1; }
+  awk -v n="$name" -v s="$size" -v k="$states" -v a="$mine" -v b="$theirs" \
+    'BEGIN { printf "%-8s %6d %8d %8d", n, s, k, a / k; if (b != "") printf " %8d %6.2f", b / k, a / b; print "" }'
+done <<'END'
+counter 30000 5
+grid 170 5
+wide 100 2
+shared 100 5
+chop 100 1
+exists 10000 5
+sets 100 1
+END
