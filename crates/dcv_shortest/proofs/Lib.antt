@@ -9,3 +9,10 @@ mod Certificates
 mod AccessWords
 mod Tallying
 mod Sizing
+mod Shifting
+mod MemberLists
+mod Having
+mod Counted
+mod Rarer
+mod Candidates
+mod Indicating

@@ -180,7 +180,7 @@ alike_in_full blocks count sizes at met marks t s low full arena letter first se
           let lt = count_lt (length blocks) (is_counted blocks marks here) (λ n. block_of blocks n == here)
           (λ n l e. (and_parts (block_of blocks n == here) (has_mark marks n) e).0) state h
           (and_second (block_of blocks state == here) (has_mark marks state) no_mark) (eq-eqb (block_of blocks state) here same) in
-          absurd (omega (arith, lt, t.counted here, all, s.no_more here (low first 0 first_is)))
+          absurd (omega (arith, lt, t.counted here, all, s.are here (low first 0 first_is)))
     ]
 
     by_entry : (entry : Option (Ref × ℕ)) → at (block_of blocks first) ≡ entry → get_or sizes (block_of blocks first) 0 ≤ number_of (at (block_of blocks first))
