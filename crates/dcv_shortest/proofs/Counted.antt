@@ -8,30 +8,7 @@ use Rattle.dcv_shortest.specs.declared.ones.Ones.{Ones}
 use Rattle.dcv_shortest.specs.Separation.{block_of, count_below}
 use Rattle.dcv_shortest.specs.Ones.{is_one, ones_in, AreNoOnes, IsOneMore, AreCounted}
 use Rattle.dcv_shortest.proofs.Counting.{one_if, count_same, count_change, count_none}
-
-or_false : (a b : Bool) → b ≡ false → (a || b) ≡ a
-or_false true b e = refl
-or_false false b e = e
-
-or_true : (a b : Bool) → b ≡ true → (a || b) ≡ true
-or_true true b e = refl
-or_true false b e = e
-
-or_cases : (a b : Bool) → a ≡ false → (a || b) ≡ true → b ≡ true
-or_cases true b e f = absurd (true≢false e)
-or_cases false b e f = f
-
-and_true : (a b : Bool) → a ≡ true → (a && b) ≡ b
-and_true true b e = refl
-and_true false b e = absurd (true≢false (sym e))
-
-and_false : (a b : Bool) → b ≡ false → (a && b) ≡ false
-and_false true b e = e
-and_false false b e = refl
-
-and_none : (a b : Bool) → a ≡ false → (a && b) ≡ false
-and_none true b e = absurd (true≢false e)
-and_none false b e = refl
+use Rattle.dcv_shortest.proofs.Truths.{or_right, or_neither, or_other, and_left, and_first, and_second}
 
 one_unless : (b : Bool) → (if b then 0 else 1) + one_if b ≡ 1
 one_unless true = refl
@@ -41,7 +18,7 @@ pub counted_none : (blocks : List ℕ) (ones : Ones) → AreNoOnes ones → AreC
 counted_none blocks ones empty = record {
   states_are = λ state is. absurd (true≢false (sym is ∙ empty.none state));
   numbers = λ block. empty.no_counts block ∙ sym (count_none (length blocks) (λ state. (block_of blocks state == block) && is_one ones state)
-      (λ state h. and_false (block_of blocks state == block) (is_one ones state) (empty.none state)));
+      (λ state h. and_second (block_of blocks state == block) (is_one ones state) (empty.none state)));
   listed = λ block some. absurd (omega (arith, some, empty.no_counts block));
   only = empty.no_blocks;
 }
@@ -51,10 +28,10 @@ module _ (blocks : List ℕ) (old new : Ones) (state : ℕ) (within : state < le
   block = block_of blocks state
 
   others_stay : (other : ℕ) → other ≢ state → is_one new other ≡ is_one old other
-  others_stay other ne = more.states_are other ∙ or_false (is_one old other) (state == other) (ne_eqb state other (λ e. ne (sym e)))
+  others_stay other ne = more.states_are other ∙ or_neither (is_one old other) (state == other) (ne_eqb state other (λ e. ne (sym e)))
 
   is_there : is_one new state ≡ true
-  is_there = more.states_are state ∙ or_true (is_one old state) (state == state) (eq-eqb state state refl)
+  is_there = more.states_are state ∙ or_right (is_one old state) (state == state) (eq-eqb state state refl)
 
   numbers_then : (one : ℕ) → ones_in new one ≡ count_below (length blocks) (λ n. (block_of blocks n == one) && is_one new n)
   numbers_then one = elim (cases_eq one block) [
@@ -63,8 +40,8 @@ module _ (blocks : List ℕ) (old new : Ones) (state : ℕ) (within : state < le
         let before = λ (n : ℕ). (block_of blocks n == block) && is_one old n in
         let change : count_below (length blocks) now + one_if (before state) ≡ count_below (length blocks) before + one_if (now state) =
         count_change (length blocks) now before state within (λ n ne. ap (λ there. (block_of blocks n == block) && there) (others_stay n ne)) in
-        let here : one_if (now state) ≡ 1 = ap one_if (and_true (block == block) (is_one new state) (eq-eqb block block refl) ∙ is_there) in
-        let there : one_if (before state) ≡ one_if (is_one old state) = ap one_if (and_true (block == block) (is_one old state) (eq-eqb block block refl)) in
+        let here : one_if (now state) ≡ 1 = ap one_if (and_left (block == block) (is_one new state) (eq-eqb block block refl) ∙ is_there) in
+        let there : one_if (before state) ≡ one_if (is_one old state) = ap one_if (and_left (block == block) (is_one old state) (eq-eqb block block refl)) in
         let same : ones_in new block ≡ count_below (length blocks) now = omega (arith, change, here, there, more.here, one_unless (is_one old state), was.numbers block) in
         subst (λ one. ones_in new one ≡ count_below (length blocks) (λ n. (block_of blocks n == one) && is_one new n)) (sym e) same
     | inr ne ↦
@@ -72,7 +49,7 @@ module _ (blocks : List ℕ) (old new : Ones) (state : ℕ) (within : state < le
         ∙ count_same (length blocks) (λ n. (block_of blocks n == one) && is_one old n) (λ n. (block_of blocks n == one) && is_one new n) (λ n h. elim (cases_eq n state) [
           | inl e ↦
               let other : (block_of blocks n == one) ≡ false = ne_eqb (block_of blocks n) one (λ f. ne (sym f ∙ ap (block_of blocks) e)) in
-              and_none (block_of blocks n == one) (is_one old n) other ∙ sym (and_none (block_of blocks n == one) (is_one new n) other)
+              and_first (block_of blocks n == one) (is_one old n) other ∙ sym (and_first (block_of blocks n == one) (is_one new n) other)
           | inr differ ↦ ap (λ there. (block_of blocks n == one) && there) (sym (others_stay n differ))
         ])
   ]
@@ -81,7 +58,7 @@ module _ (blocks : List ℕ) (old new : Ones) (state : ℕ) (within : state < le
   counted_more = record {
     states_are = λ other is. elim (cases_Bool (is_one old other)) [
       | inl before ↦ was.states_are other before
-      | inr fresh ↦ let same = eqb-true state other (or_cases (is_one old other) (state == other) fresh (sym (more.states_are other) ∙ is)) in subst (λ n. n < length blocks) same within
+      | inr fresh ↦ let same = eqb-true state other (or_other (is_one old other) (state == other) fresh (sym (more.states_are other) ∙ is)) in subst (λ n. n < length blocks) same within
     ];
     numbers = numbers_then;
     listed = more.listed was.listed;

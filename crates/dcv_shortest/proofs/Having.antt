@@ -4,18 +4,7 @@ use Rattle.std.proofs.lemmas.Bool.{cases_lt, cases_Bool, true≢false, eqb-true,
 use Rattle.std.proofs.lemmas.List.Elements.{All-weaker, All-contains_itself}
 use Rattle.std.proofs.lemmas.List.Folds.{list_any-append}
 use Rattle.dcv_shortest.specs.Separation.{has}
-
-or_left : (a b : Bool) → a ≡ true → (a || b) ≡ true
-or_left true b e = refl
-or_left false b e = absurd (true≢false (sym e))
-
-or_right : (a b : Bool) → b ≡ true → (a || b) ≡ true
-or_right true b e = refl
-or_right false b e = e
-
-or_other : (a b : Bool) → a ≡ false → (a || b) ≡ true → b ≡ true
-or_other true b e f = absurd (true≢false e)
-or_other false b e f = f
+use Rattle.dcv_shortest.proofs.Truths.{or_left, or_right, or_other}
 
 pub has_contained : (states : List ℕ) (state : ℕ) → Contains states state → has states state ≡ true
 has_contained [] state c = absurd (omega (arith, c.1))

@@ -20,6 +20,7 @@ use Rattle.dcv_shortest.specs.Indicators.{part_of, leads, IsIndicator, Became, I
 use Rattle.dcv_shortest.proofs.Walking.{marks_kept, marked_kept, marked_push, one_or_not}
 use Rattle.dcv_shortest.proofs.Moving.{has_more_same, has_more_other}
 use Rattle.dcv_shortest.proofs.Having.{has_contained, contained}
+use Rattle.dcv_shortest.proofs.Truths.{or_neither, and_left, and_first, and_second}
 
 pub indicator_kept : (part : Part) (old new : ArenaValue) (root mark : Ref) → KeepsRefs old new → IsIndicator part old root mark → IsIndicator part new root mark
 indicator_kept part old new root mark kept is = record {
@@ -82,22 +83,6 @@ indicator_nowhere part scratch root level none = record {
 
 -- ---- the marks of some states, one after another
 
-and_nothing : (a b : Bool) → a ≡ false → (a && b) ≡ false
-and_nothing true b e = absurd (true≢false e)
-and_nothing false b e = refl
-
-and_right : (a b : Bool) → a ≡ true → (a && b) ≡ b
-and_right true b e = refl
-and_right false b e = absurd (true≢false (sym e))
-
-and_none : (a b : Bool) → b ≡ false → (a && b) ≡ false
-and_none true b e = e
-and_none false b e = refl
-
-or_not : (a b : Bool) → b ≡ false → (a || b) ≡ a
-or_not true b e = refl
-or_not false b e = e
-
 -- both have it, or one
 and_again : (a b : Bool) → ((a && b) || b) ≡ b
 and_again true true = refl
@@ -115,11 +100,11 @@ one_indicator_more part rows looked place old new states marks mark kept refs wi
       | inl e ↦
           let value : (value_of new mark letter == 1) ≡ leads part (row_at rows state) letter =
           one_or_not (leads part (row_at rows state) letter) (value_of new mark letter) (is.value letter ∙ ap (λ state. (if leads part (row_at rows state) letter then 1 else 0)) e) in
-          (λ i. before i || (and_right (one == state) (value_of new mark letter == 1) (eq-eqb one state e) ∙ value) i)
+          (λ i. before i || (and_left (one == state) (value_of new mark letter == 1) (eq-eqb one state e) ∙ value) i)
           ∙ and_again (has (take place looked) state) (leads part (row_at rows state) letter)
-          ∙ sym (and_right (has (take (place + 1) looked) state) (leads part (row_at rows state) letter) (has_more_same looked place state within e))
+          ∙ sym (and_left (has (take (place + 1) looked) state) (leads part (row_at rows state) letter) (has_more_same looked place state within e))
       | inr ne ↦
-          or_not (marked new marks letter state) ((one == state) && (value_of new mark letter == 1)) (and_nothing (one == state) (value_of new mark letter == 1) (ne_eqb one state ne))
+          or_neither (marked new marks letter state) ((one == state) && (value_of new mark letter == 1)) (and_first (one == state) (value_of new mark letter == 1) (ne_eqb one state ne))
           ∙ before ∙ ap (λ there. there && leads part (row_at rows state) letter) (sym (has_more_other looked place state within ne))
     ]
 
@@ -149,6 +134,6 @@ module _ (raw : RawValue) (v : AreVertices raw) (nodes rows : Lists) (index : Is
         | inl is_there ↦
             let there = contained states next is_there in
             let seen = lead_to raw.arena raw.rows nodes rows index states above looked closed v.rows state letter below (All-contains (λ state. state < length raw.rows) states next inside there) there in
-            and_right (has looked state) (leads part (row_at raw.rows state) letter) (has_contained looked state seen) ∙ goes
-        | inr isnt ↦ and_none (has looked state) (leads part (row_at raw.rows state) letter) (goes ∙ isnt) ∙ sym isnt
+            and_left (has looked state) (leads part (row_at raw.rows state) letter) (has_contained looked state seen) ∙ goes
+        | inr isnt ↦ and_second (has looked state) (leads part (row_at raw.rows state) letter) (goes ∙ isnt) ∙ sym isnt
       ]

@@ -1,4 +1,5 @@
 mod FirstWord
+mod Truths
 mod Counting
 mod Listing
 mod Separating

@@ -10,24 +10,17 @@ use Rattle.std.proofs.lemmas.Option.{same_Some, slice_get_within}
 use Rattle.dcv_shortest.specs.Separation.{has, block_of, IsSplit}
 use Rattle.dcv_shortest.specs.Partition.{OnceEach, IsBehind, IsMovedTo}
 use Rattle.dcv_shortest.specs.Members.{count_up}
+use Rattle.dcv_shortest.proofs.Truths.{or_right, or_neither}
 
 -- ---- members of a list
 
-or_true : (a b : Bool) → b ≡ true → (a || b) ≡ true
-or_true true b e = refl
-or_true false b e = e
-
-or_false : (a b : Bool) → b ≡ false → (a || b) ≡ a
-or_false true b e = refl
-or_false false b e = e
-
 pub has_more_same : (numbers : List ℕ) (i state : ℕ) → i < length numbers → get_or numbers i 0 ≡ state → has (take (i + 1) numbers) state ≡ true
 has_more_same numbers i state h e =
-    list_any_more (λ one. one == state) numbers i 0 h ∙ or_true (has (take i numbers) state) (get_or numbers i 0 == state) (eq-eqb (get_or numbers i 0) state e)
+    list_any_more (λ one. one == state) numbers i 0 h ∙ or_right (has (take i numbers) state) (get_or numbers i 0 == state) (eq-eqb (get_or numbers i 0) state e)
 
 pub has_more_other : (numbers : List ℕ) (i state : ℕ) → i < length numbers → get_or numbers i 0 ≢ state → has (take (i + 1) numbers) state ≡ has (take i numbers) state
 has_more_other numbers i state h ne =
-    list_any_more (λ one. one == state) numbers i 0 h ∙ or_false (has (take i numbers) state) (get_or numbers i 0 == state) (ne_eqb (get_or numbers i 0) state ne)
+    list_any_more (λ one. one == state) numbers i 0 h ∙ or_neither (has (take i numbers) state) (get_or numbers i 0 == state) (ne_eqb (get_or numbers i 0) state ne)
 
 -- ---- the new number of a block that is left
 

@@ -11,19 +11,7 @@ use Rattle.dcv_shortest.specs.Tallies.{AreSizes}
 use Rattle.dcv_shortest.specs.Ones.{is_one, ones_in, AreCounted, are_few_in, AreCandidates, AreRarer}
 use Rattle.dcv_shortest.proofs.Counting.{more_pass, count_some, count_none}
 use Rattle.dcv_shortest.proofs.Having.{has_contained}
-
-and_parts : (a b : Bool) → (a && b) ≡ true → (a ≡ true) × (b ≡ true)
-and_parts true true e = (refl, refl)
-and_parts true false e = absurd (true≢false (sym e))
-and_parts false b e = absurd (true≢false (sym e))
-
-and_one : (a b : Bool) → a ≡ true → (a && b) ≡ b
-and_one true b e = refl
-and_one false b e = absurd (true≢false (sym e))
-
-and_false : (a b : Bool) → b ≡ false → (a && b) ≡ false
-and_false true b e = e
-and_false false b e = refl
+use Rattle.dcv_shortest.proofs.Truths.{and_left, and_second, and_parts}
 
 beq_cancel : (a b side : Bool) → beq a side ≡ beq b side → a ≡ b
 beq_cancel true true side e = refl
@@ -76,8 +64,8 @@ module _ (raw : RawValue) (blocks sizes : List ℕ) (count : ℕ) (ones : Ones) 
   in_part : (state : ℕ) → state < length blocks → has part state ≡ beq (test state) (side state)
   in_part state h =
       rarer state ∙ elim (cases_Bool (beq (is_one ones state) (side state))) [
-        | inl is ↦ and_one (has candidates state) (beq (is_one ones state) (side state)) (is_candidate state h (is_one ones state) (side state) refl refl is)
-        | inr isnt ↦ and_false (has candidates state) (beq (is_one ones state) (side state)) isnt ∙ sym isnt
+        | inl is ↦ and_left (has candidates state) (beq (is_one ones state) (side state)) (is_candidate state h (is_one ones state) (side state) refl refl is)
+        | inr isnt ↦ and_second (has candidates state) (beq (is_one ones state) (side state)) isnt ∙ sym isnt
       ] ∙ ap (λ one. beq one (side state)) (are state)
 
   alike : (first second : ℕ) → AreTogether raw blocks first second → TellAlike test (has part) first second
@@ -99,7 +87,7 @@ module _ (raw : RawValue) (blocks sizes : List ℕ) (count : ℕ) (ones : Ones) 
   has_other state h true few is =
       let block = block_of blocks state in
       let here : 0 < ones_in ones block =
-      omega (arith, counted.numbers block, count_some (length blocks) (in_block_is blocks ones block) state h (and_one (block == block) (is_one ones state) (eq-eqb block block refl) ∙ is)) in
+      omega (arith, counted.numbers block, count_some (length blocks) (in_block_is blocks ones block) state h (and_left (block == block) (is_one ones state) (eq-eqb block block refl) ∙ is)) in
       let half : ones_in ones block ≤ get_or sizes block 0 / 2 = few_is (ones_in ones block) (get_or sizes block 0 / 2) few in
       let less : count_below (length blocks) (in_block_is blocks ones block) < count_below (length blocks) (λ n. block_of blocks n == block) = omega (arith, counted.numbers block, s.are block (low state 0 h)) in
       let one = more_pass (length blocks) (in_block_is blocks ones block) (λ n. block_of blocks n == block) less in
@@ -107,7 +95,7 @@ module _ (raw : RawValue) (blocks sizes : List ℕ) (count : ℕ) (ones : Ones) 
         other = one.number;
         is_state = one.below;
         in_block = eqb-true (block_of blocks one.number) block one.other;
-        not_one = sym (and_one (block_of blocks one.number == block) (is_one ones one.number) one.other) ∙ one.one ∙ sym (ap not few);
+        not_one = sym (and_left (block_of blocks one.number == block) (is_one ones one.number) one.other) ∙ one.one ∙ sym (ap not few);
       }
   has_other state h false few is =
       let block = block_of blocks state in

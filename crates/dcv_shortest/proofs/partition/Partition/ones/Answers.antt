@@ -10,23 +10,12 @@ use Rattle.dcv_shortest.specs.Separation.{block_of}
 use Rattle.dcv_shortest.specs.Marks.{marked}
 use Rattle.dcv_shortest.specs.Ones.{is_one, IsOneMore, AreCounted}
 use Rattle.dcv_shortest.proofs.Counted.{counted_none, counted_more}
+use Rattle.dcv_shortest.proofs.Truths.{or_neither, and_right, and_second}
 use Rattle.dcv_shortest.proofs.partition.Partition.ones.Goals as goal
 use Rattle.dcv_shortest.proofs.partition.Partition.ones.Goals.{Joined-eval-eq1, then-eval-eq1+in_ok-add, else-eval-eq1}
 
 pub loop-state-init : goal.loop-state-init
 loop-state-init c = record { so_far = c.new-ones.ensures.none; counted = counted_none c.args.self.now.blocks.items c.new-ones.result c.new-ones.ensures }
-
-and_true : (a b : Bool) → b ≡ true → (a && b) ≡ a
-and_true true b e = e
-and_true false b e = refl
-
-and_false : (a b : Bool) → b ≡ false → (a && b) ≡ false
-and_false true b e = e
-and_false false b e = refl
-
-or_false : (a b : Bool) → b ≡ false → (a || b) ≡ a
-or_false true b e = refl
-or_false false b e = e
 
 module _ (c : Joined-eval-eq1) where
   abbrev mark : ℕ × Ref
@@ -49,11 +38,11 @@ module _ (c : Joined-eval-eq1) where
             let is_one_there : (value == 1) ≡ true = eq-eqb value 1 (sym c.eval.ensures.value ∙ w.if-eval-eq1.true) in
             ap (λ (ones : Ones). is_one ones state) w.ones-is ∙ w.in_ok-add.ensures.states_are state
             ∙ ap (λ was. was || (mark.0 == state)) (c.loop-state.invariant.so_far state)
-            ∙ ap (λ own. before || own) (sym (and_true (mark.0 == state) (value == 1) is_one_there)) ∙ sym (taken state)
+            ∙ ap (λ own. before || own) (sym (and_right (mark.0 == state) (value == 1) is_one_there)) ∙ sym (taken state)
         | else-eval-eq1 w ↦
             let none_there : (value == 1) ≡ false = ne_eqb value 1 (λ e. w.if-eval-eq1.false (c.eval.ensures.value ∙ e)) in
             ap (λ (ones : Ones). is_one ones state) w.ones-is ∙ c.loop-state.invariant.so_far state
-            ∙ sym (or_false before ((mark.0 == state) && (value == 1)) (and_false (mark.0 == state) (value == 1) none_there)) ∙ sym (taken state)
+            ∙ sym (or_neither before ((mark.0 == state) && (value == 1)) (and_second (mark.0 == state) (value == 1) none_there)) ∙ sym (taken state)
       ]
 
   counted : AreCounted c.args.self.now.blocks.items c.if-eval-eq1.ones
