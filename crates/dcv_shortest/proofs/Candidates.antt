@@ -1,5 +1,5 @@
 -- Candidates, while the blocks in which ones are not few are listed.
-use Rattle.std.proofs.Common.{◌≡◌, ◌⊎◌, inl, inr, ℕ, ◌<◌, ◌≤◌, ◌+◌, ◌/◌, leb, Bool, true, false, List, length, get_or, take, All, Contains, refl, sym, subst, ◌∙◌, arith}
+use Rattle.std.proofs.Common.{◌≡◌, ◌⊎◌, inl, inr, ℕ, ◌<◌, ◌+◌, ◌/◌, true, false, List, length, get_or, take, All, Contains, refl, sym, subst, ◌∙◌, arith}
 use Rattle.std.proofs.lemmas.Bool.{true≢false}
 use Rattle.std.proofs.lemmas.List.Elements.{All-more, All-weaker, All-contains}
 use Rattle.dcv_shortest.specs.declared.ones.Ones.{Ones}

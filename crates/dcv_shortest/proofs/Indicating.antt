@@ -1,5 +1,5 @@
 -- The functions that have 1 where letters lead into a part, made from those of the two sides of a node, and the marks that they give.
-use Rattle.std.proofs.Common.{◌≡◌, ◌≢◌, ℕ, ◌<◌, ◌≤◌, ◌+◌, ◌==◌, ◌||◌, ◌&&◌, if◌then◌else◌, Bool, true, false, cond, nat_eq, List, [], ◌∷◌, ◌++◌, length, get_or, take, All, Contains, Option, Some, inl, inr, refl, ap, sym, subst, ◌∙◌, arith}
+use Rattle.std.proofs.Common.{◌≡◌, ℕ, ◌<◌, ◌≤◌, ◌+◌, ◌==◌, ◌||◌, ◌&&◌, if◌then◌else◌, Bool, true, false, cond, nat_eq, List, [], ◌∷◌, ◌++◌, length, get_or, take, All, Contains, Option, Some, inl, inr, refl, ap, sym, subst, ◌∙◌, arith}
 use Rattle.std.proofs.lemmas.Bool.{cases_Bool, cases_eq, true≢false, eq-eqb, ne_eqb}
 use Rattle.std.specs.Cmp.{nat_eq_equiv}
 use Rattle.std.proofs.lemmas.List.Elements.{All-contains}
@@ -17,7 +17,7 @@ use Rattle.dcv_shortest.specs.declared.indicators.Part.{Part}
 use Rattle.dcv_shortest.specs.Separation.{has, AreVertices}
 use Rattle.dcv_shortest.specs.Marks.{marked, IsMarkFrom}
 use Rattle.dcv_shortest.specs.Indicators.{part_of, leads, IsIndicator, Became, IsMarkedAbove, AreIndicators}
-use Rattle.dcv_shortest.proofs.Walking.{marks_kept, marked_kept, marked_push, one_or_not}
+use Rattle.dcv_shortest.proofs.Walking.{marked_kept, marked_push, one_or_not}
 use Rattle.dcv_shortest.proofs.Moving.{has_more_same, has_more_other}
 use Rattle.dcv_shortest.proofs.Having.{has_contained, contained}
 use Rattle.dcv_shortest.proofs.Truths.{or_neither, and_left, and_first, and_second}

@@ -1,5 +1,5 @@
 -- The smaller parts of the blocks: of the candidates those that are on the smaller side.
-use Rattle.std.proofs.Common.{◌≡◌, ◌≢◌, ℕ, ◌<◌, ◌≤◌, ◌+◌, ◌/◌, ◌==◌, ◌&&◌, leb, Bool, true, false, not, List, [], ◌∷◌, length, get_or, All, inl, inr, Contains, refl, ap, sym, subst, ◌∙◌, arith}
+use Rattle.std.proofs.Common.{◌≡◌, ◌≢◌, ℕ, ◌<◌, ◌≤◌, ◌/◌, ◌==◌, ◌&&◌, leb, Bool, true, false, not, List, [], ◌∷◌, length, get_or, All, inl, inr, Contains, refl, ap, sym, ◌∙◌, arith}
 use Rattle.std.specs.Bool.{beq}
 use Rattle.std.proofs.lemmas.Bool.{cases_Bool, true≢false, eqb-true, eq-eqb}
 use Rattle.std.proofs.lemmas.List.Elements.{All-contains}

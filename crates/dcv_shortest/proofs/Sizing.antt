@@ -1,7 +1,7 @@
 -- Counting the states of each block, one after another.
 use Rattle.std.proofs.Common.{◌≡◌, ℕ, zero, suc, ◌<◌, ◌≤◌, ◌==◌, Bool, List, length, get_or, arith}
 use Rattle.dcv_shortest.specs.Separation.{block_of, count_below}
-use Rattle.dcv_shortest.proofs.Counting.{one_if, one_if_le}
+use Rattle.dcv_shortest.proofs.Counting.{one_if_le}
 
 pub count-le : (n : ℕ) (test : ℕ → Bool) → count_below n test ≤ n
 count-le zero test = omega arith

@@ -6,14 +6,14 @@
 --     AreDone raw blocks word slot front    and at none of these letters does it
 --     IsSideOf arena slot value marks side    where the slot has the value, the side has the same states marked
 --     IsSplitOff raw blocks test part     in each block the part has the states on one side of the test; and if it has a state, then not all of a block
-use Rattle.std.specs.Prelude.{◌≡◌, ◌≢◌, ℕ, ◌<◌, ◌≤◌, ◌==◌, ◌&&◌, Bool, false, not, List, [], ◌∷◌, length, slice_index_or}
+use Rattle.std.specs.Prelude.{◌≡◌, ◌≢◌, ℕ, ◌<◌, ◌≤◌, ◌==◌, ◌&&◌, Bool, false, List, [], ◌∷◌, length, slice_index_or}
 use Rattle.std.specs.List.{list_any}
 use Rattle.dcv_word.specs.Behaviour.{Word}
 use Rattle.dcv_arena.specs.Arena.{ArenaValue, IsRef, level_of, value_of}
 use Rattle.dcv_arena.specs.declared.nodes.Ref.{Ref}
 use Rattle.dcv_apply.specs.Walk.{AgreeBefore}
 use Rattle.dcv_dfa.specs.Raw.{RawValue}
-use Rattle.dcv_shortest.specs.Separation.{accepts_word, TellAlike, AreTogether, block_of, has}
+use Rattle.dcv_shortest.specs.Separation.{accepts_word, TellAlike, AreTogether, has}
 
 abbrev pub marked : ArenaValue → List (ℕ × Ref) → List Bool → ℕ → Bool
 marked arena marks letter state = list_any (λ mark. (mark.0 == state) && (value_of arena mark.1 letter == 1)) marks

@@ -1,4 +1,4 @@
-use Rattle.std.proofs.Common.{◌≡◌, ◌<◌, length, subst, ◌∙◌, arith}
+use Rattle.std.proofs.Common.{◌<◌, length, subst, ◌∙◌}
 use Rattle.dcv_index.specs.Lists.{Adds}
 use Rattle.dcv_index.specs.Index.{row_at}
 use Rattle.dcv_index.proofs.AddFacts.{row_above, row_only}

@@ -1,10 +1,10 @@
-use Rattle.std.proofs.Common.{◌≡◌, ◌<◌, ◌≤◌, Bool, false, List, get_or, if◌then◌else◌, Ok, Some, IfOk, nat_eq, refl, sym, ap, subst, ◌∙◌, arith}
+use Rattle.std.proofs.Common.{◌≡◌, ◌≤◌, Bool, false, List, get_or, if◌then◌else◌, Ok, Some, IfOk, nat_eq, refl, sym, subst, ◌∙◌, arith}
 use Rattle.indexmap.specs.IndexMap.{get}
 use Rattle.dcv_arena.specs.Arena.{IsRef, level_of, value_of}
 use Rattle.dcv_arena.specs.declared.nodes.Ref.{Ref}
 use Rattle.dcv_arena.specs.declared.nodes.Ref.TheVariants.{Place}
 use Rattle.dcv_arena.proofs.Roots.{kept_in_turn}
-use Rattle.dcv_shortest.specs.Indicators.{leads, IsIndicator, Became}
+use Rattle.dcv_shortest.specs.Indicators.{IsIndicator}
 use Rattle.dcv_shortest.proofs.Separating.{was_ok}
 use Rattle.dcv_shortest.proofs.Indicating.{indicator_kept, became_kept, became_more, indicator_of_node, indicator_nowhere, leads_nowhere}
 use Rattle.dcv_shortest.proofs.indicators.Part.+indicator.Goals as goal

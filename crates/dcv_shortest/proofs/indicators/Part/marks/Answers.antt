@@ -1,7 +1,5 @@
-use Rattle.std.proofs.Common.{◌<◌, ◌++◌, ◌∷◌, [], ◌+◌, List, ℕ, All, length, get_or, take, sym, subst, ◌∙◌, arith}
+use Rattle.std.proofs.Common.{◌<◌, ◌+◌, All, length, get_or, take, sym, subst, arith}
 use Rattle.std.proofs.lemmas.List.Elements.{All-push}
-use Rattle.dcv_arena.specs.declared.nodes.Ref.{Ref}
-use Rattle.dcv_arena.specs.declared.nodes.Ref.TheVariants.{Leaf}
 use Rattle.dcv_arena.proofs.Roots.{kept_in_turn}
 use Rattle.dcv_index.specs.Index.{row_at}
 use Rattle.dcv_shortest.specs.Marks.{IsMarkFrom}

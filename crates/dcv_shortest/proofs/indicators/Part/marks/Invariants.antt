@@ -1,4 +1,4 @@
-use Rattle.std.proofs.Common.{◌≡◌, All, length, take, nat_eq}
+use Rattle.std.proofs.Common.{All, length, take, nat_eq}
 use Rattle.indexmap.specs.IndexMap.{get}
 use Rattle.dcv_arena.specs.Arena.{IsArena, KeepsRefs}
 use Rattle.dcv_shortest.specs.Marks.{IsMarkFrom}

@@ -1,10 +1,9 @@
-use Rattle.std.proofs.Common.{◌≡◌, ◌<◌, ◌+◌, inl, inr, ℕ, List, Vec, Global, length, get_or, take, All, Contains, refl, sym, ap, subst, ◌∙◌, arith}
+use Rattle.std.proofs.Common.{◌≡◌, ◌<◌, inl, inr, ℕ, List, Vec, Global, length, get_or, All, Contains, refl, sym, ap, subst, ◌∙◌, arith}
 use Rattle.std.proofs.lemmas.List.{take_all}
 use Rattle.dcv_shortest.specs.declared.partition.Partition.{Partition}
-use Rattle.dcv_shortest.specs.Separation.{block_of}
 use Rattle.dcv_shortest.specs.Partition.{IsButMended}
 use Rattle.dcv_shortest.specs.Members.{AreMembers}
-use Rattle.dcv_shortest.specs.Ones.{is_one, are_few_in}
+use Rattle.dcv_shortest.specs.Ones.{are_few_in}
 use Rattle.dcv_shortest.proofs.Counted.{every_one, ones_below}
 use Rattle.dcv_shortest.proofs.Candidates.{IsListed, IsSettled, settled_more, listed_below, all_settled}
 use Rattle.dcv_shortest.proofs.partition.Partition.candidates.Goals as goal

@@ -1,12 +1,11 @@
-use Rattle.std.proofs.Common.{◌≡◌, ◌<◌, ◌+◌, ◌==◌, ◌||◌, ◌&&◌, Bool, true, false, ℕ, List, length, take, get_or, refl, sym, ap, subst, ◌∙◌, arith}
-use Rattle.std.proofs.lemmas.Bool.{true≢false, eq-eqb, ne_eqb}
+use Rattle.std.proofs.Common.{◌≡◌, ◌<◌, ◌+◌, ◌==◌, ◌||◌, ◌&&◌, true, false, ℕ, List, length, take, get_or, sym, ap, subst, ◌∙◌}
+use Rattle.std.proofs.lemmas.Bool.{eq-eqb, ne_eqb}
 use Rattle.std.proofs.lemmas.List.{take_all, get_or_default}
 use Rattle.std.proofs.lemmas.List.Folds.{list_any_more}
 use Rattle.dcv_arena.specs.Arena.{value_of}
 use Rattle.dcv_arena.specs.declared.nodes.Ref.{Ref}
 use Rattle.dcv_arena.specs.declared.nodes.Ref.TheVariants.{Leaf}
 use Rattle.dcv_shortest.specs.declared.ones.Ones.{Ones}
-use Rattle.dcv_shortest.specs.Separation.{block_of}
 use Rattle.dcv_shortest.specs.Marks.{marked}
 use Rattle.dcv_shortest.specs.Ones.{is_one, IsOneMore, AreCounted}
 use Rattle.dcv_shortest.proofs.Counted.{counted_none, counted_more}

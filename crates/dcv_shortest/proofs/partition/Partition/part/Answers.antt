@@ -1,4 +1,4 @@
-use Rattle.std.proofs.Common.{◌<◌, List, ℕ, Vec, Global, All, Result, Ok, Err, IfOk, length, sym, ap, subst, ◌∙◌}
+use Rattle.std.proofs.Common.{◌<◌, ℕ, Vec, Global, All, Result, Ok, Err, IfOk, length, ap, subst}
 use Rattle.dcv_shortest.specs.Partition.{raw_in}
 use Rattle.dcv_shortest.specs.Marks.{marked}
 use Rattle.dcv_shortest.specs.Ones.{AreRarer}
