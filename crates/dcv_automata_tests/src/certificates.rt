@@ -171,12 +171,12 @@ fn all_states_are_told_apart(rt: HostRuntime) -> Result<(), Fail> {
 #[test]
 fn suffixes_of_a_chain(rt: HostRuntime) -> Result<(), Fail> {
     let alloc = rt.alloc();
-    let auto = minimise(alloc, raw_of(alloc, 0, &chain(alloc, 1_000)?, 0)?)?;
+    let auto = minimise(alloc, raw_of(alloc, 0, &chain(alloc, 10_000)?, 0)?)?;
     let proof = separate(alloc, &auto)?;
     let letter = Letter::new(0, 0);
     let mut access = vec![in alloc; Access::Empty, Access::Start(letter)]?;
     let mut suffixes = vec![in alloc; Suffix::Empty]?;
-    for number in 0..1_000 {
+    for number in 0..10_000 {
         access.push(Access::After(number + 1, letter))?;
         suffixes.push(Suffix::Then(letter, number))?;
     }

@@ -1,1 +1,2 @@
 mod BitFacts
+mod BelowFacts

@@ -1,19 +1,26 @@
 //! Measures the operations on diagrams: `dcv_bench CASE SLOTS TIMES` does what a case says so many times, and tells how
 //! large its result is. With a fourth word, `timed`, it also tells the nanoseconds of processor time that each time took.
-//! `dcv_bench EXPLORATION SIZE TIMES` does the same with explorations of that size, and tells how many states there are.
+//! `dcv_bench EXPLORATION SIZE TIMES` does the same with explorations of that size, and tells how many states there are, and
+//! `dcv_bench TASK TABLE TIMES` with automata.
 //!
-//! Nothing here is promised by a contract but that it ends. `bench/diagrams.sh` and `bench/explorations.sh` run each case.
+//! Nothing here is promised by a contract but that it ends. The scripts of `bench/` run each case: `diagrams.sh`, `explorations.sh` and
+//! `automata.sh`.
 #![tactic(auto)]
 
+mod automata;
 mod cases;
 mod explorations;
 mod functions;
 mod rings;
 
-use crate::cases::{Case, measure};
+use crate::automata::{Table, Task};
+use crate::cases::Case;
 use crate::explorations::Exploration;
 use anyhow::{Result, bail};
+use std::alloc::Global;
 use std::env;
+use std::rt::CpuClock;
+use std::time::Duration;
 
 fn main(rt: HostRuntime) -> Result<()> {
     let alloc = rt.alloc();
@@ -25,19 +32,7 @@ fn main(rt: HostRuntime) -> Result<()> {
         bail!("usage: dcv_bench CASE SLOTS TIMES [timed]");
     }
     let times: u32 = words[2].as_str().parse()?;
-    let (size, time) = match Exploration::named(words[0].as_str()) {
-        Some(exploration) => {
-            let size: u32 = words[1].as_str().parse()?;
-            explorations::measure(&rt, alloc, exploration, size, times)?
-        }
-        None => {
-            let Some(case) = Case::named(words[0].as_str()) else {
-                bail!("no such case");
-            };
-            let slots: u8 = words[1].as_str().parse()?;
-            measure(&rt, alloc, case, slots, times)?
-        }
-    };
+    let (size, time) = measure(&rt, alloc, words[0].as_str(), words[1].as_str(), times)?;
     if words.len() > 3 {
         let each = time.as_nanos() / u128::from(times.max(1));
         println!(rt; "{size} {each}")?;
@@ -45,4 +40,27 @@ fn main(rt: HostRuntime) -> Result<()> {
         println!(rt; "{size}")?;
     }
     Ok(())
+}
+
+// Does what the name says so many times, and tells how large the result is, and the processor time of all times.
+fn measure<R: CpuClock>(
+    rt: &R,
+    alloc: Global,
+    name: &str,
+    size: &str,
+    times: u32,
+) -> Result<(usize, Duration)> {
+    if let Some(exploration) = Exploration::named(name) {
+        return explorations::measure(rt, alloc, exploration, size.parse()?, times);
+    }
+    if let Some(task) = Task::named(name) {
+        let Some(table) = Table::named(size) else {
+            bail!("no such table");
+        };
+        return task.measure(rt, alloc, table, times);
+    }
+    let Some(case) = Case::named(name) else {
+        bail!("no such case");
+    };
+    cases::measure(rt, alloc, case, size.parse()?, times)
 }

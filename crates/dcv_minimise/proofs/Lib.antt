@@ -12,11 +12,8 @@ pub mod Settling
 pub mod FirstBlocks
 pub mod Pushed
 pub mod DivisionStart
-pub mod ListFacts
-pub mod IndexFacts
-pub mod MarkFacts
+pub mod LeadFacts
 pub mod MemberFacts
-pub mod AddFacts
 pub mod MemberSteps
 pub mod ChoiceFacts
 -- of fold

@@ -6,8 +6,7 @@ use Rattle.std.proofs.lemmas.Bool.{cases_Bool, false≢true, eqb-true}
 use Rattle.std.proofs.lemmas.Map.Views.{Contains-from_any, list_any-from_Contains}
 use Rattle.dcv_dfa.specs.Raw.{RawValue, IsRaw}
 use Rattle.dcv_minimise.specs.Partition.{block_of}
-use Rattle.dcv_minimise.specs.Rounds.{IsState, HaveOneRow, IsWitnessed, IsStableBut, witness_of}
-use Rattle.dcv_minimise.specs.Index.{LeadTo}
+use Rattle.dcv_minimise.specs.Rounds.{IsState, HaveOneRow, IsWitnessed, IsStableBut, LeadTo, witness_of}
 use Rattle.dcv_minimise.specs.Members.{IsListed, IsAlone, IsListing, IsChosen}
 use Rattle.dcv_minimise.proofs.WitnessFacts.{alike_itself}
 

@@ -7,10 +7,10 @@ use Rattle.std.proofs.lemmas.List.Elements.{All-contains, All-more, All-weaker, 
 use Rattle.indexmap.specs.IndexSet.{insert_key}
 use Rattle.dcv_minimise.specs.Partition.{block_of}
 use Rattle.dcv_minimise.specs.Rounds.{witness_of}
-use Rattle.dcv_minimise.specs.Lists.{AddsAt, list_at}
+use Rattle.dcv_index.specs.Lists.{AddsAt, list_at}
 use Rattle.dcv_minimise.specs.Members.{IsComplete, IsListed, IsAlone, IsSingle, IsListing, IsBlockAdded, IsBlockListed, LooksAt}
-use Rattle.dcv_minimise.proofs.ListFacts.{list_there, list_else}
-use Rattle.dcv_minimise.proofs.MarkFacts.{inserted_only, all_from_contains}
+use Rattle.dcv_index.proofs.ListFacts.{list_there, list_else}
+use Rattle.dcv_index.proofs.MarkFacts.{inserted_only, all_from_contains}
 
 pub block_added : (own : List ℕ) (block : ℕ) (states full new_states new_full : List ℕ) → new_states ≡ states ++ own → new_full ≡ insert_key eqb full block
     → IsBlockAdded own block states full new_states new_full

@@ -5,8 +5,6 @@ pub mod Partition
 pub mod Rounds
 pub mod Keys
 pub mod Division
-pub mod Lists
-pub mod Index
 pub mod Members
 pub mod Refining
 -- the classes with their numbers, and the automaton of these

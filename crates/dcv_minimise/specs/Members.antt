@@ -13,7 +13,7 @@ use Rattle.std.specs.Prelude.{◌≡◌, ℕ, ◌<◌, ◌≤◌, List, length, 
 use Rattle.std.specs.List.{All}
 use Rattle.dcv_minimise.specs.Partition.{block_of}
 use Rattle.dcv_minimise.specs.Rounds.{witness_of}
-use Rattle.dcv_minimise.specs.Lists.{list_at}
+use Rattle.dcv_index.specs.Lists.{list_at}
 
 pub record IsComplete {Z : Type 0} (blocks : List ℕ) (count : ℕ) (members : List (Vec ℕ Z)) : Type 0 where
   pub size : length members ≡ count

@@ -8,6 +8,7 @@
 --     IsWitnessed raw blocks witness     the blocks are the numbers below a count, and a state of each is listed at its number
 --     IsTold raw blocks                  one block, one flag; and two blocks are apart
 --     IsStableBut raw blocks moved       states of one block go on to one block, unless one of them goes to a listed state
+--     LeadTo raw moved looked            each state that some letter leads to a listed state is looked at
 --     IsRefined raw blocks witness moved all of it
 --     IsByFlag raw blocks                the block is 0 or 1, by the flag
 use Rattle.std.specs.Prelude.{◌≡◌, ◌≢◌, ℕ, ◌<◌, Bool, true, false, List, length, slice_index_or, Contains}
@@ -51,6 +52,9 @@ abbrev pub IsStableBut : RawValue → List ℕ → List ℕ → Type 0
 IsStableBut raw blocks moved = (first second : ℕ) (letter : List Bool) → IsState raw first → IsState raw second → length letter ≡ raw.arena.slots
     → block_of blocks first ≡ block_of blocks second → ¬ Contains moved (next_in raw first letter) → ¬ Contains moved (next_in raw second letter)
     → block_of blocks (next_in raw first letter) ≡ block_of blocks (next_in raw second letter)
+
+abbrev pub LeadTo : RawValue → List ℕ → List ℕ → Type 0
+LeadTo raw moved looked = (state : ℕ) (letter : List Bool) → IsState raw state → length letter ≡ raw.arena.slots → Contains moved (next_in raw state letter) → Contains looked state
 
 pub record IsRefined (raw : RawValue) (blocks witness moved : List ℕ) : Type 0 where
   pub witnessed : IsWitnessed raw blocks witness

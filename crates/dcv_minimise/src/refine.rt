@@ -3,19 +3,17 @@
 ghost use Rattle.std.specs.Prelude.{◌≤◌, ◌<◌, ℕ, length, IfOk, OnOk, Contains};
 ghost use Rattle.std.specs.List.{All};
 ghost use Rattle.dcv_minimise.specs.Partition.{IsPartition};
-ghost use Rattle.dcv_minimise.specs.Index.{IsIndex};
+ghost use Rattle.dcv_index.specs.Index.{IsIndexOf};
 ghost use Rattle.dcv_minimise.specs.Refining.{IsRefining};
 
 mod division;
-mod index;
 mod keys;
-mod lists;
 mod members;
 mod partition;
 mod votes;
 
 use dcv_dfa::Raw;
-use index::Index;
+use dcv_index::Index;
 use members::Members;
 use partition::Partition;
 use std::alloc::{AllocError, Global};
@@ -27,7 +25,7 @@ use std::alloc::{AllocError, Global};
 pub(crate) fn refine(alloc: Global, raw: &Raw) -> Result<Vec<u32>, AllocError>
     ensures { IfOk result (λ blocks. IsPartition raw.now blocks.items) }
 {
-    let index = Index::new(alloc, raw)?;
+    let index = Index::new(alloc, raw.arena(), raw.rows())?;
     let mut refining = Refining::new(alloc, raw)?;
     'rounds: while !refining.moved.is_empty() {
         refining.round(alloc, raw, &index)?;
@@ -63,18 +61,18 @@ impl Refining {
 
     // One round.
     fn round(&mut self, alloc: Global, raw: &Raw, index: &Index) -> Result<(), AllocError>
-        requires index { IsIndex raw.now index.now.nodes index.now.rows }
+        requires index { IsIndexOf raw.now.arena raw.now.rows index.now }
         requires refining { IsRefining raw.now self.old.partition.blocks.items self.old.partition.witness.items self.old.members.lists.items self.old.moved.items }
         ensures refining { OnOk result (IsRefining raw.now self.new.partition.blocks.items self.new.partition.witness.items self.new.members.lists.items self.new.moved.items) }
         ensures more { OnOk result (0 < length self.new.moved.items → length self.old.partition.witness.items < length self.new.partition.witness.items) }
         ensures no_fewer { OnOk result (length self.old.partition.witness.items ≤ length self.new.partition.witness.items) }
     {
-        let looked = index.above(alloc, &self.moved)?;
+        let found = index.above(alloc, &self.moved)?;
         let listed = self.members.list(
             alloc,
             &self.partition.blocks,
             &self.partition.witness,
-            &looked,
+            &found.looked,
         )?;
         self.moved = self.partition.split(alloc, raw, &listed)?;
         self.members.follow(

@@ -1,5 +1,5 @@
 -- How many pairs of states are in one block: fewer where blocks were split.
-use Rattle.std.proofs.Common.{◌≡◌, ◌≢◌, ◌⊎◌, inl, inr, ℕ, zero, suc, ◌<◌, ◌≤◌, ◌==◌, if◌then◌else◌, Bool, true, false, List, refl, sym, arith}
+use Rattle.std.proofs.Common.{◌≡◌, ◌≢◌, ◌⊎◌, inl, inr, ℕ, zero, suc, ◌<◌, ◌≤◌, ◌+◌, ◌==◌, if◌then◌else◌, Bool, true, false, List, refl, sym, ap, arith}
 use Rattle.std.proofs.lemmas.Bool.{cases_lt, eqb-true, eq-eqb, ne_eqb, true≢false}
 use Rattle.dcv_shortest.specs.Separation.{block_of, count_below, sum_below, pairs_together}
 
@@ -8,6 +8,10 @@ last_or_before place count h = elim (cases_lt place count) [ inl l ↦ inl l | i
 
 abbrev pub one_if : Bool → ℕ
 one_if test = if test then 1 else 0
+
+pub one_if_le : (b : Bool) → one_if b ≤ 1
+one_if_le true = omega arith
+one_if_le false = omega arith
 
 one_le : (a b : Bool) → (a ≡ true → b ≡ true) → one_if a ≤ one_if b
 one_le true true h = omega arith
@@ -39,6 +43,63 @@ count_lt (suc n) p q h at l absent there = elim (last_or_before at n l) [
       let here : one_if (p n) < one_if (q n) = one_lt (p n) (q n) (rw e at absent) (rw e at there) in
       omega arith
 ]
+
+pub count_same : (n : ℕ) (p q : ℕ → Bool) → ((i : ℕ) → i < n → p i ≡ q i) → count_below n p ≡ count_below n q
+count_same zero p q h = refl
+count_same (suc n) p q h =
+    let rest : count_below n p ≡ count_below n q = count_same n p q (λ i l. h i (omega arith)) in
+    let here : one_if (p n) ≡ one_if (q n) = ap one_if (h n (omega arith)) in
+    omega arith
+
+-- one test is another but for one number
+pub count_change : (n : ℕ) (p q : ℕ → Bool) (at : ℕ) → at < n → ((i : ℕ) → i ≢ at → p i ≡ q i) → count_below n p + one_if (q at) ≡ count_below n q + one_if (p at)
+count_change zero p q at l h = absurd (omega arith)
+count_change (suc n) p q at l h = elim (last_or_before at n l) [
+  | inl before ↦
+      let rest : count_below n p + one_if (q at) ≡ count_below n q + one_if (p at) = count_change n p q at before h in
+      let differ : n ≢ at = omega arith in
+      let here : one_if (p n) ≡ one_if (q n) = ap one_if (h n differ) in
+      omega arith
+  | inr e ↦
+      let rest : count_below n p ≡ count_below n q = count_same n p q (λ i g. h i (let differ : i ≢ at = omega arith in differ)) in
+      let one : one_if (p at) ≡ one_if (p n) = ap (λ i. one_if (p i)) e in
+      let other : one_if (q at) ≡ one_if (q n) = ap (λ i. one_if (q i)) e in
+      omega arith
+]
+
+pub count_none : (n : ℕ) (p : ℕ → Bool) → ((i : ℕ) → i < n → p i ≡ false) → count_below n p ≡ 0
+count_none zero p h = refl
+count_none (suc n) p h =
+    let rest : count_below n p ≡ 0 = count_none n p (λ i l. h i (omega arith)) in
+    let here : one_if (p n) ≡ 0 = ap one_if (h n (omega arith)) in
+    omega arith
+
+pub count_some : (n : ℕ) (p : ℕ → Bool) (at : ℕ) → at < n → p at ≡ true → 0 < count_below n p
+count_some n p at l there =
+    let least : count_below n (λ i. false) < count_below n p = count_lt n (λ i. false) p (λ i g e. absurd (true≢false (sym e))) at l refl there in
+    omega arith
+
+pub record Passes (n : ℕ) (p q : ℕ → Bool) : Type 0 where
+  pub number : ℕ
+  pub below : number < n
+  pub one : p number ≡ false
+  pub other : q number ≡ true
+
+longer : (n : ℕ) (p q : ℕ → Bool) → Passes n p q → Passes (suc n) p q
+longer n p q is = record { number = is.number; below = omega (arith, is.below); one = is.one; other = is.other }
+
+-- where more numbers pass a test than pass another, some number passes the one alone
+pub more_pass : (n : ℕ) (p q : ℕ → Bool) → count_below n p < count_below n q → Passes n p q
+more_pass zero p q h = absurd (omega arith)
+more_pass (suc n) p q h = by (p n) (q n) refl refl (λ less. more_pass n p q less)
+  where
+    by : (a b : Bool) → p n ≡ a → q n ≡ b → (count_below n p < count_below n q → Passes n p q) → Passes (suc n) p q
+    by false true e f rest = record { number = n; below = omega arith; one = e; other = f }
+    by true b e f rest =
+        let full : one_if (p n) ≡ 1 = ap one_if e in
+        let most = one_if_le (q n) in
+        longer n p q (rest (omega arith))
+    by false false e f rest = let none : one_if (q n) ≡ 0 = ap one_if f in longer n p q (rest (omega arith))
 
 sum_le : (n : ℕ) (f g : ℕ → ℕ) → ((i : ℕ) → i < n → f i ≤ g i) → sum_below n f ≤ sum_below n g
 sum_le zero f g h = omega arith

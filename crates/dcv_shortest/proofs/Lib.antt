@@ -1,4 +1,5 @@
 mod FirstWord
+mod Truths
 mod Counting
 mod Listing
 mod Separating
@@ -9,3 +10,10 @@ mod Certificates
 mod AccessWords
 mod Tallying
 mod Sizing
+mod Shifting
+mod MemberLists
+mod Having
+mod Counted
+mod Rarer
+mod Candidates
+mod Indicating

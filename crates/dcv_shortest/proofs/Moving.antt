@@ -1,32 +1,26 @@
 -- Blocks after states were given new numbers.
-use Rattle.std.proofs.Common.{◌≡◌, ◌≢◌, inl, inr, ◌↔◌, ℕ, zero, suc, ◌<◌, ◌+◌, ◌==◌, ◌||◌, Bool, true, false, cond, nat_eq, List, [], ◌∷◌, ◌++◌, length, get_or, set, take, All, Option, Some, None, SomeIff, Result, Ok, Err, IfOk, slice_get, refl, ap, sym, subst, ◌∙◌, arith}
+use Rattle.std.proofs.Common.{◌≡◌, ◌≢◌, ◌⊎◌, inl, inr, ◌↔◌, ℕ, zero, suc, ◌<◌, ◌≤◌, ◌+◌, ◌==◌, Bool, true, false, cond, nat_eq, List, [], ◌∷◌, ◌++◌, length, get_or, set, take, All, Option, Some, None, SomeIff, Result, Ok, Err, IfOk, slice_get, refl, ap, sym, subst, ◌∙◌, arith}
 use Rattle.std.specs.List.{list_any, AllByRecursion, IsDistinct}
 use Rattle.std.specs.Result.{result_ok}
 use Rattle.indexmap.specs.IndexSet.{insert_key}
-use Rattle.std.proofs.lemmas.Bool.{cases_eq, cases_Bool, true≢false, eqb-true, eq-eqb, ne_eqb}
-use Rattle.std.proofs.lemmas.List.{get_or-set_same, get_or-set_other, length-set, get_or_default}
+use Rattle.std.proofs.lemmas.Bool.{cases_lt, cases_eq, cases_Bool, true≢false, eqb-true, eq-eqb, ne_eqb}
+use Rattle.std.proofs.lemmas.List.{get_or-set_same, get_or-set_other, length-set, length-append, get_or_default}
 use Rattle.std.proofs.lemmas.List.Folds.{list_any_more}
 use Rattle.std.proofs.lemmas.Option.{same_Some, slice_get_within}
 use Rattle.dcv_shortest.specs.Separation.{has, block_of, IsSplit}
 use Rattle.dcv_shortest.specs.Partition.{OnceEach, IsBehind, IsMovedTo}
+use Rattle.dcv_shortest.specs.Members.{count_up}
+use Rattle.dcv_shortest.proofs.Truths.{or_right, or_neither}
 
 -- ---- members of a list
 
-or_true : (a b : Bool) → b ≡ true → (a || b) ≡ true
-or_true true b e = refl
-or_true false b e = e
-
-or_false : (a b : Bool) → b ≡ false → (a || b) ≡ a
-or_false true b e = refl
-or_false false b e = e
-
 pub has_more_same : (numbers : List ℕ) (i state : ℕ) → i < length numbers → get_or numbers i 0 ≡ state → has (take (i + 1) numbers) state ≡ true
 has_more_same numbers i state h e =
-    list_any_more (λ one. one == state) numbers i 0 h ∙ or_true (has (take i numbers) state) (get_or numbers i 0 == state) (eq-eqb (get_or numbers i 0) state e)
+    list_any_more (λ one. one == state) numbers i 0 h ∙ or_right (has (take i numbers) state) (get_or numbers i 0 == state) (eq-eqb (get_or numbers i 0) state e)
 
 pub has_more_other : (numbers : List ℕ) (i state : ℕ) → i < length numbers → get_or numbers i 0 ≢ state → has (take (i + 1) numbers) state ≡ has (take i numbers) state
 has_more_other numbers i state h ne =
-    list_any_more (λ one. one == state) numbers i 0 h ∙ or_false (has (take i numbers) state) (get_or numbers i 0 == state) (ne_eqb (get_or numbers i 0) state ne)
+    list_any_more (λ one. one == state) numbers i 0 h ∙ or_neither (has (take i numbers) state) (get_or numbers i 0 == state) (ne_eqb (get_or numbers i 0) state ne)
 
 -- ---- the new number of a block that is left
 
@@ -34,6 +28,10 @@ front_at : (xs ys : List ℕ) (place n : ℕ) → slice_get xs place ≡ Some n 
 front_at [] ys place n e = absurd cc
 front_at (x ∷ xs) ys zero n e = e
 front_at (x ∷ xs) ys (suc place) n e = front_at xs ys place n e
+
+end_at : (xs : List ℕ) (x : ℕ) → slice_get (xs ++ x ∷ []) (length xs) ≡ Some x
+end_at [] x = refl
+end_at (y ∷ xs) x = end_at xs x
 
 inserted_at : (keys : List ℕ) (key place n : ℕ) → slice_get keys place ≡ Some n → slice_get (insert_key nat_eq keys key) place ≡ Some n
 inserted_at keys key place n e =
@@ -53,15 +51,30 @@ once_each (x ∷ xs) d zero (suc second) n e f = absurd (differs_from x xs secon
 once_each (x ∷ xs) d (suc first) zero n e f = absurd (differs_from x xs first n d.0 e (same_Some x n f))
 once_each (x ∷ xs) d (suc first) (suc second) n e f = ap suc (once_each xs d.1 first second n e f)
 
+-- the list is what it was, or has the block at its end
+grown_by : (count block place number : ℕ) (old new : List ℕ) → new ≡ insert_key nat_eq old block → OnceEach new → slice_get new place ≡ Some block → number ≡ count + place
+    → (length new ≡ length old) ⊎ ((length new ≡ length old + 1) × (number ≡ count + length old))
+grown_by count block place number old new is once at sum = by (list_any (nat_eq block) old) is
+  where
+    by : (there : Bool) → new ≡ cond there old (old ++ block ∷ []) → (length new ≡ length old) ⊎ ((length new ≡ length old + 1) × (number ≡ count + length old))
+    by true same = inl (ap (λ keys. length keys) same)
+    by false more =
+        let last : slice_get new (length old) ≡ Some block = ap (λ keys. slice_get keys (length old)) more ∙ end_at old block in
+        let here : place ≡ length old = once place (length old) block at last in
+        inr (ap (λ keys. length keys) more ∙ length-append old (block ∷ []), omega arith)
+
 -- where the block was inserted at a place of the list
 pub moved_behind : (count block place number key : ℕ) (old new : List ℕ) → block < count → new ≡ insert_key nat_eq old block → IsDistinct nat_eq new
     → slice_get new place ≡ Some key → nat_eq block key ≡ true → number ≡ count + place → IsMovedTo count old new block number
-moved_behind count block place number key old new below is distinct at same sum = record {
-  kept = λ n other e. subst (λ keys. slice_get keys n ≡ Some other) (sym is) (inserted_at old block n other e);
-  once = λ before. once_each new distinct;
-  moved = λ h. record { place = place; is = sum; at = at ∙ ap Some (sym (eqb-true block key same)) };
-  stays = λ h. absurd (omega arith);
-}
+moved_behind count block place number key old new below is distinct at same sum =
+    let there = at ∙ ap Some (sym (eqb-true block key same)) in
+    record {
+      kept = λ n other e. subst (λ keys. slice_get keys n ≡ Some other) (sym is) (inserted_at old block n other e);
+      once = λ before. once_each new distinct;
+      moved = λ h. record { place = place; is = sum; at = there };
+      stays = λ h. absurd (omega arith);
+      grown = grown_by count block place number old new is (once_each new distinct) there sum;
+    }
 
 pub if_ok_some : {E : Type 0} (result : Result ℕ E) (sum : Option ℕ) (C : Type 0) (value : ℕ) (P : ℕ → Type 0) → sum ≡ result_ok result → SomeIff sum C value → P value → IfOk result P
 if_ok_some (Err e) sum C value P same is p = tt
@@ -161,3 +174,31 @@ module _ (count : ℕ) (old part new left : List ℕ) (low : (state : ℕ) → s
         | inl is ↦ let b = m.moved i within is in omega (arith, b.is, slice_get_within left b.place (block_of old i) b.at)
         | inr not ↦ omega (arith, m.stay i within not, low i within)
       ])
+
+-- ---- how many blocks there are then
+
+module _ (count : ℕ) (left more : List ℕ) (block number bound : ℕ) (is : bound ≡ count + length left) (to : IsMovedTo count left more block number) (low : block < bound) where
+  number_low : number < count + length more
+  number_low = elim (cases_lt block count) [
+    | inl h ↦ let behind = to.moved h in omega (arith, behind.is, slice_get_within more behind.place block behind.at)
+    | inr h ↦ elim to.grown [
+      | inl same ↦ omega (arith, to.stays h, low, same)
+      | inr last ↦ omega (arith, to.stays h, low, last.0)
+    ]
+  ]
+
+  pub number_fits : number ≤ bound
+  number_fits = elim to.grown [
+    | inl same ↦ omega (arith, number_low, same)
+    | inr last ↦ omega (arith, last.1)
+  ]
+
+  pub bound_then : count_up bound number ≡ count + length more
+  bound_then = elim to.grown [
+    | inl same ↦
+        let differ : number ≢ bound = λ e. omega (arith, number_low, same, e) in
+        ap (λ (last : Bool). cond last (bound + 1) bound) (ne_eqb number bound differ) ∙ is ∙ omega (arith, same)
+    | inr last ↦
+        let here : number ≡ bound = omega (arith, last.1) in
+        ap (λ (last : Bool). cond last (bound + 1) bound) (eq-eqb number bound here) ∙ omega (arith, last.0)
+  ]

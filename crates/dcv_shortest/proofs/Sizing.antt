@@ -1,13 +1,9 @@
 -- Counting the states of each block, one after another.
-use Rattle.std.proofs.Common.{◌≡◌, ℕ, zero, suc, ◌<◌, ◌≤◌, ◌==◌, Bool, true, false, List, length, get_or, arith}
+use Rattle.std.proofs.Common.{◌≡◌, ℕ, zero, suc, ◌<◌, ◌≤◌, ◌==◌, Bool, List, length, get_or, arith}
 use Rattle.dcv_shortest.specs.Separation.{block_of, count_below}
-use Rattle.dcv_shortest.proofs.Counting.{one_if}
+use Rattle.dcv_shortest.proofs.Counting.{one_if_le}
 
-one_if_le : (b : Bool) → one_if b ≤ 1
-one_if_le true = omega arith
-one_if_le false = omega arith
-
-count-le : (n : ℕ) (test : ℕ → Bool) → count_below n test ≤ n
+pub count-le : (n : ℕ) (test : ℕ → Bool) → count_below n test ≤ n
 count-le zero test = omega arith
 count-le (suc n) test = omega (arith, count-le n test, one_if_le (test n))
 

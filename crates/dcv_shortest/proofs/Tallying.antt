@@ -1,6 +1,6 @@
 -- What a tally of marks knows after one mark more, and that blocks which are counted in full are told apart by no letter.
 use Rattle.std.proofs.Common.{◌≡◌, ◌≢◌, ◌⊎◌, inl, inr, ℕ, zero, suc, ◌<◌, ◌≤◌, ◌+◌, ◌==◌, ◌||◌, ◌&&◌, Bool, true, false, if◌then◌else◌, List, [], ◌∷◌, ◌++◌, length, get_or, All, Option, None, Some, refl, ap, sym, subst, ◌∙◌, arith}
-use Rattle.std.proofs.lemmas.Bool.{cases_eq, cases_Bool, true≢false, eq-eqb, ne_eqb}
+use Rattle.std.proofs.lemmas.Bool.{cases_eq, cases_Bool, eq-eqb, ne_eqb}
 use Rattle.std.proofs.lemmas.List.Elements.{All-push}
 use Rattle.std.proofs.lemmas.List.Folds.{list_any-append}
 use Rattle.std.proofs.lemmas.Option.{same_Some}
@@ -10,6 +10,7 @@ use Rattle.dcv_shortest.specs.Separation.{block_of, count_below}
 use Rattle.dcv_shortest.specs.Marks.{marked}
 use Rattle.dcv_shortest.specs.Tallies.{number_of, HasNoOther, has_mark, is_counted, IsTally, IsAdded, AreSizes, AreMarkedAlike}
 use Rattle.dcv_shortest.proofs.Counting.{count_le, count_lt}
+use Rattle.dcv_shortest.proofs.Truths.{or_left, or_right, or_neither, and_second, and_parts, and_both}
 
 or_nothing : (b : Bool) → (b || false) ≡ b
 or_nothing true = refl
@@ -18,32 +19,6 @@ or_nothing false = refl
 has_mark-push : (marks : List (ℕ × Ref)) (state : ℕ) (mark : Ref) (other : ℕ) → has_mark (marks ++ (state, mark) ∷ []) other ≡ (has_mark marks other || (state == other))
 has_mark-push marks state mark other =
     list_any-append (λ (mark : ℕ × Ref). mark.0 == other) marks ((state, mark) ∷ []) ∙ ap (λ b. has_mark marks other || b) (or_nothing (state == other))
-
-or_right : (a b : Bool) → b ≡ true → (a || b) ≡ true
-or_right true b e = refl
-or_right false b e = e
-
-or_left : (a b : Bool) → a ≡ true → (a || b) ≡ true
-or_left true b e = refl
-or_left false b e = absurd (true≢false (sym e))
-
-or_neither : (a b : Bool) → b ≡ false → (a || b) ≡ a
-or_neither true b e = refl
-or_neither false b e = e
-
-and_parts : (a b : Bool) → (a && b) ≡ true → (a ≡ true) × (b ≡ true)
-and_parts true true e = (refl, refl)
-and_parts true false e = absurd (true≢false (sym e))
-and_parts false b e = absurd (true≢false (sym e))
-
-and_both : (a b : Bool) → a ≡ true → b ≡ true → (a && b) ≡ true
-and_both true true e f = refl
-and_both true false e f = absurd (true≢false (sym f))
-and_both false b e f = absurd (true≢false (sym e))
-
-and_second : (a b : Bool) → b ≡ false → (a && b) ≡ false
-and_second true b e = e
-and_second false b e = refl
 
 module _ (states : ℕ) (blocks : List ℕ) (at new_at : ℕ → Option (Ref × ℕ)) (met new_met : ℕ → Bool) (marks : List (ℕ × Ref)) (state : ℕ) (mark : Ref)
     (t : IsTally states blocks at met marks) (a : IsAdded at met state (block_of blocks state) mark new_at new_met) (below : state < states) where
@@ -180,7 +155,7 @@ alike_in_full blocks count sizes at met marks t s low full arena letter first se
           let lt = count_lt (length blocks) (is_counted blocks marks here) (λ n. block_of blocks n == here)
           (λ n l e. (and_parts (block_of blocks n == here) (has_mark marks n) e).0) state h
           (and_second (block_of blocks state == here) (has_mark marks state) no_mark) (eq-eqb (block_of blocks state) here same) in
-          absurd (omega (arith, lt, t.counted here, all, s.no_more here (low first 0 first_is)))
+          absurd (omega (arith, lt, t.counted here, all, s.are here (low first 0 first_is)))
     ]
 
     by_entry : (entry : Option (Ref × ℕ)) → at (block_of blocks first) ≡ entry → get_or sizes (block_of blocks first) 0 ≤ number_of (at (block_of blocks first))

@@ -5,17 +5,15 @@
 --                                         of one block apart where the marks do
 --     AreDone raw blocks word slot front    and at none of these letters does it
 --     IsSideOf arena slot value marks side    where the slot has the value, the side has the same states marked
---     AreCounts blocks ones wanted counts    which blocks have ones, or states that are none
---     HaveOthers blocks ones rarer        for each block one of its two sides, which is not the whole block
 --     IsSplitOff raw blocks test part     in each block the part has the states on one side of the test; and if it has a state, then not all of a block
-use Rattle.std.specs.Prelude.{◌≡◌, ◌≢◌, ℕ, ◌<◌, ◌≤◌, ◌==◌, ◌&&◌, Bool, false, not, List, [], ◌∷◌, length, slice_index_or}
+use Rattle.std.specs.Prelude.{◌≡◌, ◌≢◌, ℕ, ◌<◌, ◌≤◌, ◌==◌, ◌&&◌, Bool, false, List, [], ◌∷◌, length, slice_index_or}
 use Rattle.std.specs.List.{list_any}
 use Rattle.dcv_word.specs.Behaviour.{Word}
 use Rattle.dcv_arena.specs.Arena.{ArenaValue, IsRef, level_of, value_of}
 use Rattle.dcv_arena.specs.declared.nodes.Ref.{Ref}
 use Rattle.dcv_apply.specs.Walk.{AgreeBefore}
 use Rattle.dcv_dfa.specs.Raw.{RawValue}
-use Rattle.dcv_shortest.specs.Separation.{accepts_word, TellAlike, AreTogether, block_of, has}
+use Rattle.dcv_shortest.specs.Separation.{accepts_word, TellAlike, AreTogether, has}
 
 abbrev pub marked : ArenaValue → List (ℕ × Ref) → List Bool → ℕ → Bool
 marked arena marks letter state = list_any (λ mark. (mark.0 == state) && (value_of arena mark.1 letter == 1)) marks
@@ -38,23 +36,6 @@ AreDone raw blocks word slot front = (first second : ℕ) (letter : List Bool) �
 abbrev pub IsSideOf : ArenaValue → ℕ → Bool → List (ℕ × Ref) → List (ℕ × Ref) → Type 0
 IsSideOf arena slot value marks side = (state : ℕ) (letter : List Bool) → slice_index_or letter slot false ≡ value
     → marked arena side letter state ≡ marked arena marks letter state
-
--- a state of this block that is a one, or that is none
-pub record HasState (blocks : List ℕ) (ones : List Bool) (wanted : Bool) (block : ℕ) : Type 0 where
-  pub state : ℕ
-  pub is_state : state < length blocks
-  pub in_block : block_of blocks state ≡ block
-  pub is_wanted : slice_index_or ones state false ≡ wanted
-
--- a block has such a state where the count is not 0
-pub record AreCounts (blocks : List ℕ) (ones : List Bool) (wanted : Bool) (counts : List ℕ) : Type 0 where
-  pub some : (block : ℕ) → 0 < slice_index_or counts block 0 → HasState blocks ones wanted block
-  pub all : (state : ℕ) → state < length blocks → slice_index_or ones state false ≡ wanted → 0 < slice_index_or counts (block_of blocks state) 0
-
--- a state on the rarer side of its block has others on the other side
-abbrev pub HaveOthers : List ℕ → List Bool → List Bool → Type 0
-HaveOthers blocks ones rarer = (state : ℕ) → state < length blocks → slice_index_or ones state false ≡ slice_index_or rarer (block_of blocks state) false
-    → HasState blocks ones (not (slice_index_or rarer (block_of blocks state) false)) (block_of blocks state)
 
 -- two states of one block, one of which is in the part
 pub record SplitsSome (raw : RawValue) (blocks part : List ℕ) : Type 0 where

@@ -3,8 +3,9 @@
 --     Separates raw partition          what is true of each partition
 --     HasFinished raw partition count  the first suffixes were gone on from
 --     GoesOn raw old new               suffixes were added, and blocks were split
+--     IsButMended old new              nothing is other but the lists of members
 --     IsMovedTo count old new block number    the new number of a block that is left: behind the count, at its place among the blocks that are left
-use Rattle.std.specs.Prelude.{◌≡◌, ℕ, ◌+◌, ◌<◌, ◌≤◌, List, Some, map, slice_get}
+use Rattle.std.specs.Prelude.{◌≡◌, ◌⊎◌, ℕ, ◌+◌, ◌<◌, ◌≤◌, List, Some, length, map, slice_get}
 use Rattle.std.specs.List.{All}
 use Rattle.dcv_word.specs.Behaviour.{Word}
 use Rattle.dcv_dfa.specs.Raw.{RawValue}
@@ -12,6 +13,7 @@ use Rattle.dcv_shortest.specs.declared.partition.Partition.{Partition}
 use Rattle.dcv_shortest.specs.Proof.{suffix_words}
 use Rattle.dcv_shortest.specs.Vertices.{raw_of}
 use Rattle.dcv_shortest.specs.Tallies.{AreSizes}
+use Rattle.dcv_shortest.specs.Members.{AreMembers}
 use Rattle.dcv_shortest.specs.Separation.{IsSeparation, AreFinished, Advances}
 
 abbrev pub raw_in : Partition → RawValue
@@ -27,12 +29,22 @@ pub record Separates (raw : RawValue) (partition : Partition) : Type 0 where
   pub separation : IsSeparation raw partition.suffixes.items partition.blocks.items (parts_in partition)
   pub numbers : All (λ block. block < partition.count) partition.blocks.items
   pub sizes : AreSizes partition.blocks.items partition.count partition.sizes.items
+  pub members : AreMembers partition.blocks.items partition.count partition.members.lists.items
+  pub states : All (All (λ state. state < length raw.rows)) (parts_in partition)
 
 abbrev pub HasFinished : RawValue → Partition → ℕ → Type 0
 HasFinished raw partition count = AreFinished raw (listed_in partition) partition.blocks.items count
 
 abbrev pub GoesOn : RawValue → Partition → Partition → Type 0
 GoesOn raw old new = Advances raw (listed_in old) old.blocks.items (listed_in new) new.blocks.items
+
+pub record IsButMended (old new : Partition) : Type 0 where
+  pub vertices : raw_in new ≡ raw_in old
+  pub suffixes : new.suffixes ≡ old.suffixes
+  pub blocks : new.blocks ≡ old.blocks
+  pub parts : new.parts ≡ old.parts
+  pub count : new.count ≡ old.count
+  pub sizes : new.sizes ≡ old.sizes
 
 abbrev pub OnceEach : List ℕ → Type 0
 OnceEach numbers = (first second number : ℕ) → slice_get numbers first ≡ Some number → slice_get numbers second ≡ Some number → first ≡ second
@@ -49,3 +61,5 @@ pub record IsMovedTo (count : ℕ) (old new : List ℕ) (block number : ℕ) : T
   pub once : OnceEach old → OnceEach new
   pub moved : block < count → IsBehind count new block number
   pub stays : count ≤ block → number ≡ block
+  -- a block that is left for the first time gets the next number
+  pub grown : (length new ≡ length old) ⊎ ((length new ≡ length old + 1) × (number ≡ count + length old))

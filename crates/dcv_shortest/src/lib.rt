@@ -12,6 +12,9 @@
 
 mod access;
 mod certificate;
+mod indicators;
+mod members;
+mod ones;
 mod partition;
 mod proof;
 mod shortest_word;

@@ -1,5 +1,5 @@
 // The states in blocks, which are split by one suffix after another.
-ghost use Rattle.std.specs.Prelude.{◌≡◌, ◌+◌, ◌<◌, ℕ, List, Bool, length, if◌then◌else◌, slice_index_or, IfOk, OnOk};
+ghost use Rattle.std.specs.Prelude.{◌≡◌, ◌+◌, ◌<◌, ◌≤◌, ℕ, List, Bool, length, slice_set, IfOk, OnOk};
 ghost use Rattle.std.specs.List.{All};
 ghost use Rattle.dcv_arena.specs.Arena.{IsArena};
 ghost use Rattle.dcv_dfa.specs.Raw.{next_in};
@@ -8,17 +8,21 @@ ghost use Rattle.dcv_shortest.specs.Separation.{AreVertices, IsSplit, has, part_
 ghost use Rattle.dcv_shortest.specs.Partition.{raw_in, parts_in, Separates, HasFinished, GoesOn, IsMovedTo};
 ghost use Rattle.dcv_shortest.specs.Marks.{marked, IsMarkFrom};
 ghost use Rattle.dcv_shortest.specs.Tallies.{AreSizes};
+ghost use Rattle.dcv_shortest.specs.Members.{AreMembers, count_up};
+ghost use Rattle.dcv_index.specs.Index.{IsIndexOf};
 
+use crate::indicators::Part;
+use crate::members::Members;
 use crate::proof::Suffix;
 use crate::vertices::Vertices;
-use dcv_apply::Remapping;
 use dcv_arena::{Arena, Ref};
+use dcv_index::Index;
 use dcv_word::Letter;
 use indexmap::IndexSet;
 use std::alloc::{AllocError, Global};
 
 // The suffixes so far; the block of each state; for each suffix the states that it took out of their blocks; a number above those of all
-// blocks; and how many states each block has.
+// blocks; and how many states each block has, and which.
 #[derive(Drop)]
 pub(crate) struct Partition<'a> {
     pub(crate) alloc: Global,
@@ -28,6 +32,7 @@ pub(crate) struct Partition<'a> {
     pub(crate) parts: Vec<Vec<usize>>,
     pub(crate) count: usize,
     pub(crate) sizes: Vec<usize>,
+    pub(crate) members: Members,
 }
 
 impl<'a> Partition<'a> {
@@ -46,6 +51,7 @@ impl<'a> Partition<'a> {
         parts.push(vertices.with_flag(alloc, vertices.rarer_flag())?)?;
         let blocks = vertices.flag_numbers(alloc)?;
         let sizes = sizes_of(alloc, &blocks, 2)?;
+        let members = Members::new(alloc, &blocks, 2)?;
         Ok(Partition {
             alloc,
             vertices,
@@ -54,13 +60,15 @@ impl<'a> Partition<'a> {
             parts,
             count: 2,
             sizes,
+            members,
         })
     }
 }
 
 impl Partition<'_> {
     // Lists each letter before the suffix at this place that tells states of one block apart, and splits these blocks.
-    pub(crate) fn go_on_from(&mut self, place: usize) -> Result<(), AllocError>
+    pub(crate) fn go_on_from(&mut self, index: &Index, place: usize) -> Result<(), AllocError>
+        requires index { IsIndexOf (raw_in self.old).arena (raw_in self.old).rows index.now }
         requires vertices { AreVertices (raw_in self.old) }
         requires place { place < length self.old.suffixes.items }
         requires separates { Separates (raw_in self.old) self.old }
@@ -73,16 +81,23 @@ impl Partition<'_> {
         let from = number_of(place)?;
         let slots = self.vertices.arena.slots();
         let mut scratch = Arena::new(self.alloc, slots, u32::MAX);
-        let marks = self.marks(&mut scratch, place)?;
+        let marks = self.marks(&mut scratch, index, place)?;
         self.walk(&scratch, from, Letter::new(slots, 0), 0, &marks)
     }
 
     // At which letters each state goes to the part of the suffix at this place.
-    fn marks(&self, scratch: &mut Arena, place: usize) -> Result<Vec<(usize, Ref)>, AllocError>
+    fn marks(
+        &self,
+        scratch: &mut Arena,
+        index: &Index,
+        place: usize,
+    ) -> Result<Vec<(usize, Ref)>, AllocError>
+        requires index { IsIndexOf (raw_in self.now).arena (raw_in self.now).rows index.now }
         requires vertices { AreVertices (raw_in self.now) }
         requires arena { IsArena scratch.old }
         requires slots { scratch.old.slots ≡ (raw_in self.now).arena.slots }
         requires place { place < length self.now.parts.items }
+        requires states { All (λ state. state < length (raw_in self.now).rows) (part_at (parts_in self.now) place) }
         ensures slots { scratch.new.slots ≡ (raw_in self.now).arena.slots }
         ensures arena { IsArena scratch.new }
         ensures marks { IfOk result (λ marks. All (IsMarkFrom scratch.new (length (raw_in self.now).rows) 0) marks.items) }
@@ -90,64 +105,59 @@ impl Partition<'_> {
             → length letter ≡ (raw_in self.now).arena.slots → marked scratch.new marks.items letter state
             ≡ has (part_at (parts_in self.now) place) (next_in (raw_in self.now) state letter)) }
     {
-        let numbers = self.numbers(place)?;
-        let mut remapping = Remapping::new(self.alloc, self.vertices.arena, &numbers);
-        let mut marks = Vec::new(self.alloc);
-        for (state, row) in self.vertices.rows.iter().enumerate() {
-            let mark = remapping.remap(scratch, *row).map_err(|_| AllocError)?;
-            if mark != Ref::Leaf(0) {
-                marks.push((state, mark))?;
-            }
-        }
-        Ok(marks)
-    }
-
-    // 1 for the states in the part of the suffix at this place, and 0 for the others.
-    fn numbers(&self, place: usize) -> Result<Vec<u32>, AllocError>
-        requires place { place < length self.now.parts.items }
-        ensures each { IfOk result (λ numbers. length numbers.items ≡ length self.now.vertices.now.rows.items) }
-        ensures numbers { IfOk result (λ numbers. (state : ℕ) → state < length self.now.vertices.now.rows.items
-            → slice_index_or numbers.items state 0 ≡ (if has (part_at (parts_in self.now) place) state then 1 else 0)) }
-    {
-        let mut numbers = vec![in self.alloc; 0u32; self.vertices.rows.len()]?;
-        for state in &self.parts[place] {
-            if *state < numbers.len() {
-                numbers[*state] = 1;
-            }
-        }
-        Ok(numbers)
+        let leaves = leaves_of(self.alloc, &self.parts[place])?;
+        let found = index.above(self.alloc, &leaves)?;
+        let part = Part::new(self.alloc, self.vertices.arena, &leaves, &found.marked)?;
+        part.marks(self.alloc, scratch, &self.vertices.rows, &found.looked)
     }
 
     // Gives new blocks to these states, one for all that come from one block.
     pub(crate) fn renumber(&mut self, part: &[usize]) -> Result<(), AllocError>
         requires members { All (λ state. state < length self.old.blocks.items) part.now }
         requires numbers { All (λ block. block < self.old.count) self.old.blocks.items }
+        requires sizes { AreSizes self.old.blocks.items self.old.count self.old.sizes.items }
+        requires listed { AreMembers self.old.blocks.items self.old.count self.old.members.lists.items }
         ensures vertices { raw_in self.new ≡ raw_in self.old }
         ensures suffixes { self.new.suffixes ≡ self.old.suffixes }
         ensures parts { self.new.parts ≡ self.old.parts }
         ensures split { OnOk result (IsSplit (length self.old.blocks.items) self.old.blocks.items part.now self.new.blocks.items) }
         ensures numbers { OnOk result (All (λ block. block < self.new.count) self.new.blocks.items) }
+        ensures sizes { OnOk result (AreSizes self.new.blocks.items self.new.count self.new.sizes.items) }
+        ensures listed { OnOk result (AreMembers self.new.blocks.items self.new.count self.new.members.lists.items) }
     {
         let mut left = IndexSet::new(self.alloc);
         for state in part {
             let block = self.new_block(&mut left, self.blocks[*state])?;
-            self.blocks[*state] = block;
+            self.move_to(*state, block)?;
         }
-        self.count = self.count.checked_add(left.len()).ok_or(AllocError)?;
+        self.count = self.sizes.len();
         Ok(())
     }
 
-    // Counts the states of each block.
-    pub(crate) fn measure(&mut self) -> Result<(), AllocError>
-        requires numbers { All (λ block. block < self.old.count) self.old.blocks.items }
+    // Moves a state to another block, which may be a new one behind the last.
+    fn move_to(&mut self, state: usize, block: usize) -> Result<(), AllocError>
+        requires state { state < length self.old.blocks.items }
+        requires numbers { All (λ block. block < length self.old.sizes.items) self.old.blocks.items }
+        requires block { block ≤ length self.old.sizes.items }
+        requires sizes { AreSizes self.old.blocks.items (length self.old.sizes.items) self.old.sizes.items }
+        requires members { AreMembers self.old.blocks.items (length self.old.sizes.items) self.old.members.lists.items }
         ensures vertices { raw_in self.new ≡ raw_in self.old }
         ensures suffixes { self.new.suffixes ≡ self.old.suffixes }
         ensures parts { self.new.parts ≡ self.old.parts }
-        ensures blocks { self.new.blocks ≡ self.old.blocks }
         ensures count { self.new.count ≡ self.old.count }
-        ensures sizes { OnOk result (AreSizes self.new.blocks.items self.new.count self.new.sizes.items) }
+        ensures blocks { OnOk result (self.new.blocks.items ≡ slice_set self.old.blocks.items state block) }
+        ensures sizes { OnOk result (AreSizes self.new.blocks.items (count_up (length self.old.sizes.items) block) self.new.sizes.items) }
+        ensures members { OnOk result (AreMembers self.new.blocks.items (count_up (length self.old.sizes.items) block) self.new.members.lists.items) }
     {
-        self.sizes = sizes_of(self.alloc, &self.blocks, self.count)?;
+        let old = self.blocks[state];
+        if block == self.sizes.len() {
+            self.sizes.push(0)?;
+            self.members.grow(self.alloc)?;
+        }
+        self.sizes[old] -= 1;
+        self.sizes[block] += 1;
+        self.members.put(block, state)?;
+        self.blocks[state] = block;
         Ok(())
     }
 
@@ -172,6 +182,17 @@ fn number_of(place: usize) -> Result<u32, AllocError>
         Ok(number) => Ok(number),
         Err(_) => Err(AllocError),
     }
+}
+
+// The places of states as leaves. One behind all leaves would count as want of memory.
+fn leaves_of(alloc: Global, states: &[usize]) -> Result<Vec<u32>, AllocError>
+    ensures { IfOk result (λ leaves. leaves.items ≡ states.now) }
+{
+    let mut leaves = Vec::new(alloc);
+    for state in states {
+        leaves.push(number_of(*state)?)?;
+    }
+    Ok(leaves)
 }
 
 // How many states each block has.

@@ -1,6 +1,7 @@
 // The states that are told apart: those of the automaton, and a start that stands alone once more, accepting. The empty suffix
 // says nothing of the empty word, so such a start must be told from each other state by a suffix that is not empty.
 ghost use Rattle.std.specs.Prelude.{◌≡◌, ◌<◌, true, length, map, if◌then◌else◌, IfOk};
+ghost use Rattle.std.specs.List.{All};
 ghost use Rattle.dcv_shortest.specs.Vertices.{raw_of, with_start, HasFlagged};
 
 use dcv_arena::{Arena, Ref};
@@ -34,7 +35,8 @@ impl<'a> Vertices<'a> {
 impl Vertices<'_> {
     // The states with this flag.
     pub(crate) fn with_flag(&self, alloc: Global, flag: bool) -> Result<Vec<usize>, AllocError>
-        ensures { IfOk result (λ states. HasFlagged self.now.flags.items flag states.items) }
+        ensures flagged { IfOk result (λ states. HasFlagged self.now.flags.items flag states.items) }
+        ensures states { IfOk result (λ states. All (λ state. state < length self.now.flags.items) states.items) }
     {
         let mut states = Vec::new(alloc);
         for (state, accepting) in self.flags.iter().enumerate() {

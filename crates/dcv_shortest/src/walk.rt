@@ -4,10 +4,13 @@ ghost use Rattle.std.specs.Prelude.{◌≡◌, ◌+◌, ◌<◌, ◌≤◌, ℕ,
 ghost use Rattle.std.specs.List.{All};
 ghost use Rattle.dcv_arena.specs.Arena.{IsRef, level_of, value_of};
 ghost use Rattle.dcv_shortest.specs.Separation.{AreVertices, word_at, block_of};
-ghost use Rattle.dcv_shortest.specs.Partition.{raw_in, listed_in, Separates, GoesOn};
+ghost use Rattle.dcv_shortest.specs.Partition.{raw_in, listed_in, Separates, GoesOn, IsButMended};
 ghost use Rattle.dcv_shortest.specs.Tallies.{number_of, tallied, AreSizes, AreMarkedAlike};
-ghost use Rattle.dcv_shortest.specs.Marks.{marked, IsMarkFrom, IsSideOf, AreTold, AreDone, AreCounts, HaveOthers, IsSplitOff};
+ghost use Rattle.dcv_shortest.specs.Marks.{marked, IsMarkFrom, IsSideOf, AreTold, AreDone, IsSplitOff};
+ghost use Rattle.dcv_shortest.specs.Members.{AreMembers};
+ghost use Rattle.dcv_shortest.specs.Ones.{is_one, AreCounted, are_few_in, AreCandidates, AreRarer};
 
+use crate::ones::Ones;
 use crate::partition::Partition;
 use crate::proof::Suffix;
 use crate::tally::Tally;
@@ -109,7 +112,6 @@ impl Partition<'_> {
             return Ok(());
         }
         self.renumber(&part)?;
-        self.measure()?;
         self.parts.push(part)?;
         self.suffixes.push(Suffix::Then(letter, from))?;
         Ok(())
@@ -117,81 +119,91 @@ impl Partition<'_> {
 
     // The states that leave their blocks: of each block that has states with 1 and others, the smaller part.
     fn part(
-        &self,
+        &mut self,
         scratch: &Arena,
         letter: Letter,
         marks: &[(usize, Ref)],
     ) -> Result<Vec<usize>, AllocError>
         requires letter { length letter ≡ scratch.now.slots }
-        requires marks { All (IsMarkFrom scratch.now (length (raw_in self.now).rows) scratch.now.slots) marks.now }
-        requires each { length self.now.blocks.items ≡ length (raw_in self.now).rows }
-        requires numbers { All (λ block. block < self.now.count) self.now.blocks.items }
-        ensures members { IfOk result (λ part. All (λ state. state < length self.now.blocks.items) part.items) }
-        ensures part { IfOk result (λ part. IsSplitOff (raw_in self.now) self.now.blocks.items (marked scratch.now marks.now letter) part.items) }
+        requires marks { All (IsMarkFrom scratch.now (length (raw_in self.old).rows) scratch.now.slots) marks.now }
+        requires each { length self.old.blocks.items ≡ length (raw_in self.old).rows }
+        requires numbers { All (λ block. block < self.old.count) self.old.blocks.items }
+        requires sizes { AreSizes self.old.blocks.items self.old.count self.old.sizes.items }
+        requires members { AreMembers self.old.blocks.items self.old.count self.old.members.lists.items }
+        ensures kept { IsButMended self.old self.new }
+        ensures mended { OnOk result (AreMembers self.old.blocks.items self.old.count self.new.members.lists.items) }
+        ensures members { IfOk result (λ part. All (λ state. state < length self.old.blocks.items) part.items) }
+        ensures part { IfOk result (λ part. IsSplitOff (raw_in self.old) self.old.blocks.items (marked scratch.now marks.now letter) part.items) }
     {
         let ones = self.ones(scratch, letter, marks)?;
-        let rarer = self.rarer(&ones)?;
-        let mut part = Vec::new(self.alloc);
-        for (state, block) in self.blocks.iter().enumerate() {
-            if ones[state] == rarer[*block] {
-                part.push(state)?;
-            }
-        }
-        Ok(part)
+        let candidates = self.candidates(&ones)?;
+        self.rarer(&ones, &candidates)
     }
 
-    // Which states have 1 at this letter.
+    // The states with 1 at this letter.
     fn ones(
         &self,
         scratch: &Arena,
         letter: Letter,
         marks: &[(usize, Ref)],
-    ) -> Result<Vec<bool>, AllocError>
+    ) -> Result<Ones, AllocError>
         requires letter { length letter ≡ scratch.now.slots }
-        requires marks { All (IsMarkFrom scratch.now (length (raw_in self.now).rows) scratch.now.slots) marks.now }
-        ensures each { IfOk result (λ ones. length ones.items ≡ length (raw_in self.now).rows) }
-        ensures ones { IfOk result (λ ones. (state : ℕ) → state < length (raw_in self.now).rows
-            → slice_index_or ones.items state false ≡ marked scratch.now marks.now letter state) }
+        requires marks { All (IsMarkFrom scratch.now (length self.now.blocks.items) scratch.now.slots) marks.now }
+        ensures states { IfOk result (λ ones. (state : ℕ) → is_one ones state ≡ marked scratch.now marks.now letter state) }
+        ensures counted { IfOk result (AreCounted self.now.blocks.items) }
     {
-        let mut ones = vec![in self.alloc; false; self.vertices.rows.len()]?;
+        let mut ones = Ones::new(self.alloc);
         for (state, mark) in marks {
             if scratch.eval(*mark, &letter) == 1 {
-                ones[*state] = true;
+                ones.add(*state, self.blocks[*state])?;
             }
         }
         Ok(ones)
     }
 
-    // For each block whether no more of its states are ones than are not.
-    fn rarer(&self, ones: &[bool]) -> Result<Vec<bool>, AllocError>
-        requires each { length ones.now ≡ length self.now.blocks.items }
-        requires numbers { All (λ block. block < self.now.count) self.now.blocks.items }
-        ensures each { IfOk result (λ rarer. length rarer.items ≡ self.now.count) }
-        ensures rarer { IfOk result (λ rarer. HaveOthers self.now.blocks.items ones.now rarer.items) }
+    // The ones, and all states of the blocks in which they are not few.
+    fn candidates(&mut self, ones: &Ones) -> Result<Vec<usize>, AllocError>
+        requires counted { AreCounted self.old.blocks.items ones.now }
+        requires numbers { All (λ block. block < self.old.count) self.old.blocks.items }
+        requires sizes { length self.old.sizes.items ≡ self.old.count }
+        requires members { AreMembers self.old.blocks.items self.old.count self.old.members.lists.items }
+        ensures kept { IsButMended self.old self.new }
+        ensures mended { OnOk result (AreMembers self.old.blocks.items self.old.count self.new.members.lists.items) }
+        ensures states { IfOk result (λ states. All (λ state. state < length self.old.blocks.items) states.items) }
+        ensures all { IfOk result (λ states. AreCandidates self.old.blocks.items self.old.sizes.items ones.now states.items) }
     {
-        let marked = self.counts(ones, true)?;
-        let others = self.counts(ones, false)?;
-        let mut rarer = Vec::new(self.alloc);
-        for block in 0..self.count {
-            rarer.push(marked[block] <= others[block])?;
-        }
-        Ok(rarer)
-    }
-
-    // How many states of each block are ones, or are not.
-    fn counts(&self, ones: &[bool], wanted: bool) -> Result<Vec<usize>, AllocError>
-        requires each { length ones.now ≡ length self.now.blocks.items }
-        requires numbers { All (λ block. block < self.now.count) self.now.blocks.items }
-        ensures each { IfOk result (λ counts. length counts.items ≡ self.now.count) }
-        ensures counts { IfOk result (λ counts. AreCounts self.now.blocks.items ones.now wanted counts.items) }
-    {
-        let mut counts = vec![in self.alloc; 0usize; self.count]?;
-        for (state, block) in self.blocks.iter().enumerate() {
-            if ones[state] == wanted {
-                counts[*block] += 1;
+        let mut states = ones.states(self.alloc)?;
+        for block in &ones.blocks {
+            if !self.are_few(ones, *block) {
+                self.members
+                    .list(self.alloc, &self.blocks, *block, &mut states)?;
             }
         }
-        Ok(counts)
+        Ok(states)
+    }
+
+    // The candidates on the smaller side of their block.
+    fn rarer(&self, ones: &Ones, candidates: &[usize]) -> Result<Vec<usize>, AllocError>
+        requires states { All (λ state. state < length self.now.blocks.items) candidates.now }
+        requires numbers { All (λ block. block < length self.now.sizes.items) self.now.blocks.items }
+        ensures members { IfOk result (λ part. All (λ state. state < length self.now.blocks.items) part.items) }
+        ensures part { IfOk result (λ part. AreRarer self.now.blocks.items self.now.sizes.items ones.now candidates.now part.items) }
+    {
+        let mut part = Vec::new(self.alloc);
+        for state in candidates {
+            if ones.has(*state) == self.are_few(ones, self.blocks[*state]) {
+                part.push(*state)?;
+            }
+        }
+        Ok(part)
+    }
+
+    // Whether no more states of the block are ones than are not.
+    fn are_few(&self, ones: &Ones, block: usize) -> bool
+        requires { block < length self.now.sizes.items }
+        ensures { result ≡ are_few_in self.now.sizes.items ones.now block }
+    {
+        ones.count(block) <= self.sizes[block] / 2
     }
 
     // The marks with the value in the slot fixed, but for those that have no 1 there.

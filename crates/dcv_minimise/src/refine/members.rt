@@ -2,10 +2,10 @@
 ghost use Rattle.std.specs.Prelude.{◌≡◌, ◌≤◌, ◌<◌, ◌⊎◌, ℕ, [], length, slice_index_or, IfOk, OnOk, Contains};
 ghost use Rattle.std.specs.List.{All};
 ghost use Rattle.dcv_minimise.specs.Partition.{block_of};
-ghost use Rattle.dcv_minimise.specs.Lists.{list_at};
+ghost use Rattle.dcv_index.specs.Lists.{list_at};
 ghost use Rattle.dcv_minimise.specs.Members.{IsComplete, IsListed, IsListing, IsBlockAdded, IsBlockListed, LooksAt};
 
-use super::lists::{add_to, list};
+use dcv_index::{add_to, list};
 use indexmap::{IndexMap, IndexSet};
 use std::alloc::{AllocError, Global};
 

@@ -1,19 +1,20 @@
 use Rattle.std.proofs.Common.{◌≡◌, ◌<◌, length, Contains, inl, inr, sym, ap, subst, ◌∙◌, arith}
 use Rattle.indexmap.proofs.MapLemmas.{OnOk-map}
 use Rattle.dcv_minimise.specs.Partition.{block_of}
-use Rattle.dcv_minimise.specs.Lists.{list_at}
-use Rattle.dcv_minimise.specs.Index.{StandAbove}
+use Rattle.dcv_index.specs.Lists.{list_at}
+use Rattle.dcv_index.specs.Index.{IsClosed}
 use Rattle.dcv_minimise.specs.Members.{IsComplete, IsListing}
-use Rattle.dcv_minimise.proofs.IndexFacts.{is_bounded, lead_to}
+use Rattle.dcv_index.proofs.IndexFacts.{is_bounded}
 use Rattle.dcv_minimise.proofs.MemberFacts.{is_in, others_go}
 use Rattle.dcv_minimise.proofs.RoundFacts.{refined_on}
+use Rattle.dcv_minimise.proofs.LeadFacts.{leads}
 use Rattle.dcv_minimise.proofs.refine.Refining.round.Goals as goal
 use Rattle.dcv_minimise.proofs.refine.Refining.round.Goals.{In_ok-listed, After-deref-6}
 
 pub above-requires : goal.above-requires
-above-requires c = is_bounded c.args.raw.now c.args.index.now.nodes c.args.index.now.rows c.requires.index
+above-requires c = is_bounded c.args.raw.now.arena c.args.raw.now.rows c.args.index.now.nodes c.args.index.now.rows c.requires.index
 
-listing : (c : In_ok-listed) → IsListing c.args.self.now.partition.blocks.items c.args.self.now.partition.witness.items c.in_ok-looked.looked.items c.in_ok-listed.listed.states.items c.in_ok-listed.listed.full.keys
+listing : (c : In_ok-listed) → IsListing c.args.self.now.partition.blocks.items c.args.self.now.partition.witness.items c.in_ok-found.found.looked.items c.in_ok-listed.listed.states.items c.in_ok-listed.listed.full.keys
 listing c =
     let states = c.in_ok-listed.listed.states.items in
     let full = c.in_ok-listed.listed.full.keys in
@@ -29,12 +30,13 @@ split-requires-clause-others c =
     let raw = c.args.raw.now in
     let is = c.requires.refining.is_raw in
     let moved = c.args.self.now.moved.items in
-    let looked = c.in_ok-looked.looked.items in
+    let looked = c.in_ok-found.found.looked.items in
     let nodes = c.args.index.now.nodes in
     let rows = c.args.index.now.rows in
-    let above = subst (λ moved. StandAbove nodes rows moved looked) c.deref.ensures.value c.in_ok-looked.ensures.above in
+    let marked = c.in_ok-found.found.marked.keys in
+    let closed = subst (λ moved. IsClosed nodes rows moved marked looked) c.deref.ensures.value c.in_ok-found.ensures.closed in
     others_go raw is c.args.self.now.partition.blocks.items c.args.self.now.partition.witness.items moved looked c.in_ok-listed.listed.states.items c.in_ok-listed.listed.full.keys
-    c.requires.refining.refined.witnessed c.requires.refining.refined.stable (lead_to raw is nodes rows c.requires.index moved looked above) (listing (goal.at.split-requires-clause-others c).In_ok-listed)
+    c.requires.refining.refined.witnessed c.requires.refining.refined.stable (leads raw is nodes rows c.requires.index moved marked looked closed) (listing (goal.at.split-requires-clause-others c).In_ok-listed)
 
 -- the lists as they were gone through
 complete : (c : After-deref-6) → IsComplete c.args.self.now.partition.blocks.items (length c.args.self.now.partition.witness.items) c.list.new.self.lists.items

@@ -1,8 +1,9 @@
-use Rattle.std.proofs.Common.{◌≡◌, ℕ, ◌<◌, length, get_or, false, leb}
+use Rattle.std.proofs.Common.{◌<◌, All, length, take}
+use Rattle.dcv_shortest.specs.Ones.{AreRarer}
 use Rattle.dcv_shortest.proofs.partition.Partition.rarer.Given as goal
 
-abbrev pub invariant-loop-block : goal.invariant-loop-block
-invariant-loop-block l = record {
-  each : length l.rarer.items ≡ l.block;
-  rarer : (block : ℕ) → block < l.block → get_or l.rarer.items block false ≡ leb (get_or l.marked.items block 0) (get_or l.others.items block 0);
+abbrev pub invariant-loop-state : goal.invariant-loop-state
+invariant-loop-state l = record {
+  members : All (λ state. state < length l.self.blocks.items) l.part.items;
+  so_far : AreRarer l.self.blocks.items l.self.sizes.items l.ones (take l.state-index l.candidates) l.part.items;
 }

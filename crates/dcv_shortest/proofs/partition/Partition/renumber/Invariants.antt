@@ -1,5 +1,7 @@
-use Rattle.std.proofs.Common.{◌≡◌, take, length}
+use Rattle.std.proofs.Common.{◌≡◌, ◌+◌, take, length}
 use Rattle.dcv_shortest.specs.Partition.{raw_in}
+use Rattle.dcv_shortest.specs.Tallies.{AreSizes}
+use Rattle.dcv_shortest.specs.Members.{AreMembers}
 use Rattle.dcv_shortest.proofs.Moving.{AreMoved}
 use Rattle.dcv_shortest.proofs.partition.Partition.renumber.Given as goal
 
@@ -9,5 +11,8 @@ invariant-loop-state l = record {
   suffixes : l.self.suffixes ≡ l.fn.self.suffixes;
   parts : l.self.parts ≡ l.fn.self.parts;
   count : l.self.count ≡ l.fn.self.count;
+  bound : length l.self.sizes.items ≡ l.fn.self.count + length l.left.keys;
+  sizes : AreSizes l.self.blocks.items (length l.self.sizes.items) l.self.sizes.items;
+  listed : AreMembers l.self.blocks.items (length l.self.sizes.items) l.self.members.lists.items;
   moved : AreMoved l.fn.self.count (length l.fn.self.blocks.items) l.fn.self.blocks.items (take l.state-index l.part) l.self.blocks.items l.left.keys;
 }

@@ -1,12 +1,13 @@
 use Rattle.std.proofs.Common.{◌≡◌, ℕ, ◌==◌, ◌<◌, All, List, [], ◌∷◌, ◌++◌, Vec, Global, length, map, sym, ap, subst, ◌∙◌}
 use Rattle.std.proofs.lemmas.Bool.{eqb-true, eq-eqb, true≢false}
 use Rattle.std.proofs.lemmas.List.{map-append}
+use Rattle.std.proofs.lemmas.List.Elements.{All-push}
 use Rattle.dcv_shortest.specs.declared.proof.Suffix.{Suffix}
 use Rattle.dcv_shortest.specs.declared.proof.Suffix.TheVariants.{Then}
 use Rattle.dcv_shortest.specs.Proof.{suffix_words}
 use Rattle.dcv_shortest.specs.Separation.{word_at, accepts_word, TellAlike, AreTogether, has, IsSplit, IsSeparation, Advances}
 use Rattle.dcv_shortest.specs.Partition.{raw_in, parts_in}
-use Rattle.dcv_shortest.specs.Marks.{marked, SplitsSome}
+use Rattle.dcv_shortest.specs.Marks.{marked, AreDone, SplitsSome}
 use Rattle.dcv_shortest.proofs.Separating.{separation_more, separation_advances}
 use Rattle.dcv_shortest.proofs.Walking.{told_at, told_by_split_off, done_at, nothing_listed, done_by_part, done_by_split}
 use Rattle.dcv_shortest.proofs.partition.Partition.split.Goals as goal
@@ -26,37 +27,31 @@ pub returns-then-is_empty-clause-done : goal.returns-then-is_empty-clause-done
 returns-then-is_empty-clause-done c =
     let raw = raw_in c.args.self.now in
     let none = nothing_listed c.in_ok-part.part.items (eqb-true (length c.in_ok-part.part.items) 0 (sym (ap (λ n. n == 0) c.in_ok-part.part.ok.0) ∙ sym c.is_empty.ensures ∙ c.if-is_empty.true)) in
-    done_at raw c.args.self.now.blocks.items (word_at (suffix_words c.args.self.now.suffixes.items) c.args.from) c.args.scratch.now.slots c.args.letter (sym c.requires.letter) (c.requires.letter ∙ c.requires.slots)
+    let word = word_at (suffix_words c.args.self.now.suffixes.items) c.args.from in
+    subst (λ (blocks : Vec ℕ Global). AreDone raw blocks.items word c.args.scratch.now.slots c.args.letter) (sym c.part.ensures.kept.blocks)
+    (done_at raw c.args.self.now.blocks.items word c.args.scratch.now.slots c.args.letter (sym c.requires.letter) (c.requires.letter ∙ c.requires.slots)
     (done_by_part raw c.args.self.now.blocks.items (accepts_word raw (c.args.letter ∷ word_at (suffix_words c.args.self.now.suffixes.items) c.args.from)) c.in_ok-part.part.items none
-    (told_part ((goal.at.returns-then-is_empty-clause-done c).In_ok-part)))
+    (told_part ((goal.at.returns-then-is_empty-clause-done c).In_ok-part))))
 
 module _ (c : In_ok-push-2) where
-  part_is : c.deref.result.now ≡ c.in_ok-part.part.items
-  part_is = c.deref.ensures.value
+  old_blocks : c.part.new.self.blocks.items ≡ c.args.self.now.blocks.items
+  old_blocks = ap (λ (blocks : Vec ℕ Global). blocks.items) c.part.ensures.kept.blocks
 
-  blocks_are : c.measure.new.self.blocks.items ≡ c.renumber.new.self.blocks.items
-  blocks_are = ap (λ (blocks : Vec ℕ Global). blocks.items) c.in_ok-measure.ensures.blocks
-
-  split_is : IsSplit (length (raw_in c.args.self.now).rows) c.args.self.now.blocks.items c.in_ok-part.part.items c.measure.new.self.blocks.items
+  split_is : IsSplit (length (raw_in c.args.self.now).rows) c.args.self.now.blocks.items c.in_ok-part.part.items c.renumber.new.self.blocks.items
   split_is =
-      subst (IsSplit (length (raw_in c.args.self.now).rows) c.args.self.now.blocks.items c.in_ok-part.part.items) (sym blocks_are)
-      (subst (λ n. IsSplit n c.args.self.now.blocks.items c.in_ok-part.part.items c.renumber.new.self.blocks.items) c.requires.separates.separation.are_blocks.each
-      (subst (λ part. IsSplit (length c.args.self.now.blocks.items) c.args.self.now.blocks.items part c.renumber.new.self.blocks.items) part_is c.in_ok-renumber.ensures.split))
-
-  numbers_are : All (λ block. block < c.measure.new.self.count) c.measure.new.self.blocks.items
-  numbers_are =
-      subst (λ count. All (λ block. block < count) c.measure.new.self.blocks.items) (sym c.in_ok-measure.ensures.count)
-      (subst (All (λ block. block < c.renumber.new.self.count)) (sym blocks_are) c.in_ok-renumber.ensures.numbers)
+      subst (λ n. IsSplit n c.args.self.now.blocks.items c.in_ok-part.part.items c.renumber.new.self.blocks.items) c.requires.separates.separation.are_blocks.each
+      (subst (λ part. IsSplit (length c.args.self.now.blocks.items) c.args.self.now.blocks.items part c.renumber.new.self.blocks.items) c.deref.ensures.value
+      (subst (λ blocks. IsSplit (length blocks) blocks c.deref.result.now c.renumber.new.self.blocks.items) old_blocks c.in_ok-renumber.ensures.split))
 
   some : SplitsSome (raw_in c.args.self.now) c.args.self.now.blocks.items c.in_ok-part.part.items
   some = c.in_ok-part.ensures.part.some (λ e. true≢false (sym (eq-eqb (length c.in_ok-part.part.items) 0 (ap (λ (part : List ℕ). length part) e)) ∙ ap (λ n. n == 0) (sym c.in_ok-part.part.ok.0) ∙ sym c.is_empty.ensures ∙ c.if-is_empty.false))
 
   suffixes_are : c.push-2.new.self.items ≡ c.args.self.now.suffixes.items ++ Then c.args.letter c.args.from ∷ []
-  suffixes_are = c.in_ok-push-2.ensures.items ∙ ap (λ (suffixes : Vec Suffix Global). suffixes.items ++ Then c.args.letter c.args.from ∷ []) (c.in_ok-measure.ensures.suffixes ∙ c.in_ok-renumber.ensures.suffixes)
+  suffixes_are = c.in_ok-push-2.ensures.items ∙ ap (λ (suffixes : Vec Suffix Global). suffixes.items ++ Then c.args.letter c.args.from ∷ []) (c.in_ok-renumber.ensures.suffixes ∙ c.part.ensures.kept.suffixes)
 
   parts_are : map (λ (part : Vec ℕ Global). part.items) c.push.new.self.items ≡ parts_in c.args.self.now ++ c.in_ok-part.part.items ∷ []
   parts_are =
-      ap (map (λ (part : Vec ℕ Global). part.items)) (c.in_ok-push.ensures.items ∙ ap (λ (parts : Vec (Vec ℕ Global) Global). parts.items ++ c.in_ok-part.part ∷ []) (c.in_ok-measure.ensures.parts ∙ c.in_ok-renumber.ensures.parts))
+      ap (map (λ (part : Vec ℕ Global). part.items)) (c.in_ok-push.ensures.items ∙ ap (λ (parts : Vec (Vec ℕ Global) Global). parts.items ++ c.in_ok-part.part ∷ []) (c.in_ok-renumber.ensures.parts ∙ c.part.ensures.kept.parts))
       ∙ map-append (λ (part : Vec ℕ Global). part.items) c.args.self.now.parts.items (c.in_ok-part.part ∷ [])
 
 pub returns-clause-separates : goal.returns-clause-separates
@@ -64,14 +59,18 @@ returns-clause-separates c =
     let self = c.args.self.now in
     let raw = raw_in self in
     let old = (goal.at.returns-clause-separates c).In_ok-part in
-    let new = c.measure.new.self.blocks.items in
+    let new = c.renumber.new.self.blocks.items in
     let more = separation_more raw self.suffixes.items c.args.letter c.args.from c.requires.from (c.requires.letter ∙ c.requires.slots) self.blocks.items c.in_ok-part.part.items new (parts_in self)
     c.requires.separates.separation (told_part old) (split_is c) (some c) in
     record {
       separation = subst (λ suffixes. IsSeparation raw suffixes new (map (λ (part : Vec ℕ Global). part.items) c.push.new.self.items)) (sym (suffixes_are c))
           (subst (IsSeparation raw (self.suffixes.items ++ Then c.args.letter c.args.from ∷ []) new) (sym (parts_are c)) more);
-      numbers = numbers_are c;
-      sizes = c.in_ok-measure.ensures.sizes;
+      numbers = c.in_ok-renumber.ensures.numbers;
+      sizes = c.in_ok-renumber.ensures.sizes;
+      members = c.in_ok-renumber.ensures.listed;
+      states = subst (All (All (λ state. state < length raw.rows))) (sym (parts_are c))
+          (All-push (All (λ state. state < length raw.rows)) (parts_in self) c.in_ok-part.part.items c.requires.separates.states
+          (subst (λ n. All (λ state. state < n) c.in_ok-part.part.items) c.requires.separates.separation.are_blocks.each c.in_ok-part.ensures.members));
     }
 
 pub returns-clause-goes_on : goal.returns-clause-goes_on
@@ -79,8 +78,8 @@ returns-clause-goes_on c =
     let self = c.args.self.now in
     let raw = raw_in self in
     let old = (goal.at.returns-clause-goes_on c).In_ok-part in
-    subst (λ suffixes. Advances raw (suffix_words self.suffixes.items) self.blocks.items (suffix_words suffixes) c.measure.new.self.blocks.items) (sym (suffixes_are c))
-    (separation_advances raw self.suffixes.items c.args.letter c.args.from c.requires.from (c.requires.letter ∙ c.requires.slots) self.blocks.items c.in_ok-part.part.items c.measure.new.self.blocks.items (parts_in self)
+    subst (λ suffixes. Advances raw (suffix_words self.suffixes.items) self.blocks.items (suffix_words suffixes) c.renumber.new.self.blocks.items) (sym (suffixes_are c))
+    (separation_advances raw self.suffixes.items c.args.letter c.args.from c.requires.from (c.requires.letter ∙ c.requires.slots) self.blocks.items c.in_ok-part.part.items c.renumber.new.self.blocks.items (parts_in self)
     c.requires.separates.separation (told_part old) (split_is c) (some c))
 
 pub returns-clause-done : goal.returns-clause-done
@@ -89,5 +88,5 @@ returns-clause-done c =
     let raw = raw_in self in
     let old = (goal.at.returns-clause-done c).In_ok-part in
     let word = word_at (suffix_words self.suffixes.items) c.args.from in
-    done_at raw c.measure.new.self.blocks.items word c.args.scratch.now.slots c.args.letter (sym c.requires.letter) (c.requires.letter ∙ c.requires.slots)
-    (done_by_split raw self.blocks.items c.measure.new.self.blocks.items (accepts_word raw (c.args.letter ∷ word)) c.in_ok-part.part.items (told_part old) (split_is c))
+    done_at raw c.renumber.new.self.blocks.items word c.args.scratch.now.slots c.args.letter (sym c.requires.letter) (c.requires.letter ∙ c.requires.slots)
+    (done_by_split raw self.blocks.items c.renumber.new.self.blocks.items (accepts_word raw (c.args.letter ∷ word)) c.in_ok-part.part.items (told_part old) (split_is c))

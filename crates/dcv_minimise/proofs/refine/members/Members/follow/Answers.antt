@@ -3,7 +3,7 @@ use Rattle.std.specs.List.{All}
 use Rattle.std.proofs.lemmas.List.{take_all}
 use Rattle.std.proofs.lemmas.List.Elements.{All-nil, All-contains}
 use Rattle.dcv_minimise.specs.Partition.{block_of}
-use Rattle.dcv_minimise.specs.Lists.{AddsAt, list_at}
+use Rattle.dcv_index.specs.Lists.{AddsAt, list_at}
 use Rattle.dcv_minimise.proofs.Pushed.{written_back}
 use Rattle.dcv_minimise.proofs.MemberSteps.{Follows, follows_one}
 use Rattle.dcv_minimise.proofs.refine.members.Members.follow.Goals as goal

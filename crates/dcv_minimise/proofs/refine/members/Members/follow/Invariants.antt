@@ -1,7 +1,7 @@
 use Rattle.std.proofs.Common.{◌≡◌, ℕ, ◌<◌, length, take, Contains}
 use Rattle.std.specs.List.{All}
 use Rattle.dcv_minimise.specs.Partition.{block_of}
-use Rattle.dcv_minimise.specs.Lists.{list_at}
+use Rattle.dcv_index.specs.Lists.{list_at}
 use Rattle.dcv_minimise.proofs.refine.members.Members.follow.Given as goal
 
 abbrev pub invariant-loop-state : goal.invariant-loop-state

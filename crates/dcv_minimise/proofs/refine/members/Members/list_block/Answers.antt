@@ -1,8 +1,8 @@
 use Rattle.std.proofs.Common.{◌≡◌, ◌<◌, ℕ, List, length, Contains, ap, subst, ◌∙◌}
 use Rattle.dcv_minimise.specs.Partition.{block_of}
-use Rattle.dcv_minimise.specs.Lists.{list_at}
+use Rattle.dcv_index.specs.Lists.{list_at}
 use Rattle.dcv_minimise.specs.Members.{IsBlockAdded}
-use Rattle.dcv_minimise.proofs.MarkFacts.{all_from_contains}
+use Rattle.dcv_index.proofs.MarkFacts.{all_from_contains}
 use Rattle.dcv_minimise.proofs.MemberSteps.{block_listed, complete_set}
 use Rattle.dcv_minimise.proofs.refine.members.Members.list_block.Goals as goal
 use Rattle.dcv_minimise.proofs.refine.members.Members.list_block.Goals.{After-list, After-drop-index_mut}

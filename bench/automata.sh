@@ -1,0 +1,36 @@
+#!/usr/bin/env bash
+# Measures what is done with an automaton's table: `minimise` makes it canonical, `shortest` finds its least accepted word, `separate`
+# lists suffixes that show that it is minimal. Proves and builds `dcv_bench` with rt, runs each task so many times on each table, and tells
+# the least milliseconds of processor time, how large the result is (states, letters, suffixes), and the most memory of the whole program.
+#
+#   bench/automata.sh            every task
+#   bench/automata.sh TASK..     these
+#
+#   chain    the words of 10,000 letters, over no variable: 10,002 states, every row one leaf
+#   count    the words with 10,000 letters in which the variable is true: rows of one node
+#   grid     170 by 170 states: one variable leads down, the other to the right
+#   drawn    30,000 states that seem to be random, over three variables
+#   parity   5,000 states that each letter leads on in which an odd number of 16 variables are true
+set -euo pipefail
+here=$(cd "$(dirname "$(readlink -f "${BASH_SOURCE[0]}")")" && pwd)
+runs=${RUNS:-3}
+built=$(mktemp -d)
+trap 'rm -rf "$built"' EXIT
+
+(cd "$here/../crates/dcv_bench" && rt run -- minimise chain 1 >"$built/log" 2>&1) || { cat "$built/log"; exit 1; }
+rattle=$here/../crates/dcv_bench/out/dcv_bench
+
+printf '%-9s %-7s %9s %12s %9s\n' task table size milliseconds megabytes
+for task in minimise shortest separate; do
+  [ $# -eq 0 ] || [[ " $* " == *" $task "* ]] || continue
+  for table in chain count grid drawn parity; do
+    best= memory=
+    for _ in $(seq "$runs"); do
+      read -r size each < <(/usr/bin/time -f %M -o "$built/memory" "$rattle" "$task" "$table" 1 timed)
+      [ -n "$best" ] && [ "$best" -le "$each" ] || best=$each
+      memory=$(cat "$built/memory")
+    done
+    awk -v t="$task" -v n="$table" -v s="$size" -v a="$best" -v m="$memory" \
+      'BEGIN { printf "%-9s %-7s %9d %12.1f %9.1f\n", t, n, s, a / 1e6, m / 1024 }'
+  done
+done

@@ -1,0 +1,135 @@
+-- A number more in the list of a leaf or a place, and an index that grows with it.
+use Rattle.std.proofs.Common.{◌≡◌, ℕ, ◌<◌, ◌+◌, Bool, false, if◌then◌else◌, List, length, slice_index_or, ◌⊎◌, inl, inr, Contains, sym, subst, ◌∙◌, arith}
+use Rattle.std.proofs.lemmas.Bool.{cases_lt}
+use Rattle.dcv_arena.specs.Arena.{ArenaValue, IsRef, level_of, value_of}
+use Rattle.dcv_arena.specs.declared.nodes.Ref.{Ref}
+use Rattle.dcv_arena.specs.declared.nodes.Ref.TheVariants.{Leaf, Place}
+use Rattle.dcv_index.specs.Lists.{AddsAt, Adds, HasList, list_at, listed_at}
+use Rattle.dcv_index.specs.Index.{IsWithin, IsAbove}
+use Rattle.dcv_index.specs.declared.lists.Lists.{Lists}
+
+-- the leaves' lists change, and the places' do not, or the other way round
+module _ (old new : Lists) (at number : ℕ) where
+  pub adds_leaf : AddsAt old.leaves.items new.leaves.items at number → new.places ≡ old.places → Adds old new (Leaf at) number
+  adds_leaf adds same = record {
+    leaves = adds.size;
+    places = λ i. length (same i).items;
+    keeps = keeps;
+    has = adds.has;
+    only = only;
+  }
+    where
+      keeps : (ref : Ref) (one : ℕ) → Contains (listed_at old ref) one → Contains (listed_at new ref) one
+      keeps (Leaf leaf) one c = adds.keeps leaf one c
+      keeps (Place place) one c = subst (λ list. Contains list one) (λ i. list_at (sym same i).items place) c
+
+      only : (ref : Ref) (one : ℕ) → Contains (listed_at new ref) one → Contains (listed_at old ref) one ⊎ (one ≡ number)
+      only (Leaf leaf) one c = adds.only leaf one c
+      only (Place place) one c = inl (subst (λ list. Contains list one) (λ i. list_at (same i).items place) c)
+
+  pub adds_place : AddsAt old.places.items new.places.items at number → new.leaves ≡ old.leaves → Adds old new (Place at) number
+  adds_place adds same = record {
+    leaves = λ i. length (same i).items;
+    places = adds.size;
+    keeps = keeps;
+    has = adds.has;
+    only = only;
+  }
+    where
+      keeps : (ref : Ref) (one : ℕ) → Contains (listed_at old ref) one → Contains (listed_at new ref) one
+      keeps (Leaf leaf) one c = subst (λ list. Contains list one) (λ i. list_at (sym same i).items leaf) c
+      keeps (Place place) one c = adds.keeps place one c
+
+      only : (ref : Ref) (one : ℕ) → Contains (listed_at new ref) one → Contains (listed_at old ref) one ⊎ (one ≡ number)
+      only (Leaf leaf) one c = inl (subst (λ list. Contains list one) (λ i. list_at (same i).items leaf) c)
+      only (Place place) one c = adds.only place one c
+
+-- ---- the nodes above
+
+-- there is a list for each leaf that is a state and each place
+pub has_list : (arena : ArenaValue) (count : ℕ) (lists : Lists) (ref : Ref) → length lists.leaves.items ≡ count → length lists.places.items ≡ length arena.nodes → IsWithin arena count ref → HasList lists ref
+has_list arena count lists (Leaf state) leaves places within = omega (arith, leaves, within)
+has_list arena count lists (Place place) leaves places within = omega (arith, places, within)
+
+-- what a node goes to, as `split` answers it
+pub record GoesTo (arena : ArenaValue) (place slot : ℕ) (lo hi : Ref) : Type 0 where
+  pub lo_is_ref : IsRef arena lo
+  pub hi_is_ref : IsRef arena hi
+  pub slot_is : slot ≡ level_of arena (Place place)
+  pub inner : slot < arena.slots
+  pub lo_level : slot < level_of arena lo
+  pub hi_level : slot < level_of arena hi
+  pub value : (letter : List Bool) → value_of arena (Place place) letter ≡ (if slice_index_or letter slot false then value_of arena hi letter else value_of arena lo letter)
+
+module _ (arena : ArenaValue) (count : ℕ) (old new : Lists) (ref : Ref) (number : ℕ) (adds : Adds old new ref number) where
+  above_kept : (place : ℕ) → IsAbove arena count old place → IsAbove arena count new place
+  above_kept place was = record {
+    slot = was.slot;
+    lo = was.lo;
+    hi = was.hi;
+    lo_is_ref = was.lo_is_ref;
+    hi_is_ref = was.hi_is_ref;
+    inner = was.inner;
+    lo_level = was.lo_level;
+    hi_level = was.hi_level;
+    value = was.value;
+    at_lo = λ within. adds.keeps was.lo place (was.at_lo within);
+    at_hi = λ within. adds.keeps was.hi place (was.at_hi within);
+  }
+
+  only_kept : (bound : ℕ) → number < bound → ((at : Ref) (one : ℕ) → Contains (listed_at old at) one → one < bound) → (at : Ref) (one : ℕ) → Contains (listed_at new at) one → one < bound
+  only_kept bound within was at one c = elim (adds.only at one c) [
+    | inl before ↦ was at one before
+    | inr here ↦ omega (arith, here, within)
+  ]
+
+-- so many of the nodes are listed at what they go to
+pub record AreFirstAbove (arena : ArenaValue) (count done : ℕ) (nodes : Lists) : Type 0 where
+  pub leaves : length nodes.leaves.items ≡ count
+  pub places : length nodes.places.items ≡ length arena.nodes
+  pub above : (place : ℕ) → place < done → IsAbove arena count nodes place
+  pub only : (at : Ref) (place : ℕ) → Contains (listed_at nodes at) place → place < length arena.nodes
+
+module _ (arena : ArenaValue) (count place slot : ℕ) (lo hi : Ref) (within : place < length arena.nodes) (goes : GoesTo arena place slot lo hi)
+    (old middle new : Lists) (at_lo : Adds old middle lo place) (at_hi : Adds middle new hi place) (was : AreFirstAbove arena count place old) where
+  this_above : IsAbove arena count new place
+  this_above = record {
+    slot = slot;
+    lo = lo;
+    hi = hi;
+    lo_is_ref = goes.lo_is_ref;
+    hi_is_ref = goes.hi_is_ref;
+    inner = omega (arith, goes.slot_is, goes.inner);
+    lo_level = omega (arith, goes.slot_is, goes.lo_level);
+    hi_level = omega (arith, goes.slot_is, goes.hi_level);
+    value = goes.value;
+    at_lo = λ there. at_hi.keeps lo place (at_lo.has (has_list arena count old lo was.leaves was.places there));
+    at_hi = λ there. at_hi.has (has_list arena count middle hi (at_lo.leaves ∙ was.leaves) (at_lo.places ∙ was.places) there);
+  }
+
+  pub one_above : AreFirstAbove arena count (place + 1) new
+  one_above = record {
+    leaves = at_hi.leaves ∙ at_lo.leaves ∙ was.leaves;
+    places = at_hi.places ∙ at_lo.places ∙ was.places;
+    above = λ one before. elim (cases_lt one place) [
+      | inl earlier ↦ above_kept arena count middle new hi place at_hi one (above_kept arena count old middle lo place at_lo one (was.above one earlier))
+      | inr last ↦ let same : place ≡ one = omega arith in subst (IsAbove arena count new) same this_above
+    ];
+    only = only_kept arena count middle new hi place at_hi (length arena.nodes) within (only_kept arena count old middle lo place at_lo (length arena.nodes) within was.only);
+  }
+
+-- ---- the rows
+
+module _ (arena : ArenaValue) (count : ℕ) (row : ℕ → Ref) (state : ℕ) (old new : Lists) (adds : Adds old new (row state) state) where
+  pub row_above : length old.leaves.items ≡ count → length old.places.items ≡ length arena.nodes
+      → ((one : ℕ) → one < state → IsWithin arena count (row one) → Contains (listed_at old (row one)) one)
+      → (one : ℕ) → one < state + 1 → IsWithin arena count (row one) → Contains (listed_at new (row one)) one
+  row_above leaves places was one before within = elim (cases_lt one state) [
+    | inl earlier ↦ adds.keeps (row one) one (was one earlier within)
+    | inr last ↦
+        let same : state ≡ one = omega arith in
+        subst (λ one. IsWithin arena count (row one) → Contains (listed_at new (row one)) one) same (λ there. adds.has (has_list arena count old (row state) leaves places there)) within
+  ]
+
+  pub row_only : state < count → ((at : Ref) (one : ℕ) → Contains (listed_at old at) one → one < count) → (at : Ref) (one : ℕ) → Contains (listed_at new at) one → one < count
+  row_only within was = only_kept arena count old new (row state) state adds (count) within was

@@ -1,0 +1,4 @@
+pub mod ListFacts
+pub mod IndexFacts
+pub mod MarkFacts
+mod AddFacts
