@@ -1,0 +1,79 @@
+// From texts to trees, cores and automata.
+ghost use Rattle.std.specs.Prelude.{IfOk};
+ghost use Rattle.dcv_build.specs.Given.{IsCore};
+
+use dcv_build::{BuildFault, build};
+use dcv_dfa::Auto;
+use dcv_explore::Limits;
+use dcv_reader::read_file;
+use dcv_scope::{Core, expand};
+use dcv_syntax::File;
+use std::alloc::{AllocError, Global};
+use std::fmt::Write;
+use std::test::Fail;
+
+// More than any goal here needs that is not about limits.
+pub(crate) const LIMITS: Limits = Limits {
+    states: 30_000,
+    nodes: 1_000_000,
+};
+
+// The tree of a text. For the prover: the bound is what a text of `read_file` has to meet.
+pub(crate) fn file_of(alloc: Global, text: &str) -> Result<File, Fail> {
+    if text.len() > 10_000 {
+        return Err("too long".into());
+    }
+    Ok(read_file(alloc, text.as_bytes())?)
+}
+
+// Its core.
+pub(crate) fn core_of_file(alloc: Global, file: &File) -> Result<Core, Fail>
+    ensures { IfOk result IsCore }
+{
+    Ok(expand(alloc, file)?)
+}
+
+// The core of a text.
+pub(crate) fn core_of(alloc: Global, text: &str) -> Result<Core, Fail>
+    ensures { IfOk result IsCore }
+{
+    let file = file_of(alloc, text)?;
+    core_of_file(alloc, &file)
+}
+
+// The automaton of a text within these limits, or the step that is over them.
+pub(crate) fn built(
+    alloc: Global,
+    text: &str,
+    limits: Limits,
+) -> Result<Result<Auto, BuildFault>, Fail> {
+    let core = core_of(alloc, text)?;
+    Ok(build(alloc, &core, limits))
+}
+
+// The automaton of a text.
+pub(crate) fn auto_of(alloc: Global, text: &str) -> Result<Auto, Fail> {
+    Ok(built(alloc, text, LIMITS)??)
+}
+
+// A goal behind so many quantifiers, whose variables are `a0`, `a1` and so on.
+pub(crate) fn quantified(alloc: Global, variables: u32, goal: &str) -> Result<String, AllocError> {
+    let mut text = String::new(alloc);
+    text.push_str("infer ")?;
+    for number in 0..variables {
+        write!(text, "ex a{number}. ")?;
+    }
+    write!(text, "{goal};")?;
+    Ok(text)
+}
+
+// So many of these variables at each instant, as `[[a0 && a1 && a2]]`.
+pub(crate) fn conjunction(alloc: Global, variables: u32) -> Result<String, AllocError> {
+    let mut text = String::new(alloc);
+    for number in 0..variables {
+        let join = if number == 0 { "[[" } else { " && " };
+        write!(text, "{join}a{number}")?;
+    }
+    text.push_str("]]")?;
+    Ok(text)
+}
