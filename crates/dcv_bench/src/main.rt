@@ -19,8 +19,7 @@ use crate::explorations::Exploration;
 use anyhow::{Result, bail};
 use std::alloc::Global;
 use std::env;
-use std::rt::CpuClock;
-use std::time::Duration;
+use std::time::{CpuClock, Duration};
 
 fn main(rt: HostRuntime) -> Result<()> {
     let alloc = rt.alloc();
