@@ -1,6 +1,6 @@
 #!/usr/bin/env bash
 # Measures whole runs of `dcvalid check`: the least time of so many runs (RUNS, 5 by custom) in milliseconds, start and end of the process
-# included, and the most memory that one took. With MONA=1 each file of examples/ and each small chain is asked of MONA too (Debian's
+# included, and the most memory that one took. With MONA=1 each file of examples/ is asked of MONA too (Debian's
 # package `mona`), as bench/to_mona.py puts it; a line below tells the length of its least counterexample.
 #
 #   bench/check.sh            every case
@@ -60,7 +60,7 @@ for file in "$files"/*; do
   [ $# -eq 0 ] || [[ " $* " == *" $name "* ]] || continue
   figures=$(measure "$program" check "$file")
   printf '%-22s %s  %s\n' "$name" "$figures" "$(cat "$files/.out" "$files/.err" | head -n 1)"
-  if [ -n "${MONA:-}" ] && [[ $name != *9999 && $name != slots* && $name != m14 ]]; then
+  if [ -n "${MONA:-}" ] && [[ $name = *.dc ]]; then
     python3 "$here/to_mona.py" "$file" >"$files/.mona"
     figures=$(measure timeout 60 mona -q "$files/.mona")
     printf '%-22s %s  %s\n' '  by MONA' "$figures" "$(grep -m 1 -i -E 'valid|least length' "$files/.out")"
