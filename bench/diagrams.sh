@@ -16,36 +16,36 @@
 # A case is a word of dcv_bench's arguments, beside its slots and how often it is done.
 #
 # The last figures: 27 November 2026, an Intel Xeon at 2.5 GHz, four processors that others kept busy, so they scatter by a
-# quarter; the least of five runs, in nanoseconds. The goal is at most twice the time of C. It is reached where nodes are
+# third; the least of five runs, in nanoseconds. The goal is at most twice the time of C. It is reached where nodes are
 # built, and nowhere else:
 #
 #   case         slots      size       rattle            C  times
-#   build           16      8316      2145126      1521355   1.41
-#   build           20    107040     43664163     31660343   1.38
-#   random          16      8317      6674772      1567256   4.26
-#   random          20    107093    205768085     63713349   3.23
-#   multiplier      16      3859      3519453       691859   5.09
-#   multiplier      20     31381     47076683     10500595   4.48
-#   parity          16        15        26155         2275  11.50
-#   parity          20        19        34553         4121   8.38
-#   parity          32        31        57704         6480   8.90
-#   remap           16      3825       587440       212433   2.77
-#   remap           20     31258      7467091      2891335   2.58
-#   letters         16         2       304318        63463   4.80
-#   letters         20         2      2670658       598555   4.46
+#   build           16      8316      1943523      1467193   1.32
+#   build           20    107040     36280860     26142101   1.39
+#   random          16      8317      5534343      1705929   3.24
+#   random          20    107093    137800492     41670407   3.31
+#   multiplier      16      3859      2894656       531455   5.45
+#   multiplier      20     31381     18942939      4992112   3.79
+#   parity          16        15        15048         4551   3.31
+#   parity          20        19        22449         5445   4.12
+#   parity          32        31        29937         6640   4.51
+#   remap           16      3825       345159       141739   2.44
+#   remap           20     31258      3704231      1729883   2.14
+#   letters         16         2       143715        39421   3.65
+#   letters         20         2      1869354       390319   4.79
 #
-# Of the instructions of a merge (multiplier, 16 slots; callgrind) the memo takes 42 in a hundred, with its entries dropped at the
-# end, and malloc 16 more, nearly all of it for those entries: the cache that forgets the least used hashes a key at each look-up and
-# at each entry, and keeps an entry in a list and in a table. The C program's memo is one compare and one store, and is made once
-# for all times. Following the operands (their first slot, their parts, the next keys) takes 28, and nodes 12. Instructions of one
-# operation, in C, and in Rattle with nodes of 20 bytes, with nodes of 12, and with the operands of a visit in place too:
+# Of the instructions of a merge (multiplier, 16 slots; callgrind) the memo takes about half: what it puts 31 in a hundred, its
+# entries dropped at the end 17, and look-ups besides; malloc has 18 of these. The cache that forgets the least used looks a key up
+# at each question, twice at each entry, and once more where the entry goes, and keeps an entry in a list and in a table. The C
+# program's memo keeps its entries in one array. Instructions of one operation in C, in Rattle where each field of a key and of a node
+# was hashed apart and a visit asked for each side by itself, and in Rattle now:
 #
-#   build 16        9922117   15108664   15028473   15028473
-#   random 16       5234054   41542086   42411283   35764344
-#   multiplier 16   1760943   14400211   14673773   12481227
-#   parity 32         35207     303088     308840     266487
-#   remap 16         859400    2601178    2577489    2577489
-#   letters 16       288711    1419174    1430903    1430903
+#   build 16        9922117   15028473   14125015
+#   random 16       7557356   35764344   30411361
+#   multiplier 16   2573162   12481227   10674652
+#   parity 32         50883     266487     217048
+#   remap 16         859400    2577489    2470656
+#   letters 16       288604    1430903    1345691
 set -euo pipefail
 here=$(cd "$(dirname "$(readlink -f "${BASH_SOURCE[0]}")")" && pwd)
 runs=${RUNS:-5}

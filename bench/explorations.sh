@@ -16,6 +16,27 @@
 #   sets        the quantifier over the product of two rings, one for each of two variables; sets of up to SIZE states
 #
 # A case is a word of dcv_bench's arguments, beside its size and how often it is done.
+#
+# The last figures: 27 November 2026, an Intel Xeon at 2.5 GHz, four processors that others kept busy, so they scatter by a third;
+# the least of five runs, in nanoseconds a state. The goals are 400 for grid, 12,000 for wide and 3,000 for shared; grid misses its own:
+#
+#   case       size   states   rattle        C  times
+#   counter   30000    30000      505
+#   grid        170    28900      651      180   3.61
+#   wide        100    10000     7749     3784   2.05
+#   shared      100    10000     2679      825   3.25
+#   chop        100    19800     4744
+#   exists    10000    10000      602
+#   sets        100     5050    12047
+#
+# Instructions of one exploration (callgrind), in C and in Rattle. Those of grid are spread thin: no function has more than a tenth.
+#
+#   grid       20326323    80390122
+#   wide       81028835   265993842
+#   shared     30893953   116909152
+#   counter                81229048
+#   exists                 36404725
+#   chop                  589632777
 set -euo pipefail
 here=$(cd "$(dirname "$(readlink -f "${BASH_SOURCE[0]}")")" && pwd)
 runs=${RUNS:-5}
