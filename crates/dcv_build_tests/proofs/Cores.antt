@@ -1,5 +1,5 @@
 -- What the steps of a core are: those of a tree, and an atom where there is an atom's operator.
-use Rattle.std.proofs.Common.{◌≡◌, ℕ, Option, None, Some, List, slice_get, map, refl, sym, subst}
+use Rattle.std.proofs.Common.{◌≡◌, ℕ, Option, None, Some, slice_get, map, refl, sym, subst}
 use Rattle.std.specs.Option.{option_map}
 use Rattle.std.proofs.lemmas.Option.{same_Some}
 use Rattle.dcv_scope.specs.Core.{CoreTree, PlainBasic}

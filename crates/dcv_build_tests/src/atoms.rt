@@ -141,6 +141,16 @@ fn atoms_with_too_large_rows(rt: HostRuntime) -> Result<(), Fail> {
     Ok(())
 }
 
+// The machine has 12 states.
+#[test]
+fn each_limit_below_twelve(rt: HostRuntime) -> Result<(), Fail> {
+    for limit in 0..12 {
+        let fault = fault_of_states(rt.alloc(), "infer slen = 9;", limit, 0)?;
+        assert_eq!(rt; fault, Some(ExploreFault::States { limit }));
+    }
+    Ok(())
+}
+
 // The parts are 30 variables with a node each and the whole, whose nodes are those of the last variable, of the last two, and so on:
 // 29 more.
 #[test]

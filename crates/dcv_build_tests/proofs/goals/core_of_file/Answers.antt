@@ -7,4 +7,4 @@ use Rattle.dcv_build_tests.proofs.goals.core_of_file.Goals as goal
 pub returns : goal.returns
 returns c =
     let file = plain_file c.args.file.now in
-    is_core c.in_ok-expand.expand (length file.variables) (core_of_file file) c.in_ok-expand.ensures.declared c.in_ok-expand.ensures.steps
+    is_core c.in_ok-expand.field-0 (length file.variables) (core_of_file file) c.in_ok-expand.ensures.declared c.in_ok-expand.ensures.steps
