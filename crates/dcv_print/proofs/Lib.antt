@@ -1,2 +1,3 @@
 mod LeastWords
+mod Spellings
 mod Texts

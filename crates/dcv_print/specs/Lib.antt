@@ -1,2 +1,4 @@
 pub mod Verdict
 pub mod Said
+pub mod Printed
+pub mod Pushed

@@ -20,7 +20,9 @@
 #![tactic(auto)]
 
 mod automaton;
+mod automaton_lines;
 mod lines;
 
 pub use automaton::{verdict, verdict_text};
+pub use automaton_lines::automaton_text;
 pub use lines::Verdict;
