@@ -1,12 +1,13 @@
 -- The table rules, by which a file of the form stands for an automaton. Each word of the text keeps them or breaks one of them.
 --     most_names, most_states, most_nodes    how many there may be
+--     AreNames names                         these may be the names of the variables
 --     keeps_name file place name ..          whether each word of a line at this place keeps the rules, in the order of its words
 --     judged_words file                      each word of the text, and whether it keeps the rules
 --     first_broken at words                  the offset of the first that does not, where the words begin at an offset
 --     IsTableFault file at                   the first word that breaks a rule begins at this offset
 --     IsGood file                            there is none
-use Rattle.std.specs.Prelude.{◌≡◌, ℕ, ◌+◌, Bool, true, false, not, ◌&&◌, ◌||◌, nat_eq, nat_lt, nat_le, if◌then◌else◌, List, [], ◌∷◌, ◌++◌, Option, Some, None, length, map, take, slice_index_or, bytes_eq}
-use Rattle.std.specs.List.{flat_map, list_any, position_or_len, enumerate_from, zip}
+use Rattle.std.specs.Prelude.{◌≡◌, ◌≢◌, ℕ, ◌+◌, ◌≤◌, Bool, true, false, not, IsTrue, ◌&&◌, ◌||◌, nat_eq, nat_lt, nat_le, if◌then◌else◌, List, [], ◌∷◌, ◌++◌, Option, Some, None, length, map, take, slice_index_or, bytes_eq}
+use Rattle.std.specs.List.{All, AllPairs, flat_map, list_any, position_or_len, enumerate_from, zip}
 use Rattle.dcv_tokens.specs.Tokens.{is_name}
 use Rattle.dcv_tokens.specs.Limits.{longest_word}
 use Rattle.dcv_automaton_text.specs.File.{Target, ToState, ToNode, NodeLine, StateLine, Access, EmptyAccess, StartAccess, AfterAccess, AccessLine}
@@ -34,6 +35,16 @@ is_listed names name = list_any (bytes_eq name) names
 -- a name that is not too long, not too many, and not one of the names before it
 abbrev pub keeps_name : List (List ℕ) → ℕ → List ℕ → Bool
 keeps_name names place name = nat_lt place most_names && is_name name && nat_le (length name) longest_word && not (is_listed (take place names) name)
+
+pub record IsPlainName (name : List ℕ) : Type 0 where
+  pub form : IsTrue (is_name name)
+  pub short : length name ≤ longest_word
+
+-- names that keep the rules
+pub record AreNames (names : List (List ℕ)) : Type 0 where
+  pub count : length names ≤ most_names
+  pub each : All IsPlainName names
+  pub differ : AllPairs ◌≢◌ names
 
 -- ---- nodes
 

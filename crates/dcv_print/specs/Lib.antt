@@ -2,3 +2,4 @@ pub mod Verdict
 pub mod Said
 pub mod Printed
 pub mod Pushed
+pub mod Laws

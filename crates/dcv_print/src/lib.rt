@@ -21,6 +21,7 @@
 
 mod automaton;
 mod automaton_lines;
+pub mod laws;
 mod lines;
 
 pub use automaton::{verdict, verdict_text};
