@@ -11,6 +11,8 @@ mod examples;
 #[cfg(test)]
 mod minimal;
 #[cfg(test)]
+mod printed;
+#[cfg(test)]
 mod shown;
 #[cfg(test)]
 mod slow;

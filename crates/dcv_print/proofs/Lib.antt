@@ -1,2 +1,11 @@
+mod Kept
 mod LeastWords
+mod PrintedFiles
+mod PrintedForms
+mod PrintedNodes
+mod PrintedProofs
+mod PrintedTables
+mod PrintedWords
+mod Spellings
+mod SuffixCounts
 mod Texts

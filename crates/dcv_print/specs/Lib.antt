@@ -1,2 +1,5 @@
 pub mod Verdict
 pub mod Said
+pub mod Printed
+pub mod Pushed
+pub mod Laws

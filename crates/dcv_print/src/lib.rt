@@ -20,7 +20,10 @@
 #![tactic(auto)]
 
 mod automaton;
+mod automaton_lines;
+pub mod laws;
 mod lines;
 
 pub use automaton::{verdict, verdict_text};
+pub use automaton_lines::automaton_text;
 pub use lines::Verdict;

@@ -1,0 +1,124 @@
+-- Texts and their files, by hand.
+use Rattle.std.proofs.Common.{◌≡◌, true, false, List, [], ◌∷◌, ◌++◌, refl}
+use Rattle.std.specs.Prelude.{codes}
+use Rattle.std.specs.Fmt.{digits}
+use Rattle.dcv_tokens.specs.Tokens.{reserved_words}
+use Rattle.dcv_automaton_text.specs.File.{ToState, ToNode, NodeLine, StateLine, EmptyAccess, StartAccess, AfterAccess, AccessLine, EmptySuffix, ThenSuffix, SuffixLine, AutomatonFile}
+use Rattle.dcv_automaton_text.specs.Spelled.{lines_of, spelled}
+use Rattle.dcv_automaton_text.specs.Rules.{judged_words, IsGood, IsTableFault}
+use Rattle.dcv_automaton_text.specs.Meaning.{states_at, table_of, access_words_of, suffix_words_of}
+
+-- ---- the words of one letter, in which the variable is true
+
+nodes_of_point : List NodeLine
+nodes_of_point = record { number = 0; name = codes "p"; hi = ToState 2; lo = ToState 1 } ∷ []
+
+states_of_point : List StateLine
+states_of_point =
+    record { number = 0; accepting = false; row = ToNode 0 }
+    ∷ record { number = 1; accepting = false; row = ToState 1 }
+    ∷ record { number = 2; accepting = true; row = ToState 1 } ∷ []
+
+access_of_point : List AccessLine
+access_of_point =
+    record { number = 0; access = EmptyAccess }
+    ∷ record { number = 1; access = StartAccess (false ∷ []) }
+    ∷ record { number = 2; access = StartAccess (true ∷ []) } ∷ []
+
+suffixes_of_point : List SuffixLine
+suffixes_of_point = record { number = 0; suffix = EmptySuffix } ∷ record { number = 1; suffix = ThenSuffix (true ∷ []) 0 } ∷ []
+
+point : AutomatonFile
+point =
+    record {
+      names = codes "p" ∷ [];
+      states = 3;
+      node_lines = nodes_of_point;
+      state_lines = states_of_point;
+      access_lines = access_of_point;
+      suffix_lines = suffixes_of_point;
+    }
+
+point_text : spelled point
+    ≡ codes "automaton 1\nvariables p\nstates 3\n"
+    ++ codes "node n0 p ? t2 : t1\n"
+    ++ codes "state 0 reject n0\nstate 1 reject t1\nstate 2 accept t1\n"
+    ++ codes "access 0 empty\naccess 1 start 0\naccess 2 start 1\n"
+    ++ codes "suffix 0 empty\nsuffix 1 1 0\n"
+    ++ codes "end\n"
+unfolding point nodes_of_point states_of_point access_of_point suffixes_of_point spelled lines_of digits
+point_text = refl
+
+point_is_good : IsGood point
+unfolding point nodes_of_point states_of_point access_of_point suffixes_of_point judged_words reserved_words digits
+point_is_good = refl
+
+point_table : table_of point
+    ≡ record { accepting = false; row = 1 ∷ 2 ∷ [] } ∷ record { accepting = false; row = 1 ∷ 1 ∷ [] } ∷ record { accepting = true; row = 1 ∷ 1 ∷ [] } ∷ []
+unfolding point nodes_of_point states_of_point table_of states_at
+point_table = refl
+
+point_access : access_words_of point ≡ [] ∷ ((false ∷ []) ∷ []) ∷ ((true ∷ []) ∷ []) ∷ []
+unfolding point access_of_point access_words_of
+point_access = refl
+
+point_suffixes : suffix_words_of point ≡ [] ∷ ((true ∷ []) ∷ []) ∷ []
+unfolding point suffixes_of_point suffix_words_of
+point_suffixes = refl
+
+-- ---- no variables, and one state
+
+all : AutomatonFile
+all =
+    record {
+      names = [];
+      states = 1;
+      node_lines = [];
+      state_lines = record { number = 0; accepting = true; row = ToState 0 } ∷ [];
+      access_lines = record { number = 0; access = StartAccess [] } ∷ [];
+      suffix_lines = [];
+    }
+
+all_text : spelled all ≡ codes "automaton 1\nvariables -\nstates 1\nstate 0 accept t0\naccess 0 start -\nend\n"
+unfolding all spelled lines_of digits
+all_text = refl
+
+all_is_good : IsGood all
+unfolding all judged_words
+all_is_good = refl
+
+-- ---- the word of the start goes on from that of a later state
+
+turned : List AccessLine
+turned = record { number = 0; access = AfterAccess 2 (true ∷ []) } ∷ record { number = 1; access = StartAccess (false ∷ []) } ∷ record { number = 2; access = AfterAccess 1 (true ∷ []) } ∷ []
+
+turned_words : access_words_of (record point { access_lines = turned })
+    ≡ ((false ∷ []) ∷ (true ∷ []) ∷ (true ∷ []) ∷ []) ∷ ((false ∷ []) ∷ []) ∷ ((false ∷ []) ∷ (true ∷ []) ∷ []) ∷ []
+unfolding point turned access_words_of
+turned_words = refl
+
+turned_is_good : IsGood (record point { access_lines = turned })
+unfolding point turned nodes_of_point states_of_point suffixes_of_point judged_words reserved_words digits
+turned_is_good = refl
+
+-- ---- broken rules
+
+-- equal children: at the second
+equal_children : IsTableFault (record point { node_lines = record { number = 0; name = codes "p"; hi = ToState 2; lo = ToState 2 } ∷ [] }) 50
+unfolding point states_of_point access_of_point suffixes_of_point judged_words reserved_words digits
+equal_children = refl
+
+-- a state is missing: at the first word of the access lines
+state_missing : IsTableFault (record point { state_lines = record { number = 0; accepting = false; row = ToNode 0 } ∷ [] }) 71
+unfolding point nodes_of_point access_of_point suffixes_of_point judged_words reserved_words digits
+state_missing = refl
+
+-- access words are missing, and there is no suffix: at `end`
+access_missing : IsTableFault (record all { access_lines = [] }) 51
+unfolding all judged_words digits
+access_missing = refl
+
+-- a name that stands twice: at the second
+names_twice : IsTableFault (record all { names = codes "p" ∷ codes "q" ∷ codes "p" ∷ [] }) 26
+unfolding all judged_words reserved_words digits
+names_twice = refl

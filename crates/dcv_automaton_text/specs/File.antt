@@ -1,0 +1,54 @@
+-- The text of an automaton as plain data: what its lines say, in order. Here numbers may be any and stand in any order, and there may be
+-- any number of lines of each kind; the table rules judge them.
+--     Target           what comes next in a row: a state or a node, by its number
+--     NodeLine         a node: its number, its variable's name, and what comes next where that is true and where it is false
+--     StateLine        a state: its number, whether it accepts, and its row
+--     AccessLine       how the access word of a state is spelled
+--     SuffixLine       how a suffix is spelled
+--     AutomatonFile    the variables, the number of states, and the lines of each kind
+use Rattle.std.specs.Prelude.{ℕ, Bool, List}
+
+pub data Target : Type 0 where
+  ToState : (number : ℕ) → Target
+  ToNode : (number : ℕ) → Target
+
+pub record NodeLine : Type 0 where
+  pub number : ℕ
+  pub name : List ℕ
+  -- where the variable is true
+  pub hi : Target
+  -- where it is false
+  pub lo : Target
+
+pub record StateLine : Type 0 where
+  pub number : ℕ
+  pub accepting : Bool
+  pub row : Target
+
+-- the empty word, a word of one letter, or the access word of a state and a letter more
+pub data Access : Type 0 where
+  EmptyAccess : Access
+  StartAccess : (letter : List Bool) → Access
+  AfterAccess : (state : ℕ) → (letter : List Bool) → Access
+
+pub record AccessLine : Type 0 where
+  pub number : ℕ
+  pub access : Access
+
+-- the empty word, or a letter and then another suffix
+pub data Suffix : Type 0 where
+  EmptySuffix : Suffix
+  ThenSuffix : (letter : List Bool) → (suffix : ℕ) → Suffix
+
+pub record SuffixLine : Type 0 where
+  pub number : ℕ
+  pub suffix : Suffix
+
+pub record AutomatonFile : Type 0 where
+  -- of the variables, in order
+  pub names : List (List ℕ)
+  pub states : ℕ
+  pub node_lines : List NodeLine
+  pub state_lines : List StateLine
+  pub access_lines : List AccessLine
+  pub suffix_lines : List SuffixLine

@@ -1,0 +1,8 @@
+-- what public clauses cite: the file as plain data, its text, the form, the table rules, and what a good file stands for
+pub mod File
+pub mod Spelled
+pub mod Form
+pub mod Rules
+pub mod Meaning
+-- the statements that `src/laws.rt` proves
+pub mod Laws

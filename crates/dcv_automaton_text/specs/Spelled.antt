@@ -1,0 +1,75 @@
+-- How a file is spelled: words with one space between every two, and a line feed at the end of each line.
+--     node_words line ..      the words of a line
+--     lines_of file           the lines of a file, each as its words
+--     spelled file            the bytes of its text
+use Rattle.std.specs.Prelude.{ℕ, Bool, if◌then◌else◌, List, [], ◌∷◌, ◌++◌, map, codes}
+use Rattle.std.specs.Fmt.{decimal}
+use Rattle.std.specs.List.{flat_map, join_with_byte}
+use Rattle.std.specs.Str.{byte}
+use Rattle.dcv_word.specs.TraceLine.{trace_line}
+use Rattle.dcv_language.specs.VerdictText.{line}
+use Rattle.dcv_automaton_text.specs.File.{Target, ToState, ToNode, NodeLine, StateLine, Access, EmptyAccess, StartAccess, AfterAccess, AccessLine}
+use Rattle.dcv_automaton_text.specs.File.{Suffix, EmptySuffix, ThenSuffix, SuffixLine, AutomatonFile}
+
+-- ---- words
+
+abbrev pub node_word : ℕ → List ℕ
+node_word number = byte "n" ∷ decimal number
+
+abbrev pub target_word : Target → List ℕ
+target_word (ToState number) = byte "t" ∷ decimal number
+target_word (ToNode number) = node_word number
+
+abbrev pub answer_word : Bool → List ℕ
+answer_word accepting = if accepting then codes "accept" else codes "reject"
+
+-- ---- lines
+
+-- the names, or a dash where there are none
+abbrev pub name_words : List (List ℕ) → List (List ℕ)
+name_words [] = codes "-" ∷ []
+name_words (name ∷ names) = name ∷ names
+
+abbrev pub node_words : NodeLine → List (List ℕ)
+node_words line = codes "node" ∷ node_word line.number ∷ line.name ∷ codes "?" ∷ target_word line.hi ∷ codes ":" ∷ target_word line.lo ∷ []
+
+abbrev pub state_words : StateLine → List (List ℕ)
+state_words line = codes "state" ∷ decimal line.number ∷ answer_word line.accepting ∷ target_word line.row ∷ []
+
+abbrev pub how_access : Access → List (List ℕ)
+how_access EmptyAccess = codes "empty" ∷ []
+how_access (StartAccess letter) = codes "start" ∷ trace_line letter ∷ []
+how_access (AfterAccess state letter) = decimal state ∷ trace_line letter ∷ []
+
+abbrev pub access_words : AccessLine → List (List ℕ)
+access_words line = codes "access" ∷ decimal line.number ∷ how_access line.access
+
+abbrev pub how_suffix : Suffix → List (List ℕ)
+how_suffix EmptySuffix = codes "empty" ∷ []
+how_suffix (ThenSuffix letter suffix) = trace_line letter ∷ decimal suffix ∷ []
+
+abbrev pub suffix_words : SuffixLine → List (List ℕ)
+suffix_words line = codes "suffix" ∷ decimal line.number ∷ how_suffix line.suffix
+
+-- ---- the file
+
+abbrev pub head_lines : AutomatonFile → List (List (List ℕ))
+head_lines file = (codes "automaton" ∷ codes "1" ∷ []) ∷ (codes "variables" ∷ name_words file.names) ∷ (codes "states" ∷ decimal file.states ∷ []) ∷ []
+
+abbrev pub end_lines : List (List (List ℕ))
+end_lines = (codes "end" ∷ []) ∷ []
+
+unfoldable pub lines_of : AutomatonFile → List (List (List ℕ))
+lines_of file =
+    head_lines file
+    ++ (map node_words file.node_lines
+    ++ (map state_words file.state_lines
+    ++ (map access_words file.access_lines
+    ++ (map suffix_words file.suffix_lines
+    ++ end_lines))))
+
+abbrev pub spelled_line : List (List ℕ) → List ℕ
+spelled_line words = line (join_with_byte (byte " ") words)
+
+unfoldable pub spelled : AutomatonFile → List ℕ
+spelled file = flat_map spelled_line (lines_of file)

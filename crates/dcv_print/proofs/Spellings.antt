@@ -1,0 +1,133 @@
+-- What is written, line by line: one line more, and the words of a line.
+use Rattle.std.proofs.Common.{◌≡◌, ℕ, suc, ◌+◌, ◌<◌, List, [], ◌∷◌, ◌++◌, length, map, take, get_or, refl, sym, ap, ◌∙◌, arith}
+use Rattle.std.specs.Prelude.{codes}
+use Rattle.std.specs.Fmt.{decimal}
+use Rattle.std.specs.List.{enumerate_from, flat_map, join_with_byte}
+use Rattle.std.proofs.lemmas.Grind.{flat_map-append}
+use Rattle.std.proofs.lemmas.List.Folds.{flat_map-map}
+use Rattle.std.proofs.lemmas.List.{append_assoc, append-nil, take_more, length-take}
+use Rattle.dcv_dfa.specs.Raw.{RawValue}
+use Rattle.dcv_dfa.specs.NodeLines.{node_lines_of}
+use Rattle.dcv_shortest.specs.declared.proof.Access.{Access as CodeAccess}
+use Rattle.dcv_shortest.specs.declared.proof.Suffix.{Suffix as CodeSuffix}
+use Rattle.dcv_automaton_text.specs.Spelled.{name_words, node_words, state_words, access_words, suffix_words, head_lines, end_lines, lines_of, spelled_line, spelled}
+use Rattle.dcv_print.specs.Printed.{node_line, state_line, access_line, suffix_line, printed_file}
+use Rattle.dcv_print.specs.Pushed.{spaced, spelled_lines}
+
+-- ---- lines
+
+enumerate_push : {X : Type 0} (n : ℕ) (xs : List X) (x : X) → enumerate_from n (xs ++ x ∷ []) ≡ enumerate_from n xs ++ (n + length xs, x) ∷ []
+enumerate_push n [] x = let place : n ≡ n + 0 = omega arith in λ i. (place i, x) ∷ []
+enumerate_push n (first ∷ xs) x =
+    let place : (n + 1) + length xs ≡ n + suc (length xs) = omega arith in
+    ap (λ rest. (n, first) ∷ rest) (enumerate_push (n + 1) xs x ∙ ap (λ at. enumerate_from (n + 1) xs ++ (at, x) ∷ []) place)
+
+-- the line of the element at a place, behind those of the elements before it
+pub lines_more : {Line : Type 0} (words : ℕ × Line → List (List ℕ)) (xs : List Line) (n : ℕ) (d : Line) → n < length xs
+    → spelled_lines words (take (n + 1) xs) ≡ spelled_lines words (take n xs) ++ spelled_line (words (n, get_or xs n d))
+lines_more words xs n d below =
+    let place : 0 + length (take n xs) ≡ n = omega (arith, length-take n xs) in
+    let spell = λ (numbered : _). spelled_line (words numbered) in
+    ap (spelled_lines words) (take_more xs n d below)
+    ∙ ap (flat_map spell) (enumerate_push 0 (take n xs) (get_or xs n d) ∙ ap (λ at. enumerate_from 0 (take n xs) ++ (at, get_or xs n d) ∷ []) place)
+    ∙ flat_map-append spell (enumerate_from 0 (take n xs)) ((n, get_or xs n d) ∷ [])
+    ∙ ap (λ line. spelled_lines words (take n xs) ++ line) (append-nil (spelled_line (words (n, get_or xs n d))))
+
+-- ---- words
+
+-- a line is its first word, each further word behind a space, and the line feed
+pub joined_is_spaced : (word : List ℕ) (words : List (List ℕ)) → join_with_byte 32 (word ∷ words) ≡ word ++ spaced words
+joined_is_spaced word [] = sym (append-nil word)
+joined_is_spaced word (next ∷ words) = ap (λ rest. word ++ 32 ∷ rest) (joined_is_spaced next words)
+
+pub line_is_spaced : (word : List ℕ) (words : List (List ℕ)) → spelled_line (word ∷ words) ≡ word ++ (spaced words ++ 10 ∷ [])
+line_is_spaced word words = ap (λ line. line ++ 10 ∷ []) (joined_is_spaced word words) ∙ append_assoc word (spaced words) (10 ∷ [])
+
+-- written piece by piece
+pub line_written : (word : List ℕ) (words : List (List ℕ)) (old first second last : List ℕ) → first ≡ old ++ word → second ≡ first ++ spaced words
+    → last ≡ second ++ 10 ∷ [] → last ≡ old ++ spelled_line (word ∷ words)
+line_written word words old first second last a b c =
+    c
+    ∙ ap (λ text. text ++ 10 ∷ []) (b ∙ ap (λ text. text ++ spaced words) a ∙ append_assoc old word (spaced words))
+    ∙ append_assoc old (word ++ spaced words) (10 ∷ [])
+    ∙ ap (λ line. old ++ (line ++ 10 ∷ [])) (sym (joined_is_spaced word words))
+
+-- the first three lines
+pub head_written : (start variables word number old first second third fourth last : List ℕ) → first ≡ old ++ start → second ≡ first ++ variables → third ≡ second ++ word
+    → fourth ≡ third ++ number → last ≡ fourth ++ 10 ∷ [] → last ≡ old ++ (start ++ (variables ++ ((word ++ number) ++ 10 ∷ [])))
+head_written start variables word number old first second third fourth last a b c d e =
+    e
+    ∙ ap (λ text. text ++ 10 ∷ []) (d ∙ ap (λ text. text ++ number) c ∙ append_assoc second word number)
+    ∙ append_assoc second (word ++ number) (10 ∷ [])
+    ∙ ap (λ text. text ++ ((word ++ number) ++ 10 ∷ [])) b
+    ∙ append_assoc first variables ((word ++ number) ++ 10 ∷ [])
+    ∙ ap (λ text. text ++ (variables ++ ((word ++ number) ++ 10 ∷ []))) a
+    ∙ append_assoc old start (variables ++ ((word ++ number) ++ 10 ∷ []))
+
+pub some_names : (names : List (List ℕ)) → 0 < length names → name_words names ≡ names
+some_names [] some = absurd (omega arith)
+some_names (name ∷ names) some = refl
+
+-- ---- steps
+
+-- one line more is written
+pub written_more : {Line : Type 0} (words : ℕ × Line → List (List ℕ)) (xs : List Line) (n : ℕ) (d : Line) (old before after line : List ℕ) → n < length xs
+    → before ≡ old ++ spelled_lines words (take n xs) → after ≡ before ++ line → line ≡ spelled_line (words (n, get_or xs n d))
+    → after ≡ old ++ spelled_lines words (take (n + 1) xs)
+written_more words xs n d old before after line below so_far written same =
+    let last = spelled_line (words (n, get_or xs n d)) in
+    written
+    ∙ (λ i. so_far i ++ same i)
+    ∙ append_assoc old (spelled_lines words (take n xs)) last
+    ∙ ap (λ lines. old ++ lines) (sym (lines_more words xs n d below))
+
+-- ---- the whole text
+
+-- the lines of one kind, of what has a number
+of_kind : {Line Numbered : Type 0} (words : Line → List (List ℕ)) (line : ℕ × Numbered → Line) (xs : List Numbered)
+    → flat_map spelled_line (map words (map line (enumerate_from 0 xs))) ≡ spelled_lines (λ numbered. words (line numbered)) xs
+of_kind words line xs = flat_map-map spelled_line words (map line (enumerate_from 0 xs)) ∙ flat_map-map (λ one. spelled_line (words one)) line (enumerate_from 0 xs)
+
+module _ (raw : RawValue) (names : List (List ℕ)) (access : List CodeAccess) (suffixes : List CodeSuffix) where
+  abbrev pub head_text : List ℕ
+  head_text = spelled_line (codes "automaton" ∷ codes "1" ∷ []) ++ (spelled_line (codes "variables" ∷ name_words names) ++ spelled_line (codes "states" ∷ decimal (length raw.rows) ∷ []))
+
+  abbrev pub nodes_text : List ℕ
+  nodes_text = spelled_lines (λ numbered. node_words (node_line names numbered)) (node_lines_of raw).lines
+
+  abbrev pub states_text : List ℕ
+  states_text = spelled_lines (λ numbered. state_words (state_line raw numbered)) (node_lines_of raw).rows
+
+  abbrev pub access_text : List ℕ
+  access_text = spelled_lines (λ numbered. access_words (access_line numbered)) access
+
+  abbrev pub suffixes_text : List ℕ
+  suffixes_text = spelled_lines (λ numbered. suffix_words (suffix_line numbered)) suffixes
+
+  in_parts : spelled (printed_file raw names access suffixes) ≡ head_text ++ (nodes_text ++ (states_text ++ (access_text ++ (suffixes_text ++ codes "end\n"))))
+  unfolding spelled lines_of printed_file
+  in_parts =
+      let file = printed_file raw names access suffixes in
+      let nodes = map node_words file.node_lines in
+      let states = map state_words file.state_lines in
+      let words = map access_words file.access_lines in
+      let ends = map suffix_words file.suffix_lines in
+      let last = flat_map-append spelled_line ends end_lines ∙ ap (λ text. text ++ codes "end\n") (of_kind suffix_words suffix_line suffixes) in
+      let fourth = flat_map-append spelled_line words (ends ++ end_lines) ∙ (λ i. of_kind access_words access_line access i ++ last i) in
+      let third = flat_map-append spelled_line states (words ++ (ends ++ end_lines)) ∙ (λ i. of_kind state_words (state_line raw) (node_lines_of raw).rows i ++ fourth i) in
+      let second = flat_map-append spelled_line nodes (states ++ (words ++ (ends ++ end_lines))) ∙ (λ i. of_kind node_words (node_line names) (node_lines_of raw).lines i ++ third i) in
+      let head : flat_map spelled_line (head_lines file) ≡ head_text =
+      ap (λ end. spelled_line (codes "automaton" ∷ codes "1" ∷ []) ++ (spelled_line (codes "variables" ∷ name_words names) ++ end)) (append-nil (spelled_line (codes "states" ∷ decimal (length raw.rows) ∷ []))) in
+      flat_map-append spelled_line (head_lines file) (nodes ++ (states ++ (words ++ (ends ++ end_lines)))) ∙ (λ i. head i ++ second i)
+
+  pub text_written : (none first second third fourth fifth last : List ℕ) → none ≡ [] → first ≡ none ++ head_text → second ≡ first ++ nodes_text → third ≡ second ++ states_text
+      → fourth ≡ third ++ access_text → fifth ≡ fourth ++ suffixes_text → last ≡ fifth ++ codes "end\n" → last ≡ spelled (printed_file raw names access suffixes)
+  text_written none first second third fourth fifth last a b c d e f g =
+      let end = codes "end\n" in
+      let head : first ≡ head_text = b ∙ ap (λ text. text ++ head_text) a in
+      g ∙ ap (λ text. text ++ end) f ∙ append_assoc fourth suffixes_text end
+      ∙ ap (λ text. text ++ (suffixes_text ++ end)) e ∙ append_assoc third access_text (suffixes_text ++ end)
+      ∙ ap (λ text. text ++ (access_text ++ (suffixes_text ++ end))) d ∙ append_assoc second states_text (access_text ++ (suffixes_text ++ end))
+      ∙ ap (λ text. text ++ (states_text ++ (access_text ++ (suffixes_text ++ end)))) c ∙ append_assoc first nodes_text (states_text ++ (access_text ++ (suffixes_text ++ end)))
+      ∙ ap (λ text. text ++ (nodes_text ++ (states_text ++ (access_text ++ (suffixes_text ++ end))))) head
+      ∙ sym in_parts
