@@ -1,9 +1,8 @@
 #!/usr/bin/env bash
-# Measures how long the program takes to read a file, find the faults of its names and its goal, and make its core. Each file
-# is refused at the end by `fault form` or for its size, so nothing is decided. Told is the least time of a whole run of the
-# program in milliseconds, of so many runs (RUNS, 20 by custom); the first line is a file of 9 bytes, so it is the time of a start.
+# Measures how long the program takes for the largest goals, from the text to the verdict: the least time of a whole run in milliseconds, of
+# so many runs (RUNS, 20 by custom).
 #
-#   bench/expand.sh
+#   bench/goals.sh
 #
 #   small     infer pt;
 #   largest   a goal of 65,536 nodes, 43,695 steps, in macros that double
@@ -11,13 +10,14 @@
 #   unused    100 macros that hand on their argument twice, and never use it: 2^99 nodes if it were expanded
 #   refused   256 macros that double: 2^255 nodes, refused for their size
 #
-# The last figures: 27 November 2026, an Intel Xeon at 2.5 GHz, the least of 40 runs. The goal is 50 ms for 65,536 nodes.
+# The last figures: 27 November 2026, an Intel Xeon at 2.5 GHz that others kept busy, the least of 3 runs. Of `largest` 8 ms, and of
+# `written` 23, go to reading, to the faults of names and of the goal and to the core, as was measured before steps were built.
 #
-#   small         10 bytes     1.096 ms  fault form
-#   largest      413 bytes     8.037 ms  fault form
-#   written    98313 bytes    23.392 ms  fault form
-#   unused      2992 bytes     1.640 ms  fault form
-#   refused     7096 bytes     1.951 ms  fault size at 7090
+#   small         10 bytes     2.390 ms  not valid
+#   largest      413 bytes   119.446 ms  not valid
+#   written    98313 bytes   188.079 ms  valid
+#   unused      2992 bytes     1.656 ms  not valid
+#   refused     7096 bytes     2.131 ms  fault size at 7090
 set -euo pipefail
 here=$(cd "$(dirname "$(readlink -f "${BASH_SOURCE[0]}")")" && pwd)
 program=$here/../crates/dcvalid/out/dcvalid
@@ -42,5 +42,5 @@ for file in small largest written unused refused; do
     took=$((${EPOCHREALTIME/./} - begun))
     [ -n "$least" ] && [ "$least" -le "$took" ] || least=$took
   done
-  printf '%-8s %7d bytes %5d.%03d ms  %s\n' "$file" "$(wc -c <"$files/$file")" $((least / 1000)) $((least % 1000)) "$said"
+  printf '%-8s %7d bytes %5d.%03d ms  %s\n' "$file" "$(wc -c <"$files/$file")" $((least / 1000)) $((least % 1000)) "${said%%$'\n'*}"
 done
