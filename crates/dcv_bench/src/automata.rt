@@ -196,7 +196,8 @@ impl Table {
         }
         let lo = self.function(arena, state, bound, slot + 1, front.wrapping_mul(2))?;
         let hi = self.function(arena, state, bound, slot + 1, front.wrapping_mul(2) | 1)?;
-        arena.node(slot, lo, hi)
+        let node = arena.node(slot, lo, hi)?;
+        Ok(node)
     }
 }
 
