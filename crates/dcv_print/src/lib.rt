@@ -1,13 +1,14 @@
-//! The verdict of a set of behaviours: whether each behaviour is in it, whether some is, the least that is not, and the least
-//! that is, with the text that says so. The set is what an automaton accepts.
+//! What is printed of an automaton: the verdict of the words that it accepts, and its own text. The verdict says whether each
+//! behaviour is accepted, whether some is, the least that is not, and the least that is.
 //!
 //! ```text
 //! let verdict = verdict(alloc, &auto)?;
 //! verdict.is_valid()    // there is no counterexample
 //! verdict.text(alloc)?  // what `verdict_text(alloc, &auto)` gives
+//! automaton_text(alloc, &auto, &names, &separate(alloc, &auto)?)?
 //! ```
 //!
-//! Of the behaviours over one variable in whose last letter it is true, the text is
+//! Of the behaviours over one variable in whose last letter it is true, the verdict's text is
 //!
 //! ```text
 //! not valid
@@ -17,6 +18,8 @@
 //! example 1
 //! 1
 //! ```
+//!
+//! The automaton's text is shown in `dcv_automaton_text`. What is true of it is in [`laws`].
 #![tactic(auto)]
 
 mod automaton;
