@@ -38,7 +38,8 @@ fn printed(alloc: Global, names: &str, table: &str) -> Result<Vec<u8>, Fail> {
 #[test]
 fn one_state_that_accepts(rt: HostRuntime) -> Result<(), Fail> {
     let text = printed(rt.alloc(), "", "accept 0")?;
-    let expected = b"automaton 1\nvariables -\nstates 1\nstate 0 accept t0\naccess 0 start -\nend\n";
+    let expected =
+        b"automaton 1\nvariables -\nstates 1\nstate 0 accept t0\naccess 0 start -\nend\n";
     assert_eq!(rt; text.as_slice(), expected.as_slice());
     Ok(())
 }
