@@ -16,28 +16,37 @@
 #
 # Goals: a start at most 5 ms, slen 9999 at most 200 ms, product 150 (some 23,000 states) at most 200 ms, m14 at most 2 s.
 #
-# The last figures: 27 November 2026, an Intel Xeon at 2.5 GHz with three times as many tasks as its four processors, so a start that takes
-# 1 ms on an idle machine took 5 to 7; the least of three runs, beside MONA 1.4 in the same minutes.
+# The last figures: 27 November 2026, an Intel Xeon at 2.5 GHz with little else to do, the least of seven runs, beside MONA 1.4. Some 2 ms of each
+# are the program that tells the memory.
 #
-#   alternation        7.8 ms    1.5 MB     MONA     9.5 ms    4.4 MB
-#   arbiter            8.5 ms    1.4 MB     MONA    16.2 ms    4.5 MB
-#   at_most            9.9 ms    1.5 MB     MONA     9.9 ms    4.5 MB
-#   door_closed        5.1 ms    1.3 MB     MONA     9.0 ms    4.4 MB
-#   gas_burner        61.3 ms    4.7 MB     MONA    32.3 ms    6.3 MB
-#   lamp               7.8 ms    1.5 MB     MONA    12.2 ms    4.4 MB
-#   mine_pump          7.7 ms    1.5 MB     MONA    14.6 ms    4.4 MB
-#   minimum_duration   5.7 ms    1.5 MB     MONA    10.5 ms    4.5 MB
-#   never_both         7.6 ms    1.4 MB     MONA    11.6 ms    4.4 MB
-#   slen 9999         28.9 ms    3.2 MB
-#   scount 9999       57.8 ms    4.2 MB
-#   product 50        24.3 ms    2.6 MB
-#   product 100       72.2 ms    6.0 MB
-#   product 150      100.4 ms   11.1 MB
-#   projection 999    25.6 ms    2.1 MB
-#   window 10         13.9 ms    2.0 MB
-#   window 20         87.0 ms   15.5 MB     over the budget
-#   slots 32           5.7 ms    1.6 MB
-#   m14              183.8 ms    3.6 MB
+#   alternation           1.9 ms   1.4 MB     MONA    7.7 ms   4.4 MB
+#   always                4.4 ms   1.3 MB     MONA    6.8 ms   4.4 MB
+#   arbiter               4.8 ms   1.5 MB     MONA    7.2 ms   4.6 MB
+#   at_most               3.9 ms   1.5 MB     MONA    7.5 ms   4.6 MB
+#   door_closed           3.7 ms   1.5 MB     MONA    6.7 ms   4.4 MB
+#   gas_burner           31.8 ms   4.9 MB     MONA   24.5 ms   6.4 MB
+#   lamp                  3.7 ms   1.5 MB     MONA    6.9 ms   4.4 MB
+#   m14                  91.8 ms   3.7 MB
+#   mine_pump             4.6 ms   1.5 MB     MONA    7.4 ms   4.4 MB
+#   minimum_duration      4.1 ms   1.5 MB     MONA    7.2 ms   4.6 MB
+#   never_both            3.7 ms   1.4 MB     MONA    6.9 ms   4.4 MB
+#   product 100          40.7 ms   6.1 MB
+#   product 150          90.3 ms  11.2 MB
+#   product 50           13.1 ms   2.8 MB
+#   projection 99         4.9 ms   1.6 MB
+#   projection 999       12.1 ms   2.2 MB
+#   response              4.6 ms   1.5 MB     MONA    7.1 ms   4.4 MB
+#   scount 99             4.0 ms   1.5 MB
+#   scount 999            5.8 ms   1.8 MB
+#   scount 9999          26.2 ms   4.3 MB
+#   slen 99               3.8 ms   1.5 MB
+#   slen 999              4.7 ms   1.6 MB
+#   slen 9999            13.7 ms   3.2 MB
+#   slots 32              4.1 ms   1.7 MB
+#   start                 4.0 ms   1.3 MB
+#   window 10             8.4 ms   1.9 MB
+#   window 20            68.6 ms  16.0 MB     over the budget
+#   window 30            63.2 ms  15.7 MB     over the budget
 #
 # A count that is written out as positions, as bench/to_mona.py does, is no fair question for MONA: `product 50` took it 28 s and 334 MB.
 set -euo pipefail

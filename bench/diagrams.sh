@@ -15,24 +15,23 @@
 #
 # A case is a word of dcv_bench's arguments, beside its slots and how often it is done.
 #
-# The last figures: 27 November 2026, an Intel Xeon at 2.5 GHz, four processors that others kept busy, so they scatter by a
-# third; the least of five runs, in nanoseconds. The goal is at most twice the time of C. It is reached where nodes are
-# built, and nowhere else:
+# The last figures: 27 November 2026, an Intel Xeon at 2.5 GHz with little else to do; the least of five runs, in nanoseconds. The goal is at
+# most twice the time of C. It is reached where nodes are built, and nowhere else:
 #
 #   case         slots      size       rattle            C  times
-#   build           16      8316      1943523      1467193   1.32
-#   build           20    107040     36280860     26142101   1.39
-#   random          16      8317      5534343      1705929   3.24
-#   random          20    107093    137800492     41670407   3.31
-#   multiplier      16      3859      2894656       531455   5.45
-#   multiplier      20     31381     18942939      4992112   3.79
-#   parity          16        15        15048         4551   3.31
-#   parity          20        19        22449         5445   4.12
-#   parity          32        31        29937         6640   4.51
-#   remap           16      3825       345159       141739   2.44
-#   remap           20     31258      3704231      1729883   2.14
-#   letters         16         2       143715        39421   3.65
-#   letters         20         2      1869354       390319   4.79
+#   build           16      8316      1910906      1447591   1.32
+#   build           20    107040     35387475     25096416   1.41
+#   random          16      8317      5379847      1652266   3.26
+#   random          20    107093    119912742     39074273   3.07
+#   multiplier      16      3859      1743775       500203   3.49
+#   multiplier      20     31381     19494317      4941470   3.95
+#   parity          16        15        14216         2550   5.57
+#   parity          20        19        19395         3497   5.55
+#   parity          32        31        29988         5095   5.89
+#   remap           16      3825       341677       142998   2.39
+#   remap           20     31258      3681897      1701050   2.16
+#   letters         16         2       139498        39030   3.57
+#   letters         20         2      1803472       373777   4.82
 #
 # Of the instructions of a merge (multiplier, 16 slots; callgrind) the memo takes about half: what it puts 31 in a hundred, its
 # entries dropped at the end 17, and look-ups besides; malloc has 18 of these. The cache that forgets the least used looks a key up

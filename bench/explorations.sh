@@ -17,17 +17,17 @@
 #
 # A case is a word of dcv_bench's arguments, beside its size and how often it is done.
 #
-# The last figures: 27 November 2026, an Intel Xeon at 2.5 GHz, four processors that others kept busy, so they scatter by a third;
-# the least of five runs, in nanoseconds a state. The goals are 400 for grid, 12,000 for wide and 3,000 for shared; grid misses its own:
+# The last figures: 27 November 2026, an Intel Xeon at 2.5 GHz with little else to do; the least of five runs, in nanoseconds a state. The goals
+# are 400 for grid, 12,000 for wide and 3,000 for shared; grid misses its own:
 #
 #   case       size   states   rattle        C  times
-#   counter   30000    30000      505
-#   grid        170    28900      651      180   3.61
-#   wide        100    10000     7749     3784   2.05
-#   shared      100    10000     2679      825   3.25
-#   chop        100    19800     4744
-#   exists    10000    10000      602
-#   sets        100     5050    12047
+#   counter   30000    30000      498
+#   grid        170    28900      491      153   3.21
+#   wide        100    10000     6665     2565   2.60
+#   shared      100    10000     2645      732   3.61
+#   chop        100    19800     4649
+#   exists    10000    10000      551
+#   sets        100     5050    10720
 #
 # Instructions of one exploration (callgrind), in C and in Rattle. Those of grid are spread thin: no function has more than a tenth.
 #
