@@ -1,3 +1,4 @@
 mod Examples
-mod Words
 mod OneFile
+mod Pieces
+mod Words

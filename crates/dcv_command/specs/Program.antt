@@ -1,0 +1,34 @@
+-- The command line of the program, as `clap` reads it: one subcommand is required, with its operands, and options of one value each.
+--     program            what `clap` is given
+--     file_operand       a file's name, any text
+--     limit_option       a whole number from 1 to the most, with a default
+--     over_a_formula     a subcommand over one formula file, with both limits
+use Rattle.std.specs.Prelude.{ℕ, true, false, List, [], ◌∷◌, Some, codes}
+use Rattle.clap.specs.Words.{App, Shape, Rule, new_rule}
+use Rattle.clap.specs.Simple.{new_shape}
+use Rattle.clap.specs.declared.builder.value_parser.ValueParser.TheVariants.{Unsigned}
+
+abbrev pub file_operand : Rule
+file_operand = record (new_rule (codes "file")) { required = true; value_names = 1 }
+
+abbrev pub limit_option : List ℕ → ℕ → List ℕ → Rule
+limit_option name most default = record (new_rule name) {
+  long = Some name;
+  parser = Some (Unsigned 1 most);
+  defaults = default ∷ [];
+  value_names = 1;
+}
+
+abbrev pub over_a_formula : List ℕ → Shape
+over_a_formula name = record (new_shape name) {
+  rules = file_operand ∷ limit_option (codes "states") 32000 (codes "30000") ∷ limit_option (codes "nodes") 1000000 (codes "1000000") ∷ [];
+}
+
+abbrev pub subcommands : List Shape
+subcommands = over_a_formula (codes "check") ∷ over_a_formula (codes "automaton") ∷ []
+
+abbrev pub program : App
+program = record {
+  top = record (new_shape (codes "dcvalid")) { is_leaf = false; no_binary_name = true; subcommand_required = true };
+  subs = subcommands;
+}

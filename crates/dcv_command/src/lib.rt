@@ -1,0 +1,4 @@
+//! The command line of the program: what its words ask for, as `clap` reads them.
+#![tactic(auto)]
+
+mod program;
