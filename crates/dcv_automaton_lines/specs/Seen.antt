@@ -1,0 +1,69 @@
+-- How clauses see lines of the code.
+--     letter_of digits        the letter that is spelled so, as in a trace
+--     file_of lines           the lines as plain data
+--     IsFaultIn text answer   where the answer is a syntax fault, it is that of the text
+use Rattle.std.specs.Prelude.{◌≡◌, ℕ, Bool, nat_eq, if◌then◌else◌, List, [], ◌∷◌, map, Result, Ok, Err}
+use Rattle.std.specs.Str.{byte}
+use Rattle.dcv_automaton_text.specs.File.{Target as FileTarget, ToState, ToNode, NodeLine as FileNodeLine, StateLine as FileStateLine}
+use Rattle.dcv_automaton_text.specs.File.{Access, EmptyAccess, StartAccess, AfterAccess, AccessLine as FileAccessLine}
+use Rattle.dcv_automaton_text.specs.File.{Suffix, EmptySuffix, ThenSuffix, SuffixLine as FileSuffixLine, AutomatonFile}
+use Rattle.dcv_automaton_text.specs.Form.{IsSyntaxFault}
+use Rattle.dcv_automaton_lines.specs.declared.lines.Target.{Target}
+use Rattle.dcv_automaton_lines.specs.declared.lines.Target.TheVariants.{State, Node}
+use Rattle.dcv_automaton_lines.specs.declared.lines.NodeLine.{NodeLine}
+use Rattle.dcv_automaton_lines.specs.declared.lines.StateLine.{StateLine}
+use Rattle.dcv_automaton_lines.specs.declared.lines.AccessWord.{AccessWord}
+use Rattle.dcv_automaton_lines.specs.declared.lines.AccessWord.TheVariants.{Empty as EmptyWord, Start, After}
+use Rattle.dcv_automaton_lines.specs.declared.lines.AccessLine.{AccessLine}
+use Rattle.dcv_automaton_lines.specs.declared.lines.SuffixWord.{SuffixWord}
+use Rattle.dcv_automaton_lines.specs.declared.lines.SuffixWord.TheVariants.{Empty, Then}
+use Rattle.dcv_automaton_lines.specs.declared.lines.SuffixLine.{SuffixLine}
+use Rattle.dcv_automaton_lines.specs.declared.lines.Lines.{Lines}
+use Rattle.dcv_automaton_lines.specs.declared.reading.LinesFault.{LinesFault}
+use Rattle.dcv_automaton_lines.specs.declared.reading.LinesFault.TheVariants.{Syntax, Memory}
+
+-- a digit for each variable, and a dash where there is none
+abbrev pub letter_of : List ℕ → List Bool
+letter_of [] = []
+letter_of (digit ∷ []) = if nat_eq digit (byte "-") then [] else nat_eq digit (byte "1") ∷ []
+letter_of (first ∷ second ∷ digits) = map (nat_eq (byte "1")) (first ∷ second ∷ digits)
+
+abbrev pub target_of : Target → FileTarget
+target_of (State number) = ToState number
+target_of (Node number) = ToNode number
+
+abbrev pub node_line_of : NodeLine → FileNodeLine
+node_line_of line = record { number = line.number; name = line.name.now; hi = target_of line.hi; lo = target_of line.lo }
+
+abbrev pub state_line_of : StateLine → FileStateLine
+state_line_of line = record { number = line.number; accepting = line.accepting; row = target_of line.row }
+
+abbrev pub access_of : AccessWord → Access
+access_of EmptyWord = EmptyAccess
+access_of (Start letter) = StartAccess (letter_of letter.now)
+access_of (After state letter) = AfterAccess state (letter_of letter.now)
+
+abbrev pub access_line_of : AccessLine → FileAccessLine
+access_line_of line = record { number = line.number; access = access_of line.access }
+
+abbrev pub suffix_of : SuffixWord → Suffix
+suffix_of Empty = EmptySuffix
+suffix_of (Then letter suffix) = ThenSuffix (letter_of letter.now) suffix
+
+abbrev pub suffix_line_of : SuffixLine → FileSuffixLine
+suffix_line_of line = record { number = line.number; suffix = suffix_of line.suffix }
+
+abbrev pub file_of : Lines → AutomatonFile
+file_of lines =
+    record {
+      names = map (λ name. name.now) lines.names.items;
+      states = lines.states;
+      node_lines = map node_line_of lines.node_lines.items;
+      state_lines = map state_line_of lines.state_lines.items;
+      access_lines = map access_line_of lines.access_lines.items;
+      suffix_lines = map suffix_line_of lines.suffix_lines.items;
+    }
+
+abbrev pub IsFaultIn : List ℕ → Result Lines LinesFault → Type 0
+IsFaultIn text (Err (Syntax at)) = IsSyntaxFault text at
+IsFaultIn text _ = Unit {0}

@@ -1,0 +1,9 @@
+//! The lines of an automaton's text, read as they stand there. The form alone is judged here, with the exact byte at which a text
+//! stops to be the beginning of one; whether the lines stand for an automaton is for the table rules to say.
+#![tactic(auto)]
+
+mod lines;
+mod reading;
+
+pub use lines::{AccessLine, AccessWord, Lines, NodeLine, StateLine, SuffixLine, SuffixWord, Target};
+pub use reading::{LinesFault, lines_of};
