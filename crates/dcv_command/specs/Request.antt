@@ -1,5 +1,4 @@
 -- What the words of the command line ask for, by `clap`'s matches of them.
---     Limits              the most states and nodes of a step
 --     Request             a thing that the program does
 --     IsTaken words       `clap` finds no fault in the words
 --     request_of words    what they ask for
@@ -7,11 +6,8 @@ use Rattle.std.specs.Prelude.{◌≡◌, ℕ, List, [], Option, None, Some, code
 use Rattle.std.specs.Str.{bytes_eq}
 use Rattle.std.specs.Str.Parse.{digits_value, without_leading_plus}
 use Rattle.clap.specs.Words.{Row, Text, first_of, one_of, subcommand_of, fault_of}
+use Rattle.dcv_explore.specs.declared.explorer.Limits.{Limits}
 use Rattle.dcv_command.specs.Program.{program}
-
-pub record Limits : Type 0 where
-  pub states : ℕ
-  pub nodes : ℕ
 
 pub data Request : Type 0 where
   -- the verdict of the formula in the file with this name

@@ -2,3 +2,6 @@
 #![tactic(auto)]
 
 mod program;
+mod words;
+
+pub use words::{Request, WordsFault, read_words};

@@ -1,0 +1,17 @@
+-- How clauses see a request and a fault of the code.
+--     asked_by request            what the request asks for
+--     IsUsageOnlyWhere P fault    the words are refused as no command's only where P holds
+use Rattle.std.specs.Prelude.{}
+use Rattle.dcv_command.specs.declared.words.Request.{Request as CodeRequest}
+use Rattle.dcv_command.specs.declared.words.Request.TheVariants.{Check as CodeCheck, Automaton as CodeAutomaton}
+use Rattle.dcv_command.specs.declared.words.WordsFault.{WordsFault}
+use Rattle.dcv_command.specs.declared.words.WordsFault.TheVariants.{Usage, Memory}
+use Rattle.dcv_command.specs.Request.{Request, Check, Automaton}
+
+abbrev pub asked_by : CodeRequest → Request
+asked_by (CodeCheck file limits) = Check file.now limits
+asked_by (CodeAutomaton file limits) = Automaton file.now limits
+
+abbrev pub IsUsageOnlyWhere : Type 0 → WordsFault → Type 0
+IsUsageOnlyWhere P (Usage text) = P
+IsUsageOnlyWhere P Memory = Unit {0}
