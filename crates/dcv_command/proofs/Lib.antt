@@ -1,1 +1,4 @@
 pub mod Examples
+pub mod Faults
+pub mod Numbers
+pub mod Requests

@@ -8,14 +8,29 @@ use clap::builder::ValueParser;
 use clap::{Arg, Command};
 use std::alloc::{AllocError, Global};
 
-const ABOUT: &str = "Decides whether a requirement about stretches of time always holds, and shows a shortest behaviour that breaks it.";
+const ABOUT: &str =
+    "Decides whether a requirement about stretches of time always holds, and shows a shortest behaviour that breaks it.";
+
+/// The most states of a step that may be asked for.
+pub(crate) const MOST_STATES: u32 = 32_000;
+
+/// The most diagram nodes of a step that may be asked for.
+pub(crate) const MOST_NODES: u32 = 1_000_000;
 
 // The command of the program.
 pub(crate) fn program<'a>(alloc: Global) -> Result<Command<'a>, AllocError>
     ensures { IfOk result (λ command. app_of command ≡ the_program) }
 {
-    let check = over_a_formula(alloc, "check", "Writes the verdict, with a shortest counterexample and a shortest example")?;
-    let automaton = over_a_formula(alloc, "automaton", "Writes the minimal automaton, with words that show that it is minimal")?;
+    let check = over_a_formula(
+        alloc,
+        "check",
+        "Writes the verdict, with a shortest counterexample and a shortest example",
+    )?;
+    let automaton = over_a_formula(
+        alloc,
+        "automaton",
+        "Writes the minimal automaton, with words that show that it is minimal",
+    )?;
     Command::new(alloc, "dcvalid")
         .about(ABOUT)
         .no_binary_name(true)
@@ -25,15 +40,31 @@ pub(crate) fn program<'a>(alloc: Global) -> Result<Command<'a>, AllocError>
 }
 
 // A subcommand over one formula file.
-fn over_a_formula<'a>(alloc: Global, name: &'a str, about: &'a str) -> Result<Command<'a>, AllocError>
+fn over_a_formula<'a>(
+    alloc: Global,
+    name: &'a str,
+    about: &'a str,
+) -> Result<Command<'a>, AllocError>
     ensures app { IfOk result (λ command. app_of command ≡ record { top = formula_shape name.entry.now; subs = [] }) }
     ensures local { IfOk result (λ command. (fields_of command).has_globals ≡ false) }
 {
     Command::new(alloc, name)
         .about(about)
         .arg(file_operand(alloc))?
-        .arg(limit(alloc, "states", 32_000, "30000", "The most states of a step"))?
-        .arg(limit(alloc, "nodes", 1_000_000, "1000000", "The most diagram nodes of a step"))
+        .arg(limit(
+            alloc,
+            "states",
+            MOST_STATES,
+            "30000",
+            "The most states of a step",
+        ))?
+        .arg(limit(
+            alloc,
+            "nodes",
+            MOST_NODES,
+            "1000000",
+            "The most diagram nodes of a step",
+        ))
 }
 
 // The name of a formula file.
@@ -48,13 +79,13 @@ fn file_operand<'a>(alloc: Global) -> Arg<'a>
 }
 
 // A limit on the steps of a formula.
-fn limit<'a>(alloc: Global, name: &'a str, most: u64, default: &'a str, help: &'a str) -> Arg<'a>
+fn limit<'a>(alloc: Global, name: &'a str, most: u32, default: &'a str, help: &'a str) -> Arg<'a>
     ensures rule { rule_of result ≡ limit_option name.entry.now most default.entry.now }
     ensures local { result.global ≡ false }
 {
     Arg::new(alloc, name)
         .long(name)
-        .value_parser(ValueParser::unsigned(1, most))
+        .value_parser(ValueParser::unsigned(1, u64::from(most)))
         .default_value(default)
         .value_name("N")
         .help(help)
