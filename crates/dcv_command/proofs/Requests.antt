@@ -10,7 +10,7 @@ use Rattle.clap.specs.declared.parser.matches.SubCommand.{SubCommand}
 use Rattle.clap.specs.declared.parser.matches.Found.{Found}
 use Rattle.clap.proofs.WalkLemmas.{first_value-rows}
 use Rattle.dcv_explore.specs.declared.explorer.Limits.{Limits}
-use Rattle.dcv_command.specs.Request.{command_of, limits_in, request_of_subcommand}
+use Rattle.dcv_command.specs.Request.{command_of, limits_among, request_of_subcommand}
 
 module _ {Z : Type 0} where
   -- a subcommand with this name and these matches
@@ -33,13 +33,13 @@ module _ (matches : ArgMatches) (name : Text) (found : Found) (named : Some name
   asks_nothing none =
       let no_file : first_of (codes "file") (rows_of found) ≡ None = sym (first_value-rows found (codes "file")) ∙ none in
       subst (λ subcommand. None ≡ request_of_subcommand subcommand) here
-      (subst (λ file. None ≡ option_and_then (λ file. option_and_then (command_of name file) (limits_in (rows_of found))) file) (sym no_file) refl)
+      (subst (λ file. None ≡ option_and_then (λ file. option_and_then (command_of name file) (limits_among (rows_of found))) file) (sym no_file) refl)
 
   -- else that of the subcommand with this name
-  pub asks_for : (file : Text) (limits : Limits) → first_value found (codes "file") ≡ Some file → limits_in (rows_of found) ≡ Some limits
+  pub asks_for : (file : Text) (limits : Limits) → first_value found (codes "file") ≡ Some file → limits_among (rows_of found) ≡ Some limits
       → command_of name file limits ≡ request_of_subcommand (subcommand_rows_of matches)
   asks_for file limits is_file are_limits =
       let there : first_of (codes "file") (rows_of found) ≡ Some file = sym (first_value-rows found (codes "file")) ∙ is_file in
       subst (λ subcommand. command_of name file limits ≡ request_of_subcommand subcommand) here
-      (subst (λ text. command_of name file limits ≡ option_and_then (λ file. option_and_then (command_of name file) (limits_in (rows_of found))) text) (sym there)
+      (subst (λ text. command_of name file limits ≡ option_and_then (λ file. option_and_then (command_of name file) (limits_among (rows_of found))) text) (sym there)
       (subst (λ some. command_of name file limits ≡ option_and_then (command_of name file) some) (sym are_limits) refl))

@@ -2,8 +2,11 @@
 --     Request                 a thing that the program does
 --     number_in most id rows  the value of an option, a number from 1 to the most
 --     AreInRange limits       the limits are within those of the options
+--     limits_among rows       the values of both options
 --     request_of words        what the words ask for
 --     IsTaken words           `clap` finds no fault in the words, and they ask for something
+--     file_in request         the name of the file that it reads
+--     limits_in request       its limits
 use Rattle.std.specs.Prelude.{◌≡◌, ℕ, ◌≤◌, List, [], Option, None, Some, IsSome, codes, if◌then◌else◌, option_map, option_and_then}
 use Rattle.std.specs.Str.{bytes_eq}
 use Rattle.std.specs.Str.Parse.{digits_value, without_leading_plus}
@@ -29,8 +32,8 @@ number_in most id rows = option_and_then (number_of most) (one_of id rows)
 abbrev pub limits_of : ℕ → ℕ → Limits
 limits_of states nodes = record { states = states; nodes = nodes }
 
-abbrev pub limits_in : List Row → Option Limits
-limits_in rows =
+abbrev pub limits_among : List Row → Option Limits
+limits_among rows =
     option_and_then (λ states. option_map (limits_of states) (number_in most_nodes (codes "nodes") rows)) (number_in most_states (codes "states") rows)
 
 pub record AreInRange (limits : Limits) : Type 0 where
@@ -47,7 +50,7 @@ command_of name file limits =
     else (if bytes_eq name (codes "automaton") then Some (Automaton file limits) else None)
 
 abbrev pub request_in : Text → List Row → Option Request
-request_in name rows = option_and_then (λ file. option_and_then (command_of name file) (limits_in rows)) (first_of (codes "file") rows)
+request_in name rows = option_and_then (λ file. option_and_then (command_of name file) (limits_among rows)) (first_of (codes "file") rows)
 
 -- of the subcommand that the words name, with its matches
 abbrev pub request_of_subcommand : Option (Text × List Row) → Option Request
@@ -60,6 +63,12 @@ pub record IsTaken (words : List Text) : Type 0 where
   pub no_fault : fault_of program words ≡ []
   pub asks : IsSome (request_of words)
 
-abbrev pub limits_of_request : Request → Limits
-limits_of_request (Check name limits) = limits
-limits_of_request (Automaton name limits) = limits
+-- ---- its parts
+
+abbrev pub file_in : Request → List ℕ
+file_in (Check name limits) = name
+file_in (Automaton name limits) = name
+
+abbrev pub limits_in : Request → Limits
+limits_in (Check name limits) = limits
+limits_in (Automaton name limits) = limits

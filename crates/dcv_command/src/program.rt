@@ -8,8 +8,22 @@ use clap::builder::ValueParser;
 use clap::{Arg, Command};
 use std::alloc::{AllocError, Global};
 
-const ABOUT: &str =
-    "Decides whether a requirement about stretches of time always holds, and shows a shortest behaviour that breaks it.";
+const ABOUT: &str = "Decides whether a requirement about stretches of time, a formula of Quantified Discrete-time Duration Calculus, always holds. \
+Shows a shortest behaviour that breaks it, or the minimal automaton of the behaviours that satisfy it.";
+
+const EXAMPLE_AND_STATUS: &str = "Example, with `var door_closed; infer [[door_closed]];` in the file door.dc:
+  dcvalid check door.dc
+  dcvalid automaton door.dc --states 1000
+
+Status:
+  0  each behaviour satisfies the formula
+  1  some behaviour does not
+  2  the words are no command, or ask for help
+  3  the file holds no formula, for the fault that is named, at its offset in bytes
+  4  a step of the formula has more states or nodes than the limit
+  5  the file could not be opened or read
+  6  the report could not be written
+  7  memory ran out";
 
 /// The most states of a step that may be asked for.
 pub(crate) const MOST_STATES: u32 = 32_000;
@@ -33,6 +47,7 @@ pub(crate) fn program<'a>(alloc: Global) -> Result<Command<'a>, AllocError>
     )?;
     Command::new(alloc, "dcvalid")
         .about(ABOUT)
+        .after_help(EXAMPLE_AND_STATUS)
         .no_binary_name(true)
         .subcommand_required(true)
         .subcommand(check)?
@@ -56,14 +71,14 @@ fn over_a_formula<'a>(
             "states",
             MOST_STATES,
             "30000",
-            "The most states of a step",
+            "The most states that a step may have, from 1 to 32000",
         ))?
         .arg(limit(
             alloc,
             "nodes",
             MOST_NODES,
             "1000000",
-            "The most diagram nodes of a step",
+            "The most diagram nodes that a step may have, from 1 to 1000000",
         ))
 }
 

@@ -2,8 +2,8 @@
 ghost use Rattle.std.specs.Prelude.{◌≡◌, ◌≢◌, true, [], map, option_map, IfOk, IfErr, Some};
 ghost use Rattle.clap.specs.Words.{fault_of, found_of, rows_of, subcommand_of, subcommand_rows_of, takes};
 ghost use Rattle.dcv_command.specs.Program.{program as the_program};
-ghost use Rattle.dcv_command.specs.Request.{AreInRange, IsTaken, limits_of_request, request_of, request_of_subcommand};
-ghost use Rattle.dcv_command.specs.Request.{limits_in as limits_in_rows, number_in as number_in_rows};
+ghost use Rattle.dcv_command.specs.Request.{AreInRange, IsTaken, limits_in, request_of, request_of_subcommand};
+ghost use Rattle.dcv_command.specs.Request.{limits_among as limits_among_rows, number_in as number_in_rows};
 ghost use Rattle.dcv_command.specs.declared.words.WordsFault.TheVariants.{Memory};
 ghost use Rattle.dcv_command.specs.Seen.{asked_by, IsUsageOnlyWhere};
 
@@ -37,7 +37,7 @@ pub enum WordsFault {
 pub fn read_words<'a, S: AsStr>(alloc: Global, words: &'a [S]) -> Result<Request<'a>, WordsFault>
     ensures taken { IfOk result (λ request. IsTaken (map S.text words.entry.now)) }
     ensures asked { IfOk result (λ request. request_of (map S.text words.entry.now) ≡ Some (asked_by request)) }
-    ensures limits { IfOk result (λ request. AreInRange (limits_of_request (asked_by request))) }
+    ensures limits { IfOk result (λ request. AreInRange (limits_in (asked_by request))) }
     ensures usage { IfErr result (IsUsageOnlyWhere (¬ IsTaken (map S.text words.entry.now))) }
 {
     let matches = matches_of(alloc, words)?;
@@ -76,7 +76,7 @@ fn request_in<'a>(matches: &ArgMatches<'a>) -> Option<Request<'a>>
 {
     let (name, matches) = matches.subcommand()?;
     let file = matches.get_str("file")?;
-    let limits = limits_in(matches)?;
+    let limits = limits_among(matches)?;
     match name {
         "check" => Some(Request::Check { file, limits }),
         "automaton" => Some(Request::Automaton { file, limits }),
@@ -85,8 +85,8 @@ fn request_in<'a>(matches: &ArgMatches<'a>) -> Option<Request<'a>>
 }
 
 // The limits that are asked for.
-fn limits_in(matches: &ArgMatches<'_>) -> Option<Limits>
-    ensures { result ≡ limits_in_rows (rows_of (found_of matches.now)) }
+fn limits_among(matches: &ArgMatches<'_>) -> Option<Limits>
+    ensures { result ≡ limits_among_rows (rows_of (found_of matches.now)) }
 {
     let states = number_in(matches, "states", MOST_STATES)?;
     let nodes = number_in(matches, "nodes", MOST_NODES)?;
