@@ -8,10 +8,12 @@ use clap::builder::ValueParser;
 use clap::{Arg, Command};
 use std::alloc::{AllocError, Global};
 
-const ABOUT: &str = "Decides whether a requirement about stretches of time, a formula of Quantified Discrete-time Duration Calculus, always holds. \
+const ABOUT: &str =
+    "Decides whether a requirement about stretches of time, a formula of Quantified Discrete-time Duration Calculus, always holds. \
 Shows a shortest behaviour that breaks it, or the minimal automaton of the behaviours that satisfy it.";
 
-const EXAMPLE_AND_STATUS: &str = "Example, with `var door_closed; infer [[door_closed]];` in the file door.dc:
+const EXAMPLE_AND_STATUS: &str =
+    "Example, with `var door_closed; infer [[door_closed]];` in the file door.dc:
   dcvalid check door.dc
   dcvalid automaton door.dc --states 1000
 

@@ -2,7 +2,7 @@
 ghost use Rattle.std.specs.Prelude.{◌≡◌, ◌≢◌, true, [], map, option_map, IfOk, IfErr, Some};
 ghost use Rattle.clap.specs.Words.{fault_of, found_of, rows_of, subcommand_of, subcommand_rows_of, takes};
 ghost use Rattle.dcv_command.specs.Program.{program as the_program};
-ghost use Rattle.dcv_command.specs.Request.{AreInRange, IsTaken, limits_in, request_of, request_of_subcommand};
+ghost use Rattle.dcv_command.specs.Request.{AreInRange, IsTaken, file_in, limits_in, request_of, request_of_subcommand};
 ghost use Rattle.dcv_command.specs.Request.{limits_among as limits_among_rows, number_in as number_in_rows};
 ghost use Rattle.dcv_command.specs.declared.words.WordsFault.TheVariants.{Memory};
 ghost use Rattle.dcv_command.specs.Seen.{asked_by, IsUsageOnlyWhere};
@@ -22,6 +22,26 @@ pub enum Request<'a> {
     Check { file: &'a str, limits: Limits },
     /// Its minimal automaton.
     Automaton { file: &'a str, limits: Limits },
+}
+
+impl<'a> Request<'a> {
+    /// The name of the file that it reads.
+    pub fn file(self) -> &'a str
+        ensures { result.now ≡ file_in (asked_by self.entry) }
+    {
+        match self {
+            Request::Check { file, .. } | Request::Automaton { file, .. } => file,
+        }
+    }
+
+    /// The limits of each step.
+    pub fn limits(self) -> Limits
+        ensures { result ≡ limits_in (asked_by self.entry) }
+    {
+        match self {
+            Request::Check { limits, .. } | Request::Automaton { limits, .. } => limits,
+        }
+    }
 }
 
 /// Why words ask for nothing.
