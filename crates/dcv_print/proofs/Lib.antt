@@ -1,3 +1,4 @@
+mod FileArenas
 mod Kept
 mod LeastWords
 mod PrintedFiles
@@ -6,6 +7,7 @@ mod PrintedNodes
 mod PrintedProofs
 mod PrintedTables
 mod PrintedWords
+mod SameBehaviours
 mod Spellings
 mod SuffixCounts
 mod Texts
