@@ -142,7 +142,7 @@ module _ (file : AutomatonFile) (is : IsGoodFile file) where
   slot-at : (place : ℕ) → place < length file.node_lines → slot_of_node file place ≡ slot_of file.names (node_line_at file place).name
   slot-at place within = ap (slot_of file.names) (get_or-map (λ (line : NodeLine). line.name) file.node_lines place no_node [] within)
 
-  child_before : (place : ℕ) (target : Target) → keeps_child file place target ≡ true → IsBefore place (ref_of target)
+  pub child_before : (place : ℕ) (target : Target) → keeps_child file place target ≡ true → IsBefore place (ref_of target)
   child_before place (ToState number) kept = tt
   child_before place (ToNode number) kept = ltb-true number place (both (nat_lt number place) (nat_lt (slot_of_node file place) (slot_of_node file number)) kept).0
 
@@ -170,7 +170,7 @@ module _ (file : AutomatonFile) (is : IsGoodFile file) where
       }
 
   -- no line stands twice
-  not_twice : (first second : ℕ) → first < second → second < length file.node_lines → slot_of file.names (node_line_at file first).name ≡ slot_of file.names (node_line_at file second).name
+  pub not_twice : (first second : ℕ) → first < second → second < length file.node_lines → slot_of file.names (node_line_at file first).name ≡ slot_of file.names (node_line_at file second).name
       → ref_of (node_line_at file first).lo ≡ ref_of (node_line_at file second).lo → ref_of (node_line_at file first).hi ≡ ref_of (node_line_at file second).hi → ⊥
   not_twice first second before within slots los his =
       let one = node_line_at file first in
@@ -187,13 +187,13 @@ module _ (file : AutomatonFile) (is : IsGoodFile file) where
       (ap (is_same_node other) (get_or-take second file.node_lines first no_node before) ∙ alike) in
       false≢true (sym good_other.is_new ∙ met)
 
-  node-at : (place : ℕ) → place < length file.node_lines
+  pub node-at : (place : ℕ) → place < length file.node_lines
       → slice_get (arena_of file).nodes place
       ≡ Some (node_of (slot_of file.names (node_line_at file place).name) (ref_of (node_line_at file place).lo) (ref_of (node_line_at file place).hi))
   node-at place within =
       slice_get-map (λ (line : NodeLine). node_of (slot_of file.names line.name) (ref_of line.lo) (ref_of line.hi)) file.node_lines place no_node within
 
-  count_of_places : length (arena_of file).nodes ≡ length file.node_lines
+  pub count_of_places : length (arena_of file).nodes ≡ length file.node_lines
   count_of_places = length-map file.node_lines (λ (line : NodeLine). node_of (slot_of file.names line.name) (ref_of line.lo) (ref_of line.hi))
 
   -- two places do not have one node
@@ -221,7 +221,7 @@ module _ (file : AutomatonFile) (is : IsGoodFile file) where
         ];
   }
 
-  row_is_ref : (target : Target) → keeps_row file target ≡ true → IsRef (arena_of file) (ref_of target)
+  pub row_is_ref : (target : Target) → keeps_row file target ≡ true → IsRef (arena_of file) (ref_of target)
   row_is_ref (ToState number) kept = tt
   row_is_ref (ToNode number) kept = omega (arith, ltb-true number (length file.node_lines) kept, count_of_places)
 

@@ -1,6 +1,10 @@
+mod AccessLines
 mod FileArenas
+mod FileNumbers
 mod Kept
 mod LeastWords
+mod OneAutomaton
+mod PrintedAutomata
 mod PrintedFiles
 mod PrintedForms
 mod PrintedNodes
