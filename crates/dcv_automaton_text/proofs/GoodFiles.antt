@@ -12,22 +12,13 @@ use Rattle.dcv_automaton_text.specs.File.{Target, ToState, ToNode, NodeLine, Sta
 use Rattle.dcv_automaton_text.specs.Spelled.{name_words, node_words, state_words, how_access, access_words, suffix_words, head_lines}
 use Rattle.dcv_automaton_text.specs.Rules.{most_names, most_states, most_nodes, is_listed, keeps_name, keeps_child, is_same_target, is_same_node, keeps_node, keeps_row, keeps_state}
 use Rattle.dcv_automaton_text.specs.Rules.{keeps_how_access, has_all_states, keeps_access, has_all_access, keeps_suffix, judged, keeps_names, keeps_head, judged_words, first_broken, IsGood}
-
-pub both : (a b : Bool) → (a && b) ≡ true → (a ≡ true) × (b ≡ true)
-both true b h = (refl, h)
-both false b h = absurd (false≢true h)
+use Rattle.dcv_automaton_text.proofs.Kept.{AreKept, keeps, AllKeep, both}
 
 turned : (b : Bool) → not b ≡ true → b ≡ false
 turned true h = absurd (false≢true h)
 turned false h = refl
 
 -- ---- words that keep the rules
-
-abbrev keeps : List ℕ × Bool → Bool
-keeps word = word.1
-
-record AllKeep (words : List (List ℕ × Bool)) : Type 0 where
-  all : list_all keeps words ≡ true
 
 all_keep : (words : List (List ℕ × Bool)) (at : ℕ) → first_broken at words ≡ None → AllKeep words
 all_keep [] at none = record { all = refl }
@@ -38,11 +29,6 @@ in_parts : (words : List (List ℕ × Bool)) {more : List (List ℕ × Bool)} �
 in_parts words {more} is =
     let parts = both (list_all keeps words) (list_all keeps more) (sym (list_all-append keeps words more) ∙ is.all) in
     (record { all = parts.0 }, record { all = parts.1 })
-
--- each of the tests is true
-abbrev pub AreKept : List Bool → Type 0
-AreKept [] = Unit {0}
-AreKept (kept ∷ more) = (kept ≡ true) × AreKept more
 
 kept_words : (words : List (List ℕ)) (kept : List Bool) → length kept ≤ length words → AllKeep (zip words kept) → AreKept kept
 kept_words words [] few is = tt

@@ -9,7 +9,8 @@ use Rattle.dcv_word.specs.Behaviour.{Word}
 use Rattle.dcv_automaton_text.specs.File.{Access, EmptyAccess, StartAccess, AfterAccess, AccessLine, AutomatonFile}
 use Rattle.dcv_automaton_text.specs.Meaning.{access_word_of, access_words_from, access_words_of}
 use Rattle.dcv_automaton_text.specs.Rules.{goes_before, keeps_how_access}
-use Rattle.dcv_automaton_text.proofs.GoodFiles.{both, AreKept, IsGoodFile}
+use Rattle.dcv_automaton_text.proofs.GoodFiles.{IsGoodFile}
+use Rattle.dcv_automaton_text.proofs.Kept.{both, AreKept}
 
 -- ---- what a line says of a word, given the words of all states
 

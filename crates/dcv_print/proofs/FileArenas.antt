@@ -19,8 +19,9 @@ use Rattle.dcv_dfa.proofs.States.{table_has_the_states, state-at as raw_state-at
 use Rattle.dcv_automaton_text.specs.File.{Target, ToState, ToNode, NodeLine, StateLine, AutomatonFile}
 use Rattle.dcv_automaton_text.specs.Meaning.{state_at, states_at, state_of, table_of}
 use Rattle.dcv_automaton_text.specs.Rules.{most_nodes, slot_of, slot_of_node, is_listed, keeps_child, keeps_row, is_same_target, is_same_node}
-use Rattle.dcv_automaton_text.proofs.GoodFiles.{both, same_target, IsGoodFile}
+use Rattle.dcv_automaton_text.proofs.GoodFiles.{same_target, IsGoodFile}
 use Rattle.dcv_automaton_text.proofs.GoodTables.{row_stands_below, length-table_of, no_line, state-at}
+use Rattle.dcv_automaton_text.proofs.Kept.{both}
 
 abbrev pub ref_of : Target → Ref
 ref_of (ToState number) = Leaf number

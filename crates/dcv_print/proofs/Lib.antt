@@ -1,7 +1,6 @@
 mod AccessLines
 mod FileArenas
 mod FileNumbers
-mod Kept
 mod LeastWords
 mod OneAutomaton
 mod PrintedAutomata
