@@ -1,11 +1,15 @@
-mod Kept
+mod FileArenas
+mod FileNumbers
 mod LeastWords
+mod OneAutomaton
+mod PrintedAutomata
 mod PrintedFiles
 mod PrintedForms
 mod PrintedNodes
 mod PrintedProofs
 mod PrintedTables
 mod PrintedWords
+mod SameBehaviours
 mod Spellings
 mod SuffixCounts
 mod Texts
