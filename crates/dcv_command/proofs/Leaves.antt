@@ -143,24 +143,24 @@ module _ (name : Text) (rows : List Row) (asked : IsAsked name) where
       ∙ ap (option_and_then (command_of name file.readable.text)) (limits_are_there rows states nodes)))
       (asked file.readable.text _)
 
-rows_ask : (name called : Text) (rows : List Row) → IsAsked name → AreReadable rows → check_fault (leaf called) (with_defaults rows) false ≡ []
+rows_ask : (name : Text) (rows : List Row) → IsAsked name → AreReadable rows → check_fault (leaf name) (with_defaults rows) false ≡ []
     → IsSome (request_in name (with_defaults rows))
-rows_ask name called rows asked all none =
+rows_ask name rows asked all none =
     let readable = defaults_are_readable rows all in
     found_rows_ask name (with_defaults rows) asked
     (found_readable (codes "file") (with_defaults rows) readable
     (given_is_there (codes "file") (with_defaults rows) (it_is_given (is_given (codes "file") (with_defaults rows)) none)))
     (found_readable (codes "states") (with_defaults rows) readable (has_states rows)) (found_readable (codes "nodes") (with_defaults rows) readable (has_nodes rows))
 
-finished_asks : (name called : Text) (held : Held) → IsAsked name → AreReadable (settled (leaf called).rules held).rows
-    → check_fault (leaf called) (finished (leaf called).rules held) false ≡ [] → IsSome (request_in name (finished (leaf called).rules held))
+finished_asks : (name : Text) (held : Held) → IsAsked name → AreReadable (settled (leaf name).rules held).rows
+    → check_fault (leaf name) (finished (leaf name).rules held) false ≡ [] → IsSome (request_in name (finished (leaf name).rules held))
 unfolding with_file_default with_states_default with_nodes_default with_defaults
-finished_asks name called held asked all none = rows_ask name called (settled (leaf called).rules held).rows asked all none
+finished_asks name held asked all none = rows_ask name (settled (leaf name).rules held).rows asked all none
 
 pub leaf_asks : (name : Text) (words : List Text) → IsAsked name → level_fault (leaf name) [] nothing_held words false [] ≡ []
     → IsSome (request_in name (rows_after (leaf name).rules [] words))
 leaf_asks name words asked none =
-    finished_asks name name end asked
+    finished_asks name end asked
     (settled_keeps (leaf name) AreReadable (each_keeps name) end
     (walk_keeps (leaf name) AreReadable (each_keeps name) [] words (walk_from nothing_held) tt (first_is_empty walk_faults _ none)) (first_is_empty settle_faults _ behind))
     (last_is_empty (defaults_fault (settled (leaf name).rules end).rows (leaf name).rules) _ (last_is_empty settle_faults _ behind))

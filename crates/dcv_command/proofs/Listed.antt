@@ -173,11 +173,7 @@ module _ (name file : Text) (words : List Text) (rows : List Row) (id text : Tex
       ∙ ap (λ found. option_and_then (command_of name file) found) limited ∙ command
 
   ask_for : AskFor (name ∷ words) request
-  ask_for =
-      record {
-        taken = faults_below name is words ∙ run_has_no_fault name words rows id text run;
-        asked = asked;
-      }
+  ask_for = record { taken = faults_below name is words ∙ run_has_no_fault name words rows id text run; asked = asked }
 
 -- ---- each list
 
