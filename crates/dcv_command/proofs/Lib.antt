@@ -5,3 +5,8 @@ pub mod Listed
 pub mod Plain
 pub mod Numbers
 pub mod Requests
+pub mod Steps
+pub mod Rows
+pub mod Leaves
+pub mod TakenWords
+pub mod Ranges

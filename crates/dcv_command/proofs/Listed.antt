@@ -1,6 +1,6 @@
 -- The words behind a subcommand over a formula file: a file's name, and options with their numbers.
 use Rattle.std.proofs.Common.{◌≡◌, refl, sym, ap, ◌∙◌, subst, true, false, List, ℕ, ◌<◌, ◌^◌, [], ◌∷◌, None, Some, codes, arith, ne_eqb, option_and_then}
-use Rattle.std.specs.Prelude.{fold, IsSome, ◌==◌}
+use Rattle.std.specs.Prelude.{fold, ◌==◌}
 use Rattle.std.specs.Fmt.{decimal}
 use Rattle.std.specs.Str.Parse.{IsNumeral, digits_value, without_leading_plus}
 use Rattle.std.proofs.lemmas.Fmt.{decimal_is_IsNumeral}
@@ -173,11 +173,7 @@ module _ (name file : Text) (words : List Text) (rows : List Row) (id text : Tex
       ∙ ap (λ found. option_and_then (command_of name file) found) limited ∙ command
 
   ask_for : AskFor (name ∷ words) request
-  ask_for =
-      record {
-        taken = record { no_fault = faults_below name is words ∙ run_has_no_fault name words rows id text run; asks = subst IsSome (sym asked) refl };
-        asked = asked;
-      }
+  ask_for = record { taken = faults_below name is words ∙ run_has_no_fault name words rows id text run; asked = asked }
 
 -- ---- each list
 

@@ -4,7 +4,7 @@ use Rattle.clap.specs.Words.{Text}
 use Rattle.dcv_command.specs.Listed.{Options, option_words, limits_given, AreAllowed, IsFileName, AskFor}
 use Rattle.dcv_command.specs.Request.{Check, Automaton, IsTaken, request_of}
 
--- words that are taken ask for something
+-- words in which `clap` finds no fault ask for something
 abbrev pub TakenWordsAsk : Type 0
 TakenWordsAsk = (words : List Text) → IsTaken words → IsSome (request_of words)
 

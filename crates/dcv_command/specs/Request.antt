@@ -4,10 +4,10 @@
 --     AreInRange limits       the limits are within those of the options
 --     limits_among rows       the values of both options
 --     request_of words        what the words ask for
---     IsTaken words           `clap` finds no fault in the words, and they ask for something
+--     IsTaken words           `clap` finds no fault in the words
 --     file_in request         the name of the file that it reads
 --     limits_in request       its limits
-use Rattle.std.specs.Prelude.{◌≡◌, ℕ, ◌≤◌, List, [], Option, None, Some, IsSome, codes, if◌then◌else◌, option_map, option_and_then}
+use Rattle.std.specs.Prelude.{◌≡◌, ℕ, ◌≤◌, List, [], Option, None, Some, codes, if◌then◌else◌, option_map, option_and_then}
 use Rattle.std.specs.Str.{bytes_eq}
 use Rattle.std.specs.Str.Parse.{digits_value, without_leading_plus}
 use Rattle.clap.specs.Words.{Row, Text, first_of, one_of, subcommand_of, fault_of}
@@ -59,9 +59,8 @@ request_of_subcommand subcommand = option_and_then (λ found. request_in found.0
 abbrev pub request_of : List Text → Option Request
 request_of words = request_of_subcommand (subcommand_of program words)
 
-pub record IsTaken (words : List Text) : Type 0 where
-  pub no_fault : fault_of program words ≡ []
-  pub asks : IsSome (request_of words)
+abbrev pub IsTaken : List Text → Type 0
+IsTaken words = fault_of program words ≡ []
 
 -- ---- its parts
 

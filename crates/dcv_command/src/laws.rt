@@ -1,7 +1,7 @@
 //! Laws on the words of the command line, each the contract of a function that does nothing.
 ghost use Rattle.dcv_command.specs.Laws.{TakenWordsAsk, ListedWordsAreTaken};
 
-/// Words that are taken ask for something.
+/// Words in which `clap` finds no fault ask for something.
 pub fn taken_words_ask()
     ensures { TakenWordsAsk }
 {}

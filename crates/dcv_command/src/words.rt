@@ -59,11 +59,12 @@ pub fn read_words<'a, S: AsStr>(alloc: Global, words: &'a [S]) -> Result<Request
     ensures asked { IfOk result (λ request. request_of (map S.text words.entry.now) ≡ Some (asked_by request)) }
     ensures limits { IfOk result (λ request. AreInRange (limits_in (asked_by request))) }
     ensures usage { IfErr result (IsUsageOnlyWhere (¬ IsTaken (map S.text words.entry.now))) }
+    ensures passes { IfErr result (IsUsageOnlyWhere (¬ (takes the_program (map S.text words.entry.now) ≡ true))) }
 {
     let matches = matches_of(alloc, words)?;
     match request_in(&matches) {
         Some(request) => Ok(request),
-        None => Err(usage(alloc, &"error: the words ask for nothing\n")),
+        None => unreachable!(),
     }
 }
 
