@@ -1,6 +1,6 @@
 // What `clap` is given: the subcommands with their operands and options, and the texts of their help.
-ghost use Rattle.std.specs.Prelude.{◌≡◌, [], false, IfOk};
-ghost use Rattle.clap.specs.Words.{rule_of, app_of};
+ghost use Rattle.std.specs.Prelude.{◌≡◌, [], false, codes, IfOk};
+ghost use Rattle.clap.specs.Words.{rule_of, app_of, new_app};
 ghost use Rattle.clap.specs.declared.builder.Command.TheViews.{out-Command as fields_of};
 ghost use Rattle.dcv_command.specs.Program.{file_operand as file_rule, limit_option, over_a_formula as formula_shape, program as the_program};
 
@@ -47,13 +47,21 @@ pub(crate) fn program<'a>(alloc: Global) -> Result<Command<'a>, AllocError>
         "automaton",
         "Writes the minimal automaton, with words that show that it is minimal",
     )?;
-    Command::new(alloc, "dcvalid")
+    named(alloc)?
         .about(ABOUT)
         .after_help(EXAMPLE_AND_STATUS)
         .no_binary_name(true)
         .subcommand_required(true)
         .subcommand(check)?
         .subcommand(automaton)
+}
+
+// A command with no words yet, which usage calls by its name.
+fn named<'a>(alloc: Global) -> Result<Command<'a>, AllocError>
+    ensures app { IfOk result (λ command. app_of command ≡ new_app (codes "dcvalid")) }
+    ensures local { IfOk result (λ command. (fields_of command).has_globals ≡ false) }
+{
+    Command::new(alloc, "dcvalid").bin_name("dcvalid")
 }
 
 // A subcommand over one formula file.
