@@ -1,4 +1,4 @@
 mod Examples
-mod OneFile
+pub mod OneFile
 mod Pieces
-mod Words
+pub mod Words
