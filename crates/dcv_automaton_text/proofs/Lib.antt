@@ -3,6 +3,6 @@ mod Examples
 pub mod GoodFiles
 pub mod GoodTables
 pub mod Kept
-mod OneFile
+pub mod OneFile
 mod Pieces
-mod Words
+pub mod Words

@@ -1,0 +1,9 @@
+pub mod Judging
+pub mod NameWords
+pub mod NodeWords
+pub mod HeadWords
+pub mod TextWords
+pub mod Kept
+pub mod ReadFiles
+pub mod Remade
+pub mod Walks

@@ -1,0 +1,84 @@
+-- How clauses see an automaton that was read.
+--     target_from, access_from, suffix_from      what comes next, and how words are spelled, as plain data
+--     node_line names numbered ..                the line of what has this number
+--     file_from names nodes ..                   the plain data of a text
+--     row_of line                                what the line of a state says
+--     IsNarrow, IsNarrowSuffix                   its letter has 32 values at most
+--     IsRead file nodes                          the file keeps the rules, and these are its nodes
+--     accesses_of file, suffixes_of file         how the words of a file are spelled
+use Rattle.std.specs.Prelude.{◌≡◌, ℕ, ◌≤◌, List, [], length, map, slice_index_or}
+use Rattle.std.specs.List.{enumerate_from}
+use Rattle.dcv_automaton_text.specs.File.{Target, ToState, ToNode, NodeLine, StateLine, Access, EmptyAccess, StartAccess, AfterAccess, AccessLine}
+use Rattle.dcv_automaton_text.specs.File.{Suffix, EmptySuffix, ThenSuffix, SuffixLine, AutomatonFile}
+use Rattle.dcv_automaton_text.specs.Rules.{IsGood}
+use Rattle.dcv_automaton_lines.specs.declared.lines.StateLine.{StateLine as CodeLine}
+use Rattle.dcv_automaton_lines.specs.Seen.{target_of}
+use Rattle.dcv_automaton_read.specs.Seen.{child_of, node_of}
+use Rattle.dcv_automaton_read.specs.declared.nodes.Child.{Child}
+use Rattle.dcv_automaton_read.specs.declared.nodes.Child.TheVariants.{State, Node as AtNode}
+use Rattle.dcv_automaton_read.specs.declared.nodes.Node.{Node}
+use Rattle.dcv_automaton_read.specs.declared.file.Row.{Row}
+use Rattle.dcv_automaton_read.specs.declared.file.Access.{Access as ReadAccess}
+use Rattle.dcv_automaton_read.specs.declared.file.Access.TheVariants.{Empty as NoLetter, Start, After}
+use Rattle.dcv_automaton_read.specs.declared.file.Suffix.{Suffix as ReadSuffix}
+use Rattle.dcv_automaton_read.specs.declared.file.Suffix.TheVariants.{Empty, Then}
+
+abbrev pub target_from : Child → Target
+target_from (State number) = ToState number
+target_from (AtNode number) = ToNode number
+
+abbrev pub access_from : ReadAccess → Access
+access_from NoLetter = EmptyAccess
+access_from (Start letter) = StartAccess letter
+access_from (After state letter) = AfterAccess state letter
+
+abbrev pub suffix_from : ReadSuffix → Suffix
+suffix_from Empty = EmptySuffix
+suffix_from (Then letter suffix) = ThenSuffix letter suffix
+
+abbrev pub node_line : List (List ℕ) → ℕ × Node → NodeLine
+node_line names (number, node) =
+    record { number = number; name = slice_index_or names node.slot []; hi = target_from node.hi; lo = target_from node.lo }
+
+abbrev pub state_line : ℕ × Row → StateLine
+state_line (number, row) = record { number = number; accepting = row.accepting; row = target_from row.next }
+
+abbrev pub access_line : ℕ × Access → AccessLine
+access_line (number, access) = record { number = number; access = access }
+
+abbrev pub suffix_line : ℕ × Suffix → SuffixLine
+suffix_line (number, suffix) = record { number = number; suffix = suffix }
+
+-- lines have their places as numbers
+abbrev pub file_from : List (List ℕ) → List Node → List Row → List ReadAccess → List ReadSuffix → AutomatonFile
+file_from names nodes rows access suffixes =
+    record {
+      names = names;
+      states = length rows;
+      node_lines = map (node_line names) (enumerate_from 0 nodes);
+      state_lines = map state_line (enumerate_from 0 rows);
+      access_lines = map access_line (enumerate_from 0 (map access_from access));
+      suffix_lines = map suffix_line (enumerate_from 0 (map suffix_from suffixes));
+    }
+
+pub record IsRead (file : AutomatonFile) (nodes : List Node) : Type 0 where
+  pub good : IsGood file
+  pub nodes_are : nodes ≡ map (node_of file.names) file.node_lines
+
+abbrev pub accesses_of : AutomatonFile → List Access
+accesses_of file = map (λ (line : AccessLine). line.access) file.access_lines
+
+abbrev pub suffixes_of : AutomatonFile → List Suffix
+suffixes_of file = map (λ (line : SuffixLine). line.suffix) file.suffix_lines
+
+abbrev pub row_of : CodeLine → Row
+row_of line = record { accepting = line.accepting; next = child_of (target_of line.row) }
+
+abbrev pub IsNarrow : Access → Type 0
+IsNarrow EmptyAccess = Unit {0}
+IsNarrow (StartAccess letter) = length letter ≤ 32
+IsNarrow (AfterAccess state letter) = length letter ≤ 32
+
+abbrev pub IsNarrowSuffix : Suffix → Type 0
+IsNarrowSuffix EmptySuffix = Unit {0}
+IsNarrowSuffix (ThenSuffix letter suffix) = length letter ≤ 32

@@ -1,0 +1,7 @@
+pub mod File
+pub mod Judged
+pub mod Parts
+pub mod Read
+pub mod Seen
+pub mod Starts
+pub mod Walk

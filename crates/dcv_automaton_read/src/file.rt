@@ -1,0 +1,133 @@
+// The automaton that a text stands for, and how its access words and suffixes are spelled.
+ghost use Rattle.std.specs.Prelude.{◌≡◌, ◌<◌, ◌≤◌, length, map};
+ghost use Rattle.dcv_language.specs.Table.{is_accepting, next_in};
+ghost use Rattle.dcv_automaton_text.specs.Meaning.{table_of};
+ghost use Rattle.dcv_automaton_text.specs.Rules.{IsGood};
+ghost use Rattle.dcv_automaton_read.specs.File.{file_from, IsRead, access_from, suffix_from, accesses_of, suffixes_of};
+
+use crate::nodes::{Child, Node};
+use crate::walk::leaf;
+use dcv_syntax::Text;
+use dcv_word::Letter;
+use dcv_word::laws::letters_of_width_are_all;
+use indexmap::IndexSet;
+use std::marker::Model;
+
+/// A state: whether it accepts, and what its row is.
+#[derive(Clone, Copy, Debug)]
+pub struct Row {
+    pub accepting: bool,
+    pub next: Child,
+}
+
+/// How the access word of a state is spelled.
+#[derive(Clone, Copy, Debug, PartialEq, Eq)]
+pub enum Access {
+    Empty,
+    /// A word of this letter alone.
+    Start(Letter),
+    /// The access word of this state, and then the letter.
+    After(u32, Letter),
+}
+
+/// How a suffix is spelled.
+#[derive(Clone, Copy, Debug, PartialEq, Eq)]
+pub enum Suffix {
+    Empty,
+    /// The letter, and then the suffix with this number.
+    Then(Letter, u32),
+}
+
+/// What the text of an automaton says, where it keeps the table rules. It is seen as the plain data of the text.
+#[derive(Debug, Drop)]
+pub struct AutoFile {
+    names: Vec<Text>,
+    nodes: IndexSet<Node>,
+    rows: Vec<Row>,
+    access: Vec<Access>,
+    suffixes: Vec<Suffix>,
+}
+
+impl Model for AutoFile {
+    ghost use Rattle.dcv_automaton_text.specs.File.{AutomatonFile};
+    ghost use Rattle.dcv_automaton_read.specs.File.{file_from, IsRead};
+
+    ghost Value = { AutomatonFile };
+
+    ghost view = { λ file. file_from file.names.items file.nodes.keys file.rows.items file.access.items file.suffixes.items };
+
+    ghost invariant = { λ file. IsRead (file_from file.names.items file.nodes.keys file.rows.items file.access.items file.suffixes.items) file.nodes.keys };
+}
+
+impl AutoFile {
+    // What these parts make.
+    pub(crate) fn new(
+        names: Vec<Text>,
+        nodes: IndexSet<Node>,
+        rows: Vec<Row>,
+        access: Vec<Access>,
+        suffixes: Vec<Suffix>,
+    ) -> AutoFile
+        requires { IsRead (file_from names.items nodes.keys rows.items access.items suffixes.items) nodes.keys }
+        ensures { result ≡ file_from names.items nodes.keys rows.items access.items suffixes.items }
+    {
+        AutoFile {
+            names,
+            nodes,
+            rows,
+            access,
+            suffixes,
+        }
+    }
+
+    /// The names of the variables, in order.
+    pub fn names(&self) -> &[Text]
+        ensures { result.now ≡ self.now.names }
+    {
+        &self.names
+    }
+
+    /// How many states there are.
+    pub fn states(&self) -> u32
+        ensures states { result ≡ self.now.states }
+        ensures good { IsGood self.now }
+    {
+        self.rows.len() as u32
+    }
+
+    /// Whether a state accepts.
+    pub fn accepting(&self, state: u32) -> bool
+        requires { state < self.now.states }
+        ensures { result ≡ is_accepting (table_of self.now) state }
+    {
+        self.rows[state as usize].accepting
+    }
+
+    /// The state to which a letter leads from a state.
+    pub fn next(&self, state: u32, letter: &Letter) -> u32
+        requires state { state < self.now.states }
+        requires width { length letter.now ≡ length self.now.names }
+        ensures { result ≡ next_in (table_of self.now) state letter.now }
+    {
+        letters_of_width_are_all();
+        leaf(
+            self.nodes.as_slice(),
+            self.rows[state as usize].next,
+            letter,
+        )
+    }
+
+    /// How the access words are spelled, that of state 0 first.
+    pub fn access(&self) -> &[Access]
+        ensures { map access_from result.now ≡ accesses_of self.now }
+    {
+        &self.access
+    }
+
+    /// How the suffixes are spelled.
+    pub fn suffixes(&self) -> &[Suffix]
+        ensures { map suffix_from result.now ≡ suffixes_of self.now }
+    {
+        &self.suffixes
+    }
+}

@@ -1,0 +1,19 @@
+//! The reader of automaton texts, above the reader of their lines: the table rules are judged word by word, and the lines of a text
+//! that keeps them become an [`AutoFile`].
+#![tactic(auto)]
+
+mod building;
+mod faults;
+mod file;
+mod letters;
+mod names;
+mod nodes;
+mod reading;
+mod rules;
+mod walk;
+mod words;
+
+pub use faults::AutoFault;
+pub use file::{Access, AutoFile, Row, Suffix};
+pub use nodes::{Child, Node};
+pub use reading::automaton_read;

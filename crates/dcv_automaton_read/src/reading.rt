@@ -1,0 +1,31 @@
+// The reader of automaton texts.
+ghost use Rattle.std.specs.Prelude.{◌^◌, ◌<◌, length, IfOk};
+ghost use Rattle.dcv_automaton_text.specs.Form.{HasForm};
+ghost use Rattle.dcv_automaton_text.specs.Rules.{IsGood};
+ghost use Rattle.dcv_automaton_read.specs.Read.{IsFaultOf};
+
+use crate::building::built;
+use crate::faults::AutoFault;
+use crate::file::AutoFile;
+use crate::rules::good_nodes;
+use dcv_automaton_lines::{LinesFault, lines_of};
+use std::alloc::Global;
+
+/// What the text of an automaton says, or where it has its first fault.
+///
+/// A fault of the form is told before any of the table rules. The time is linear in the length of the text.
+pub fn automaton_read(alloc: Global, bytes: &[u8]) -> Result<AutoFile, AutoFault>
+    requires { length bytes.now < 2 ^ 32 }
+    ensures form { IfOk result (λ file. HasForm bytes.now file) }
+    ensures good { IfOk result IsGood }
+    ensures fault { IsFaultOf bytes.now result }
+{
+    let lines = match lines_of(alloc, bytes) {
+        Ok(lines) => lines,
+        Err(LinesFault::Syntax { at }) => return Err(AutoFault::Syntax { at }),
+        Err(LinesFault::Memory) => return Err(AutoFault::Memory),
+    };
+    let nodes = good_nodes(alloc, bytes, &lines)?;
+    let file = built(alloc, &lines, nodes)?;
+    Ok(file)
+}
