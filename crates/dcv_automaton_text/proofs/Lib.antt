@@ -1,4 +1,3 @@
 mod Examples
+pub mod Words
 mod OneFile
-mod Pieces
-mod Words

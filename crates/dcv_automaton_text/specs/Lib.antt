@@ -2,7 +2,6 @@
 pub mod File
 pub mod Spelled
 pub mod Form
-pub mod Pieces
 pub mod Rules
 pub mod Meaning
 -- the statements that `src/laws.rt` proves
