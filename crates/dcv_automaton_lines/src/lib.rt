@@ -2,8 +2,13 @@
 //! stops to be the beginning of one; whether the lines stand for an automaton is for the table rules to say.
 #![tactic(auto)]
 
+mod bodies;
 mod lines;
+mod names;
 mod reading;
+mod sections;
+mod stop;
+mod words;
 
 pub use lines::{AccessLine, AccessWord, Lines, NodeLine, StateLine, SuffixLine, SuffixWord, Target};
 pub use reading::{LinesFault, lines_of};

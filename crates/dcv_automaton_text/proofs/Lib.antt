@@ -4,5 +4,4 @@ pub mod GoodFiles
 pub mod GoodTables
 pub mod Kept
 pub mod OneFile
-mod Pieces
 pub mod Words

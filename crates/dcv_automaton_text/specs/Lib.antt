@@ -3,7 +3,6 @@
 pub mod File
 pub mod Spelled
 pub mod Form
-pub mod Pieces
 pub mod Rules
 pub mod Numbering
 pub mod Meaning

@@ -1,4 +1,3 @@
-use Rattle.dcv_automaton_text.proofs.Pieces.{fault_behind, fault_within}
 use Rattle.dcv_automaton_text.proofs.OneFile.{one_file}
 use Rattle.dcv_automaton_text.proofs.laws.one_file.Goals as goal
 

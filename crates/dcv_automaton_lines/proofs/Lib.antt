@@ -1,0 +1,14 @@
+-- where a text of several words is stuck
+pub mod Pieces
+-- where one is stuck in a word
+pub mod WordSets
+-- sets are told apart by first bytes
+pub mod Opening
+-- and lines without their first word
+pub mod LineSets
+-- lines of each kind, and what may follow them
+pub mod KindSets
+-- lines are gathered
+pub mod Gathering
+-- the names of the line of variables
+pub mod NameSets

@@ -1,0 +1,31 @@
+-- How clauses see where reading stops.
+--     IsEnd end                   a space or a line feed
+--     is_binary b                 the byte is a digit `0` or `1`
+--     IsStuckAt P text answer     where the answer is no part, the text is stuck there in the set
+--     IsStuckStop P text answer   the same of an answer that may be want of memory
+--     IsStopAt P text answer      where the answer is a fault of the text, it is that of the set
+use Rattle.std.specs.Prelude.{◌≡◌, ℕ, Bool, ◌||◌, nat_eq, List, Result, Ok, Err, ◌⊎◌}
+use Rattle.dcv_automaton_lines.specs.Pieces.{IsStuckIn, IsFaultAt}
+use Rattle.dcv_automaton_lines.specs.declared.stop.Stuck.{Stuck}
+use Rattle.dcv_automaton_lines.specs.declared.stop.Stop.{Stop}
+use Rattle.dcv_automaton_lines.specs.declared.stop.Stop.TheVariants.{Syntax, Memory}
+
+abbrev pub IsEnd : ℕ → Type 0
+IsEnd end = (end ≡ 32) ⊎ (end ≡ 10)
+
+abbrev pub is_binary : ℕ → Bool
+is_binary b = nat_eq b 48 || nat_eq b 49
+
+abbrev pub IsStuckAt : {T : Type 0} → (List ℕ → Type 0) → List ℕ → Result T Stuck → Type 0
+IsStuckAt P text (Ok read) = Unit {0}
+IsStuckAt P text (Err stuck) = IsStuckIn P text stuck.left.now
+
+abbrev pub IsStopAt : {T : Type 0} → (List ℕ → Type 0) → List ℕ → Result T Stop → Type 0
+IsStopAt P text (Ok read) = Unit {0}
+IsStopAt P text (Err (Syntax stuck)) = IsFaultAt P text stuck.left.now
+IsStopAt P text (Err Memory) = Unit {0}
+
+abbrev pub IsStuckStop : {T : Type 0} → (List ℕ → Type 0) → List ℕ → Result T Stop → Type 0
+IsStuckStop P text (Ok read) = Unit {0}
+IsStuckStop P text (Err (Syntax stuck)) = IsStuckIn P text stuck.left.now
+IsStuckStop P text (Err Memory) = Unit {0}
