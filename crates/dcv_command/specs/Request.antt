@@ -2,7 +2,10 @@
 --     Request             a thing that the program does
 --     IsTaken words       `clap` finds no fault in the words
 --     request_of words    what they ask for
-use Rattle.std.specs.Prelude.{◌≡◌, ℕ, List, [], Option, None, Some, codes, if◌then◌else◌, unwrap_or, option_and_then}
+--     file_in request     the name of the file that it reads
+--     limits_in request   its limits
+--     AreInRange limits   each is at least 1, and at most the most that the program allows
+use Rattle.std.specs.Prelude.{◌≡◌, ℕ, ◌≤◌, List, [], Option, None, Some, codes, if◌then◌else◌, unwrap_or, option_and_then}
 use Rattle.std.specs.Str.{bytes_eq}
 use Rattle.std.specs.Str.Parse.{digits_value, without_leading_plus}
 use Rattle.clap.specs.Words.{Row, Text, first_of, one_of, subcommand_of, fault_of}
@@ -38,3 +41,19 @@ IsTaken words = fault_of program words ≡ []
 
 abbrev pub request_of : List Text → Option Request
 request_of words = option_and_then (λ found. request_in found.0 found.1) (subcommand_of program words)
+
+-- ---- its parts
+
+abbrev pub file_in : Request → List ℕ
+file_in (Check name limits) = name
+file_in (Automaton name limits) = name
+
+abbrev pub limits_in : Request → Limits
+limits_in (Check name limits) = limits
+limits_in (Automaton name limits) = limits
+
+pub record AreInRange (limits : Limits) : Type 0 where
+  pub some_states : 1 ≤ limits.states
+  pub few_states : limits.states ≤ 32000
+  pub some_nodes : 1 ≤ limits.nodes
+  pub few_nodes : limits.nodes ≤ 1000000

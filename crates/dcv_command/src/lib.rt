@@ -1,6 +1,8 @@
 //! The command line of the program: what its words ask for, as `clap` reads them.
 #![tactic(auto)]
 
+pub mod laws;
+mod parts;
 mod program;
 mod words;
 

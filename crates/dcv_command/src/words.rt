@@ -1,6 +1,6 @@
 // What the words of the command line ask for.
 ghost use Rattle.std.specs.Prelude.{◌≡◌, map, IfOk, IfErr, Some};
-ghost use Rattle.dcv_command.specs.Request.{IsTaken, request_of};
+ghost use Rattle.dcv_command.specs.Request.{IsTaken, request_of, limits_in, AreInRange};
 ghost use Rattle.dcv_command.specs.Seen.{asked_by, IsUsageOnlyWhere};
 
 use dcv_explore::Limits;
@@ -29,6 +29,7 @@ pub enum WordsFault {
 pub fn read_words<'a, S: AsStr>(alloc: Global, words: &'a [S]) -> Result<Request<'a>, WordsFault>
     ensures taken { IfOk result (λ request. IsTaken (map S.text words.entry.now)) }
     ensures asked { IfOk result (λ request. request_of (map S.text words.entry.now) ≡ Some (asked_by request)) }
+    ensures limits { IfOk result (λ request. AreInRange (limits_in (asked_by request))) }
     ensures usage { IfErr result (IsUsageOnlyWhere (¬ IsTaken (map S.text words.entry.now))) }
 {
     if words.is_empty() {

@@ -1,0 +1,169 @@
+-- Words in which no fault is found name a subcommand, and each subcommand asks for something.
+use Rattle.std.proofs.Common.{◌≡◌, ℕ, Bool, true, false, List, [], ◌∷◌, ◌++◌, Option, None, Some, refl, sym, subst, codes, ap, ◌∙◌}
+use Rattle.std.specs.Prelude.{IsSome, is_some, ◌||◌, option_and_then, option_map, fold, not, ◌&&◌, if◌then◌else◌}
+use Rattle.std.specs.Str.{bytes_eq}
+use Rattle.std.specs.List.{list_any}
+use Rattle.std.proofs.lemmas.Slice.Eq.{bytes_eq-Decides}
+use mathlib.Core.Bool.{true≢false}
+use Rattle.clap.specs.Words.{Text, Row, Rule, Shape, built}
+use Rattle.clap.specs.Walk.{Held, Names, Walk, Waiting, idle, option, positional, Step, next, trailing, subcommand, value, Outcome, done, waits, refused, plain}
+use Rattle.std.proofs.lemmas.Bool.{false_from_ne_true}
+use Rattle.clap.specs.Facts.{explicit_source}
+use Rattle.clap.specs.Takes.{is_given}
+use Rattle.clap.specs.Lexer.{long_of, short_of}
+use Rattle.clap.specs.Walk.{answers_to, finished, settled, nothing_held, walk, walk_from, walked, walked_from, word_met, subcommand_met, subcommand_or_other, long_or_other, short_or_plain, after_flag, plain_word, after_step, to_positional, arg_by_index}
+use Rattle.clap.specs.Simple.{entered, label_of, rows_at, names_of}
+use Rattle.clap.specs.declared.error.kind.ErrorKind.TheVariants.{DisplayHelp, InvalidSubcommand}
+use Rattle.clap.specs.Kinds.{Kinds, or_else, check_kinds}
+use Rattle.clap.specs.Faults.{check_fault, level_fault, entered_fault, settle_fault, defaults_fault, walk_fault, turn_fault, step_fault, word_fault, other_fault}
+use Rattle.clap.proofs.OnLiterals.{clap_on_literals}
+use Rattle.dcv_command.specs.Program.{program}
+use Rattle.dcv_command.specs.Request.{IsTaken, request_in, request_of}
+use Rattle.dcv_command.specs.Laws.{TakenWordsAsk}
+
+-- ---- parts of a list of faults
+
+first_is_empty : (first last : Kinds) → or_else first last ≡ [] → first ≡ []
+first_is_empty [] last e = refl
+first_is_empty (kind ∷ kinds) last e = e
+
+last_is_empty : (first last : Kinds) → or_else first last ≡ [] → last ≡ []
+last_is_empty [] last e = e
+last_is_empty (kind ∷ kinds) last e = let wrong : kind ∷ kinds ≡ [] = e in cc
+
+front_is_empty : (stopped : Bool) (front back : Kinds) → stopped ≡ false → (if stopped then [] else or_else front back) ≡ [] → front ≡ []
+front_is_empty true front back is e = absurd (true≢false is)
+front_is_empty false front back is e = first_is_empty front back e
+
+-- ---- where a subcommand is required, one is entered
+
+is_entered : (shape : Shape) (rows : List Row) (has : Bool) → shape.subcommand_required ≡ true → check_fault shape rows has ≡ [] → has ≡ true
+is_entered shape rows true required none = refl
+is_entered shape rows false required none =
+    by (shape.arg_required_else_help && not (list_any (λ r. explicit_source r.source) rows)) shape.subcommand_required
+    (not (shape.subcommand_negates_reqs && false) && list_any (λ rule. rule.required && not (is_given rule.id rows)) shape.rules) required none
+  where
+    by : (help required argument : Bool) → required ≡ true → check_kinds help required argument ≡ [] → false ≡ true
+    by true required argument is e = cc
+    by false true argument is e = cc
+    by false false argument is e = is
+
+level_is_entered : (shape : Shape) (names : Names) (held : Held) (words : List Text) (has : Bool) (below : Kinds) → shape.subcommand_required ≡ true
+    → level_fault shape names held words has below ≡ [] → has ≡ true
+level_is_entered shape names held words has below required none =
+    let end = (walk shape.rules names held words).held in
+    is_entered shape (finished shape.rules end) has required
+    (last_is_empty (defaults_fault (settled shape.rules end).rows shape.rules) _
+    (last_is_empty (settle_fault shape.rules shape.args_override_self end) _
+    (last_is_empty below _ (last_is_empty (walk_fault shape names (walk_from held) words) _ none))))
+
+-- ---- it is none that asks for help
+
+abbrev IsNoHelp : Text → Type 0
+IsNoHelp name = bytes_eq name (codes "help") ≡ false
+
+abbrev StopsNotAtHelp : Option (Text × List Text) → Type 0
+StopsNotAtHelp None = Unit {0}
+StopsNotAtHelp (Some stop) = IsNoHelp stop.0
+
+abbrev IsNoHelpStep : Step → Type 0
+IsNoHelpStep (subcommand name) = IsNoHelp name
+IsNoHelpStep _ = Unit {0}
+
+plain_no_help : (rules : List Rule) (waiting : Waiting) (word : Text) (held : Held) → IsNoHelpStep (plain_word rules waiting word held).1
+plain_no_help rules idle word held = tt
+plain_no_help rules (option id) word held = tt
+plain_no_help rules positional word held = tt
+
+flag_no_help : (rules : List Rule) (waiting : Waiting) (word : Text) (held : Held) (outcome : Outcome) → IsNoHelpStep (after_flag rules waiting word held outcome).1
+flag_no_help rules waiting word held done = tt
+flag_no_help rules waiting word held (waits id) = tt
+flag_no_help rules waiting word held refused = plain_no_help rules waiting word held
+flag_no_help rules waiting word held plain = plain_no_help rules waiting word held
+
+other_no_help : (rules : List Rule) (waiting : Waiting) (word : Text) (held : Held) (long : Option (Text × Option Text)) (short : Option Text)
+    → short_of word ≡ short → IsNoHelpStep (long_or_other rules waiting word long held).1
+other_no_help rules waiting word held (Some parts) short is = flag_no_help rules waiting word _ _
+other_no_help rules waiting word held None (Some flags) is = rw is (flag_no_help rules waiting word _ _)
+other_no_help rules waiting word held None None is = rw is (plain_no_help rules waiting word held)
+
+met_no_help : (shape : Shape) (met : Option Text) (waiting : Waiting) (position : ℕ) (word : Text) (held : Held) → shape.disable_help_subcommand ≡ false
+    → other_fault shape met word held ≡ [] → IsNoHelpStep (subcommand_or_other shape.rules met waiting position word held).1
+met_no_help shape (Some name) waiting position word held enabled none =
+    by (bytes_eq name (codes "help")) refl (subst (λ (e : Bool). (if bytes_eq name (codes "help") && not e then DisplayHelp ∷ InvalidSubcommand ∷ [] else []) ≡ []) enabled none)
+  where
+    by : (help : Bool) → bytes_eq name (codes "help") ≡ help → (if help && true then DisplayHelp ∷ InvalidSubcommand ∷ [] else []) ≡ [] → IsNoHelp name
+    by true is e = cc
+    by false is e = is
+met_no_help shape None waiting position word held enabled none = by (bytes_eq word (45 ∷ 45 ∷ [])) refl
+  where
+    by : (dashes : Bool) → bytes_eq word (45 ∷ 45 ∷ []) ≡ dashes → IsNoHelpStep (subcommand_or_other shape.rules None waiting position word held).1
+    by true is = rw is tt
+    by false is = rw is (other_no_help shape.rules waiting word held (long_of word) (short_of word) refl)
+
+word_no_help : (shape : Shape) (names : Names) (is_trailing : Bool) (waiting : Waiting) (position : ℕ) (word : Text) (held : Held) → shape.disable_help_subcommand ≡ false
+    → word_fault shape names is_trailing waiting word held ≡ [] → IsNoHelpStep (word_met shape.rules names is_trailing waiting position word held).1
+word_no_help shape names true waiting position word held enabled none = tt
+word_no_help shape names false waiting position word held enabled none =
+    met_no_help shape (subcommand_met names waiting word) waiting position word held enabled none
+
+positional_no_help : (rules : List Rule) (found : Option Rule) (word : Text) (w : Walk) (held : Held) → StopsNotAtHelp w.stopped
+    → StopsNotAtHelp (to_positional rules found word w held).stopped
+positional_no_help rules None word w held before = before
+positional_no_help rules (Some rule) word w held before = tt
+
+step_no_help : (rules : List Rule) (word : Text) (w : Walk) (held : Held) (step : Step) → StopsNotAtHelp w.stopped → IsNoHelpStep step
+    → StopsNotAtHelp (after_step rules word w held step).stopped
+step_no_help rules word w held (next waiting) before is = before
+step_no_help rules word w held (trailing position) before is = before
+step_no_help rules word w held (subcommand name) before is = is
+step_no_help rules word w held value before is = positional_no_help rules (arg_by_index rules w.position) word w held before
+
+module _ (shape : Shape) (names : Names) (enabled : shape.disable_help_subcommand ≡ false) where
+  turn_no_help : (w : Walk) (word : Text) (stopped : Option (Text × List Text)) → w.stopped ≡ stopped → StopsNotAtHelp w.stopped
+      → turn_fault shape names w word ≡ [] → StopsNotAtHelp (walked_from shape.rules names stopped w word).stopped
+  turn_no_help w word (Some stop) is before none = let same : StopsNotAtHelp (Some stop) = subst StopsNotAtHelp is before in same
+  turn_no_help w word None is before none =
+      step_no_help shape.rules word w met.0 met.1 before
+      (word_no_help shape names w.is_trailing w.waiting w.position word w.held enabled
+      (front_is_empty (is_some w.stopped) (word_fault shape names w.is_trailing w.waiting word w.held) (step_fault shape w.position met.0 met.1) (ap is_some is) none))
+    where
+      met : Held × Step
+      met = word_met shape.rules names w.is_trailing w.waiting w.position word w.held
+
+  walk_no_help : (words : List Text) (w : Walk) → StopsNotAtHelp w.stopped → walk_fault shape names w words ≡ []
+      → StopsNotAtHelp (fold (walked shape.rules names) w words).stopped
+  unfolding walk_fault walked
+  walk_no_help [] w before none = before
+  walk_no_help (word ∷ words) w before none =
+      walk_no_help words (walked shape.rules names w word) (turn_no_help w word w.stopped refl before (first_is_empty _ _ none)) (last_is_empty _ _ none)
+
+-- ---- what the subcommand asks for
+
+found_asks : (one two three : Shape) (rest : List Text) (first second third : Bool) → one.name ≡ codes "check" → two.name ≡ codes "automaton" → third ≡ false
+    → IsSome (option_map (λ s. rows_at s rest) (if first then Some one else (if second then Some two else (if third then Some three else None))))
+    → IsSome (option_and_then (λ found. request_in found.0 found.1)
+    (option_map (λ s. rows_at s rest) (if first then Some one else (if second then Some two else (if third then Some three else None)))))
+unfolding clap_on_literals
+found_asks one two three rest true second third check automaton none e = rw check refl
+found_asks one two three rest false true third check automaton none e = rw automaton refl
+found_asks one two three rest false false true check automaton none e = absurd (true≢false none)
+found_asks one two three rest false false false check automaton none e = e
+
+help_names_none : (name : Text) → IsNoHelp name → bytes_eq (codes "help") name ≡ false
+help_names_none name differs =
+    false_from_ne_true (bytes_eq (codes "help") name)
+    (λ same. true≢false (sym ((bytes_eq-Decides name (codes "help")).1 (sym ((bytes_eq-Decides (codes "help") name).0 same))) ∙ differs))
+
+asks : (stop : Option (Text × List Text)) → StopsNotAtHelp stop → IsSome (entered (built program) stop)
+    → IsSome (option_and_then (λ found. request_in found.0 found.1) (entered (built program) stop))
+unfolding clap_on_literals
+asks None before e = e
+asks (Some p) before e = found_asks _ _ _ p.1 _ _ _ refl refl (ap (λ (b : Bool). b || false) (help_names_none p.0 before)) e
+
+pub taken_words_ask : TakenWordsAsk
+taken_words_ask words taken =
+    let stop = (walk (built program).top.rules (names_of (built program)) nothing_held words).stopped in
+    asks stop
+    (walk_no_help (built program).top (names_of (built program)) refl words (walk_from nothing_held) tt (first_is_empty (walk_fault (built program).top (names_of (built program)) (walk_from nothing_held) words) _ taken))
+    (level_is_entered (built program).top (names_of (built program)) nothing_held words (is_some (entered (built program) stop)) (entered_fault (built program) stop) refl taken)

@@ -1,0 +1,6 @@
+-- A subcommand is required, and each asks for something.
+use Rattle.dcv_command.proofs.TakenWords.{taken_words_ask}
+use Rattle.dcv_command.proofs.laws.taken_words_ask.Goals as goal
+
+pub returns : goal.returns
+returns c = taken_words_ask
