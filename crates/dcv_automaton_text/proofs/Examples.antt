@@ -6,6 +6,7 @@ use Rattle.dcv_tokens.specs.Tokens.{reserved_words}
 use Rattle.dcv_automaton_text.specs.File.{ToState, ToNode, NodeLine, StateLine, EmptyAccess, StartAccess, AfterAccess, AccessLine, EmptySuffix, ThenSuffix, SuffixLine, AutomatonFile}
 use Rattle.dcv_automaton_text.specs.Spelled.{lines_of, spelled}
 use Rattle.dcv_automaton_text.specs.Rules.{judged_words, IsGood, IsTableFault}
+use Rattle.dcv_automaton_text.specs.Numbering.{visits_of, numbered_nodes, IsNumbered}
 use Rattle.dcv_automaton_text.specs.Meaning.{states_at, table_of, access_words_of, suffix_words_of}
 
 -- ---- the words of one letter, in which the variable is true
@@ -65,6 +66,42 @@ point_access = refl
 point_suffixes : suffix_words_of point ≡ [] ∷ ((true ∷ []) ∷ []) ∷ []
 unfolding point suffixes_of_point suffix_words_of
 point_suffixes = refl
+
+point_is_numbered : IsNumbered point
+unfolding point nodes_of_point states_of_point visits_of numbered_nodes
+point_is_numbered = refl
+
+-- ---- the child where the variable is false gets its number first, and a node that has one gets no other
+
+nodes_of_agreement : List NodeLine
+nodes_of_agreement =
+    record { number = 0; name = codes "q"; hi = ToState 0; lo = ToState 1 }
+    ∷ record { number = 1; name = codes "q"; hi = ToState 1; lo = ToState 0 }
+    ∷ record { number = 2; name = codes "p"; hi = ToNode 1; lo = ToNode 0 } ∷ []
+
+agreement : AutomatonFile
+agreement =
+    record {
+      names = codes "p" ∷ codes "q" ∷ [];
+      states = 2;
+      node_lines = nodes_of_agreement;
+      state_lines = record { number = 0; accepting = false; row = ToNode 2 } ∷ record { number = 1; accepting = true; row = ToNode 2 } ∷ [];
+      access_lines = record { number = 0; access = StartAccess (false ∷ true ∷ []) } ∷ record { number = 1; access = StartAccess (false ∷ false ∷ []) } ∷ [];
+      suffix_lines = record { number = 0; suffix = EmptySuffix } ∷ [];
+    }
+
+agreement_is_numbered : IsNumbered agreement
+unfolding agreement nodes_of_agreement visits_of numbered_nodes
+agreement_is_numbered = refl
+
+-- where the other child stands first, the first two get each other's numbers
+exchanged_numbers : numbered_nodes (record agreement {
+  node_lines = record { number = 0; name = codes "q"; hi = ToState 1; lo = ToState 0 }
+      ∷ record { number = 1; name = codes "q"; hi = ToState 0; lo = ToState 1 }
+      ∷ record { number = 2; name = codes "p"; hi = ToNode 0; lo = ToNode 1 } ∷ [];
+}) ≡ 1 ∷ 0 ∷ 2 ∷ []
+unfolding agreement visits_of numbered_nodes
+exchanged_numbers = refl
 
 -- ---- no variables, and one state
 

@@ -1,4 +1,7 @@
 mod Examples
+pub mod GoodFiles
+pub mod GoodTables
+pub mod Kept
 mod OneFile
 mod Pieces
 mod Words

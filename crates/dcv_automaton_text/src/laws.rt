@@ -1,11 +1,19 @@
 //! Laws of the text of an automaton. Each function here does nothing: its contract is the law.
-ghost use Rattle.dcv_automaton_text.specs.Laws.{OneFile};
+ghost use Rattle.dcv_automaton_text.specs.Laws.{OneFile, GoodFilesAreTables, TableHasTheFilesStates};
 
-use dcv_word::laws::lines_are_read_back;
+use dcv_word::laws::{letters_of_width_are_all, lines_are_read_back};
 
 /// A text of the form has one file.
 pub fn one_file()
     ensures { OneFile }
 {
     lines_are_read_back();
+}
+
+/// A file that keeps the table rules stands for a table automaton, with as many states as it says.
+pub fn good_files_are_tables()
+    ensures table { GoodFilesAreTables }
+    ensures states { TableHasTheFilesStates }
+{
+    letters_of_width_are_all();
 }

@@ -1,11 +1,16 @@
-mod Kept
+mod AccessLines
+mod FileArenas
+mod FileNumbers
 mod LeastWords
+mod OneAutomaton
+mod PrintedAutomata
 mod PrintedFiles
 mod PrintedForms
 mod PrintedNodes
 mod PrintedProofs
 mod PrintedTables
 mod PrintedWords
+mod SameBehaviours
 mod Spellings
 mod SuffixCounts
 mod Texts

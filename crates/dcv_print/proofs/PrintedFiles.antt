@@ -15,9 +15,9 @@ use Rattle.dcv_shortest.specs.declared.proof.Access.TheVariants.{Empty as NoLett
 use Rattle.dcv_shortest.specs.declared.proof.Suffix.TheVariants.{Empty}
 use Rattle.dcv_automaton_text.specs.Spelled.{name_words, node_words, state_words, access_words, suffix_words}
 use Rattle.dcv_automaton_text.specs.Rules.{AreNames, most_names, most_states, most_nodes, is_listed, keeps_name, keeps_names, keeps_node, keeps_state, keeps_access, keeps_suffix, has_all_access, judged, judged_words}
+use Rattle.dcv_automaton_text.proofs.Kept.{AreKept, AllKeep, none_kept, both_true, kept_words, in_turn, kind_kept, none_broken}
 use Rattle.dcv_print.specs.Printed.{node_line, state_line, access_line, suffix_line, printed_file}
 use Rattle.dcv_print.specs.Laws.{PrintedIsGood}
-use Rattle.dcv_print.proofs.Kept.{AreKept, AllKeep, none_kept, both_true, kept_words, in_turn, kind_kept, none_broken}
 use Rattle.dcv_print.proofs.PrintedNodes.{node_kept, state_kept}
 use Rattle.dcv_print.proofs.PrintedProofs.{access_kept, suffix_kept, all_access}
 use Rattle.dcv_print.proofs.PrintedTables.{other_bytes, reduced, slots_below}

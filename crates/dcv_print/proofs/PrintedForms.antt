@@ -1,5 +1,5 @@
 -- The words of the file that is printed of an automaton are words of the form.
-use Rattle.std.proofs.Common.{◌≡◌, ◌≢◌, ℕ, ◌+◌, ◌<◌, ◌≤◌, Bool, true, false, ◌&&◌, ◌||◌, List, [], ◌∷◌, length, map, get_or, Some, refl, sym, ap, ◌∙◌, subst, arith}
+use Rattle.std.proofs.Common.{◌≡◌, ◌≢◌, ℕ, ◌+◌, ◌<◌, ◌≤◌, Bool, true, false, ◌||◌, List, [], ◌∷◌, length, map, get_or, Some, refl, sym, ap, ◌∙◌, subst, arith}
 use Rattle.std.specs.Prelude.{codes, nat_eq}
 use Rattle.std.specs.Char.{is_ascii_alphabetic, is_ascii_digit}
 use Rattle.std.specs.List.{All, list_all, enumerate_from}
@@ -19,18 +19,14 @@ use Rattle.dcv_shortest.specs.declared.proof.Suffix.TheVariants.{Empty, Then}
 use Rattle.dcv_shortest.specs.Proof.{IsSpelled, suffix_words}
 use Rattle.dcv_automaton_text.specs.Form.{is_visible, IsNameWord, IsTarget, IsNodeLine, IsStateLine, IsAccess, IsAccessLine, IsSuffix, IsSuffixLine}
 use Rattle.dcv_automaton_text.specs.Rules.{IsPlainName, AreNames}
+use Rattle.dcv_automaton_text.proofs.Kept.{both_true, both}
 use Rattle.dcv_print.specs.Printed.{target_of, access_of, suffix_of, node_line, state_line, access_line, suffix_line, printed_file}
 use Rattle.dcv_print.specs.Laws.{PrintedIsSpellable}
 use Rattle.dcv_print.proofs.PrintedProofs.{length-suffix_words, count_of_words, count_of_access}
-use Rattle.dcv_print.proofs.Kept.{both_true}
 use Rattle.dcv_print.proofs.PrintedTables.{reduced, slots_below}
 use Rattle.dcv_print.proofs.SuffixCounts.{suffixes_are_few}
 
 -- ---- names
-
-both : (a b : Bool) → (a && b) ≡ true → (a ≡ true) × (b ≡ true)
-both true b h = (refl, h)
-both false b h = absurd cc
 
 letters_are_visible : (b : ℕ) → is_ascii_alphabetic b ≡ true → is_visible b ≡ true
 letters_are_visible b is = grind (arith, is)

@@ -18,13 +18,9 @@ use Rattle.dcv_shortest.specs.declared.proof.Access.{Access as CodeAccess}
 use Rattle.dcv_shortest.specs.declared.proof.Suffix.{Suffix as CodeSuffix}
 use Rattle.dcv_automaton_text.specs.File.{NodeLine as PlainNodeLine}
 use Rattle.dcv_automaton_text.specs.Rules.{most_nodes, slot_of, slot_of_node, keeps_child, is_same_target, is_same_node, keeps_node, keeps_row, keeps_state}
+use Rattle.dcv_automaton_text.proofs.Kept.{AreKept, both_true, both}
 use Rattle.dcv_print.specs.Printed.{target_of, node_line, state_line, printed_file}
-use Rattle.dcv_print.proofs.Kept.{AreKept, both_true}
 use Rattle.dcv_print.proofs.PrintedTables.{slot_at}
-
-both : (a b : Bool) → (a && b) ≡ true → (a ≡ true) × (b ≡ true)
-both true b h = (refl, h)
-both false b h = absurd cc
 
 pub same_number : (n : ℕ) → nat_eq n n ≡ true
 same_number n = (unsigned_Decides n n).1 refl

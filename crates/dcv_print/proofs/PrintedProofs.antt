@@ -23,8 +23,8 @@ use Rattle.dcv_shortest.specs.declared.proof.Suffix.{Suffix as CodeSuffix}
 use Rattle.dcv_shortest.specs.declared.proof.Suffix.TheVariants.{Empty, Then}
 use Rattle.dcv_shortest.specs.Proof.{suffix_word, suffix_words, IsSpelled, IsProof}
 use Rattle.dcv_automaton_text.specs.Rules.{has_width, has_all_states, has_all_access, keeps_access, keeps_how_access, keeps_suffix, keeps_how_suffix}
+use Rattle.dcv_automaton_text.proofs.Kept.{AreKept, both_true}
 use Rattle.dcv_print.specs.Printed.{access_of, suffix_of, state_line, access_line, suffix_line, printed_file}
-use Rattle.dcv_print.proofs.Kept.{AreKept, both_true}
 use Rattle.dcv_print.proofs.PrintedNodes.{same_number}
 
 -- ---- access words

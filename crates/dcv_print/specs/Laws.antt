@@ -1,16 +1,21 @@
 -- The laws that `src/laws.rt` proves: the file that is printed of an automaton is spelled by the text, keeps the table rules, and stands for
--- the automaton's table, its access words and the suffixes.
+-- the automaton's table, its access words and the suffixes. It is the file of the set that the automaton accepts, and there is no other but
+-- for its suffixes.
 --     IsPrintable raw names        this automaton may be printed with these names
 use Rattle.std.specs.Prelude.{◌≡◌, ℕ, ◌≤◌, List, length}
 use Rattle.dcv_word.specs.Behaviour.{Word}
+use Rattle.dcv_language.specs.Language.{Language, HaveSameBehaviours}
+use Rattle.dcv_language.specs.Table.{Table, IsTable, AcceptsExactly}
+use Rattle.dcv_automaton_text.specs.File.{AutomatonFile}
 use Rattle.dcv_automaton_text.specs.Form.{IsSpellable}
 use Rattle.dcv_automaton_text.specs.Meaning.{table_of, access_words_of, suffix_words_of}
 use Rattle.dcv_automaton_text.specs.Rules.{AreNames, most_states, most_nodes, IsGood}
 use Rattle.dcv_dfa.specs.Auto.{IsAuto, count_of_nodes, table_of_states}
-use Rattle.dcv_dfa.specs.Raw.{RawValue, IsRaw}
+use Rattle.dcv_dfa.specs.Raw.{RawValue, IsRaw, raw_accepts}
 use Rattle.dcv_shortest.specs.declared.proof.Access.{Access}
 use Rattle.dcv_shortest.specs.declared.proof.Suffix.{Suffix}
 use Rattle.dcv_shortest.specs.Proof.{AreSpelled, suffix_words, IsProof}
+use Rattle.dcv_print.specs.Automaton.{IsAutomatonOf, AreSameButForSuffixes}
 use Rattle.dcv_print.specs.Printed.{printed_file}
 
 pub record IsPrintable (raw : RawValue) (names : List (List ℕ)) : Type 0 where
@@ -42,3 +47,26 @@ PrintedAccess = (raw : RawValue) (names : List (List ℕ)) (access : List Access
 abbrev pub PrintedSuffixes : Type 0
 PrintedSuffixes = (raw : RawValue) (names : List (List ℕ)) (access : List Access) (suffixes : List Suffix)
     → suffix_words_of (printed_file raw names access suffixes) ≡ suffix_words suffixes
+
+-- ---- what the text is
+
+-- the file that is printed says the canonical automaton of the words that are accepted
+abbrev pub PrintedIsAutomaton : Type 0
+PrintedIsAutomaton = (raw : RawValue) (names : List (List ℕ)) (access : List Access) (suffixes : List Suffix)
+    → IsPrintable raw names → IsProof raw access suffixes
+    → IsAutomatonOf raw.arena.slots (raw_accepts raw) names (printed_file raw names access suffixes)
+
+-- all of a file that says the canonical automaton of a set is determined, but for its suffixes
+abbrev pub OneAutomaton : Type 0
+OneAutomaton = (k : ℕ) (L : Language) (names : List (List ℕ)) (one other : AutomatonFile)
+    → IsAutomatonOf k L names one → IsAutomatonOf k L names other → AreSameButForSuffixes one other
+
+-- sets with the same behaviours have the same files
+abbrev pub AutomatonOfSameBehaviours : Type 0
+AutomatonOfSameBehaviours = (k : ℕ) (L M : Language) (names : List (List ℕ)) (file : AutomatonFile)
+    → HaveSameBehaviours k L M → IsAutomatonOf k L names file → IsAutomatonOf k M names file
+
+-- no table automaton for the set has fewer states than the file says
+abbrev pub AutomatonHasFewestStates : Type 0
+AutomatonHasFewestStates = (k : ℕ) (L : Language) (names : List (List ℕ)) (file : AutomatonFile) (table : Table)
+    → IsAutomatonOf k L names file → IsTable k table → AcceptsExactly k table L → file.states ≤ length table

@@ -1,7 +1,12 @@
 //! Laws of the text that is printed of an automaton. Each function here does nothing: its contract is the law.
 ghost use Rattle.dcv_print.specs.Laws.{PrintedIsSpellable, PrintedIsGood, PrintedTable, PrintedAccess, PrintedSuffixes};
+ghost use Rattle.dcv_print.specs.Laws.{PrintedIsAutomaton, OneAutomaton, AutomatonOfSameBehaviours, AutomatonHasFewestStates};
 
+use dcv_automaton_text::laws::good_files_are_tables;
 use dcv_dfa::laws::lines_are_of_tables;
+use dcv_language::laws::{
+    canonical_for_same_behaviours, no_table_has_fewer_states, one_canonical_table,
+};
 
 /// The text of an automaton is a text of the form, and keeps the table rules.
 pub fn printed_texts_are_good()
@@ -16,4 +21,34 @@ pub fn printed_texts_stand_for_automata()
     ensures suffixes { PrintedSuffixes }
 {
     lines_are_of_tables();
+}
+
+/// What is printed of an automaton says the canonical automaton of the words that it accepts.
+pub fn printed_is_automaton()
+    ensures { PrintedIsAutomaton }
+{
+    lines_are_of_tables();
+}
+
+/// What says the canonical automaton of a set is determined, but for its suffixes.
+pub fn one_automaton()
+    ensures { OneAutomaton }
+{
+    one_canonical_table();
+    lines_are_of_tables();
+}
+
+/// What says the automaton of a set says that of each set with the same behaviours.
+pub fn automaton_of_same_behaviours()
+    ensures { AutomatonOfSameBehaviours }
+{
+    canonical_for_same_behaviours();
+}
+
+/// No table automaton for a set has fewer states than what says the automaton of the set.
+pub fn automaton_has_fewest_states()
+    ensures { AutomatonHasFewestStates }
+{
+    no_table_has_fewer_states();
+    good_files_are_tables();
 }

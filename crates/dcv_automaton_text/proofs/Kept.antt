@@ -1,4 +1,4 @@
--- A file keeps the table rules where each word of each line does.
+-- A file keeps the table rules where each word of each line does. Here is one direction; `GoodFiles` goes the other way.
 use Rattle.std.proofs.Common.{◌≡◌, ℕ, suc, ◌+◌, ◌<◌, Bool, true, false, ◌&&◌, List, [], ◌∷◌, ◌++◌, length, get_or, None, refl, ◌∙◌, subst, arith}
 use Rattle.std.specs.List.{list_all, flat_map, enumerate_from, zip}
 use Rattle.std.proofs.lemmas.List.Folds.{list_all-append}
@@ -17,6 +17,10 @@ pub record AllKeep (words : List (List ℕ × Bool)) : Type 0 where
 
 pub none_kept : AllKeep []
 none_kept = record { all = refl }
+
+pub both : (a b : Bool) → (a && b) ≡ true → (a ≡ true) × (b ≡ true)
+both true b h = (refl, h)
+both false b h = absurd cc
 
 pub both_true : (a b : Bool) → a ≡ true → b ≡ true → (a && b) ≡ true
 both_true a b first second = (λ i. first i && second i) ∙ refl
