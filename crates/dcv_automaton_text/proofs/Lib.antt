@@ -1,3 +1,4 @@
+pub mod AccessLines
 mod Examples
 pub mod GoodFiles
 pub mod GoodTables

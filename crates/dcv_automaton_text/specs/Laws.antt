@@ -1,9 +1,11 @@
 -- The laws that `src/laws.rt` proves, of the text of an automaton.
-use Rattle.std.specs.Prelude.{◌≡◌, ℕ, List, length}
-use Rattle.dcv_language.specs.Table.{IsTable}
+use Rattle.std.specs.Prelude.{◌≡◌, ℕ, ◌≤◌, List, length}
+use Rattle.dcv_language.specs.Certificate.{IsCertificate}
+use Rattle.dcv_language.specs.Language.{Language}
+use Rattle.dcv_language.specs.Table.{Table, IsTable, AcceptsExactly}
 use Rattle.dcv_automaton_text.specs.File.{AutomatonFile}
 use Rattle.dcv_automaton_text.specs.Form.{HasForm}
-use Rattle.dcv_automaton_text.specs.Meaning.{table_of}
+use Rattle.dcv_automaton_text.specs.Meaning.{table_of, access_words_of, suffix_words_of}
 use Rattle.dcv_automaton_text.specs.Rules.{IsGood}
 
 -- a text has one file at most
@@ -17,3 +19,9 @@ GoodFilesAreTables = (file : AutomatonFile) → IsGood file → IsTable (length 
 -- with as many states as it says
 abbrev pub TableHasTheFilesStates : Type 0
 TableHasTheFilesStates = (file : AutomatonFile) → IsGood file → length (table_of file) ≡ file.states
+
+-- where the suffixes of a file tell its access words apart by a set of words, no table automaton for the set has fewer states
+abbrev pub WordsShowFewestStates : Type 0
+WordsShowFewestStates = (k : ℕ) (L : Language) (file : AutomatonFile) (table : Table)
+    → IsGood file → IsCertificate k L (access_words_of file) (suffix_words_of file)
+    → IsTable k table → AcceptsExactly k table L → file.states ≤ length table

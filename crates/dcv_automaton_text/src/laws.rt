@@ -1,6 +1,7 @@
 //! Laws of the text of an automaton. Each function here does nothing: its contract is the law.
-ghost use Rattle.dcv_automaton_text.specs.Laws.{OneFile, GoodFilesAreTables, TableHasTheFilesStates};
+ghost use Rattle.dcv_automaton_text.specs.Laws.{OneFile, GoodFilesAreTables, TableHasTheFilesStates, WordsShowFewestStates};
 
+use dcv_language::laws::no_table_has_fewer_states;
 use dcv_word::laws::{letters_of_width_are_all, lines_are_read_back};
 
 /// A text of the form has one file.
@@ -16,4 +17,11 @@ pub fn good_files_are_tables()
     ensures states { TableHasTheFilesStates }
 {
     letters_of_width_are_all();
+}
+
+/// Where the suffixes of a file tell its access words apart by a set, no table automaton for the set has fewer states.
+pub fn words_show_fewest_states()
+    ensures { WordsShowFewestStates }
+{
+    no_table_has_fewer_states();
 }

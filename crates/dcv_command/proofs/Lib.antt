@@ -1,2 +1,12 @@
 pub mod Examples
-mod TakenWords
+pub mod Faults
+pub mod Commands
+pub mod Listed
+pub mod Plain
+pub mod Numbers
+pub mod Requests
+pub mod Steps
+pub mod Rows
+pub mod Leaves
+pub mod TakenWords
+pub mod Ranges

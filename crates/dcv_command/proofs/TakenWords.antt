@@ -1,6 +1,7 @@
 -- Words in which no fault is found name a subcommand, and each subcommand asks for something.
-use Rattle.std.proofs.Common.{◌≡◌, ℕ, Bool, true, false, List, [], ◌∷◌, ◌++◌, Option, None, Some, refl, sym, subst, codes, ap, ◌∙◌}
+use Rattle.std.proofs.Common.{◌≡◌, ℕ, Bool, true, false, List, [], ◌∷◌, Option, None, Some, refl, sym, subst, codes, ap, ◌∙◌}
 use Rattle.std.specs.Prelude.{IsSome, is_some, ◌||◌, option_and_then, option_map, fold, not, ◌&&◌, if◌then◌else◌}
+use Rattle.std.specs.Option.{option_map_or}
 use Rattle.std.specs.Str.{bytes_eq}
 use Rattle.std.specs.List.{list_any}
 use Rattle.std.proofs.lemmas.Slice.Eq.{bytes_eq-Decides}
@@ -11,29 +12,18 @@ use Rattle.std.proofs.lemmas.Bool.{false_from_ne_true}
 use Rattle.clap.specs.Facts.{explicit_source}
 use Rattle.clap.specs.Takes.{is_given}
 use Rattle.clap.specs.Lexer.{long_of, short_of}
-use Rattle.clap.specs.Walk.{answers_to, finished, settled, nothing_held, walk, walk_from, walked, walked_from, word_met, subcommand_met, subcommand_or_other, long_or_other, short_or_plain, after_flag, plain_word, after_step, to_positional, arg_by_index}
-use Rattle.clap.specs.Simple.{entered, label_of, rows_at, names_of}
+use Rattle.clap.specs.Walk.{answers_to, finished, settled, nothing_held, walk, walk_from, walked, walked_from, word_met, rows_after, subcommand_met, subcommand_or_other, long_or_other, after_flag, plain_word, after_step, to_positional, arg_by_index}
+use Rattle.clap.specs.Simple.{built_leaf, entered, help_shape, label_of, rows_at, names_of, subcommand_of}
 use Rattle.clap.specs.declared.error.kind.ErrorKind.TheVariants.{DisplayHelp, InvalidSubcommand}
-use Rattle.clap.specs.Kinds.{Kinds, or_else, check_kinds}
+use Rattle.clap.specs.Kinds.{Kinds, check_kinds}
 use Rattle.clap.specs.Faults.{check_fault, level_fault, entered_fault, settle_fault, defaults_fault, walk_fault, turn_fault, step_fault, word_fault, other_fault}
 use Rattle.clap.proofs.OnLiterals.{clap_on_literals}
 use Rattle.dcv_command.specs.Program.{program}
-use Rattle.dcv_command.specs.Request.{IsTaken, request_in, request_of}
+use Rattle.dcv_command.specs.Request.{IsTaken, Request, request_in, request_of, request_of_subcommand}
 use Rattle.dcv_command.specs.Laws.{TakenWordsAsk}
-
--- ---- parts of a list of faults
-
-first_is_empty : (first last : Kinds) → or_else first last ≡ [] → first ≡ []
-first_is_empty [] last e = refl
-first_is_empty (kind ∷ kinds) last e = e
-
-last_is_empty : (first last : Kinds) → or_else first last ≡ [] → last ≡ []
-last_is_empty [] last e = e
-last_is_empty (kind ∷ kinds) last e = let wrong : kind ∷ kinds ≡ [] = e in cc
-
-front_is_empty : (stopped : Bool) (front back : Kinds) → stopped ≡ false → (if stopped then [] else or_else front back) ≡ [] → front ≡ []
-front_is_empty true front back is e = absurd (true≢false is)
-front_is_empty false front back is e = first_is_empty front back e
+use Rattle.dcv_command.proofs.Commands.{leaf}
+use Rattle.dcv_command.proofs.Leaves.{leaf_asks}
+use Rattle.dcv_command.proofs.Steps.{first_is_empty, going_has_none, last_is_empty}
 
 -- ---- where a subcommand is required, one is entered
 
@@ -126,7 +116,7 @@ module _ (shape : Shape) (names : Names) (enabled : shape.disable_help_subcomman
   turn_no_help w word None is before none =
       step_no_help shape.rules word w met.0 met.1 before
       (word_no_help shape names w.is_trailing w.waiting w.position word w.held enabled
-      (front_is_empty (is_some w.stopped) (word_fault shape names w.is_trailing w.waiting word w.held) (step_fault shape w.position met.0 met.1) (ap is_some is) none))
+      (first_is_empty (word_fault shape names w.is_trailing w.waiting word w.held) (step_fault shape w.position met.0 met.1) (going_has_none (is_some w.stopped) _ (ap is_some is) none)))
     where
       met : Held × Step
       met = word_met shape.rules names w.is_trailing w.waiting w.position word w.held
@@ -140,30 +130,61 @@ module _ (shape : Shape) (names : Names) (enabled : shape.disable_help_subcomman
 
 -- ---- what the subcommand asks for
 
-found_asks : (one two three : Shape) (rest : List Text) (first second third : Bool) → one.name ≡ codes "check" → two.name ≡ codes "automaton" → third ≡ false
+-- words in which the subcommand has no fault ask for something
+abbrev Asks : Shape → List Text → Type 0
+Asks shape words = level_fault shape [] nothing_held words false [] ≡ [] → IsSome (request_in shape.name (rows_after shape.rules [] words))
+
+check_asks : (words : List Text) → Asks (leaf (codes "check")) words
+unfolding clap_on_literals
+check_asks words = leaf_asks (codes "check") words (λ file limits. refl)
+
+automaton_asks : (words : List Text) → Asks (leaf (codes "automaton")) words
+unfolding clap_on_literals
+automaton_asks words = leaf_asks (codes "automaton") words (λ file limits. refl)
+
+found_asks : (one two three : Shape) (rest : List Text) (first second third : Bool) → Asks one rest → Asks two rest → third ≡ false
+    → option_map_or (λ shape. level_fault shape [] nothing_held rest false []) (if first then Some one else (if second then Some two else (if third then Some three else None))) [] ≡ []
     → IsSome (option_map (λ s. rows_at s rest) (if first then Some one else (if second then Some two else (if third then Some three else None))))
     → IsSome (option_and_then (λ found. request_in found.0 found.1)
     (option_map (λ s. rows_at s rest) (if first then Some one else (if second then Some two else (if third then Some three else None)))))
-unfolding clap_on_literals
-found_asks one two three rest true second third check automaton none e = rw check refl
-found_asks one two three rest false true third check automaton none e = rw automaton refl
-found_asks one two three rest false false true check automaton none e = absurd (true≢false none)
-found_asks one two three rest false false false check automaton none e = e
+found_asks one two three rest true second third check automaton none no_fault e = check no_fault
+found_asks one two three rest false true third check automaton none no_fault e = automaton no_fault
+found_asks one two three rest false false true check automaton none no_fault e = absurd (true≢false none)
+found_asks one two three rest false false false check automaton none no_fault e = e
 
 help_names_none : (name : Text) → IsNoHelp name → bytes_eq (codes "help") name ≡ false
 help_names_none name differs =
     false_from_ne_true (bytes_eq (codes "help") name)
     (λ same. true≢false (sym ((bytes_eq-Decides name (codes "help")).1 (sym ((bytes_eq-Decides (codes "help") name).0 same))) ∙ differs))
 
-asks : (stop : Option (Text × List Text)) → StopsNotAtHelp stop → IsSome (entered (built program) stop)
+stop_asks : (stop : Option (Text × List Text)) → StopsNotAtHelp stop → entered_fault (built program) stop ≡ [] → IsSome (entered (built program) stop)
     → IsSome (option_and_then (λ found. request_in found.0 found.1) (entered (built program) stop))
 unfolding clap_on_literals
-asks None before e = e
-asks (Some p) before e = found_asks _ _ _ p.1 _ _ _ refl refl (ap (λ (b : Bool). b || false) (help_names_none p.0 before)) e
+stop_asks None before no_fault e = e
+stop_asks (Some p) before no_fault e =
+    found_asks (leaf (codes "check")) (leaf (codes "automaton")) (built_leaf help_shape) p.1 (answers_to p.0 (label_of (leaf (codes "check"))))
+    (answers_to p.0 (label_of (leaf (codes "automaton")))) (answers_to p.0 (label_of (built_leaf help_shape))) (check_asks p.1) (automaton_asks p.1)
+    (ap (λ (b : Bool). b || false) (help_names_none p.0 before)) no_fault e
 
 pub taken_words_ask : TakenWordsAsk
 taken_words_ask words taken =
-    let stop = (walk (built program).top.rules (names_of (built program)) nothing_held words).stopped in
-    asks stop
-    (walk_no_help (built program).top (names_of (built program)) refl words (walk_from nothing_held) tt (first_is_empty (walk_fault (built program).top (names_of (built program)) (walk_from nothing_held) words) _ taken))
-    (level_is_entered (built program).top (names_of (built program)) nothing_held words (is_some (entered (built program) stop)) (entered_fault (built program) stop) refl taken)
+    stop_asks stop (walk_no_help top (names_of (built program)) refl words (walk_from nothing_held) tt (first_is_empty walk_faults _ taken))
+    (first_is_empty (entered_fault (built program) stop) _ (last_is_empty walk_faults _ taken))
+    (level_is_entered top (names_of (built program)) nothing_held words (is_some (entered (built program) stop)) (entered_fault (built program) stop) refl taken)
+  where
+    top : Shape
+    top = (built program).top
+
+    stop : Option (Text × List Text)
+    stop = (walk (built program).top.rules (names_of (built program)) nothing_held words).stopped
+
+    walk_faults : Kinds
+    walk_faults = walk_fault (built program).top (names_of (built program)) (walk_from nothing_held) words
+
+it_is_some : (asked : Option Request) → IsSome asked → None ≡ asked → ⊥
+it_is_some None some none = true≢false (sym some)
+it_is_some (Some request) some none = let wrong : None ≡ Some request = none in cc
+
+-- matches of taken words ask for something
+pub matches_ask : (words : List Text) (found : Option (Text × List Row)) → IsTaken words → found ≡ subcommand_of program words → None ≡ request_of_subcommand found → ⊥
+matches_ask words found taken same none = it_is_some (request_of words) (taken_words_ask words taken) (none ∙ ap request_of_subcommand same)

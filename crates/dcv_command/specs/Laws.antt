@@ -1,8 +1,15 @@
--- The law that `src/laws.rt` proves.
-use Rattle.std.specs.Prelude.{List, IsSome}
+-- The laws that `src/laws.rt` proves.
+use Rattle.std.specs.Prelude.{List, ◌∷◌, IsSome, codes}
 use Rattle.clap.specs.Words.{Text}
-use Rattle.dcv_command.specs.Request.{IsTaken, request_of}
+use Rattle.dcv_command.specs.Listed.{Options, option_words, limits_given, AreAllowed, IsFileName, AskFor}
+use Rattle.dcv_command.specs.Request.{Check, Automaton, IsTaken, request_of}
 
--- words that are taken ask for something
+-- words in which `clap` finds no fault ask for something
 abbrev pub TakenWordsAsk : Type 0
 TakenWordsAsk = (words : List Text) → IsTaken words → IsSome (request_of words)
+
+-- a subcommand's name, a file's name that does not begin with a dash, and each option at most once, with a number of its range in decimal
+abbrev pub ListedWordsAreTaken : Type 0
+ListedWordsAreTaken = (name : Text) (options : Options) → IsFileName name → AreAllowed options
+    → AskFor (codes "check" ∷ name ∷ option_words options) (Check name (limits_given options))
+    × AskFor (codes "automaton" ∷ name ∷ option_words options) (Automaton name (limits_given options))

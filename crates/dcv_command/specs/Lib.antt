@@ -1,4 +1,5 @@
 pub mod Program
 pub mod Request
+pub mod Listed
 pub mod Laws
 pub mod Seen

@@ -3,6 +3,7 @@
 --     file_operand       a file's name, any text
 --     limit_option       a whole number from 1 to the most, with a default
 --     over_a_formula     a subcommand over one formula file, with both limits
+--     most_states        the most states of a step that may be asked for, and the most diagram nodes
 use Rattle.std.specs.Prelude.{ℕ, true, false, List, [], ◌∷◌, Some, codes}
 use Rattle.clap.specs.Words.{App, Shape, Rule, new_rule}
 use Rattle.clap.specs.Simple.{new_shape}
@@ -19,9 +20,15 @@ limit_option name most default = record (new_rule name) {
   value_names = 1;
 }
 
+abbrev pub most_states : ℕ
+most_states = 32000
+
+abbrev pub most_nodes : ℕ
+most_nodes = 1000000
+
 abbrev pub over_a_formula : List ℕ → Shape
 over_a_formula name = record (new_shape name) {
-  rules = file_operand ∷ limit_option (codes "states") 32000 (codes "30000") ∷ limit_option (codes "nodes") 1000000 (codes "1000000") ∷ [];
+  rules = file_operand ∷ limit_option (codes "states") most_states (codes "30000") ∷ limit_option (codes "nodes") most_nodes (codes "1000000") ∷ [];
 }
 
 abbrev pub subcommands : List Shape

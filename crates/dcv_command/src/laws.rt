@@ -1,7 +1,13 @@
-//! A law on words, the contract of a function that does nothing.
-ghost use Rattle.dcv_command.specs.Laws.{TakenWordsAsk};
+//! Laws on the words of the command line, each the contract of a function that does nothing.
+ghost use Rattle.dcv_command.specs.Laws.{TakenWordsAsk, ListedWordsAreTaken};
 
-/// Words that are taken ask for something.
+/// Words in which `clap` finds no fault ask for something.
 pub fn taken_words_ask()
     ensures { TakenWordsAsk }
+{}
+
+/// A subcommand's name, a file's name that is not empty and does not begin with a dash, and then each option at most once, with
+/// a number of its range in decimal, are always taken, and ask for what they say.
+pub fn listed_words_are_taken()
+    ensures { ListedWordsAreTaken }
 {}

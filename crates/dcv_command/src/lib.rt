@@ -2,7 +2,6 @@
 #![tactic(auto)]
 
 pub mod laws;
-mod parts;
 mod program;
 mod words;
 

@@ -8,16 +8,48 @@ use clap::builder::ValueParser;
 use clap::{Arg, Command};
 use std::alloc::{AllocError, Global};
 
-const ABOUT: &str = "Decides whether a requirement about stretches of time always holds, and shows a shortest behaviour that breaks it.";
+const ABOUT: &str =
+    "Decides whether a requirement about stretches of time, a formula of Quantified Discrete-time Duration Calculus, always holds. \
+Shows a shortest behaviour that breaks it, or the minimal automaton of the behaviours that satisfy it.";
+
+const EXAMPLE_AND_STATUS: &str =
+    "Example, with `var door_closed; infer [[door_closed]];` in the file door.dc:
+  dcvalid check door.dc
+  dcvalid automaton door.dc --states 1000
+
+Status:
+  0  each behaviour satisfies the formula
+  1  some behaviour does not
+  2  the words are no command, or ask for help
+  3  the file holds no formula, for the fault that is named, at its offset in bytes
+  4  a step of the formula has more states or nodes than the limit
+  5  the file could not be opened or read
+  6  the report could not be written
+  7  memory ran out";
+
+/// The most states of a step that may be asked for.
+pub(crate) const MOST_STATES: u32 = 32_000;
+
+/// The most diagram nodes of a step that may be asked for.
+pub(crate) const MOST_NODES: u32 = 1_000_000;
 
 // The command of the program.
 pub(crate) fn program<'a>(alloc: Global) -> Result<Command<'a>, AllocError>
     ensures { IfOk result (λ command. app_of command ≡ the_program) }
 {
-    let check = over_a_formula(alloc, "check", "Writes the verdict, with a shortest counterexample and a shortest example")?;
-    let automaton = over_a_formula(alloc, "automaton", "Writes the minimal automaton, with words that show that it is minimal")?;
+    let check = over_a_formula(
+        alloc,
+        "check",
+        "Writes the verdict, with a shortest counterexample and a shortest example",
+    )?;
+    let automaton = over_a_formula(
+        alloc,
+        "automaton",
+        "Writes the minimal automaton, with words that show that it is minimal",
+    )?;
     Command::new(alloc, "dcvalid")
         .about(ABOUT)
+        .after_help(EXAMPLE_AND_STATUS)
         .no_binary_name(true)
         .subcommand_required(true)
         .subcommand(check)?
@@ -25,15 +57,31 @@ pub(crate) fn program<'a>(alloc: Global) -> Result<Command<'a>, AllocError>
 }
 
 // A subcommand over one formula file.
-fn over_a_formula<'a>(alloc: Global, name: &'a str, about: &'a str) -> Result<Command<'a>, AllocError>
+fn over_a_formula<'a>(
+    alloc: Global,
+    name: &'a str,
+    about: &'a str,
+) -> Result<Command<'a>, AllocError>
     ensures app { IfOk result (λ command. app_of command ≡ record { top = formula_shape name.entry.now; subs = [] }) }
     ensures local { IfOk result (λ command. (fields_of command).has_globals ≡ false) }
 {
     Command::new(alloc, name)
         .about(about)
         .arg(file_operand(alloc))?
-        .arg(limit(alloc, "states", 32_000, "30000", "The most states of a step"))?
-        .arg(limit(alloc, "nodes", 1_000_000, "1000000", "The most diagram nodes of a step"))
+        .arg(limit(
+            alloc,
+            "states",
+            MOST_STATES,
+            "30000",
+            "The most states that a step may have, from 1 to 32000",
+        ))?
+        .arg(limit(
+            alloc,
+            "nodes",
+            MOST_NODES,
+            "1000000",
+            "The most diagram nodes that a step may have, from 1 to 1000000",
+        ))
 }
 
 // The name of a formula file.
@@ -48,13 +96,13 @@ fn file_operand<'a>(alloc: Global) -> Arg<'a>
 }
 
 // A limit on the steps of a formula.
-fn limit<'a>(alloc: Global, name: &'a str, most: u64, default: &'a str, help: &'a str) -> Arg<'a>
+fn limit<'a>(alloc: Global, name: &'a str, most: u32, default: &'a str, help: &'a str) -> Arg<'a>
     ensures rule { rule_of result ≡ limit_option name.entry.now most default.entry.now }
     ensures local { result.global ≡ false }
 {
     Arg::new(alloc, name)
         .long(name)
-        .value_parser(ValueParser::unsigned(1, most))
+        .value_parser(ValueParser::unsigned(1, u64::from(most)))
         .default_value(default)
         .value_name("N")
         .help(help)

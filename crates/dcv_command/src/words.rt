@@ -1,11 +1,19 @@
 // What the words of the command line ask for.
-ghost use Rattle.std.specs.Prelude.{◌≡◌, map, IfOk, IfErr, Some};
-ghost use Rattle.dcv_command.specs.Request.{IsTaken, request_of, limits_in, AreInRange};
+ghost use Rattle.std.specs.Prelude.{◌≡◌, ◌≢◌, true, [], map, option_map, IfOk, IfErr, Some};
+ghost use Rattle.clap.specs.Words.{fault_of, found_of, rows_of, subcommand_of, subcommand_rows_of, takes};
+ghost use Rattle.dcv_command.specs.Program.{program as the_program};
+ghost use Rattle.dcv_command.specs.Request.{AreInRange, IsTaken, file_in, limits_in, request_of, request_of_subcommand};
+ghost use Rattle.dcv_command.specs.Request.{limits_among as limits_among_rows, number_in as number_in_rows};
+ghost use Rattle.dcv_command.specs.declared.words.WordsFault.TheVariants.{Memory};
 ghost use Rattle.dcv_command.specs.Seen.{asked_by, IsUsageOnlyWhere};
 
+use crate::program::{MOST_NODES, MOST_STATES, program};
+use clap::ArgMatches;
+use clap::error::ErrorKind;
 use dcv_explore::Limits;
-use std::alloc::Global;
+use std::alloc::{AllocError, Global};
 use std::convert::AsStr;
+use std::fmt::Display;
 
 /// What the program is asked for.
 #[derive(Clone, Copy, Debug)]
@@ -14,6 +22,26 @@ pub enum Request<'a> {
     Check { file: &'a str, limits: Limits },
     /// Its minimal automaton.
     Automaton { file: &'a str, limits: Limits },
+}
+
+impl<'a> Request<'a> {
+    /// The name of the file that it reads.
+    pub fn file(self) -> &'a str
+        ensures { result.now ≡ file_in (asked_by self.entry) }
+    {
+        match self {
+            Request::Check { file, .. } | Request::Automaton { file, .. } => file,
+        }
+    }
+
+    /// The limits of each step.
+    pub fn limits(self) -> Limits
+        ensures { result ≡ limits_in (asked_by self.entry) }
+    {
+        match self {
+            Request::Check { limits, .. } | Request::Automaton { limits, .. } => limits,
+        }
+    }
 }
 
 /// Why words ask for nothing.
@@ -31,10 +59,77 @@ pub fn read_words<'a, S: AsStr>(alloc: Global, words: &'a [S]) -> Result<Request
     ensures asked { IfOk result (λ request. request_of (map S.text words.entry.now) ≡ Some (asked_by request)) }
     ensures limits { IfOk result (λ request. AreInRange (limits_in (asked_by request))) }
     ensures usage { IfErr result (IsUsageOnlyWhere (¬ IsTaken (map S.text words.entry.now))) }
+    ensures passes { IfErr result (IsUsageOnlyWhere (¬ (takes the_program (map S.text words.entry.now) ≡ true))) }
 {
-    if words.is_empty() {
-        return Err(WordsFault::Memory);
+    let matches = matches_of(alloc, words)?;
+    match request_in(&matches) {
+        Some(request) => Ok(request),
+        None => unreachable!(),
     }
-    let _: Vec<u8> = Vec::new(alloc);
-    Err(WordsFault::Memory)
+}
+
+// The matches of the words by `clap`.
+fn matches_of<'a, S: AsStr>(alloc: Global, words: &'a [S]) -> Result<ArgMatches<'a>, WordsFault>
+    ensures no_fault { IfOk result (λ matches. fault_of the_program (map S.text words.entry.now) ≡ []) }
+    ensures subcommand { IfOk result (λ matches. subcommand_rows_of matches ≡ subcommand_of the_program (map S.text words.entry.now)) }
+    ensures usage { IfErr result (IsUsageOnlyWhere (fault_of the_program (map S.text words.entry.now) ≢ [])) }
+    ensures passes { IfErr result (IsUsageOnlyWhere (¬ (takes the_program (map S.text words.entry.now) ≡ true))) }
+{
+    let command = program(alloc)?;
+    match command.try_get_matches_from(words) {
+        Ok(matches) => Ok(matches),
+        Err(error) if error.kind() == ErrorKind::OutOfMemory => Err(WordsFault::Memory),
+        Err(error) => Err(usage(alloc, &error)),
+    }
+}
+
+// The words are refused with this text.
+fn usage<T: Display>(alloc: Global, text: &T) -> WordsFault {
+    match text.to_string(alloc) {
+        Ok(text) => WordsFault::Usage { text },
+        Err(_) => WordsFault::Memory,
+    }
+}
+
+// What the matches of the words ask for.
+fn request_in<'a>(matches: &ArgMatches<'a>) -> Option<Request<'a>>
+    ensures { option_map asked_by result ≡ request_of_subcommand (subcommand_rows_of matches.now) }
+{
+    let (name, matches) = matches.subcommand()?;
+    let file = matches.get_str("file")?;
+    let limits = limits_among(matches)?;
+    match name {
+        "check" => Some(Request::Check { file, limits }),
+        "automaton" => Some(Request::Automaton { file, limits }),
+        _ => None,
+    }
+}
+
+// The limits that are asked for.
+fn limits_among(matches: &ArgMatches<'_>) -> Option<Limits>
+    ensures { result ≡ limits_among_rows (rows_of (found_of matches.now)) }
+{
+    let states = number_in(matches, "states", MOST_STATES)?;
+    let nodes = number_in(matches, "nodes", MOST_NODES)?;
+    Some(Limits { states, nodes })
+}
+
+// The value of an option, a number from 1 to the most.
+fn number_in(matches: &ArgMatches<'_>, id: &str, most: u32) -> Option<u32>
+    ensures { result ≡ number_in_rows most id.now (rows_of (found_of matches.now)) }
+{
+    let number = matches.get_one::<u32>(id)?;
+    if 1 <= number && number <= most {
+        Some(number)
+    } else {
+        None
+    }
+}
+
+impl From<AllocError> for WordsFault {
+    ghost from_gives = { λ _ fault. fault ≡ Memory };
+
+    fn from(_: AllocError) -> Self {
+        WordsFault::Memory
+    }
 }

@@ -1,4 +1,3 @@
-mod AccessLines
 mod FileArenas
 mod FileNumbers
 mod LeastWords

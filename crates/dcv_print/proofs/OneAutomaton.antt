@@ -16,11 +16,11 @@ use Rattle.dcv_dfa.specs.NodeLines.{NodeLinesValue, lines_and_rows, node_lines_o
 use Rattle.dcv_automaton_text.specs.File.{NodeLine, StateLine, AccessLine, AutomatonFile}
 use Rattle.dcv_automaton_text.specs.Meaning.{table_of, access_words_of}
 use Rattle.dcv_automaton_text.specs.Rules.{slot_of, is_listed}
+use Rattle.dcv_automaton_text.proofs.AccessLines.{IsWordOf, one_access, lines_spell}
 use Rattle.dcv_automaton_text.proofs.GoodFiles.{IsGoodFile, good_file}
 use Rattle.dcv_automaton_text.proofs.GoodTables.{length-table_of, no_line, state-at}
 use Rattle.dcv_print.specs.Automaton.{IsAutomatonOf, AreSameButForSuffixes}
 use Rattle.dcv_print.specs.Laws.{OneAutomaton}
-use Rattle.dcv_print.proofs.AccessLines.{IsWordOf, one_access, lines_spell}
 use Rattle.dcv_print.proofs.FileArenas.{raw_of, no_node, raw_has_the_table, same_name, is_raw}
 use Rattle.dcv_print.proofs.FileNumbers.{child_for, line_for, one_child, numbered_lines}
 

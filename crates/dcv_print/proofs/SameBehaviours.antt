@@ -1,11 +1,11 @@
 -- What says the automaton of a set says that of each set with the same behaviours, and no table automaton for the set has fewer states.
-use Rattle.std.proofs.Common.{ℕ, List, ◌++◌, get_or, sym, ◌∙◌, arith}
+use Rattle.std.proofs.Common.{ℕ, List, ◌++◌, get_or, sym, ◌∙◌}
 use Rattle.dcv_word.specs.Behaviour.{Word}
 use Rattle.dcv_language.specs.Apart.{TellsApart}
 use Rattle.dcv_language.specs.Certificate.{TellsNewPair, AreToldBy, IsCertificate}
 use Rattle.dcv_language.specs.Language.{Language, HaveSameBehaviours}
-use Rattle.dcv_language.specs.Laws.{CanonicalForSameBehaviours, CanonicalIsMinimal}
-use Rattle.dcv_automaton_text.specs.Laws.{TableHasTheFilesStates}
+use Rattle.dcv_language.specs.Laws.{CanonicalForSameBehaviours}
+use Rattle.dcv_automaton_text.specs.Laws.{WordsShowFewestStates}
 use Rattle.dcv_automaton_text.specs.Meaning.{table_of, access_words_of, suffix_words_of}
 use Rattle.dcv_print.specs.Laws.{AutomatonOfSameBehaviours, AutomatonHasFewestStates}
 
@@ -52,8 +52,5 @@ automaton_of_same_behaviours canonical k L M names file same is = record {
   numbered = is.numbered;
 }
 
-pub automaton_has_fewest_states : CanonicalIsMinimal → TableHasTheFilesStates → AutomatonHasFewestStates
-automaton_has_fewest_states minimal states k L names file table is a_table exact =
-    let size = states file is.rules in
-    let least = minimal k L (table_of file) table (access_words_of file) is.canonical a_table exact in
-    omega arith
+pub automaton_has_fewest_states : WordsShowFewestStates → AutomatonHasFewestStates
+automaton_has_fewest_states show k L names file table is a_table exact = show k L file table is.rules is.certificate a_table exact

@@ -2,7 +2,7 @@
 ghost use Rattle.dcv_print.specs.Laws.{PrintedIsSpellable, PrintedIsGood, PrintedTable, PrintedAccess, PrintedSuffixes};
 ghost use Rattle.dcv_print.specs.Laws.{PrintedIsAutomaton, OneAutomaton, AutomatonOfSameBehaviours, AutomatonHasFewestStates};
 
-use dcv_automaton_text::laws::good_files_are_tables;
+use dcv_automaton_text::laws::words_show_fewest_states;
 use dcv_dfa::laws::lines_are_of_tables;
 use dcv_language::laws::{
     canonical_for_same_behaviours, no_table_has_fewer_states, one_canonical_table,
@@ -49,6 +49,5 @@ pub fn automaton_of_same_behaviours()
 pub fn automaton_has_fewest_states()
     ensures { AutomatonHasFewestStates }
 {
-    no_table_has_fewer_states();
-    good_files_are_tables();
+    words_show_fewest_states();
 }

@@ -1,4 +1,5 @@
--- How the access words of a file are spelled is determined by the words: each is empty, or one letter, or that of one other state and a letter.
+-- The access words of a file: how they are spelled is determined by the words, and there is one for each state. A word is empty, or one letter,
+-- or that of another state and a letter.
 use Rattle.std.proofs.Common.{◌≡◌, ◌≢◌, ℕ, zero, suc, ◌+◌, ◌<◌, Bool, true, false, ◌&&◌, ◌||◌, List, [], ◌∷◌, ◌++◌, length, map, drop, fold, get_or, inl, inr, refl, sym, ap, ◌∙◌, subst, arith}
 use Rattle.std.specs.Prelude.{nat_eq, nat_lt}
 use Rattle.std.specs.Cmp.{unsigned_Decides}
@@ -6,10 +7,12 @@ use Rattle.std.specs.List.{AllPairs}
 use Rattle.std.proofs.lemmas.Bool.{cases_order, ltb-true}
 use Rattle.std.proofs.lemmas.List.{length-append, length-map, get_or-map, get_or_append_left, get_or_push}
 use Rattle.dcv_word.specs.Behaviour.{Word}
+use Rattle.dcv_language.specs.Laws.{CertifiedIsMinimal}
 use Rattle.dcv_automaton_text.specs.File.{Access, EmptyAccess, StartAccess, AfterAccess, AccessLine, AutomatonFile}
-use Rattle.dcv_automaton_text.specs.Meaning.{access_word_of, access_words_from, access_words_of}
+use Rattle.dcv_automaton_text.specs.Laws.{WordsShowFewestStates}
+use Rattle.dcv_automaton_text.specs.Meaning.{access_word_of, access_words_from, access_words_of, suffix_words_of}
 use Rattle.dcv_automaton_text.specs.Rules.{goes_before, keeps_how_access}
-use Rattle.dcv_automaton_text.proofs.GoodFiles.{IsGoodFile}
+use Rattle.dcv_automaton_text.proofs.GoodFiles.{IsGoodFile, good_file}
 use Rattle.dcv_automaton_text.proofs.Kept.{both, AreKept}
 
 -- ---- what a line says of a word, given the words of all states
@@ -195,3 +198,23 @@ lines_spell file is k d within =
     let here : j < length file.access_lines = omega arith in
     subst (λ access. AreKept (keeps_how_access file j access)) (sym (at j e here)) (is.access j d here).how)
     k d.access (omega arith))
+
+-- a file has as many access words as states
+length-words_from : (accesses : List Access) → 0 < length accesses → length (access_words_from accesses) ≡ length accesses
+length-words_from [] some = absurd (omega arith)
+length-words_from (start ∷ others) some = omega (arith, length-all others ([] ∷ []), length-behind (found_of others) (omega (arith, length-all others ([] ∷ []))))
+
+count_of_words : (file : AutomatonFile) → IsGoodFile file → length (access_words_of file) ≡ file.states
+unfolding access_words_of
+count_of_words file is =
+    let access = λ (line : AccessLine). line.access in
+    let size = length-map file.access_lines access in
+    let count = is.words in
+    let some = is.some in
+    length-words_from (map access file.access_lines) (omega arith) ∙ (let all : length (map access file.access_lines) ≡ file.states = omega arith in all)
+
+-- so where suffixes tell them all apart, each table automaton has as many states or more
+pub words_show_fewest_states : CertifiedIsMinimal → WordsShowFewestStates
+words_show_fewest_states minimal k L file table is certificate a_table exact =
+    let least = minimal k L (access_words_of file) (suffix_words_of file) table certificate a_table exact in
+    omega (arith, count_of_words file (good_file file is))

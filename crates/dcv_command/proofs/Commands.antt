@@ -1,0 +1,87 @@
+-- Words that begin with a subcommand's name: what `clap` finds in them is what it finds in the words behind the name.
+use Rattle.std.proofs.Common.{◌≡◌, refl, sym, ap, ◌∙◌, true, false, List, [], ◌∷◌, ◌++◌, Some, codes, is_some}
+use Rattle.std.specs.Prelude.{fold}
+use Rattle.std.proofs.lemmas.List.{append-nil, append_assoc}
+use Rattle.clap.specs.Words.{Kinds, Rule, Shape, Text, built, fault_of, subcommand_of}
+use Rattle.clap.specs.Kinds.{or_else}
+use Rattle.clap.specs.Walk.{Names, Walk, finished, nothing_held, rows_after, settled, walk, walk_from, walked}
+use Rattle.clap.specs.Simple.{built_leaf, entered, names_of}
+use Rattle.clap.specs.Faults.{check_fault, defaults_fault, entered_fault, level_fault, settle_fault, turn_fault, walk_fault}
+use Rattle.clap.proofs.OnLiterals.{clap_on_literals}
+use Rattle.dcv_command.specs.Program.{over_a_formula, program}
+
+-- ---- behind the name
+
+-- a walk that has met a subcommand, and the words behind its name
+abbrev pub stopped_at : Text → List Text → Walk
+stopped_at name seen = record (walk_from nothing_held) { stopped = Some (name, seen) }
+
+stays_stopped : (rules : List Rule) (names : Names) (name : Text) (seen rest : List Text)
+    → fold (walked rules names) (stopped_at name seen) rest ≡ stopped_at name (seen ++ rest)
+unfolding walked
+stays_stopped rules names name seen [] = ap (stopped_at name) (sym (append-nil seen))
+stays_stopped rules names name seen (word ∷ rest) =
+    stays_stopped rules names name (seen ++ word ∷ []) rest ∙ ap (stopped_at name) (append_assoc seen (word ∷ []) rest)
+
+no_more_faults : (shape : Shape) (names : Names) (name : Text) (seen rest : List Text) → walk_fault shape names (stopped_at name seen) rest ≡ []
+unfolding walk_fault walked
+no_more_faults shape names name seen [] = refl
+no_more_faults shape names name seen (word ∷ rest) = no_more_faults shape names name (seen ++ word ∷ []) rest
+
+nothing_else : (kinds : Kinds) → or_else kinds [] ≡ kinds
+nothing_else [] = refl
+nothing_else (kind ∷ kinds) = refl
+
+-- ---- the command's own words
+
+abbrev top : Shape
+top = (built program).top
+
+abbrev names : Names
+names = names_of (built program)
+
+-- the faults of the words, by the walk over them
+abbrev faults_by : Kinds → Walk → Kinds
+faults_by kinds w =
+    or_else kinds
+    (or_else (entered_fault (built program) w.stopped)
+    (or_else (settle_fault top.rules top.args_override_self w.held)
+    (or_else (defaults_fault (settled top.rules w.held).rows top.rules)
+    (check_fault top (finished top.rules w.held) (is_some (entered (built program) w.stopped))))))
+
+-- a subcommand over a formula file, as it is built
+abbrev pub leaf : Text → Shape
+leaf name = built_leaf (record (over_a_formula name) { no_binary_name = true })
+
+-- what is computed of a name: the walk stops at it, with no fault, and enters the subcommand
+pub record IsSubcommand (name : Text) : Type 0 where
+  pub met : walked top.rules names (walk_from nothing_held) name ≡ stopped_at name []
+  pub no_fault : turn_fault top names (walk_from nothing_held) name ≡ []
+  pub faults : (rest : List Text) → faults_by [] (stopped_at name rest) ≡ or_else (level_fault (leaf name) [] nothing_held rest false []) []
+  pub found : (rest : List Text) → entered (built program) (Some (name, rest)) ≡ Some (name, rows_after (leaf name).rules [] rest)
+
+module _ (name : Text) (is : IsSubcommand name) (rest : List Text) where
+  is_met : walk top.rules names nothing_held (name ∷ rest) ≡ stopped_at name rest
+  is_met = ap (λ w. fold (walked top.rules names) w rest) is.met ∙ stays_stopped top.rules names name [] rest
+
+  none_above : walk_fault top names (walk_from nothing_held) (name ∷ rest) ≡ []
+  unfolding walk_fault
+  none_above =
+      ap (λ kinds. or_else kinds (walk_fault top names (walked top.rules names (walk_from nothing_held) name) rest)) is.no_fault
+      ∙ ap (λ w. walk_fault top names w rest) is.met ∙ no_more_faults top names name [] rest
+
+  pub faults_below : fault_of program (name ∷ rest) ≡ level_fault (leaf name) [] nothing_held rest false []
+  faults_below =
+      ap (λ kinds. faults_by kinds (walk top.rules names nothing_held (name ∷ rest))) none_above
+      ∙ ap (faults_by []) is_met ∙ is.faults rest ∙ nothing_else (level_fault (leaf name) [] nothing_held rest false [])
+
+  pub found_below : subcommand_of program (name ∷ rest) ≡ Some (name, rows_after (leaf name).rules [] rest)
+  found_below = ap (λ (w : Walk). entered (built program) w.stopped) is_met ∙ is.found rest
+
+pub check_is_one : IsSubcommand (codes "check")
+unfolding clap_on_literals
+check_is_one = record { met = refl; no_fault = refl; faults = λ rest. refl; found = λ rest. refl }
+
+pub automaton_is_one : IsSubcommand (codes "automaton")
+unfolding clap_on_literals
+automaton_is_one = record { met = refl; no_fault = refl; faults = λ rest. refl; found = λ rest. refl }

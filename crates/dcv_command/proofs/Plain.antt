@@ -1,0 +1,67 @@
+-- Words that do not begin with a dash, in `clap`'s walk of a subcommand that has none below it.
+use Rattle.std.proofs.Common.{◌≡◌, refl, ap, ◌∙◌, false, List, ℕ, [], ◌∷◌, None}
+use Rattle.std.specs.Prelude.{◌==◌}
+use Rattle.std.specs.Str.{bytes_eq}
+use Rattle.clap.specs.Words.{Rule, Shape, Text}
+use Rattle.clap.specs.Kinds.{or_else}
+use Rattle.clap.specs.Lexer.{long_of, short_of}
+use Rattle.clap.specs.Walk.{Held, Step, Waiting, idle, option, positional, Walk, after_step, plain_word, subcommand_met, walked, word_met}
+use Rattle.clap.specs.Faults.{step_fault, turn_fault, word_fault}
+
+-- the word is not empty, and its first byte is no dash
+abbrev pub HasNoDash : Text → Type 0
+HasNoDash [] = ⊥
+HasNoDash (first ∷ rest) = (first == 45) ≡ false
+
+no_long : (word : Text) → HasNoDash word → long_of word ≡ None
+no_long [] none = absurd none
+no_long (first ∷ rest) none = rw none refl
+
+no_short : (word : Text) → HasNoDash word → short_of word ≡ None
+no_short [] none = absurd none
+no_short (first ∷ rest) none = rw none refl
+
+no_dashes : (word : Text) → HasNoDash word → bytes_eq word (45 ∷ 45 ∷ []) ≡ false
+no_dashes [] none = absurd none
+no_dashes (first ∷ rest) none = rw none refl
+
+none_met : (waiting : Waiting) (word : Text) → subcommand_met [] waiting word ≡ None
+none_met idle word = refl
+none_met (option id) word = refl
+none_met positional word = refl
+
+-- ---- what the walk makes of it
+
+met_plain : (rules : List Rule) (waiting : Waiting) (position : ℕ) (word : Text) (held : Held) → HasNoDash word
+    → word_met rules [] false waiting position word held ≡ plain_word rules waiting word held
+met_plain rules waiting position word held none =
+    rw (none_met waiting word, no_dashes word none, no_long word none, no_short word none) refl
+
+-- a walk that is not stopped, and reads flags
+abbrev pub going : Held → Waiting → ℕ → Walk
+going held waiting position = record { held = held; waiting = waiting; position = position; is_trailing = false; stopped = None }
+
+abbrev pub after_plain : List Rule → Held → Waiting → ℕ → Text → Walk
+after_plain rules held waiting position word =
+    after_step rules word (going held waiting position) (plain_word rules waiting word held).0 (plain_word rules waiting word held).1
+
+pub walked_plain : (rules : List Rule) (held : Held) (waiting : Waiting) (position : ℕ) (word : Text) → HasNoDash word
+    → walked rules [] (going held waiting position) word ≡ after_plain rules held waiting position word
+unfolding walked
+walked_plain rules held waiting position word none =
+    ap (λ (met : Held × Step). after_step rules word (going held waiting position) met.0 met.1) (met_plain rules waiting position word held none)
+
+-- ---- what faults there are
+
+no_word_fault : (shape : Shape) (waiting : Waiting) (word : Text) (held : Held) → HasNoDash word → word_fault shape [] false waiting word held ≡ []
+no_word_fault shape waiting word held none = rw (none_met waiting word, no_dashes word none, no_long word none, no_short word none) refl
+
+pub turn_plain : (shape : Shape) (held : Held) (waiting : Waiting) (position : ℕ) (word : Text) → HasNoDash word
+    → step_fault shape position (plain_word shape.rules waiting word held).0 (plain_word shape.rules waiting word held).1 ≡ []
+    → turn_fault shape [] (going held waiting position) word ≡ []
+turn_plain shape held waiting position word none step =
+    ap (λ kinds. or_else kinds (step_fault shape position met.0 met.1)) (no_word_fault shape waiting word held none)
+    ∙ ap (λ (one : Held × Step). step_fault shape position one.0 one.1) (met_plain shape.rules waiting position word held none) ∙ step
+  where
+    met : Held × Step
+    met = word_met shape.rules [] false waiting position word held

@@ -1,0 +1,57 @@
+-- The limits of a request are in the ranges of their options.
+use Rattle.std.proofs.Common.{◌≡◌, ◌≤◌, refl, subst, ℕ, Bool, true, false, List, Option, None, Some, codes, option_map, option_and_then}
+use Rattle.std.specs.Prelude.{if◌then◌else◌}
+use Rattle.std.specs.Str.{bytes_eq}
+use Rattle.std.specs.Str.Parse.{digits_value, without_leading_plus}
+use Rattle.clap.specs.Words.{Row, Text, first_of, one_of}
+use Rattle.clap.specs.ValueTests.{is_unsigned_in}
+use Rattle.clap.specs.declared.builder.value_parser.ValueParser.TheVariants.{Unsigned}
+use Rattle.clap.proofs.ValueTestLemmas.{accepts-Accepts}
+use Rattle.dcv_explore.specs.declared.explorer.Limits.{Limits}
+use Rattle.dcv_command.specs.Program.{most_states, most_nodes}
+use Rattle.dcv_command.specs.Request.{AreInRange, Request, Check, Automaton, command_of, limits_among, limits_in, limits_of, number_in, number_of, request_of_subcommand}
+
+number_is_in_range : (most : ℕ) (text : Option Text) (number : ℕ) → option_and_then (number_of most) text ≡ Some number → (1 ≤ number) × (number ≤ most)
+number_is_in_range most None number is = let wrong : None ≡ Some number = is in cc
+number_is_in_range most (Some text) number is = by (is_unsigned_in 1 most text) refl is
+  where
+    by : (fits : Bool) → is_unsigned_in 1 most text ≡ fits → (if fits then Some (digits_value 10 (without_leading_plus text)) else None) ≡ Some number
+        → (1 ≤ number) × (number ≤ most)
+    by true fits is =
+        let same : digits_value 10 (without_leading_plus text) ≡ number = cc in
+        let within = accepts-Accepts false (Unsigned 1 most) text fits in
+        subst (λ one. (1 ≤ one) × (one ≤ most)) same (within.2, within.3)
+    by false fits is = let wrong : None ≡ Some number = is in cc
+
+both_are_in_range : (states nodes : Option ℕ) (limits : Limits) → ((number : ℕ) → states ≡ Some number → (1 ≤ number) × (number ≤ most_states))
+    → ((number : ℕ) → nodes ≡ Some number → (1 ≤ number) × (number ≤ most_nodes)) → option_and_then (λ some. option_map (limits_of some) nodes) states ≡ Some limits
+    → AreInRange limits
+both_are_in_range None nodes limits one other is = let wrong : None ≡ Some limits = is in cc
+both_are_in_range (Some states) None limits one other is = let wrong : None ≡ Some limits = is in cc
+both_are_in_range (Some states) (Some nodes) limits one other is =
+    let same : limits_of states nodes ≡ limits = cc in
+    let few = one states refl in
+    let small = other nodes refl in
+    subst AreInRange same (record { some_states = few.0; few_states = few.1; some_nodes = small.0; few_nodes = small.1 })
+
+limits_are_in_range : (rows : List Row) (limits : Limits) → limits_among rows ≡ Some limits → AreInRange limits
+limits_are_in_range rows limits is =
+    both_are_in_range (number_in most_states (codes "states") rows) (number_in most_nodes (codes "nodes") rows) limits
+    (number_is_in_range most_states (one_of (codes "states") rows)) (number_is_in_range most_nodes (one_of (codes "nodes") rows)) is
+
+command_is_in_range : (check automaton : Bool) (file : Text) (limits : Limits) (request : Request) → AreInRange limits
+    → (if check then Some (Check file limits) else (if automaton then Some (Automaton file limits) else None)) ≡ Some request → AreInRange (limits_in request)
+command_is_in_range true automaton file limits request within is = let same : Check file limits ≡ request = cc in subst (λ one. AreInRange (limits_in one)) same within
+command_is_in_range false true file limits request within is = let same : Automaton file limits ≡ request = cc in subst (λ one. AreInRange (limits_in one)) same within
+command_is_in_range false false file limits request within is = let wrong : None ≡ Some request = is in cc
+
+pub request_is_in_range : (subcommand : Option (Text × List Row)) (request : Request) → request_of_subcommand subcommand ≡ Some request → AreInRange (limits_in request)
+request_is_in_range None request is = let wrong : None ≡ Some request = is in cc
+request_is_in_range (Some (name, rows)) request is = by (first_of (codes "file") rows) (limits_among rows) refl is
+  where
+    by : (file : Option Text) (limits : Option Limits) → limits_among rows ≡ limits → option_and_then (λ one. option_and_then (command_of name one) limits) file ≡ Some request
+        → AreInRange (limits_in request)
+    by None limits found is = let wrong : None ≡ Some request = is in cc
+    by (Some file) None found is = let wrong : None ≡ Some request = is in cc
+    by (Some file) (Some limits) found is =
+        command_is_in_range (bytes_eq name (codes "check")) (bytes_eq name (codes "automaton")) file limits request (limits_are_in_range rows limits found) is

@@ -1,0 +1,19 @@
+use Rattle.std.proofs.Common.{◌≡◌, ◌≢◌, ◌∙◌, true, false, [], map}
+use Rattle.clap.specs.Words.{app_of, fault_of, kind_of, takes}
+use Rattle.clap.specs.declared.error.kind.ErrorKind.TheVariants.{OutOfMemory}
+use Rattle.dcv_command.specs.Program.{program}
+use Rattle.dcv_command.proofs.Faults.{only_where, refused, not_taken}
+use Rattle.dcv_command.proofs.words.matches_of.Goals as goal
+
+pub returns-in-Err-2-clause-usage : goal.returns-in-Err-2-clause-usage
+returns-in-Err-2-clause-usage g c =
+    let other : kind_of c.in-Err.error ≡ OutOfMemory → ⊥ = λ same. let bad : false ≡ true = rw (c.kind.ensures ∙ same) at c.if-eq.ensures in cc in
+    only_where (fault_of program (map g.S.AsStr.text c.args.words.now) ≢ []) c.usage.result
+    (refused (app_of c.in_ok-command.command) c.in_ok-command.ensures (map g.S.AsStr.text c.args.words.now) c.try_get_matches_from.result c.in-Err.error c.try_get_matches_from.ensures.kinds
+    c.in-Err.is other)
+
+pub returns-in-Err-2-clause-passes : goal.returns-in-Err-2-clause-passes
+returns-in-Err-2-clause-passes g c =
+    let other : kind_of c.in-Err.error ≡ OutOfMemory → ⊥ = λ same. let bad : false ≡ true = rw (c.kind.ensures ∙ same) at c.if-eq.ensures in cc in
+    only_where (¬ (takes program (map g.S.AsStr.text c.args.words.now) ≡ true)) c.usage.result
+    (not_taken (app_of c.in_ok-command.command) c.in_ok-command.ensures (map g.S.AsStr.text c.args.words.now) c.in-Err.error c.in-Err.ensures.passes other)

@@ -1,0 +1,22 @@
+use Rattle.std.proofs.Common.{◌∙◌, sym, ap, option_map}
+use Rattle.clap.specs.Words.{found_of}
+use Rattle.dcv_command.specs.Request.{command_of}
+use Rattle.dcv_command.proofs.Requests.{asks_nothing, asks_for}
+use Rattle.dcv_command.proofs.words.request_in.Goals as goal
+
+pub returns-in_err-file : goal.returns-in_err-file
+returns-in_err-file c =
+    ap (option_map _) c.from_residual-in_err-file.ensures
+    ∙ asks_nothing c.args.matches.now c.in_ok-name.name.now (found_of c.in_ok-name.matches.now) c.in_ok-name.ensures.name c.in_ok-name.ensures.rows (sym c.in_err-file.ensures)
+
+pub returns-in-check : goal.returns-in-check
+returns-in-check c =
+    ap (λ name. command_of name c.in_ok-file.file.now c.in_ok-limits.limits) (sym c.in-check.is)
+    ∙ asks_for c.args.matches.now c.in_ok-name.name.now (found_of c.in_ok-name.matches.now) c.in_ok-name.ensures.name c.in_ok-name.ensures.rows c.in_ok-file.file.now c.in_ok-limits.limits
+    (sym c.in_ok-file.ensures) (sym c.in_ok-limits.ensures)
+
+pub returns-in-automaton : goal.returns-in-automaton
+returns-in-automaton c =
+    ap (λ name. command_of name c.in_ok-file.file.now c.in_ok-limits.limits) (sym c.in-automaton.is)
+    ∙ asks_for c.args.matches.now c.in_ok-name.name.now (found_of c.in_ok-name.matches.now) c.in_ok-name.ensures.name c.in_ok-name.ensures.rows c.in_ok-file.file.now c.in_ok-limits.limits
+    (sym c.in_ok-file.ensures) (sym c.in_ok-limits.ensures)

@@ -1,0 +1,54 @@
+-- Words that are always taken: a subcommand's name, a file's name, and options with their numbers.
+--     Options                    the options that stand in the words, in order, with their numbers
+--     option_words options       their words
+--     limits_given options       the limits that they ask for
+--     AreAllowed options         each number is in its range
+--     IsFileName name            the name is not empty, and does not begin with a dash
+--     AskFor words request       the words are taken, and ask for the request
+use Rattle.std.specs.Prelude.{◌≡◌, ◌≢◌, ℕ, ◌≤◌, List, [], ◌∷◌, Some, codes}
+use Rattle.std.specs.Fmt.{decimal}
+use Rattle.std.specs.Str.{byte}
+use Rattle.clap.specs.Words.{Text}
+use Rattle.dcv_explore.specs.declared.explorer.Limits.{Limits}
+use Rattle.dcv_command.specs.Program.{most_states, most_nodes}
+use Rattle.dcv_command.specs.Request.{Request, IsTaken, limits_of, request_of}
+
+pub data Options : Type 0 where
+  Neither : Options
+  States : (states : ℕ) → Options
+  Nodes : (nodes : ℕ) → Options
+  StatesThenNodes : (states nodes : ℕ) → Options
+  NodesThenStates : (nodes states : ℕ) → Options
+
+abbrev pub option_words : Options → List Text
+option_words Neither = []
+option_words (States states) = codes "--states" ∷ decimal states ∷ []
+option_words (Nodes nodes) = codes "--nodes" ∷ decimal nodes ∷ []
+option_words (StatesThenNodes states nodes) = codes "--states" ∷ decimal states ∷ codes "--nodes" ∷ decimal nodes ∷ []
+option_words (NodesThenStates nodes states) = codes "--nodes" ∷ decimal nodes ∷ codes "--states" ∷ decimal states ∷ []
+
+-- 30,000 states and 1,000,000 nodes where nothing else is asked for
+abbrev pub limits_given : Options → Limits
+limits_given Neither = limits_of 30000 1000000
+limits_given (States states) = limits_of states 1000000
+limits_given (Nodes nodes) = limits_of 30000 nodes
+limits_given (StatesThenNodes states nodes) = limits_of states nodes
+limits_given (NodesThenStates nodes states) = limits_of states nodes
+
+abbrev pub IsAllowed : ℕ → ℕ → Type 0
+IsAllowed most number = (1 ≤ number) × (number ≤ most)
+
+abbrev pub AreAllowed : Options → Type 0
+AreAllowed Neither = Unit {0}
+AreAllowed (States states) = IsAllowed most_states states
+AreAllowed (Nodes nodes) = IsAllowed most_nodes nodes
+AreAllowed (StatesThenNodes states nodes) = IsAllowed most_states states × IsAllowed most_nodes nodes
+AreAllowed (NodesThenStates nodes states) = IsAllowed most_nodes nodes × IsAllowed most_states states
+
+abbrev pub IsFileName : Text → Type 0
+IsFileName [] = ⊥
+IsFileName (first ∷ rest) = first ≢ byte "-"
+
+pub record AskFor (words : List Text) (request : Request) : Type 0 where
+  pub taken : IsTaken words
+  pub asked : request_of words ≡ Some request
