@@ -4,7 +4,7 @@ use Rattle.std.specs.Prelude.{IfOk, slice_get}
 use Rattle.std.specs.Option.{option_map}
 use Rattle.std.proofs.lemmas.Option.{slice_get-map, slice_get_within}
 use Rattle.dcv_language.specs.Language.{Language, HaveSameBehaviours}
-use Rattle.dcv_language.specs.Laws.{VerdictOfSameBehaviours}
+use Rattle.dcv_language.specs.Laws.{CanonicalForSameBehaviours, VerdictOfSameBehaviours}
 use Rattle.dcv_language.specs.Verdict.{Verdict, IsVerdict}
 use Rattle.dcv_syntax.specs.Plain.{PlainFile}
 use Rattle.dcv_logic.specs.Models.{models}
@@ -60,15 +60,19 @@ module _ (core : PlainCore) (tree : CoreTree) (limits : Limits) (is : IsCoreOf t
 
 -- ---- verdicts
 
--- the verdict of what an automaton accepts is that of each set whose canonical automaton it is
+-- what an automaton accepts are the behaviours of each set whose canonical automaton it is
+pub same_as_set : (accept : TableAcceptsAsTheStates) (auto : RawValue) → IsRaw auto → IsAuto auto → (k : ℕ) (L : Language) → IsAutomatonOf k L auto
+    → HaveSameBehaviours k (raw_accepts auto) L
+same_as_set accept auto raw is k L of word b =
+    sym (subst (λ k. HaveSameBehaviours k (table_accepts (table_of_states auto)) (raw_accepts auto)) of.slots (accept auto raw is.start) word b) ∙ of.canonical.exact word b
+
+-- the verdict of what an automaton accepts is that of each such set
 pub verdict_of_automaton : {E V : Type 0} (seen : V → Verdict) (accept : TableAcceptsAsTheStates) (move : VerdictOfSameBehaviours)
     (auto : RawValue) (result : Result V E) → IsRaw auto → IsAuto auto → IfOk result (λ v. IsVerdict auto.arena.slots (raw_accepts auto) (seen v))
     → (k : ℕ) (L : Language) → IsAutomatonOf k L auto → IfOk result (λ v. IsVerdict k L (seen v))
 verdict_of_automaton seen accept move auto (Err e) raw is verdict k L of = tt
 verdict_of_automaton seen accept move auto (Ok v) raw is verdict k L of =
-    let same : HaveSameBehaviours k (raw_accepts auto) L = λ word b.
-    sym (subst (λ k. HaveSameBehaviours k (table_accepts (table_of_states auto)) (raw_accepts auto)) of.slots (accept auto raw is.start) word b) ∙ of.canonical.exact word b in
-    move k (raw_accepts auto) L (seen v) same (subst (λ k. IsVerdict k (raw_accepts auto) (seen v)) of.slots verdict)
+    move k (raw_accepts auto) L (seen v) (same_as_set accept auto raw is k L of) (subst (λ k. IsVerdict k (raw_accepts auto) (seen v)) of.slots verdict)
 
 -- ---- what is said of a core, said of the file that it is of
 
@@ -86,11 +90,13 @@ module _ (file : PlainFile) (core : PlainCore) (declared : core.declared ≡ len
   within_in_file limits within =
       subst (λ k. IsWithinBudget (steps_of k (core_of_file file)) limits) declared (within (core_of_file file) core_of_the_file)
 
-  pub verdict_of_file : (auto : RawValue) (verdict : Verdict) → WordsAreModels → VerdictOfSameBehaviours
-      → ((tree : CoreTree) → IsCoreOf tree core → IsAutomatonOf core.declared (words_of tree) auto)
-      → ((k : ℕ) (L : Language) → IsAutomatonOf k L auto → IsVerdict k L verdict) → IsVerdict (length file.variables) (models file) verdict
-  verdict_of_file auto verdict models_are move canonical judged =
-      let of_words : IsVerdict (length file.variables) (words_of (core_of_file file)) verdict =
-      subst (λ k. IsVerdict k (words_of (core_of_file file)) verdict) declared
-      (judged core.declared (words_of (core_of_file file)) (canonical (core_of_file file) core_of_the_file)) in
-      move (length file.variables) (words_of (core_of_file file)) (models file) verdict (models_are file) of_words
+  pub automaton_of_file : (auto : RawValue) → WordsAreModels → CanonicalForSameBehaviours
+      → ((tree : CoreTree) → IsCoreOf tree core → IsAutomatonOf core.declared (words_of tree) auto) → IsAutomatonOf (length file.variables) (models file) auto
+  automaton_of_file auto models_are move canonical =
+      let of_words = subst (λ k. IsAutomatonOf k (words_of (core_of_file file)) auto) declared (canonical (core_of_file file) core_of_the_file) in
+      record {
+        slots = of_words.slots;
+        access = of_words.access;
+        canonical =
+            move (length file.variables) (words_of (core_of_file file)) (models file) (table_of_states auto) of_words.access (models_are file) of_words.canonical;
+      }

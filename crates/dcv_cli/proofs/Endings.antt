@@ -1,7 +1,7 @@
 -- How the answer of a command ends a run.
 use Rattle.std.proofs.Common.{◌≡◌, ℕ, true, false, List, [], Option, None, Some, Result, Ok, Err, length, refl, sym, ap, ◌∙◌, subst, append-nil, zero-le, arith}
 use Rattle.std.proofs.Math.Seq.{take-length}
-use Rattle.std.specs.Prelude.{OnOk, OnErr, IfErr, IsTrue, MatchBool, is_err, ⊤}
+use Rattle.std.specs.Prelude.{Bool, ◌||◌, OnOk, OnErr, is_err, ⊤}
 use mathlib.Core.Bool.{true≢false}
 use Rattle.std.specs.Bool.{OnTrue, OnFalse}
 use Rattle.dcv_io.specs.Disk.{Disk}
@@ -9,14 +9,16 @@ use Rattle.dcv_io.specs.Faults.{RisesIf}
 use Rattle.dcv_io.specs.Written.{Appends, AppendsPrefix}
 use Rattle.dcv_io.specs.declared.fault.Failed.{Failed}
 use Rattle.dcv_cli.specs.declared.refusal.Refusal.{Refusal}
-use Rattle.dcv_cli.specs.declared.refusal.Refusal.TheVariants.{Usage, Open, Read, Length, Text, Budget, Write, Memory}
+use Rattle.dcv_cli.specs.declared.refusal.Refusal.TheVariants.{Open, Read, Length, Text, Budget, Write, Memory}
 use Rattle.dcv_cli.specs.declared.status.Status.{Status}
 use Rattle.dcv_cli.specs.Ending.{EndsBy, IsExplained, LeavesOver, Tells}
 use Rattle.dcv_cli.specs.Outcome.{Outcome, refused}
-use Rattle.dcv_cli.specs.Refusal.{status_of, message_of, Only, is_write_refusal, is_usage_refusal}
-use Rattle.dcv_cli.specs.Request.{Check, AsksFor}
+use Rattle.dcv_cli.specs.Refusal.{status_of, message_of, Only, is_write_refusal}
+use Rattle.dcv_cli.specs.Request.{AsksFor}
+use Rattle.dcv_command.specs.Request.{Request}
 use Rattle.dcv_cli.specs.Right.{ForHeld}
-use Rattle.dcv_cli.specs.Status.{is_determined, is_silent, is_input, is_of_request}
+use Rattle.dcv_cli.specs.Status.{is_determined, is_silent, is_input}
+use Rattle.dcv_cli.proofs.Outcomes.{on_true_weaker}
 
 -- nothing is written where nothing changes
 pub nothing_told : (written : Option (List ℕ)) → Appends written written []
@@ -57,7 +59,6 @@ module _ (Right : Outcome → Type 0) (old new : Option (List ℕ)) where
   of_refusal P Length right silent told = told_refusal P Length right silent told
   of_refusal P (Text fault at) right silent told = told_refusal P (Text fault at) right silent told
   of_refusal P (Budget over) right silent told = told_refusal P (Budget over) right silent told
-  of_refusal P Usage right silent told = tt
   of_refusal P Open right silent told = tt
   of_refusal P Read right silent told = tt
   of_refusal P Write right silent told = tt
@@ -71,21 +72,32 @@ module _ (Right : Outcome → Type 0) (old new : Option (List ℕ)) where
       let P : List ℕ → Type 0 = λ message. Tells message err_old err_new before after in
       subst (λ (s : Status). OnTrue (is_determined s) (EndsBy Right s old new P)) (sym is) (of_refusal P refusal right silent told)
 
--- a run that is refused neither for its words nor for want of memory was asked for something
-module _ (P Q : Type 0) where
-  of_request : (refusal : Refusal) → MatchBool (is_usage_refusal {T = Status} (Err refusal)) P Q → IsTrue (is_of_request (status_of refusal)) → Q
-  of_request Usage asked of = absurd (true≢false (sym of))
-  of_request Memory asked of = absurd (true≢false (sym of))
-  of_request Open asked of = asked
-  of_request Read asked of = asked
-  of_request Length asked of = asked
-  of_request (Text fault at) asked of = asked
-  of_request (Budget over) asked of = asked
-  of_request Write asked of = asked
+-- a refusal before the report is written leaves the output as it was
+silent_refusal : (P : Type 0) (refusal : Refusal) → OnFalse (is_write_refusal {T = Status} (Err refusal)) P
+    → OnTrue (is_silent (status_of refusal) || is_input (status_of refusal)) P
+silent_refusal P Open silent = silent
+silent_refusal P Read silent = silent
+silent_refusal P Length silent = silent
+silent_refusal P (Text fault at) silent = silent
+silent_refusal P (Budget over) silent = silent
+silent_refusal P Write silent = tt
+silent_refusal P Memory silent = tt
 
-  pub asked_for : (refusal : Refusal) (status : Status) → status ≡ status_of refusal
-      → MatchBool (is_usage_refusal {T = Status} (Err refusal)) P Q → IsTrue (is_of_request status) → Q
-  asked_for refusal status is asked of = of_request refusal asked (subst (λ (s : Status). IsTrue (is_of_request s)) is of)
+pub silent_refused : (P : Type 0) (refusal : Refusal) (status : Status) → status ≡ status_of refusal
+    → OnFalse (is_write_refusal {T = Status} (Err refusal)) P → OnTrue (is_silent status || is_input status) P
+silent_refused P refusal status is silent = rw is (silent_refusal P refusal silent)
+
+pub silent_of_either : (P : Type 0) (status : Status) → OnTrue (is_silent status || is_input status) P → OnTrue (is_silent status) P
+silent_of_either P status silent =
+    elim (is_silent status) as (λ b. OnTrue (b || is_input status) P → OnTrue b P) [ true ↦ λ h. h | false ↦ λ h. tt ] silent
+
+input_of_either : (P : Type 0) (status : Status) → OnTrue (is_silent status || is_input status) P → OnTrue (is_input status) P
+input_of_either P status silent = by (is_silent status) (is_input status) silent
+  where
+    by : (b i : Bool) → OnTrue (b || i) P → OnTrue i P
+    by b false h = tt
+    by true true h = h
+    by false true h = h
 
 abbrev Nothing : (List ℕ → Option (List ℕ)) → Type 0
 Nothing held = let none : List ℕ = [] in none ≡ []
@@ -94,25 +106,12 @@ nothing_held : (told : Option Disk) → ForHeld told Nothing
 nothing_held None = record { held = λ n. None; same = tt; holds = refl }
 nothing_held (Some disk) = record { held = disk.held; same = refl; holds = refl }
 
--- a check that an input failed has written nothing
-module _ (words : List (List ℕ)) (name : List ℕ) (told : Option Disk) (old new : Option (List ℕ)) (asked : AsksFor words (Check name)) where
-  leaves_nothing : Appends old new [] → LeavesOver words told old new
-  leaves_nothing silent = record { request = Check name; asked = asked; bytes = []; left = nothing_held told; added = silent }
-
-  of_input : (r : Refusal) → OnFalse (is_write_refusal {T = Status} (Err r)) (Appends old new []) → OnTrue (is_input (status_of r)) (LeavesOver words told old new)
-  of_input Open silent = leaves_nothing silent
-  of_input Read silent = leaves_nothing silent
-  of_input Usage silent = tt
-  of_input Length silent = tt
-  of_input (Text fault at) silent = tt
-  of_input (Budget over) silent = tt
-  of_input Write silent = tt
-  of_input Memory silent = tt
-
-  pub err_left : (result : Result Status Refusal) → OnErr result (OnFalse (is_write_refusal result) (Appends old new []))
-      → IfErr result (λ refusal. OnTrue (is_input (status_of refusal)) (LeavesOver words told old new))
-  err_left (Ok status) silent = tt
-  err_left (Err refusal) silent = of_input refusal silent
+-- a request that an input failed has written nothing
+pub leaves_nothing : (words : List (List ℕ)) (request : Request) (told : Option Disk) (old new : Option (List ℕ)) (status : Status) → AsksFor words request
+    → OnTrue (is_silent status || is_input status) (Appends old new []) → OnTrue (is_input status) (LeavesOver words told old new)
+leaves_nothing words request told old new status asked silent =
+    on_true_weaker (is_input status) (λ added. record { request = request; asked = asked; bytes = []; left = nothing_held told; added = added })
+    (input_of_either (Appends old new []) status silent)
 
 -- named by the function, so that its goals need no answer of their own
 pub ruleset ends = (ends_answered, ends_refused, nothing_told)

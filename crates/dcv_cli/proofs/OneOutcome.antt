@@ -1,10 +1,12 @@
 -- One outcome at most is right.
-use Rattle.std.proofs.Common.{◌≡◌, ◌≢◌, ℕ, ◌<◌, Bool, true, false, List, length, Option, None, Some, refl, sym, ap, ◌∙◌, subst, arith}
+use Rattle.std.proofs.Common.{◌≡◌, ◌≢◌, ◌⊎◌, inl, inr, ℕ, ◌<◌, Bool, true, false, List, length, Option, None, Some, sym, ap, ◌∙◌, subst, arith}
 use Rattle.std.specs.Prelude.{IsSomeAnd, is_none, slice_get, if◌then◌else◌}
 use Rattle.std.specs.Option.{option_map}
 use Rattle.dcv_syntax.specs.Plain.{PlainFile}
 use Rattle.dcv_logic.specs.Models.{models}
+use Rattle.dcv_language.specs.Language.{Language}
 use Rattle.dcv_language.specs.Laws.{OneVerdict}
+use Rattle.dcv_language.specs.VerdictText.{verdict_text}
 use Rattle.dcv_language.specs.Verdict.{Verdict}
 use Rattle.dcv_sentence.specs.Faults.{FaultIsUnique}
 use Rattle.dcv_sentence.specs.declared.faults.ReadFault.{ReadFault}
@@ -17,19 +19,22 @@ use Rattle.dcv_scope.specs.declared.faults.ScopeFault.{ScopeFault}
 use Rattle.dcv_scope.specs.declared.faults.ScopeFault.TheVariants.{TooMany, Duplicate, Taken, Unknown, Kind, Arity, Size, Depth, Slots, Memory as ScopeMemory}
 use Rattle.dcv_explore.specs.declared.explorer.Limits.{Limits}
 use Rattle.dcv_build.specs.Laws.{OneStepIsOver, WithinExcludesOver}
-use Rattle.dcv_cli.specs.declared.limits.TheConstants.{DEFAULT_LIMITS}
 use Rattle.dcv_cli.specs.declared.over.Over.{Over}
 use Rattle.dcv_cli.specs.declared.refusal.Refusal.{Refusal}
 use Rattle.dcv_cli.specs.declared.refusal.Refusal.TheVariants.{Budget}
 use Rattle.dcv_cli.specs.declared.refusal.TheConstants.{MOST_BYTES}
 use Rattle.dcv_cli.specs.declared.status.Status.TheVariants.{Valid, NotValid, Usage, Formula, Budget as StatusBudget, Memory as OutOfMemory}
-use Rattle.dcv_cli.specs.Budget.{steps_of_file, kind_of, IsFirstOver}
-use Rattle.dcv_cli.specs.Check.{IsChecked, OverBudget, Decided}
+use Rattle.dcv_cli.specs.Budget.{steps_of_file, kind_of, IsFirstOver, IsBudgeted, OverBudget, WithinBudget}
+use Rattle.dcv_print.specs.Automaton.{DifferInSuffixes}
+use Rattle.dcv_print.specs.Laws.{OneAutomaton}
+use Rattle.dcv_cli.specs.Report.{Says, IsReport}
 use Rattle.dcv_cli.specs.FormulaFile.{IsRefused, TooLong, Faulty, HasNoCore, IsSentence, IsFormulaFile, OnText, Refused, Read}
 use Rattle.dcv_cli.specs.Laws.{OneOutcome}
-use Rattle.dcv_cli.specs.Outcome.{Outcome, refused, answered, Agrees}
+use Rattle.dcv_cli.specs.Outcome.{Outcome, refused, Agrees}
 use Rattle.dcv_cli.specs.Refusal.{Which, Only, status_of, refusal_of_reading, refusal_of_scope}
-use Rattle.dcv_cli.specs.Request.{Request, Check, AsksFor, IsTaken}
+use Rattle.dcv_command.specs.Request.{Request, Check, Automaton, file_in, limits_in}
+use Rattle.dcv_cli.specs.Request.{AsksFor}
+use Rattle.dcv_print.specs.Printed.{texts_of}
 use Rattle.dcv_cli.specs.Right.{Fulfils, Misused, Fulfilled}
 use Rattle.dcv_cli.specs.Status.{status_of_verdict}
 
@@ -37,7 +42,7 @@ use Rattle.dcv_cli.specs.Status.{status_of_verdict}
 same_agrees : (one other : Outcome) → one ≡ other → one.status ≢ StatusBudget → Agrees one other
 same_agrees one other e within = record {
   status = ap (λ (o : Outcome). o.status) e;
-  report = ap (λ (o : Outcome). o.out) e;
+  report = inl (ap (λ (o : Outcome). o.out) e);
   message = λ taken within. ap (λ (o : Outcome). o.err) e;
   step = λ over. absurd (within over);
 }
@@ -88,7 +93,7 @@ answer_is_no_refusal verdict e = by (is_none verdict.counterexample) e
 one_some : (first second : ℕ) → Some first ≡ Some second → first ≡ second
 one_some first second e = cc
 
-module _ (one_tree : SpellsOne) (one_fault : FaultIsUnique) (one_verdict : OneVerdict) (one_step : OneStepIsOver) (none_over : WithinExcludesOver) where
+module _ (one_tree : SpellsOne) (one_fault : FaultIsUnique) (one_verdict : OneVerdict) (one_step : OneStepIsOver) (none_over : WithinExcludesOver) (one_automaton : OneAutomaton) where
   one_sentence : (text : List ℕ) (f g : PlainFile) → IsSentence text f → IsSentence text g → f ≡ g
   one_sentence text f g s t = one_tree text f g s.spelled t.spelled
 
@@ -154,7 +159,7 @@ module _ (one_tree : SpellsOne) (one_fault : FaultIsUnique) (one_verdict : OneVe
       sym is.begins ∙ ap (λ number. option_map (λ (step : PlainStep). step.span.start) (slice_get (steps_of_file file) number)) same ∙ is'.begins in
       record {
         status = ap (λ (o : Outcome). o.status) e ∙ sym (ap (λ (o : Outcome). o.status) e');
-        report = ap (λ (o : Outcome). o.out) e ∙ sym (ap (λ (o : Outcome). o.out) e');
+        report = inl (ap (λ (o : Outcome). o.out) e ∙ sym (ap (λ (o : Outcome). o.out) e'));
         message = λ taken within. absurd (within (ap (λ (o : Outcome). o.status) e));
         step = λ budget. record {
           first = over;
@@ -166,34 +171,55 @@ module _ (one_tree : SpellsOne) (one_fault : FaultIsUnique) (one_verdict : OneVe
         };
       }
 
-  one_check : (limits : Limits) (file : PlainFile) (a b : Outcome) → IsChecked limits file a → IsChecked limits file b → Agrees a b
-  one_check limits file a b (OverBudget over is e) (OverBudget another is' e') = one_over limits file a b over another is is' e e'
-  one_check limits file a b (OverBudget over is e) (Decided within v is' e') =
+  -- one text is what is asked for, but for the suffixes of an automaton
+  one_text : (request : Request) (k : ℕ) (L : Language) (names : List (List ℕ)) (v u : Verdict) (one other : List ℕ) → v ≡ u
+      → Says request k L names v one → Says request k L names u other → (one ≡ other) ⊎ DifferInSuffixes one other
+  one_text (Check name limits) k L names v u one other same says says' = inl (says ∙ ap verdict_text same ∙ sym says')
+  one_text (Automaton name limits) k L names v u one other same says says' = inr (record {
+    one_file = says.automaton;
+    other_file = says'.automaton;
+    one_is = says.says;
+    other_is = says'.says;
+    same = one_automaton k L names says.automaton says'.automaton says.is says'.is;
+  })
+
+  one_report : (request : Request) (file : PlainFile) (a b : Outcome) → IsReport request file a → IsReport request file b → Agrees a b
+  one_report request file a b r s =
+      let same : r.verdict ≡ s.verdict = one_verdict (length file.variables) (models file) r.verdict s.verdict r.is_verdict s.is_verdict in
+      record {
+        status = r.status ∙ ap status_of_verdict same ∙ sym s.status;
+        report = one_text request (length file.variables) (models file) (texts_of file.variables) r.verdict s.verdict a.out b.out same r.says s.says;
+        message = λ taken within. r.no_message ∙ sym s.no_message;
+        step = λ budget. absurd (answer_is_no_refusal r.verdict (sym r.status ∙ budget));
+      }
+
+  one_budgeted : (limits : Limits) (RightFor : PlainFile → Outcome → Type 0)
+      → ((file : PlainFile) (a b : Outcome) → RightFor file a → RightFor file b → Agrees a b)
+      → (file : PlainFile) (a b : Outcome) → IsBudgeted limits RightFor file a → IsBudgeted limits RightFor file b → Agrees a b
+  one_budgeted limits RightFor one file a b (OverBudget over is e) (OverBudget another is' e') = one_over limits file a b over another is is' e e'
+  one_budgeted limits RightFor one file a b (OverBudget over is e) (WithinBudget within right) =
       absurd (none_over (length file.variables) (core_of_file file) limits (kind_of over.excess) over.step within is.is_over)
-  one_check limits file a b (Decided within v is' e') (OverBudget over is e) =
+  one_budgeted limits RightFor one file a b (WithinBudget within right) (OverBudget over is e) =
       absurd (none_over (length file.variables) (core_of_file file) limits (kind_of over.excess) over.step within is.is_over)
-  one_check limits file a b (Decided within v is e) (Decided within' u is' e') =
-      same_agrees a b (e ∙ ap answered (one_verdict (length file.variables) (models file) v u is is') ∙ sym e')
-      (λ over. answer_is_no_refusal v (sym (ap (λ (o : Outcome). o.status) e) ∙ over))
+  one_budgeted limits RightFor one file a b (WithinBudget within right) (WithinBudget within' right') = one file a b right right'
 
   one_fulfilled : (request : Request) (held : List ℕ → Option (List ℕ)) (a b : Outcome) → Fulfils request held a → Fulfils request held b → Agrees a b
-  one_fulfilled (Check name) held a b p q = one_on_file (held name) Only (IsChecked DEFAULT_LIMITS) (one_check DEFAULT_LIMITS) a b p q
+  one_fulfilled request held a b p q =
+      one_on_file (held (file_in request)) Only (IsBudgeted (limits_in request) (IsReport request))
+      (one_budgeted (limits_in request) (IsReport request) (one_report request)) a b p q
 
-  -- words that ask for something are taken, and ask for one thing
-  taken_of_asked : (words : List (List ℕ)) (request : Request) → AsksFor words request → IsTaken words
-  taken_of_asked words request asked = rw asked refl
-
+  -- words ask for one thing
   one_request : (words : List (List ℕ)) (r s : Request) → AsksFor words r → AsksFor words s → r ≡ s
-  one_request words r s asked asked' = some_same r s (sym asked ∙ asked')
+  one_request words r s asks asks' = some_same r s (sym asks.asked ∙ asks'.asked)
     where
       some_same : (r s : Request) → Some r ≡ Some s → r ≡ s
       some_same r s e = cc
 
   pub one_outcome : OneOutcome
   one_outcome words held one other (Misused not s o) (Misused not' s' o') =
-      record { status = s ∙ sym s'; report = o ∙ sym o'; message = λ told within. absurd (told s); step = λ budget. absurd (no_usage_budget (sym s ∙ budget)) }
-  one_outcome words held one other (Misused not s o) (Fulfilled request asked right) = absurd (not (taken_of_asked words request asked))
-  one_outcome words held one other (Fulfilled request asked right) (Misused not s o) = absurd (not (taken_of_asked words request asked))
+      record { status = s ∙ sym s'; report = inl (o ∙ sym o'); message = λ told within. absurd (told s); step = λ budget. absurd (no_usage_budget (sym s ∙ budget)) }
+  one_outcome words held one other (Misused not s o) (Fulfilled request asked right) = absurd (not asked.taken)
+  one_outcome words held one other (Fulfilled request asked right) (Misused not s o) = absurd (not asked.taken)
   one_outcome words held one other (Fulfilled r asked right) (Fulfilled s asked' right') =
       one_fulfilled r held one other right
       (subst (λ (request : Request). Fulfils request held other) (one_request words s r asked' asked) right')

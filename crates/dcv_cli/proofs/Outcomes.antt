@@ -1,5 +1,5 @@
 -- How each step of a command leads to a right outcome.
-use Rattle.std.proofs.Common.{◌≡◌, ◌≢◌, ℕ, suc, ◌<◌, ◌≤◌, List, [], length, replicate, Option, None, Some, Err, Vec, Global, refl, inl, inr, arith}
+use Rattle.std.proofs.Common.{◌≡◌, ◌≢◌, ℕ, suc, ◌<◌, ◌≤◌, List, [], length, replicate, Option, None, Some, Err, Vec, Global, map, refl, inl, inr, arith, subst}
 use Rattle.std.specs.Bool.{OnTrue}
 use Rattle.std.specs.Prelude.{Bool, true, false, IfSome, IsTrue, is_none, if◌then◌else◌}
 use Rattle.std.proofs.Math.ListN.{length-replicate}
@@ -13,7 +13,6 @@ use Rattle.dcv_io.specs.declared.fault.TakeFault.TheVariants.{Open as TakeOpen, 
 use Rattle.dcv_syntax.specs.Plain.{PlainFile}
 use Rattle.dcv_logic.specs.Models.{models}
 use Rattle.dcv_language.specs.Verdict.{Verdict, IsVerdict}
-use Rattle.dcv_language.specs.VerdictText.{verdict_text}
 use Rattle.dcv_sentence.specs.Faults.{IsFirstFault}
 use Rattle.dcv_sentence.specs.declared.faults.ReadFault.{ReadFault}
 use Rattle.dcv_sentence.specs.declared.faults.ReadFault.TheVariants.{Byte as ByteAt, Syntax as SyntaxAt, Number as NumberAt, Name as NameAt, Nest as NestAt, Memory as ReadMemory}
@@ -21,59 +20,62 @@ use Rattle.dcv_scope.specs.Faults.{fault_of_file}
 use Rattle.dcv_scope.specs.declared.faults.ScopeFault.{ScopeFault}
 use Rattle.dcv_scope.specs.declared.faults.ScopeFault.TheVariants.{TooMany, Duplicate, Taken, Unknown, Kind, Arity, Size, Depth, Slots}
 use Rattle.dcv_scope.specs.declared.faults.ScopeFault.TheVariants.{Memory as ScopeMemory}
-use Rattle.dcv_cli.specs.declared.limits.TheConstants.{DEFAULT_LIMITS}
 use Rattle.dcv_cli.specs.declared.refusal.TheConstants.{MOST_BYTES}
 use Rattle.dcv_cli.specs.declared.refusal.Refusal.{Refusal}
-use Rattle.dcv_cli.specs.declared.refusal.Refusal.TheVariants.{Usage, Open, Read as ReadRefusal, Length, Text, Budget, Write, Memory}
+use Rattle.dcv_cli.specs.declared.refusal.Refusal.TheVariants.{Open, Read as ReadRefusal, Length, Text, Budget, Write, Memory}
 use Rattle.dcv_cli.specs.declared.status.Status.{Status}
 use Rattle.dcv_scope.specs.Steps.{PlainStep}
 use Rattle.dcv_explore.specs.declared.explorer.Limits.{Limits}
 use Rattle.dcv_build.specs.Budget.{IsWithinBudget}
-use Rattle.dcv_cli.specs.Budget.{steps_of_file, NamesFirstOver}
-use Rattle.dcv_cli.specs.Check.{IsChecked, OverBudget, Decided}
+use Rattle.dcv_cli.specs.Budget.{steps_of_file, NamesFirstOver, IsBudgeted, OverBudget, WithinBudget}
+use Rattle.dcv_cli.specs.Report.{Says, IsReport}
 use Rattle.dcv_cli.specs.Ending.{EndsBy, IsExplained, AddsFront, StopsWithin}
 use Rattle.dcv_cli.specs.FormulaFile.{TooLong, Faulty, HasNoCore, IsSentence, IsFormulaFile, OnText, Refused, Read}
 use Rattle.dcv_cli.specs.Outcome.{Outcome, refused}
-use Rattle.dcv_cli.specs.Refusal.{Only, status_of, is_of_text, refusal_of_taking, refusal_of_reading, refusal_of_scope}
-use Rattle.dcv_cli.specs.Request.{Request, Check, AsksFor}
+use Rattle.dcv_cli.specs.Refusal.{Only, is_of_text, refusal_of_taking, refusal_of_reading, refusal_of_scope}
+use Rattle.dcv_cli.specs.Request.{AsksFor}
+use Rattle.std.specs.Prelude.{String}
+use Rattle.std.specs.String.{string_bytes}
+use Rattle.dcv_command.specs.Request.{Request, IsTaken, request_of, file_in, limits_in}
+use Rattle.dcv_print.specs.Printed.{texts_of}
 use Rattle.dcv_cli.specs.Right.{Fulfilled, FulfilsOver, IsRightOver}
-use Rattle.dcv_cli.specs.declared.check.Report.{Report}
+use Rattle.dcv_cli.specs.declared.reporting.Report.{Report}
 use Rattle.dcv_cli.specs.Seen.{reported}
 use Rattle.dcv_cli.specs.declared.status.Status.TheVariants.{Valid, NotValid}
-use Rattle.dcv_cli.specs.Status.{is_determined, is_answer, status_of_verdict}
+use Rattle.dcv_cli.specs.Status.{is_answer, status_of_verdict}
 
 -- ---- for a text
 
 -- a refusal of the reader is right
-pub explains_reading : (limits : Limits) (text : List ℕ) (fault : ReadFault) → length text ≤ MOST_BYTES → (fault ≢ ReadMemory → IsFirstFault text fault)
-    → IsExplained (OnText text Only (IsChecked limits)) (refusal_of_reading fault)
-explains_reading limits text (ByteAt at) short is = Refused _ (Faulty short (ByteAt at) (is (λ e. cc)) refl) refl
-explains_reading limits text (SyntaxAt at) short is = Refused _ (Faulty short (SyntaxAt at) (is (λ e. cc)) refl) refl
-explains_reading limits text (NumberAt at) short is = Refused _ (Faulty short (NumberAt at) (is (λ e. cc)) refl) refl
-explains_reading limits text (NameAt at) short is = Refused _ (Faulty short (NameAt at) (is (λ e. cc)) refl) refl
-explains_reading limits text (NestAt at) short is = Refused _ (Faulty short (NestAt at) (is (λ e. cc)) refl) refl
-explains_reading limits text ReadMemory short is = tt
+pub explains_reading : (limits : Limits) (RightFor : PlainFile → Outcome → Type 0) (text : List ℕ) (fault : ReadFault) → length text ≤ MOST_BYTES → (fault ≢ ReadMemory → IsFirstFault text fault)
+    → IsExplained (OnText text Only (IsBudgeted limits RightFor)) (refusal_of_reading fault)
+explains_reading limits RightFor text (ByteAt at) short is = Refused _ (Faulty short (ByteAt at) (is (λ e. cc)) refl) refl
+explains_reading limits RightFor text (SyntaxAt at) short is = Refused _ (Faulty short (SyntaxAt at) (is (λ e. cc)) refl) refl
+explains_reading limits RightFor text (NumberAt at) short is = Refused _ (Faulty short (NumberAt at) (is (λ e. cc)) refl) refl
+explains_reading limits RightFor text (NameAt at) short is = Refused _ (Faulty short (NameAt at) (is (λ e. cc)) refl) refl
+explains_reading limits RightFor text (NestAt at) short is = Refused _ (Faulty short (NestAt at) (is (λ e. cc)) refl) refl
+explains_reading limits RightFor text ReadMemory short is = tt
 
 -- a refusal of the names or of the goal is right
-pub explains_scope : (limits : Limits) (text : List ℕ) (file : PlainFile) (fault : ScopeFault) → IsSentence text file
-    → (fault ≢ ScopeMemory → fault_of_file file ≡ Some fault) → IsExplained (OnText text Only (IsChecked limits)) (refusal_of_scope fault)
-explains_scope limits text file (TooMany at) holds is = Refused _ (HasNoCore file holds (TooMany at) (is (λ e. cc)) refl) refl
-explains_scope limits text file (Duplicate at) holds is = Refused _ (HasNoCore file holds (Duplicate at) (is (λ e. cc)) refl) refl
-explains_scope limits text file (Taken at) holds is = Refused _ (HasNoCore file holds (Taken at) (is (λ e. cc)) refl) refl
-explains_scope limits text file (Unknown at) holds is = Refused _ (HasNoCore file holds (Unknown at) (is (λ e. cc)) refl) refl
-explains_scope limits text file (Kind at) holds is = Refused _ (HasNoCore file holds (Kind at) (is (λ e. cc)) refl) refl
-explains_scope limits text file (Arity at) holds is = Refused _ (HasNoCore file holds (Arity at) (is (λ e. cc)) refl) refl
-explains_scope limits text file (Size at) holds is = Refused _ (HasNoCore file holds (Size at) (is (λ e. cc)) refl) refl
-explains_scope limits text file (Depth at) holds is = Refused _ (HasNoCore file holds (Depth at) (is (λ e. cc)) refl) refl
-explains_scope limits text file (Slots at) holds is = Refused _ (HasNoCore file holds (Slots at) (is (λ e. cc)) refl) refl
-explains_scope limits text file ScopeMemory holds is = tt
+pub explains_scope : (limits : Limits) (RightFor : PlainFile → Outcome → Type 0) (text : List ℕ) (file : PlainFile) (fault : ScopeFault) → IsSentence text file
+    → (fault ≢ ScopeMemory → fault_of_file file ≡ Some fault) → IsExplained (OnText text Only (IsBudgeted limits RightFor)) (refusal_of_scope fault)
+explains_scope limits RightFor text file (TooMany at) holds is = Refused _ (HasNoCore file holds (TooMany at) (is (λ e. cc)) refl) refl
+explains_scope limits RightFor text file (Duplicate at) holds is = Refused _ (HasNoCore file holds (Duplicate at) (is (λ e. cc)) refl) refl
+explains_scope limits RightFor text file (Taken at) holds is = Refused _ (HasNoCore file holds (Taken at) (is (λ e. cc)) refl) refl
+explains_scope limits RightFor text file (Unknown at) holds is = Refused _ (HasNoCore file holds (Unknown at) (is (λ e. cc)) refl) refl
+explains_scope limits RightFor text file (Kind at) holds is = Refused _ (HasNoCore file holds (Kind at) (is (λ e. cc)) refl) refl
+explains_scope limits RightFor text file (Arity at) holds is = Refused _ (HasNoCore file holds (Arity at) (is (λ e. cc)) refl) refl
+explains_scope limits RightFor text file (Size at) holds is = Refused _ (HasNoCore file holds (Size at) (is (λ e. cc)) refl) refl
+explains_scope limits RightFor text file (Depth at) holds is = Refused _ (HasNoCore file holds (Depth at) (is (λ e. cc)) refl) refl
+explains_scope limits RightFor text file (Slots at) holds is = Refused _ (HasNoCore file holds (Slots at) (is (λ e. cc)) refl) refl
+explains_scope limits RightFor text file ScopeMemory holds is = tt
 
 -- a step that is over the limits is named
-pub explains_over : (limits : Limits) (text : List ℕ) (file : PlainFile) (refusal : Refusal) → IsFormulaFile text file
-    → NamesFirstOver (steps_of_file file) limits refusal → IsExplained (OnText text Only (IsChecked limits)) refusal
-explains_over limits text file (Budget over) holds is = Read file holds (OverBudget over is refl)
-explains_over limits text file Memory holds is = tt
-explains_over limits text file _ holds is = absurd is
+pub explains_over : (limits : Limits) (RightFor : PlainFile → Outcome → Type 0) (text : List ℕ) (file : PlainFile) (refusal : Refusal) → IsFormulaFile text file
+    → NamesFirstOver (steps_of_file file) limits refusal → IsExplained (OnText text Only (IsBudgeted limits RightFor)) refusal
+explains_over limits RightFor text file (Budget over) holds is = Read file holds (OverBudget over is refl)
+explains_over limits RightFor text file Memory holds is = tt
+explains_over limits RightFor text file _ holds is = absurd is
 
 -- and is a refusal of the text
 pub over_is_of_text : (steps : List PlainStep) (limits : Limits) (refusal : Refusal) → NamesFirstOver steps limits refusal → IsTrue (is_of_text refusal)
@@ -81,13 +83,13 @@ over_is_of_text steps limits (Budget over) is = refl
 over_is_of_text steps limits Memory is = refl
 over_is_of_text steps limits _ is = absurd is
 
--- the verdict, in bytes and with its status
-pub answers_verdict : (limits : Limits) (text : List ℕ) (file : PlainFile) (verdict : Verdict) (status : Status) (out : List ℕ)
-    → IsFormulaFile text file → IsWithinBudget (steps_of_file file) limits → IsVerdict (length file.variables) (models file) verdict
-    → status ≡ status_of_verdict verdict → out ≡ verdict_text verdict
-    → OnText text Only (IsChecked limits) (record { status = status; out = out; err = [] })
-answers_verdict limits text file verdict status out holds within is s o =
-    Read file holds (Decided within verdict is (λ i. record { status = s i; out = o i; err = [] }))
+-- the report
+pub answers_report : (request : Request) (text : List ℕ) (file : PlainFile) (verdict : Verdict) (status : Status) (out : List ℕ)
+    → IsFormulaFile text file → IsWithinBudget (steps_of_file file) (limits_in request) → IsVerdict (length file.variables) (models file) verdict
+    → status ≡ status_of_verdict verdict → Says request (length file.variables) (models file) (texts_of file.variables) verdict out
+    → OnText text Only (IsBudgeted (limits_in request) (IsReport request)) (record { status = status; out = out; err = [] })
+answers_report request text file verdict status out holds within is s says =
+    Read file holds (WithinBudget within (record { verdict = verdict; is_verdict = is; status = s; says = says; no_message = refl }))
 
 -- such a run answers
 pub answer_of_verdict : (verdict : Verdict) → IsTrue (is_answer (status_of_verdict verdict))
@@ -100,47 +102,52 @@ answer_of_verdict verdict = by (is_none verdict.counterexample)
 -- ---- for a file
 
 -- what is right for a text is right for the name where it is held, or may be
-pub fulfils_check : (told : Option Disk) (name text : List ℕ) (outcome : Outcome) → IfSome (held_of told) (λ held. held name ≡ Some text)
-    → OnText text Only (IsChecked DEFAULT_LIMITS) outcome → FulfilsOver (Check name) told outcome
-fulfils_check None name text outcome there right = record { held = λ n. Some text; same = tt; holds = right }
-fulfils_check (Some disk) name text outcome there right = record { held = disk.held; same = refl; holds = rw there right }
+pub fulfils_file : (told : Option Disk) (request : Request) (text : List ℕ) (outcome : Outcome) → IfSome (held_of told) (λ held. held (file_in request) ≡ Some text)
+    → OnText text Only (IsBudgeted (limits_in request) (IsReport request)) outcome → FulfilsOver request told outcome
+fulfils_file None request text outcome there right = record { held = λ n. Some text; same = tt; holds = right }
+fulfils_file (Some disk) request text outcome there right = record { held = disk.held; same = refl; holds = rw there right }
 
 -- some text is longer than n bytes
 longer_text : (n : ℕ) → (text : List ℕ) × (n < length text)
 longer_text n = (replicate (suc n) 0, omega (arith, length-replicate {A = ℕ} (suc n) 0))
 
-fulfils_length : (told new : Option Disk) (name : List ℕ) → WhereTold (ReadsPast name MOST_BYTES) told new
-    → FulfilsOver (Check name) told (refused Length Only)
-fulfils_length None None name past =
+fulfils_length : (told new : Option Disk) (request : Request) → WhereTold (ReadsPast (file_in request) MOST_BYTES) told new
+    → FulfilsOver request told (refused Length Only)
+fulfils_length None None request past =
     let text = longer_text MOST_BYTES in
-    fulfils_check None name text.0 (refused Length Only) tt (Refused Length (TooLong text.1 refl) refl)
-fulfils_length None (Some disk) name past = absurd past
-fulfils_length (Some disk) None name past = absurd past
-fulfils_length (Some disk) (Some new) name past =
-    fulfils_check (Some disk) name past.bytes (refused Length Only) past.there (Refused Length (TooLong past.longer refl) refl)
+    fulfils_file None request text.0 (refused Length Only) tt (Refused Length (TooLong text.1 refl) refl)
+fulfils_length None (Some disk) request past = absurd past
+fulfils_length (Some disk) None request past = absurd past
+fulfils_length (Some disk) (Some new) request past =
+    fulfils_file (Some disk) request past.bytes (refused Length Only) past.there (Refused Length (TooLong past.longer refl) refl)
 
 -- a refusal of the file is right for what is held
-pub explains_taking : (told new : Option Disk) (name : List ℕ) (fault : TakeFault)
-    → IfTooLong {T = Vec ℕ Global} (Err fault) (λ limit. WhereTold (ReadsPast name MOST_BYTES) told new)
-    → IsExplained (FulfilsOver (Check name) told) (refusal_of_taking fault)
-explains_taking told new name TakeOpen past = tt
-explains_taking told new name TakeRead past = tt
-explains_taking told new name (TakeTooLong limit) past = fulfils_length told new name past
-explains_taking told new name TakeMemory past = tt
+pub explains_taking : (told new : Option Disk) (request : Request) (fault : TakeFault)
+    → IfTooLong {T = Vec ℕ Global} (Err fault) (λ limit. WhereTold (ReadsPast (file_in request) MOST_BYTES) told new)
+    → IsExplained (FulfilsOver request told) (refusal_of_taking fault)
+explains_taking told new request TakeOpen past = tt
+explains_taking told new request TakeRead past = tt
+explains_taking told new request (TakeTooLong limit) past = fulfils_length told new request past
+explains_taking told new request TakeMemory past = tt
 
 -- a refusal of the text is one of what is held
-pub explains_text : (told : Option Disk) (name text : List ℕ) (refusal : Refusal) → IfSome (held_of told) (λ held. held name ≡ Some text)
-    → IsExplained (OnText text Only (IsChecked DEFAULT_LIMITS)) refusal → IsExplained (FulfilsOver (Check name) told) refusal
-explains_text told name text Length there h = fulfils_check told name text _ there h
-explains_text told name text (Text fault at) there h = fulfils_check told name text _ there h
-explains_text told name text (Budget over) there h = fulfils_check told name text _ there h
-explains_text told name text Usage there h = tt
-explains_text told name text Open there h = tt
-explains_text told name text ReadRefusal there h = tt
-explains_text told name text Write there h = tt
-explains_text told name text Memory there h = tt
+pub explains_text : (told : Option Disk) (request : Request) (text : List ℕ) (refusal : Refusal) → IfSome (held_of told) (λ held. held (file_in request) ≡ Some text)
+    → IsExplained (OnText text Only (IsBudgeted (limits_in request) (IsReport request))) refusal → IsExplained (FulfilsOver request told) refusal
+explains_text told request text Length there h = fulfils_file told request text _ there h
+explains_text told request text (Text fault at) there h = fulfils_file told request text _ there h
+explains_text told request text (Budget over) there h = fulfils_file told request text _ there h
+explains_text told request text Open there h = tt
+explains_text told request text ReadRefusal there h = tt
+explains_text told request text Write there h = tt
+explains_text told request text Memory there h = tt
 
 -- ---- for the words
+
+-- words that were read through a slice of strings
+pub asks_for : (strings : List (String Global)) (words : List (List ℕ)) (request : Request) → map string_bytes strings ≡ words → IsTaken (map string_bytes strings)
+    → request_of (map string_bytes strings) ≡ Some request → AsksFor words request
+asks_for strings words request same taken asked =
+    record { taken = subst (λ (words : List (List ℕ)). IsTaken words) same taken; asked = subst (λ (words : List (List ℕ)). request_of words ≡ Some request) same asked }
 
 -- what is right for the request of the words is right for them
 pub right_request : (words : List (List ℕ)) (request : Request) (told : Option Disk) (outcome : Outcome)
@@ -159,37 +166,29 @@ module _ (words : List (List ℕ)) (request : Request) (told : Option Disk) (ask
   pub stops_request : StopsWithin (FulfilsOver request told) old new → StopsWithin (IsRightOver words told) old new
   stops_request some = (some.0, right_request words request told some.0 asked some.1, some.2)
 
-pub explains_request : (words : List (List ℕ)) (request : Request) (told : Option Disk) (asked : AsksFor words request) (refusal : Refusal)
-    → IsExplained (FulfilsOver request told) refusal → IsExplained (IsRightOver words told) refusal
-explains_request words request told asked refusal h =
-    elim (is_determined (status_of refusal)) as (λ b. OnTrue b (FulfilsOver request told (refused refusal Only)) → OnTrue b (IsRightOver words told (refused refusal Only))) [
-      | true ↦ λ right. right_request words request told _ asked right
-      | false ↦ λ none. tt
-    ] h
-
 -- ---- for what was written
 
 pub on_true : (b : Bool) {P : Type 0} → P → OnTrue b P
 on_true true h = h
 on_true false h = tt
 
-module _ (told : Option Disk) (name text : List ℕ) (report : Report) (old new : Option (List ℕ))
-    (there : IfSome (held_of told) (λ held. held name ≡ Some text)) (right : OnText text Only (IsChecked DEFAULT_LIMITS) (reported report)) where
-  fulfils : FulfilsOver (Check name) told (reported report)
-  fulfils = fulfils_check told name text (reported report) there right
+module _ (told : Option Disk) (request : Request) (text : List ℕ) (report : Report) (old new : Option (List ℕ))
+    (there : IfSome (held_of told) (λ held. held (file_in request) ≡ Some text)) (right : OnText text Only (IsBudgeted (limits_in request) (IsReport request)) (reported report)) where
+  fulfils : FulfilsOver request told (reported report)
+  fulfils = fulfils_file told request text (reported report) there right
 
   -- a report that was written whole
-  pub whole_ends : Appends old new report.text.items → EndsBy (FulfilsOver (Check name) told) report.status old new (λ message. message ≡ [])
+  pub whole_ends : Appends old new report.text.items → EndsBy (FulfilsOver request told) report.status old new (λ message. message ≡ [])
   whole_ends written = record { outcome = reported report; right = fulfils; ends = refl; report = written; message = refl }
 
-  pub whole_front : Appends old new report.text.items → AddsFront (FulfilsOver (Check name) told) old new
+  pub whole_front : Appends old new report.text.items → AddsFront (FulfilsOver request told) old new
   whole_front written = inr (reported report, fulfils, (length report.text.items, omega arith, rw take-length written))
 
   -- and one that was not
-  pub part_front : AppendsStrictPrefix old new report.text.items → AddsFront (FulfilsOver (Check name) told) old new
+  pub part_front : AppendsStrictPrefix old new report.text.items → AddsFront (FulfilsOver request told) old new
   part_front part = inr (reported report, fulfils, strict_is_prefix old new report.text.items part)
 
-  pub part_stops : AppendsStrictPrefix old new report.text.items → StopsWithin (FulfilsOver (Check name) told) old new
+  pub part_stops : AppendsStrictPrefix old new report.text.items → StopsWithin (FulfilsOver request told) old new
   part_stops part = (reported report, fulfils, part)
 
 pub on_true_weaker : (b : Bool) {P Q : Type 0} → (P → Q) → OnTrue b P → OnTrue b Q

@@ -3,6 +3,7 @@
 --     kind_of, limit_of               what there is too much of, and how much there may be
 --     IsFirstOver limits file over    this step is the first over the limits, with what it has too much of and where its text begins
 --     NamesFirstOver steps limits r   the refusal names the first of these steps that is over the limits, or memory ran out
+--     IsBudgeted limits Right ..      the outcome names the first step over the limits, or there is none and it is right otherwise
 use Rattle.std.specs.Prelude.{◌≡◌, ℕ, List, Some, length, slice_get}
 use Rattle.std.specs.Option.{option_map}
 use Rattle.dcv_syntax.specs.Plain.{PlainFile}
@@ -10,12 +11,14 @@ use Rattle.dcv_scope.specs.CoreOf.{core_of_file}
 use Rattle.dcv_scope.specs.Steps.{PlainStep, steps_of}
 use Rattle.dcv_explore.specs.declared.explorer.Limits.{Limits}
 use Rattle.dcv_explore.specs.Budget.{Kind, TooManyStates, TooManyNodes}
-use Rattle.dcv_build.specs.Budget.{IsOver}
+use Rattle.dcv_build.specs.Budget.{IsOver, IsWithinBudget}
 use Rattle.dcv_cli.specs.declared.over.Excess.{Excess}
 use Rattle.dcv_cli.specs.declared.over.Excess.TheVariants.{States, Nodes}
 use Rattle.dcv_cli.specs.declared.over.Over.{Over}
 use Rattle.dcv_cli.specs.declared.refusal.Refusal.{Refusal}
 use Rattle.dcv_cli.specs.declared.refusal.Refusal.TheVariants.{Budget, Memory}
+use Rattle.dcv_cli.specs.Outcome.{Outcome, refused}
+use Rattle.dcv_cli.specs.Refusal.{Only}
 
 abbrev pub steps_of_file : PlainFile → List PlainStep
 steps_of_file file = steps_of (length file.variables) (core_of_file file)
@@ -41,3 +44,8 @@ abbrev pub NamesFirstOver : List PlainStep → Limits → Refusal → Type 0
 NamesFirstOver steps limits (Budget over) = IsFirstOverIn steps limits over
 NamesFirstOver steps limits Memory = Unit {0}
 NamesFirstOver steps limits _ = ⊥
+
+-- Some step is over the limits, and the first such step is named; or none is, and the outcome is right for the file in another way, `RightFor`.
+pub data IsBudgeted (limits : Limits) (RightFor : PlainFile → Outcome → Type 0) (file : PlainFile) (outcome : Outcome) : Type 0 where
+  OverBudget : (over : Over) → IsFirstOver limits file over → outcome ≡ refused (Budget over) Only → IsBudgeted limits RightFor file outcome
+  WithinBudget : IsWithinBudget (steps_of_file file) limits → RightFor file outcome → IsBudgeted limits RightFor file outcome

@@ -13,13 +13,14 @@ use Rattle.dcv_io.specs.Asked.{Asks, AsksPrefix}
 use Rattle.dcv_io.specs.Disk.{Disk}
 use Rattle.dcv_io.specs.Faults.{has_risen, Rises}
 use Rattle.dcv_io.specs.Written.{Appends, AppendsPrefix, AppendsStrictPrefix}
+use Rattle.dcv_command.specs.Request.{Request}
 use Rattle.dcv_cli.specs.declared.refusal.Refusal.{Refusal}
 use Rattle.dcv_cli.specs.declared.refusal.Refusal.TheVariants.{Open, Read, Write, Memory as OutOfMemory}
 use Rattle.dcv_cli.specs.declared.status.Status.{Status}
 use Rattle.dcv_cli.specs.declared.status.Status.TheVariants.{Input, Output, Memory}
 use Rattle.dcv_cli.specs.Outcome.{Outcome, refused}
 use Rattle.dcv_cli.specs.Refusal.{status_of, message_of, Only}
-use Rattle.dcv_cli.specs.Request.{Request, Check, AsksFor, files_of}
+use Rattle.dcv_cli.specs.Request.{AsksFor, files_of}
 use Rattle.dcv_cli.specs.Right.{ForHeld}
 use Rattle.dcv_cli.specs.Status.{is_determined}
 
@@ -45,9 +46,9 @@ AddsFront Right old new = Appends old new [] ⊎ ((outcome : Outcome) × Right o
 abbrev pub StopsWithin : (Outcome → Type 0) → Option (List ℕ) → Option (List ℕ) → Type 0
 StopsWithin Right old new = (outcome : Outcome) × Right outcome × AppendsStrictPrefix old new outcome.out
 
--- What a run of the request has written where an input failed: of a formula file nothing.
+-- What a run of the request has written where an input failed: on a formula file nothing.
 abbrev pub Leaves : Request → (List ℕ → Option (List ℕ)) → List ℕ → Type 0
-Leaves (Check name) held bytes = bytes ≡ []
+Leaves request held bytes = bytes ≡ []
 
 -- that is what was added to the output, for the request of the words
 pub record LeavesOver (words : List (List ℕ)) (told : Option Disk) (old new : Option (List ℕ)) : Type 0 where

@@ -4,7 +4,8 @@ use Rattle.std.specs.List.{All}
 use Rattle.dcv_syntax.specs.Plain.{PlainFile}
 use Rattle.dcv_cli.specs.FormulaFile.{IsFormulaFile}
 use Rattle.dcv_cli.specs.Outcome.{Outcome, Agrees}
-use Rattle.dcv_cli.specs.Request.{Request, Check, AsksFor, files_of}
+use Rattle.dcv_command.specs.Request.{Request, file_in}
+use Rattle.dcv_cli.specs.Request.{AsksFor, files_of}
 use Rattle.dcv_cli.specs.Right.{IsRight}
 
 -- two outcomes that are right for the words and what is held are the same, but for what is left to the program
@@ -16,12 +17,12 @@ OneOutcome = (words : List (List ℕ)) (held : List ℕ → Option (List ℕ)) (
 abbrev pub AreHeld : List (List ℕ) → (List ℕ → Option (List ℕ)) → Type 0
 AreHeld words held = (request : Request) → AsksFor words request → All (λ name. IsSome (held name)) (files_of request)
 
--- the words ask for the verdict of a file, and what is held there is a formula file
+-- the words ask for a report on a file, and what is held there is a formula file
 pub record AskForAFormula (words : List (List ℕ)) (held : List ℕ → Option (List ℕ)) : Type 0 where
-  pub name : List ℕ
-  pub asked : AsksFor words (Check name)
+  pub request : Request
+  pub asked : AsksFor words request
   pub text : List ℕ
-  pub there : held name ≡ Some text
+  pub there : held (file_in request) ≡ Some text
   pub file : PlainFile
   pub formula : IsFormulaFile text file
 

@@ -5,7 +5,8 @@ pub mod Refusal
 pub mod Outcome
 pub mod FormulaFile
 pub mod Budget
-pub mod Check
+pub mod Automaton
+pub mod Report
 pub mod Right
 pub mod Ending
 pub mod Laws

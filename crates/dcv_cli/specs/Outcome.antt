@@ -1,19 +1,17 @@
 -- How a run may end.
 --     Outcome                 status, report and message
 --     refused refusal which   nothing but the line of a refusal
---     answered verdict        the verdict, and no message
 --     NameOneStep             two messages name the same step over the budget
 --     Agrees one other        the same, but for what is left to the program
-use Rattle.std.specs.Prelude.{◌≡◌, ◌≢◌, ℕ, List, []}
-use Rattle.dcv_language.specs.Verdict.{Verdict}
-use Rattle.dcv_language.specs.VerdictText.{line, verdict_text}
+use Rattle.std.specs.Prelude.{◌≡◌, ◌≢◌, ◌⊎◌, ℕ, List, []}
+use Rattle.dcv_language.specs.VerdictText.{line}
 use Rattle.dcv_cli.specs.declared.over.Over.{Over}
 use Rattle.dcv_cli.specs.declared.refusal.Refusal.{Refusal}
 use Rattle.dcv_cli.specs.declared.refusal.Refusal.TheVariants.{Budget}
 use Rattle.dcv_cli.specs.declared.status.Status.{Status}
 use Rattle.dcv_cli.specs.declared.status.Status.TheVariants.{Usage, Budget as StatusBudget}
+use Rattle.dcv_print.specs.Automaton.{DifferInSuffixes}
 use Rattle.dcv_cli.specs.Refusal.{status_of, words_of, message_of, Which, ended}
-use Rattle.dcv_cli.specs.Status.{status_of_verdict}
 
 -- how a run ends, and what it adds to the output and to the messages
 pub record Outcome : Type 0 where
@@ -24,9 +22,6 @@ pub record Outcome : Type 0 where
 abbrev pub refused : Refusal → Which → Outcome
 refused refusal which = record { status = status_of refusal; out = []; err = line (ended which (words_of refusal)) }
 
-abbrev pub answered : Verdict → Outcome
-answered verdict = record { status = status_of_verdict verdict; out = verdict_text verdict; err = [] }
-
 -- both messages are of a step over the budget, and it is the same step, at the same place of the text
 pub record NameOneStep (one other : List ℕ) : Type 0 where
   pub first : Over
@@ -36,10 +31,10 @@ pub record NameOneStep (one other : List ℕ) : Type 0 where
   pub step : first.step ≡ second.step
   pub place : first.at ≡ second.at
 
--- The message of a run whose words are refused is left to the program, and where a step has too many states and too many nodes, which
--- of the two is named. All else is the same.
+-- The message of a run whose words are refused is left to the program, where a step has too many states and too many nodes, which
+-- of the two is named, and in the text of an automaton which suffixes are listed. All else is the same.
 pub record Agrees (one other : Outcome) : Type 0 where
   pub status : one.status ≡ other.status
-  pub report : one.out ≡ other.out
+  pub report : (one.out ≡ other.out) ⊎ DifferInSuffixes one.out other.out
   pub message : one.status ≢ Usage → one.status ≢ StatusBudget → one.err ≡ other.err
   pub step : one.status ≡ StatusBudget → NameOneStep one.err other.err

@@ -3,7 +3,7 @@
 --     over_words over        those of the first step that is over the limits, as `budget states 30000 at 12 step 3`
 --     message_of refusal     the line
 --     ended which words      the words where a request reads more than one formula file, and this one is refused
-use Rattle.std.specs.Prelude.{ℕ, Bool, true, false, List, ◌++◌, Option, None, Some, Result, Err, codes}
+use Rattle.std.specs.Prelude.{ℕ, Bool, true, false, List, ◌++◌, Result, Err, codes}
 use Rattle.std.specs.Fmt.{decimal}
 use Rattle.dcv_io.specs.declared.fault.TakeFault.{TakeFault}
 use Rattle.dcv_io.specs.declared.fault.TakeFault.TheVariants.{Open as TakeOpen, Read as TakeRead, TooLong, Memory as TakeMemory}
@@ -19,14 +19,13 @@ use Rattle.dcv_cli.specs.declared.over.Excess.TheVariants.{States, Nodes}
 use Rattle.dcv_cli.specs.declared.over.Over.{Over}
 use Rattle.dcv_cli.specs.declared.refusal.TheConstants.{MOST_BYTES}
 use Rattle.dcv_cli.specs.declared.refusal.Refusal.{Refusal}
-use Rattle.dcv_cli.specs.declared.refusal.Refusal.TheVariants.{Usage, Open, Read, Length, Text, Budget, Write, Memory}
+use Rattle.dcv_cli.specs.declared.refusal.Refusal.TheVariants.{Open, Read, Length, Text, Budget, Write, Memory}
 use Rattle.dcv_cli.specs.declared.refusal.TextFault.{TextFault}
 use Rattle.dcv_cli.specs.declared.refusal.TextFault.TheVariants.{Byte, Syntax, Number, Name, Nest, Many, Duplicate, Taken, Unknown, Kind, Arity, Size, Depth, Slots}
 use Rattle.dcv_cli.specs.declared.status.Status.{Status}
-use Rattle.dcv_cli.specs.declared.status.Status.TheVariants.{Usage as StatusUsage, Formula, Budget as StatusBudget, Input, Output, Memory as StatusMemory}
+use Rattle.dcv_cli.specs.declared.status.Status.TheVariants.{Formula, Budget as StatusBudget, Input, Output, Memory as StatusMemory}
 
 abbrev pub status_of : Refusal → Status
-status_of Usage = StatusUsage
 status_of Open = Input
 status_of Read = Input
 status_of Write = Output
@@ -51,29 +50,12 @@ text_word_of Size = codes "size"
 text_word_of Depth = codes "depth"
 text_word_of Slots = codes "slots"
 
--- what is refused, in a word
-abbrev pub word_of : Refusal → List ℕ
-word_of Usage = codes "usage"
-word_of Open = codes "open"
-word_of Read = codes "read"
-word_of Length = codes "length"
-word_of (Text fault at) = text_word_of fault
-word_of (Budget over) = codes "budget"
-word_of Write = codes "write"
-word_of Memory = codes "memory"
+abbrev pub fault_words : List ℕ → List ℕ
+fault_words word = codes "fault " ++ word
 
--- the offset in the file that it names: that of the text's fault, or the one behind the last byte that a file may have
-abbrev pub place_of : Refusal → Option ℕ
-place_of Length = Some MOST_BYTES
-place_of (Text fault at) = Some at
-place_of _ = None
-
-abbrev pub with_place : List ℕ → Option ℕ → List ℕ
-with_place words None = words
-with_place words (Some at) = words ++ codes " at " ++ decimal at
-
-abbrev pub fault_words : Refusal → List ℕ
-fault_words refusal = with_place (codes "fault " ++ word_of refusal) (place_of refusal)
+-- with an offset in the file
+abbrev pub fault_words_at : List ℕ → ℕ → List ℕ
+fault_words_at word at = fault_words word ++ codes " at " ++ decimal at
 
 -- what a step has too many of, in a word
 abbrev pub excess_word_of : Excess → List ℕ
@@ -84,17 +66,15 @@ abbrev pub over_words : Over → List ℕ
 over_words over =
     codes "budget " ++ excess_word_of over.excess ++ codes " " ++ decimal over.limit ++ codes " at " ++ decimal over.at ++ codes " step " ++ decimal over.step
 
--- what is over the limits, where that is why
-abbrev pub over_of : Refusal → Option Over
-over_of (Budget over) = Some over
-over_of _ = None
-
-abbrev pub over_or_fault : Option Over → List ℕ → List ℕ
-over_or_fault None fault = fault
-over_or_fault (Some over) fault = over_words over
-
+-- A file that is too long is at fault behind the last byte that a file may have.
 abbrev pub words_of : Refusal → List ℕ
-words_of refusal = over_or_fault (over_of refusal) (fault_words refusal)
+words_of Open = fault_words (codes "open")
+words_of Read = fault_words (codes "read")
+words_of Length = fault_words_at (codes "length") MOST_BYTES
+words_of (Text fault at) = fault_words_at (text_word_of fault) at
+words_of (Budget over) = over_words over
+words_of Write = fault_words (codes "write")
+words_of Memory = fault_words (codes "memory")
 
 abbrev pub message_of : Refusal → List ℕ
 message_of refusal = line (words_of refusal)
@@ -150,13 +130,8 @@ abbrev pub is_write_refusal : {T : Type 0} → Result T Refusal → Bool
 is_write_refusal (Err Write) = true
 is_write_refusal _ = false
 
-abbrev pub is_usage_refusal : {T : Type 0} → Result T Refusal → Bool
-is_usage_refusal (Err Usage) = true
-is_usage_refusal _ = false
-
 -- the refusal is one of the text itself, or memory ran out while it was judged
 abbrev pub is_of_text : Refusal → Bool
-is_of_text Usage = false
 is_of_text Open = false
 is_of_text Read = false
 is_of_text Write = false

@@ -4,16 +4,17 @@
 --     ForHeld told P                    P of what the files tell that they hold
 use Rattle.std.specs.Prelude.{◌≡◌, ℕ, List, [], Option, IfSome}
 use Rattle.dcv_io.specs.Disk.{Disk, held_of}
-use Rattle.dcv_cli.specs.declared.limits.TheConstants.{DEFAULT_LIMITS}
 use Rattle.dcv_cli.specs.declared.status.Status.TheVariants.{Usage}
-use Rattle.dcv_cli.specs.Check.{IsChecked}
+use Rattle.dcv_command.specs.Request.{Request, IsTaken, file_in, limits_in}
+use Rattle.dcv_cli.specs.Budget.{IsBudgeted}
 use Rattle.dcv_cli.specs.FormulaFile.{OnFile}
 use Rattle.dcv_cli.specs.Outcome.{Outcome}
 use Rattle.dcv_cli.specs.Refusal.{Only}
-use Rattle.dcv_cli.specs.Request.{Request, Check, AsksFor, IsTaken}
+use Rattle.dcv_cli.specs.Report.{IsReport}
+use Rattle.dcv_cli.specs.Request.{AsksFor}
 
 abbrev pub Fulfils : Request → (List ℕ → Option (List ℕ)) → Outcome → Type 0
-Fulfils (Check name) held outcome = OnFile held name Only (IsChecked DEFAULT_LIMITS) outcome
+Fulfils request held outcome = OnFile held (file_in request) Only (IsBudgeted (limits_in request) (IsReport request)) outcome
 
 -- Words that are no command's are refused, in whatever words. Else what fulfils their request is right.
 pub data IsRight (words : List (List ℕ)) (held : List ℕ → Option (List ℕ)) (outcome : Outcome) : Type 0 where

@@ -55,3 +55,8 @@ abbrev pub is_of_request : Status → Bool
 is_of_request Usage = false
 is_of_request Memory = false
 is_of_request _ = true
+
+-- the status of a run whose words are refused
+abbrev pub is_usage : Status → Bool
+is_usage Usage = true
+is_usage _ = false

@@ -1,11 +1,12 @@
 // The automaton of a core with its verdict, or the refusal that names the first step over the limits.
-ghost use Rattle.std.specs.Prelude.{◌≡◌, ◌<◌, ℕ, Some, length, slice_get, IfOk, IfErr, OnOk};
+ghost use Rattle.std.specs.Prelude.{◌≡◌, ◌<◌, ◌≤◌, ℕ, Some, length, slice_get, IfOk, IfErr, OnOk};
 ghost use Rattle.std.specs.Option.{option_map};
 ghost use Rattle.dcv_language.specs.Language.{Language};
 ghost use Rattle.dcv_language.specs.Verdict.{IsVerdict};
 ghost use Rattle.dcv_scope.specs.Core.{CoreTree};
 ghost use Rattle.dcv_scope.specs.Holds.{words_of};
 ghost use Rattle.dcv_scope.specs.Steps.{steps_of};
+ghost use Rattle.dcv_dfa.specs.Auto.{count_of_nodes};
 ghost use Rattle.dcv_build.specs.Budget.{IsAutomatonOf, IsWithinBudget};
 ghost use Rattle.dcv_build.specs.Given.{IsCore, IsCoreOf};
 ghost use Rattle.dcv_print.specs.Verdict.{seen_verdict};
@@ -26,6 +27,8 @@ use std::alloc::{AllocError, Global};
 pub(crate) fn automaton_of(alloc: Global, core: &Core, limits: Limits) -> Result<Auto, Refusal>
     requires { IsCore core.now }
     ensures canonical { (tree : CoreTree) → IsCoreOf tree core.now → IfOk result (IsAutomatonOf core.now.declared (words_of tree)) }
+    ensures few_states { IfOk result (λ auto. length auto.rows ≤ limits.states) }
+    ensures few_nodes { IfOk result (λ auto. count_of_nodes auto ≤ limits.nodes) }
     ensures within { (tree : CoreTree) → IsCoreOf tree core.now → OnOk result (IsWithinBudget (steps_of core.now.declared tree) limits) }
     ensures over { (tree : CoreTree) → IsCoreOf tree core.now → IfErr result (NamesFirstOver (steps_of core.now.declared tree) limits) }
 {

@@ -2,7 +2,9 @@
 ghost use Rattle.dcv_cli.specs.Laws.{OneOutcome, SomeOutcome};
 
 use dcv_build::laws::one_step_is_over;
+use dcv_command::laws::taken_words_ask;
 use dcv_language::laws::one_verdict;
+use dcv_print::laws::one_automaton;
 use dcv_reader::laws::{one_fault, one_tree, some_reading};
 
 /// One outcome at most is right for the words and the texts that are held. So each status, report and message that
@@ -14,6 +16,7 @@ pub fn one_outcome()
     one_fault();
     one_verdict();
     one_step_is_over();
+    one_automaton();
 }
 
 /// Some outcome is right for all words, where the files that they name are held, unless the text is that of a formula file. So no words
@@ -22,4 +25,5 @@ pub fn some_outcome()
     ensures { SomeOutcome }
 {
     some_reading();
+    taken_words_ask();
 }

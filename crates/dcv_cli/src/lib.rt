@@ -13,13 +13,13 @@
 #![tactic(auto)]
 
 mod budget;
-mod check;
 pub mod laws;
-mod limits;
 mod over;
 mod refusal;
+mod reporting;
 mod running;
 mod status;
+mod texts;
 mod words;
 
 pub use running::run;

@@ -5,7 +5,7 @@ ghost use Rattle.dcv_io.specs.Faults.{RisesIf};
 ghost use Rattle.dcv_io.specs.Written.{Appends, AppendsPrefix};
 ghost use Rattle.dcv_cli.specs.declared.refusal.Refusal.TheVariants.{Memory, Text, Write};
 ghost use Rattle.dcv_language.specs.VerdictText.{line};
-ghost use Rattle.dcv_cli.specs.Refusal.{status_of, text_word_of, word_of, over_of, place_of, fault_words, message_of};
+ghost use Rattle.dcv_cli.specs.Refusal.{status_of, text_word_of, fault_words, fault_words_at, message_of};
 ghost use Rattle.dcv_cli.specs.Refusal.{refusal_of_taking, refusal_of_reading, refusal_of_scope};
 
 use crate::over::Over;
@@ -79,8 +79,6 @@ impl TextFault {
 /// Why a run gives no report.
 #[derive(Clone, Copy, Debug, PartialEq, Eq)]
 pub enum Refusal {
-    /// The words ask for nothing that the program does.
-    Usage,
     /// The file could not be opened.
     Open,
     /// The file could not be read to its end.
@@ -103,49 +101,11 @@ impl Refusal {
         ensures { result ≡ status_of self }
     {
         match self {
-            Refusal::Usage => Status::Usage,
             Refusal::Open | Refusal::Read => Status::Input,
             Refusal::Length | Refusal::Text { .. } => Status::Formula,
             Refusal::Budget(_) => Status::Budget,
             Refusal::Write => Status::Output,
             Refusal::Memory => Status::Memory,
-        }
-    }
-
-    // What is refused, in a word.
-    fn word(self) -> &'static [u8]
-        ensures { result.now ≡ word_of self }
-    {
-        match self {
-            Refusal::Usage => b"usage",
-            Refusal::Open => b"open",
-            Refusal::Read => b"read",
-            Refusal::Length => b"length",
-            Refusal::Text { fault, .. } => fault.word(),
-            Refusal::Budget(_) => b"budget",
-            Refusal::Write => b"write",
-            Refusal::Memory => b"memory",
-        }
-    }
-
-    // What is over the limits, where that is why.
-    fn over(self) -> Option<Over>
-        ensures { result ≡ over_of self }
-    {
-        match self {
-            Refusal::Budget(over) => Some(over),
-            _ => None,
-        }
-    }
-
-    // The offset in the file that it names.
-    fn place(self) -> Option<u64>
-        ensures { result ≡ place_of self }
-    {
-        match self {
-            Refusal::Length => Some(MOST_BYTES),
-            Refusal::Text { at, .. } => Some(u64::from(at)),
-            _ => None,
         }
     }
 
@@ -155,28 +115,36 @@ impl Refusal {
         ensures failed { OnErr result (AppendsPrefix (S.written sink.old) (S.written sink.new) (message_of self)) }
         ensures faults { RisesIf (is_err result) (S.faults sink.old) (S.faults sink.new) }
     {
-        match self.over() {
-            Some(over) => over.tell(sink),
-            None => self.tell_fault(sink),
+        match self {
+            Refusal::Open => tell_fault(sink, b"open"),
+            Refusal::Read => tell_fault(sink, b"read"),
+            Refusal::Length => tell_fault_at(sink, b"length", MOST_BYTES),
+            Refusal::Text { fault, at } => tell_fault_at(sink, fault.word(), u64::from(at)),
+            Refusal::Budget(over) => over.tell(sink),
+            Refusal::Write => tell_fault(sink, b"write"),
+            Refusal::Memory => tell_fault(sink, b"memory"),
         }
     }
+}
 
-    // Writes the line of a fault.
-    fn tell_fault<S: Sink>(self, sink: &mut S) -> Result<(), Failed>
-        ensures ok { OnOk result (Appends (S.written sink.old) (S.written sink.new) (line (fault_words self))) }
-        ensures failed { OnErr result (AppendsPrefix (S.written sink.old) (S.written sink.new) (line (fault_words self))) }
-        ensures faults { RisesIf (is_err result) (S.faults sink.old) (S.faults sink.new) }
-    {
-        let word = self.word();
-        match self.place() {
-            None => write_pieces(sink, &[b"fault ", word, b"\n"]),
-            Some(at) => {
-                let mut number = Buffer::new();
-                let digits = number.format(at);
-                write_pieces(sink, &[b"fault ", word, b" at ", digits.as_bytes(), b"\n"])
-            }
-        }
-    }
+// Writes the line of a fault.
+fn tell_fault<S: Sink>(sink: &mut S, word: &[u8]) -> Result<(), Failed>
+    ensures ok { OnOk result (Appends (S.written sink.old) (S.written sink.new) (line (fault_words word.now))) }
+    ensures failed { OnErr result (AppendsPrefix (S.written sink.old) (S.written sink.new) (line (fault_words word.now))) }
+    ensures faults { RisesIf (is_err result) (S.faults sink.old) (S.faults sink.new) }
+{
+    write_pieces(sink, &[b"fault ", word, b"\n"])
+}
+
+// Writes the line of a fault at an offset in the file.
+fn tell_fault_at<S: Sink>(sink: &mut S, word: &[u8], at: u64) -> Result<(), Failed>
+    ensures ok { OnOk result (Appends (S.written sink.old) (S.written sink.new) (line (fault_words_at word.now at))) }
+    ensures failed { OnErr result (AppendsPrefix (S.written sink.old) (S.written sink.new) (line (fault_words_at word.now at))) }
+    ensures faults { RisesIf (is_err result) (S.faults sink.old) (S.faults sink.new) }
+{
+    let mut number = Buffer::new();
+    let digits = number.format(at);
+    write_pieces(sink, &[b"fault ", word, b" at ", digits.as_bytes(), b"\n"])
 }
 
 // A text is refused for this fault.

@@ -1,7 +1,6 @@
 // The words of the command line.
-ghost use Rattle.std.specs.Prelude.{◌≡◌, [], ◌∷◌, ◌++◌, OnOk, OnErr};
-ghost use Rattle.dcv_cli.specs.Request.{Check, request_of, is_file_name as names_a_file};
-ghost use Rattle.dcv_cli.specs.Seen.{asked_by, requested};
+ghost use Rattle.std.specs.Prelude.{◌≡◌, [], ◌∷◌, ◌++◌, map, OnOk, OnErr};
+ghost use Rattle.std.specs.String.{string_bytes};
 
 use std::alloc::{AllocError, Global};
 use std::marker::Model;
@@ -11,24 +10,6 @@ use std::marker::Model;
 pub struct Words {
     alloc: Global,
     words: Vec<String>,
-}
-
-/// What the program is asked to do.
-#[derive(Clone, Copy, Debug)]
-pub enum Command<'a> {
-    /// To write the verdict of the formula in the file of this name.
-    Check { file: &'a str },
-}
-
-impl<'a> Command<'a> {
-    // for the prover: a pattern of an enum with one variant leaves its field without a name in goals
-    pub fn file(self) -> &'a str
-        ensures { asked_by self.entry ≡ Check result.now }
-    {
-        match self {
-            Command::Check { file } => file,
-        }
-    }
 }
 
 impl Model for Words {
@@ -61,34 +42,10 @@ impl Words {
         Ok(())
     }
 
-    /// What the words ask for, if they are those of a command.
-    pub fn command(&self) -> Option<Command<'_>>
-        ensures { request_of self.now ≡ requested result }
+    // All of them.
+    pub(crate) fn as_slice(&self) -> &[String]
+        ensures { map string_bytes result.now ≡ self.now }
     {
-        match self.words.as_slice() {
-            [word, name] => check_of(word.as_str(), name.as_str()),
-            _ => None,
-        }
-    }
-}
-
-// The command, where the two words are those of a check.
-fn check_of<'a>(word: &'a str, name: &'a str) -> Option<Command<'a>>
-    ensures { request_of (word.now ∷ name.now ∷ []) ≡ requested result }
-{
-    if word == "check" && is_file_name(name) {
-        Some(Command::Check { file: name })
-    } else {
-        None
-    }
-}
-
-// Whether the word names a file: it is not empty, and begins with no dash.
-fn is_file_name(word: &str) -> bool
-    ensures { result ≡ names_a_file word.now }
-{
-    match word.as_bytes() {
-        [] => false,
-        [first, ..] => *first != b'-',
+        self.words.as_slice()
     }
 }

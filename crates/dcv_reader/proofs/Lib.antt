@@ -8,3 +8,4 @@ pub mod Trees
 pub mod BuilderFiles
 pub mod EachTree
 pub mod SomeReadings
+pub mod Names

@@ -1,5 +1,5 @@
 //! Laws of the definitions that the contracts cite.
-ghost use Rattle.dcv_reader.specs.Laws.{SomeReading};
+ghost use Rattle.dcv_reader.specs.Laws.{SomeReading, NamesAreShort};
 ghost use Rattle.dcv_reader.specs.Spelling.{SpellsOne};
 
 pub use dcv_sentence::laws::{one_class, one_cut, one_fault};
@@ -12,4 +12,9 @@ pub fn one_tree()
 /// A text has a first fault, or else it spells a file.
 pub fn some_reading()
     ensures { SomeReading }
+{}
+
+/// The declared variables of a text without faults are names, and none is too long.
+pub fn names_are_short()
+    ensures { NamesAreShort }
 {}

@@ -3,4 +3,4 @@ use Rattle.dcv_cli.proofs.SomeOutcome.{some_outcome}
 use Rattle.dcv_cli.proofs.laws.some_outcome.Goals as goal
 
 pub returns : goal.returns
-returns c = some_outcome c.some_reading.ensures
+returns c = some_outcome c.some_reading.ensures c.taken_words_ask.ensures
