@@ -1,5 +1,6 @@
 pub mod File
 pub mod Judged
+pub mod Laws
 pub mod Parts
 pub mod Read
 pub mod Seen

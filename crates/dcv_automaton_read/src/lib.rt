@@ -5,6 +5,7 @@
 mod building;
 mod faults;
 mod file;
+pub mod laws;
 mod letters;
 mod names;
 mod nodes;
