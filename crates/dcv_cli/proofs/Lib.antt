@@ -1,6 +1,7 @@
 pub mod Automata
 pub mod Budgets
 pub mod Endings
+pub mod EqualMeanings
 pub mod OneOutcome
 pub mod Outcomes
 pub mod Pieces

@@ -1,12 +1,16 @@
 -- The laws that `src/laws.rt` proves.
-use Rattle.std.specs.Prelude.{◌≡◌, ◌⊎◌, ℕ, List, Option, Some, IsSome}
+use Rattle.std.specs.Prelude.{◌≡◌, ◌⊎◌, ℕ, List, Option, Some, IsSome, IsTrue, length}
 use Rattle.std.specs.List.{All}
 use Rattle.dcv_syntax.specs.Plain.{PlainFile}
+use Rattle.dcv_language.specs.Language.{HaveSameBehaviours}
+use Rattle.dcv_logic.specs.Models.{models}
+use Rattle.dcv_print.specs.Printed.{texts_of}
 use Rattle.dcv_cli.specs.FormulaFile.{IsFormulaFile}
 use Rattle.dcv_cli.specs.Outcome.{Outcome, Agrees}
-use Rattle.dcv_command.specs.Request.{Request, file_in}
+use Rattle.dcv_command.specs.Request.{Request, Check, Automaton, file_in}
 use Rattle.dcv_cli.specs.Request.{AsksFor, files_of}
-use Rattle.dcv_cli.specs.Right.{IsRight}
+use Rattle.dcv_cli.specs.Right.{Fulfils, IsRight}
+use Rattle.dcv_cli.specs.Status.{is_answer}
 
 -- two outcomes that are right for the words and what is held are the same, but for what is left to the program
 abbrev pub OneOutcome : Type 0
@@ -30,3 +34,31 @@ pub record AskForAFormula (words : List (List ℕ)) (held : List ℕ → Option 
 abbrev pub SomeOutcome : Type 0
 SomeOutcome = (words : List (List ℕ)) (held : List ℕ → Option (List ℕ)) → AreHeld words held
     → ((outcome : Outcome) × IsRight words held outcome) ⊎ AskForAFormula words held
+
+-- ---- files that mean the same
+
+-- the same command, over any file and with any limits
+abbrev pub AskTheSame : Request → Request → Type 0
+AskTheSame (Check name limits) (Check other other_limits) = Unit {0}
+AskTheSame (Automaton name limits) (Automaton other other_limits) = Unit {0}
+AskTheSame (Check name limits) (Automaton other other_limits) = ⊥
+AskTheSame (Automaton name limits) (Check other other_limits) = ⊥
+
+-- variables with the same names, and the same behaviours that model them
+pub record MeanTheSame (one other : PlainFile) : Type 0 where
+  pub same_names : texts_of one.variables ≡ texts_of other.variables
+  pub same_models : HaveSameBehaviours (length one.variables) (models one) (models other)
+
+-- the outcome is right for the request, and answers it by a report on this formula file
+pub record IsAnswer (request : Request) (held : List ℕ → Option (List ℕ)) (file : PlainFile) (outcome : Outcome) : Type 0 where
+  pub text : List ℕ
+  pub there : held (file_in request) ≡ Some text
+  pub formula : IsFormulaFile text file
+  pub right : Fulfils request held outcome
+  pub answers : IsTrue (is_answer outcome.status)
+
+-- files that mean the same have the same verdict, and the same automaton but for its suffixes
+abbrev pub EqualMeanings : Type 0
+EqualMeanings = (request other : Request) (held other_held : List ℕ → Option (List ℕ)) (file other_file : PlainFile) (one another : Outcome)
+    → AskTheSame request other → MeanTheSame file other_file → IsAnswer request held file one → IsAnswer other other_held other_file another
+    → Agrees one another

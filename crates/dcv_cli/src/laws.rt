@@ -1,10 +1,10 @@
 //! Laws on what is right, each the contract of a function that does nothing.
-ghost use Rattle.dcv_cli.specs.Laws.{OneOutcome, SomeOutcome};
+ghost use Rattle.dcv_cli.specs.Laws.{OneOutcome, SomeOutcome, EqualMeanings};
 
 use dcv_build::laws::one_step_is_over;
 use dcv_command::laws::taken_words_ask;
-use dcv_language::laws::one_verdict;
-use dcv_print::laws::one_automaton;
+use dcv_language::laws::{one_verdict, verdict_of_same_behaviours};
+use dcv_print::laws::{automaton_of_same_behaviours, one_automaton};
 use dcv_reader::laws::{one_fault, one_tree, some_reading};
 
 /// One outcome at most is right for the words and the texts that are held. So each status, report and message that
@@ -26,4 +26,16 @@ pub fn some_outcome()
 {
     some_reading();
     taken_words_ask();
+}
+
+/// Formula files with the same variables and the same models have the same answer: the same verdict, and the same automaton but for its
+/// suffixes.
+pub fn equal_meanings()
+    ensures { EqualMeanings }
+{
+    one_tree();
+    one_verdict();
+    verdict_of_same_behaviours();
+    one_automaton();
+    automaton_of_same_behaviours();
 }

@@ -9,7 +9,8 @@
 //! ```
 //!
 //! With `var door_closed; infer [[door_closed]];` held under that name, `status` is [`Status::NotValid`], and on `out` stands
-//! `not valid`, `satisfiable`, a counterexample of the one instant `0` and an example of the one instant `1`.
+//! `not valid`, `satisfiable`, a counterexample of the one instant `0` and an example of the one instant `1`. With `automaton` in place
+//! of `check` there stands the minimal automaton of the formula, with two states, in the text that `dcv_automaton_text` shows.
 #![tactic(auto)]
 
 mod budget;
