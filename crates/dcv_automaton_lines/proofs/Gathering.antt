@@ -1,9 +1,9 @@
 -- Lines are gathered one after another: what one line more does to what was read.
-use Rattle.std.proofs.Common.{◌≡◌, ℕ, suc, ◌+◌, ◌<◌, ◌≤◌, Bool, true, false, drop, ◌⊎◌, inl, inr, List, [], ◌∷◌, ◌++◌, length, map, refl, sym, ap, ◌∙◌, subst, arith}
+use Rattle.std.proofs.Common.{◌≡◌, ℕ, suc, ◌<◌, ◌≤◌, Bool, true, false, drop, inl, inr, List, [], ◌∷◌, ◌++◌, length, map, refl, sym, ap, ◌∙◌, subst, arith}
 use Rattle.std.specs.Prelude.{codes, Result, Ok, Err}
 use Rattle.std.specs.Fmt.{decimal}
 use Rattle.dcv_word.specs.TraceLine.{trace_line}
-use Rattle.std.specs.List.{All, flat_map, join_with_byte}
+use Rattle.std.specs.List.{flat_map, join_with_byte}
 use Rattle.std.specs.Result.{IsErrAnd}
 use Rattle.std.proofs.lemmas.Bool.{cases_lt}
 use Rattle.dcv_automaton_lines.proofs.Pieces.{fault_after}
@@ -11,7 +11,7 @@ use Rattle.dcv_automaton_lines.proofs.KindSets.{rank_small, leads_tail, stuck_in
 use Rattle.dcv_automaton_lines.proofs.LineSets.{number_of, node_of, target_of, answer_of, name_of, letter_from, exactly}
 use Rattle.std.proofs.lemmas.List.{append_assoc, length-append}
 use Rattle.std.proofs.lemmas.List.Elements.{All-push}
-use Rattle.dcv_automaton_text.specs.File.{NodeLine, StateLine, Access, EmptyAccess, StartAccess, AfterAccess, AccessLine, Suffix, EmptySuffix, ThenSuffix, SuffixLine, AutomatonFile}
+use Rattle.dcv_automaton_text.specs.File.{Access, EmptyAccess, StartAccess, AfterAccess, Suffix, EmptySuffix, ThenSuffix, AutomatonFile}
 use Rattle.dcv_automaton_text.specs.Form.{IsNodeLine, IsStateLine, IsAccess, IsAccessLine, IsSuffix, IsSuffixLine}
 use Rattle.dcv_automaton_text.specs.Spelled.{node_word, target_word, answer_word, node_words, state_words, how_access, access_words, how_suffix, suffix_words, spelled_line}
 use Rattle.dcv_automaton_lines.specs.Pieces.{Nothing, Followed, IsStuckIn, IsFaultAt}
@@ -51,7 +51,7 @@ some_then (word ∷ words) some rest = line_then word words rest
 plain_then : (line : PlainLine) (rest : List ℕ) → spelled_line (words_of line) ++ rest ≡ words_then (words_of line) rest
 plain_then line rest = some_then (words_of line) (words_some line) rest
 
-one_line : (lines : List (List (List ℕ))) (line : PlainLine) (rest : List ℕ)
+pub one_line : (lines : List (List (List ℕ))) (line : PlainLine) (rest : List ℕ)
     → flat_map spelled_line (lines ++ words_of line ∷ []) ++ rest ≡ flat_map spelled_line lines ++ words_then (words_of line) rest
 one_line [] line rest = append_assoc (spelled_line (words_of line)) [] rest ∙ plain_then line rest
 one_line (words ∷ lines) line rest =
@@ -77,11 +77,11 @@ shorter line text rest same = subst (λ (t : List ℕ). length rest < length t) 
 -- ---- one line more
 
 module _ {W : Type 0} where
-  none_more : (xs : List W) → xs ++ [] ≡ xs
+  pub none_more : (xs : List W) → xs ++ [] ≡ xs
   none_more [] = refl
   none_more (x ∷ xs) = ap (λ rest. x ∷ rest) (none_more xs)
 
-  in_turn : (xs ys zs : List W) → (xs ++ ys) ++ zs ≡ xs ++ (ys ++ zs)
+  pub in_turn : (xs ys zs : List W) → (xs ++ ys) ++ zs ≡ xs ++ (ys ++ zs)
   in_turn [] ys zs = refl
   in_turn (x ∷ xs) ys zs = ap (λ rest. x ∷ rest) (in_turn xs ys zs)
 
@@ -130,43 +130,54 @@ module _ (first : Kind) (file : AutomatonFile) (small : rank first ≤ 3) (begun
       let no_d = begun.no_suffixes (omega arith) in
       record {
         words = none_more _ ∙ ap (λ a. a ++ (map state_words file.state_lines ++ (map access_words file.access_lines ++ map suffix_words file.suffix_lines))) (map_more node_words file.node_lines line)
-          ∙ first_more (map node_words file.node_lines) (map state_words file.state_lines) (map access_words file.access_lines) (map suffix_words file.suffix_lines) (node_words line)
+            ∙ first_more (map node_words file.node_lines) (map state_words file.state_lines) (map access_words file.access_lines) (map suffix_words file.suffix_lines) (node_words line)
             (ap (map state_words) no_b) (ap (map access_words) no_c) (ap (map suffix_words) no_d) ∙ before (node_words line);
         open_on = record { no_states = λ _. no_b; no_access = λ _. no_c; no_suffixes = λ _. no_d };
         lines = record { node_lines = All-push IsNodeLine file.node_lines line lines.node_lines is; state_lines = lines.state_lines; access_lines = lines.access_lines; suffix_lines = lines.suffix_lines };
-        names = refl; states = refl }
+        names = refl;
+        states = refl;
+      }
   grown (OfState line) later is =
       let no_c = begun.no_access (omega arith) in
       let no_d = begun.no_suffixes (omega arith) in
       record {
         words = none_more _ ∙ ap (λ b. map node_words file.node_lines ++ (b ++ (map access_words file.access_lines ++ map suffix_words file.suffix_lines))) (map_more state_words file.state_lines line)
-          ∙ second_more (map node_words file.node_lines) (map state_words file.state_lines) (map access_words file.access_lines) (map suffix_words file.suffix_lines) (state_words line)
+            ∙ second_more (map node_words file.node_lines) (map state_words file.state_lines) (map access_words file.access_lines) (map suffix_words file.suffix_lines) (state_words line)
             (ap (map access_words) no_c) (ap (map suffix_words) no_d) ∙ before (state_words line);
         open_on = record { no_states = λ low. absurd (omega (arith, low)); no_access = λ _. no_c; no_suffixes = λ _. no_d };
         lines = record { node_lines = lines.node_lines; state_lines = All-push IsStateLine file.state_lines line lines.state_lines is; access_lines = lines.access_lines; suffix_lines = lines.suffix_lines };
-        names = refl; states = refl }
+        names = refl;
+        states = refl;
+      }
   grown (OfAccess line) later is =
       let no_d = begun.no_suffixes (omega arith) in
       record {
         words = none_more _ ∙ ap (λ c. map node_words file.node_lines ++ (map state_words file.state_lines ++ (c ++ map suffix_words file.suffix_lines))) (map_more access_words file.access_lines line)
-          ∙ third_more (map node_words file.node_lines) (map state_words file.state_lines) (map access_words file.access_lines) (map suffix_words file.suffix_lines) (access_words line)
+            ∙ third_more (map node_words file.node_lines) (map state_words file.state_lines) (map access_words file.access_lines) (map suffix_words file.suffix_lines) (access_words line)
             (ap (map suffix_words) no_d) ∙ before (access_words line);
         open_on = record { no_states = λ low. absurd (omega (arith, low)); no_access = λ low. absurd (omega (arith, low)); no_suffixes = λ _. no_d };
         lines = record { node_lines = lines.node_lines; state_lines = lines.state_lines; access_lines = All-push IsAccessLine file.access_lines line lines.access_lines is; suffix_lines = lines.suffix_lines };
-        names = refl; states = refl }
+        names = refl;
+        states = refl;
+      }
   grown (OfSuffix line) later is =
       record {
         words = none_more _ ∙ ap (λ d. map node_words file.node_lines ++ (map state_words file.state_lines ++ (map access_words file.access_lines ++ d))) (map_more suffix_words file.suffix_lines line)
-          ∙ fourth_more (map node_words file.node_lines) (map state_words file.state_lines) (map access_words file.access_lines) (map suffix_words file.suffix_lines) (suffix_words line)
-          ∙ before (suffix_words line);
+            ∙ fourth_more (map node_words file.node_lines) (map state_words file.state_lines) (map access_words file.access_lines) (map suffix_words file.suffix_lines) (suffix_words line)
+            ∙ before (suffix_words line);
         open_on = record { no_states = λ low. absurd (omega (arith, low)); no_access = λ low. absurd (omega (arith, low)); no_suffixes = λ low. absurd (omega (arith, low)) };
         lines = record { node_lines = lines.node_lines; state_lines = lines.state_lines; access_lines = lines.access_lines; suffix_lines = All-push IsSuffixLine file.suffix_lines line lines.suffix_lines is };
-        names = refl; states = refl }
+        names = refl;
+        states = refl;
+      }
   grown OfEnd later is =
       record {
         words = before (codes "end" ∷ []);
         open_on = record { no_states = λ low. absurd (omega (arith, low)); no_access = λ low. absurd (omega (arith, low)); no_suffixes = λ low. absurd (omega (arith, low)) };
-        lines = lines; names = refl; states = refl }
+        lines = lines;
+        names = refl;
+        states = refl;
+      }
 
 pub spelled_on : (first : Kind) (file : AutomatonFile) (line : PlainLine) → Grown first file line → (text rest behind : List ℕ)
     → text ≡ flat_map spelled_line (section_words file ++ closing first) ++ rest → rest ≡ words_then (words_of line) behind
@@ -205,33 +216,49 @@ how_suffix_is EmptySuffix is = record { which = inl (ended 10 (codes "empty") (e
 how_suffix_is (ThenSuffix letter suffix) is =
     record { which = inr (more_words 32 (trace_line letter) (decimal suffix ++ 10 ∷ []) (letter_from _ letter refl) (ended 10 (decimal suffix) (number_of suffix is))) }
 
-access_then : (number : ℕ) (access : Access) → words_then (decimal number ∷ how_access access) [] ≡ decimal number ++ 32 ∷ words_then (how_access access) []
+pub access_then : (number : ℕ) (access : Access) → words_then (decimal number ∷ how_access access) [] ≡ decimal number ++ 32 ∷ words_then (how_access access) []
 access_then number EmptyAccess = refl
 access_then number (StartAccess letter) = refl
 access_then number (AfterAccess state letter) = refl
 
-suffix_then : (number : ℕ) (suffix : Suffix) → words_then (decimal number ∷ how_suffix suffix) [] ≡ decimal number ++ 32 ∷ words_then (how_suffix suffix) []
+pub suffix_then : (number : ℕ) (suffix : Suffix) → words_then (decimal number ∷ how_suffix suffix) [] ≡ decimal number ++ 32 ∷ words_then (how_suffix suffix) []
 suffix_then number EmptySuffix = refl
 suffix_then number (ThenSuffix letter suffix) = refl
 
 pub line_is : (line : PlainLine) → IsLine line → LineOf (kind_of line) (words_then (words_of line) [])
 line_is (OfNode line) is =
-    record { body = words_then (drop 1 (node_words line)) []; whole = refl; body_is =
-      more_words 32 (node_word line.number) _ (node_of line.number is.number) (more_words 32 line.name _ (name_of line.name is.name)
-      (more_words 32 (codes "?") _ (exactly (codes "?")) (more_words 32 (target_word line.hi) _ (target_of line.hi is.hi)
-      (more_words 32 (codes ":") _ (exactly (codes ":")) (ended 10 (target_word line.lo) (target_of line.lo is.lo)))))) }
+    record {
+      body = words_then (drop 1 (node_words line)) [];
+      whole = refl;
+      body_is =
+          more_words 32 (node_word line.number) _ (node_of line.number is.number) (more_words 32 line.name _ (name_of line.name is.name)
+          (more_words 32 (codes "?") _ (exactly (codes "?")) (more_words 32 (target_word line.hi) _ (target_of line.hi is.hi)
+          (more_words 32 (codes ":") _ (exactly (codes ":")) (ended 10 (target_word line.lo) (target_of line.lo is.lo))))));
+    }
 line_is (OfState line) is =
-    record { body = words_then (drop 1 (state_words line)) []; whole = refl; body_is =
-      more_words 32 (decimal line.number) _ (number_of line.number is.number) (more_words 32 (answer_word line.accepting) _ (answer_of line.accepting)
-      (ended 10 (target_word line.row) (target_of line.row is.row))) }
+    record {
+      body = words_then (drop 1 (state_words line)) [];
+      whole = refl;
+      body_is =
+          more_words 32 (decimal line.number) _ (number_of line.number is.number) (more_words 32 (answer_word line.accepting) _ (answer_of line.accepting)
+          (ended 10 (target_word line.row) (target_of line.row is.row)));
+    }
 line_is (OfAccess line) is =
-    record { body = words_then (drop 1 (access_words line)) []; whole = refl; body_is =
-      subst AccessBody (sym (access_then line.number line.access))
-      (more_words 32 (decimal line.number) (words_then (how_access line.access) []) (number_of line.number is.number) (how_access_is line.access is.access)) }
+    record {
+      body = words_then (drop 1 (access_words line)) [];
+      whole = refl;
+      body_is =
+          subst AccessBody (sym (access_then line.number line.access))
+          (more_words 32 (decimal line.number) (words_then (how_access line.access) []) (number_of line.number is.number) (how_access_is line.access is.access));
+    }
 line_is (OfSuffix line) is =
-    record { body = words_then (drop 1 (suffix_words line)) []; whole = refl; body_is =
-      subst SuffixBody (sym (suffix_then line.number line.suffix))
-      (more_words 32 (decimal line.number) (words_then (how_suffix line.suffix) []) (number_of line.number is.number) (how_suffix_is line.suffix is.suffix)) }
+    record {
+      body = words_then (drop 1 (suffix_words line)) [];
+      whole = refl;
+      body_is =
+          subst SuffixBody (sym (suffix_then line.number line.suffix))
+          (more_words 32 (decimal line.number) (words_then (how_suffix line.suffix) []) (number_of line.number is.number) (how_suffix_is line.suffix is.suffix));
+    }
 line_is OfEnd is = record { body = []; whole = refl; body_is = record { is = refl } }
 
 -- a byte behind the end
@@ -256,9 +283,10 @@ fault_end End last rest left fault = fault
 
 pub before_end : (first : Kind) (test : Bool) → (rank first ≡ 4 → test ≡ true) → test ≡ false → rank first ≤ 3
 before_end first test holds fails =
-    elim (cases_lt 3 (rank first))
-    [ inl above ↦ let most = rank_small first in let wrong : true ≡ false = sym (holds (omega arith)) ∙ fails in absurd cc
-    | inr small ↦ small ]
+    elim (cases_lt 3 (rank first)) [
+      | inl above ↦ let most = rank_small first in let wrong : true ≡ false = sym (holds (omega arith)) ∙ fails in absurd cc
+      | inr small ↦ small
+    ]
 
 pub fault_here : (first : Kind) → rank first ≤ 3 → (rest left : List ℕ) → IsStuckIn (AnyLine first) rest left → IsFaultAt (After first) rest left
 fault_here first small rest left stuck = fault_same first small rest left (stuck_in_line first stuck)
@@ -287,7 +315,7 @@ section_added first file line text rest behind small later is begun lines spelle
       form = grow.lines;
       spelled = spelled_on first file line grow text rest behind spelled next;
       fault = λ left here. fault left (fault_same first small rest left
-        (fault_after (leads_tail first (kind_of line) (words_then (words_of line) []) later (line_is line is)) (next ∙ then_back (words_of line) behind) here));
+          (fault_after (leads_tail first (kind_of line) (words_then (words_of line) []) later (line_is line is)) (next ∙ then_back (words_of line) behind) here));
     }
 
 pub section_step : (first kind : Kind) (file new : AutomatonFile) (line : PlainLine) (text rest behind : List ℕ) → rank first ≤ 3 → kind ≡ kind_of line → new ≡ added file line
@@ -311,3 +339,11 @@ no_memory P text (Ok read) is = tt
 no_memory P text (Err (Syntax other)) is = absurd (let wrong : Syntax other ≡ Memory = is in cc)
 no_memory P text (Err Memory) is = tt
 
+pub plain_alone : (line : PlainLine) → spelled_line (words_of line) ≡ words_then (words_of line) []
+plain_alone line = sym (none_more (spelled_line (words_of line))) ∙ plain_then line []
+
+pub words_alone : (first : Kind) (file : AutomatonFile) (line : PlainLine) → rank first ≤ 3 → rank (kind_of line) ≤ 3 → Grown first file line
+    → section_words (added file line) ≡ section_words file ++ words_of line ∷ []
+words_alone first file line small line_small grow =
+    sym (none_more (section_words (added file line))) ∙ ap (λ c. section_words (added file line) ++ c) (sym (closing_none (kind_of line) line_small)) ∙ grow.words
+    ∙ ap (λ c. (section_words file ++ c) ++ words_of line ∷ []) (closing_none first small) ∙ ap (λ w. w ++ words_of line ∷ []) (none_more (section_words file))

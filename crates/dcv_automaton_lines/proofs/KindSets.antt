@@ -1,15 +1,14 @@
 -- Lines of each kind: how their first words tell them apart, and what may follow behind one.
-use Rattle.std.proofs.Common.{◌≡◌, ℕ, suc, ◌+◌, ◌-◌, ◌<◌, ◌≤◌, Bool, true, false, List, [], ◌∷◌, ◌++◌, ◌⊎◌, inl, inr, length, refl, sym, ap, ◌∙◌, subst, arith}
+use Rattle.std.proofs.Common.{◌≡◌, ℕ, ◌+◌, ◌<◌, ◌≤◌, false, List, [], ◌∷◌, ◌++◌, ◌⊎◌, inl, inr, length, refl, sym, ap, ◌∙◌, subst, arith}
 use Rattle.std.specs.Prelude.{codes, nat_eq, slice_index_or, if◌then◌else◌}
-use Rattle.std.specs.List.{list_all}
 use Rattle.std.proofs.lemmas.Bool.{cases_lt}
 use Rattle.std.proofs.lemmas.List.{append_assoc}
 use Rattle.dcv_automaton_text.specs.Form.{is_visible}
-use Rattle.dcv_automaton_lines.specs.Pieces.{AreVisible, Exactly, Nothing, Either, Begins, IsNoFurther, IsStuckIn, IsFrontOnly, IsFaultAt}
+use Rattle.dcv_automaton_lines.specs.Pieces.{AreVisible, Exactly, Nothing, Either, IsNoFurther, IsStuckIn, IsFrontOnly, IsFaultAt}
 use Rattle.dcv_automaton_lines.specs.Parts.{keyword, behind, rank, BodyOf, LineOf, Keyword, AnyLine, Tail, Last, More, After}
 use Rattle.dcv_automaton_lines.specs.declared.sections.Kind.{Kind}
 use Rattle.dcv_automaton_lines.specs.declared.sections.Kind.TheVariants.{Node, State, Access, Suffix, End}
-use Rattle.dcv_automaton_lines.proofs.Pieces.{append_none, same_front, cut_by, Leads, stuck_after, HasNoLonger, no_longer_nothing, no_further_on}
+use Rattle.dcv_automaton_lines.proofs.Pieces.{append_none, cut_by, Leads, stuck_after, HasNoLonger, no_longer_nothing, no_further_on}
 use Rattle.dcv_automaton_lines.proofs.WordSets.{leads_same}
 use Rattle.dcv_automaton_lines.proofs.LineSets.{Some, some_nothing, some_node_body, some_state_body, some_access_body, some_suffix_body, no_longer_node, no_longer_state, no_longer_access, no_longer_suffix}
 
@@ -111,9 +110,10 @@ keyword_from first next after text is = by (cases_le (rank is.kind) (rank first)
 leads_keyword : (first next : Kind) → rank next ≡ rank first + 1 → Leads (Keyword first) [] (Either (Exactly (keyword first ++ behind first ∷ [])) (Keyword next))
 leads_keyword first next after =
     leads_same
-    (λ text is. elim is.which
-      [ inl one ↦ record { kind = first; later = omega arith; whole = one.is }
-      | inr other ↦ record { kind = other.kind; later = (let later = other.later in omega arith); whole = other.whole } ])
+    (λ text is. elim is.which [
+      | inl one ↦ record { kind = first; later = omega arith; whole = one.is }
+      | inr other ↦ record { kind = other.kind; later = (let later = other.later in omega arith); whole = other.whole }
+    ])
     (keyword_from first next after)
 
 pub stuck_in_this : (first next : Kind) → rank next ≡ rank first + 1 → {text left other : List ℕ} → IsStuckIn (Exactly (keyword first ++ behind first ∷ [])) text left
@@ -129,7 +129,7 @@ stuck_in_last first last stuck =
     stuck_after (leads_same
     (λ text is. record { kind = first; later = omega arith; whole = is.is })
     (λ text is. let later = is.later in let small = rank_small is.kind in let kind = rank_same is.kind first (omega arith) in
-      record { is = is.whole ∙ ap (λ k. keyword k ++ behind k ∷ []) kind })) refl stuck
+    record { is = is.whole ∙ ap (λ k. keyword k ++ behind k ∷ []) kind })) refl stuck
 
 -- ---- lines
 
@@ -162,11 +162,15 @@ leads_body first kind later =
     record {
       into = λ rest body. record { kind = kind; later = later; line_is = record { body = rest; body_is = body; whole = append_assoc (keyword kind) (behind kind ∷ []) rest } };
       from = λ text more rest any same.
-        let line = any.line_is in
-        let read = same_word any.kind kind (line.body ++ more) rest
-          (sym (append_assoc (keyword any.kind) (behind any.kind ∷ line.body) more) ∙ ap (λ t. t ++ more) (sym line.whole) ∙ same ∙ append_assoc (keyword kind) (behind kind ∷ []) rest) in
-        (line.body, (subst (λ (k : Kind). BodyOf k line.body) read.kinds line.body_is,
-          line.whole ∙ ap (λ k. keyword k ++ behind k ∷ line.body) read.kinds ∙ sym (append_assoc (keyword kind) (behind kind ∷ []) line.body)));
+          let line = any.line_is in
+          let read = same_word any.kind kind (line.body ++ more) rest
+          (sym (append_assoc (keyword any.kind) (behind any.kind ∷ line.body) more) ∙ ap (λ t. t ++ more) (sym line.whole) ∙ same ∙ append_assoc (keyword kind) (behind kind ∷ []) rest) in (
+            line.body,
+            (
+              subst (λ (k : Kind). BodyOf k line.body) read.kinds line.body_is,
+              line.whole ∙ ap (λ k. keyword k ++ behind k ∷ line.body) read.kinds ∙ sym (append_assoc (keyword kind) (behind kind ∷ []) line.body),
+            ),
+          );
     }
 
 -- in a line behind its first word
@@ -200,8 +204,15 @@ module _ (first : Kind) where
         cut = stuck.cut;
         viable = record {
           more = stuck.viable.more ++ body.text;
-          member = record { kind = word.kind; later = word.later; line_is = record { body = body.text; body_is = body.is;
-            whole = sym (append_assoc stuck.front stuck.viable.more body.text) ∙ ap (λ t. t ++ body.text) word.whole ∙ append_assoc (keyword word.kind) (behind word.kind ∷ []) body.text } };
+          member = record {
+            kind = word.kind;
+            later = word.later;
+            line_is = record {
+              body = body.text;
+              body_is = body.is;
+              whole = sym (append_assoc stuck.front stuck.viable.more body.text) ∙ ap (λ t. t ++ body.text) word.whole ∙ append_assoc (keyword word.kind) (behind word.kind ∷ []) body.text;
+            };
+          };
         };
         stuck = none_in_word stuck.front left stuck.stuck;
       }
@@ -215,8 +226,8 @@ pub record SameLine (a b : Kind) (one other : List ℕ) : Type 0 where
 pub same_line : (a b : Kind) (one other rest other_rest : List ℕ) → LineOf a one → LineOf b other → one ++ rest ≡ other ++ other_rest → SameLine a b one other
 same_line a b one other rest other_rest is are same =
     let read = same_word a b (is.body ++ rest) (are.body ++ other_rest)
-      (sym (append_assoc (keyword a) (behind a ∷ is.body) rest) ∙ ap (λ t. t ++ rest) (sym is.whole) ∙ same ∙ ap (λ t. t ++ other_rest) are.whole
-      ∙ append_assoc (keyword b) (behind b ∷ are.body) other_rest) in
+    (sym (append_assoc (keyword a) (behind a ∷ is.body) rest) ∙ ap (λ t. t ++ rest) (sym is.whole) ∙ same ∙ ap (λ t. t ++ other_rest) are.whole
+    ∙ append_assoc (keyword b) (behind b ∷ are.body) other_rest) in
     let bodies = (no_longer_body b).same is.body are.body rest other_rest (subst (λ (k : Kind). BodyOf k is.body) read.kinds is.body_is) are.body_is read.rests in
     record { kinds = read.kinds; lines = is.whole ∙ (λ i. keyword (read.kinds i) ++ behind (read.kinds i) ∷ bodies i) ∙ sym are.whole }
 
@@ -262,7 +273,7 @@ module _ (first kind : Kind) (front : List ℕ) (later : rank first ≤ rank kin
       ([], (after_nothing kind (sym read.kinds) [] (record { is = refl }), read.lines ∙ sym (append_none front)))
   tail_from text more rest (More _ other _ other_front other_back other_later small other_line tail whole) same =
       let read = same_line other kind other_front front (other_back ++ more) rest other_line line
-        (sym (append_assoc other_front other_back more) ∙ ap (λ t. t ++ more) (sym whole) ∙ same) in
+      (sym (append_assoc other_front other_back more) ∙ ap (λ t. t ++ more) (sym whole) ∙ same) in
       (other_back, (subst (λ (k : Kind). After k other_back) read.kinds (tail_is other small other_back tail), whole ∙ ap (λ f. f ++ other_back) read.lines))
 
   pub leads_tail : Leads (Tail first) front (After kind)
@@ -305,7 +316,7 @@ module _ (first : Kind) where
         viable = record {
           more = stuck.viable.more ++ after.text;
           member = subst (Tail first) (append_assoc stuck.front stuck.viable.more after.text)
-            (tail_into first any.kind (stuck.front ++ stuck.viable.more) any.later any.line_is after.text after.is);
+              (tail_into first any.kind (stuck.front ++ stuck.viable.more) any.later any.line_is after.text after.is);
         };
         fault = only_in_line stuck.front left stuck.stuck;
       }

@@ -12,3 +12,5 @@ pub mod KindSets
 pub mod Gathering
 -- the names of the line of variables
 pub mod NameSets
+-- and the whole text
+pub mod WholeText

@@ -1,5 +1,5 @@
 -- Lines without their first word: some of each kind, none begins another, and where a text is stuck in one.
-use Rattle.std.proofs.Common.{◌≡◌, ℕ, ◌^◌, ◌<◌, ◌≤◌, Bool, true, false, ◌||◌, List, [], ◌∷◌, ◌++◌, ◌⊎◌, inl, inr, length, map, refl, sym, ap, ◌∙◌, subst, arith}
+use Rattle.std.proofs.Common.{◌≡◌, ℕ, ◌^◌, ◌<◌, Bool, true, false, ◌||◌, List, [], ◌∷◌, ◌++◌, inl, length, map, refl, sym, ap, ◌∙◌, arith}
 use Rattle.std.specs.Prelude.{codes, nat_eq, slice_index_or}
 use Rattle.std.specs.Char.{is_ascii_digit}
 use Rattle.std.specs.Fmt.{decimal}
@@ -14,7 +14,7 @@ use Rattle.dcv_automaton_lines.specs.Pieces.{Exactly, Nothing, Followed, Either,
 use Rattle.dcv_automaton_lines.specs.Parts.{NumberWord, NodeWord, TargetWord, AnswerWord, NameWord, LetterWord}
 use Rattle.dcv_automaton_lines.specs.Parts.{NodeLo, NodeColon, NodeHi, NodeMark, NodeName, NodeBody, StateRow, StateAnswer, StateBody, LastLetter, EmptyHow, StartHow, AfterHow, AccessHow, AccessBody, LastNumber, ThenHow, SuffixHow, SuffixBody}
 use Rattle.dcv_automaton_lines.specs.Stops.{is_binary}
-use Rattle.dcv_automaton_lines.proofs.Pieces.{both, HasWords, HasNoLonger, no_longer_followed, no_longer_nothing, no_longer_either, stuck_within, IsAway, away_either}
+use Rattle.dcv_automaton_lines.proofs.Pieces.{both, HasNoLonger, no_longer_followed, no_longer_nothing, no_longer_either, stuck_within, IsAway}
 use Rattle.dcv_automaton_lines.proofs.Opening.{Opens, opens_followed, opens_either, opens_exactly, away_by, apart_by, not_both_tests}
 use Rattle.dcv_automaton_lines.proofs.WordSets.{number_words, node_words, target_words, answer_words, name_words, letter_words, exact_words, other_first}
 
@@ -119,6 +119,7 @@ opens_letter =
     no_empty : (letter : List Bool) → [] ≡ trace_line letter → ⊥
     no_empty [] same = cc
     no_empty (value ∷ letter) same = cc
+
     first_of : (letter : List Bool) (b : ℕ) (rest : List ℕ) → b ∷ rest ≡ trace_line letter → (nat_eq b 45 || is_binary b) ≡ true
     first_of [] b rest same = let e : b ≡ 45 = cc in ap (λ b. nat_eq b 45 || is_binary b) e
     first_of (true ∷ letter) b rest same = let whole : b ∷ rest ≡ 49 ∷ map digit_of letter = same in let e : b ≡ 49 = cc in ap (λ b. nat_eq b 45 || is_binary b) e
@@ -148,7 +149,7 @@ no_longer_how_access : HasNoLonger AccessHow
 no_longer_how_access =
     no_longer_either no_longer_empty
     (no_longer_either (no_longer_followed (exact_words (codes "start") refl) 32 refl no_longer_last_letter) (no_longer_followed number_words 32 refl no_longer_last_letter)
-      (apart_by opens_start opens_after (not_both_tests 115 is_ascii_digit refl)))
+    (apart_by opens_start opens_after (not_both_tests 115 is_ascii_digit refl)))
     (apart_by opens_empty (opens_either opens_start opens_after) (not_both_tests 101 (λ b. nat_eq 115 b || is_ascii_digit b) refl))
 
 no_longer_how_suffix : HasNoLonger SuffixHow

@@ -1,19 +1,18 @@
 -- The names of the line of variables: where a text is stuck in them, and how they are read one after another.
-use Rattle.std.proofs.Common.{◌≡◌, ◌≢◌, ℕ, zero, suc, ◌+◌, ◌<◌, ◌≤◌, Bool, true, false, not, get_or, List, [], ◌∷◌, ◌++◌, ◌⊎◌, inl, inr, length, map, refl, sym, ap, ◌∙◌, subst, arith}
+use Rattle.std.proofs.Common.{◌≡◌, ℕ, zero, suc, ◌<◌, Bool, true, false, not, get_or, List, [], ◌∷◌, ◌++◌, ◌⊎◌, inl, inr, length, refl, sym, ap, ◌∙◌, subst, arith}
 use Rattle.std.specs.Prelude.{codes, if◌then◌else◌, Result, Ok, Err}
-use Rattle.std.specs.List.{All, list_all}
+use Rattle.std.specs.List.{All}
 use Rattle.std.specs.Result.{IsErrAnd}
 use Rattle.std.proofs.lemmas.List.{append_assoc, length-append}
 use Rattle.std.proofs.lemmas.List.Elements.{All-push}
 use Rattle.dcv_automaton_text.specs.Form.{is_visible, IsNameWord}
-use Rattle.dcv_automaton_text.specs.Spelled.{name_words as words_of_names}
 use Rattle.dcv_automaton_lines.specs.Pieces.{AreVisible, IsNoFurther, IsStuckIn}
 use Rattle.dcv_automaton_lines.specs.Parts.{NameWord, Words, LastWord, NextWord, words_then}
 use Rattle.dcv_automaton_lines.specs.Stops.{IsEnd, IsStuckStop}
 use Rattle.dcv_automaton_lines.specs.declared.stop.Stuck.{Stuck}
 use Rattle.dcv_automaton_lines.specs.declared.stop.Stop.{Stop}
 use Rattle.dcv_automaton_lines.specs.declared.stop.Stop.TheVariants.{Syntax, Memory}
-use Rattle.dcv_automaton_lines.proofs.Pieces.{append_none, cut_by, not_within, Leads, HasNoLonger, stuck_after}
+use Rattle.dcv_automaton_lines.proofs.Pieces.{cut_by, not_within, Leads, HasNoLonger, stuck_after}
 use Rattle.dcv_automaton_lines.proofs.WordSets.{name_words, name_is, end_is_invisible, AtFront}
 
 -- ---- stuck in a name
@@ -41,10 +40,11 @@ no_name_more front [] seen over = λ text more words same.
 no_name_more front (b ∷ left) seen over = λ text more other words same.
     let first = first_name text words in
     let read = cut_by is_visible first.word front (first.back ++ more) other first.end b (name_words.visible first.word first.name) seen (end_is_invisible first.end first.is_end) over.0
-      (sym (append_assoc first.word (first.end ∷ first.back) more) ∙ ap (λ t. t ++ more) (sym first.whole) ∙ same) in
-    elim over.1
-    [ inl none ↦ let empty : length first.word ≡ 0 = ap length (read.same ∙ none) in no_empty first.word first.name empty
-    | inr differs ↦ differs (subst IsEnd read.ends first.is_end) ]
+    (sym (append_assoc first.word (first.end ∷ first.back) more) ∙ ap (λ t. t ++ more) (sym first.whole) ∙ same) in
+    elim over.1 [
+      | inl none ↦ let empty : length first.word ≡ 0 = ap length (read.same ∙ none) in no_empty first.word first.name empty
+      | inr differs ↦ differs (subst IsEnd read.ends first.is_end)
+    ]
   where
     no_empty : (word : List ℕ) → NameWord word → length word ≡ 0 → ⊥
     no_empty [] name none = let wrong : false ≡ true = name.is in cc
@@ -55,7 +55,8 @@ names_stuck text [] left cut seen over =
     record { front = []; cut = cut; viable = record { more = codes "p\n"; member = LastWord (codes "p\n") (codes "p") (record { is = refl }) refl }; stuck = no_name_more [] left seen over }
 names_stuck text (b ∷ front) left cut seen over =
     record {
-      front = b ∷ front; cut = cut;
+      front = b ∷ front;
+      cut = cut;
       viable = record { more = 10 ∷ []; member = LastWord ((b ∷ front) ++ 10 ∷ []) (b ∷ front) (record { is = name_is (b ∷ front) seen (omega arith) }) refl };
       stuck = no_name_more (b ∷ front) left seen over;
     }
@@ -75,11 +76,11 @@ leads_name word name =
     behind : (text more rest : List ℕ) → Words text → text ++ more ≡ (word ++ 32 ∷ []) ++ rest → (back : List ℕ) × (Words back × (text ≡ (word ++ 32 ∷ []) ++ back))
     behind text more rest (LastWord _ other other_name whole) same =
         let read = cut_by is_visible other word more rest 10 32 (name_words.visible other other_name) (name_words.visible word name) refl refl
-          (sym (append_assoc other (10 ∷ []) more) ∙ ap (λ t. t ++ more) (sym whole) ∙ same ∙ append_assoc word (32 ∷ []) rest) in
+        (sym (append_assoc other (10 ∷ []) more) ∙ ap (λ t. t ++ more) (sym whole) ∙ same ∙ append_assoc word (32 ∷ []) rest) in
         absurd (not_both_ends 10 32 refl refl read.ends)
     behind text more rest (NextWord _ other back other_name words whole) same =
         let read = cut_by is_visible other word (back ++ more) rest 32 32 (name_words.visible other other_name) (name_words.visible word name) refl refl
-          (sym (append_assoc other (32 ∷ back) more) ∙ ap (λ t. t ++ more) (sym whole) ∙ same ∙ append_assoc word (32 ∷ []) rest) in
+        (sym (append_assoc other (32 ∷ back) more) ∙ ap (λ t. t ++ more) (sym whole) ∙ same ∙ append_assoc word (32 ∷ []) rest) in
         (back, (words, whole ∙ ap (λ w. w ++ 32 ∷ back) read.same ∙ sym (append_assoc word (32 ∷ []) back)))
 
 pub stuck_behind_name : (word : List ℕ) {text rest left : List ℕ} → IsNameWord word → text ≡ word ++ 32 ∷ rest → IsStuckIn Words rest left → IsStuckIn Words text left
@@ -89,19 +90,19 @@ stuck_behind_name word {rest = rest} name whole stuck =
 names_same : (one other rest other_rest : List ℕ) → Words one → Words other → one ++ rest ≡ other ++ other_rest → one ≡ other
 names_same one other rest other_rest (LastWord _ a a_is a_whole) (LastWord _ b b_is b_whole) same =
     let read = cut_by is_visible a b rest other_rest 10 10 (name_words.visible a a_is) (name_words.visible b b_is) refl refl
-      (sym (append_assoc a (10 ∷ []) rest) ∙ ap (λ t. t ++ rest) (sym a_whole) ∙ same ∙ ap (λ t. t ++ other_rest) b_whole ∙ append_assoc b (10 ∷ []) other_rest) in
+    (sym (append_assoc a (10 ∷ []) rest) ∙ ap (λ t. t ++ rest) (sym a_whole) ∙ same ∙ ap (λ t. t ++ other_rest) b_whole ∙ append_assoc b (10 ∷ []) other_rest) in
     a_whole ∙ ap (λ w. w ++ 10 ∷ []) read.same ∙ sym b_whole
 names_same one other rest other_rest (LastWord _ a a_is a_whole) (NextWord _ b more b_is words b_whole) same =
     let read = cut_by is_visible a b rest (more ++ other_rest) 10 32 (name_words.visible a a_is) (name_words.visible b b_is) refl refl
-      (sym (append_assoc a (10 ∷ []) rest) ∙ ap (λ t. t ++ rest) (sym a_whole) ∙ same ∙ ap (λ t. t ++ other_rest) b_whole ∙ append_assoc b (32 ∷ more) other_rest) in
+    (sym (append_assoc a (10 ∷ []) rest) ∙ ap (λ t. t ++ rest) (sym a_whole) ∙ same ∙ ap (λ t. t ++ other_rest) b_whole ∙ append_assoc b (32 ∷ more) other_rest) in
     absurd (not_both_ends 10 32 refl refl read.ends)
 names_same one other rest other_rest (NextWord _ a more a_is words a_whole) (LastWord _ b b_is b_whole) same =
     let read = cut_by is_visible a b (more ++ rest) other_rest 32 10 (name_words.visible a a_is) (name_words.visible b b_is) refl refl
-      (sym (append_assoc a (32 ∷ more) rest) ∙ ap (λ t. t ++ rest) (sym a_whole) ∙ same ∙ ap (λ t. t ++ other_rest) b_whole ∙ append_assoc b (10 ∷ []) other_rest) in
+    (sym (append_assoc a (32 ∷ more) rest) ∙ ap (λ t. t ++ rest) (sym a_whole) ∙ same ∙ ap (λ t. t ++ other_rest) b_whole ∙ append_assoc b (10 ∷ []) other_rest) in
     absurd (not_both_ends 10 32 refl refl (sym read.ends))
 names_same one other rest other_rest (NextWord _ a more a_is words a_whole) (NextWord _ b b_more b_is b_words b_whole) same =
     let read = cut_by is_visible a b (more ++ rest) (b_more ++ other_rest) 32 32 (name_words.visible a a_is) (name_words.visible b b_is) refl refl
-      (sym (append_assoc a (32 ∷ more) rest) ∙ ap (λ t. t ++ rest) (sym a_whole) ∙ same ∙ ap (λ t. t ++ other_rest) b_whole ∙ append_assoc b (32 ∷ b_more) other_rest) in
+    (sym (append_assoc a (32 ∷ more) rest) ∙ ap (λ t. t ++ rest) (sym a_whole) ∙ same ∙ ap (λ t. t ++ other_rest) b_whole ∙ append_assoc b (32 ∷ b_more) other_rest) in
     let behind = names_same more b_more rest other_rest words b_words read.rests in
     a_whole ∙ (λ i. read.same i ++ 32 ∷ behind i) ∙ sym b_whole
 
@@ -152,7 +153,7 @@ name_step was_open last words more word text rest behind opened are is next all 
       some = (let sizes = length-append words (word ∷ []) in let e : length more ≡ length (words ++ word ∷ []) = ap length are in omega arith);
       spelled = spelled ∙ ap (λ b. read_so_far b words rest) opened ∙ ap (spaced words) next ∙ one_name_more last words word behind ∙ ap (λ w. read_so_far (not last) w behind) (sym are);
       fault = λ still left stuck. fault opened left
-        (stuck_behind_name word is (next ∙ ap (λ b. word ++ (if b then 10 else 32) ∷ behind) (not_last last still)) stuck);
+          (stuck_behind_name word is (next ∙ ap (λ b. word ++ (if b then 10 else 32) ∷ behind) (not_last last still)) stuck);
     }
 
 -- ---- names as texts
@@ -185,15 +186,19 @@ then_more word (next ∷ words) some rest = refl
 pub the_words : (text : List ℕ) → Words text → TheWords text
 the_words text (LastWord _ word name whole) =
     record {
-      words = word ∷ []; some = omega arith; each = all_before word [] name.is (λ k d l. absurd (omega arith));
+      words = word ∷ [];
+      some = omega arith;
+      each = all_before word [] name.is (λ k d l. absurd (omega arith));
       whole = λ rest. ap (λ t. t ++ rest) whole ∙ append_assoc word (10 ∷ []) rest;
     }
 the_words text (NextWord _ word more name words whole) =
     let behind = the_words more words in
     record {
-      words = word ∷ behind.words; some = omega arith; each = all_before word behind.words name.is behind.each;
+      words = word ∷ behind.words;
+      some = omega arith;
+      each = all_before word behind.words name.is behind.each;
       whole = λ rest. ap (λ t. t ++ rest) whole ∙ append_assoc word (32 ∷ more) rest ∙ ap (λ r. word ++ 32 ∷ r) (behind.whole rest)
-        ∙ sym (then_more word behind.words behind.some rest);
+          ∙ sym (then_more word behind.words behind.some rest);
     }
 
 -- ---- exits

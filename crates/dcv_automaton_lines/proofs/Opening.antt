@@ -1,5 +1,5 @@
 -- Sets are told apart by the first bytes of their texts.
-use Rattle.std.proofs.Common.{◌≡◌, ℕ, Bool, true, false, ◌||◌, List, [], ◌∷◌, ◌++◌, ◌⊎◌, inl, inr, refl, sym, ap, ◌∙◌, subst, arith}
+use Rattle.std.proofs.Common.{◌≡◌, ℕ, Bool, true, false, ◌||◌, List, [], ◌∷◌, ◌++◌, inl, inr, refl, sym, ap, ◌∙◌, arith}
 use Rattle.std.specs.Prelude.{nat_eq}
 use Rattle.dcv_automaton_lines.specs.Pieces.{Exactly, Followed, Either}
 use Rattle.dcv_automaton_lines.proofs.Pieces.{IsAway}
@@ -16,6 +16,7 @@ opens_followed {P = P} {test = test} Q end opens =
     none : (word back : List ℕ) → P word → [] ≡ word ++ end ∷ back → ⊥
     none [] back is same = cc
     none (c ∷ word) back is same = cc
+
     begin : (word : List ℕ) (b : ℕ) (rest back : List ℕ) → P word → b ∷ rest ≡ word ++ end ∷ back → test b ≡ true
     begin [] b rest back is same = absurd (opens.some is)
     begin (c ∷ word) b rest back is same = let e : b ≡ c = cc in ap test e ∙ opens.first c word is

@@ -1,9 +1,9 @@
 -- Where a text of several words is stuck: in a word, behind it, in one of two sets.
-use Rattle.std.proofs.Common.{◌≡◌, ℕ, suc, ◌+◌, ◌<◌, ◌≤◌, Bool, true, false, ◌&&◌, List, [], ◌∷◌, ◌++◌, ◌⊎◌, inl, inr, length, refl, sym, ap, ◌∙◌, subst, arith}
+use Rattle.std.proofs.Common.{◌≡◌, ℕ, suc, ◌≤◌, Bool, true, false, ◌&&◌, List, [], ◌∷◌, ◌++◌, inl, inr, length, refl, sym, ap, ◌∙◌, subst, arith}
 use Rattle.std.specs.List.{list_all}
 use Rattle.std.proofs.lemmas.List.{append_assoc, length-append}
 use Rattle.dcv_automaton_text.specs.Form.{is_visible}
-use Rattle.dcv_automaton_lines.specs.Pieces.{AreVisible, Exactly, Nothing, Followed, Either, Begins, IsNoFurther, IsStuckIn, IsFrontOnly, IsFaultAt}
+use Rattle.dcv_automaton_lines.specs.Pieces.{AreVisible, Nothing, Followed, Either, Begins, IsNoFurther, IsStuckIn, IsFrontOnly, IsFaultAt}
 
 -- ---- lists
 
@@ -125,9 +125,9 @@ module _ {P : List ℕ → Type 0} {Q : List ℕ → Type 0} (words : HasWords P
       record {
         into = λ rest back_is. record { word = word; back = rest; word_is = is; back_is = back_is; whole = append_assoc word (end ∷ []) rest };
         from = λ text more rest parts same.
-          let read = cut_by is_visible parts.word word (parts.back ++ more) rest end end (words.visible parts.word parts.word_is) (words.visible word is) ends ends
-          (sym (append_assoc parts.word (end ∷ parts.back) more) ∙ ap (λ t. t ++ more) (sym parts.whole) ∙ same ∙ append_assoc word (end ∷ []) rest) in
-          (parts.back, (parts.back_is, parts.whole ∙ ap (λ w. w ++ end ∷ parts.back) read.same ∙ sym (append_assoc word (end ∷ []) parts.back)));
+            let read = cut_by is_visible parts.word word (parts.back ++ more) rest end end (words.visible parts.word parts.word_is) (words.visible word is) ends ends
+            (sym (append_assoc parts.word (end ∷ parts.back) more) ∙ ap (λ t. t ++ more) (sym parts.whole) ∙ same ∙ append_assoc word (end ∷ []) rest) in
+            (parts.back, (parts.back_is, parts.whole ∙ ap (λ w. w ++ end ∷ parts.back) read.same ∙ sym (append_assoc word (end ∷ []) parts.back)));
       }
 
   pub stuck_behind : {text word rest left : List ℕ} → P word → text ≡ word ++ end ∷ rest → IsStuckIn Q rest left → IsStuckIn (Followed P end Q) text left
@@ -136,11 +136,13 @@ module _ {P : List ℕ → Type 0} {Q : List ℕ → Type 0} (words : HasWords P
 
   pub no_longer_followed : HasNoLonger Q → HasNoLonger (Followed P end Q)
   no_longer_followed none =
-      record { same = λ one other rest other_rest a b same.
-        let read = cut_by is_visible a.word b.word (a.back ++ rest) (b.back ++ other_rest) end end (words.visible a.word a.word_is) (words.visible b.word b.word_is) ends ends
-        (sym (append_assoc a.word (end ∷ a.back) rest) ∙ ap (λ t. t ++ rest) (sym a.whole) ∙ same ∙ ap (λ t. t ++ other_rest) b.whole ∙ append_assoc b.word (end ∷ b.back) other_rest) in
-        let backs = none.same a.back b.back rest other_rest a.back_is b.back_is read.rests in
-        a.whole ∙ ap (λ w. w ++ end ∷ a.back) read.same ∙ ap (λ back. b.word ++ end ∷ back) backs ∙ sym b.whole }
+      record {
+        same = λ one other rest other_rest a b same.
+            let read = cut_by is_visible a.word b.word (a.back ++ rest) (b.back ++ other_rest) end end (words.visible a.word a.word_is) (words.visible b.word b.word_is) ends ends
+            (sym (append_assoc a.word (end ∷ a.back) rest) ∙ ap (λ t. t ++ rest) (sym a.whole) ∙ same ∙ ap (λ t. t ++ other_rest) b.whole ∙ append_assoc b.word (end ∷ b.back) other_rest) in
+            let backs = none.same a.back b.back rest other_rest a.back_is b.back_is read.rests in
+            a.whole ∙ ap (λ w. w ++ end ∷ a.back) read.same ∙ ap (λ back. b.word ++ end ∷ back) backs ∙ sym b.whole;
+      }
 
 module _ (P : List ℕ → Type 0) (Q : List ℕ → Type 0) (end : ℕ) (some : List ℕ) (some_is : Q some) where
   piece : (text : List ℕ) (parts : Followed P end Q text) → Followed P end Nothing (parts.word ++ end ∷ [])
@@ -171,7 +173,7 @@ module _ (P : List ℕ → Type 0) (Q : List ℕ → Type 0) (end : ℕ) (some :
             word_is = parts.word_is;
             back_is = some_is;
             whole = sym (append_assoc stuck.front stuck.viable.more some) ∙ ap (λ t. t ++ some) (parts.whole ∙ ap (λ back. parts.word ++ end ∷ back) parts.back_is.is)
-              ∙ append_assoc parts.word (end ∷ []) some;
+                ∙ append_assoc parts.word (end ∷ []) some;
           };
         };
         stuck = no_further_within stuck.front left stuck.stuck;
@@ -238,10 +240,13 @@ module _ {P : List ℕ → Type 0} {Q : List ℕ → Type 0} where
 
   pub no_longer_either : HasNoLonger P → HasNoLonger Q → ((one other rest other_rest : List ℕ) → P one → Q other → one ++ rest ≡ other ++ other_rest → ⊥) → HasNoLonger (Either P Q)
   no_longer_either p q apart =
-      record { same = λ one other rest other_rest a b same.
-        elim a.which
-        [ inl first ↦ elim b.which [ inl second ↦ p.same one other rest other_rest first second same | inr second ↦ absurd (apart one other rest other_rest first second same) ]
-        | inr first ↦ elim b.which [ inl second ↦ absurd (apart other one other_rest rest second first (sym same)) | inr second ↦ q.same one other rest other_rest first second same ] ] }
+      record {
+        same = λ one other rest other_rest a b same.
+            elim a.which [
+              | inl first ↦ elim b.which [ inl second ↦ p.same one other rest other_rest first second same | inr second ↦ absurd (apart one other rest other_rest first second same) ]
+              | inr first ↦ elim b.which [ inl second ↦ absurd (apart other one other_rest rest second first (sym same)) | inr second ↦ q.same one other rest other_rest first second same ]
+            ];
+      }
 
 -- ---- the further of two
 

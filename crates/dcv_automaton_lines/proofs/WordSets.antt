@@ -1,12 +1,11 @@
 -- Words of each kind with the byte behind them: where a text is stuck in one.
-use Rattle.std.proofs.Common.{◌≡◌, ℕ, zero, suc, ◌+◌, ◌*◌, ◌-◌, ◌/◌, ◌%◌, ◌^◌, ◌<◌, ◌≤◌, Bool, true, false, ◌&&◌, List, [], ◌∷◌, ◌++◌, ◌⊎◌, inl, inr, length, map, refl, sym, ap, ◌∙◌, subst, arith, get_or}
+use Rattle.std.proofs.Common.{◌≡◌, ℕ, zero, suc, ◌+◌, ◌*◌, ◌-◌, ◌/◌, ◌%◌, ◌^◌, ◌<◌, ◌≤◌, Bool, true, false, List, [], ◌∷◌, ◌++◌, ◌⊎◌, inl, inr, length, map, refl, sym, ap, ◌∙◌, subst, arith, get_or}
 use Rattle.std.specs.Bool.{◌==◌}
-use Rattle.std.specs.Prelude.{codes, nat_eq, nat_le, IsTrue, slice_index_or, take, drop, Result, Ok, Err}
+use Rattle.std.specs.Prelude.{codes, nat_eq, nat_le, slice_index_or, take, drop, Result, Ok, Err}
 use Rattle.std.specs.Result.{IsErrAnd}
 use Rattle.std.specs.Char.{is_ascii_digit}
 use Rattle.std.specs.Fmt.{decimal}
 use Rattle.std.specs.List.{list_all}
-use Rattle.std.specs.Str.Parse.{digits_value}
 use Rattle.std.proofs.lemmas.Fmt.{decimal_is_IsNumeral, decimal_digit, first_decimal, decimal_step, length-decimal-le}
 use Rattle.std.proofs.lemmas.Int.Digits.{digits_value-lt}
 use Rattle.std.proofs.lemmas.Bool.{eqb-true}
@@ -17,7 +16,7 @@ use Rattle.dcv_automaton_text.specs.File.{Target, ToState, ToNode}
 use Rattle.dcv_automaton_text.specs.Form.{is_visible, IsNumber, IsNameWord, IsTarget}
 use Rattle.dcv_automaton_text.specs.Spelled.{node_word, target_word, answer_word}
 use Rattle.dcv_automaton_text.proofs.Words.{decimal_is_visible, letter_is_visible, digits_are}
-use Rattle.dcv_automaton_lines.specs.Pieces.{AreVisible, Exactly, Nothing, Followed, Either, Begins, IsNoFurther, IsStuckIn}
+use Rattle.dcv_automaton_lines.specs.Pieces.{AreVisible, Exactly, Nothing, Followed, Either, IsNoFurther, IsStuckIn}
 use Rattle.dcv_automaton_lines.specs.Parts.{NumberWord, NodeWord, TargetWord, AnswerWord, NameWord, LetterWord}
 use Rattle.dcv_automaton_lines.specs.Stops.{IsEnd, is_binary, IsStuckAt}
 use Rattle.dcv_automaton_lines.specs.declared.stop.Stuck.{Stuck}
@@ -208,7 +207,7 @@ module _ (end : ℕ) (is_end : IsEnd end) (b : ℕ) where
   longer_than_seven : (number : ℕ) → IsNumber number → 999999 < number → 7 ≤ length (decimal number)
   longer_than_seven number small large =
       let below : number < 10 ^ length (decimal number) = subst (λ n. n < 10 ^ length (decimal number)) (decimal_is_IsNumeral number (omega arith)).1
-        (digits_value-lt 10 (decimal number) (decimal_is_IsNumeral number (omega arith)).0.1) in
+      (digits_value-lt 10 (decimal number) (decimal_is_IsNumeral number (omega arith)).0.1) in
       no_short_power (length (decimal number)) (omega arith)
 
   no_eighth_digit : (number : ℕ) → IsNumber number → 999999 < number → is_ascii_digit b ≡ true
@@ -234,22 +233,26 @@ module _ (end : ℕ) (is_end : IsEnd end) (b : ℕ) where
   no_digit_more : (number : ℕ) → IsNumber number → (b ≡ end → ⊥) → ((is_ascii_digit b ≡ false) ⊎ ((number ≡ 0) ⊎ (999999 < number)))
       → (word rest other : List ℕ) → NumberWord word → word ++ end ∷ rest ≡ decimal number ++ b ∷ other → ⊥
   no_digit_more number small differs over word rest other is same =
-      elim over
-      [ inl no_digit ↦ no_other_byte number small differs no_digit word rest other is same
-      | inr full ↦ elim full
-        [ inl none ↦ no_leading_zero is.number is.small word rest other is.is differs (same ∙ ap (λ n. decimal n ++ b ∷ other) none ∙ ap (λ w. w ++ b ∷ other) (decimal_digit 0 (omega arith)))
-        | inr large ↦ elim (decide (is_ascii_digit b))
-          [ inl digit ↦ no_eighth_digit number small large digit word rest other is same
-          | inr no_digit ↦ no_other_byte number small differs no_digit word rest other is same ] ] ]
+      elim over [
+        | inl no_digit ↦ no_other_byte number small differs no_digit word rest other is same
+        | inr full ↦ elim full [
+          | inl none ↦ no_leading_zero is.number is.small word rest other is.is differs (same ∙ ap (λ n. decimal n ++ b ∷ other) none ∙ ap (λ w. w ++ b ∷ other) (decimal_digit 0 (omega arith)))
+          | inr large ↦ elim (decide (is_ascii_digit b)) [
+            | inl digit ↦ no_eighth_digit number small large digit word rest other is same
+            | inr no_digit ↦ no_other_byte number small differs no_digit word rest other is same
+          ]
+        ]
+      ]
 
 number_over : (digits : List ℕ) (number end : ℕ) (left : List ℕ) → IsEnd end → IsBeginning digits number → IsOver digits number end left
     → NoneGoesOn NumberWord end digits left
 number_over digits number end [] is_end begins over = λ word rest is same.
     not_within is_ascii_digit digits word rest end (beginning_digits digits number begins) (end_is_no_digit end is_end) same
 number_over digits number end (b ∷ left) is_end (NoDigit none nil) over = λ word rest other is same.
-    elim over.1
-    [ inl no_digit ↦ no_first end is_end b word rest other is no_digit (same ∙ ap (λ d. d ++ b ∷ other) none)
-    | inr full ↦ let empty : length digits ≡ 0 = ap length none in let some = full.0 in absurd (omega arith) ]
+    elim over.1 [
+      | inl no_digit ↦ no_first end is_end b word rest other is no_digit (same ∙ ap (λ d. d ++ b ∷ other) none)
+      | inr full ↦ let empty : length digits ≡ 0 = ap length none in let some = full.0 in absurd (omega arith)
+    ]
 number_over digits number end (b ∷ left) is_end (SomeDigits written small) over = λ word rest other is same.
     let some : 0 < length digits = subst (λ (d : List ℕ). 0 < length d) (sym written) (decimal_is_some number small) in
     no_digit_more end is_end b number small (over.0 some) (elim over.1 [ inl no_digit ↦ inl no_digit | inr full ↦ inr full.1 ])
@@ -304,9 +307,10 @@ name_over : (front : List ℕ) (end : ℕ) (left : List ℕ) → IsEnd end → A
 name_over front end [] is_end seen over = λ word rest is same. not_within is_visible front word rest end seen (end_is_invisible end is_end) same
 name_over front end (b ∷ left) is_end seen over = λ word rest other is same.
     let read = cut_by is_visible word front rest other end b (name_words.visible word is) seen (end_is_invisible end is_end) over.0 same in
-    elim over.1
-    [ inl none ↦ no_empty_name (subst IsNameWord (read.same ∙ none) is.is)
-    | inr differs ↦ differs (sym read.ends) ]
+    elim over.1 [
+      | inl none ↦ no_empty_name (subst IsNameWord (read.same ∙ none) is.is)
+      | inr differs ↦ differs (sym read.ends)
+    ]
 
 is_name : (b : ℕ) (front : List ℕ) → AreVisible (b ∷ front) → IsNameWord (b ∷ front)
 is_name b front seen = seen
@@ -347,14 +351,16 @@ letter_over front end (b ∷ left) is_end seen over = λ word rest other is same
     by_values : (values : List Bool) (rest other : List ℕ) → trace_line values ++ end ∷ rest ≡ front ++ b ∷ other → ⊥
     by_values [] rest other same =
         let dash = dash_first front rest other end b seen same in
-        elim over.1
-        [ inl none ↦ none.1 dash.1
-        | inr some ↦ let empty : length front ≡ 0 = ap length dash.0 in let more = some.0 in omega arith ]
+        elim over.1 [
+          | inl none ↦ none.1 dash.1
+          | inr some ↦ let empty : length front ≡ 0 = ap length dash.0 in let more = some.0 in omega arith
+        ]
     by_values (value ∷ values) rest other same =
         let read = cut_by is_binary (map digit_of (value ∷ values)) front rest other end b (binary_values (value ∷ values)) seen (end_is_not_binary end is_end) over.0 same in
-        elim over.1
-        [ inl none ↦ let wrong : map digit_of (value ∷ values) ≡ [] = read.same ∙ none.0 in cc
-        | inr some ↦ some.1 (sym read.ends) ]
+        elim over.1 [
+          | inl none ↦ let wrong : map digit_of (value ∷ values) ≡ [] = read.same ∙ none.0 in cc
+          | inr some ↦ some.1 (sym read.ends)
+        ]
 
 binary_is : (d : ℕ) → is_binary d ≡ true → (d ≡ 48) ⊎ (d ≡ 49)
 binary_is d is = elim (decide (nat_eq d 48)) [ inl equal ↦ inl (grind (arith, equal)) | inr not ↦ inr (grind (arith, is, not)) ]
@@ -372,7 +378,7 @@ values_of (d ∷ digits) seen =
     let parts = both (is_binary d) (list_all is_binary digits) seen in
     let rest = values_of digits parts.1 in
     let first : digit_of (nat_eq 49 d) ≡ d = elim (binary_is d parts.0)
-      [ inl nil ↦ ap (λ d. digit_of (nat_eq 49 d)) nil ∙ sym nil | inr one ↦ ap (λ d. digit_of (nat_eq 49 d)) one ∙ sym one ] in
+    [ inl nil ↦ ap (λ d. digit_of (nat_eq 49 d)) nil ∙ sym nil | inr one ↦ ap (λ d. digit_of (nat_eq 49 d)) one ∙ sym one ] in
     λ i. first i ∷ rest i
 
 pub letter_is : (front : List ℕ) → list_all is_binary front ≡ true → 0 < length front → trace_line (letter_of front) ≡ front
@@ -431,24 +437,29 @@ leads_node end =
         back_is = parts.back_is;
         whole = ap (λ w. 110 ∷ w) parts.whole;
       };
-      from = λ text more rest parts same.
-        (decimal parts.word_is.number ++ end ∷ parts.back, (record {
-          word = decimal parts.word_is.number;
-          back = parts.back;
-          word_is = record { number = parts.word_is.number; small = parts.word_is.small; is = refl };
-          back_is = parts.back_is;
-          whole = refl;
-        }, parts.whole ∙ ap (λ w. w ++ end ∷ parts.back) parts.word_is.is));
+      from = λ text more rest parts same. (
+        decimal parts.word_is.number ++ end ∷ parts.back,
+        (
+          record {
+            word = decimal parts.word_is.number;
+            back = parts.back;
+            word_is = record { number = parts.word_is.number; small = parts.word_is.small; is = refl };
+            back_is = parts.back_is;
+            whole = refl;
+          },
+          parts.whole ∙ ap (λ w. w ++ end ∷ parts.back) parts.word_is.is,
+        ),
+      );
     }
 
 pub node_away : (end : ℕ) (text : List ℕ) → ((b : ℕ) (more : List ℕ) → text ≡ b ∷ more → b ≡ 110 → ⊥) → IsAway (Followed NodeWord end Nothing) text
 node_away end text other =
     record {
       differs = λ b rest more parts same.
-        let whole : b ∷ rest ≡ 110 ∷ (decimal parts.word_is.number ++ end ∷ parts.back) = parts.whole ∙ ap (λ w. w ++ end ∷ parts.back) parts.word_is.is in
-        other b more same (let e : b ≡ 110 = cc in e);
+          let whole : b ∷ rest ≡ 110 ∷ (decimal parts.word_is.number ++ end ∷ parts.back) = parts.whole ∙ ap (λ w. w ++ end ∷ parts.back) parts.word_is.is in
+          other b more same (let e : b ≡ 110 = cc in e);
       some = λ parts.
-        let whole : [] ≡ 110 ∷ (decimal parts.word_is.number ++ end ∷ parts.back) = parts.whole ∙ ap (λ w. w ++ end ∷ parts.back) parts.word_is.is in cc;
+          let whole : [] ≡ 110 ∷ (decimal parts.word_is.number ++ end ∷ parts.back) = parts.whole ∙ ap (λ w. w ++ end ∷ parts.back) parts.word_is.is in cc;
     }
 
 pub some_node : (end : ℕ) → Followed NodeWord end Nothing (node_word 0 ++ end ∷ [])
@@ -459,19 +470,21 @@ some_target end = record { word = target_word (ToState 0); back = []; word_is = 
 
 target_first : (end : ℕ) (target : Target) → IsTarget target → (text back : List ℕ) → text ≡ target_word target ++ end ∷ back
     → (text ≡ [] → ⊥) × ((b : ℕ) (rest : List ℕ) → text ≡ b ∷ rest → (b ≡ 116) ⊎ (b ≡ 110))
-target_first end (ToState number) small text back whole =
-    ((λ none. let wrong : [] ≡ 116 ∷ (decimal number ++ end ∷ back) = sym none ∙ whole in cc),
-      λ b rest same. let both_are : b ∷ rest ≡ 116 ∷ (decimal number ++ end ∷ back) = sym same ∙ whole in inl (let e : b ≡ 116 = cc in e))
-target_first end (ToNode number) small text back whole =
-    ((λ none. let wrong : [] ≡ 110 ∷ (decimal number ++ end ∷ back) = sym none ∙ whole in cc),
-      λ b rest same. let both_are : b ∷ rest ≡ 110 ∷ (decimal number ++ end ∷ back) = sym same ∙ whole in inr (let e : b ≡ 110 = cc in e))
+target_first end (ToState number) small text back whole = (
+  (λ none. let wrong : [] ≡ 116 ∷ (decimal number ++ end ∷ back) = sym none ∙ whole in cc),
+  λ b rest same. let both_are : b ∷ rest ≡ 116 ∷ (decimal number ++ end ∷ back) = sym same ∙ whole in inl (let e : b ≡ 116 = cc in e),
+)
+target_first end (ToNode number) small text back whole = (
+  (λ none. let wrong : [] ≡ 110 ∷ (decimal number ++ end ∷ back) = sym none ∙ whole in cc),
+  λ b rest same. let both_are : b ∷ rest ≡ 110 ∷ (decimal number ++ end ∷ back) = sym same ∙ whole in inr (let e : b ≡ 110 = cc in e),
+)
 
 pub target_away : (end : ℕ) (text : List ℕ) → ((b : ℕ) (more : List ℕ) → text ≡ b ∷ more → ((b ≡ 116) ⊎ (b ≡ 110)) → ⊥) → IsAway (Followed TargetWord end Nothing) text
 target_away end text other =
     record {
       differs = λ b rest more parts same.
-        let firsts = target_first end parts.word_is.target parts.word_is.small (b ∷ rest) parts.back (parts.whole ∙ ap (λ w. w ++ end ∷ parts.back) parts.word_is.is) in
-        other b more same (firsts.1 b rest refl);
+          let firsts = target_first end parts.word_is.target parts.word_is.small (b ∷ rest) parts.back (parts.whole ∙ ap (λ w. w ++ end ∷ parts.back) parts.word_is.is) in
+          other b more same (firsts.1 b rest refl);
       some = λ parts. (target_first end parts.word_is.target parts.word_is.small [] parts.back (parts.whole ∙ ap (λ w. w ++ end ∷ parts.back) parts.word_is.is)).0 refl;
     }
 
@@ -510,7 +523,7 @@ leads_state end =
         whole = ap (λ w. 116 ∷ w) parts.whole;
       };
       from = λ text more rest parts same.
-        behind_state end parts.word_is.target parts.word_is.small text more rest parts.back parts.back_is (parts.whole ∙ ap (λ w. w ++ end ∷ parts.back) parts.word_is.is) same;
+          behind_state end parts.word_is.target parts.word_is.small text more rest parts.back parts.back_is (parts.whole ∙ ap (λ w. w ++ end ∷ parts.back) parts.word_is.is) same;
     }
 
 pub leads_target_node : (end : ℕ) → Leads (Followed TargetWord end Nothing) (110 ∷ []) (Followed NumberWord end Nothing)
@@ -524,7 +537,7 @@ leads_target_node end =
         whole = ap (λ w. 110 ∷ w) parts.whole;
       };
       from = λ text more rest parts same.
-        behind_node end parts.word_is.target parts.word_is.small text more rest parts.back parts.back_is (parts.whole ∙ ap (λ w. w ++ end ∷ parts.back) parts.word_is.is) same;
+          behind_node end parts.word_is.target parts.word_is.small text more rest parts.back parts.back_is (parts.whole ∙ ap (λ w. w ++ end ∷ parts.back) parts.word_is.is) same;
     }
 
 -- ---- `accept` and `reject`
@@ -535,9 +548,10 @@ answer_from false text back none whole = record { which = inr (record { is = who
 
 answer_into : (text : List ℕ) → Either (Exactly (codes "accept ")) (Exactly (codes "reject ")) text → Followed AnswerWord 32 Nothing text
 answer_into text is =
-    elim is.which
-    [ inl one ↦ record { word = codes "accept"; back = []; word_is = record { accepting = true; is = refl }; back_is = record { is = refl }; whole = one.is }
-    | inr other ↦ record { word = codes "reject"; back = []; word_is = record { accepting = false; is = refl }; back_is = record { is = refl }; whole = other.is } ]
+    elim is.which [
+      | inl one ↦ record { word = codes "accept"; back = []; word_is = record { accepting = true; is = refl }; back_is = record { is = refl }; whole = one.is }
+      | inr other ↦ record { word = codes "reject"; back = []; word_is = record { accepting = false; is = refl }; back_is = record { is = refl }; whole = other.is }
+    ]
 
 leads_answer : Leads (Followed AnswerWord 32 Nothing) [] (Either (Exactly (codes "accept ")) (Exactly (codes "reject ")))
 leads_answer = leads_same answer_into
@@ -575,13 +589,13 @@ pub literal_stuck : (word text : List ℕ) (place : ℕ) → place < length word
     → (place < length text → slice_index_or text place 0 ≡ slice_index_or word place 0 → ⊥) → IsStuckIn (Exactly word) text (left_at text place)
 literal_stuck word text place within same differs =
     let spelled : word ≡ take place text ++ slice_index_or word place 0 ∷ drop (suc place) word =
-      sym (take-append-drop place word) ∙ (λ i. sym same i ++ drop-cons word place 0 within i) in
+    sym (take-append-drop place word) ∙ (λ i. sym same i ++ drop-cons word place 0 within i) in
     record {
       front = take place text;
       cut = cut_at text place;
       viable = record { more = slice_index_or word place 0 ∷ drop (suc place) word; member = record { is = sym spelled } };
       stuck = none_of_word word (take place text) (drop (suc place) word) (left_at text place) (slice_index_or word place 0) spelled
-        (front_at (λ b. b ≡ slice_index_or word place 0 → ⊥) text place differs);
+          (front_at (λ b. b ≡ slice_index_or word place 0 → ⊥) text place differs);
     }
 
 -- ---- first bytes
@@ -622,8 +636,11 @@ pub takes_no_digit : (place number : ℕ) (test : Bool) → (((place ≡ 0) ⊎ 
     → (0 < place) × ((number ≡ 0) ⊎ (999999 < number))
 takes_no_digit zero number test holds fails = absurd (let wrong : true ≡ false = sym (holds (inl refl)) ∙ fails in cc)
 takes_no_digit (suc place) zero test holds fails = (omega arith, inl refl)
-takes_no_digit (suc place) (suc number) test holds fails = (omega arith, inr (elim (decide (nat_le (suc number) 999999))
-  [ inl small ↦ absurd (never (grind (arith, small))) | inr large ↦ grind (arith, large) ]))
+takes_no_digit (suc place) (suc number) test holds fails = (
+  omega arith,
+  inr (elim (decide (nat_le (suc number) 999999))
+      [ inl small ↦ absurd (never (grind (arith, small))) | inr large ↦ grind (arith, large) ]),
+)
   where
     never : suc number ≤ 999999 → ⊥
     never small = let wrong : true ≡ false = sym (holds (inr (omega arith, small))) ∙ fails in cc

@@ -9,7 +9,7 @@
 --                                left, none has ended
 --     IsStuckIn P text left      the text begins one of the set up to what is left of it, and no further, and none has ended before
 --     IsFaultAt P text left      the text begins one of the set up to what is left of it, and no further
-use Rattle.std.specs.Prelude.{◌≡◌, ℕ, Bool, true, List, [], ◌∷◌, ◌++◌, ◌⊎◌}
+use Rattle.std.specs.Prelude.{◌≡◌, ℕ, true, List, [], ◌∷◌, ◌++◌, ◌⊎◌}
 use Rattle.std.specs.List.{list_all}
 use Rattle.dcv_automaton_text.specs.Form.{is_visible}
 

@@ -2,7 +2,7 @@
 --     letter_of digits        the letter that is spelled so, as in a trace
 --     file_of lines           the lines as plain data
 --     IsFaultIn text answer   where the answer is a syntax fault, it is that of the text
-use Rattle.std.specs.Prelude.{◌≡◌, ℕ, Bool, nat_eq, if◌then◌else◌, List, [], ◌∷◌, map, Result, Ok, Err}
+use Rattle.std.specs.Prelude.{ℕ, Bool, nat_eq, if◌then◌else◌, List, [], ◌∷◌, map, Result, Err}
 use Rattle.std.specs.Str.{byte}
 use Rattle.dcv_automaton_text.specs.File.{Target as FileTarget, ToState, ToNode, NodeLine as FileNodeLine, StateLine as FileStateLine}
 use Rattle.dcv_automaton_text.specs.File.{Access, EmptyAccess, StartAccess, AfterAccess, AccessLine as FileAccessLine}
@@ -20,7 +20,7 @@ use Rattle.dcv_automaton_lines.specs.declared.lines.SuffixWord.TheVariants.{Empt
 use Rattle.dcv_automaton_lines.specs.declared.lines.SuffixLine.{SuffixLine}
 use Rattle.dcv_automaton_lines.specs.declared.lines.Lines.{Lines}
 use Rattle.dcv_automaton_lines.specs.declared.reading.LinesFault.{LinesFault}
-use Rattle.dcv_automaton_lines.specs.declared.reading.LinesFault.TheVariants.{Syntax, Memory}
+use Rattle.dcv_automaton_lines.specs.declared.reading.LinesFault.TheVariants.{Syntax}
 
 -- a digit for each variable, and a dash where there is none
 abbrev pub letter_of : List ℕ → List Bool

@@ -20,12 +20,20 @@ abbrev pub IsStuckAt : {T : Type 0} → (List ℕ → Type 0) → List ℕ → R
 IsStuckAt P text (Ok read) = Unit {0}
 IsStuckAt P text (Err stuck) = IsStuckIn P text stuck.left.now
 
+-- the stop is a fault of the text, or want of memory
+abbrev pub IsFaultBy : (List ℕ → Type 0) → List ℕ → Stop → Type 0
+IsFaultBy P text (Syntax stuck) = IsFaultAt P text stuck.left.now
+IsFaultBy P text Memory = Unit {0}
+
 abbrev pub IsStopAt : {T : Type 0} → (List ℕ → Type 0) → List ℕ → Result T Stop → Type 0
 IsStopAt P text (Ok read) = Unit {0}
-IsStopAt P text (Err (Syntax stuck)) = IsFaultAt P text stuck.left.now
-IsStopAt P text (Err Memory) = Unit {0}
+IsStopAt P text (Err stop) = IsFaultBy P text stop
+
+-- the text is stuck at the stop, or it is want of memory
+abbrev pub IsStuckBy : (List ℕ → Type 0) → List ℕ → Stop → Type 0
+IsStuckBy P text (Syntax stuck) = IsStuckIn P text stuck.left.now
+IsStuckBy P text Memory = Unit {0}
 
 abbrev pub IsStuckStop : {T : Type 0} → (List ℕ → Type 0) → List ℕ → Result T Stop → Type 0
 IsStuckStop P text (Ok read) = Unit {0}
-IsStuckStop P text (Err (Syntax stuck)) = IsStuckIn P text stuck.left.now
-IsStuckStop P text (Err Memory) = Unit {0}
+IsStuckStop P text (Err stop) = IsStuckBy P text stop

@@ -22,7 +22,12 @@ pub fn node_line<'a>(text: &'a [u8]) -> Result<(NodeLine<'a>, &'a [u8]), Stuck<'
     let (hi, parted) = target(high, b' ')?;
     let low = literal(parted, b": ")?;
     let (lo, rest) = target(low, b'\n')?;
-    let line = NodeLine { number, name, hi, lo };
+    let line = NodeLine {
+        number,
+        name,
+        hi,
+        lo,
+    };
     Ok((line, rest))
 }
 

@@ -10,5 +10,7 @@ mod sections;
 mod stop;
 mod words;
 
-pub use lines::{AccessLine, AccessWord, Lines, NodeLine, StateLine, SuffixLine, SuffixWord, Target};
+pub use lines::{
+    AccessLine, AccessWord, Lines, NodeLine, StateLine, SuffixLine, SuffixWord, Target,
+};
 pub use reading::{LinesFault, lines_of};

@@ -63,10 +63,7 @@ fn named<'a>(alloc: Global, words: Vec<&'a [u8]>) -> Vec<&'a [u8]>
 }
 
 /// The names of the line of variables, and the text behind the line.
-pub fn names<'a>(
-    alloc: Global,
-    text: &'a [u8],
-) -> Result<(Vec<&'a [u8]>, &'a [u8]), Stop<'a>>
+pub fn names<'a>(alloc: Global, text: &'a [u8]) -> Result<(Vec<&'a [u8]>, &'a [u8]), Stop<'a>>
     ensures form { IfOk result (λ read. All IsNameWord (map (λ name. name.now) read.0.items)) }
     ensures not_a_dash { IfOk result (λ read. map (λ name. name.now) read.0.items ≢ codes "-" ∷ []) }
     ensures spelled { IfOk result (λ read. text.now ≡ words_then (name_words (map (λ name. name.now) read.0.items)) read.1.now) }

@@ -23,7 +23,9 @@ pub fn literal<'a>(text: &'a [u8], word: &[u8]) -> Result<&'a [u8], Stuck<'a>>
 {
     for (place, byte) in word.iter().enumerate() {
         if place == text.len() || text[place] != *byte {
-            return Err(Stuck { left: &text[place..] });
+            return Err(Stuck {
+                left: &text[place..],
+            });
         }
     }
     Ok(&text[word.len()..])
@@ -49,11 +51,15 @@ pub fn number<'a>(text: &'a [u8], end: u8) -> Result<(u32, &'a [u8]), Stuck<'a>>
             return Ok((number, &text[place + 1..]));
         }
         if !byte.is_ascii_digit() || !takes_a_digit(place, number) {
-            return Err(Stuck { left: &text[place..] });
+            return Err(Stuck {
+                left: &text[place..],
+            });
         }
         number = 10 * number + u32::from(*byte - b'0');
     }
-    Err(Stuck { left: &text[text.len()..] })
+    Err(Stuck {
+        left: &text[text.len()..],
+    })
 }
 
 /// The number of a node in its name, and the text behind its end.
@@ -126,7 +132,9 @@ pub fn name<'a>(text: &'a [u8], end: u8) -> Result<(&'a [u8], &'a [u8]), Stuck<'
 {
     let size = visible_length(text);
     if size == 0 || size == text.len() || text[size] != end {
-        return Err(Stuck { left: &text[size..] });
+        return Err(Stuck {
+            left: &text[size..],
+        });
     }
     Ok((&text[..size], &text[size + 1..]))
 }
@@ -170,7 +178,9 @@ fn digits<'a>(text: &'a [u8], end: u8) -> Result<(&'a [u8], &'a [u8]), Stuck<'a>
 {
     let size = binary_length(text);
     if size == 0 || size == text.len() || text[size] != end {
-        return Err(Stuck { left: &text[size..] });
+        return Err(Stuck {
+            left: &text[size..],
+        });
     }
     Ok((&text[..size], &text[size + 1..]))
 }

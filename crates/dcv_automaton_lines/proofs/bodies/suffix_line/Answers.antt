@@ -1,8 +1,7 @@
-use Rattle.std.proofs.Common.{◌≡◌, List, [], inl, inr, refl, sym, ap, ◌∙◌}
-use Rattle.std.specs.Prelude.{codes}
-use Rattle.dcv_automaton_lines.proofs.Pieces.{stuck_behind, stuck_in_first, stuck_in_second, away_either}
-use Rattle.dcv_automaton_lines.proofs.LineSets.{within, some_name, some_mark, some_hi, some_colon, some_lo, some_answer, some_row, some_last_letter, some_how_access, some_last_number, some_how_suffix, number_of, node_of, target_of, answer_of, name_of, letter_from, exactly, away_from_empty, away_from_start, away_behind_empty, away_from_after, away_from_then}
-use Rattle.dcv_automaton_lines.proofs.WordSets.{passes, stuck_exactly, number_words, node_words, target_words, answer_words, name_words, letter_words, exact_words}
+use Rattle.std.proofs.Common.{refl}
+use Rattle.dcv_automaton_lines.proofs.Pieces.{stuck_behind}
+use Rattle.dcv_automaton_lines.proofs.LineSets.{within, some_how_suffix, number_of}
+use Rattle.dcv_automaton_lines.proofs.WordSets.{passes, number_words}
 use Rattle.dcv_automaton_lines.proofs.bodies.suffix_line.Goals as goal
 
 pub returns-in_err-number-clause-fault : goal.returns-in_err-number-clause-fault

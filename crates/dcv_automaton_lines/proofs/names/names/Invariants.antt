@@ -12,7 +12,7 @@ invariant-loop-is_open l =
       form : All IsNameWord (map (λ word. word.now) l.words.items);
       some : l.is_open ≡ false → 0 < length l.words.items;
       spelled : l.text ≡ read_so_far l.is_open (map (λ word. word.now) l.words.items) l.rest;
-      fault : l.is_open ≡ true → (left : List ℕ) → IsStuckIn Words l.rest left → IsStuckIn Words l.text left
+      fault : l.is_open ≡ true → (left : List ℕ) → IsStuckIn Words l.rest left → IsStuckIn Words l.text left;
     }
 
 abbrev pub decreases-loop-is_open : goal.decreases-loop-is_open

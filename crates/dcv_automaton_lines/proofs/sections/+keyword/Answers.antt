@@ -1,6 +1,6 @@
-use Rattle.std.proofs.Common.{◌≡◌, List, ℕ, ◌<◌, ◌≤◌, refl, sym, ap, ◌∙◌, subst, arith}
+use Rattle.std.proofs.Common.{List, ℕ, subst, arith}
 use Rattle.dcv_automaton_lines.specs.Pieces.{Exactly, IsStuckIn}
-use Rattle.dcv_automaton_lines.proofs.KindSets.{stuck_in_this, stuck_in_next, stuck_in_last}
+use Rattle.dcv_automaton_lines.proofs.KindSets.{stuck_in_this, stuck_in_next}
 use Rattle.dcv_automaton_lines.proofs.sections.+keyword.Goals as goal
 
 pub returns-in-Err-keyword-clause-fault : goal.returns-in-Err-keyword-clause-fault

@@ -1,4 +1,4 @@
-use Rattle.std.proofs.Common.{◌≡◌, List, refl, sym, ap, ◌∙◌, subst}
+use Rattle.std.proofs.Common.{sym, subst}
 use Rattle.dcv_automaton_lines.specs.Pieces.{IsStuckIn}
 use Rattle.dcv_automaton_lines.specs.Parts.{BodyOf}
 use Rattle.dcv_automaton_lines.specs.declared.sections.Kind.{Kind}

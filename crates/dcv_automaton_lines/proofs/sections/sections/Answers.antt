@@ -1,4 +1,4 @@
-use Rattle.std.proofs.Common.{◌≡◌, ℕ, ◌<◌, ◌≤◌, List, length, refl, sym, ap, ◌∙◌, arith}
+use Rattle.std.proofs.Common.{◌∙◌}
 use Rattle.dcv_automaton_lines.specs.Gathered.{line_of}
 use Rattle.dcv_automaton_lines.specs.Seen.{file_of}
 use Rattle.dcv_automaton_lines.proofs.WordSets.{some_is}
@@ -18,8 +18,8 @@ pub loop-first-preserved : goal.loop-first-preserved
 loop-first-preserved c =
     let small = before_end c.loop-first.first c.is_end.result c.is_end.ensures.1 c.loop-first-test.true in
     let step = section_step c.loop-first.first c.kind-first.result (file_of c.loop-first.lines) (file_of c.add.new.self) (line_of c.in_ok-line.line) c.args.text.now c.loop-first.rest.now
-      c.in_ok-line.behind.now small c.kind-first.ensures c.in_ok-add.ensures c.in_ok-line.ensures.later c.in_ok-line.ensures.form c.loop-first.invariant.begun c.loop-first.invariant.form
-      c.loop-first.invariant.spelled c.in_ok-line.ensures.spelled c.loop-first.invariant.fault in
+    c.in_ok-line.behind.now small c.kind-first.ensures c.in_ok-add.ensures c.in_ok-line.ensures.later c.in_ok-line.ensures.form c.loop-first.invariant.begun c.loop-first.invariant.form
+    c.loop-first.invariant.spelled c.in_ok-line.ensures.spelled c.loop-first.invariant.fault in
     record { names = step.names ∙ c.loop-first.invariant.names; states = step.states ∙ c.loop-first.invariant.states; begun = step.begun; form = step.form; spelled = step.spelled; fault = step.fault }
 
 pub returns-then-not-is_empty-clause-fault : goal.returns-then-not-is_empty-clause-fault

@@ -16,7 +16,7 @@ invariant-loop-first l =
       begun : IsOpen l.first (file_of l.lines);
       form : HasLines (file_of l.lines);
       spelled : l.text ≡ flat_map spelled_line (section_words (file_of l.lines) ++ closing l.first) ++ l.rest;
-      fault : (left : List ℕ) → IsFaultAt (After l.first) l.rest left → IsFaultAt (Tail Node) l.text left
+      fault : (left : List ℕ) → IsFaultAt (After l.first) l.rest left → IsFaultAt (Tail Node) l.text left;
     }
 
 abbrev pub decreases-loop-first : goal.decreases-loop-first

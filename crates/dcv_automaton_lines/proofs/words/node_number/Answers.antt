@@ -1,5 +1,4 @@
-use Rattle.std.proofs.Common.{◌≡◌, ℕ, ◌+◌, ◌*◌, ◌<◌, ◌≤◌, ◌++◌, ◌∷◌, List, [], inl, inr, length, take, refl, sym, ap, ◌∙◌, subst, arith, slice_index_or, false, true}
-use Rattle.std.specs.Fmt.{decimal}
+use Rattle.std.proofs.Common.{arith}
 use Rattle.dcv_automaton_lines.specs.Pieces.{Nothing, Followed}
 use Rattle.dcv_automaton_lines.specs.Parts.{NumberWord, NodeWord}
 use Rattle.dcv_automaton_lines.proofs.Pieces.{stuck_after}
@@ -9,9 +8,10 @@ use Rattle.dcv_automaton_lines.proofs.words.node_number.Goals.{then-is_empty-via
 
 pub returns-then-is_empty-clause-fault : goal.returns-then-is_empty-clause-fault
 returns-then-is_empty-clause-fault c =
-    first_stuck _ c.args.text.now _ (some_node c.args.end) (node_away c.args.end c.args.text.now (other_first 110 c.args.text.now (λ some is. elim c.then-is_empty.branch
-      [ then-is_empty-via-then-is_empty w ↦ let none = empty_is c.args.text.now c.is_empty.result c.is_empty.ensures w.if-is_empty.true in omega arith
-      | then-is_empty-via-else-is_empty+then-text-ne110 w ↦ w.if-text-ne110.true is ])))
+    first_stuck _ c.args.text.now _ (some_node c.args.end) (node_away c.args.end c.args.text.now (other_first 110 c.args.text.now (λ some is. elim c.then-is_empty.branch [
+      | then-is_empty-via-then-is_empty w ↦ let none = empty_is c.args.text.now c.is_empty.result c.is_empty.ensures w.if-is_empty.true in omega arith
+      | then-is_empty-via-else-is_empty+then-text-ne110 w ↦ w.if-text-ne110.true is
+    ])))
 
 pub returns-clause-fault : goal.returns-clause-fault
 returns-clause-fault c =

@@ -1,4 +1,4 @@
-use Rattle.std.proofs.Common.{◌≡◌, ℕ, ◌+◌, ◌*◌, ◌<◌, ◌≤◌, ◌++◌, ◌∷◌, List, [], inl, inr, length, take, refl, sym, ap, ◌∙◌, subst, arith, slice_index_or, false, true}
+use Rattle.std.proofs.Common.{◌≡◌, ◌+◌, inl, inr, length, ap, ◌∙◌, arith}
 use Rattle.dcv_automaton_lines.proofs.Pieces.{stuck_after}
 use Rattle.dcv_automaton_lines.proofs.WordSets.{target_away, some_target, leads_state, leads_target_node, first_stuck, first_is, other_first, empty_is, some_is, passes}
 use Rattle.dcv_automaton_lines.proofs.words.target.Goals as goal
@@ -22,6 +22,7 @@ returns-in_err-node-clause-fault c =
 
 pub returns-clause-fault : goal.returns-clause-fault
 returns-clause-fault c =
-    first_stuck _ c.args.text.now _ (some_target c.args.end) (target_away c.args.end c.args.text.now (λ b more is first. elim first
-      [ inl state ↦ other_first 116 c.args.text.now (λ some is. c.if-text-eq116.false is) b more is state
-      | inr node ↦ other_first 110 c.args.text.now (λ some is. c.if-text-eq110.false is) b more is node ]))
+    first_stuck _ c.args.text.now _ (some_target c.args.end) (target_away c.args.end c.args.text.now (λ b more is first. elim first [
+      | inl state ↦ other_first 116 c.args.text.now (λ some is. c.if-text-eq116.false is) b more is state
+      | inr node ↦ other_first 110 c.args.text.now (λ some is. c.if-text-eq110.false is) b more is node
+    ]))
