@@ -1,5 +1,5 @@
 // The run of the program.
-ghost use Rattle.std.specs.Prelude.{◌≡◌, [], ◌||◌, IsTrue, IsFalse};
+ghost use Rattle.std.specs.Prelude.{◌≡◌, [], ◌||◌, true, IsTrue, IsFalse};
 ghost use Rattle.std.specs.Bool.{OnTrue};
 ghost use Rattle.dcv_io.specs.Asked.{Asks};
 ghost use Rattle.dcv_io.specs.Disk.{held_of};
@@ -7,6 +7,8 @@ ghost use Rattle.dcv_io.specs.Faults.{has_risen, RisesIf};
 ghost use Rattle.dcv_io.specs.Written.{Appends};
 ghost use Rattle.dcv_cli.specs.Ending.{EndsBy, AddsFront, StopsWithin, LeavesOver, AsksFrontOf, HasInputCause, Tells, TellsCause};
 ghost use Rattle.dcv_command.specs.Request.{Request as RequestOfWords, IsTaken, limits_in, AreInRange};
+ghost use Rattle.clap.specs.Words.{takes};
+ghost use Rattle.dcv_command.specs.Program.{program};
 ghost use Rattle.dcv_command.specs.Seen.{asked_by};
 ghost use Rattle.dcv_cli.specs.Refusal.{status_of, message_of};
 ghost use Rattle.dcv_cli.specs.Request.{AsksFor, files_of};
@@ -44,6 +46,7 @@ pub fn run<F: Files, O: Sink, E: Sink>(
 
     // Words that are taken are never refused, and a run that does anything does what they ask for.
     ensures usage { result ≡ Status.Usage → ¬ (IsTaken words.now) }
+    ensures takes { result ≡ Status.Usage → ¬ (takes program words.now ≡ true) }
     ensures asked { IsTrue (is_of_request result) → (request : RequestOfWords) × AsksFor words.now request }
 
     // Each other status has its cause, and no cause is passed over.
