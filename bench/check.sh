@@ -1,5 +1,5 @@
 #!/usr/bin/env bash
-# Measures whole runs of `dcvalid check`: the least time of so many runs (RUNS, 5 by custom) in milliseconds, start and end of the process
+# Measures whole runs of `dcvalid check`, or of the command that COMMAND says: the least time of so many runs (RUNS, 5 by custom) in milliseconds, start and end of the process
 # included, and the most memory that one took. With MONA=1 each file of examples/ is asked of MONA too (Debian's
 # package `mona`), as bench/to_mona.py puts it; a line below tells the length of its least counterexample.
 #
@@ -92,7 +92,7 @@ printf '%-22s %12s %10s  %s\n' case time memory answer
 for file in "$files"/*; do
   name=$(basename "$file")
   [ $# -eq 0 ] || [[ " $* " == *" $name "* ]] || continue
-  figures=$(measure "$program" check "$file")
+  figures=$(measure "$program" "${COMMAND:-check}" "$file")
   printf '%-22s %s  %s\n' "$name" "$figures" "$(cat "$files/.out" "$files/.err" | head -n 1)"
   if [ -n "${MONA:-}" ] && [[ $name = *.dc ]]; then
     python3 "$here/to_mona.py" "$file" >"$files/.mona"
