@@ -7,7 +7,9 @@ use Rattle.dcv_word.specs.Behaviour.{Word}
 use Rattle.dcv_language.specs.Language.{Language, HaveSameBehaviours}
 use Rattle.dcv_language.specs.Table.{Table, IsTable, AcceptsExactly}
 use Rattle.dcv_automaton_text.specs.File.{AutomatonFile}
+use Rattle.dcv_automaton_read.specs.Laws.{IsReadAs}
 use Rattle.dcv_automaton_text.specs.Form.{IsSpellable}
+use Rattle.dcv_automaton_text.specs.Spelled.{spelled}
 use Rattle.dcv_automaton_text.specs.Meaning.{table_of, access_words_of, suffix_words_of}
 use Rattle.dcv_automaton_text.specs.Rules.{AreNames, most_states, most_nodes, IsGood}
 use Rattle.dcv_dfa.specs.Auto.{IsAuto, count_of_nodes, table_of_states}
@@ -34,6 +36,12 @@ PrintedIsSpellable = (raw : RawValue) (names : List (List ℕ)) (access : List A
 abbrev pub PrintedIsGood : Type 0
 PrintedIsGood = (raw : RawValue) (names : List (List ℕ)) (access : List Access) (suffixes : List Suffix)
     → IsPrintable raw names → IsProof raw access suffixes → IsGood (printed_file raw names access suffixes)
+
+-- the text has no fault, and no other file
+abbrev pub PrintedIsReadBack : Type 0
+PrintedIsReadBack = (raw : RawValue) (names : List (List ℕ)) (access : List Access) (suffixes : List Suffix)
+    → IsPrintable raw names → IsProof raw access suffixes
+    → let file = printed_file raw names access suffixes in IsReadAs (spelled file) file
 
 abbrev pub PrintedTable : Type 0
 PrintedTable = (raw : RawValue) (names : List (List ℕ)) (access : List Access) (suffixes : List Suffix)

@@ -1,7 +1,8 @@
 //! Laws of the text that is printed of an automaton. Each function here does nothing: its contract is the law.
 ghost use Rattle.dcv_print.specs.Laws.{PrintedIsSpellable, PrintedIsGood, PrintedTable, PrintedAccess, PrintedSuffixes};
-ghost use Rattle.dcv_print.specs.Laws.{PrintedIsAutomaton, OneAutomaton, AutomatonOfSameBehaviours, AutomatonHasFewestStates};
+ghost use Rattle.dcv_print.specs.Laws.{PrintedIsReadBack, PrintedIsAutomaton, OneAutomaton, AutomatonOfSameBehaviours, AutomatonHasFewestStates};
 
+use dcv_automaton_read::laws::good_texts_are_read;
 use dcv_automaton_text::laws::words_show_fewest_states;
 use dcv_dfa::laws::lines_are_of_tables;
 use dcv_language::laws::{
@@ -13,6 +14,14 @@ pub fn printed_texts_are_good()
     ensures form { PrintedIsSpellable }
     ensures rules { PrintedIsGood }
 {}
+
+/// The text of an automaton is read back as what was printed, unless memory runs out.
+pub fn printed_texts_are_read_back()
+    ensures { PrintedIsReadBack }
+{
+    printed_texts_are_good();
+    good_texts_are_read();
+}
 
 /// The text of an automaton stands for its table, for its access words and for the suffixes.
 pub fn printed_texts_stand_for_automata()

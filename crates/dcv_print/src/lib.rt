@@ -19,7 +19,7 @@
 //! 1
 //! ```
 //!
-//! The automaton's text is shown in `dcv_automaton_text`. What is true of it is in [`laws`].
+//! The automaton's text is shown in `dcv_automaton_text`, and read back by [`automaton_read`]. What is true of it is in [`laws`].
 #![tactic(auto)]
 
 mod automaton;
@@ -29,4 +29,5 @@ mod lines;
 
 pub use automaton::{verdict, verdict_text};
 pub use automaton_lines::automaton_text;
+pub use dcv_automaton_read::{AutoFault, AutoFile, automaton_read};
 pub use lines::Verdict;
