@@ -8,7 +8,7 @@ use Rattle.dcv_automaton_lines.specs.Pieces.{AreVisible, Exactly, Nothing, Eithe
 use Rattle.dcv_automaton_lines.specs.Parts.{keyword, behind, rank, BodyOf, LineOf, Keyword, AnyLine, Tail, Last, More, After}
 use Rattle.dcv_automaton_lines.specs.declared.sections.Kind.{Kind}
 use Rattle.dcv_automaton_lines.specs.declared.sections.Kind.TheVariants.{Node, State, Access, Suffix, End}
-use Rattle.dcv_automaton_lines.proofs.Pieces.{append_none, cut_by, Leads, stuck_after, HasNoLonger, no_longer_nothing, no_further_on}
+use Rattle.dcv_automaton_lines.proofs.Pieces.{no_further_either, append_none, cut_by, Leads, stuck_after, HasNoLonger, no_longer_nothing, no_further_on}
 use Rattle.dcv_automaton_lines.proofs.WordSets.{leads_same}
 use Rattle.dcv_automaton_lines.proofs.LineSets.{Some, some_nothing, some_node_body, some_state_body, some_access_body, some_suffix_body, no_longer_node, no_longer_state, no_longer_access, no_longer_suffix}
 
@@ -67,11 +67,6 @@ cases_le a b = elim (cases_lt b a) [ inl above ↦ inr above | inr small ↦ inl
 
 -- ---- the further of two
 
-module _ (P : List ℕ → Type 0) (Q : List ℕ → Type 0) where
-  none_of_both : (front left : List ℕ) → IsNoFurther P front left → IsNoFurther Q front left → IsNoFurther (Either P Q) front left
-  none_of_both front [] p q = λ text more is same. elim is.which [ inl one ↦ p text more one same | inr other ↦ q text more other same ]
-  none_of_both front (b ∷ left) p q = λ text more rest is same. elim is.which [ inl one ↦ p text more rest one same | inr other ↦ q text more rest other same ]
-
 pub first_further : {P : List ℕ → Type 0} {Q : List ℕ → Type 0} {text left other : List ℕ} → IsStuckIn P text left → IsStuckIn Q text other → length left ≤ length other
     → IsStuckIn (Either P Q) text left
 first_further {P = P} {Q = Q} {left = left} {other = other} one two shorter =
@@ -79,7 +74,7 @@ first_further {P = P} {Q = Q} {left = left} {other = other} one two shorter =
       front = one.front;
       cut = one.cut;
       viable = record { more = one.viable.more; member = record { which = inl one.viable.member } };
-      stuck = none_of_both P Q one.front left one.stuck (no_further_on Q two.front other one.front left (sym two.cut ∙ one.cut) shorter two.stuck);
+      stuck = no_further_either P Q one.front left one.stuck (no_further_on Q two.front other one.front left (sym two.cut ∙ one.cut) shorter two.stuck);
     }
 
 pub second_further : {P : List ℕ → Type 0} {Q : List ℕ → Type 0} {text left other : List ℕ} → IsStuckIn P text other → IsStuckIn Q text left → length left ≤ length other
@@ -89,7 +84,7 @@ second_further {P = P} {Q = Q} {left = left} {other = other} one two shorter =
       front = two.front;
       cut = two.cut;
       viable = record { more = two.viable.more; member = record { which = inr two.viable.member } };
-      stuck = none_of_both P Q two.front left (no_further_on P one.front other two.front left (sym one.cut ∙ two.cut) shorter one.stuck) two.stuck;
+      stuck = no_further_either P Q two.front left (no_further_on P one.front other two.front left (sym one.cut ∙ two.cut) shorter one.stuck) two.stuck;
     }
 
 -- ---- first words from a kind on
@@ -123,13 +118,6 @@ stuck_in_this first next after one two shorter = stuck_after (leads_keyword firs
 pub stuck_in_next : (first next : Kind) → rank next ≡ rank first + 1 → {text left other : List ℕ} → IsStuckIn (Exactly (keyword first ++ behind first ∷ [])) text other
     → IsStuckIn (Keyword next) text left → length left ≤ length other → IsStuckIn (Keyword first) text left
 stuck_in_next first next after one two shorter = stuck_after (leads_keyword first next after) refl (second_further one two shorter)
-
-pub stuck_in_last : (first : Kind) → rank first ≡ 4 → {text left : List ℕ} → IsStuckIn (Exactly (keyword first ++ behind first ∷ [])) text left → IsStuckIn (Keyword first) text left
-stuck_in_last first last stuck =
-    stuck_after (leads_same
-    (λ text is. record { kind = first; later = omega arith; whole = is.is })
-    (λ text is. let later = is.later in let small = rank_small is.kind in let kind = rank_same is.kind first (omega arith) in
-    record { is = is.whole ∙ ap (λ k. keyword k ++ behind k ∷ []) kind })) refl stuck
 
 -- ---- lines
 

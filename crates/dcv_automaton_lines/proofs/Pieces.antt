@@ -208,7 +208,7 @@ module _ {P : List ℕ → Type 0} {text : List ℕ} (away : IsAway P text) wher
       first (b ∷ rest) more other is same = away.differs b rest (front ++ c ∷ left) is (whole ∙ (let e : d ∷ (front ++ c ∷ left) ≡ b ∷ (front ++ c ∷ left) = cc in e))
 
 module _ (P : List ℕ → Type 0) (Q : List ℕ → Type 0) where
-  no_further_either : (front left : List ℕ) → IsNoFurther P front left → IsNoFurther Q front left → IsNoFurther (Either P Q) front left
+  pub no_further_either : (front left : List ℕ) → IsNoFurther P front left → IsNoFurther Q front left → IsNoFurther (Either P Q) front left
   no_further_either front [] p q = λ text more is same. elim is.which [ inl one ↦ p text more one same | inr other ↦ q text more other same ]
   no_further_either front (b ∷ left) p q = λ text more rest is same. elim is.which [ inl one ↦ p text more rest one same | inr other ↦ q text more rest other same ]
 

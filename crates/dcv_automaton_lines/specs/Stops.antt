@@ -2,8 +2,10 @@
 --     IsEnd end                   a space or a line feed
 --     is_binary b                 the byte is a digit `0` or `1`
 --     IsStuckAt P text answer     where the answer is no part, the text is stuck there in the set
---     IsStuckStop P text answer   the same of an answer that may be want of memory
---     IsStopAt P text answer      where the answer is a fault of the text, it is that of the set
+--     IsFaultBy P text stop       the stop is a fault of the text, or want of memory
+--     IsStopAt P text answer      where the answer is a stop, it is that
+--     IsStuckBy P text stop       the text is stuck at the stop, or it is want of memory
+--     IsStuckStop P text answer   where the answer is a stop, it is that
 use Rattle.std.specs.Prelude.{◌≡◌, ℕ, Bool, ◌||◌, nat_eq, List, Result, Ok, Err, ◌⊎◌}
 use Rattle.dcv_automaton_lines.specs.Pieces.{IsStuckIn, IsFaultAt}
 use Rattle.dcv_automaton_lines.specs.declared.stop.Stuck.{Stuck}
@@ -20,7 +22,6 @@ abbrev pub IsStuckAt : {T : Type 0} → (List ℕ → Type 0) → List ℕ → R
 IsStuckAt P text (Ok read) = Unit {0}
 IsStuckAt P text (Err stuck) = IsStuckIn P text stuck.left.now
 
--- the stop is a fault of the text, or want of memory
 abbrev pub IsFaultBy : (List ℕ → Type 0) → List ℕ → Stop → Type 0
 IsFaultBy P text (Syntax stuck) = IsFaultAt P text stuck.left.now
 IsFaultBy P text Memory = Unit {0}
@@ -29,7 +30,6 @@ abbrev pub IsStopAt : {T : Type 0} → (List ℕ → Type 0) → List ℕ → Re
 IsStopAt P text (Ok read) = Unit {0}
 IsStopAt P text (Err stop) = IsFaultBy P text stop
 
--- the text is stuck at the stop, or it is want of memory
 abbrev pub IsStuckBy : (List ℕ → Type 0) → List ℕ → Stop → Type 0
 IsStuckBy P text (Syntax stuck) = IsStuckIn P text stuck.left.now
 IsStuckBy P text Memory = Unit {0}

@@ -61,9 +61,8 @@ impl Kind {
             Kind::End => None,
         }
     }
-}
 
-impl Kind {
+    // Whether it is the kind of the last line.
     fn is_end(self) -> bool
         ensures { IsTrue result ↔ (rank self ≡ 4) }
     {

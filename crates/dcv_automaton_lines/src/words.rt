@@ -123,7 +123,7 @@ pub fn visible_length(text: &[u8]) -> usize
     text.len()
 }
 
-/// The name at the front with the byte behind it, which is the last of the line or not, and the text behind that.
+/// A name, and the text behind its end.
 pub fn name<'a>(text: &'a [u8], end: u8) -> Result<(&'a [u8], &'a [u8]), Stuck<'a>>
     requires { IsEnd end }
     ensures form { IfOk result (λ read. IsNameWord read.0.now) }
