@@ -1,16 +1,18 @@
 //! Measures the operations on diagrams: `dcv_bench CASE SLOTS TIMES` does what a case says so many times, and tells how
 //! large its result is. With a fourth word, `timed`, it also tells the nanoseconds of processor time that each time took.
 //! `dcv_bench EXPLORATION SIZE TIMES` does the same with explorations of that size, and tells how many states there are, and
-//! `dcv_bench TASK TABLE TIMES` with automata.
+//! `dcv_bench TASK TABLE TIMES` with automata. `dcv_bench read SUFFIXES TIMES` reads the text of an automaton with so many suffixes, and tells how
+//! many bytes it has.
 //!
-//! Nothing here is promised by a contract but that it ends. The scripts of `bench/` run each case: `diagrams.sh`, `explorations.sh` and
-//! `automata.sh`.
+//! Nothing here is promised by a contract but that it ends. The scripts of `bench/` run each case: `diagrams.sh`, `explorations.sh`,
+//! `automata.sh` and `reading.sh`.
 #![tactic(auto)]
 
 mod automata;
 mod cases;
 mod explorations;
 mod functions;
+mod reading;
 mod rings;
 
 use crate::automata::{Table, Task};
@@ -51,6 +53,9 @@ fn measure<R: CpuClock>(
 ) -> Result<(usize, Duration)> {
     if let Some(exploration) = Exploration::named(name) {
         return explorations::measure(rt, alloc, exploration, size.parse()?, times);
+    }
+    if name == "read" {
+        return reading::measure(rt, alloc, size.parse()?, times);
     }
     if let Some(task) = Task::named(name) {
         let Some(table) = Table::named(size) else {

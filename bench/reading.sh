@@ -1,0 +1,26 @@
+#!/usr/bin/env bash
+# Measures the reader of automaton texts. Proves and builds `dcv_bench` with rt, reads a text of each size so many times, and tells the least
+# milliseconds of processor time and the most memory of the whole program, the text itself included.
+#
+#   bench/reading.sh
+#
+# Goals: 100 MB in seconds, and a few times the text's memory.
+set -euo pipefail
+here=$(cd "$(dirname "$(readlink -f "${BASH_SOURCE[0]}")")" && pwd)
+runs=${RUNS:-3}
+built=$(mktemp -d)
+trap 'rm -rf "$built"' EXIT
+
+(cd "$here/../crates/dcv_bench" && rt run -- read 10 1 >"$built/log" 2>&1) || { cat "$built/log"; exit 1; }
+rattle=$here/../crates/dcv_bench/out/dcv_bench
+
+printf '%10s %12s %12s %9s\n' suffixes bytes milliseconds megabytes
+for suffixes in 50000 500000 5000000; do
+  best= memory=
+  for _ in $(seq "$runs"); do
+    read -r size each < <(/usr/bin/time -f %M -o "$built/memory" "$rattle" read "$suffixes" 1 timed)
+    [ -n "$best" ] && [ "$best" -le "$each" ] || best=$each
+    memory=$(cat "$built/memory")
+  done
+  awk -v n="$suffixes" -v s="$size" -v a="$best" -v m="$memory" 'BEGIN { printf "%10d %12d %12.1f %9.1f\n", n, s, a / 1e6, m / 1024 }'
+done
