@@ -4,7 +4,13 @@
 #
 #   bench/reading.sh
 #
-# Goals: 100 MB in seconds, and a few times the text's memory.
+# Goals: 100 MB in seconds, and a few times the text's memory. The last figures: 27 November 2026, an Intel Xeon at 2.5 GHz with much else to
+# do, the least of three runs:
+#
+#   suffixes        bytes milliseconds megabytes
+#      50000      1027905          4.2       5.1
+#     500000     11277904         46.3      38.7
+#    5000000    122777903        457.8     385.4
 set -euo pipefail
 here=$(cd "$(dirname "$(readlink -f "${BASH_SOURCE[0]}")")" && pwd)
 runs=${RUNS:-3}
@@ -18,7 +24,8 @@ printf '%10s %12s %12s %9s\n' suffixes bytes milliseconds megabytes
 for suffixes in 50000 500000 5000000; do
   best= memory=
   for _ in $(seq "$runs"); do
-    read -r size each < <(/usr/bin/time -f %M -o "$built/memory" "$rattle" read "$suffixes" 1 timed)
+    /usr/bin/time -f %M -o "$built/memory" "$rattle" read "$suffixes" 1 timed >"$built/told"
+    read -r size each <"$built/told"
     [ -n "$best" ] && [ "$best" -le "$each" ] || best=$each
     memory=$(cat "$built/memory")
   done
