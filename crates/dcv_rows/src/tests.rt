@@ -24,7 +24,7 @@ struct Ran {
 
 // How the outside behaves: read sizes, write sizes, and the calls that fail.
 #[derive(Clone, Copy)]
-struct Outside<'a> {
+pub(crate) struct Outside<'a> {
     reads: &'a [usize],
     failing_reads: &'a [u64],
     writes: &'a [usize],
@@ -32,7 +32,7 @@ struct Outside<'a> {
     failing_messages: &'a [u64],
 }
 
-const WHOLE: Outside<'static> = Outside {
+pub(crate) const WHOLE: Outside<'static> = Outside {
     reads: &[],
     failing_reads: &[],
     writes: &[],
@@ -62,7 +62,7 @@ fn run_of(alloc: Global, words: &[&str], text: &[u8], outside: &Outside) -> Resu
 }
 
 // Whether a run of the words over the text ended with this status and wrote just this.
-fn expect(
+pub(crate) fn expect(
     rt: &impl Abort,
     alloc: Global,
     words: &[&str],
@@ -80,7 +80,7 @@ fn expect(
     Ok(())
 }
 
-const SOMETIMES: &str = "not valid\nsatisfiable\ncounterexample 1\n0\nexample 1\n1\n";
+pub(crate) const SOMETIMES: &str = "not valid\nsatisfiable\ncounterexample 1\n0\nexample 1\n1\n";
 
 const ALWAYS: &str = "valid\nsatisfiable\nexample 1\n0\n";
 
@@ -439,32 +439,30 @@ fn faults_of_long_texts(rt: HostRuntime) -> Result<(), Fail> {
     Ok(())
 }
 
+// Lists of words that no command takes.
+const NO_COMMANDS: [&[&str]; 10] = [
+    &[],
+    &["check"],
+    &["check", "-f"],
+    &["check", "f", "g"],
+    &["test", "f"],
+    &["check", "f", "--states", "0"],
+    &["check", "f", "--states", "32001"],
+    &["check", "f", "--nodes", "1000001"],
+    &["automaton"],
+    &["automaton", "f", "--nodes"],
+];
+
+// What is on the messages is left to the reader of the command line.
 #[test]
 fn words_that_ask_for_nothing(rt: HostRuntime) -> Result<(), Fail> {
     let alloc = rt.alloc();
-    let usage = (2, "", "fault usage\n");
-    let text = b"var p; infer [[p]];";
-    expect(&rt, alloc, &[], text, &WHOLE, usage)?;
-    expect(&rt, alloc, &["check"], text, &WHOLE, usage)?;
-    expect(&rt, alloc, &["check", ""], text, &WHOLE, usage)?;
-    expect(&rt, alloc, &["check", "-f"], text, &WHOLE, usage)?;
-    expect(&rt, alloc, &["test", "f"], text, &WHOLE, usage)?;
-    expect(
-        &rt,
-        alloc,
-        &["check", "f", "--states", "0"],
-        text,
-        &WHOLE,
-        usage,
-    )?;
-    expect(
-        &rt,
-        alloc,
-        &["check", "f", "--states", "32001"],
-        text,
-        &WHOLE,
-        usage,
-    )?;
+    for words in NO_COMMANDS {
+        let ran = run_of(alloc, words, b"var p; infer [[p]];", &WHOLE)?;
+        assert_eq!(rt; ran.status, 2, "{words:?}");
+        assert!(rt; ran.out.is_empty(), "{words:?}");
+        assert!(rt; !ran.err.is_empty(), "{words:?}");
+    }
     Ok(())
 }
 
@@ -546,6 +544,7 @@ fn expect_asked(
 fn files_that_are_opened(rt: HostRuntime) -> Result<(), Fail> {
     let alloc = rt.alloc();
     expect_asked(&rt, alloc, &["check", "f"], "f ")?;
+    expect_asked(&rt, alloc, &["automaton", "f"], "f ")?;
     expect_asked(&rt, alloc, &["check"], "")?;
     expect_asked(&rt, alloc, &["test", "f"], "")?;
     Ok(())
