@@ -1,8 +1,8 @@
 -- A text that has the form, and whose file keeps the rules, has no fault.
-use Rattle.std.proofs.Common.{◌≡◌, ℕ, ◌+◌, List, ◌++◌, Option, Some, None, refl, sym, ap, ◌∙◌, subst, inl, inr, take, drop, Err}
+use Rattle.std.proofs.Common.{◌≡◌, ℕ, ◌+◌, List, Some, None, refl, sym, ◌∙◌, subst, inl, inr, drop, Err}
 use Rattle.std.proofs.lemmas.List.{take-append-drop}
 use Rattle.dcv_automaton_text.specs.File.{AutomatonFile}
-use Rattle.dcv_automaton_text.specs.Form.{HasForm, IsViable, IsSyntaxFault}
+use Rattle.dcv_automaton_text.specs.Form.{HasForm, IsSyntaxFault}
 use Rattle.dcv_automaton_text.specs.Laws.{OneFile}
 use Rattle.dcv_automaton_text.specs.Rules.{IsGood, first_broken, judged_words}
 use Rattle.dcv_automaton_read.specs.declared.faults.AutoFault.{AutoFault}
@@ -13,9 +13,10 @@ use Rattle.dcv_automaton_read.specs.Read.{IsFaultOf, HasTableFault}
 module _ (one : OneFile) (text : List ℕ) (file : AutomatonFile) (form : HasForm text file) (good : IsGood file) where
   no_syntax_fault : (at : ℕ) → IsSyntaxFault text at → ⊥
   no_syntax_fault at fault =
-      elim fault.fault
-      [ inl (within, stuck) ↦ stuck (record { more = drop (at + 1) text; file = file; form = subst (λ whole. HasForm whole file) (sym (take-append-drop (at + 1) text)) form })
-      | inr (end, none) ↦ none file form ]
+      elim fault.fault [
+        | inl (within, stuck) ↦ stuck (record { more = drop (at + 1) text; file = file; form = subst (λ whole. HasForm whole file) (sym (take-append-drop (at + 1) text)) form })
+        | inr (end, none) ↦ none file form
+      ]
 
   no_table_fault : (at : ℕ) → HasTableFault text at → ⊥
   no_table_fault at fault =

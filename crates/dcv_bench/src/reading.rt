@@ -5,7 +5,8 @@ use std::alloc::Global;
 use std::time::{CpuClock, Duration};
 
 // An automaton of two states, before its suffixes but the first.
-const AUTOMATON: &str = "automaton 1\nvariables p\nstates 2\nnode n0 p ? t1 : t0\nstate 0 reject n0\nstate 1 accept n0\n\
+const AUTOMATON: &str =
+    "automaton 1\nvariables p\nstates 2\nnode n0 p ? t1 : t0\nstate 0 reject n0\nstate 1 accept n0\n\
     access 0 start 0\naccess 1 start 1\nsuffix 0 empty\n";
 
 // Reads a text with so many suffixes again and again, and tells how long it is, and the processor time of all times.
