@@ -46,7 +46,8 @@ for task in minimise shortest separate; do
   for table in chain count grid drawn parity; do
     best= memory=
     for _ in $(seq "$runs"); do
-      read -r size each < <(/usr/bin/time -f %M -o "$built/memory" "$rattle" "$task" "$table" 1 timed)
+      /usr/bin/time -f %M -o "$built/memory" "$rattle" "$task" "$table" 1 timed >"$built/told"
+      read -r size each <"$built/told"
       [ -n "$best" ] && [ "$best" -le "$each" ] || best=$each
       memory=$(cat "$built/memory")
     done

@@ -48,6 +48,9 @@
 #   window 20            68.6 ms  16.0 MB     over the budget
 #   window 30            63.2 ms  15.7 MB     over the budget
 #
+# With COMMAND=automaton, the least of three runs on the day: the examples as above, slen 9999 25.6 ms and 5.2 MB, scount 9999 53.2 ms and 6.3 MB,
+# product 150 178.1 ms and 14.2 MB, m14 94.7 ms and 4.1 MB.
+#
 # A count that is written out as positions, as bench/to_mona.py does, is no fair question for MONA: `product 50` took it 28 s and 334 MB.
 set -euo pipefail
 here=$(cd "$(dirname "$(readlink -f "${BASH_SOURCE[0]}")")" && pwd)
