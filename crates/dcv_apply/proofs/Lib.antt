@@ -1,5 +1,6 @@
 mod FaultFacts
 mod Hits
+mod Insertions
 mod MemoFacts
 mod NewNumbers
 mod PlaceFacts

@@ -1,10 +1,13 @@
-// What operations remember, so that nodes to which several paths lead are gone through once: a cache of bounded size
-// (R. E. Bryant's table of pairs that were met, 1986), from which the entry that was used least lately goes first.
+// What operations remember, so that nodes to which several paths lead are gone through once (R. E. Bryant's table of pairs that
+// were met, 1986). Its size is bounded. The first half of the entries stand side by side in a map, which takes no memory for an
+// entry alone, and that is all that most operations need; what comes after them goes through a cache, from which the entry that
+// was used least lately goes first.
 ghost use Rattle.std.specs.Prelude.{◌≡◌, ◌≤◌, ◌==◌, [], length, IfOk, IfSome, Contains};
 ghost use Rattle.dcv_apply.specs.Remembered.{entry, KeepsEntries, Adds};
 
 use crate::operands::{Operand, Operands};
 use dcv_arena::Ref;
+use indexmap::IndexMap;
 use lru::LruCache;
 use std::alloc::{AllocError, Global};
 use std::hash::{Hash, Hasher};
@@ -15,7 +18,7 @@ use std::num::NonZeroUsize;
 // an entry goes over the operands again to hash them.
 #[derive(Debug, PartialEq, Eq, Drop)]
 pub(crate) struct Key {
-    digest: u64,
+    digest: u32,
     pub(crate) round: u32,
     pub(crate) operands: Operands,
 }
@@ -27,7 +30,7 @@ impl Key {
     {
         let digest = operands.iter().fold(u64::from(round), mixed_with);
         Key {
-            digest,
+            digest: (digest >> 32) as u32,
             round,
             operands,
         }
@@ -39,12 +42,12 @@ impl Hash for Key {
     ghost use Rattle.std.specs.Hash as fed;
     ghost use Rattle.std.specs.Cmp.Rules.{hashing};
 
-    ghost hash_input = { λ key. fed.u64 key.digest };
+    ghost hash_input = { λ key. fed.u32 key.digest };
 
     ghost respects_eq = { Prim.search (hashing, rules) };
 
     fn hash<H: Hasher>(&self, state: &mut H) {
-        state.write_u64(self.digest);
+        state.write_u32(self.digest);
     }
 }
 
@@ -61,21 +64,30 @@ fn mixed_with(before: u64, operand: &Operand) -> u64 {
 
 /// What operations remember: for a round and operands, the ref that they were merged into.
 ///
-/// It holds as many entries as its capacity, and then forgets the one that was used least lately. A round is a number
-/// that the caller gives to one merge with one arena for the results, and entries are found again in their round alone.
+/// It holds as many entries as its capacity. The first half of them stay; of the others the one that was used least lately is
+/// forgotten first. A round is a number that the caller gives to one merge with one arena for the results, and entries are found
+/// again in their round alone.
 #[derive(Debug, Drop)]
 pub struct Memo {
-    cache: LruCache<Key, Ref>,
+    first: IndexMap<Key, Ref>,
+    // How many entries `first` may have.
+    room: usize,
+    later: LruCache<Key, Ref>,
 }
 
 impl Model for Memo {
-    ghost use Rattle.std.specs.Prelude.{map};
+    ghost use Rattle.std.specs.Prelude.{◌≡◌, ◌≤◌, ◌+◌, ◌++◌, length, map};
     ghost use Rattle.dcv_apply.specs.Memo.{MemoValue};
     ghost use Rattle.dcv_apply.specs.Remembered.{entry_of};
 
     ghost Value = { MemoValue };
 
-    ghost view = { λ memo. record { entries = map entry_of memo.cache.entries; capacity = memo.cache.cap } };
+    ghost view = { λ memo. record {
+      entries = map entry_of memo.first.entries ++ map entry_of memo.later.entries;
+      capacity = memo.room + memo.later.cap;
+    } };
+
+    ghost invariant = { λ memo. length memo.first.entries ≤ memo.room };
 }
 
 impl Memo {
@@ -85,9 +97,14 @@ impl Memo {
         ensures empty { IfOk result (λ memo. memo.entries ≡ []) }
         ensures capacity { IfOk result (λ memo. memo.capacity ≡ capacity) }
     {
-        let capacity = NonZeroUsize::new(capacity).unwrap();
-        let cache = LruCache::sparse(alloc, capacity)?;
-        Ok(Memo { cache })
+        let room = capacity / 2;
+        let rest = NonZeroUsize::new(capacity - room).unwrap();
+        let later = LruCache::sparse(alloc, rest)?;
+        Ok(Memo {
+            first: IndexMap::new(alloc),
+            room,
+            later,
+        })
     }
 
     /// How many entries there are, which is no more than the capacity.
@@ -95,14 +112,14 @@ impl Memo {
         ensures len { result ≡ length self.now.entries }
         ensures bound { result ≤ self.now.capacity }
     {
-        self.cache.len()
+        self.first.len() + self.later.len()
     }
 
     /// Whether there are no entries.
     pub fn is_empty(&self) -> bool
         ensures { result ≡ (length self.now.entries == 0) }
     {
-        self.cache.is_empty()
+        self.len() == 0
     }
 
     // The ref that is remembered.
@@ -111,7 +128,11 @@ impl Memo {
         ensures kept { KeepsEntries self.old self.new }
         ensures capacity { self.new.capacity ≡ self.old.capacity }
     {
-        self.cache.get(key).copied()
+        let early = self.first.get(key).copied();
+        if early.is_some() {
+            return early;
+        }
+        self.later.get(key).copied()
     }
 
     // Remembers the ref, unless memory runs out, which changes nothing.
@@ -119,6 +140,10 @@ impl Memo {
         ensures adds { Adds (entry key.round key.operands.items root) self.old self.new }
         ensures capacity { self.new.capacity ≡ self.old.capacity }
     {
-        let _ = self.cache.put(key, root);
+        if self.first.len() < self.room {
+            drop(self.first.insert(key, root));
+        } else {
+            drop(self.later.put(key, root));
+        }
     }
 }

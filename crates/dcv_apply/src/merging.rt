@@ -169,6 +169,7 @@ impl Operation<'_> {
     }
 
     // What is remembered of the operands with false in the slot, and with true.
+    #[inline(always)]
     fn sides(&self, key: &Key, slot: u8) -> Result<(Key, Key), AllocError>
         requires round { key.now.round ≡ self.now.round }
         requires operands { All (IsFrom self.now.sources slot) key.now.operands.items }

@@ -70,6 +70,7 @@ impl Sources<'_> {
     }
 
     // The operand with false in the slot, and with true.
+    #[inline(always)]
     fn parts(&self, operand: Operand, slot: u8) -> (Operand, Operand)
         requires { IsFrom self.now slot operand }
         ensures lo_from { IsFrom self.now (slot + 1) result.0 }
@@ -90,6 +91,7 @@ impl Sources<'_> {
     }
 
     // The operands with false in the slot, and with true.
+    #[inline(always)]
     pub(crate) fn sides(
         &self,
         alloc: Global,
