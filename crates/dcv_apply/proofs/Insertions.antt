@@ -1,6 +1,6 @@
 -- What a map has after an insertion: each entry was there, or has the new value under the key or one that is equal to it.
 --     insert_cases    each entry after an insertion was there, or is the one that was put
-use Rattle.std.proofs.Common.{◌≡◌, Bool, true, false, List, [], ◌∷◌, Contains, ◌⊎◌, inl, inr, refl, sym, ap, subst, ◌∙◌}
+use Rattle.std.proofs.Common.{◌≡◌, Bool, true, false, List, [], ◌∷◌, Contains, ◌⊎◌, inl, inr, refl, sym, ap, subst}
 use Rattle.indexmap.specs.IndexMap.{insert_entry}
 use Rattle.lru.proofs.Splits.{Contains-head, Contains-tail, Contains-cons, Contains-nil}
 

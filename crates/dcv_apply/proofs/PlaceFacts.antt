@@ -1,5 +1,5 @@
 -- What the map of places has: what is got was there, and what is put is all that comes.
-use Rattle.std.proofs.Common.{◌≡◌, ℕ, true, false, List, [], ◌∷◌, Option, None, Some, IfSome, Result, Ok, Err, OnOk, OnErr, Contains, ◌⊎◌, inl, inr, nat_eq, refl, sym, subst, ◌∙◌, eqb-true}
+use Rattle.std.proofs.Common.{◌≡◌, ℕ, List, Option, None, Some, IfSome, Result, Ok, Err, OnOk, OnErr, Contains, ◌⊎◌, inl, inr, nat_eq, sym, subst, eqb-true}
 use Rattle.std.specs.Map.{lookup}
 use Rattle.indexmap.specs.IndexMap.{insert_entry}
 use Rattle.lru.proofs.CallerLemmas.{Contains-lookup}

@@ -13,7 +13,7 @@ pub record EntryValue : Type 0 where
   pub operands : List (ℕ × Ref)
   pub root : Ref
 
--- those that stay stand first, and then the others, the one that was used last before them
+-- those that stay stand first; of the others, the one that was used last
 pub record MemoValue : Type 0 where
   pub entries : List EntryValue
   pub capacity : ℕ

@@ -104,8 +104,51 @@ impl Sources<'_> {
         ensures lo_numbers { IfOk result (λ sides. HaveSideOf self.now operands.now slot false sides.0.items) }
         ensures hi_numbers { IfOk result (λ sides. HaveSideOf self.now operands.now slot true sides.1.items) }
     {
-        let mut when_false = SmallVec::new(alloc);
-        let mut when_true = SmallVec::new(alloc);
+        match operands {
+            [one, other] => Ok(self.sides_of_two(alloc, *one, *other, slot)),
+            _ => self.sides_of_all(alloc, operands, slot),
+        }
+    }
+
+    // The same of two operands, which most merges have. They are put in place at once.
+    #[inline(always)]
+    fn sides_of_two(
+        &self,
+        alloc: Global,
+        one: Operand,
+        other: Operand,
+        slot: u8,
+    ) -> (Operands, Operands)
+        requires one { IsFrom self.now slot one }
+        requires other { IsFrom self.now slot other }
+        ensures lo_from { All (IsFrom self.now (slot + 1)) result.0.items }
+        ensures hi_from { All (IsFrom self.now (slot + 1)) result.1.items }
+        ensures lo_numbers { HaveSideOf self.now (one ∷ other ∷ []) slot false result.0.items }
+        ensures hi_numbers { HaveSideOf self.now (one ∷ other ∷ []) slot true result.1.items }
+    {
+        let (one_lo, one_hi) = self.parts(one, slot);
+        let (other_lo, other_hi) = self.parts(other, slot);
+        (
+            SmallVec::from_buf(alloc, [one_lo, other_lo]),
+            SmallVec::from_buf(alloc, [one_hi, other_hi]),
+        )
+    }
+
+    // The same of any number of operands.
+    fn sides_of_all(
+        &self,
+        alloc: Global,
+        operands: &[Operand],
+        slot: u8,
+    ) -> Result<(Operands, Operands), AllocError>
+        requires { All (IsFrom self.now slot) operands.now }
+        ensures lo_from { IfOk result (λ sides. All (IsFrom self.now (slot + 1)) sides.0.items) }
+        ensures hi_from { IfOk result (λ sides. All (IsFrom self.now (slot + 1)) sides.1.items) }
+        ensures lo_numbers { IfOk result (λ sides. HaveSideOf self.now operands.now slot false sides.0.items) }
+        ensures hi_numbers { IfOk result (λ sides. HaveSideOf self.now operands.now slot true sides.1.items) }
+    {
+        let mut when_false = SmallVec::with_capacity(alloc, operands.len())?;
+        let mut when_true = SmallVec::with_capacity(alloc, operands.len())?;
         for operand in operands {
             let (lo, hi) = self.parts(*operand, slot);
             when_false.push(lo)?;
@@ -140,6 +183,7 @@ impl Sources<'_> {
         ensures { OnOk result ((letter : List Bool) → length letter ≤ slots
             → numbers.new.items ≡ numbers.old.items ++ numbers_in self.now operands.now letter) }
     {
+        numbers.reserve(operands.len())?;
         for operand in operands {
             numbers.push(self.number(*operand, slots))?;
         }
