@@ -8,7 +8,6 @@ use Rattle.std.specs.Fmt.{decimal}
 use Rattle.std.specs.List.{list_all}
 use Rattle.std.proofs.lemmas.Fmt.{decimal_is_IsNumeral, decimal_digit, first_decimal, decimal_step, length-decimal-le}
 use Rattle.std.proofs.lemmas.Int.Digits.{digits_value-lt}
-use Rattle.std.proofs.lemmas.Bool.{eqb-true}
 use Rattle.std.proofs.lemmas.List.{append_assoc, length-append, length-drop, take-append-drop, take_all}
 use Rattle.std.proofs.Math.Seq.{take-suc, drop-cons}
 use Rattle.dcv_word.specs.TraceLine.{trace_line, digit_of}
@@ -611,6 +610,14 @@ pub first_is : (first : ℕ) (text : List ℕ) → 0 < length text → slice_ind
 first_is first [] some is = absurd (omega arith)
 first_is first (b ∷ text) some is = λ i. is i ∷ sym (left_is (b ∷ text) 1) i
 
+-- what a test of the first byte says
+pub begins_by : (first : ℕ) (text : List ℕ) → (0 < length text) × (slice_index_or text 0 0 ≡ first) → text ≡ first ∷ left_at text 1
+begins_by first text is = first_is first text is.0 is.1
+
+pub begins_otherwise : {test : Bool} (first : ℕ) (text : List ℕ) → ((0 < length text) × (slice_index_or text 0 0 ≡ first) → test ≡ true) → test ≡ false
+    → (b : ℕ) (more : List ℕ) → text ≡ b ∷ more → b ≡ first → ⊥
+begins_otherwise first text holds fails = other_first first text (λ some is. let wrong : true ≡ false = sym (holds (some, is)) ∙ fails in cc)
+
 -- ---- exits
 
 pub passes : {T : Type 0} (P : List ℕ → Type 0) (text : List ℕ) (result : Result T Stuck) (stuck : Stuck) → IsErrAnd result (λ e. e ≡ stuck) → IsStuckIn P text stuck.left.now
@@ -624,9 +631,6 @@ carried P Q text rest (Ok read) over is = tt
 carried P Q text rest (Err stuck) over is = over stuck.left.now is
 
 -- ---- tests of the code
-
-pub empty_is : (text : List ℕ) (test : Bool) → test ≡ (length text == 0) → test ≡ true → length text ≡ 0
-empty_is text test is holds = eqb-true (length text) 0 (sym is ∙ holds)
 
 pub some_is : (text : List ℕ) (test : Bool) → test ≡ (length text == 0) → test ≡ false → 0 < length text
 some_is [] test is holds = absurd (let wrong : false ≡ true = sym holds ∙ is in cc)

@@ -1,5 +1,7 @@
--- what clauses cite: lines as plain data, sets of texts, and the parts of the text as such sets
+-- what public clauses cite: lines of the code as plain data
 pub mod Seen
+-- for functions within the crate alone: sets of texts, the parts of the text as such sets, how lines are gathered, and where
+-- reading stops
 pub mod Pieces
 pub mod Parts
 pub mod Gathered

@@ -1,5 +1,5 @@
 // Lines without their first word are read from the front of a text, word by word.
-ghost use Rattle.std.specs.Prelude.{◌≡◌, ◌<◌, ◌↔◌, IsTrue, IfOk, length, drop, slice_index};
+ghost use Rattle.std.specs.Prelude.{◌≡◌, IfOk, drop};
 ghost use Rattle.dcv_automaton_text.specs.Form.{IsNodeLine, IsStateLine, IsAccess, IsAccessLine, IsSuffix, IsSuffixLine};
 ghost use Rattle.dcv_automaton_text.specs.Spelled.{node_words, state_words, how_access, access_words, how_suffix, suffix_words};
 ghost use Rattle.dcv_automaton_lines.specs.Parts.{NodeBody, StateBody, AccessHow, AccessBody, SuffixHow, SuffixBody, words_then};
@@ -8,7 +8,7 @@ ghost use Rattle.dcv_automaton_lines.specs.Stops.{IsStuckAt};
 
 use crate::lines::{AccessLine, AccessWord, NodeLine, StateLine, SuffixLine, SuffixWord};
 use crate::stop::Stuck;
-use crate::words::{answer, letter, literal, name, node_number, number, target};
+use crate::words::{answer, begins_with, letter, literal, name, node_number, number, target};
 
 /// What a line says behind the word `node`, and the text behind the line.
 pub fn node_line<'a>(text: &'a [u8]) -> Result<(NodeLine<'a>, &'a [u8]), Stuck<'a>>
@@ -46,13 +46,6 @@ pub fn state_line<'a>(text: &'a [u8]) -> Result<(StateLine, &'a [u8]), Stuck<'a>
         row,
     };
     Ok((line, rest))
-}
-
-// Whether this byte stands at the front.
-fn begins_with(text: &[u8], byte: u8) -> bool
-    ensures { IsTrue result ↔ ((0 < length text.now) × (slice_index text.now 0 ≡ byte)) }
-{
-    !text.is_empty() && text[0] == byte
 }
 
 // How an access word is spelled, and the text behind the line.

@@ -16,6 +16,13 @@ use crate::stop::Stuck;
 // The largest number that a further digit may follow.
 const LARGEST_BEFORE_A_DIGIT: u32 = 999_999;
 
+/// Whether this byte stands at the front.
+pub fn begins_with(text: &[u8], byte: u8) -> bool
+    ensures { IsTrue result ↔ ((0 < length text.now) × (slice_index text.now 0 ≡ byte)) }
+{
+    !text.is_empty() && text[0] == byte
+}
+
 /// The text behind a word at its front.
 pub fn literal<'a>(text: &'a [u8], word: &[u8]) -> Result<&'a [u8], Stuck<'a>>
     ensures ok { IfOk result (λ rest. text.now ≡ word.now ++ rest.now) }
@@ -69,7 +76,7 @@ pub fn node_number<'a>(text: &'a [u8], end: u8) -> Result<(u32, &'a [u8]), Stuck
     ensures spelled { IfOk result (λ read. text.now ≡ node_word read.0 ++ end ∷ read.1.now) }
     ensures fault { IsStuckAt (Followed NodeWord end Nothing) text.now result }
 {
-    if text.is_empty() || text[0] != b'n' {
+    if !begins_with(text, b'n') {
         return Err(Stuck { left: text });
     }
     number(&text[1..], end)
@@ -82,14 +89,11 @@ pub fn target<'a>(text: &'a [u8], end: u8) -> Result<(Target, &'a [u8]), Stuck<'
     ensures spelled { IfOk result (λ read. text.now ≡ target_word (target_of read.0) ++ end ∷ read.1.now) }
     ensures fault { IsStuckAt (Followed TargetWord end Nothing) text.now result }
 {
-    if text.is_empty() {
-        return Err(Stuck { left: text });
-    }
-    if text[0] == b't' {
+    if begins_with(text, b't') {
         let (state, rest) = number(&text[1..], end)?;
         return Ok((Target::State(state), rest));
     }
-    if text[0] == b'n' {
+    if begins_with(text, b'n') {
         let (node, rest) = number(&text[1..], end)?;
         return Ok((Target::Node(node), rest));
     }
@@ -101,7 +105,7 @@ pub fn answer<'a>(text: &'a [u8]) -> Result<(bool, &'a [u8]), Stuck<'a>>
     ensures spelled { IfOk result (λ read. text.now ≡ answer_word read.0 ++ 32 ∷ read.1.now) }
     ensures fault { IsStuckAt (Followed AnswerWord 32 Nothing) text.now result }
 {
-    if !text.is_empty() && text[0] == b'a' {
+    if begins_with(text, b'a') {
         let rest = literal(text, b"accept ")?;
         return Ok((true, rest));
     }
@@ -192,7 +196,7 @@ pub fn letter<'a>(text: &'a [u8], end: u8) -> Result<(&'a [u8], &'a [u8]), Stuck
     ensures spelled { IfOk result (λ read. text.now ≡ read.0.now ++ end ∷ read.1.now) }
     ensures fault { IsStuckAt (Followed LetterWord end Nothing) text.now result }
 {
-    if !text.is_empty() && text[0] == b'-' {
+    if begins_with(text, b'-') {
         return dash(text, end);
     }
     digits(text, end)

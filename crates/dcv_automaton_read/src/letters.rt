@@ -11,8 +11,8 @@ fn spelled(digits: &[u8]) -> Letter
     ensures { result ≡ map (nat_eq (byte "1")) digits.now }
 {
     let mut letter = Letter::new(digits.len() as u8, 0);
-    for slot in 0..digits.len() {
-        letter = letter.with(slot as u8, digits[slot] == b'1');
+    for (slot, digit) in digits.iter().enumerate() {
+        letter = letter.with(slot as u8, *digit == b'1');
     }
     letter
 }

@@ -1,5 +1,6 @@
 -- What the table rules say of a file that keeps them all: its lines stand at their numbers, and what they name is there.
-use Rattle.std.proofs.Common.{◌≡◌, ◌≢◌, ℕ, zero, suc, ◌+◌, ◌<◌, ◌≤◌, Bool, true, false, not, ◌&&◌, List, [], ◌∷◌, ◌++◌, length, map, take, get_or, None, Some, inl, inr, refl, sym, ap, ◌∙◌, subst, arith}
+use Rattle.std.proofs.Common.{◌≡◌, ◌≢◌, ℕ, zero, suc, ◌+◌, ◌<◌, ◌≤◌, Bool, true, false, not, ◌&&◌, List, [], ◌∷◌, ◌++◌}
+use Rattle.std.proofs.Common.{length, map, take, get_or, None, Some, inl, inr, refl, sym, ap, ◌∙◌, subst, arith}
 use Rattle.std.specs.Prelude.{codes, nat_lt, nat_le}
 use Rattle.std.specs.Cmp.{unsigned_Decides}
 use Rattle.std.specs.Fmt.{decimal}
@@ -8,10 +9,13 @@ use Rattle.std.proofs.lemmas.Bool.{cases_lt, ltb-true, leb-true, false≢true}
 use Rattle.std.proofs.lemmas.List.{length-map}
 use Rattle.std.proofs.lemmas.List.Folds.{list_all-append}
 use Rattle.std.proofs.lemmas.List.FromFn.{length-enumerate_from}
-use Rattle.dcv_automaton_text.specs.File.{Target, ToState, ToNode, NodeLine, StateLine, Access, EmptyAccess, StartAccess, AfterAccess, AccessLine, AutomatonFile}
+use Rattle.dcv_automaton_text.specs.File.{Target, ToState, ToNode, NodeLine, StateLine, AutomatonFile}
+use Rattle.dcv_automaton_text.specs.File.{Access, EmptyAccess, StartAccess, AfterAccess, AccessLine}
 use Rattle.dcv_automaton_text.specs.Spelled.{name_words, node_words, state_words, how_access, access_words, suffix_words, head_lines}
-use Rattle.dcv_automaton_text.specs.Rules.{most_names, most_states, most_nodes, is_listed, keeps_name, keeps_child, is_same_target, is_same_node, keeps_node, keeps_row, keeps_state}
-use Rattle.dcv_automaton_text.specs.Rules.{keeps_how_access, has_all_states, keeps_access, has_all_access, keeps_suffix, judged, keeps_names, keeps_head, judged_words, first_broken, IsGood}
+use Rattle.dcv_automaton_text.specs.Rules.{most_names, most_states, most_nodes, is_listed, keeps_name, keeps_child}
+use Rattle.dcv_automaton_text.specs.Rules.{is_same_target, is_same_node, keeps_node, keeps_row, keeps_state}
+use Rattle.dcv_automaton_text.specs.Rules.{keeps_how_access, has_all_states, keeps_access, has_all_access, keeps_suffix}
+use Rattle.dcv_automaton_text.specs.Rules.{judged, keeps_names, keeps_head, judged_words, first_broken, IsGood}
 use Rattle.dcv_automaton_text.proofs.Kept.{AreKept, keeps, AllKeep, both}
 
 turned : (b : Bool) → not b ≡ true → b ≡ false

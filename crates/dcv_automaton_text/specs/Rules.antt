@@ -6,7 +6,8 @@
 --     first_broken at words                  the offset of the first that does not, where the words begin at an offset
 --     IsTableFault file at                   the first word that breaks a rule begins at this offset
 --     IsGood file                            there is none
-use Rattle.std.specs.Prelude.{◌≡◌, ◌≢◌, ℕ, ◌+◌, ◌≤◌, Bool, true, false, not, IsTrue, ◌&&◌, ◌||◌, nat_eq, nat_lt, nat_le, if◌then◌else◌, List, [], ◌∷◌, ◌++◌, Option, Some, None, length, map, take, slice_index_or, bytes_eq}
+use Rattle.std.specs.Prelude.{◌≡◌, ◌≢◌, ℕ, ◌+◌, ◌≤◌, Bool, true, false, not, IsTrue, ◌&&◌, ◌||◌, nat_eq, nat_lt, nat_le, if◌then◌else◌}
+use Rattle.std.specs.Prelude.{List, [], ◌∷◌, ◌++◌, Option, Some, None, length, map, take, slice_index_or, bytes_eq}
 use Rattle.std.specs.List.{All, AllPairs, flat_map, list_any, position_or_len, enumerate_from, zip}
 use Rattle.dcv_tokens.specs.Tokens.{is_name}
 use Rattle.dcv_tokens.specs.Limits.{longest_word}

@@ -11,8 +11,8 @@ use Rattle.clap.proofs.ValueTestLemmas.{Accepts-accepts}
 use Rattle.dcv_explore.specs.declared.explorer.Limits.{Limits}
 use Rattle.clap.specs.Kinds.{or_else}
 use Rattle.clap.specs.ValueTests.{is_unsigned_in}
-use Rattle.clap.specs.Walk.{Held, Walk, finished, idle, option, nothing_held, rows_after, settled, walk, walk_from, walked}
-use Rattle.clap.specs.Faults.{check_fault, defaults_fault, level_fault, settle_fault, turn_fault, walk_fault}
+use Rattle.clap.specs.Walk.{Held, Walk, finished, idle, option, nothing_held, plain_word, rows_after, settled, walk, walk_from, walked}
+use Rattle.clap.specs.Faults.{check_fault, defaults_fault, level_fault, settle_fault, step_fault, turn_fault, walk_fault}
 use Rattle.clap.specs.declared.builder.value_parser.Reading.TheVariants.{AsWritten}
 use Rattle.clap.specs.declared.parser.matches.ValueSource.TheVariants.{CommandLine}
 use Rattle.clap.proofs.OnLiterals.{clap_on_literals}
@@ -21,7 +21,7 @@ use Rattle.dcv_command.specs.Laws.{ListedWordsAreTaken}
 use Rattle.dcv_command.specs.Listed.{AreAllowed, AskFor, IsAllowed, IsFileName, Options, Neither, States, Nodes, StatesThenNodes, NodesThenStates, limits_given, option_words}
 use Rattle.dcv_command.specs.Request.{Automaton, Check, Request, command_of, limits_among, limits_of, request_in, request_of, request_of_subcommand}
 use Rattle.dcv_command.proofs.Commands.{IsSubcommand, check_is_one, automaton_is_one, faults_below, found_below, leaf}
-use Rattle.dcv_command.proofs.Plain.{HasNoDash, going, turn_plain, walked_plain}
+use Rattle.dcv_command.proofs.Plain.{HasNoDash, after_plain, going, turn_plain, walked_plain}
 
 abbrev rules : List Rule
 rules = (leaf []).rules
@@ -47,20 +47,21 @@ record Goes (name : Text) (w : Walk) (word : Text) (next : Walk) : Type 0 where
   no_fault : turn_fault (leaf name) [] w word ≡ []
   goes : walked rules [] w word ≡ next
 
-abbrev Runs : Text → Walk → List Text → Walk → Type 0
-Runs name w [] end = w ≡ end
-Runs name w (word ∷ words) end = (next : Walk) × (Goes name w word next × Runs name next words end)
+-- word by word from a walk to the end
+data Runs (name : Text) (end : Walk) : Walk → List Text → Type 0 where
+  at_end : Runs name end end []
+  more : {w next : Walk} {word : Text} {words : List Text} → Goes name w word next → Runs name end next words → Runs name end w (word ∷ words)
 
-run_ends : (name : Text) (w end : Walk) (words : List Text) → Runs name w words end → fold (walked rules []) w words ≡ end
-run_ends name w end [] run = run
-run_ends name w end (word ∷ words) (next, (one, run)) = ap (λ there. fold (walked rules []) there words) one.goes ∙ run_ends name next end words run
+run_ends : (name : Text) (end w : Walk) (words : List Text) → Runs name end w words → fold (walked rules []) w words ≡ end
+run_ends name end w [] at_end = refl
+run_ends name end w (word ∷ words) (more one rest) = ap (λ there. fold (walked rules []) there words) one.goes ∙ run_ends name end _ words rest
 
-no_fault_on : (name : Text) (w end : Walk) (words : List Text) → Runs name w words end → walk_fault (leaf name) [] w words ≡ []
+no_fault_on : (name : Text) (end w : Walk) (words : List Text) → Runs name end w words → walk_fault (leaf name) [] w words ≡ []
 unfolding walk_fault
-no_fault_on name w end [] run = refl
-no_fault_on name w end (word ∷ words) (next, (one, run)) =
+no_fault_on name end w [] at_end = refl
+no_fault_on name end w (word ∷ words) (more one rest) =
     ap (λ kinds. or_else kinds (walk_fault (leaf name) [] (walked rules [] w word) words)) one.no_fault
-    ∙ ap (λ there. walk_fault (leaf name) [] there words) one.goes ∙ no_fault_on name next end words run
+    ∙ ap (λ there. walk_fault (leaf name) [] there words) one.goes ∙ no_fault_on name end _ words rest
 
 -- the faults behind the walk
 abbrev faults_at_end : Text → Held → Kinds
@@ -68,68 +69,55 @@ faults_at_end name held =
     or_else (settle_fault rules (leaf name).args_override_self held)
     (or_else (defaults_fault (settled rules held).rows rules) (check_fault (leaf name) (finished rules held) false))
 
-record IsRun (name : Text) (words : List Text) (rows : List Row) (id text : Text) : Type 0 where
-  runs : Runs name (walk_from nothing_held) words (going (holding rows id text) idle 2)
-  no_fault : faults_at_end name (holding rows id text) ≡ []
-
-module _ (name : Text) (words : List Text) (rows : List Row) (id text : Text) (is : IsRun name words rows id text) where
-  ended : walk rules [] nothing_held words ≡ going (holding rows id text) idle 2
-  ended = run_ends name (walk_from nothing_held) (going (holding rows id text) idle 2) words is.runs
-
-  run_has_no_fault : level_fault (leaf name) [] nothing_held words false [] ≡ []
-  run_has_no_fault =
-      ap (λ kinds. or_else kinds (faults_at_end name (walk rules [] nothing_held words).held)) (no_fault_on name (walk_from nothing_held) (going (holding rows id text) idle 2) words is.runs)
-      ∙ ap (λ (w : Walk). faults_at_end name w.held) ended ∙ is.no_fault
-
-  run_has_rows : rows_after rules [] words ≡ finished rules (holding rows id text)
-  run_has_rows = ap (λ (w : Walk). finished rules w.held) ended
-
 -- ---- the steps of the walk
 
-file_goes : (name file : Text) → HasNoDash file → Goes name (walk_from nothing_held) file (going (holding [] (codes "file") file) idle 2)
+file_goes : {name file : Text} → HasNoDash file → Goes name (walk_from nothing_held) file (going (holding [] (codes "file") file) idle 2)
 unfolding clap_on_literals
-file_goes name file none =
+file_goes {name} {file} none =
     record { no_fault = turn_plain (leaf name) nothing_held idle 1 file none refl; goes = walked_plain rules nothing_held idle 1 file none }
 
-states_value : (name : Text) (rows : List Row) (text : Text) → HasNoDash text
+-- the value behind an option with this name, if the walk takes it so
+value_goes : {name text : Text} {rows : List Row} (id : Text) → HasNoDash text
+    → (let met = plain_word rules (option id) text (waiting_for rows id) in step_fault (leaf name) 2 met.0 met.1 ≡ [])
+    → after_plain rules (waiting_for rows id) (option id) 2 text ≡ going (holding rows id text) idle 2
+    → Goes name (going (waiting_for rows id) (option id) 2) text (going (holding rows id text) idle 2)
+value_goes {name} {text} {rows} id none no_fault taken =
+    record {
+      no_fault = turn_plain (leaf name) (waiting_for rows id) (option id) 2 text none no_fault;
+      goes = walked_plain rules (waiting_for rows id) (option id) 2 text none ∙ taken;
+    }
+
+states_value : {name text : Text} {rows : List Row} → HasNoDash text
     → Goes name (going (waiting_for rows (codes "states")) (option (codes "states")) 2) text (going (holding rows (codes "states") text) idle 2)
 unfolding clap_on_literals
-states_value name rows text none =
-    record {
-      no_fault = turn_plain (leaf name) (waiting_for rows (codes "states")) (option (codes "states")) 2 text none refl;
-      goes = walked_plain rules (waiting_for rows (codes "states")) (option (codes "states")) 2 text none;
-    }
+states_value none = value_goes (codes "states") none refl refl
 
-nodes_value : (name : Text) (rows : List Row) (text : Text) → HasNoDash text
+nodes_value : {name text : Text} {rows : List Row} → HasNoDash text
     → Goes name (going (waiting_for rows (codes "nodes")) (option (codes "nodes")) 2) text (going (holding rows (codes "nodes") text) idle 2)
 unfolding clap_on_literals
-nodes_value name rows text none =
-    record {
-      no_fault = turn_plain (leaf name) (waiting_for rows (codes "nodes")) (option (codes "nodes")) 2 text none refl;
-      goes = walked_plain rules (waiting_for rows (codes "nodes")) (option (codes "nodes")) 2 text none;
-    }
+nodes_value none = value_goes (codes "nodes") none refl refl
 
-states_flag : (name file : Text) → Goes name (going (holding [] (codes "file") file) idle 2) (codes "--states")
+states_flag : {name file : Text} → Goes name (going (holding [] (codes "file") file) idle 2) (codes "--states")
     (going (waiting_for (with_file file) (codes "states")) (option (codes "states")) 2)
 unfolding clap_on_literals
-states_flag name file = record { no_fault = refl; goes = refl }
+states_flag = record { no_fault = refl; goes = refl }
 
-nodes_flag : (name file : Text) → Goes name (going (holding [] (codes "file") file) idle 2) (codes "--nodes")
+nodes_flag : {name file : Text} → Goes name (going (holding [] (codes "file") file) idle 2) (codes "--nodes")
     (going (waiting_for (with_file file) (codes "nodes")) (option (codes "nodes")) 2)
 unfolding clap_on_literals
-nodes_flag name file = record { no_fault = refl; goes = refl }
+nodes_flag = record { no_fault = refl; goes = refl }
 
-nodes_after_states : (name file text : Text) → is_unsigned_in 1 most_states text ≡ true
+nodes_after_states : {name file text : Text} → is_unsigned_in 1 most_states text ≡ true
     → Goes name (going (holding (with_file file) (codes "states") text) idle 2) (codes "--nodes")
     (going (waiting_for (row (codes "file") file ∷ row (codes "states") text ∷ []) (codes "nodes")) (option (codes "nodes")) 2)
 unfolding clap_on_literals
-nodes_after_states name file text fits = record { no_fault = rw fits refl; goes = refl }
+nodes_after_states fits = record { no_fault = rw fits refl; goes = refl }
 
-states_after_nodes : (name file text : Text) → is_unsigned_in 1 most_nodes text ≡ true
+states_after_nodes : {name file text : Text} → is_unsigned_in 1 most_nodes text ≡ true
     → Goes name (going (holding (with_file file) (codes "nodes") text) idle 2) (codes "--states")
     (going (waiting_for (row (codes "file") file ∷ row (codes "nodes") text ∷ []) (codes "states")) (option (codes "states")) 2)
 unfolding clap_on_literals
-states_after_nodes name file text fits = record { no_fault = rw fits refl; goes = refl }
+states_after_nodes fits = record { no_fault = rw fits refl; goes = refl }
 
 -- ---- numbers
 
@@ -163,103 +151,70 @@ decimal_is_one most number few (low, high) =
 
 -- ---- what is asked for
 
-module _ (name file : Text) (words : List Text) (rows : List Row) (id text : Text) (limits : Limits) (request : Request) (is : IsSubcommand name)
-    (run : IsRun name words rows id text) (named : first_of (codes "file") (finished rules (holding rows id text)) ≡ Some file)
+-- a run to an argument with its value asks for what the rows behind it say
+module _ {name file : Text} {words : List Text} {rows : List Row} {id text : Text} {request : Request} (limits : Limits) (is : IsSubcommand name)
+    (runs : Runs name (going (holding rows id text) idle 2) (walk_from nothing_held) words) (no_fault : faults_at_end name (holding rows id text) ≡ [])
+    (named : first_of (codes "file") (finished rules (holding rows id text)) ≡ Some file)
     (limited : limits_among (finished rules (holding rows id text)) ≡ Some limits) (command : command_of name file limits ≡ Some request) where
+  abbrev last : Walk
+  last = going (holding rows id text) idle 2
+
+  ended : walk rules [] nothing_held words ≡ last
+  ended = run_ends name last (walk_from nothing_held) words runs
+
+  run_has_no_fault : level_fault (leaf name) [] nothing_held words false [] ≡ []
+  run_has_no_fault =
+      ap (λ kinds. or_else kinds (faults_at_end name (walk rules [] nothing_held words).held)) (no_fault_on name last (walk_from nothing_held) words runs)
+      ∙ ap (λ (w : Walk). faults_at_end name w.held) ended ∙ no_fault
+
+  run_has_rows : rows_after rules [] words ≡ finished rules (holding rows id text)
+  run_has_rows = ap (λ (w : Walk). finished rules w.held) ended
+
   asked : request_of (name ∷ words) ≡ Some request
   asked =
-      ap request_of_subcommand (found_below name is words) ∙ ap (request_in name) (run_has_rows name words rows id text run)
+      ap request_of_subcommand (found_below name is words) ∙ ap (request_in name) run_has_rows
       ∙ ap (λ found. option_and_then (λ one. option_and_then (command_of name one) (limits_among (finished rules (holding rows id text)))) found) named
       ∙ ap (λ found. option_and_then (command_of name file) found) limited ∙ command
 
   ask_for : AskFor (name ∷ words) request
-  ask_for = record { taken = faults_below name is words ∙ run_has_no_fault name words rows id text run; asked = asked }
+  ask_for = record { taken = faults_below name is words ∙ run_has_no_fault; asked = asked }
 
 -- ---- each list
 
 -- what each list asks for, of a subcommand that gives this request of a name and limits
-module _ (name file : Text) (asks : Limits → Request) (is : IsSubcommand name) (command : (limits : Limits) → command_of name file limits ≡ Some (asks limits)) (plain : HasNoDash file) where
+module _ (name file : Text) (asks : Limits → Request) (is : IsSubcommand name) (command : (limits : Limits) → command_of name file limits ≡ Some (asks limits))
+    (plain : HasNoDash file) where
   neither : AskFor (name ∷ file ∷ []) (asks (limits_of 30000 1000000))
   unfolding clap_on_literals
-  neither =
-      ask_for name file (file ∷ []) [] (codes "file") file (limits_of 30000 1000000) (asks (limits_of 30000 1000000)) is
-      (record { runs = (_, (file_goes name file plain, refl)); no_fault = refl }) refl refl (command (limits_of 30000 1000000))
+  neither = ask_for (limits_of 30000 1000000) is (more (file_goes plain) at_end) refl refl refl (command (limits_of 30000 1000000))
 
   states_alone : (text : Text) (states : ℕ) → IsNumberText most_states states text → AskFor (name ∷ file ∷ codes "--states" ∷ text ∷ []) (asks (limits_of states 1000000))
   unfolding clap_on_literals
   states_alone text states number =
-      ask_for name file (file ∷ codes "--states" ∷ text ∷ []) (with_file file) (codes "states") text (limits_of states 1000000) (asks (limits_of states 1000000)) is
-      (record {
-        runs = (_, (file_goes name file plain, (_, (states_flag name file, (_, (states_value name (with_file file) text number.no_dash, refl))))));
-        no_fault = rw number.fits refl;
-      }) refl (rw (number.fits, number.value) refl) (command (limits_of states 1000000))
+      let runs = more (file_goes plain) (more states_flag (more (states_value number.no_dash) at_end)) in
+      ask_for (limits_of states 1000000) is runs (rw number.fits refl) refl (rw (number.fits, number.value) refl) (command (limits_of states 1000000))
 
   nodes_alone : (text : Text) (nodes : ℕ) → IsNumberText most_nodes nodes text → AskFor (name ∷ file ∷ codes "--nodes" ∷ text ∷ []) (asks (limits_of 30000 nodes))
   unfolding clap_on_literals
   nodes_alone text nodes number =
-      ask_for name file (file ∷ codes "--nodes" ∷ text ∷ []) (with_file file) (codes "nodes") text (limits_of 30000 nodes) (asks (limits_of 30000 nodes)) is
-      (record {
-        runs = (_, (file_goes name file plain, (_, (nodes_flag name file, (_, (nodes_value name (with_file file) text number.no_dash, refl))))));
-        no_fault = rw number.fits refl;
-      }) refl (rw (number.fits, number.value) refl) (command (limits_of 30000 nodes))
+      let runs = more (file_goes plain) (more nodes_flag (more (nodes_value number.no_dash) at_end)) in
+      ask_for (limits_of 30000 nodes) is runs (rw number.fits refl) refl (rw (number.fits, number.value) refl) (command (limits_of 30000 nodes))
 
   states_first : (first second : Text) (states nodes : ℕ) → IsNumberText most_states states first → IsNumberText most_nodes nodes second
       → AskFor (name ∷ file ∷ codes "--states" ∷ first ∷ codes "--nodes" ∷ second ∷ []) (asks (limits_of states nodes))
   unfolding clap_on_literals
   states_first first second states nodes one other =
-      ask_for name file (file ∷ codes "--states" ∷ first ∷ codes "--nodes" ∷ second ∷ []) (row (codes "file") file ∷ row (codes "states") first ∷ []) (codes "nodes") second
-      (limits_of states nodes) (asks (limits_of states nodes)) is
-      (record {
-        runs = (
-          _,
-          (
-            file_goes name file plain,
-            (
-              _,
-              (
-                states_flag name file,
-                (
-                  _,
-                  (
-                    states_value name (with_file file) first one.no_dash,
-                    (_, (nodes_after_states name file first one.fits, (_, (nodes_value name (row (codes "file") file ∷ row (codes "states") first ∷ []) second other.no_dash, refl)))),
-                  ),
-                ),
-              ),
-            ),
-          ),
-        );
-        no_fault = rw other.fits refl;
-      }) refl (rw (one.fits, one.value, other.fits, other.value) refl) (command (limits_of states nodes))
+      let last = more (nodes_after_states one.fits) (more (nodes_value other.no_dash) at_end) in
+      let runs = more (file_goes plain) (more states_flag (more (states_value one.no_dash) last)) in
+      ask_for (limits_of states nodes) is runs (rw other.fits refl) refl (rw (one.fits, one.value, other.fits, other.value) refl) (command (limits_of states nodes))
 
   nodes_first : (first second : Text) (nodes states : ℕ) → IsNumberText most_nodes nodes first → IsNumberText most_states states second
       → AskFor (name ∷ file ∷ codes "--nodes" ∷ first ∷ codes "--states" ∷ second ∷ []) (asks (limits_of states nodes))
   unfolding clap_on_literals
   nodes_first first second nodes states one other =
-      ask_for name file (file ∷ codes "--nodes" ∷ first ∷ codes "--states" ∷ second ∷ []) (row (codes "file") file ∷ row (codes "nodes") first ∷ []) (codes "states") second
-      (limits_of states nodes) (asks (limits_of states nodes)) is
-      (record {
-        runs = (
-          _,
-          (
-            file_goes name file plain,
-            (
-              _,
-              (
-                nodes_flag name file,
-                (
-                  _,
-                  (
-                    nodes_value name (with_file file) first one.no_dash,
-                    (_, (states_after_nodes name file first one.fits, (_, (states_value name (row (codes "file") file ∷ row (codes "nodes") first ∷ []) second other.no_dash, refl)))),
-                  ),
-                ),
-              ),
-            ),
-          ),
-        );
-        no_fault = rw other.fits refl;
-      }) refl (rw (one.fits, one.value, other.fits, other.value) refl) (command (limits_of states nodes))
+      let last = more (states_after_nodes one.fits) (more (states_value other.no_dash) at_end) in
+      let runs = more (file_goes plain) (more nodes_flag (more (nodes_value one.no_dash) last)) in
+      ask_for (limits_of states nodes) is runs (rw other.fits refl) refl (rw (one.fits, one.value, other.fits, other.value) refl) (command (limits_of states nodes))
 
   each_list : (options : Options) → AreAllowed options → AskFor (name ∷ file ∷ option_words options) (asks (limits_given options))
   each_list Neither allowed = neither

@@ -4,7 +4,11 @@
 -- a proposition, `c` and `d` are formulas. Each equation stands below the form as it is written in a file; the span of
 -- an operand, its place in the file, means nothing here.
 use Rattle.std.specs.Prelude.{ℕ, zero, suc, ◌+◌, ◌-◌, Bool, true, false, ◌&&◌, ◌||◌, not, ◌==◌, nat_lt, nat_le, List, Option, Some, None}
-use Rattle.dcv_syntax.specs.Plain.{PlainFormulaKind, FormulaConstant, FormulaPt, FormulaExt, FormulaPoint, FormulaRun, FormulaEvery, FormulaUnit, FormulaSlen, FormulaScount, FormulaSdur, FormulaCall, FormulaNot, FormulaAnd, FormulaOr, FormulaImplies, FormulaIff, FormulaChop, FormulaStar, FormulaSomewhere, FormulaEverywhere, FormulaExists, FormulaForAll, PlainFormulaOperands, no_formula_operands, formula_operand, arguments_of}
+use Rattle.dcv_syntax.specs.Plain.{PlainFormulaKind, FormulaConstant, FormulaPt, FormulaExt, FormulaPoint, FormulaRun, FormulaEvery, FormulaUnit}
+use Rattle.dcv_syntax.specs.Plain.{FormulaSlen, FormulaScount, FormulaSdur, FormulaCall}
+use Rattle.dcv_syntax.specs.Plain.{FormulaNot, FormulaAnd, FormulaOr, FormulaImplies, FormulaIff, FormulaChop, FormulaStar}
+use Rattle.dcv_syntax.specs.Plain.{FormulaSomewhere, FormulaEverywhere, FormulaExists, FormulaForAll}
+use Rattle.dcv_syntax.specs.Plain.{PlainFormulaOperands, no_formula_operands, formula_operand, arguments_of}
 use Rattle.dcv_syntax.specs.declared.formulas.Relation.{Relation}
 use Rattle.dcv_syntax.specs.declared.formulas.Relation.TheVariants.{Equal, Less, AtMost, Greater, AtLeast}
 use Rattle.dcv_logic.specs.Track.{Track}

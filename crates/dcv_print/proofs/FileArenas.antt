@@ -1,6 +1,7 @@
 -- A file that keeps the table rules, as an automaton: an arena of its nodes in the order of their lines, and the rows of its states. It has
 -- the file's table.
-use Rattle.std.proofs.Common.{◌≡◌, ℕ, zero, suc, ◌+◌, ◌<◌, Bool, true, false, cond, not, ◌&&◌, ◌||◌, List, [], ◌∷◌, ◌++◌, length, map, take, fold, get_or, slice_get, Some, inl, inr, refl, sym, ap, ◌∙◌, subst, arith}
+use Rattle.std.proofs.Common.{◌≡◌, ℕ, zero, suc, ◌+◌, ◌<◌, Bool, true, false, cond, not, ◌&&◌, ◌||◌, List, [], ◌∷◌, ◌++◌, length}
+use Rattle.std.proofs.Common.{map, take, fold, get_or, slice_get, Some, inl, inr, refl, sym, ap, ◌∙◌, subst, arith}
 use Rattle.std.specs.Prelude.{bytes_eq, nat_lt}
 use Rattle.std.specs.Option.{option_map_or}
 use Rattle.std.proofs.lemmas.Bool.{cases_order, ltb-true, false≢true}
@@ -10,7 +11,8 @@ use Rattle.std.proofs.lemmas.List.Sums.{passes_at_first}
 use Rattle.std.proofs.lemmas.Option.{slice_get_within, get_or_from_slice_get}
 use Rattle.std.proofs.lemmas.Slice.Eq.{bytes_eq-Decides}
 use Rattle.dcv_word.specs.Letter.{letters_of_width}
-use Rattle.dcv_arena.specs.Arena.{ArenaValue, IsBefore, IsNodeAt, IsReduced, IsRef, function_at, function_of, functions_of, level_of, value_of, node_of, table_of as arena_table}
+use Rattle.dcv_arena.specs.Arena.{ArenaValue, IsBefore, IsNodeAt, IsReduced, IsRef, function_at, function_of}
+use Rattle.dcv_arena.specs.Arena.{functions_of, level_of, value_of, node_of, table_of as arena_table}
 use Rattle.dcv_arena.specs.declared.nodes.Ref.{Ref}
 use Rattle.dcv_arena.specs.declared.nodes.Ref.TheVariants.{Leaf, Place}
 use Rattle.dcv_dfa.specs.Auto.{state_of as raw_state_of, table_of_states}

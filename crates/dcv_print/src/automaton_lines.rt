@@ -1,10 +1,11 @@
 // The text of an automaton, line by line.
-ghost use Rattle.std.specs.Prelude.{◌≡◌, ◌∷◌, ◌++◌, ◌<◌, [], length, codes, decimal, IfOk, OnOk};
+ghost use Rattle.std.specs.Prelude.{◌≡◌, ◌∷◌, ◌++◌, ◌<◌, ℕ, List, [], length, codes, decimal, IfOk, OnOk};
 ghost use Rattle.std.specs.List.{All, flat_map};
+ghost use Rattle.std.specs.Str.{byte};
 ghost use Rattle.dcv_word.specs.TraceLine.{trace_line};
-ghost use Rattle.dcv_automaton_text.specs.Spelled.{target_word, name_words, node_words, state_words, how_access, access_words};
-ghost use Rattle.dcv_automaton_text.specs.Spelled.{how_suffix, suffix_words, spelled_line, spelled};
-ghost use Rattle.dcv_print.specs.Printed.{texts_of, target_of, access_of, suffix_of, node_line, state_line, access_line, suffix_line, printed_file};
+ghost use Rattle.dcv_automaton_text.specs.Spelled.{target_word, name_words, node_words, state_words, how_access};
+ghost use Rattle.dcv_automaton_text.specs.Spelled.{how_suffix, spelled_line, spelled};
+ghost use Rattle.dcv_print.specs.Printed.{texts_of, target_of, access_of, suffix_of, node_line, state_line, printed_file};
 ghost use Rattle.dcv_print.specs.Pushed.{spaced, spelled_lines};
 
 use dcv_dfa::{Auto, Child, NodeLine};
@@ -30,8 +31,8 @@ pub fn automaton_text(
     push_head(&mut text, names, auto.states())?;
     push_nodes(&mut text, names, nodes.lines())?;
     push_states(&mut text, auto, nodes.rows())?;
-    push_access_lines(&mut text, proof.access())?;
-    push_suffix_lines(&mut text, proof.suffixes())?;
+    push_entries(&mut text, b"access", proof.access())?;
+    push_entries(&mut text, b"suffix", proof.suffixes())?;
     text.extend_from_slice(b"end\n")?;
     Ok(text)
 }
@@ -143,82 +144,73 @@ fn push_state(text: &mut Vec<u8>, state: u32, accepting: bool, row: Child) -> Re
     Ok(())
 }
 
-// A line for each access word.
-fn push_access_lines(text: &mut Vec<u8>, access: &[Access]) -> Result<(), AllocError>
-    ensures { OnOk result (text.new.items ≡ text.old.items ++ spelled_lines (λ numbered. access_words (access_line numbered)) access.now) }
+// What a line says behind its number.
+trait Entry: Copy {
+    // How it is spelled.
+    ghost words: { Self → List (List ℕ) };
+
+    // Adds its words, each behind a space.
+    fn push(self, text: &mut Vec<u8>) -> Result<(), AllocError>
+        ensures { OnOk result (text.new.items ≡ text.old.items ++ spaced (words self)) };
+}
+
+impl Entry for Access {
+    ghost words = { λ access. how_access (access_of access) };
+
+    fn push(self, text: &mut Vec<u8>) -> Result<(), AllocError> {
+        match self {
+            Access::Empty => text.extend_from_slice(b" empty"),
+            Access::Start(letter) => {
+                text.extend_from_slice(b" start ")?;
+                push_letter(text, letter)
+            }
+            Access::After(state, letter) => {
+                text.push(b' ')?;
+                push_number(text, state as usize)?;
+                text.push(b' ')?;
+                push_letter(text, letter)
+            }
+        }
+    }
+}
+
+impl Entry for Suffix {
+    ghost words = { λ suffix. how_suffix (suffix_of suffix) };
+
+    fn push(self, text: &mut Vec<u8>) -> Result<(), AllocError> {
+        match self {
+            Suffix::Empty => text.extend_from_slice(b" empty"),
+            Suffix::Then(letter, place) => {
+                text.push(b' ')?;
+                push_letter(text, letter)?;
+                text.push(b' ')?;
+                push_number(text, place as usize)
+            }
+        }
+    }
+}
+
+// A line for each access word or each suffix, with this first word.
+fn push_entries<E: Entry>(text: &mut Vec<u8>, word: &[u8], entries: &[E]) -> Result<(), AllocError>
+    ensures { OnOk result (text.new.items ≡ text.old.items
+        ++ spelled_lines (λ numbered. word.now ∷ decimal numbered.0 ∷ E.words numbered.1) entries.now) }
 {
-    for (state, word) in access.iter().enumerate() {
-        push_access_line(text, state, *word)?;
+    for (number, entry) in entries.iter().enumerate() {
+        text.extend_from_slice(word)?;
+        push_entry(text, number, *entry)?;
     }
     Ok(())
 }
 
-// The line of an access word.
-#[tactic(auto, using(crate::proofs::Spellings::line_is_spaced))]
-fn push_access_line(text: &mut Vec<u8>, state: usize, word: Access) -> Result<(), AllocError>
-    ensures { OnOk result (text.new.items ≡ text.old.items ++ spelled_line (access_words (access_line (state, word)))) }
+// What stands on such a line behind its first word.
+fn push_entry<E: Entry>(text: &mut Vec<u8>, number: usize, entry: E) -> Result<(), AllocError>
+    ensures { OnOk result (text.new.items ≡ text.old.items ++ (spaced (decimal number ∷ E.words entry) ++ byte "\n" ∷ [])) }
 {
-    text.extend_from_slice(b"access ")?;
-    push_number(text, state)?;
-    push_access(text, word)?;
+    text.push(b' ')?;
+    push_number(text, number)?;
+    entry.push(text)?;
     text.push(b'\n')?;
     Ok(())
-}
-
-// How an access word is spelled, each word behind a space.
-fn push_access(text: &mut Vec<u8>, access: Access) -> Result<(), AllocError>
-    ensures { OnOk result (text.new.items ≡ text.old.items ++ spaced (how_access (access_of access))) }
-{
-    match access {
-        Access::Empty => text.extend_from_slice(b" empty"),
-        Access::Start(letter) => {
-            text.extend_from_slice(b" start ")?;
-            push_letter(text, letter)
-        }
-        Access::After(state, letter) => {
-            text.push(b' ')?;
-            push_number(text, state as usize)?;
-            text.push(b' ')?;
-            push_letter(text, letter)
-        }
-    }
-}
-
-// A line for each suffix.
-fn push_suffix_lines(text: &mut Vec<u8>, suffixes: &[Suffix]) -> Result<(), AllocError>
-    ensures { OnOk result (text.new.items ≡ text.old.items ++ spelled_lines (λ numbered. suffix_words (suffix_line numbered)) suffixes.now) }
-{
-    for (place, suffix) in suffixes.iter().enumerate() {
-        push_suffix_line(text, place, *suffix)?;
-    }
-    Ok(())
-}
-
-// The line of a suffix.
-#[tactic(auto, using(crate::proofs::Spellings::line_is_spaced))]
-fn push_suffix_line(text: &mut Vec<u8>, place: usize, suffix: Suffix) -> Result<(), AllocError>
-    ensures { OnOk result (text.new.items ≡ text.old.items ++ spelled_line (suffix_words (suffix_line (place, suffix)))) }
-{
-    text.extend_from_slice(b"suffix ")?;
-    push_number(text, place)?;
-    push_suffix(text, suffix)?;
-    text.push(b'\n')?;
-    Ok(())
-}
-
-// How a suffix is spelled, each word behind a space.
-fn push_suffix(text: &mut Vec<u8>, suffix: Suffix) -> Result<(), AllocError>
-    ensures { OnOk result (text.new.items ≡ text.old.items ++ spaced (how_suffix (suffix_of suffix))) }
-{
-    match suffix {
-        Suffix::Empty => text.extend_from_slice(b" empty"),
-        Suffix::Then(letter, place) => {
-            text.push(b' ')?;
-            push_letter(text, letter)?;
-            text.push(b' ')?;
-            push_number(text, place as usize)
-        }
-    }
 }
 
 // A state or a node.

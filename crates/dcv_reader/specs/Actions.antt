@@ -7,10 +7,13 @@ use Rattle.std.specs.Prelude.{ℕ, List, [], ◌∷◌, map, Option, Some, None,
 use Rattle.dcv_syntax.specs.declared.names.Name.{Name}
 use Rattle.dcv_syntax.specs.declared.names.Span.{Span}
 use Rattle.dcv_syntax.specs.declared.formulas.Relation.{Relation}
-use Rattle.dcv_syntax.specs.Plain.{PropAnd, PropOr, PropIff, PlainProp, PlainPropOperand, FormulaSlen, FormulaAnd, FormulaOr, FormulaIff, FormulaChop, PlainFormulaOperand, FormulaBody, PropBody, PlainMacro, PlainFile}
+use Rattle.dcv_syntax.specs.Plain.{PropAnd, PropOr, PropIff, PlainProp, PlainPropOperand}
+use Rattle.dcv_syntax.specs.Plain.{FormulaSlen, FormulaAnd, FormulaOr, FormulaIff, FormulaChop, PlainFormulaOperand}
+use Rattle.dcv_syntax.specs.Plain.{FormulaBody, PropBody, PlainMacro, PlainFile}
 use Rattle.dcv_grammar.specs.Trees.{Nodes, done, leaf, node}
 use Rattle.dcv_tokens.specs.Tokens.{Token, span_of, span_over}
-use Rattle.dcv_reader.specs.Nodes.{name_of, number_of, relation_of, prop_constant, prop_call, prop_negation, prop_implication, prop_list, bare, bracketed, formula_word, measure, formula_call, starred_by, prefixed, quantified, implication, formula_list}
+use Rattle.dcv_reader.specs.Nodes.{name_of, number_of, relation_of, prop_constant, prop_call, prop_negation, prop_implication, prop_list}
+use Rattle.dcv_reader.specs.Nodes.{bare, bracketed, formula_word, measure, formula_call, starred_by, prefixed, quantified, implication, formula_list}
 
 -- what a symbol stands for
 pub data Part : Type 0 where

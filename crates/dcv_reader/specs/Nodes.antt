@@ -10,7 +10,12 @@ use Rattle.dcv_syntax.specs.Spans.{covering}
 use Rattle.dcv_syntax.specs.declared.formulas.Number.{Number}
 use Rattle.dcv_syntax.specs.declared.formulas.Relation.{Relation}
 use Rattle.dcv_syntax.specs.declared.formulas.Relation.TheVariants.{Equal, Less, AtMost, Greater, AtLeast}
-use Rattle.dcv_syntax.specs.Plain.{PlainPropKind, PropConstant, PropCall, PropNot, PropImplies, PlainPropOperands, PlainProp, PlainPropOperand, arguments_of, prop_operands_of, PlainFormulaKind, FormulaConstant, FormulaPt, FormulaExt, FormulaPoint, FormulaRun, FormulaEvery, FormulaUnit, FormulaScount, FormulaSdur, FormulaCall, FormulaNot, FormulaImplies, FormulaStar, FormulaSomewhere, FormulaEverywhere, FormulaExists, FormulaForAll, PlainFormulaOperands, PlainFormulaOperand, formula_operands_of}
+use Rattle.dcv_syntax.specs.Plain.{PlainPropKind, PropConstant, PropCall, PropNot, PropImplies, PlainPropOperands, PlainProp, PlainPropOperand}
+use Rattle.dcv_syntax.specs.Plain.{arguments_of, prop_operands_of}
+use Rattle.dcv_syntax.specs.Plain.{PlainFormulaKind, FormulaConstant, FormulaPt, FormulaExt, FormulaPoint, FormulaRun, FormulaEvery, FormulaUnit}
+use Rattle.dcv_syntax.specs.Plain.{FormulaScount, FormulaSdur, FormulaCall, FormulaNot, FormulaImplies, FormulaStar}
+use Rattle.dcv_syntax.specs.Plain.{FormulaSomewhere, FormulaEverywhere, FormulaExists, FormulaForAll}
+use Rattle.dcv_syntax.specs.Plain.{PlainFormulaOperands, PlainFormulaOperand, formula_operands_of}
 use Rattle.dcv_tokens.specs.Tokens.{Token, span_of, span_over}
 use Rattle.dcv_tokens.specs.Decimal.{value_of}
 use Rattle.dcv_tokens.specs.Classes as classes

@@ -15,7 +15,8 @@ returns c =
     let proof = c.args.proof.now in
     let all = c.in_ok-nodes.ensures.exact in
     text_written raw names proof.access proof.suffixes
-    c.new-text.result.items c.push_head.new.text.items c.push_nodes.new.text.items c.push_states.new.text.items c.push_access_lines.new.text.items c.push_suffix_lines.new.text.items c.extend_from_slice.new.self.items
+    c.new-text.result.items c.push_head.new.text.items c.push_nodes.new.text.items c.push_states.new.text.items
+    c.push_entries.new.text.items c.push_entries-2.new.text.items c.extend_from_slice.new.self.items
     c.new-text.ensures.items
     (c.in_ok-push_head.ensures
     ∙ ap (λ states. c.new-text.result.items ++ (spelled_line (codes "automaton" ∷ codes "1" ∷ []) ++ (spelled_line (codes "variables" ∷ name_words names) ++ spelled_line (codes "states" ∷ decimal states ∷ [])))) c.states.ensures.states)
@@ -23,8 +24,8 @@ returns c =
     ∙ ap (λ lines. c.push_head.new.text.items ++ spelled_lines (λ numbered. node_words (node_line names numbered)) lines) (c.lines.ensures ∙ ap (λ (every : NodeLinesValue). every.lines) all))
     (c.in_ok-push_states.ensures
     ∙ ap (λ rows. c.push_nodes.new.text.items ++ spelled_lines (λ numbered. state_words (state_line raw numbered)) rows) (c.rows.ensures ∙ ap (λ (every : NodeLinesValue). every.rows) all))
-    (c.in_ok-push_access_lines.ensures
+    (c.in_ok-push_entries.ensures
     ∙ ap (λ access. c.push_states.new.text.items ++ spelled_lines (λ numbered. access_words (access_line numbered)) access) c.access.ensures)
-    (c.in_ok-push_suffix_lines.ensures
-    ∙ ap (λ suffixes. c.push_access_lines.new.text.items ++ spelled_lines (λ numbered. suffix_words (suffix_line numbered)) suffixes) c.suffixes.ensures)
+    (c.in_ok-push_entries-2.ensures
+    ∙ ap (λ suffixes. c.push_entries.new.text.items ++ spelled_lines (λ numbered. suffix_words (suffix_line numbered)) suffixes) c.suffixes.ensures)
     c.in_ok-extend_from_slice.ensures.items
