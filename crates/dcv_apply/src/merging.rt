@@ -13,9 +13,8 @@ ghost use Rattle.dcv_apply.specs.declared.faults.ApplyFault.TheVariants.{Full, S
 
 use crate::faults::{ApplyFault, MergeFault};
 use crate::memo::{Key, Memo};
-use crate::operands::{LastSlot, Numbers, Operand, Sources};
+use crate::operands::{LastSlot, Numbers, Operand, Sources, operands_of};
 use dcv_arena::{Arena, Ref};
-use smallvec::SmallVec;
 use std::alloc::{AllocError, Global};
 
 /// What numbers are merged into, list by list. Where the numbers are states of automata, the list has those that
@@ -163,7 +162,7 @@ impl Operation<'_> {
             self.sources.second.slots(),
             arena.slots(),
         );
-        let operands = SmallVec::from_slice(self.alloc, operands)?;
+        let operands = operands_of(self.alloc, operands)?;
         let key = Key::new(self.round, operands);
         self.apply_from(arena, key, 0, merge, memo)
     }

@@ -16,7 +16,21 @@ pub(crate) type Operand = (u32, Ref);
 // The operands of one visit, and the numbers that are merged in one. Most have few, which take no memory of their own.
 pub(crate) type Operands = SmallVec<Operand, 2>;
 
-pub(crate) type Numbers = SmallVec<u32, 4>;
+pub(crate) type Numbers = SmallVec<u32, FEW>;
+
+// So many numbers lie in place.
+const FEW: usize = 4;
+
+// The operands of a first visit. Two are put in place at once, as at each visit after it.
+#[inline(always)]
+pub(crate) fn operands_of(alloc: Global, operands: &[Operand]) -> Result<Operands, AllocError>
+    ensures { IfOk result (λ own. own.items ≡ operands.now) }
+{
+    match operands {
+        [one, other] => Ok(SmallVec::from_buf(alloc, [*one, *other])),
+        _ => SmallVec::from_slice(alloc, operands),
+    }
+}
 
 // Which numbers are merged at a letter: those of the operands there, or those where the slot after the letter
 // is false and then those where it is true.
@@ -183,7 +197,9 @@ impl Sources<'_> {
         ensures { OnOk result ((letter : List Bool) → length letter ≤ slots
             → numbers.new.items ≡ numbers.old.items ++ numbers_in self.now operands.now letter) }
     {
-        numbers.reserve(operands.len())?;
+        if operands.len() > FEW {
+            numbers.reserve(operands.len())?;
+        }
         for operand in operands {
             numbers.push(self.number(*operand, slots))?;
         }
