@@ -80,6 +80,16 @@ pub(crate) fn expect(
     Ok(())
 }
 
+// Whether `check` of a file with the text ended with this status and wrote just this.
+fn expect_checked(
+    rt: &impl Abort,
+    alloc: Global,
+    text: &[u8],
+    wanted: (u8, &str, &str),
+) -> Result<(), AllocError> {
+    expect(rt, alloc, &["check", "f"], text, &WHOLE, wanted)
+}
+
 pub(crate) const SOMETIMES: &str = "not valid\nsatisfiable\ncounterexample 1\n0\nexample 1\n1\n";
 
 const ALWAYS: &str = "valid\nsatisfiable\nexample 1\n0\n";
@@ -93,104 +103,84 @@ const ONE_INSTANT: &str = "not valid\nsatisfiable\ncounterexample 2\n0\n0\nexamp
 
 const ONE_INSTANT_OF_NONE: &str = "not valid\nsatisfiable\ncounterexample 2\n-\n-\nexample 1\n-\n";
 
+// Texts, each with the status and the whole output.
+const VERDICTS: [(&str, (u8, &str, &str)); 12] = [
+    ("var p; infer [[p]];", (1, SOMETIMES, "")),
+    ("var p; infer [[true]];", (0, ALWAYS, "")),
+    ("var p; infer [[false]];", (1, NEVER, "")),
+    ("infer[[true]];", (0, ALWAYS_OF_NONE, "")),
+    (
+        "// the lamp\r\nvar lamp_on;\n\tinfer [[ lamp_on ]]; // always",
+        (1, SOMETIMES, ""),
+    ),
+    ("var p; infer true^<p>;", (1, SOMETIMES, "")),
+    ("var p; infer all q. (<q> => <p>);", (1, SOMETIMES, "")),
+    ("var p; infer (<p>)* <=> pt;", (0, ALWAYS, "")),
+    ("infer pt^pt;", (1, ONE_INSTANT_OF_NONE, "")),
+    ("var p; infer ({{p}})*;", (1, ONE_INSTANT, "")),
+    // a quantifier of a macro captures nothing of the caller
+    (
+        "var q; define F(a) as (ex q. [[q <=> a]]); infer F(!q);",
+        (0, ALWAYS, ""),
+    ),
+    (
+        "var p; prop g(a) as !a; infer [[g(g(p))]] <=> [[p]];",
+        (0, ALWAYS, ""),
+    ),
+];
+
 #[test]
 fn verdicts_of_texts(rt: HostRuntime) -> Result<(), Fail> {
     let alloc = rt.alloc();
-    for (text, status, out, err) in [
-        ("var p; infer [[p]];", 1, SOMETIMES, ""),
-        ("var p; infer [[true]];", 0, ALWAYS, ""),
-        ("var p; infer [[false]];", 1, NEVER, ""),
-        ("infer[[true]];", 0, ALWAYS_OF_NONE, ""),
-        (
-            "// the lamp\r\nvar lamp_on;\n\tinfer [[ lamp_on ]]; // always",
-            1,
-            SOMETIMES,
-            "",
-        ),
-        ("var p; infer true^<p>;", 1, SOMETIMES, ""),
-        ("var p; infer all q. (<q> => <p>);", 1, SOMETIMES, ""),
-        ("var p; infer (<p>)* <=> pt;", 0, ALWAYS, ""),
-        ("infer pt^pt;", 1, ONE_INSTANT_OF_NONE, ""),
-        ("var p; infer ({{p}})*;", 1, ONE_INSTANT, ""),
-        // a quantifier of a macro captures nothing of the caller
-        (
-            "var q; define F(a) as (ex q. [[q <=> a]]); infer F(!q);",
-            0,
-            ALWAYS,
-            "",
-        ),
-        (
-            "var p; prop g(a) as !a; infer [[g(g(p))]] <=> [[p]];",
-            0,
-            ALWAYS,
-            "",
-        ),
-    ] {
-        expect(
-            &rt,
-            alloc,
-            &["check", "f"],
-            text.as_bytes(),
-            &WHOLE,
-            (status, out, err),
-        )?;
+    for (text, wanted) in VERDICTS {
+        expect_checked(&rt, alloc, text.as_bytes(), wanted)?;
     }
     Ok(())
 }
 
 // Texts that are not valid and satisfiable, each with its counterexample and its example.
+const LEAST_BEHAVIOURS: [(&str, &str); 7] = [
+    (
+        "var p; infer !<p> && [[p]];",
+        "counterexample 1\n0\nexample 2\n1\n1\n",
+    ),
+    (
+        "var p, q; infer [p]^<q>;",
+        "counterexample 1\n00\nexample 2\n10\n01\n",
+    ),
+    (
+        "infer ex q. [q]^<!q>;",
+        "counterexample 1\n-\nexample 2\n-\n-\n",
+    ),
+    (
+        "var p; infer scount p >= 2;",
+        "counterexample 1\n0\nexample 2\n1\n1\n",
+    ),
+    (
+        "var p; infer sdur p >= 2;",
+        "counterexample 1\n0\nexample 3\n1\n1\n0\n",
+    ),
+    (
+        "var p, q; infer [[p && q]];",
+        "counterexample 1\n00\nexample 1\n11\n",
+    ),
+    (
+        "var a,b,c,d,e;infer [[a]];",
+        "counterexample 1\n00000\nexample 1\n10000\n",
+    ),
+];
+
+// What is said of `false` over no variables.
+const NEVER_OF_NONE: &str = "not valid\nnot satisfiable\ncounterexample 1\n-\n";
+
 #[test]
 fn least_behaviours_of_texts(rt: HostRuntime) -> Result<(), Fail> {
     let alloc = rt.alloc();
-    for (text, behaviours) in [
-        (
-            "var p; infer !<p> && [[p]];",
-            "counterexample 1\n0\nexample 2\n1\n1\n",
-        ),
-        (
-            "var p, q; infer [p]^<q>;",
-            "counterexample 1\n00\nexample 2\n10\n01\n",
-        ),
-        (
-            "infer ex q. [q]^<!q>;",
-            "counterexample 1\n-\nexample 2\n-\n-\n",
-        ),
-        (
-            "var p; infer scount p >= 2;",
-            "counterexample 1\n0\nexample 2\n1\n1\n",
-        ),
-        (
-            "var p; infer sdur p >= 2;",
-            "counterexample 1\n0\nexample 3\n1\n1\n0\n",
-        ),
-        (
-            "var p, q; infer [[p && q]];",
-            "counterexample 1\n00\nexample 1\n11\n",
-        ),
-        (
-            "var a,b,c,d,e;infer [[a]];",
-            "counterexample 1\n00000\nexample 1\n10000\n",
-        ),
-    ] {
+    for (text, behaviours) in LEAST_BEHAVIOURS {
         let out = format!(in alloc; "not valid\nsatisfiable\n{behaviours}")?;
-        expect(
-            &rt,
-            alloc,
-            &["check", "f"],
-            text.as_bytes(),
-            &WHOLE,
-            (1, out.as_str(), ""),
-        )?;
+        expect_checked(&rt, alloc, text.as_bytes(), (1, out.as_str(), ""))?;
     }
-    let never = "not valid\nnot satisfiable\ncounterexample 1\n-\n";
-    expect(
-        &rt,
-        alloc,
-        &["check", "f"],
-        b"infer false;",
-        &WHOLE,
-        (1, never, ""),
-    )?;
+    expect_checked(&rt, alloc, b"infer false;", (1, NEVER_OF_NONE, ""))?;
     Ok(())
 }
 
@@ -203,14 +193,7 @@ fn longest_counterexample(rt: HostRuntime) -> Result<(), Fail> {
         out.push_str("-\n")?;
     }
     out.push_str("example 1\n-\n")?;
-    expect(
-        &rt,
-        alloc,
-        &["check", "f"],
-        b"infer slen <= 9999;",
-        &WHOLE,
-        (1, out.as_str(), ""),
-    )?;
+    expect_checked(&rt, alloc, b"infer slen <= 9999;", (1, out.as_str(), ""))?;
     Ok(())
 }
 
@@ -228,14 +211,7 @@ fn steps_over_the_limits(rt: HostRuntime) -> Result<(), Fail> {
             "budget states 30000 at 23 step 3\n",
         ),
     ] {
-        expect(
-            &rt,
-            alloc,
-            &["check", "f"],
-            text.as_bytes(),
-            &WHOLE,
-            (4, "", err),
-        )?;
+        expect_checked(&rt, alloc, text.as_bytes(), (4, "", err))?;
     }
     Ok(())
 }
@@ -253,14 +229,7 @@ fn first_faults_of_texts(rt: HostRuntime) -> Result<(), Fail> {
         ("infer a234567890123456789012345;", "fault name at 6\n"),
         ("var p; infer [[p]]; -", "fault byte at 20\n"),
     ] {
-        expect(
-            &rt,
-            alloc,
-            &["check", "f"],
-            text.as_bytes(),
-            &WHOLE,
-            (3, "", err),
-        )?;
+        expect_checked(&rt, alloc, text.as_bytes(), (3, "", err))?;
     }
     Ok(())
 }
@@ -284,14 +253,7 @@ fn faults_of_names(rt: HostRuntime) -> Result<(), Fail> {
         // the text comes before the names
         ("infer [[r]]", "fault syntax at 11\n"),
     ] {
-        expect(
-            &rt,
-            alloc,
-            &["check", "f"],
-            text.as_bytes(),
-            &WHOLE,
-            (3, "", err),
-        )?;
+        expect_checked(&rt, alloc, text.as_bytes(), (3, "", err))?;
     }
     Ok(())
 }
@@ -352,14 +314,7 @@ fn faults_of_goals(rt: HostRuntime) -> Result<(), Fail> {
         (repeated(alloc, "[]", 171)?, "fault depth at 6\n"),
         (repeated(alloc, "ex a. ", 33)?, "fault slots at 6\n"),
     ] {
-        expect(
-            &rt,
-            alloc,
-            &["check", "f"],
-            text.as_bytes(),
-            &WHOLE,
-            (3, "", err),
-        )?;
+        expect_checked(&rt, alloc, text.as_bytes(), (3, "", err))?;
     }
     Ok(())
 }
@@ -375,14 +330,7 @@ fn goals_within_the_limits(rt: HostRuntime) -> Result<(), Fail> {
         repeated(alloc, "ex a. ", 32)?,
         nested(alloc, 500)?,
     ] {
-        expect(
-            &rt,
-            alloc,
-            &["check", "f"],
-            text.as_bytes(),
-            &WHOLE,
-            (1, ONE_INSTANT_OF_NONE, ""),
-        )?;
+        expect_checked(&rt, alloc, text.as_bytes(), (1, ONE_INSTANT_OF_NONE, ""))?;
     }
     Ok(())
 }
@@ -408,7 +356,7 @@ fn arguments_that_are_not_used(rt: HostRuntime) -> Result<(), Fail> {
         ("[[a]]", (3, "", "fault size at 2887\n")),
     ] {
         let text = chain(alloc, body)?;
-        expect(&rt, alloc, &["check", "f"], text.as_bytes(), &WHOLE, wanted)?;
+        expect_checked(&rt, alloc, text.as_bytes(), wanted)?;
     }
     Ok(())
 }
@@ -434,7 +382,7 @@ fn faults_of_long_texts(rt: HostRuntime) -> Result<(), Fail> {
         (nested.as_slice(), "fault nest at 506\n"),
         (negated.as_slice(), "fault nest at 506\n"),
     ] {
-        expect(&rt, alloc, &["check", "f"], text, &WHOLE, (3, "", err))?;
+        expect_checked(&rt, alloc, text, (3, "", err))?;
     }
     Ok(())
 }
@@ -466,15 +414,54 @@ fn words_that_ask_for_nothing(rt: HostRuntime) -> Result<(), Fail> {
     Ok(())
 }
 
+// One byte at each read.
+const SLOW: Outside<'static> = Outside {
+    reads: &[1; 32],
+    ..WHOLE
+};
+
+// The second read fails.
+const UNREADABLE: Outside<'static> = Outside {
+    failing_reads: &[2],
+    ..WHOLE
+};
+
+// The second write fails, after four bytes.
+const BROKEN_PIPE: Outside<'static> = Outside {
+    writes: &[4, 4],
+    failing_writes: &[2],
+    ..WHOLE
+};
+
+// No message can be written.
+const NO_MESSAGES: Outside<'static> = Outside {
+    failing_messages: &[1],
+    ..WHOLE
+};
+
 #[test]
 fn faults_of_the_outside(rt: HostRuntime) -> Result<(), Fail> {
     let alloc = rt.alloc();
     let text = b"var p; infer [[p]];";
-    let slow = Outside {
-        reads: &[1; 32],
-        ..WHOLE
-    };
-    expect(&rt, alloc, &["check", "f"], text, &slow, (1, SOMETIMES, ""))?;
+    let words = ["check", "f"];
+    expect(&rt, alloc, &words, text, &SLOW, (1, SOMETIMES, ""))?;
+    expect(
+        &rt,
+        alloc,
+        &words,
+        text,
+        &UNREADABLE,
+        (5, "", "fault read\n"),
+    )?;
+    expect(
+        &rt,
+        alloc,
+        &words,
+        text,
+        &BROKEN_PIPE,
+        (6, "not ", "fault write\n"),
+    )?;
+    expect(&rt, alloc, &words, b"", &NO_MESSAGES, (3, "", ""))?;
     expect(
         &rt,
         alloc,
@@ -483,36 +470,6 @@ fn faults_of_the_outside(rt: HostRuntime) -> Result<(), Fail> {
         &WHOLE,
         (5, "", "fault open\n"),
     )?;
-    let unreadable = Outside {
-        failing_reads: &[2],
-        ..WHOLE
-    };
-    expect(
-        &rt,
-        alloc,
-        &["check", "f"],
-        text,
-        &unreadable,
-        (5, "", "fault read\n"),
-    )?;
-    let broken_pipe = Outside {
-        writes: &[4, 4],
-        failing_writes: &[2],
-        ..WHOLE
-    };
-    expect(
-        &rt,
-        alloc,
-        &["check", "f"],
-        text,
-        &broken_pipe,
-        (6, "not ", "fault write\n"),
-    )?;
-    let no_messages = Outside {
-        failing_messages: &[1],
-        ..WHOLE
-    };
-    expect(&rt, alloc, &["check", "f"], b"", &no_messages, (3, "", ""))?;
     Ok(())
 }
 
