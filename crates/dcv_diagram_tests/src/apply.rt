@@ -382,13 +382,15 @@ fn parity_merged(
 }
 
 // Two nodes stand at the last slot, and each is gone through once while it is remembered. A memo of one entry has always
-// just remembered the other node, so every letter is merged.
+// just remembered the other node, so every letter is merged. Of a memo of two entries the first stays: one of the two nodes is
+// gone through once, and the other below each of the 2^14 nodes that are met at the slot before.
 #[test]
 fn what_was_merged_is_remembered(rt: HostRuntime) -> Result<(), Fail> {
     let alloc = rt.alloc();
     assert_eq!(rt; parity_merged(alloc, 16, 64, 4)?, (4, 31, 31));
     assert_eq!(rt; parity_merged(alloc, 16, 31, 4)?, (4, 31, 31));
     assert_eq!(rt; parity_merged(alloc, 16, 1, 65_536)?, (65_536, 1, 31));
+    assert_eq!(rt; parity_merged(alloc, 16, 2, 65_536)?, (32_770, 2, 31));
     assert_eq!(rt;
         parity_merged(alloc, 16, 64, 3),
         Err(ApplyFault::States { limit: 3 })
