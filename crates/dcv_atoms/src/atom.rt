@@ -1,5 +1,5 @@
 // The machine of a form.
-ghost use Rattle.std.specs.Prelude.{◌≡◌, ◌<◌, ◌≤◌, ◌==◌, ℕ, List, [], Bool, false, Err, length, IfOk, OnOk, IsTrue, slice_index_or};
+ghost use Rattle.std.specs.Prelude.{◌≡◌, ◌<◌, ◌≤◌, ◌==◌, ◌↔◌, ℕ, List, [], Bool, false, Err, length, IfOk, OnOk, IsTrue, slice_index_or};
 ghost use Rattle.dcv_arena.specs.Arena.{IsRef, IsArena};
 ghost use Rattle.dcv_scope.specs.Core.{PlainBasic};
 ghost use Rattle.dcv_scope.specs.TruthViews.{plain_basic};
@@ -104,7 +104,7 @@ impl<'a> Atom<'a> {
 
 // Whether there is a number for one more than that with which the form compares.
 fn has_room(basic: &Basic) -> bool
-    ensures { IsTrue result → HasRoom (plain_basic basic.now) }
+    ensures { IsTrue result ↔ HasRoom (plain_basic basic.now) }
 {
     match basic {
         Basic::Slen(_, number) | Basic::Scount(_, _, number) | Basic::Sdur(_, _, number) => {
