@@ -24,7 +24,7 @@
 #   arbiter               4.8 ms   1.5 MB     MONA    7.2 ms   4.6 MB
 #   at_most               3.9 ms   1.5 MB     MONA    7.5 ms   4.6 MB
 #   door_closed           3.7 ms   1.5 MB     MONA    6.7 ms   4.4 MB
-#   gas_burner           31.8 ms   4.9 MB     MONA   24.5 ms   6.4 MB
+#   gas_burner           24.8 ms   4.6 MB     MONA   21.9 ms   6.4 MB
 #   lamp                  3.7 ms   1.5 MB     MONA    6.9 ms   4.4 MB
 #   m14                  91.8 ms   3.7 MB
 #   mine_pump             4.6 ms   1.5 MB     MONA    7.4 ms   4.4 MB
@@ -50,6 +50,9 @@
 #
 # With COMMAND=automaton, the least of three runs on the day: the examples as above, slen 9999 25.6 ms and 5.2 MB, scount 9999 53.2 ms and 6.3 MB,
 # product 150 178.1 ms and 14.2 MB, m14 94.7 ms and 4.1 MB.
+#
+# The line of gas_burner is of the same day's last program, the least of forty runs in turns with MONA; the program before took 30.6 ms in these turns.
+# `product 150` took 96.4 ms there, and now takes 90.8.
 #
 # A count that is written out as positions, as bench/to_mona.py does, is no fair question for MONA: `product 50` took it 28 s and 334 MB.
 set -euo pipefail

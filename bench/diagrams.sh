@@ -15,36 +15,33 @@
 #
 # A case is a word of dcv_bench's arguments, beside its slots and how often it is done.
 #
-# The last figures: 27 November 2026, an Intel Xeon at 2.5 GHz with little else to do; the least of five runs, in nanoseconds. The goal is at
-# most twice the time of C. It is reached where nodes are built, and nowhere else:
+# The last figures: 27 November 2026, an Intel Xeon at 2.5 GHz whose host others kept busy, so a quiet machine is up to half faster; the two
+# programs took turns, and each figure is the least of some twenty runs, in nanoseconds. The goal is at most twice the time of C. It is reached
+# where nodes are built; merges of random functions and of the multiplier are near it (2.0 and 2.2 in the best minutes), parities are not:
 #
-#   case         slots      size       rattle            C  times
-#   build           16      8316      1910906      1447591   1.32
-#   build           20    107040     35387475     25096416   1.41
-#   random          16      8317      5379847      1652266   3.26
-#   random          20    107093    119912742     39074273   3.07
-#   multiplier      16      3859      1743775       500203   3.49
-#   multiplier      20     31381     19494317      4941470   3.95
-#   parity          16        15        14216         2550   5.57
-#   parity          20        19        19395         3497   5.55
-#   parity          32        31        29988         5095   5.89
-#   remap           16      3825       341677       142998   2.39
-#   remap           20     31258      3681897      1701050   2.16
-#   letters         16         2       139498        39030   3.57
-#   letters         20         2      1803472       373777   4.82
+#   case         slots       rattle            C  times
+#   build           16      1989568      1481702   1.34
+#   random          16      6364913      2806643   2.27
+#   multiplier      16      1917344       807990   2.37
+#   parity          16         8904         2579   3.45
+#   parity          20        12103         3551   3.41
+#   parity          32        18424         5252   3.51
+#   remap           16       543862       219901   2.47
+#   remap           20      6483967      3157390   2.05
+#   letters         16       140569        39287   3.58
+#   letters         20      2038221       489745   4.16
 #
-# Of the instructions of a merge (multiplier, 16 slots; callgrind) the memo takes about half: what it puts 31 in a hundred, its
-# entries dropped at the end 17, and look-ups besides; malloc has 18 of these. The cache that forgets the least used looks a key up
-# at each question, twice at each entry, and once more where the entry goes, and keeps an entry in a list and in a table. The C
-# program's memo keeps its entries in one array. Instructions of one operation in C, in Rattle where each field of a key and of a node
-# was hashed apart and a visit asked for each side by itself, and in Rattle now:
+# Instructions of one operation (callgrind), which no other load disturbs: in C, in Rattle where the memo was the cache alone, and now.
 #
-#   build 16        9922117   15028473   14125015
-#   random 16       7557356   35764344   30411361
-#   multiplier 16   2573162   12481227   10674652
-#   parity 32         50883     266487     217048
-#   remap 16         859400    2577489    2470656
-#   letters 16       288604    1430903    1345691
+#   build 16       10041756   14125015   14714851
+#   random 16       7561184   30411361   19998822
+#   multiplier 16   2663414   10674652    7306239
+#   parity 32         51722     217048     147126
+#   remap 16         848353    2470656    2478539
+#   letters 16       288605    1345691    1355141
+#
+# Of a merge (parity, 32 slots) the visits have 57 in a hundred, what the memo puts 15, nodes 8, the comparison of keys 5. A visit moves keys of 48
+# bytes, takes any number of operands, and begins by setting its locals to zero; the C program has two operands and a memo in one array.
 set -euo pipefail
 here=$(cd "$(dirname "$(readlink -f "${BASH_SOURCE[0]}")")" && pwd)
 runs=${RUNS:-5}

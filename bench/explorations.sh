@@ -17,26 +17,28 @@
 #
 # A case is a word of dcv_bench's arguments, beside its size and how often it is done.
 #
-# The last figures: 27 November 2026, an Intel Xeon at 2.5 GHz with little else to do; the least of five runs, in nanoseconds a state. The goals
-# are 400 for grid, 12,000 for wide and 3,000 for shared; grid misses its own:
+# The last figures: 27 November 2026, an Intel Xeon at 2.5 GHz whose host others kept busy, the two programs in turns, the least of fourteen runs, in
+# nanoseconds a state. The goals are 400 for grid, 12,000 for wide and 3,000 for shared. Grid took 404 in the best minute; C, which took 153
+# on a quiet machine, took 203 here:
 #
 #   case       size   states   rattle        C  times
-#   counter   30000    30000      498
-#   grid        170    28900      491      153   3.21
-#   wide        100    10000     6665     2565   2.60
-#   shared      100    10000     2645      732   3.61
-#   chop        100    19800     4649
-#   exists    10000    10000      551
-#   sets        100     5050    10720
+#   counter   30000    30000      485
+#   grid        170    28900      446      203   2.20
+#   wide        100    10000     8387     4524   1.85
+#   shared      100    10000     2366     1230   1.92
+#   chop        100    19800     3601
+#   exists    10000    10000      916
+#   sets        100     5050     8581
 #
-# Instructions of one exploration (callgrind), in C and in Rattle. Those of grid are spread thin: no function has more than a tenth.
+# Instructions of one exploration (callgrind), which no other load disturbs: in C, in Rattle where the memo was the cache alone, and now.
 #
-#   grid       20326323    80390122
-#   wide       81028835   265993842
-#   shared     30893953   116909152
-#   counter                81229048
-#   exists                 36404725
-#   chop                  589632777
+#   grid       20326323    80390122    59872555
+#   wide       81028835   265993842   234797581
+#   shared     30893953   116909152    91712033
+#   counter                81229048    59788873
+#   exists                 36404725    32844684
+#   chop                  589632777   397077812
+#   sets                              312596617
 set -euo pipefail
 here=$(cd "$(dirname "$(readlink -f "${BASH_SOURCE[0]}")")" && pwd)
 runs=${RUNS:-5}
