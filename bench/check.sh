@@ -24,7 +24,7 @@
 #   arbiter               4.8 ms   1.5 MB     MONA    7.2 ms   4.6 MB
 #   at_most               3.9 ms   1.5 MB     MONA    7.5 ms   4.6 MB
 #   door_closed           3.7 ms   1.5 MB     MONA    6.7 ms   4.4 MB
-#   gas_burner           24.8 ms   4.6 MB     MONA   21.9 ms   6.4 MB
+#   gas_burner           24.8 ms   4.5 MB     MONA   21.9 ms   6.4 MB
 #   lamp                  3.7 ms   1.5 MB     MONA    6.9 ms   4.4 MB
 #   m14                  91.8 ms   3.7 MB
 #   mine_pump             4.6 ms   1.5 MB     MONA    7.4 ms   4.4 MB

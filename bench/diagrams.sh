@@ -15,21 +15,27 @@
 #
 # A case is a word of dcv_bench's arguments, beside its slots and how often it is done.
 #
-# The last figures: 27 November 2026, an Intel Xeon at 2.5 GHz whose host others kept busy, so a quiet machine is up to half faster; the two
-# programs took turns, and each figure is the least of some twenty runs, in nanoseconds. The goal is at most twice the time of C. It is reached
-# where nodes are built; merges of random functions and of the multiplier are near it (2.0 and 2.2 in the best minutes), parities are not:
+# The last figures: 27 November 2026, an Intel Xeon at 2.5 GHz whose host others kept busy, so a quiet machine takes up to half as long. The two
+# programs took turns; each figure is the least of two passes, in nanoseconds: of 27 runs and more at 16 and 32 slots, and of eight to sixteen at
+# 20. The goal is at most twice the time of C. It is reached where nodes are built, and nowhere else in both passes:
 #
-#   case         slots       rattle            C  times
-#   build           16      1989568      1481702   1.34
-#   random          16      6364913      2806643   2.27
-#   multiplier      16      1917344       807990   2.37
-#   parity          16         8904         2579   3.45
-#   parity          20        12103         3551   3.41
-#   parity          32        18424         5252   3.51
-#   remap           16       543862       219901   2.47
-#   remap           20      6483967      3157390   2.05
-#   letters         16       140569        39287   3.58
-#   letters         20      2038221       489745   4.16
+#   case         slots      size       rattle            C  times
+#   build           16      8316      1989568      1481702   1.34
+#   build           20    107040     38903936     30925468   1.26
+#   random          16      8317      5915713      2392589   2.47
+#   random          20    107093    195640150     68673518   2.85
+#   multiplier      16      3859      1837086       748670   2.45
+#   multiplier      20     31381     15238352      9284540   1.64
+#   parity          16        15         8904         2579   3.45
+#   parity          20        19        12103         3551   3.41
+#   parity          32        31        18424         5252   3.51
+#   remap           16      3825       534440       219901   2.43
+#   remap           20     31258      5642869      2529672   2.23
+#   letters         16         2       140569        39287   3.58
+#   letters         20         2      1924922       489745   3.93
+#
+# At 20 slots the two passes differ: build 0.84 and 2.04, random 1.80 and 2.87, multiplier 2.25 and 1.64. Builds of the same day that had the
+# operations alone took, in quieter minutes, 2.03 (random 16), 2.23 (multiplier 16) and 3.3 (parity 32) times as long as C.
 #
 # Instructions of one operation (callgrind), which no other load disturbs: in C, in Rattle where the memo was the cache alone, and now.
 #

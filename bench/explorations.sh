@@ -17,14 +17,14 @@
 #
 # A case is a word of dcv_bench's arguments, beside its size and how often it is done.
 #
-# The last figures: 27 November 2026, an Intel Xeon at 2.5 GHz whose host others kept busy, the two programs in turns, the least of fourteen runs, in
-# nanoseconds a state. The goals are 400 for grid, 12,000 for wide and 3,000 for shared. Grid took 404 in the best minute; C, which took 153
-# on a quiet machine, took 203 here:
+# The last figures: 27 November 2026, an Intel Xeon at 2.5 GHz whose host others kept busy, the two programs in turns, the least of two passes of
+# fourteen runs, in nanoseconds a state. The goals are 400 for grid, 12,000 for wide and 3,000 for shared. Grid misses its own here, where C
+# took 203; on a quiet machine C took 153. A build of the same day took 404 in a quieter minute:
 #
 #   case       size   states   rattle        C  times
 #   counter   30000    30000      485
 #   grid        170    28900      446      203   2.20
-#   wide        100    10000     8387     4524   1.85
+#   wide        100    10000     8387     4520   1.86
 #   shared      100    10000     2366     1230   1.92
 #   chop        100    19800     3601
 #   exists    10000    10000      916
