@@ -16,6 +16,7 @@ mod memo;
 mod merging;
 mod operands;
 mod renumbering;
+mod seen;
 
 pub use faults::{ApplyFault, MergeFault};
 pub use first_letters::{LetterSearch, least_letters};
