@@ -4,11 +4,12 @@
 --     GivesNew new                the list has this number at the place of the only one of these numbers
 --     alone from root             the ref's number at a letter, as the only one
 --     IsNewRef new from arena root result    a ref with the new numbers, which depends on no slot before the old one does
-use Rattle.std.specs.Prelude.{◌≡◌, ℕ, ◌≤◌, Bool, List, [], ◌∷◌, Option, Some, None, slice_get, slice_index_or, Contains}
+use Rattle.std.specs.Prelude.{◌≡◌, ℕ, ◌≤◌, Bool, List, [], ◌∷◌, Option, Some, None, slice_get, slice_index_or}
 use Rattle.dcv_arena.specs.Arena.{ArenaValue, IsRef, level_of, value_of}
 use Rattle.dcv_arena.specs.declared.nodes.Ref.{Ref}
 use Rattle.dcv_arena.specs.declared.nodes.Ref.TheVariants.{Place}
 use Rattle.dcv_apply.specs.Merged.{MeansMerged}
+use Rattle.dcv_apply.specs.Became.{HasBecome}
 use Rattle.dcv_apply.specs.declared.renumbering.Remapping.{Remapping}
 
 abbrev pub renumbered : List ℕ → ArenaValue → Ref → List Bool → ℕ
@@ -29,9 +30,9 @@ pub record IsNewRef (new : List ℕ) (from arena : ArenaValue) (root result : Re
   pub level : (slot : ℕ) → slot ≤ level_of from root → slot ≤ arena.slots → slot ≤ level_of arena result
   pub value : MeansMerged (GivesNew new) (alone from root) arena result
 
--- each of these places became such a ref
-abbrev pub HoldsPlaces : List ℕ → ArenaValue → ArenaValue → List (ℕ × Ref) → Type 0
-HoldsPlaces new from arena became = (place : ℕ) (result : Ref) → Contains became (place, result) → IsNewRef new from arena (Place place) result
+-- each place became such a ref, if it became anything
+abbrev pub HoldsPlaces : List ℕ → ArenaValue → ArenaValue → List (Option Ref) → Type 0
+HoldsPlaces new from arena became = (place : ℕ) (result : Ref) → HasBecome became place result → IsNewRef new from arena (Place place) result
 
 abbrev pub HoldsNew : Remapping → ArenaValue → Type 0
-HoldsNew remapping arena = HoldsPlaces remapping.numbers.new.now remapping.numbers.from.now arena remapping.places.became.entries
+HoldsNew remapping arena = HoldsPlaces remapping.numbers.new.now remapping.numbers.from.now arena remapping.places

@@ -15,10 +15,12 @@ mod first_letters;
 mod memo;
 mod merging;
 mod operands;
+mod places;
 mod renumbering;
 
 pub use faults::{ApplyFault, MergeFault};
 pub use first_letters::{LetterSearch, least_letters};
 pub use memo::Memo;
 pub use merging::{Merge, apply, apply_last};
+pub use places::Places;
 pub use renumbering::{Remapping, remap};

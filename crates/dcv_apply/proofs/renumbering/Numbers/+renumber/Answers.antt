@@ -119,7 +119,7 @@ returns-then-slots-slot-clause-holds t c =
     let at_root : slot ≡ level_of from c.args.root = at ∙ ap (level_of from) (sym on) in
     let within : slot < from.slots = c.level-slot.ensures.node c.in-Place.place refl in
     let lo_later : slot < level_of from lo = split.lo_level within in
-    places_more list from c.renumber.new.arena c.renumber.new.places.became.entries c.put.new.self.became.entries c.args.root c.in-Place.place c.in_ok-new_lo-in-Place.new_lo c.put.ensures on
+    places_more list from c.renumber.new.arena c.renumber.new.places c.put.new.self c.args.root c.in-Place.place c.in_ok-new_lo-in-Place.new_lo c.put.ensures on
     (lo_is_new is on c.requires.root at lo hi split.value split.lo_is_ref lo_later list c.renumber.new.arena c.in_ok-new_lo-in-Place.new_lo (omega (arith, c.slots.ensures.slots)) c.in_ok-new_lo-in-Place.ensures.new) c.renumber.ensures.holds
 
 -- ---- both sides
@@ -289,7 +289,7 @@ returns-in_err-new-in-Place-clause-full t c limit front function e below inside 
 
 pub returns-in_err-new-in-Place-clause-holds : goal.returns-in_err-new-in-Place-clause-holds
 returns-in_err-new-in-Place-clause-holds t c =
-    places_grown c.args.self.now.new.now c.args.self.now.from.now c.renumber-in-Place.new.arena c.node.new.self c.renumber-in-Place.new.places.became.entries c.node.ensures.kept c.renumber-in-Place.ensures.holds
+    places_grown c.args.self.now.new.now c.args.self.now.from.now c.renumber-in-Place.new.arena c.node.new.self c.renumber-in-Place.new.places c.node.ensures.kept c.renumber-in-Place.ensures.holds
 
 pub returns-in_ok-new-in-Place-clause-new : goal.returns-in_ok-new-in-Place-clause-new
 returns-in_ok-new-in-Place-clause-new t c =
@@ -408,5 +408,5 @@ returns-in_ok-new-in-Place-clause-holds t c =
       level = λ early before inside. omega (arith, node.level);
       value = λ letter size. subst (gives (whole letter)) (sym (node.value letter)) (merged letter (size ∙ c.node.ensures.kept.slots));
     } in
-    places_more list from c.node.new.self c.renumber-in-Place.new.places.became.entries c.put-in-Place.new.self.became.entries c.args.root c.in-Place.place c.in_ok-new-in-Place.new c.put-in-Place.ensures on is_new
-    (places_grown list from two c.node.new.self c.renumber-in-Place.new.places.became.entries c.node.ensures.kept c.renumber-in-Place.ensures.holds)
+    places_more list from c.node.new.self c.renumber-in-Place.new.places c.put-in-Place.new.self c.args.root c.in-Place.place c.in_ok-new-in-Place.new c.put-in-Place.ensures on is_new
+    (places_grown list from two c.node.new.self c.renumber-in-Place.new.places c.node.ensures.kept c.renumber-in-Place.ensures.holds)
