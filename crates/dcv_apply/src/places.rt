@@ -21,8 +21,8 @@ const BLANK: Became = Became {
     new: Ref::Leaf(0),
 };
 
-/// What the places of one arena became in a round of renumbering. It is handed on from one round to the next, which begins as if it were
-/// new, but for the memory.
+/// What the places of an arena became, in one round of renumbering after another. In each round nothing counts but what became in it, so
+/// the list may be handed from round to round, and from arena to arena.
 #[derive(Debug, Drop)]
 pub struct Places {
     became: Vec<Became>,
@@ -96,7 +96,7 @@ impl Places {
         }
     }
 
-    // Keeps what a place became.
+    // Keeps what a place became, where the list reaches it.
     pub(crate) fn put(&mut self, place: u32, new: Ref)
         ensures { self.new ≡ slice_set self.old place (Some new) }
     {

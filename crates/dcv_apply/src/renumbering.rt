@@ -3,8 +3,8 @@
 // place became is kept, so that the time is linear in the nodes, of many roots too.
 ghost use Rattle.std.specs.Prelude.{◌≡◌, ◌≢◌, ◌≤◌, ◌<◌, ℕ, List, Bool, Err, length, IfOk};
 ghost use Rattle.dcv_arena.specs.Arena.{ArenaValue, IsRef, IsArena, level_of, value_of, KeepsRefs, AddsOnlyNodesOf, AddsOnlyNodesOfFunction, count_with};
-ghost use Rattle.dcv_apply.specs.Merged.{AgreesBehind};
-ghost use Rattle.dcv_apply.specs.Renumbered.{renumbered, GivesNew, alone, IsNewRef, HoldsPlaces, HoldsNew};
+ghost use Rattle.dcv_arena.specs.declared.nodes.Ref.TheVariants.{Place as AnyPlace};
+ghost use Rattle.dcv_apply.specs.Renumbered.{renumbered, IsNewRef, AddsOnlyOfNew, HasMoreNew, HoldsPlaces, HoldsNew};
 ghost use Rattle.dcv_apply.specs.declared.faults.ApplyFault.TheVariants.{Full, States};
 
 use crate::faults::ApplyFault;
@@ -64,14 +64,13 @@ impl<'a> Remapping<'a> {
         }
     }
 
-    /// The same over what was kept of places before, also of another arena. None of that counts any more, but its memory is used again:
-    /// where `from` is one arena all the time, a round takes none and costs what it goes through, however large the arena is.
-    pub fn over(places: Places, from: &'a Arena, map: &'a [u32]) -> Remapping<'a>
+    /// The same with the list of an earlier round, also of another arena. Nothing that it says of places counts any more, but its memory
+    /// is used again: a round over the same arena costs what it goes through, however many nodes the arena has.
+    pub fn over(mut places: Places, from: &'a Arena, map: &'a [u32]) -> Remapping<'a>
         ensures from { result.numbers.from.now ≡ from.now }
         ensures map { result.numbers.new.now ≡ map.now }
         ensures holds { (arena : ArenaValue) → HoldsNew result arena }
     {
-        let mut places = places;
         places.next_round();
         Remapping {
             numbers: Numbers { from, new: map },
@@ -79,7 +78,7 @@ impl<'a> Remapping<'a> {
         }
     }
 
-    /// What is kept of places, for the next round.
+    /// The list of what places became, for the next round.
     pub fn into_places(self) -> Places
         ensures { result ≡ self.entry.places }
     {
@@ -129,21 +128,18 @@ struct Numbers<'a> {
 }
 
 impl Numbers<'_> {
-    // The ref with the new numbers.
+    // The ref with the new numbers. The code is put into `visit`, so that a leaf and a node that was gone through cost no call.
+    #[cycle(renumber)]
+    #[inline(always)]
     fn renumber(&self, arena: &mut Arena, root: Ref, places: &mut Places) -> Result<Ref, ApplyFault>
         requires root { IsRef self.now.from.now root }
         requires map { (letter : List Bool) → length letter ≡ arena.old.slots → value_of self.now.from.now root letter < length self.now.new.now }
         requires arena { IsArena arena.old }
         requires holds { HoldsPlaces self.now.new.now self.now.from.now arena.old places.old }
         ensures new { IfOk result (IsNewRef self.now.new.now self.now.from.now arena.new root) }
-        ensures stray { (front : List Bool) (function : List Bool → ℕ) → length front ≤ level_of self.now.from.now root → length front ≤ arena.old.slots
-            → AgreesBehind (GivesNew self.now.new.now) (alone self.now.from.now root) arena.old.slots front function
-            → AddsOnlyNodesOfFunction arena.old arena.new function }
+        ensures stray { AddsOnlyOfNew self.now.new.now self.now.from.now root arena.old arena.new }
         ensures limit { (limit : ℕ) → result ≡ Err (Full limit) → limit ≡ arena.old.limit }
-        ensures full { (limit : ℕ) (front : List Bool) (function : List Bool → ℕ) → result ≡ Err (Full limit)
-            → length front ≤ level_of self.now.from.now root → length front ≤ arena.old.slots
-            → AgreesBehind (GivesNew self.now.new.now) (alone self.now.from.now root) arena.old.slots front function
-            → limit < count_with arena.old function }
+        ensures full { (limit : ℕ) → result ≡ Err (Full limit) → HasMoreNew self.now.new.now self.now.from.now root arena.old limit }
         ensures states { (limit : ℕ) → result ≢ Err (States limit) }
         ensures kept { KeepsRefs arena.old arena.new }
         ensures arena { IsArena arena.new }
@@ -151,23 +147,42 @@ impl Numbers<'_> {
     {
         match root {
             Ref::Leaf(number) => Ok(arena.leaf(self.new[number as usize])),
-            Ref::Place(place) => {
-                if let Some(new) = places.get(place) {
-                    return Ok(new);
-                }
-                let slot = self.from.level(root);
-                let (lo, hi) = self.from.split(root, slot);
-                let new_lo = self.renumber(arena, lo, places)?;
-                if arena.slots() <= slot {
-                    // No letter has this slot, so it is false at all of them.
-                    places.put(place, new_lo);
-                    return Ok(new_lo);
-                }
-                let new_hi = self.renumber(arena, hi, places)?;
-                let new = arena.node(slot, new_lo, new_hi)?;
-                places.put(place, new);
-                Ok(new)
-            }
+            Ref::Place(place) => match places.get(place) {
+                Some(new) => Ok(new),
+                None => self.visit(arena, place, places),
+            },
         }
+    }
+
+    // The same of the node at a place, which is gone through.
+    #[cycle(renumber)]
+    #[inline(never)]
+    fn visit(&self, arena: &mut Arena, place: u32, places: &mut Places) -> Result<Ref, ApplyFault>
+        requires root { IsRef self.now.from.now (AnyPlace place) }
+        requires map { (letter : List Bool) → length letter ≡ arena.old.slots → value_of self.now.from.now (AnyPlace place) letter < length self.now.new.now }
+        requires arena { IsArena arena.old }
+        requires holds { HoldsPlaces self.now.new.now self.now.from.now arena.old places.old }
+        ensures new { IfOk result (IsNewRef self.now.new.now self.now.from.now arena.new (AnyPlace place)) }
+        ensures stray { AddsOnlyOfNew self.now.new.now self.now.from.now (AnyPlace place) arena.old arena.new }
+        ensures limit { (limit : ℕ) → result ≡ Err (Full limit) → limit ≡ arena.old.limit }
+        ensures full { (limit : ℕ) → result ≡ Err (Full limit) → HasMoreNew self.now.new.now self.now.from.now (AnyPlace place) arena.old limit }
+        ensures states { (limit : ℕ) → result ≢ Err (States limit) }
+        ensures kept { KeepsRefs arena.old arena.new }
+        ensures arena { IsArena arena.new }
+        ensures holds { HoldsPlaces self.now.new.now self.now.from.now arena.new places.new }
+    {
+        let root = Ref::Place(place);
+        let slot = self.from.level(root);
+        let (lo, hi) = self.from.split(root, slot);
+        let new_lo = self.renumber(arena, lo, places)?;
+        if arena.slots() <= slot {
+            // No letter has this slot, so it is false at all of them.
+            places.put(place, new_lo);
+            return Ok(new_lo);
+        }
+        let new_hi = self.renumber(arena, hi, places)?;
+        let new = arena.node(slot, new_lo, new_hi)?;
+        places.put(place, new);
+        Ok(new)
     }
 }

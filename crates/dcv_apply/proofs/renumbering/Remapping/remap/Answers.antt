@@ -26,7 +26,7 @@ returns-clause-full c limit e =
     let from = c.args.self.now.numbers.from.now in
     let new = c.args.self.now.numbers.new.now in (
       c.renumber.ensures.limit limit e,
-      c.renumber.ensures.full limit [] (renumbered new from c.args.root) e (omega arith) (omega arith) (agrees_new new from c.args.root c.args.arena.now.slots c.requires.map),
+      c.renumber.ensures.full limit e [] (renumbered new from c.args.root) (omega arith) (omega arith) (agrees_new new from c.args.root c.args.arena.now.slots c.requires.map),
     )
 
 pub returns-in_err-reach-clause-holds : goal.returns-in_err-reach-clause-holds
