@@ -1,11 +1,12 @@
 -- What renumbering the two sides of a node tells of the node, and what places became while the arena grows.
-use Rattle.std.proofs.Common.{◌≡◌, ℕ, ◌<◌, ◌≤◌, Bool, true, false, cond, List, [], ◌∷◌, ◌++◌, length, set, get_or, Some, slice_get, Contains, ◌⊎◌, inl, inr, refl, sym, ap, subst, ◌∙◌, arith}
+use Rattle.std.proofs.Common.{◌≡◌, ℕ, ◌<◌, ◌≤◌, Bool, true, false, cond, List, [], ◌∷◌, ◌++◌, length, set, get_or, zero, suc, Option, Some, slice_get, ◌⊎◌, inl, inr, refl, sym, ap, subst, ◌∙◌, arith}
 use Rattle.std.proofs.lemmas.Bool.{cases_order}
 use Rattle.std.proofs.lemmas.List.{get_or_past, length-append, length-set}
 use Rattle.std.proofs.lemmas.Option.{slice_get-get_or, same_Some}
 use Rattle.dcv_arena.specs.Arena.{ArenaValue, IsArena, IsRef, level_of, value_of, KeepsRefs, AddsOnlyNodesOfFunction, count_with}
 use Rattle.dcv_arena.specs.declared.nodes.Ref.{Ref}
 use Rattle.dcv_arena.specs.declared.nodes.Ref.TheVariants.{Leaf, Place}
+use Rattle.dcv_apply.specs.Became.{HasBecome}
 use Rattle.dcv_apply.specs.Merged.{AgreesBehind}
 use Rattle.dcv_apply.specs.Operands.{DependsFrom, IsOperandFrom}
 use Rattle.dcv_apply.specs.Renumbered.{renumbered, GivesNew, alone, IsNewRef, HoldsPlaces}
@@ -42,15 +43,25 @@ new_grown new from old now root result kept is = record {
   value = λ letter size. subst (GivesNew new (alone from root letter)) (sym (kept.values result letter is.is_ref)) (is.value letter (size ∙ kept.slots));
 }
 
-pub places_grown : (new : List ℕ) (from old now : ArenaValue) (became : List (ℕ × Ref)) → KeepsRefs old now → HoldsPlaces new from old became → HoldsPlaces new from now became
+pub places_grown : (new : List ℕ) (from old now : ArenaValue) (became : List (Option Ref)) → KeepsRefs old now → HoldsPlaces new from old became → HoldsPlaces new from now became
 places_grown new from old now became kept holds place result there = new_grown new from old now (Place place) result kept (holds place result there)
 
-pub places_more : (new : List ℕ) (from arena : ArenaValue) (old now : List (ℕ × Ref)) (root : Ref) (place : ℕ) (result : Ref)
-    → ((one : ℕ × Ref) → Contains now one → Contains old one ⊎ (one ≡ (place, result)))
+-- what is there after one more was written
+written_or_was : (became : List (Option Ref)) (place other : ℕ) (new result : Ref) → HasBecome (set became place (Some new)) other result → HasBecome became other result ⊎ ((other ≡ place) × (result ≡ new))
+written_or_was [] place other new result there = inl there
+written_or_was (one ∷ became) zero zero new result there = inr (refl, cc)
+written_or_was (one ∷ became) zero (suc other) new result there = inl there
+written_or_was (one ∷ became) (suc place) zero new result there = inl there
+written_or_was (one ∷ became) (suc place) (suc other) new result there = elim (written_or_was became place other new result there) [
+  | inl was ↦ inl was
+  | inr own ↦ inr (ap suc own.0, own.1)
+]
+
+pub places_more : (new : List ℕ) (from arena : ArenaValue) (old now : List (Option Ref)) (root : Ref) (place : ℕ) (result : Ref) → now ≡ set old place (Some result)
     → root ≡ Place place → IsNewRef new from arena root result → HoldsPlaces new from arena old → HoldsPlaces new from arena now
-places_more new from arena old now root place result adds node is holds other ref there = elim (adds (other, ref) there) [
+places_more new from arena old now root place result is_set node is holds other ref there = elim (written_or_was old place other result ref (subst (λ became. HasBecome became other ref) is_set there)) [
   | inl before ↦ holds other ref before
-  | inr e ↦ subst (λ (one : ℕ × Ref). IsNewRef new from arena (Place one.0) one.1) (sym e) (subst (λ root. IsNewRef new from arena root result) node is)
+  | inr own ↦ subst (λ (one : ℕ × Ref). IsNewRef new from arena (Place one.0) one.1) (λ i. (sym own.0 i, sym own.1 i)) (subst (λ root. IsNewRef new from arena root result) node is)
 ]
 
 -- ---- the sides of a node

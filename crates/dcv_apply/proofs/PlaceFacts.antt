@@ -1,30 +1,54 @@
--- What the map of places has: what is got was there, and what is put is all that comes.
-use Rattle.std.proofs.Common.{◌≡◌, ℕ, List, Option, None, Some, IfSome, Result, Ok, Err, OnOk, OnErr, Contains, ◌⊎◌, inl, inr, nat_eq, sym, subst, eqb-true}
-use Rattle.std.specs.Map.{lookup}
-use Rattle.indexmap.specs.IndexMap.{insert_entry}
-use Rattle.lru.proofs.CallerLemmas.{Contains-lookup}
+-- What the entries of places tell: of which round they count, and that blank ones tell nothing.
+use Rattle.std.proofs.Common.{◌≡◌, ℕ, zero, suc, ◌+◌, ◌≤◌, Bool, true, false, cond, List, [], ◌∷◌, ◌++◌, length, map, set, take, replicate, get_or, None, Some, if◌then◌else◌, ap, subst, ◌∙◌, arith}
+use Rattle.std.specs.List.{All}
+use Rattle.std.proofs.lemmas.Bool.{ne_eqb}
+use Rattle.std.proofs.lemmas.List.{map-set, take_all}
+use Rattle.std.proofs.lemmas.List.Elements.{All-head, All-tail, All-replicate}
 use Rattle.dcv_arena.specs.declared.nodes.Ref.{Ref}
-use Rattle.dcv_apply.proofs.Insertions.{insert_cases}
+use Rattle.dcv_arena.specs.declared.nodes.Ref.TheVariants.{Leaf}
+use Rattle.dcv_apply.specs.Became.{HasBecome}
+use Rattle.dcv_apply.specs.Rounds.{became_in, IsUpTo}
+use Rattle.dcv_apply.specs.declared.places.Became.{Became}
 
-got_there : (entries : List (ℕ × Ref)) (place : ℕ) (new : Ref) → lookup (nat_eq place) entries ≡ Some new → Contains entries (place, new)
-got_there entries place new e =
-    let there = Contains-lookup (nat_eq place) entries new e in
-    subst (λ key. Contains entries (key, new)) (sym (eqb-true place there.0 there.2)) there.1
+abbrev CountsNot : ℕ → Became → Type 0
+CountsNot round entry = became_in round entry ≡ None
 
-pub got : (entries : List (ℕ × Ref)) (place : ℕ) (found : Option Ref) → found ≡ lookup (nat_eq place) entries → IfSome found (λ new. Contains entries (place, new))
-got entries place None e = tt
-got entries place (Some new) e = got_there entries place new (sym e)
+other_round : (round : ℕ) (entry : Became) → (entry.round ≡ round → ⊥) → CountsNot round entry
+other_round round entry other = ap (λ same. cond same (Some entry.new) None) (ne_eqb entry.round round other)
 
-put_cases : (entries : List (ℕ × Ref)) (place : ℕ) (new : Ref) (one : ℕ × Ref) → Contains (insert_entry nat_eq entries place new) one → Contains entries one ⊎ (one ≡ (place, new))
-put_cases entries place new one c = elim (insert_cases nat_eq place new entries one c) [
-  | inl was ↦ inl was
-  | inr own ↦ inr (elim own.1 [
-    | inl same ↦ (λ i. (same i, own.0 i))
-    | inr equal ↦ (λ i. (sym (eqb-true place one.0 equal) i, own.0 i))
-  ])
-]
+absent : (round : ℕ) (entry : Became) (new : Ref) → CountsNot round entry → Some (became_in round entry) ≡ Some (Some new) → ⊥
+absent round entry new none there = cc
 
-pub put_result : {X E : Type 0} (result : Result X E) (old now : List (ℕ × Ref)) (place : ℕ) (new : Ref) → OnOk result (now ≡ insert_entry nat_eq old place new) → OnErr result (now ≡ old)
-    → (one : ℕ × Ref) → Contains now one → Contains old one ⊎ (one ≡ (place, new))
-put_result (Ok x) old now place new is same one c = put_cases old place new one (subst (λ entries. Contains entries one) is c)
-put_result (Err e) old now place new is same one c = inl (subst (λ entries. Contains entries one) same c)
+nothing : (round : ℕ) (entries : List Became) → All (CountsNot round) entries → (place : ℕ) (new : Ref) → HasBecome (map (became_in round) entries) place new → ⊥
+nothing round [] none place new there = cc
+nothing round (entry ∷ entries) none zero new there = absent round entry new (All-head (CountsNot round) entry entries none) there
+nothing round (entry ∷ entries) none (suc place) new there = nothing round entries (All-tail (CountsNot round) entry entries none) place new there
+
+-- in the next round nothing counts
+pub spent : (round : ℕ) (entries : List Became) → All (IsUpTo round) entries → (place : ℕ) (new : Ref) → HasBecome (map (became_in (round + 1)) entries) place new → ⊥
+spent round entries up = nothing (round + 1) entries (λ place d within. other_round (round + 1) (get_or entries place d) (λ same. let early : (get_or entries place d).round ≤ round = up place d within in omega arith))
+
+behind : (round : ℕ) (entries more : List Became) → All (CountsNot round) more → (place : ℕ) (new : Ref)
+    → HasBecome (map (became_in round) (entries ++ more)) place new → HasBecome (map (became_in round) entries) place new
+behind round [] more none place new there = absurd (nothing round more none place new there)
+behind round (entry ∷ entries) more none zero new there = there
+behind round (entry ∷ entries) more none (suc place) new there = behind round entries more none place new there
+
+abbrev blank : Became
+blank = record { round = 0; new = Leaf 0 }
+
+-- blank entries at the end tell nothing
+pub lengthened : (round : ℕ) → 1 ≤ round → (ok : Bool) (entries now : List Became) (nodes many : ℕ) → length entries ≤ nodes
+    → now ≡ (if ok then take nodes entries ++ replicate many (record { round = 0; new = Leaf 0 }) else entries)
+    → (place : ℕ) (new : Ref) → HasBecome (map (became_in round) now) place new → HasBecome (map (became_in round) entries) place new
+lengthened round first true entries now nodes many fewer is place new there =
+    behind round entries (replicate many blank) (All-replicate (CountsNot round) many blank (other_round round blank (λ same. omega arith))) place new
+    (subst (λ entries. HasBecome (map (became_in round) entries) place new) (is ∙ ap (λ front. front ++ replicate many blank) (take_all nodes entries fewer)) there)
+lengthened round first false entries now nodes many fewer is place new there = subst (λ entries. HasBecome (map (became_in round) entries) place new) is there
+
+own : (round : ℕ) (new : Ref) → became_in round (record { round = round; new = new }) ≡ Some new
+own round new = grind arith
+
+pub written : (round : ℕ) (entries : List Became) (place : ℕ) (new : Ref)
+    → map (became_in round) (set entries place (record { round = round; new = new })) ≡ set (map (became_in round) entries) place (Some new)
+written round entries place new = map-set (became_in round) entries place _ ∙ ap (set (map (became_in round) entries) place) (own round new)

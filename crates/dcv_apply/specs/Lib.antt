@@ -4,10 +4,12 @@ pub mod Operands
 pub mod Merged
 pub mod Memo
 pub mod Renumbered
+pub mod Became
 pub mod FirstLetters
 pub mod Walk
 -- for the `From`s of the faults alone
 pub mod Faults
--- for proofs alone: the same words of the structs that hold the parts, and a memo's cache
+-- for proofs alone: the same words of the structs that hold the parts, and a memo's cache and the entries of places
 pub mod Sources
 pub mod Remembered
+pub mod Rounds

@@ -4,11 +4,14 @@
 --     GivesNew new                the list has this number at the place of the only one of these numbers
 --     alone from root             the ref's number at a letter, as the only one
 --     IsNewRef new from arena root result    a ref with the new numbers, which depends on no slot before the old one does
-use Rattle.std.specs.Prelude.{◌≡◌, ℕ, ◌≤◌, Bool, List, [], ◌∷◌, Option, Some, None, slice_get, slice_index_or, Contains}
-use Rattle.dcv_arena.specs.Arena.{ArenaValue, IsRef, level_of, value_of}
+--     AddsOnlyOfNew new from root old now    all nodes that came are of each function that may come of the ref
+--     HasMoreNew new from root old limit     each function that may come of the ref has more new nodes than this
+use Rattle.std.specs.Prelude.{◌≡◌, ℕ, ◌≤◌, ◌<◌, length, Bool, List, [], ◌∷◌, Option, Some, None, slice_get, slice_index_or}
+use Rattle.dcv_arena.specs.Arena.{ArenaValue, IsRef, level_of, value_of, AddsOnlyNodesOfFunction, count_with}
 use Rattle.dcv_arena.specs.declared.nodes.Ref.{Ref}
 use Rattle.dcv_arena.specs.declared.nodes.Ref.TheVariants.{Place}
-use Rattle.dcv_apply.specs.Merged.{MeansMerged}
+use Rattle.dcv_apply.specs.Merged.{MeansMerged, AgreesBehind}
+use Rattle.dcv_apply.specs.Became.{HasBecome}
 use Rattle.dcv_apply.specs.declared.renumbering.Remapping.{Remapping}
 
 abbrev pub renumbered : List ℕ → ArenaValue → Ref → List Bool → ℕ
@@ -29,9 +32,18 @@ pub record IsNewRef (new : List ℕ) (from arena : ArenaValue) (root result : Re
   pub level : (slot : ℕ) → slot ≤ level_of from root → slot ≤ arena.slots → slot ≤ level_of arena result
   pub value : MeansMerged (GivesNew new) (alone from root) arena result
 
--- each of these places became such a ref
-abbrev pub HoldsPlaces : List ℕ → ArenaValue → ArenaValue → List (ℕ × Ref) → Type 0
-HoldsPlaces new from arena became = (place : ℕ) (result : Ref) → Contains became (place, result) → IsNewRef new from arena (Place place) result
+-- a function may come of the ref, below others, if it has the new numbers at all letters that begin with the front
+abbrev pub AddsOnlyOfNew : List ℕ → ArenaValue → Ref → ArenaValue → ArenaValue → Type 0
+AddsOnlyOfNew new from root old now = (front : List Bool) (function : List Bool → ℕ) → length front ≤ level_of from root → length front ≤ old.slots
+    → AgreesBehind (GivesNew new) (alone from root) old.slots front function → AddsOnlyNodesOfFunction old now function
+
+abbrev pub HasMoreNew : List ℕ → ArenaValue → Ref → ArenaValue → ℕ → Type 0
+HasMoreNew new from root old limit = (front : List Bool) (function : List Bool → ℕ) → length front ≤ level_of from root → length front ≤ old.slots
+    → AgreesBehind (GivesNew new) (alone from root) old.slots front function → limit < count_with old function
+
+-- each place became such a ref, if it became anything
+abbrev pub HoldsPlaces : List ℕ → ArenaValue → ArenaValue → List (Option Ref) → Type 0
+HoldsPlaces new from arena became = (place : ℕ) (result : Ref) → HasBecome became place result → IsNewRef new from arena (Place place) result
 
 abbrev pub HoldsNew : Remapping → ArenaValue → Type 0
-HoldsNew remapping arena = HoldsPlaces remapping.numbers.new.now remapping.numbers.from.now arena remapping.places.became.entries
+HoldsNew remapping arena = HoldsPlaces remapping.numbers.new.now remapping.numbers.from.now arena remapping.places

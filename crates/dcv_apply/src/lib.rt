@@ -15,6 +15,7 @@ mod first_letters;
 mod memo;
 mod merging;
 mod operands;
+mod places;
 mod renumbering;
 mod seen;
 
@@ -22,4 +23,5 @@ pub use faults::{ApplyFault, MergeFault};
 pub use first_letters::{LetterSearch, least_letters};
 pub use memo::Memo;
 pub use merging::{Merge, apply, apply_last};
+pub use places::Places;
 pub use renumbering::{Remapping, remap};

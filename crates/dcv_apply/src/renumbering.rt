@@ -1,17 +1,15 @@
 // Numbers are exchanged for others by a list, in the functions of one arena and into another. Each node is gone through once,
 // as in the simplest recursions over diagrams (R. E. Bryant, 1986, with the marks of the nodes that were met), and what its
 // place became is kept, so that the time is linear in the nodes, of many roots too.
-ghost use Rattle.std.specs.Prelude.{◌≡◌, ◌≢◌, ◌≤◌, ◌<◌, ◌⊎◌, ℕ, List, Bool, Err, length, IfOk, IfSome, Contains};
+ghost use Rattle.std.specs.Prelude.{◌≡◌, ◌≢◌, ◌≤◌, ◌<◌, ℕ, List, Bool, Err, length, IfOk};
 ghost use Rattle.dcv_arena.specs.Arena.{ArenaValue, IsRef, IsArena, level_of, value_of, KeepsRefs, AddsOnlyNodesOf, AddsOnlyNodesOfFunction, count_with};
-ghost use Rattle.dcv_arena.specs.declared.nodes.Ref.{Ref as AnyRef};
 ghost use Rattle.dcv_arena.specs.declared.nodes.Ref.TheVariants.{Place as AnyPlace};
-ghost use Rattle.dcv_apply.specs.Merged.{AgreesBehind};
-ghost use Rattle.dcv_apply.specs.Renumbered.{renumbered, GivesNew, alone, IsNewRef, HoldsPlaces, HoldsNew};
+ghost use Rattle.dcv_apply.specs.Renumbered.{renumbered, IsNewRef, AddsOnlyOfNew, HasMoreNew, HoldsPlaces, HoldsNew};
 ghost use Rattle.dcv_apply.specs.declared.faults.ApplyFault.TheVariants.{Full, States};
 
 use crate::faults::ApplyFault;
+use crate::places::Places;
 use dcv_arena::{Arena, Ref};
-use indexmap::IndexMap;
 use std::alloc::Global;
 
 /// The function that has, at each letter, the new number of the number that `root` has there. `map` has at each
@@ -62,10 +60,29 @@ impl<'a> Remapping<'a> {
     {
         Remapping {
             numbers: Numbers { from, new: map },
-            places: Places {
-                became: IndexMap::new(alloc),
-            },
+            places: Places::new(alloc),
         }
+    }
+
+    /// The same with the list of an earlier round, also of another arena. Nothing that it says of places counts any more, but its memory
+    /// is used again: a round over the same arena costs what it goes through, however many nodes the arena has.
+    pub fn over(mut places: Places, from: &'a Arena, map: &'a [u32]) -> Remapping<'a>
+        ensures from { result.numbers.from.now ≡ from.now }
+        ensures map { result.numbers.new.now ≡ map.now }
+        ensures holds { (arena : ArenaValue) → HoldsNew result arena }
+    {
+        places.next_round();
+        Remapping {
+            numbers: Numbers { from, new: map },
+            places,
+        }
+    }
+
+    /// The list of what places became, for the next round.
+    pub fn into_places(self) -> Places
+        ensures { result ≡ self.entry.places }
+    {
+        self.places
     }
 }
 
@@ -98,6 +115,7 @@ impl Remapping<'_> {
     {
         // for the prover: of an arena that was asked it is known what is true of every arena.
         let _ = arena.slots();
+        self.places.reach(self.numbers.from, root)?;
         self.numbers.renumber(arena, root, &mut self.places)
     }
 }
@@ -110,66 +128,61 @@ struct Numbers<'a> {
 }
 
 impl Numbers<'_> {
-    // The ref with the new numbers.
+    // The ref with the new numbers. The code is put into `visit`, so that a leaf and a node that was gone through cost no call.
+    #[cycle(renumber)]
+    #[inline(always)]
     fn renumber(&self, arena: &mut Arena, root: Ref, places: &mut Places) -> Result<Ref, ApplyFault>
         requires root { IsRef self.now.from.now root }
         requires map { (letter : List Bool) → length letter ≡ arena.old.slots → value_of self.now.from.now root letter < length self.now.new.now }
         requires arena { IsArena arena.old }
-        requires holds { HoldsPlaces self.now.new.now self.now.from.now arena.old places.old.became.entries }
+        requires holds { HoldsPlaces self.now.new.now self.now.from.now arena.old places.old }
         ensures new { IfOk result (IsNewRef self.now.new.now self.now.from.now arena.new root) }
-        ensures stray { (front : List Bool) (function : List Bool → ℕ) → length front ≤ level_of self.now.from.now root → length front ≤ arena.old.slots
-            → AgreesBehind (GivesNew self.now.new.now) (alone self.now.from.now root) arena.old.slots front function
-            → AddsOnlyNodesOfFunction arena.old arena.new function }
+        ensures stray { AddsOnlyOfNew self.now.new.now self.now.from.now root arena.old arena.new }
         ensures limit { (limit : ℕ) → result ≡ Err (Full limit) → limit ≡ arena.old.limit }
-        ensures full { (limit : ℕ) (front : List Bool) (function : List Bool → ℕ) → result ≡ Err (Full limit)
-            → length front ≤ level_of self.now.from.now root → length front ≤ arena.old.slots
-            → AgreesBehind (GivesNew self.now.new.now) (alone self.now.from.now root) arena.old.slots front function
-            → limit < count_with arena.old function }
+        ensures full { (limit : ℕ) → result ≡ Err (Full limit) → HasMoreNew self.now.new.now self.now.from.now root arena.old limit }
         ensures states { (limit : ℕ) → result ≢ Err (States limit) }
         ensures kept { KeepsRefs arena.old arena.new }
         ensures arena { IsArena arena.new }
-        ensures holds { HoldsPlaces self.now.new.now self.now.from.now arena.new places.new.became.entries }
+        ensures holds { HoldsPlaces self.now.new.now self.now.from.now arena.new places.new }
     {
         match root {
             Ref::Leaf(number) => Ok(arena.leaf(self.new[number as usize])),
-            Ref::Place(place) => {
-                if let Some(new) = places.get(place) {
-                    return Ok(new);
-                }
-                let slot = self.from.level(root);
-                let (lo, hi) = self.from.split(root, slot);
-                let new_lo = self.renumber(arena, lo, places)?;
-                if arena.slots() <= slot {
-                    // No letter has this slot, so it is false at all of them.
-                    places.put(place, new_lo);
-                    return Ok(new_lo);
-                }
-                let new_hi = self.renumber(arena, hi, places)?;
-                let new = arena.node(slot, new_lo, new_hi)?;
-                places.put(place, new);
-                Ok(new)
-            }
+            Ref::Place(place) => match places.get(place) {
+                Some(new) => Ok(new),
+                None => self.visit(arena, place, places),
+            },
         }
     }
-}
 
-// What places became.
-#[derive(Drop)]
-struct Places {
-    became: IndexMap<u32, Ref>,
-}
-
-impl Places {
-    fn get(&self, place: u32) -> Option<Ref>
-        ensures { IfSome result (λ new. Contains self.now.became.entries (place, new)) }
+    // The same of the node at a place, which is gone through.
+    #[cycle(renumber)]
+    #[inline(never)]
+    fn visit(&self, arena: &mut Arena, place: u32, places: &mut Places) -> Result<Ref, ApplyFault>
+        requires root { IsRef self.now.from.now (AnyPlace place) }
+        requires map { (letter : List Bool) → length letter ≡ arena.old.slots → value_of self.now.from.now (AnyPlace place) letter < length self.now.new.now }
+        requires arena { IsArena arena.old }
+        requires holds { HoldsPlaces self.now.new.now self.now.from.now arena.old places.old }
+        ensures new { IfOk result (IsNewRef self.now.new.now self.now.from.now arena.new (AnyPlace place)) }
+        ensures stray { AddsOnlyOfNew self.now.new.now self.now.from.now (AnyPlace place) arena.old arena.new }
+        ensures limit { (limit : ℕ) → result ≡ Err (Full limit) → limit ≡ arena.old.limit }
+        ensures full { (limit : ℕ) → result ≡ Err (Full limit) → HasMoreNew self.now.new.now self.now.from.now (AnyPlace place) arena.old limit }
+        ensures states { (limit : ℕ) → result ≢ Err (States limit) }
+        ensures kept { KeepsRefs arena.old arena.new }
+        ensures arena { IsArena arena.new }
+        ensures holds { HoldsPlaces self.now.new.now self.now.from.now arena.new places.new }
     {
-        self.became.get(&place).copied()
-    }
-
-    // Keeps what a place became, unless memory runs out, which changes nothing.
-    fn put(&mut self, place: u32, new: Ref)
-        ensures { (one : ℕ × AnyRef) → Contains self.new.became.entries one → Contains self.old.became.entries one ⊎ (one ≡ (place, new)) }
-    {
-        let _ = self.became.insert(place, new);
+        let root = Ref::Place(place);
+        let slot = self.from.level(root);
+        let (lo, hi) = self.from.split(root, slot);
+        let new_lo = self.renumber(arena, lo, places)?;
+        if arena.slots() <= slot {
+            // No letter has this slot, so it is false at all of them.
+            places.put(place, new_lo);
+            return Ok(new_lo);
+        }
+        let new_hi = self.renumber(arena, hi, places)?;
+        let new = arena.node(slot, new_lo, new_hi)?;
+        places.put(place, new);
+        Ok(new)
     }
 }

@@ -12,6 +12,7 @@ mod members;
 mod partition;
 mod votes;
 
+use dcv_apply::Places;
 use dcv_dfa::Raw;
 use dcv_index::Index;
 use members::Members;
@@ -39,6 +40,8 @@ struct Refining {
     partition: Partition,
     members: Members,
     moved: Vec<u32>,
+    // What keys keep of places, one list for all rounds: so a round costs what it looks at, and not what the arena holds.
+    places: Places,
 }
 
 impl Refining {
@@ -56,6 +59,7 @@ impl Refining {
             partition,
             members,
             moved,
+            places: Places::new(alloc),
         })
     }
 
@@ -74,7 +78,7 @@ impl Refining {
             &self.partition.witness,
             &found.looked,
         )?;
-        self.moved = self.partition.split(alloc, raw, &listed)?;
+        self.moved = self.partition.split(alloc, raw, &listed, &mut self.places)?;
         self.members.follow(
             alloc,
             &self.partition.blocks,

@@ -8,6 +8,7 @@ ghost use Rattle.dcv_minimise.specs.Division.{IsDividing, IsDivision, IsDivided,
 use super::keys::Keys;
 use super::members::Listed;
 use super::votes::choose;
+use dcv_apply::Places;
 use dcv_arena::Ref;
 use dcv_dfa::Raw;
 use indexmap::IndexSet;
@@ -37,19 +38,20 @@ struct Division<'a> {
 }
 
 // Which of the listed states get another number, and which. Witnesses of blocks that are listed in full may change, and those of new
-// numbers are added.
+// numbers are added. The keys use `places`, which is given back for the next round.
 pub(crate) fn divide(
     alloc: Global,
     raw: &Raw,
+    places: Places,
     blocks: &[u32],
     witness: &mut Vec<u32>,
     listed: &Listed,
-) -> Result<Vec<Move>, AllocError>
+) -> Result<(Vec<Move>, Places), AllocError>
     requires witnessed { IsWitnessed raw.now blocks.now witness.old.items }
     requires listed { All (IsState raw.now) listed.now.states.items }
-    ensures { IfOk result (λ moves. IsDivided raw.now blocks.now listed.now.full.keys witness.old.items witness.new.items listed.now.states.items moves.items) }
+    ensures { IfOk result (λ divided. IsDivided raw.now blocks.now listed.now.full.keys witness.old.items witness.new.items listed.now.states.items divided.0.items) }
 {
-    let mut keys = Keys::new(alloc, raw, blocks);
+    let mut keys = Keys::new(alloc, places, raw, blocks);
     choose(alloc, raw, blocks, witness, &mut keys, listed)?;
     settle_all(alloc, raw, blocks, witness, keys, &listed.states)
 }
@@ -62,11 +64,11 @@ fn settle_all(
     witness: &mut Vec<u32>,
     keys: Keys<'_>,
     listed: &[u32],
-) -> Result<Vec<Move>, AllocError>
+) -> Result<(Vec<Move>, Places), AllocError>
     requires witnessed { IsWitnessed raw.now blocks.now witness.old.items }
     requires keys { IsKeys raw.now blocks.now keys }
     requires listed { All (IsState raw.now) listed.now }
-    ensures { IfOk result (λ moves. IsDivision raw.now blocks.now witness.old.items witness.new.items listed.now moves.items) }
+    ensures { IfOk result (λ divided. IsDivision raw.now blocks.now witness.old.items witness.new.items listed.now divided.0.items) }
 {
     let mut division = Division {
         count: witness.len(),
@@ -77,7 +79,7 @@ fn settle_all(
     for state in listed {
         division.settle(raw, blocks, witness, *state)?;
     }
-    Ok(division.moves)
+    Ok((division.moves, division.keys.into_places()))
 }
 
 impl Division<'_> {

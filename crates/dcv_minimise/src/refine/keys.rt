@@ -3,7 +3,7 @@ ghost use Rattle.std.specs.Prelude.{◌≡◌, ◌<◌, List, ℕ, length, IfOk}
 ghost use Rattle.dcv_arena.specs.Arena.{KeepsRefs};
 ghost use Rattle.dcv_minimise.specs.Keys.{IsKeys, IsKeyOf, blocks_in};
 
-use dcv_apply::Remapping;
+use dcv_apply::{Places, Remapping};
 use dcv_arena::{Arena, Ref};
 use dcv_dfa::Raw;
 use std::alloc::{AllocError, Global};
@@ -16,20 +16,27 @@ pub(crate) struct Keys<'a> {
 }
 
 impl<'a> Keys<'a> {
-    // The keys by these blocks.
-    pub(crate) fn new(alloc: Global, raw: &'a Raw, blocks: &'a [u32]) -> Keys<'a>
+    // The keys by these blocks. What the keys of the round before kept of places does not count, but its memory is used again.
+    pub(crate) fn new(alloc: Global, places: Places, raw: &'a Raw, blocks: &'a [u32]) -> Keys<'a>
         requires { length blocks.now ≡ length raw.now.rows }
         ensures { IsKeys raw.now blocks.now result }
     {
         let arena = raw.arena();
         Keys {
-            remapping: Remapping::new(alloc, arena, blocks),
+            remapping: Remapping::over(places, arena, blocks),
             scratch: Arena::new(alloc, arena.slots(), u32::MAX),
         }
     }
 }
 
 impl Keys<'_> {
+    // What is kept of places, for the keys of the next round.
+    pub(crate) fn into_places(self) -> Places
+        ensures { result ≡ self.entry.remapping.places }
+    {
+        self.remapping.into_places()
+    }
+
     // The key of a state. An arena that holds as many nodes as there are numbers counts as memory that has run out.
     pub(crate) fn of(&mut self, raw: &Raw, state: u32) -> Result<Ref, AllocError>
         requires state { state < length raw.now.rows }

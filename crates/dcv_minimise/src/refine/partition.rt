@@ -8,8 +8,10 @@ ghost use Rattle.dcv_minimise.specs.Members.{IsListed};
 
 use super::division::{Move, divide};
 use super::members::Listed;
+use dcv_apply::Places;
 use dcv_dfa::Raw;
 use std::alloc::{AllocError, Global};
+use std::mem;
 
 #[derive(Debug, Drop)]
 pub(crate) struct Partition {
@@ -44,12 +46,13 @@ impl Partition {
     }
 
     // Divides the blocks by the rows of the listed states, and answers the states that got another number. A state that is
-    // not listed goes with the witness of its block.
+    // not listed goes with the witness of its block. `places` is for the keys, and is lost where memory runs out.
     pub(crate) fn split(
         &mut self,
         alloc: Global,
         raw: &Raw,
         listed: &Listed,
+        places: &mut Places,
     ) -> Result<Vec<u32>, AllocError>
         requires witnessed { IsWitnessed raw.now self.old.blocks.items self.old.witness.items }
         requires listed { All (IsState raw.now) listed.now.states.items }
@@ -65,7 +68,9 @@ impl Partition {
         ensures no_fewer { OnOk result (length self.old.witness.items ≤ length self.new.witness.items) }
         ensures states { IfOk result (λ moved. All (IsState raw.now) moved.items) }
     {
-        let moves = divide(alloc, raw, &self.blocks, &mut self.witness, listed)?;
+        let before = mem::replace(places, Places::new(alloc));
+        let (moves, after) = divide(alloc, raw, before, &self.blocks, &mut self.witness, listed)?;
+        *places = after;
         let moved = states_of(alloc, &moves)?;
         apply(&mut self.blocks, &moves);
         Ok(moved)

@@ -29,10 +29,10 @@ settle_all-requires-clause-witnessed c =
 pub returns : goal.returns
 returns c =
     let before = (goal.at.returns c).After-deref in
-    IfOk-weaker c.settle_all.result _ _ (λ moves division. record {
+    IfOk-weaker c.settle_all.result _ _ (λ divided division. record {
       chosen = c.choose.new.witness;
       size = same_size before;
       is_chosen = chosen before;
-      division = subst (λ old. IsDivision c.args.raw.now c.args.blocks.now old c.settle_all.new.witness.items c.args.listed.now.states.items moves.items) (written before)
-          (subst (λ listed. IsDivision c.args.raw.now c.args.blocks.now (witness_now before) c.settle_all.new.witness.items listed moves.items) c.deref.ensures.value division);
+      division = subst (λ old. IsDivision c.args.raw.now c.args.blocks.now old c.settle_all.new.witness.items c.args.listed.now.states.items divided.0.items) (written before)
+          (subst (λ listed. IsDivision c.args.raw.now c.args.blocks.now (witness_now before) c.settle_all.new.witness.items listed divided.0.items) c.deref.ensures.value division);
     }) c.settle_all.ensures

@@ -7,9 +7,9 @@ returns c =
     record {
       is_raw = c.arena-arena.ensures.raw;
       each = c.requires;
-      from = c.new.ensures.from ∙ arena;
-      by = c.new.ensures.map;
-      holds = c.new.ensures.holds c.new-2.result;
-      slots = c.new-2.ensures.slots ∙ c.slots.ensures.slots ∙ (λ i. (arena i).slots);
-      arena = c.new-2.ensures.arena;
+      from = c.over.ensures.from ∙ arena;
+      by = c.over.ensures.map;
+      holds = c.over.ensures.holds c.new.result;
+      slots = c.new.ensures.slots ∙ c.slots.ensures.slots ∙ (λ i. (arena i).slots);
+      arena = c.new.ensures.arena;
     }
