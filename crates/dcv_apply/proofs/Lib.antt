@@ -9,3 +9,4 @@ mod Sides
 mod Whole
 pub mod FirstLetters
 pub mod OperandFacts
+mod PlainOperands

@@ -9,7 +9,9 @@ pub mod FirstLetters
 pub mod Walk
 -- for the `From`s of the faults alone
 pub mod Faults
--- for proofs alone: the same words of the structs that hold the parts, and a memo's cache and the entries of places
+-- for proofs alone: the same words of the structs that hold the parts, two operands in 16 bytes, a memo's collections, and the entries
+-- of places
 pub mod Sources
+pub mod Pairs
 pub mod Remembered
 pub mod Rounds

@@ -1,17 +1,23 @@
 -- The entries of the cache that a memo stands on, as plain data.
 --     entry_of pair             the entry that a key and its ref are
+--     entry_of_pair pair        the entry that two operands and their ref are
 --     Adds entry old new        nothing is remembered that was not before, but for this entry
 --     KeepsEntries old new      nothing is remembered that was not before
 use Rattle.std.specs.Prelude.{◌≡◌, ℕ, List, Contains, ◌⊎◌}
 use Rattle.dcv_arena.specs.declared.nodes.Ref.{Ref}
 use Rattle.dcv_apply.specs.Memo.{EntryValue, MemoValue}
+use Rattle.dcv_apply.specs.Pairs.{pair_operands}
 use Rattle.dcv_apply.specs.declared.memo.Key.{Key}
+use Rattle.dcv_apply.specs.declared.memo.Pair.{Pair}
 
 abbrev pub entry : ℕ → List (ℕ × Ref) → Ref → EntryValue
 entry round operands root = record { round = round; operands = operands; root = root }
 
 abbrev pub entry_of : Key × Ref → EntryValue
 entry_of pair = entry pair.0.round pair.0.operands.items pair.1
+
+abbrev pub entry_of_pair : Pair × Ref → EntryValue
+entry_of_pair kept = entry kept.0.round (pair_operands kept.0) kept.1
 
 abbrev pub KeepsEntries : MemoValue → MemoValue → Type 0
 KeepsEntries old new = (one : EntryValue) → Contains new.entries one → Contains old.entries one

@@ -5,14 +5,13 @@
 --     numbers_in sources operands letter    the operands' numbers at a letter
 --     HaveSideOf sources operands slot value parts    the parts have the operands' numbers with the slot fixed to the value
 --     merged_by operation operands letter     the numbers that are merged there
---     IsSide operation operands slot value side    what is remembered of the operands with the slot fixed to the value
+--     IsSide operation operands slot value round side    operands in the operation's round that have the numbers of these with the slot fixed to the value
 use Rattle.std.specs.Prelude.{◌≡◌, ℕ, ◌+◌, ◌<◌, Bool, List, length, slice_set}
 use Rattle.std.specs.List.{All}
 use Rattle.dcv_arena.specs.Arena.{IsArena}
 use Rattle.dcv_arena.specs.declared.nodes.Ref.{Ref}
 use Rattle.dcv_apply.specs.Operands.{IsOperand, IsOperandFrom, number_at, numbers_at, merged_at}
 use Rattle.dcv_apply.specs.declared.operands.Sources.{Sources}
-use Rattle.dcv_apply.specs.declared.memo.Key.{Key}
 use Rattle.dcv_apply.specs.declared.merging.Operation.{Operation}
 
 pub record HasArenas (sources : Sources) : Type 0 where
@@ -41,7 +40,7 @@ merged_by operation operands letter = merged_at operation.last_slot operation.so
 pub record FixesSlot (whole part : List Bool → List ℕ) (slot : ℕ) (value : Bool) : Type 0 where
   pub at : (letter : List Bool) → slot < length letter → part letter ≡ whole (slice_set letter slot value)
 
-pub record IsSide (operation : Operation) (operands : List (ℕ × Ref)) (slot : ℕ) (value : Bool) (side : Key) : Type 0 where
-  pub round : side.round ≡ operation.round
-  pub from : All (IsFrom operation.sources (slot + 1)) side.operands.items
-  pub fixed : FixesSlot (merged_by operation operands) (merged_by operation side.operands.items) slot value
+pub record IsSide (operation : Operation) (operands : List (ℕ × Ref)) (slot : ℕ) (value : Bool) (side_round : ℕ) (side : List (ℕ × Ref)) : Type 0 where
+  pub round : side_round ≡ operation.round
+  pub from : All (IsFrom operation.sources (slot + 1)) side
+  pub fixed : FixesSlot (merged_by operation operands) (merged_by operation side) slot value

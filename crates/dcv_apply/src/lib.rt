@@ -18,6 +18,7 @@ mod operands;
 mod places;
 mod renumbering;
 mod seen;
+mod visits;
 
 pub use faults::{ApplyFault, MergeFault};
 pub use first_letters::{LetterSearch, least_letters};

@@ -1,20 +1,23 @@
 // Functions are merged letter by letter: `Apply` of R. E. Bryant (1986) for any number of operands at once. A memo keeps
 // what operands were merged into, so that each list of operands is gone through once while the memo has room; what it
-// forgets is merged again. The operands of a visit lie in place where they are few, and take no memory of their own.
-ghost use Rattle.std.specs.Prelude.{◌≡◌, ◌≤◌, ◌<◌, ◌+◌, ℕ, List, Bool, Err, Ok, length, IfOk, true, false};
+// forgets is merged again. There is one recursion, over whatever form the operands of a visit have: a build of its own for two
+// operands moves 28 bytes from visit to visit, and takes no memory but for what it adds to the memo and the arena.
+ghost use Rattle.std.specs.Prelude.{◌≡◌, ◌≤◌, ◌<◌, ◌+◌, ℕ, List, Bool, Err, Ok, length, IfOk};
 ghost use Rattle.std.specs.List.{All};
 ghost use Rattle.dcv_arena.specs.Arena.{IsRef, IsArena, level_of, KeepsRefs, AddsOnlyNodesOfFunction, count_with};
 ghost use Rattle.dcv_apply.specs.Operands.{IsOperand, numbers_at, numbers_at_both};
-ghost use Rattle.dcv_apply.specs.Sources.{HasArenas, IsIn, IsFrom, IsSide, merged_by};
+ghost use Rattle.dcv_apply.specs.Sources.{HasArenas, IsIn, IsFrom, merged_by};
 ghost use Rattle.dcv_apply.specs.Memo.{HoldsRound, KeepsOthers};
 ghost use Rattle.dcv_apply.specs.Merged.{MeansMerged, AgreesBehind, IsApplied};
 ghost use Rattle.dcv_apply.specs.declared.faults.MergeFault.TheVariants.{States as MergeStates};
 ghost use Rattle.dcv_apply.specs.declared.faults.ApplyFault.TheVariants.{Full, States};
 
 use crate::faults::{ApplyFault, MergeFault};
-use crate::memo::{Key, Memo};
-use crate::operands::{LastSlot, Numbers, Operand, Sources, operands_of};
+use crate::memo::{Key, Memo, Pair};
+use crate::operands::{LastSlot, Numbers, Operand, Sources};
+use crate::visits::Visit;
 use dcv_arena::{Arena, Ref};
+use smallvec::SmallVec;
 use std::alloc::{AllocError, Global};
 
 /// What numbers are merged into, list by list. Where the numbers are states of automata, the list has those that
@@ -128,9 +131,9 @@ pub fn apply_last<G: Merge>(
 
 // What does not change while functions are merged.
 #[derive(Drop)]
-struct Operation<'a> {
-    alloc: Global,
-    sources: Sources<'a>,
+pub(crate) struct Operation<'a> {
+    pub(crate) alloc: Global,
+    pub(crate) sources: Sources<'a>,
     last_slot: LastSlot,
     round: u32,
 }
@@ -162,72 +165,50 @@ impl Operation<'_> {
             self.sources.second.slots(),
             arena.slots(),
         );
-        let operands = operands_of(self.alloc, operands)?;
+        if let Some(pair) = Pair::of(self.round, operands) {
+            return self.apply_from(arena, pair, 0, merge, memo);
+        }
+        let operands = SmallVec::from_slice(self.alloc, operands)?;
         let key = Key::new(self.round, operands);
         self.apply_from(arena, key, 0, merge, memo)
     }
 
-    // What is remembered of the operands with false in the slot, and with true.
-    #[inline(always)]
-    fn sides(&self, key: &Key, slot: u8) -> Result<(Key, Key), AllocError>
-        requires round { key.now.round ≡ self.now.round }
-        requires operands { All (IsFrom self.now.sources slot) key.now.operands.items }
-        ensures when_false { IfOk result (λ sides. IsSide self.now key.now.operands.items slot false sides.0) }
-        ensures when_true { IfOk result (λ sides. IsSide self.now key.now.operands.items slot true sides.1) }
-    {
-        let (when_false, when_true) = self.sources.sides(self.alloc, &key.operands, slot)?;
-        Ok((
-            Key::new(key.round, when_false),
-            Key::new(key.round, when_true),
-        ))
-    }
-
-    // The first slot that one of the operands depends on, or `slots` where none depends on one before that.
-    fn first_slot(&self, key: &Key, slots: u8) -> u8
-        requires { All (IsIn self.now.sources) key.now.operands.items }
-        ensures bound { result ≤ slots }
-        ensures from { All (IsFrom self.now.sources result) key.now.operands.items }
-        ensures last { (slot : ℕ) → slot ≤ slots → All (IsFrom self.now.sources slot) key.now.operands.items → slot ≤ result }
-    {
-        self.sources.first_slot(&key.operands, slots)
-    }
-
     // The numbers that are merged at each letter of so many slots, where the operands depend on none of them.
-    fn numbers(&self, key: &Key, slots: u8) -> Result<Numbers, AllocError>
+    pub(crate) fn numbers(&self, operands: &[Operand], slots: u8) -> Result<Numbers, AllocError>
         requires bound { slots ≤ 32 }
-        requires operands { All (IsFrom self.now.sources slots) key.now.operands.items }
+        requires operands { All (IsFrom self.now.sources slots) operands.now }
         ensures { IfOk result (λ numbers. (letter : List Bool) → length letter ≡ slots
-            → numbers.items ≡ merged_by self.now key.now.operands.items letter) }
+            → numbers.items ≡ merged_by self.now operands.now letter) }
     {
         self.sources
-            .merged(self.alloc, self.last_slot, &key.operands, slots)
+            .merged(self.alloc, self.last_slot, operands, slots)
     }
 
     // The merge of operands that depend on no slot before `from`.
-    fn apply_from<G: Merge>(
+    fn apply_from<G: Merge, V: Visit>(
         &self,
         arena: &mut Arena,
-        key: Key,
+        visit: V,
         from: u8,
         merge: &mut G,
         memo: &mut Memo,
     ) -> Result<Ref, ApplyFault>
         requires sources { HasArenas self.now.sources }
         requires from { from ≤ arena.old.slots }
-        requires round { key.round ≡ self.now.round }
-        requires operands { All (IsFrom self.now.sources from) key.operands.items }
+        requires round { V.round visit ≡ self.now.round }
+        requires operands { All (IsFrom self.now.sources from) (V.operands visit) }
         requires may { (letter : List Bool) → length letter ≡ arena.old.slots
-            → G.may merge.old (merged_by self.now key.operands.items letter) }
+            → G.may merge.old (merged_by self.now (V.operands visit) letter) }
         requires holds { HoldsRound (G.gives merge.old) (merged_by self.now) arena.old self.now.round memo.old }
         ensures is_ref { IfOk result (IsRef arena.new) }
         ensures level { IfOk result (λ root. from ≤ level_of arena.new root) }
-        ensures value { IfOk result (MeansMerged (G.gives merge.new) (merged_by self.now key.operands.items) arena.new) }
+        ensures value { IfOk result (MeansMerged (G.gives merge.new) (merged_by self.now (V.operands visit)) arena.new) }
         ensures stray { (front : List Bool) (function : List Bool → ℕ) → length front ≤ from
-            → AgreesBehind (G.gives merge.new) (merged_by self.now key.operands.items) arena.old.slots front function
+            → AgreesBehind (G.gives merge.new) (merged_by self.now (V.operands visit)) arena.old.slots front function
             → AddsOnlyNodesOfFunction arena.old arena.new function }
         ensures limit { (limit : ℕ) → result ≡ Err (Full limit) → limit ≡ arena.old.limit }
         ensures full { (limit : ℕ) (front : List Bool) (function : List Bool → ℕ) → result ≡ Err (Full limit) → length front ≤ from
-            → AgreesBehind (G.gives merge.new) (merged_by self.now key.operands.items) arena.old.slots front function
+            → AgreesBehind (G.gives merge.new) (merged_by self.now (V.operands visit)) arena.old.slots front function
             → limit < count_with arena.old function }
         ensures states { (limit : ℕ) → result ≡ Err (States limit) → G.full merge.new limit }
         ensures kept { KeepsRefs arena.old arena.new }
@@ -240,19 +221,19 @@ impl Operation<'_> {
         ensures capacity { memo.new.capacity ≡ memo.old.capacity }
     {
         let slots = arena.slots();
-        let slot = self.first_slot(&key, slots);
+        let slot = visit.first_slot(&self.sources, slots);
         if slot == slots {
-            let numbers = self.numbers(&key, slots)?;
+            let numbers = visit.numbers(self, slots)?;
             return Ok(arena.leaf(merge.leaf(&numbers)?));
         }
-        if let Some(root) = memo.get(&key) {
+        if let Some(root) = visit.remembered(memo) {
             return Ok(root);
         }
-        let (when_false, when_true) = self.sides(&key, slot)?;
+        let (when_false, when_true) = visit.sides(self, slot)?;
         let lo = self.apply_from(arena, when_false, slot + 1, merge, memo)?;
         let hi = self.apply_from(arena, when_true, slot + 1, merge, memo)?;
         let root = arena.node(slot, lo, hi)?;
-        memo.put(key, root);
+        visit.remember(memo, root);
         Ok(root)
     }
 }

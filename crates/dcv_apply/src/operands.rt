@@ -2,7 +2,9 @@
 // they depend on no slot more.
 ghost use Rattle.std.specs.Prelude.{◌≡◌, ◌≤◌, ◌<◌, ◌+◌, [], ◌∷◌, ◌++◌, List, Bool, false, true, ℕ, length, slice_set, IfOk, OnOk};
 ghost use Rattle.std.specs.List.{All};
+ghost use Rattle.dcv_arena.specs.declared.nodes.Ref.TheVariants.{Place as AnyPlace};
 ghost use Rattle.dcv_apply.specs.Operands.{arena_at, merged_at};
+ghost use Rattle.dcv_apply.specs.Pairs.{operand_at, plain, code_of};
 ghost use Rattle.dcv_apply.specs.Sources.{IsIn, IsFrom, HaveSideOf, number_in, numbers_in};
 
 use dcv_arena::{Arena, Ref};
@@ -13,7 +15,7 @@ use std::alloc::{AllocError, Global};
 // A place, 0 for the first arena and else the second, and a ref there.
 pub(crate) type Operand = (u32, Ref);
 
-// The operands of one visit, and the numbers that are merged in one. Most have few, which take no memory of their own.
+// The operands of one visit that has not two, and the numbers that are merged in one. Few take no memory of their own.
 pub(crate) type Operands = SmallVec<Operand, 2>;
 
 pub(crate) type Numbers = SmallVec<u32, FEW>;
@@ -21,14 +23,62 @@ pub(crate) type Numbers = SmallVec<u32, FEW>;
 // So many numbers lie in place.
 const FEW: usize = 4;
 
-// The operands of a first visit. Two are put in place at once, as at each visit after it.
+// What an operand's number says: a leaf's own number, which is the same in both arenas, or a node of the first or of the second.
+#[derive(Clone, Copy, Debug, PartialEq, Eq)]
+pub(crate) enum Kind {
+    Leaf,
+    First,
+    Second,
+}
+
+impl Kind {
+    // The operand of this kind that has this number.
+    #[inline(always)]
+    pub(crate) fn operand(self, number: u32) -> Operand
+        ensures { result ≡ operand_at self number }
+    {
+        match self {
+            Kind::Leaf => (0, Ref::Leaf(number)),
+            Kind::First => (0, Ref::Place(number)),
+            Kind::Second => (1, Ref::Place(number)),
+        }
+    }
+
+    // As a number, for a hash.
+    #[inline(always)]
+    pub(crate) fn code(self) -> u64
+        ensures value { result ≡ code_of self }
+        ensures bound { result < 4 }
+    {
+        match self {
+            Kind::Leaf => 0,
+            Kind::First => 1,
+            Kind::Second => 2,
+        }
+    }
+}
+
+// The kind of an operand, and its number.
 #[inline(always)]
-pub(crate) fn operands_of(alloc: Global, operands: &[Operand]) -> Result<Operands, AllocError>
-    ensures { IfOk result (λ own. own.items ≡ operands.now) }
+pub(crate) fn told(operand: Operand) -> (Kind, u32)
+    ensures { operand_at result.0 result.1 ≡ plain operand }
 {
-    match operands {
-        [one, other] => Ok(SmallVec::from_buf(alloc, [*one, *other])),
-        _ => SmallVec::from_slice(alloc, operands),
+    let (place, root) = operand;
+    match root {
+        Ref::Leaf(number) => (Kind::Leaf, number),
+        Ref::Place(number) => (kind_at(place), number),
+    }
+}
+
+// The kind of a node of the arena at this place.
+#[inline(always)]
+fn kind_at(place: u32) -> Kind
+    ensures { (number : ℕ) → operand_at result number ≡ plain (place, AnyPlace number) }
+{
+    if place == 0 {
+        Kind::First
+    } else {
+        Kind::Second
     }
 }
 
@@ -56,7 +106,7 @@ impl Sources<'_> {
     }
 
     // The first slot that an operand depends on, or `slots` where it depends on none before that.
-    fn first_slot_of(&self, operand: Operand, slots: u8) -> u8
+    pub(crate) fn first_slot_of(&self, operand: Operand, slots: u8) -> u8
         requires { IsIn self.now operand }
         ensures bound { result ≤ slots }
         ensures from { IsFrom self.now result operand }
@@ -85,7 +135,7 @@ impl Sources<'_> {
 
     // The operand with false in the slot, and with true.
     #[inline(always)]
-    fn parts(&self, operand: Operand, slot: u8) -> (Operand, Operand)
+    pub(crate) fn parts(&self, operand: Operand, slot: u8) -> (Operand, Operand)
         requires { IsFrom self.now slot operand }
         ensures lo_from { IsFrom self.now (slot + 1) result.0 }
         ensures hi_from { IsFrom self.now (slot + 1) result.1 }
@@ -105,51 +155,7 @@ impl Sources<'_> {
     }
 
     // The operands with false in the slot, and with true.
-    #[inline(always)]
     pub(crate) fn sides(
-        &self,
-        alloc: Global,
-        operands: &[Operand],
-        slot: u8,
-    ) -> Result<(Operands, Operands), AllocError>
-        requires { All (IsFrom self.now slot) operands.now }
-        ensures lo_from { IfOk result (λ sides. All (IsFrom self.now (slot + 1)) sides.0.items) }
-        ensures hi_from { IfOk result (λ sides. All (IsFrom self.now (slot + 1)) sides.1.items) }
-        ensures lo_numbers { IfOk result (λ sides. HaveSideOf self.now operands.now slot false sides.0.items) }
-        ensures hi_numbers { IfOk result (λ sides. HaveSideOf self.now operands.now slot true sides.1.items) }
-    {
-        match operands {
-            [one, other] => Ok(self.sides_of_two(alloc, *one, *other, slot)),
-            _ => self.sides_of_all(alloc, operands, slot),
-        }
-    }
-
-    // The same of two operands, which most merges have. They are put in place at once.
-    #[inline(always)]
-    fn sides_of_two(
-        &self,
-        alloc: Global,
-        one: Operand,
-        other: Operand,
-        slot: u8,
-    ) -> (Operands, Operands)
-        requires one { IsFrom self.now slot one }
-        requires other { IsFrom self.now slot other }
-        ensures lo_from { All (IsFrom self.now (slot + 1)) result.0.items }
-        ensures hi_from { All (IsFrom self.now (slot + 1)) result.1.items }
-        ensures lo_numbers { HaveSideOf self.now (one ∷ other ∷ []) slot false result.0.items }
-        ensures hi_numbers { HaveSideOf self.now (one ∷ other ∷ []) slot true result.1.items }
-    {
-        let (one_lo, one_hi) = self.parts(one, slot);
-        let (other_lo, other_hi) = self.parts(other, slot);
-        (
-            SmallVec::from_buf(alloc, [one_lo, other_lo]),
-            SmallVec::from_buf(alloc, [one_hi, other_hi]),
-        )
-    }
-
-    // The same of any number of operands.
-    fn sides_of_all(
         &self,
         alloc: Global,
         operands: &[Operand],

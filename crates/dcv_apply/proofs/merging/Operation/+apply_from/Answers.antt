@@ -27,16 +27,19 @@ apply_from-requires g t c κs within =
       (
         search rules,
         (
-          c.requires.sources,
+          search rules,
           (
-            omega arith,
+            c.requires.sources,
             (
-              c.in_ok-when_false.ensures.when_false.round,
+              omega arith,
               (
-                c.in_ok-when_false.ensures.when_false.from,
+                c.in_ok-when_false.ensures.when_false.round,
                 (
-                  λ letter size. subst (g.G.Merge.may c.args.merge.now) (sym (side.at letter (omega arith))) (c.requires.may (set letter slot false) (length-set letter slot false ∙ size)),
-                  holds_less (merged_by c.args.self.now) c.args.self.now.round (g.G.Merge.gives c.args.merge.now) c.args.arena.now c.args.memo.now c.get.new.self c.get.ensures.kept c.requires.holds,
+                  c.in_ok-when_false.ensures.when_false.from,
+                  (
+                    λ letter size. subst (g.G.Merge.may c.args.merge.now) (sym (side.at letter (omega arith))) (c.requires.may (set letter slot false) (length-set letter slot false ∙ size)),
+                    holds_less (merged_by c.args.self.now) c.args.self.now.round (g.G.Merge.gives c.args.merge.now) c.args.arena.now c.args.memo.now c.remembered.new.memo c.remembered.ensures.kept c.requires.holds,
+                  ),
                 ),
               ),
             ),
@@ -80,17 +83,20 @@ apply_from-requires-2 g t c κs within =
       (
         search rules,
         (
-          c.requires.sources,
+          search rules,
           (
-            omega (arith, same),
+            c.requires.sources,
             (
-              c.in_ok-when_false.ensures.when_true.round,
+              omega (arith, same),
               (
-                c.in_ok-when_false.ensures.when_true.from,
+                c.in_ok-when_false.ensures.when_true.round,
                 (
-                  λ letter size. subst (g.G.Merge.may c.apply_from.new.merge) (sym (side.at letter (omega (arith, same))))
-                      (c.apply_from.ensures.may_kept _ (c.requires.may (set letter slot true) (length-set letter slot true ∙ size ∙ same))),
-                  c.apply_from.ensures.holds,
+                  c.in_ok-when_false.ensures.when_true.from,
+                  (
+                    λ letter size. subst (g.G.Merge.may c.apply_from.new.merge) (sym (side.at letter (omega (arith, same))))
+                        (c.apply_from.ensures.may_kept _ (c.requires.may (set letter slot true) (length-set letter slot true ∙ size ∙ same))),
+                    c.apply_from.ensures.holds,
+                  ),
                 ),
               ),
             ),
@@ -164,7 +170,7 @@ returns-in_err-root-clause-full g t c limit front function e below agrees =
     let one = c.apply_from.new.arena in
     let two = c.apply_from-2.new.arena in
     let gives = g.G.Merge.gives c.apply_from-2.new.merge in
-    let whole = merged_by c.args.self.now c.args.key.operands.items in
+    let whole = merged_by c.args.self.now (g.V.Visit.operands c.args.visit) in
     let inner : slot < old.slots = omega (arith, c.slots-slots.ensures.slots) in
     let from : c.args.from ≤ slot = c.first_slot-slot.ensures.last c.args.from (omega (arith, c.slots-slots.ensures.slots)) c.requires.operands in
     let kept = kept_in_turn old one two c.apply_from.ensures.kept c.apply_from-2.ensures.kept in
@@ -194,7 +200,7 @@ returns-clause-stray g t c front function below agrees =
     let two = c.apply_from-2.new.arena in
     let new = c.node.new.self in
     let gives = g.G.Merge.gives c.apply_from-2.new.merge in
-    let whole = merged_by c.args.self.now c.args.key.operands.items in
+    let whole = merged_by c.args.self.now (g.V.Visit.operands c.args.visit) in
     let inner : slot < old.slots = omega (arith, c.slots-slots.ensures.slots) in
     let from : c.args.from ≤ slot = c.first_slot-slot.ensures.last c.args.from (omega (arith, c.slots-slots.ensures.slots)) c.requires.operands in
     let low = c.in_ok-when_false.ensures.when_false.fixed in
@@ -223,35 +229,35 @@ returns-then-slot-slots-clause-holds g t c =
 
 pub returns-in-Some-clause-is_ref : goal.returns-in-Some-clause-is_ref
 returns-in-Some-clause-is_ref g t c =
-    (c.requires.holds (entry c.args.key.round c.args.key.operands.items c.in-Some.root) c.in-Some.ensures.found c.requires.round).0
+    (c.requires.holds (entry (g.V.Visit.round c.args.visit) (g.V.Visit.operands c.args.visit) c.in-Some.root) c.in-Some.ensures.found c.requires.round).0
 
 pub returns-in-Some-clause-level : goal.returns-in-Some-clause-level
 returns-in-Some-clause-level g t c =
-    let held = c.requires.holds (entry c.args.key.round c.args.key.operands.items c.in-Some.root) c.in-Some.ensures.found c.requires.round in
+    let held = c.requires.holds (entry (g.V.Visit.round c.args.visit) (g.V.Visit.operands c.args.visit) c.in-Some.root) c.in-Some.ensures.found c.requires.round in
     let slot = c.first_slot-slot.result in
     let from : c.args.from ≤ slot = c.first_slot-slot.ensures.last c.args.from (omega (arith, c.slots-slots.ensures.slots)) c.requires.operands in
-    let level = level_at_hit c.args.self.now c.args.key.operands.items (g.G.Merge.gives c.args.merge.now) c.args.arena.now c.in-Some.root slot
+    let level = level_at_hit c.args.self.now (g.V.Visit.operands c.args.visit) (g.G.Merge.gives c.args.merge.now) c.args.arena.now c.in-Some.root slot
     c.requires.sources c.first_slot-slot.ensures.from (omega (arith, c.slots-slots.ensures.slots)) (g.met.G.Merge.one_number c.args.merge.now) c.slots-slots.ensures.arena held.0 held.1 in
     omega (arith, level)
 
 pub returns-in-Some-clause-value : goal.returns-in-Some-clause-value
 returns-in-Some-clause-value g t c =
-    (c.requires.holds (entry c.args.key.round c.args.key.operands.items c.in-Some.root) c.in-Some.ensures.found c.requires.round).1
+    (c.requires.holds (entry (g.V.Visit.round c.args.visit) (g.V.Visit.operands c.args.visit) c.in-Some.root) c.in-Some.ensures.found c.requires.round).1
 
 pub returns-in-Some-clause-holds : goal.returns-in-Some-clause-holds
 returns-in-Some-clause-holds g t c =
-    holds_less (merged_by c.args.self.now) c.args.self.now.round (g.G.Merge.gives c.args.merge.now) c.args.arena.now c.args.memo.now c.get.new.self c.get.ensures.kept c.requires.holds
+    holds_less (merged_by c.args.self.now) c.args.self.now.round (g.G.Merge.gives c.args.merge.now) c.args.arena.now c.args.memo.now c.remembered.new.memo c.remembered.ensures.kept c.requires.holds
 
 pub returns-in_err-when_false-clause-holds : goal.returns-in_err-when_false-clause-holds
 returns-in_err-when_false-clause-holds g t c =
-    holds_less (merged_by c.args.self.now) c.args.self.now.round (g.G.Merge.gives c.args.merge.now) c.args.arena.now c.args.memo.now c.get.new.self c.get.ensures.kept c.requires.holds
+    holds_less (merged_by c.args.self.now) c.args.self.now.round (g.G.Merge.gives c.args.merge.now) c.args.arena.now c.args.memo.now c.remembered.new.memo c.remembered.ensures.kept c.requires.holds
 
 pub returns-in_err-hi-clause-others : goal.returns-in_err-hi-clause-others
 returns-in_err-hi-clause-others g t c =
     let round = c.args.self.now.round in
-    let asked = others_less round c.args.memo.now c.get.new.self c.get.ensures.kept in
+    let asked = others_less round c.args.memo.now c.remembered.new.memo c.remembered.ensures.kept in
     others_in_turn round c.args.memo.now c.apply_from.new.memo c.apply_from-2.new.memo
-    (others_in_turn round c.args.memo.now c.get.new.self c.apply_from.new.memo asked c.apply_from.ensures.others) c.apply_from-2.ensures.others
+    (others_in_turn round c.args.memo.now c.remembered.new.memo c.apply_from.new.memo asked c.apply_from.ensures.others) c.apply_from-2.ensures.others
 
 pub returns-in_err-root-clause-holds : goal.returns-in_err-root-clause-holds
 returns-in_err-root-clause-holds g t c =
@@ -262,9 +268,9 @@ returns-in_err-root-clause-holds g t c =
 pub returns-in_err-root-clause-others : goal.returns-in_err-root-clause-others
 returns-in_err-root-clause-others g t c =
     let round = c.args.self.now.round in
-    let asked = others_less round c.args.memo.now c.get.new.self c.get.ensures.kept in
+    let asked = others_less round c.args.memo.now c.remembered.new.memo c.remembered.ensures.kept in
     others_in_turn round c.args.memo.now c.apply_from.new.memo c.apply_from-2.new.memo
-    (others_in_turn round c.args.memo.now c.get.new.self c.apply_from.new.memo asked c.apply_from.ensures.others) c.apply_from-2.ensures.others
+    (others_in_turn round c.args.memo.now c.remembered.new.memo c.apply_from.new.memo asked c.apply_from.ensures.others) c.apply_from-2.ensures.others
 
 pub returns-clause-holds : goal.returns-clause-holds
 returns-clause-holds g t c =
@@ -272,7 +278,7 @@ returns-clause-holds g t c =
     let two = c.apply_from-2.new.arena in
     let new = c.node.new.self in
     let gives = g.G.Merge.gives c.apply_from-2.new.merge in
-    let whole = merged_by c.args.self.now c.args.key.operands.items in
+    let whole = merged_by c.args.self.now (g.V.Visit.operands c.args.visit) in
     let inner : slot < c.args.arena.now.slots = omega (arith, c.slots-slots.ensures.slots) in
     let low = c.in_ok-when_false.ensures.when_false.fixed in
     let high = c.in_ok-when_false.ensures.when_true.fixed in
@@ -281,15 +287,15 @@ returns-clause-holds g t c =
     c.in_ok-lo.lo c.in_ok-hi.hi c.in_ok-lo.ensures.is_ref c.in_ok-lo.ensures.value c.in_ok-hi.ensures.value in
     let means : MeansMerged gives whole new c.in_ok-root.root = λ letter size.
     subst (gives (whole letter)) (sym (c.in_ok-root.ensures.value letter)) (merged letter (size ∙ c.node.ensures.kept.slots)) in
-    holds_more (merged_by c.args.self.now) c.args.self.now.round gives new c.apply_from-2.new.memo c.put.new.self
-    (entry c.args.key.round c.args.key.operands.items c.in_ok-root.root) c.put.ensures.adds c.in_ok-root.ensures.is_ref means
+    holds_more (merged_by c.args.self.now) c.args.self.now.round gives new c.apply_from-2.new.memo c.remember.new.memo
+    (entry (g.V.Visit.round c.args.visit) (g.V.Visit.operands c.args.visit) c.in_ok-root.root) c.remember.ensures.adds c.in_ok-root.ensures.is_ref means
     (holds_grown (merged_by c.args.self.now) c.args.self.now.round gives gives two new c.apply_from-2.new.memo (λ _ _ given. given) c.node.ensures.kept c.apply_from-2.ensures.holds)
 
 pub returns-clause-others : goal.returns-clause-others
 returns-clause-others g t c =
     let round = c.args.self.now.round in
-    let asked = others_less round c.args.memo.now c.get.new.self c.get.ensures.kept in
-    let added = others_more round c.apply_from-2.new.memo c.put.new.self (entry c.args.key.round c.args.key.operands.items c.in_ok-root.root) c.put.ensures.adds c.requires.round in
-    others_in_turn round c.args.memo.now c.apply_from-2.new.memo c.put.new.self
+    let asked = others_less round c.args.memo.now c.remembered.new.memo c.remembered.ensures.kept in
+    let added = others_more round c.apply_from-2.new.memo c.remember.new.memo (entry (g.V.Visit.round c.args.visit) (g.V.Visit.operands c.args.visit) c.in_ok-root.root) c.remember.ensures.adds c.requires.round in
+    others_in_turn round c.args.memo.now c.apply_from-2.new.memo c.remember.new.memo
     (others_in_turn round c.args.memo.now c.apply_from.new.memo c.apply_from-2.new.memo
-    (others_in_turn round c.args.memo.now c.get.new.self c.apply_from.new.memo asked c.apply_from.ensures.others) c.apply_from-2.ensures.others) added
+    (others_in_turn round c.args.memo.now c.remembered.new.memo c.apply_from.new.memo asked c.apply_from.ensures.others) c.apply_from-2.ensures.others) added

@@ -2,13 +2,13 @@ use Rattle.std.proofs.Common.{false, true, ◌+◌, sym, subst, ◌∙◌}
 use Rattle.std.specs.List.{All}
 use Rattle.dcv_apply.specs.Sources.{IsFrom, FixesSlot, merged_by}
 use Rattle.dcv_apply.proofs.Sides.{merged_side}
-use Rattle.dcv_apply.proofs.merging.Operation.sides.Goals as goal
+use Rattle.dcv_apply.proofs.visits.KeyVisit.sides.Goals as goal
 
 pub returns-clause-when_false : goal.returns-clause-when_false
 returns-clause-when_false c =
     let made = c.new.ensures in
-    let operation = c.args.self.now in
-    let operands = c.args.key.now.operands.items in
+    let operation = c.args.operation.now in
+    let operands = c.args.self.now.operands.items in
     let slot = c.args.slot in
     let side = c.in_ok-when_false.when_false.items in
     record {
@@ -21,8 +21,8 @@ returns-clause-when_false c =
 pub returns-clause-when_true : goal.returns-clause-when_true
 returns-clause-when_true c =
     let made = c.new-2.ensures in
-    let operation = c.args.self.now in
-    let operands = c.args.key.now.operands.items in
+    let operation = c.args.operation.now in
+    let operands = c.args.self.now.operands.items in
     let slot = c.args.slot in
     let side = c.in_ok-when_false.when_true.items in
     record {

@@ -1,7 +1,7 @@
 use Rattle.std.proofs.Common.{◌≡◌, ◌<◌, ◌+◌, List, Bool, false, true, length, slice_set, take}
 use Rattle.std.specs.List.{All}
 use Rattle.dcv_apply.specs.Operands.{IsOperandFrom, numbers_at}
-use Rattle.dcv_apply.proofs.operands.Sources.sides_of_all.Given as goal
+use Rattle.dcv_apply.proofs.operands.Sources.sides.Given as goal
 
 -- the sides are those of the operands so far
 abbrev pub invariant-loop-operand : goal.invariant-loop-operand

@@ -1,0 +1,121 @@
+// What is visited while functions are merged: operands that are followed together, in the form in which a memo has them. Two, as most
+// visits have, are copied from visit to visit and take no memory of their own; any other number of them stand in a list.
+ghost use Rattle.std.specs.Prelude.{◌≡◌, ◌≤◌, ℕ, List, Bool, length, false, true, IfOk, IfSome, Contains};
+ghost use Rattle.std.specs.List.{All};
+ghost use Rattle.dcv_arena.specs.declared.nodes.Ref.{Ref as AnyRef};
+ghost use Rattle.dcv_apply.specs.Sources.{IsIn, IsFrom, IsSide, merged_by};
+ghost use Rattle.dcv_apply.specs.Remembered.{entry, KeepsEntries, Adds};
+
+use crate::memo::{Key, Memo, Pair};
+use crate::merging::Operation;
+use crate::operands::{Numbers, Sources};
+use dcv_arena::Ref;
+use std::alloc::AllocError;
+
+// Operands in a round.
+pub(crate) trait Visit: Drop {
+    ghost round: { Self → ℕ };
+
+    ghost operands: { Self → List (ℕ × AnyRef) };
+
+    // The first slot that one of the operands depends on, or `slots` where none depends on one before that.
+    fn first_slot(&self, sources: &Sources<'_>, slots: u8) -> u8
+        requires { All (IsIn sources.now) (operands self.now) }
+        ensures bound { result ≤ slots }
+        ensures from { All (IsFrom sources.now result) (operands self.now) }
+        ensures last { (slot : ℕ) → slot ≤ slots → All (IsFrom sources.now slot) (operands self.now) → slot ≤ result };
+
+    // The operands with false in the slot, and with true.
+    fn sides(&self, operation: &Operation<'_>, slot: u8) -> Result<(Self, Self), AllocError>
+        requires round { round self.now ≡ operation.now.round }
+        requires operands { All (IsFrom operation.now.sources slot) (operands self.now) }
+        ensures when_false { IfOk result (λ sides. IsSide operation.now (operands self.now) slot false (round sides.0) (operands sides.0)) }
+        ensures when_true { IfOk result (λ sides. IsSide operation.now (operands self.now) slot true (round sides.1) (operands sides.1)) };
+
+    // The numbers that are merged at each letter of so many slots, where the operands depend on none of them.
+    fn numbers(&self, operation: &Operation<'_>, slots: u8) -> Result<Numbers, AllocError>
+        requires bound { slots ≤ 32 }
+        requires operands { All (IsFrom operation.now.sources slots) (operands self.now) }
+        ensures { IfOk result (λ numbers. (letter : List Bool) → length letter ≡ slots
+            → numbers.items ≡ merged_by operation.now (operands self.now) letter) };
+
+    // The ref that is remembered.
+    fn remembered(&self, memo: &mut Memo) -> Option<Ref>
+        ensures found { IfSome result (λ root. Contains memo.old.entries (entry (round self.now) (operands self.now) root)) }
+        ensures kept { KeepsEntries memo.old memo.new }
+        ensures capacity { memo.new.capacity ≡ memo.old.capacity };
+
+    // Remembers the ref, unless memory runs out, which changes nothing.
+    fn remember(self, memo: &mut Memo, root: Ref)
+        ensures adds { Adds (entry (round self) (operands self) root) memo.old memo.new }
+        ensures capacity { memo.new.capacity ≡ memo.old.capacity };
+}
+
+impl Visit for Pair {
+    ghost use Rattle.dcv_apply.specs.Pairs.{pair_operands};
+
+    ghost round = { λ pair. pair.round };
+
+    ghost operands = { pair_operands };
+
+    #[inline(always)]
+    fn first_slot(&self, sources: &Sources<'_>, slots: u8) -> u8 {
+        let first = sources.first_slot_of(self.one(), slots);
+        sources.first_slot_of(self.other(), first)
+    }
+
+    #[inline(always)]
+    fn sides(&self, operation: &Operation<'_>, slot: u8) -> Result<(Pair, Pair), AllocError> {
+        let (one_lo, one_hi) = operation.sources.parts(self.one(), slot);
+        let (other_lo, other_hi) = operation.sources.parts(self.other(), slot);
+        let when_false = Pair::new(self.round(), one_lo, other_lo);
+        let when_true = Pair::new(self.round(), one_hi, other_hi);
+        Ok((when_false, when_true))
+    }
+
+    fn numbers(&self, operation: &Operation<'_>, slots: u8) -> Result<Numbers, AllocError> {
+        operation.numbers(&[self.one(), self.other()], slots)
+    }
+
+    #[inline(always)]
+    fn remembered(&self, memo: &mut Memo) -> Option<Ref> {
+        memo.get_pair(self)
+    }
+
+    #[inline(always)]
+    fn remember(self, memo: &mut Memo, root: Ref) {
+        memo.put_pair(self, root);
+    }
+}
+
+impl Visit for Key {
+    ghost round = { λ key. key.round };
+
+    ghost operands = { λ key. key.operands.items };
+
+    fn first_slot(&self, sources: &Sources<'_>, slots: u8) -> u8 {
+        sources.first_slot(&self.operands, slots)
+    }
+
+    fn sides(&self, operation: &Operation<'_>, slot: u8) -> Result<(Key, Key), AllocError> {
+        let (when_false, when_true) = operation
+            .sources
+            .sides(operation.alloc, &self.operands, slot)?;
+        Ok((
+            Key::new(self.round, when_false),
+            Key::new(self.round, when_true),
+        ))
+    }
+
+    fn numbers(&self, operation: &Operation<'_>, slots: u8) -> Result<Numbers, AllocError> {
+        operation.numbers(&self.operands, slots)
+    }
+
+    fn remembered(&self, memo: &mut Memo) -> Option<Ref> {
+        memo.get(self)
+    }
+
+    fn remember(self, memo: &mut Memo, root: Ref) {
+        memo.put(self, root);
+    }
+}
