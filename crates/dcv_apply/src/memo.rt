@@ -308,7 +308,7 @@ impl Memo {
         ensures adds { Adds (entry key.round key.operands.items root) self.old self.new }
         ensures capacity { self.new.capacity ≡ self.old.capacity }
     {
-        if self.younger.len() + self.older.len() + self.first.len() < self.room {
+        if self.first.len() + self.younger.len() + self.older.len() < self.room {
             drop(self.first.insert(key, root));
         } else {
             drop(self.later.put(key, root));
