@@ -17,13 +17,13 @@ use Rattle.dcv_arena.proofs.Same.{same_refs}
 use Rattle.dcv_apply.specs.Memo.{EntryValue, MemoValue}
 use Rattle.dcv_apply.proofs.Insertions.{insert_cases}
 use Rattle.dcv_apply.specs.Remembered.{entry, entry_of, entry_of_pair, Adds, KeepsEntries}
-use Rattle.dcv_apply.specs.declared.memo.Key.{Key}
-use Rattle.dcv_apply.specs.declared.memo.Pair.{Pair}
+use Rattle.dcv_apply.specs.declared.keys.Key.{Key}
+use Rattle.dcv_apply.specs.declared.keys.Pair.{Pair}
 use Rattle.dcv_apply.specs.declared.operands.Kind.{Kind}
 use Rattle.dcv_apply.specs.declared.operands.Kind.TheVariants as kind
 use Rattle.dcv_apply.specs.contracts.operands.KindPartialEq.TheImpl.{eq-value as kind_eq}
-use Rattle.dcv_apply.specs.contracts.memo.KeyPartialEq.TheImpl.{eq-value as key_eq}
-use Rattle.dcv_apply.specs.contracts.memo.PairPartialEq.TheImpl.{eq-value as pair_eq}
+use Rattle.dcv_apply.specs.contracts.keys.KeyPartialEq.TheImpl.{eq-value as key_eq}
+use Rattle.dcv_apply.specs.contracts.keys.PairPartialEq.TheImpl.{eq-value as pair_eq}
 
 -- ---- equal keys make the same entry with a ref
 

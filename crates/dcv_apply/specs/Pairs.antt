@@ -6,7 +6,7 @@
 use Rattle.std.specs.Prelude.{ℕ, ◌+◌, ◌*◌, ◌^◌, ◌==◌, if◌then◌else◌, List, [], ◌∷◌}
 use Rattle.dcv_arena.specs.declared.nodes.Ref.{Ref}
 use Rattle.dcv_arena.specs.declared.nodes.Ref.TheVariants.{Leaf, Place}
-use Rattle.dcv_apply.specs.declared.memo.Pair.{Pair}
+use Rattle.dcv_apply.specs.declared.keys.Pair.{Pair}
 use Rattle.dcv_apply.specs.declared.operands.Kind.{Kind}
 use Rattle.dcv_apply.specs.declared.operands.Kind.TheVariants as kind
 

@@ -7,8 +7,8 @@ use Rattle.std.specs.Prelude.{◌≡◌, ℕ, List, Contains, ◌⊎◌}
 use Rattle.dcv_arena.specs.declared.nodes.Ref.{Ref}
 use Rattle.dcv_apply.specs.Memo.{EntryValue, MemoValue}
 use Rattle.dcv_apply.specs.Pairs.{pair_operands}
-use Rattle.dcv_apply.specs.declared.memo.Key.{Key}
-use Rattle.dcv_apply.specs.declared.memo.Pair.{Pair}
+use Rattle.dcv_apply.specs.declared.keys.Key.{Key}
+use Rattle.dcv_apply.specs.declared.keys.Pair.{Pair}
 
 abbrev pub entry : ℕ → List (ℕ × Ref) → Ref → EntryValue
 entry round operands root = record { round = round; operands = operands; root = root }

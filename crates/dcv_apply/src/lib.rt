@@ -12,6 +12,7 @@
 
 mod faults;
 mod first_letters;
+mod keys;
 mod memo;
 mod merging;
 mod operands;

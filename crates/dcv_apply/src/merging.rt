@@ -13,7 +13,8 @@ ghost use Rattle.dcv_apply.specs.declared.faults.MergeFault.TheVariants.{States 
 ghost use Rattle.dcv_apply.specs.declared.faults.ApplyFault.TheVariants.{Full, States};
 
 use crate::faults::{ApplyFault, MergeFault};
-use crate::memo::{Key, Memo, Pair};
+use crate::keys::{Key, Pair};
+use crate::memo::Memo;
 use crate::operands::{LastSlot, Numbers, Operand, Sources};
 use crate::visits::Visit;
 use dcv_arena::{Arena, Ref};

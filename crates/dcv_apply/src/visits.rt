@@ -6,7 +6,8 @@ ghost use Rattle.dcv_arena.specs.declared.nodes.Ref.{Ref as AnyRef};
 ghost use Rattle.dcv_apply.specs.Sources.{IsIn, IsFrom, IsSide, merged_by};
 ghost use Rattle.dcv_apply.specs.Remembered.{entry, KeepsEntries, Adds};
 
-use crate::memo::{Key, Memo, Pair};
+use crate::keys::{Key, Pair};
+use crate::memo::Memo;
 use crate::merging::Operation;
 use crate::operands::{Numbers, Sources};
 use dcv_arena::Ref;

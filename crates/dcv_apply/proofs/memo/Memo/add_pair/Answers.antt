@@ -1,8 +1,8 @@
 use Rattle.std.proofs.Common.{map, ◌++◌, Contains, ◌⊎◌, ◌≡◌, inl, subst}
 use Rattle.dcv_apply.specs.Memo.{EntryValue, MemoValue}
 use Rattle.dcv_apply.specs.Remembered.{entry_of, entry_of_pair}
-use Rattle.dcv_apply.specs.contracts.memo.KeyPartialEq.TheImpl.{eq-value as key_eq}
-use Rattle.dcv_apply.specs.contracts.memo.PairPartialEq.TheImpl.{eq-value as pair_eq}
+use Rattle.dcv_apply.specs.contracts.keys.KeyPartialEq.TheImpl.{eq-value as key_eq}
+use Rattle.dcv_apply.specs.contracts.keys.PairPartialEq.TheImpl.{eq-value as pair_eq}
 use Rattle.dcv_apply.proofs.MemoFacts.{same_entry, same_pair, put_result, insert_result, parts_add}
 use Rattle.dcv_apply.proofs.memo.Memo.add_pair.Goals as goal
 

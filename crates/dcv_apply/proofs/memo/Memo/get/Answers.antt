@@ -1,7 +1,7 @@
 use Rattle.std.proofs.Common.{map, ◌++◌, Contains, IfSome, inl, inr, subst, ◌∙◌}
 use Rattle.dcv_apply.specs.Memo.{MemoValue}
 use Rattle.dcv_apply.specs.Remembered.{entry, entry_of, entry_of_pair}
-use Rattle.dcv_apply.specs.contracts.memo.KeyPartialEq.TheImpl.{eq-value as key_eq}
+use Rattle.dcv_apply.specs.contracts.keys.KeyPartialEq.TheImpl.{eq-value as key_eq}
 use Rattle.dcv_apply.proofs.MemoFacts.{same_entry, found_if, found_in, promoted_were, parts_keep}
 use Rattle.dcv_apply.proofs.memo.Memo.get.Goals as goal
 

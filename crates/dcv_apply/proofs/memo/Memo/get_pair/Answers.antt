@@ -2,8 +2,8 @@ use Rattle.std.proofs.Common.{map, ◌++◌, Contains, IfSome, inl, inr, subst, 
 use Rattle.dcv_arena.specs.declared.nodes.Ref.{Ref}
 use Rattle.dcv_apply.specs.Memo.{EntryValue, MemoValue}
 use Rattle.dcv_apply.specs.Remembered.{entry_of, entry_of_pair}
-use Rattle.dcv_apply.specs.contracts.memo.KeyPartialEq.TheImpl.{eq-value as key_eq}
-use Rattle.dcv_apply.specs.contracts.memo.PairPartialEq.TheImpl.{eq-value as pair_eq}
+use Rattle.dcv_apply.specs.contracts.keys.KeyPartialEq.TheImpl.{eq-value as key_eq}
+use Rattle.dcv_apply.specs.contracts.keys.PairPartialEq.TheImpl.{eq-value as pair_eq}
 use Rattle.dcv_apply.proofs.MemoFacts.{same_entry, same_pair, found_if, found_in, promoted_were, parts_keep}
 use Rattle.dcv_apply.proofs.memo.Memo.get_pair.Goals as goal
 

@@ -1,7 +1,7 @@
 use Rattle.std.proofs.Common.{map, ◌++◌, Contains, ◌⊎◌, ◌≡◌, inl, subst}
 use Rattle.dcv_apply.specs.Memo.{EntryValue, MemoValue}
 use Rattle.dcv_apply.specs.Remembered.{entry, entry_of, entry_of_pair}
-use Rattle.dcv_apply.specs.contracts.memo.KeyPartialEq.TheImpl.{eq-value as key_eq}
+use Rattle.dcv_apply.specs.contracts.keys.KeyPartialEq.TheImpl.{eq-value as key_eq}
 use Rattle.dcv_apply.proofs.MemoFacts.{same_entry, put_result, insert_result, parts_add}
 use Rattle.dcv_apply.proofs.memo.Memo.put.Goals as goal
 

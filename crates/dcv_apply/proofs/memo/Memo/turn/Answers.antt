@@ -2,7 +2,7 @@ use Rattle.std.proofs.Common.{List, map, ◌++◌, Contains, subst}
 use Rattle.dcv_arena.specs.declared.nodes.Ref.{Ref}
 use Rattle.dcv_apply.specs.Memo.{MemoValue}
 use Rattle.dcv_apply.specs.Remembered.{entry_of, entry_of_pair}
-use Rattle.dcv_apply.specs.declared.memo.Pair.{Pair}
+use Rattle.dcv_apply.specs.declared.keys.Pair.{Pair}
 use Rattle.dcv_apply.proofs.MemoFacts.{parts_turn}
 use Rattle.dcv_apply.proofs.memo.Memo.turn.Goals as goal
 

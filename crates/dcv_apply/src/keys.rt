@@ -1,0 +1,155 @@
+// What is remembered of: operands in a round. Two have a form of their own, for speed: it lies in 16 bytes, and is copied from visit to
+// visit and hashed as one number. Any other number of them stand in a list.
+ghost use Rattle.std.specs.Prelude.{◌≡◌, [], ◌∷◌, map, IfSome};
+ghost use Rattle.dcv_apply.specs.Remembered.{entry_of, entry_of_pair};
+ghost use Rattle.dcv_arena.specs.declared.nodes.Ref.{Ref as AnyRef};
+ghost use Rattle.dcv_apply.specs.Pairs.{operand_at, pair_operands, plain, word_of_pair};
+
+use crate::operands::{Kind, Operand, Operands, told};
+use dcv_arena::Ref;
+use smallvec::SmallVec;
+use std::alloc::Global;
+use std::hash::{Hash, Hasher};
+
+// Two operands, which most visits have. Which place above 0 the second arena had, and the place of a leaf, are left out.
+#[derive(Clone, Copy, Debug, PartialEq, Eq)]
+pub(crate) struct Pair {
+    round: u32,
+    one: u32,
+    other: u32,
+    one_kind: Kind,
+    other_kind: Kind,
+}
+
+impl Hash for Pair {
+    ghost use Rattle.std.proofs.Common.{rules};
+    ghost use Rattle.std.specs.Hash as fed;
+    ghost use Rattle.std.specs.Cmp.Rules.{hashing};
+
+    ghost hash_input = { λ pair. fed.u128 (word_of_pair pair) };
+
+    ghost respects_eq = { Prim.search (hashing, rules) };
+
+    fn hash<H: Hasher>(&self, state: &mut H) {
+        state.write_u128(self.word());
+    }
+}
+
+impl Pair {
+    #[inline(always)]
+    pub(crate) fn new(round: u32, one: Operand, other: Operand) -> Pair
+        ensures round { result.round ≡ round }
+        ensures operands { pair_operands result ≡ plain one ∷ plain other ∷ [] }
+    {
+        let (one_kind, one) = told(one);
+        let (other_kind, other) = told(other);
+        Pair {
+            round,
+            one,
+            other,
+            one_kind,
+            other_kind,
+        }
+    }
+
+    // Operands of which there are two.
+    pub(crate) fn of(round: u32, operands: &[Operand]) -> Option<Pair>
+        ensures round { IfSome result (λ pair. pair.round ≡ round) }
+        ensures operands { IfSome result (λ pair. pair_operands pair ≡ map plain operands.now) }
+    {
+        match operands {
+            [one, other] => Some(Pair::new(round, *one, *other)),
+            _ => None,
+        }
+    }
+
+    pub(crate) fn round(self) -> u32
+        ensures { result ≡ self.round }
+    {
+        self.round
+    }
+
+    // The first operand.
+    #[inline(always)]
+    pub(crate) fn one(self) -> Operand
+        ensures { result ≡ operand_at self.one_kind self.one }
+    {
+        self.one_kind.operand(self.one)
+    }
+
+    // The second operand.
+    #[inline(always)]
+    pub(crate) fn other(self) -> Operand
+        ensures { result ≡ operand_at self.other_kind self.other }
+    {
+        self.other_kind.operand(self.other)
+    }
+
+    // The round and the operands as one number.
+    #[inline(always)]
+    fn word(self) -> u128
+        ensures { result ≡ word_of_pair self }
+    {
+        let numbers = u128::from(self.one) + u128::from(self.other) * 0x1_0000_0000;
+        let kinds = u128::from(self.one_kind.code()) + u128::from(self.other_kind.code()) * 4;
+        numbers + (kinds + u128::from(self.round) * 16) * 0x1_0000_0000_0000_0000
+    }
+
+    // The same as a key of any number of operands.
+    pub(crate) fn key(self, alloc: Global) -> Key
+        ensures { (root : AnyRef) → entry_of (result, root) ≡ entry_of_pair (self, root) }
+    {
+        Key::new(
+            self.round,
+            SmallVec::from_buf(alloc, [self.one(), self.other()]),
+        )
+    }
+}
+
+// Any number of operands. The digest is a number that they were mixed into once, so that neither a look-up nor
+// an entry goes over the operands again to hash them.
+#[derive(Debug, PartialEq, Eq, Drop)]
+pub(crate) struct Key {
+    digest: u32,
+    pub(crate) round: u32,
+    pub(crate) operands: Operands,
+}
+
+impl Key {
+    pub(crate) fn new(round: u32, operands: Operands) -> Key
+        ensures round { result.round ≡ round }
+        ensures operands { result.operands.items ≡ operands.items }
+    {
+        let digest = operands.iter().fold(u64::from(round), mixed_with);
+        Key {
+            digest: (digest >> 32) as u32,
+            round,
+            operands,
+        }
+    }
+}
+
+impl Hash for Key {
+    ghost use Rattle.std.proofs.Common.{rules};
+    ghost use Rattle.std.specs.Hash as fed;
+    ghost use Rattle.std.specs.Cmp.Rules.{hashing};
+
+    ghost hash_input = { λ key. fed.u32 key.digest };
+
+    ghost respects_eq = { Prim.search (hashing, rules) };
+
+    fn hash<H: Hasher>(&self, state: &mut H) {
+        state.write_u32(self.digest);
+    }
+}
+
+// The digest of what comes before an operand and of the operand.
+fn mixed_with(before: u64, operand: &Operand) -> u64 {
+    let (place, root) = *operand;
+    let number = match root {
+        Ref::Leaf(number) => u64::from(number) << 1 | 1,
+        Ref::Place(number) => u64::from(number) << 1,
+    };
+    let mixed = (before ^ number ^ u64::from(place) << 33).wrapping_mul(0x9E37_79B9_7F4A_7C15);
+    mixed ^ mixed >> 29
+}
