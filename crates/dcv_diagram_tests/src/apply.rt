@@ -352,14 +352,16 @@ fn nodes_are_limited(rt: HostRuntime) {
     }
 }
 
-// The parity of so many slots merged alone, with a memo of so many entries and at most so many merges: how many merges there were,
-// how many entries then, and how many nodes.
+// The parity of so many slots merged alone, or with itself, with a memo of so many entries and at most so many merges: how many merges
+// there were, how many entries then, and how many nodes.
 fn parity_merged(
     alloc: Global,
+    operands: usize,
     slots: u8,
     capacity: usize,
     limit: u32,
 ) -> Result<(u32, usize, u32), ApplyFault>
+    requires operands { operands ≤ 2 }
     requires slots { slots ≤ 32 }
     requires capacity { 1 ≤ capacity }
 {
@@ -373,7 +375,7 @@ fn parity_merged(
         &mut arena,
         &first,
         &first,
-        &[(0, root)],
+        &[(0, root), (0, root)][..operands],
         &mut sum,
         &mut memo,
         0,
@@ -387,14 +389,25 @@ fn parity_merged(
 #[test]
 fn what_was_merged_is_remembered(rt: HostRuntime) -> Result<(), Fail> {
     let alloc = rt.alloc();
-    assert_eq!(rt; parity_merged(alloc, 16, 64, 4)?, (4, 31, 31));
-    assert_eq!(rt; parity_merged(alloc, 16, 31, 4)?, (4, 31, 31));
-    assert_eq!(rt; parity_merged(alloc, 16, 1, 65_536)?, (65_536, 1, 31));
-    assert_eq!(rt; parity_merged(alloc, 16, 2, 65_536)?, (32_770, 2, 31));
+    assert_eq!(rt; parity_merged(alloc, 1, 16, 64, 4)?, (4, 31, 31));
+    assert_eq!(rt; parity_merged(alloc, 1, 16, 31, 4)?, (4, 31, 31));
+    assert_eq!(rt; parity_merged(alloc, 1, 16, 1, 65_536)?, (65_536, 1, 31));
+    assert_eq!(rt; parity_merged(alloc, 1, 16, 2, 65_536)?, (32_770, 2, 31));
     assert_eq!(rt;
-        parity_merged(alloc, 16, 64, 3),
+        parity_merged(alloc, 1, 16, 64, 3),
         Err(ApplyFault::States { limit: 3 })
     );
+    Ok(())
+}
+
+// A memo of 16 entries has room for 14 of two operands. The younger half is full after every seventh entry, and the older is
+// forgotten with the next: so there are 7 and 3 entries after 31. What is asked again was put by one of the last three.
+#[test]
+fn what_two_were_merged_into_is_remembered(rt: HostRuntime) -> Result<(), Fail> {
+    let alloc = rt.alloc();
+    assert_eq!(rt; parity_merged(alloc, 2, 16, 64, 4)?, (4, 31, 31));
+    assert_eq!(rt; parity_merged(alloc, 2, 16, 16, 4)?, (4, 10, 31));
+    assert_eq!(rt; parity_merged(alloc, 2, 16, 1, 65_536)?, (65_536, 1, 31));
     Ok(())
 }
 
@@ -472,6 +485,10 @@ fn renumbered(rt: HostRuntime) -> Result<(), Fail> {
     // The two numbers become one, and so the function a leaf.
     let mut remapping = Remapping::new(alloc, &first, &[6, 6]);
     assert_eq!(rt; remapping.remap(&mut arena, root)?, Ref::Leaf(6));
+    // The next round goes by a list of its own, and knows nothing of what became of places before.
+    let mut turned = Remapping::over(remapping.into_places(), &first, &[7, 5]);
+    let new = turned.remap(&mut arena, root)?;
+    assert_eq!(rt; table(&arena, new), [7, 5, 7, 5, 7, 5, 7, 5]);
     Ok(())
 }
 
@@ -503,7 +520,7 @@ fn thirty_two_slots(rt: HostRuntime) -> Result<(), Fail> {
     let mut arena = Arena::new(alloc, 32, 100);
     let root = parity(&mut arena)?;
     assert_eq!(rt; least_letters(alloc, &arena, root)?.len(), 2);
-    assert_eq!(rt; parity_merged(alloc, 32, 100, 4)?, (4, 63, 63));
+    assert_eq!(rt; parity_merged(alloc, 1, 32, 100, 4)?, (4, 63, 63));
     Ok(())
 }
 

@@ -14,3 +14,10 @@ remap-requires-2-clause-map g c letter size =
 
 pub remap-requires-2-clause-holds : goal.remap-requires-2-clause-holds
 remap-requires-2-clause-holds g c = c.new-remapping.ensures.holds c.remap.new.arena
+
+pub remap-requires-3-clause-map : goal.remap-requires-3-clause-map
+remap-requires-3-clause-map g c letter size =
+    rw (c.over-turned.ensures.from, c.over-turned.ensures.map) (is_digit (get_or letter 2 false) _ (c.in_ok-root.ensures.value letter))
+
+pub remap-requires-3-clause-holds : goal.remap-requires-3-clause-holds
+remap-requires-3-clause-holds g c = c.over-turned.ensures.holds c.remap-2.new.arena
