@@ -12,9 +12,34 @@ use Rattle.dcv_apply.proofs.Hits.{level_at_hit}
 use Rattle.dcv_apply.proofs.FaultFacts.{full_from_arena}
 use Rattle.dcv_apply.proofs.merging.Operation.+apply_from.Goals as goal
 
+-- ---- a leaf, and what is remembered
+
 pub apply_from-returns-then-slot-slots-clause-holds : goal.apply_from-returns-then-slot-slots-clause-holds
 apply_from-returns-then-slot-slots-clause-holds g t c =
     holds_known (merged_by c.args.self.now) c.args.self.now.round (g.G.Merge.gives c.args.merge.now) (g.G.Merge.gives c.merge_numbers.new.merge) c.args.arena.now c.args.memo.now c.merge_numbers.ensures.known c.requires.holds
+
+pub apply_from-returns-in-Some-clause-is_ref : goal.apply_from-returns-in-Some-clause-is_ref
+apply_from-returns-in-Some-clause-is_ref g t c =
+    (c.requires.holds (entry (g.V.Visit.round c.args.visit) (g.V.Visit.operands c.args.visit) c.in-Some.root) c.in-Some.ensures.found c.requires.round).0
+
+pub apply_from-returns-in-Some-clause-level : goal.apply_from-returns-in-Some-clause-level
+apply_from-returns-in-Some-clause-level g t c =
+    let held = c.requires.holds (entry (g.V.Visit.round c.args.visit) (g.V.Visit.operands c.args.visit) c.in-Some.root) c.in-Some.ensures.found c.requires.round in
+    let slot = c.first_slot-slot.result in
+    let from : c.args.from ≤ slot = c.first_slot-slot.ensures.last c.args.from (omega (arith, c.slots-slots.ensures.slots)) c.requires.operands in
+    let level = level_at_hit c.args.self.now (g.V.Visit.operands c.args.visit) (g.G.Merge.gives c.args.merge.now) c.args.arena.now c.in-Some.root slot
+    c.requires.sources c.first_slot-slot.ensures.from (omega (arith, c.slots-slots.ensures.slots)) (g.met.G.Merge.one_number c.args.merge.now) c.slots-slots.ensures.arena held.0 held.1 in
+    omega (arith, level)
+
+pub apply_from-returns-in-Some-clause-value : goal.apply_from-returns-in-Some-clause-value
+apply_from-returns-in-Some-clause-value g t c =
+    (c.requires.holds (entry (g.V.Visit.round c.args.visit) (g.V.Visit.operands c.args.visit) c.in-Some.root) c.in-Some.ensures.found c.requires.round).1
+
+pub apply_from-returns-in-Some-clause-holds : goal.apply_from-returns-in-Some-clause-holds
+apply_from-returns-in-Some-clause-holds g t c =
+    holds_less (merged_by c.args.self.now) c.args.self.now.round (g.G.Merge.gives c.args.merge.now) c.args.arena.now c.args.memo.now c.remembered.new.memo c.remembered.ensures.kept c.requires.holds
+
+-- ---- what is gone through, and remembered then
 
 pub apply_from-merge_sides-requires : goal.apply_from-merge_sides-requires
 apply_from-merge_sides-requires g t c κs within = (
@@ -71,6 +96,8 @@ apply_from-returns-in_ok-root-in-None-clause-others g t c =
     let added = others_more round c.merge_sides.new.memo c.remember.new.memo own c.remember.ensures.adds c.requires.round in
     others_in_turn round c.args.memo.now c.merge_sides.new.memo c.remember.new.memo
     (others_in_turn round c.args.memo.now c.remembered.new.memo c.merge_sides.new.memo asked c.merge_sides.ensures.others) added
+
+-- ---- both sides, and then the node
 
 pub merge_sides-apply_from-requires : goal.merge_sides-apply_from-requires
 merge_sides-apply_from-requires g t c κs within =
@@ -259,44 +286,13 @@ merge_sides-returns-clause-stray g t c front function below agrees =
     (merged_adds gives whole front function two new c.in_ok-root.root c.node.ensures.arena c.in_ok-root.ensures.is_ref (omega (arith, c.in_ok-root.ensures.level)) means
     (agrees_at gives whole old.slots new.slots front function (c.node.ensures.kept.slots ∙ c.apply_from-2.ensures.kept.slots ∙ c.apply_from.ensures.kept.slots) agrees) c.in_ok-root.ensures.adds)
 
-pub apply_from-returns-in-Some-clause-is_ref : goal.apply_from-returns-in-Some-clause-is_ref
-apply_from-returns-in-Some-clause-is_ref g t c =
-    (c.requires.holds (entry (g.V.Visit.round c.args.visit) (g.V.Visit.operands c.args.visit) c.in-Some.root) c.in-Some.ensures.found c.requires.round).0
-
-pub apply_from-returns-in-Some-clause-level : goal.apply_from-returns-in-Some-clause-level
-apply_from-returns-in-Some-clause-level g t c =
-    let held = c.requires.holds (entry (g.V.Visit.round c.args.visit) (g.V.Visit.operands c.args.visit) c.in-Some.root) c.in-Some.ensures.found c.requires.round in
-    let slot = c.first_slot-slot.result in
-    let from : c.args.from ≤ slot = c.first_slot-slot.ensures.last c.args.from (omega (arith, c.slots-slots.ensures.slots)) c.requires.operands in
-    let level = level_at_hit c.args.self.now (g.V.Visit.operands c.args.visit) (g.G.Merge.gives c.args.merge.now) c.args.arena.now c.in-Some.root slot
-    c.requires.sources c.first_slot-slot.ensures.from (omega (arith, c.slots-slots.ensures.slots)) (g.met.G.Merge.one_number c.args.merge.now) c.slots-slots.ensures.arena held.0 held.1 in
-    omega (arith, level)
-
-pub apply_from-returns-in-Some-clause-value : goal.apply_from-returns-in-Some-clause-value
-apply_from-returns-in-Some-clause-value g t c =
-    (c.requires.holds (entry (g.V.Visit.round c.args.visit) (g.V.Visit.operands c.args.visit) c.in-Some.root) c.in-Some.ensures.found c.requires.round).1
-
-pub apply_from-returns-in-Some-clause-holds : goal.apply_from-returns-in-Some-clause-holds
-apply_from-returns-in-Some-clause-holds g t c =
-    holds_less (merged_by c.args.self.now) c.args.self.now.round (g.G.Merge.gives c.args.merge.now) c.args.arena.now c.args.memo.now c.remembered.new.memo c.remembered.ensures.kept c.requires.holds
-
-pub merge_sides-returns-in_err-hi-clause-others : goal.merge_sides-returns-in_err-hi-clause-others
-merge_sides-returns-in_err-hi-clause-others g t c =
-    let round = c.args.self.now.round in
-    others_in_turn round c.args.memo.now c.apply_from.new.memo c.apply_from-2.new.memo
-    c.apply_from.ensures.others c.apply_from-2.ensures.others
+-- ---- what the memo holds once the node is there
 
 pub merge_sides-returns-in_err-root-clause-holds : goal.merge_sides-returns-in_err-root-clause-holds
 merge_sides-returns-in_err-root-clause-holds g t c =
     let gives = g.G.Merge.gives c.apply_from-2.new.merge in
     holds_grown (merged_by c.args.self.now) c.args.self.now.round gives gives c.apply_from-2.new.arena c.node.new.self c.apply_from-2.new.memo
     (λ _ _ given. given) c.node.ensures.kept c.apply_from-2.ensures.holds
-
-pub merge_sides-returns-in_err-root-clause-others : goal.merge_sides-returns-in_err-root-clause-others
-merge_sides-returns-in_err-root-clause-others g t c =
-    let round = c.args.self.now.round in
-    others_in_turn round c.args.memo.now c.apply_from.new.memo c.apply_from-2.new.memo
-    c.apply_from.ensures.others c.apply_from-2.ensures.others
 
 pub merge_sides-returns-clause-holds : goal.merge_sides-returns-clause-holds
 merge_sides-returns-clause-holds g t c =
