@@ -1,14 +1,14 @@
 // Functions are merged letter by letter: `Apply` of R. E. Bryant (1986) for any number of operands at once. A memo keeps
 // what operands were merged into, so that each list of operands is gone through once while the memo has room; what it
 // forgets is merged again. There is one recursion, over whatever form the operands of a visit have: a build of its own for two
-// operands moves 28 bytes from visit to visit, and takes no memory but for what it adds to the memo and the arena.
-ghost use Rattle.std.specs.Prelude.{◌≡◌, ◌≤◌, ◌<◌, ◌+◌, ℕ, List, Bool, Err, Ok, length, IfOk};
+// operands moves 16 bytes from visit to visit, and takes no memory but for what it adds to the memo and the arena.
+ghost use Rattle.std.specs.Prelude.{◌≡◌, ◌≢◌, ◌≤◌, ◌<◌, ◌+◌, ℕ, List, Bool, Err, Ok, length, IfOk};
 ghost use Rattle.std.specs.List.{All};
-ghost use Rattle.dcv_arena.specs.Arena.{IsRef, IsArena, level_of, KeepsRefs, AddsOnlyNodesOfFunction, count_with};
+ghost use Rattle.dcv_arena.specs.Arena.{IsRef, IsArena, level_of, KeepsRefs};
 ghost use Rattle.dcv_apply.specs.Operands.{IsOperand, numbers_at, numbers_at_both};
 ghost use Rattle.dcv_apply.specs.Sources.{HasArenas, IsIn, IsFrom, merged_by};
 ghost use Rattle.dcv_apply.specs.Memo.{HoldsRound, KeepsOthers};
-ghost use Rattle.dcv_apply.specs.Merged.{MeansMerged, AgreesBehind, IsApplied};
+ghost use Rattle.dcv_apply.specs.Merged.{MeansMerged, AddsOnlyOfMerged, HasMoreMerged, IsApplied};
 ghost use Rattle.dcv_apply.specs.declared.faults.MergeFault.TheVariants.{States as MergeStates};
 ghost use Rattle.dcv_apply.specs.declared.faults.ApplyFault.TheVariants.{Full, States};
 
@@ -185,7 +185,34 @@ impl Operation<'_> {
             .merged(self.alloc, self.last_slot, operands, slots)
     }
 
-    // The merge of operands that depend on no slot before `from`.
+    // The leaf of what the operands' numbers are merged into, where they depend on no slot.
+    #[inline(never)]
+    fn merge_numbers<G: Merge, V: Visit>(
+        &self,
+        arena: &Arena,
+        visit: &V,
+        merge: &mut G,
+    ) -> Result<Ref, ApplyFault>
+        requires operands { All (IsFrom self.now.sources arena.now.slots) (V.operands visit.now) }
+        requires may { (letter : List Bool) → length letter ≡ arena.now.slots
+            → G.may merge.old (merged_by self.now (V.operands visit.now) letter) }
+        ensures is_ref { IfOk result (IsRef arena.now) }
+        ensures level { IfOk result (λ root. arena.now.slots ≤ level_of arena.now root) }
+        ensures value { IfOk result (MeansMerged (G.gives merge.new) (merged_by self.now (V.operands visit.now)) arena.now) }
+        ensures room { (limit : ℕ) → result ≢ Err (Full limit) }
+        ensures states { (limit : ℕ) → result ≡ Err (States limit) → G.full merge.new limit }
+        ensures known { (numbers : List ℕ) (number : ℕ) → G.gives merge.old numbers number → G.gives merge.new numbers number }
+        ensures may_kept { (numbers : List ℕ) → G.may merge.old numbers → G.may merge.new numbers }
+        ensures becomes { G.becomes merge.old merge.new }
+    {
+        let numbers = visit.numbers(self, arena.slots())?;
+        Ok(arena.leaf(merge.leaf(&numbers)?))
+    }
+
+    // The merge of operands that depend on no slot before `from`. The code is put into `merge_sides`, so that a visit that ends at a leaf
+    // or at what is remembered costs no call of that.
+    #[cycle(apply_from)]
+    #[inline(always)]
     fn apply_from<G: Merge, V: Visit>(
         &self,
         arena: &mut Arena,
@@ -204,13 +231,10 @@ impl Operation<'_> {
         ensures is_ref { IfOk result (IsRef arena.new) }
         ensures level { IfOk result (λ root. from ≤ level_of arena.new root) }
         ensures value { IfOk result (MeansMerged (G.gives merge.new) (merged_by self.now (V.operands visit)) arena.new) }
-        ensures stray { (front : List Bool) (function : List Bool → ℕ) → length front ≤ from
-            → AgreesBehind (G.gives merge.new) (merged_by self.now (V.operands visit)) arena.old.slots front function
-            → AddsOnlyNodesOfFunction arena.old arena.new function }
+        ensures stray { AddsOnlyOfMerged (G.gives merge.new) (merged_by self.now (V.operands visit)) from arena.old arena.new }
         ensures limit { (limit : ℕ) → result ≡ Err (Full limit) → limit ≡ arena.old.limit }
-        ensures full { (limit : ℕ) (front : List Bool) (function : List Bool → ℕ) → result ≡ Err (Full limit) → length front ≤ from
-            → AgreesBehind (G.gives merge.new) (merged_by self.now (V.operands visit)) arena.old.slots front function
-            → limit < count_with arena.old function }
+        ensures full { (limit : ℕ) → result ≡ Err (Full limit)
+            → HasMoreMerged (G.gives merge.new) (merged_by self.now (V.operands visit)) from arena.old limit }
         ensures states { (limit : ℕ) → result ≡ Err (States limit) → G.full merge.new limit }
         ensures kept { KeepsRefs arena.old arena.new }
         ensures arena { IsArena arena.new }
@@ -224,17 +248,59 @@ impl Operation<'_> {
         let slots = arena.slots();
         let slot = visit.first_slot(&self.sources, slots);
         if slot == slots {
-            let numbers = visit.numbers(self, slots)?;
-            return Ok(arena.leaf(merge.leaf(&numbers)?));
+            return self.merge_numbers(arena, &visit, merge);
         }
-        if let Some(root) = visit.remembered(memo) {
-            return Ok(root);
+        match visit.remembered(memo) {
+            Some(root) => Ok(root),
+            None => {
+                let root = self.merge_sides(arena, &visit, slot, merge, memo)?;
+                visit.remember(memo, root);
+                Ok(root)
+            }
         }
+    }
+
+    // The same of operands that depend on no slot before this one, by what they are where it is false and where it is true. What comes of
+    // it is for the caller to remember, who holds the operands anyway.
+    #[cycle(apply_from)]
+    #[inline(never)]
+    fn merge_sides<G: Merge, V: Visit>(
+        &self,
+        arena: &mut Arena,
+        visit: &V,
+        slot: u8,
+        merge: &mut G,
+        memo: &mut Memo,
+    ) -> Result<Ref, ApplyFault>
+        requires sources { HasArenas self.now.sources }
+        requires slot { slot < arena.old.slots }
+        requires round { V.round visit.now ≡ self.now.round }
+        requires operands { All (IsFrom self.now.sources slot) (V.operands visit.now) }
+        requires may { (letter : List Bool) → length letter ≡ arena.old.slots
+            → G.may merge.old (merged_by self.now (V.operands visit.now) letter) }
+        requires arena { IsArena arena.old }
+        requires holds { HoldsRound (G.gives merge.old) (merged_by self.now) arena.old self.now.round memo.old }
+        ensures is_ref { IfOk result (IsRef arena.new) }
+        ensures level { IfOk result (λ root. slot ≤ level_of arena.new root) }
+        ensures value { IfOk result (MeansMerged (G.gives merge.new) (merged_by self.now (V.operands visit.now)) arena.new) }
+        ensures stray { AddsOnlyOfMerged (G.gives merge.new) (merged_by self.now (V.operands visit.now)) slot arena.old arena.new }
+        ensures limit { (limit : ℕ) → result ≡ Err (Full limit) → limit ≡ arena.old.limit }
+        ensures full { (limit : ℕ) → result ≡ Err (Full limit)
+            → HasMoreMerged (G.gives merge.new) (merged_by self.now (V.operands visit.now)) slot arena.old limit }
+        ensures states { (limit : ℕ) → result ≡ Err (States limit) → G.full merge.new limit }
+        ensures kept { KeepsRefs arena.old arena.new }
+        ensures arena { IsArena arena.new }
+        ensures known { (numbers : List ℕ) (number : ℕ) → G.gives merge.old numbers number → G.gives merge.new numbers number }
+        ensures may_kept { (numbers : List ℕ) → G.may merge.old numbers → G.may merge.new numbers }
+        ensures becomes { G.becomes merge.old merge.new }
+        ensures holds { HoldsRound (G.gives merge.new) (merged_by self.now) arena.new self.now.round memo.new }
+        ensures others { KeepsOthers self.now.round memo.old memo.new }
+        ensures capacity { memo.new.capacity ≡ memo.old.capacity }
+    {
         let (when_false, when_true) = visit.sides(self, slot)?;
         let lo = self.apply_from(arena, when_false, slot + 1, merge, memo)?;
         let hi = self.apply_from(arena, when_true, slot + 1, merge, memo)?;
         let root = arena.node(slot, lo, hi)?;
-        visit.remember(memo, root);
         Ok(root)
     }
 }

@@ -1,5 +1,5 @@
-use Rattle.std.proofs.Common.{rules, ◌≡◌, ◌<◌, ◌≤◌, true, false, length, replicate, set, Err, sym, ap, subst, ◌∙◌, arith}
-use Rattle.std.proofs.lemmas.List.{length-replicate, length-set}
+use Rattle.std.proofs.Common.{rules, ◌≤◌, true, false, set, Err, sym, ap, subst, ◌∙◌, arith}
+use Rattle.std.proofs.lemmas.List.{length-set}
 use Rattle.std.proofs.lemmas.Result.{err_from_is_err_and}
 use Rattle.dcv_arena.specs.Arena.{AddsOnlyNodesOfFunction}
 use Rattle.dcv_arena.proofs.Roots.{kept_in_turn}
@@ -12,16 +12,97 @@ use Rattle.dcv_apply.proofs.Hits.{level_at_hit}
 use Rattle.dcv_apply.proofs.FaultFacts.{full_from_arena}
 use Rattle.dcv_apply.proofs.merging.Operation.+apply_from.Goals as goal
 
-pub leaf-requires : goal.leaf-requires
-leaf-requires g t c =
-    let blank = replicate c.args.arena.now.slots false in
-    let size : length blank ≡ c.args.arena.now.slots = length-replicate c.args.arena.now.slots false in
-    subst (λ numbers. g.G.Merge.may c.args.merge.now numbers) (sym (c.in_ok-numbers.ensures blank (size ∙ sym c.slots-slots.ensures.slots)) ∙ sym c.deref.ensures) (c.requires.may blank size)
+-- ---- a leaf, and what is remembered
 
-pub apply_from-requires : goal.apply_from-requires
-apply_from-requires g t c κs within =
+pub apply_from-returns-then-slot-slots-clause-holds : goal.apply_from-returns-then-slot-slots-clause-holds
+apply_from-returns-then-slot-slots-clause-holds g t c =
+    holds_known (merged_by c.args.self.now) c.args.self.now.round (g.G.Merge.gives c.args.merge.now) (g.G.Merge.gives c.merge_numbers.new.merge) c.args.arena.now c.args.memo.now c.merge_numbers.ensures.known c.requires.holds
+
+pub apply_from-returns-in-Some-clause-is_ref : goal.apply_from-returns-in-Some-clause-is_ref
+apply_from-returns-in-Some-clause-is_ref g t c =
+    (c.requires.holds (entry (g.V.Visit.round c.args.visit) (g.V.Visit.operands c.args.visit) c.in-Some.root) c.in-Some.ensures.found c.requires.round).0
+
+pub apply_from-returns-in-Some-clause-level : goal.apply_from-returns-in-Some-clause-level
+apply_from-returns-in-Some-clause-level g t c =
+    let held = c.requires.holds (entry (g.V.Visit.round c.args.visit) (g.V.Visit.operands c.args.visit) c.in-Some.root) c.in-Some.ensures.found c.requires.round in
     let slot = c.first_slot-slot.result in
-    let inner : slot < c.args.arena.now.slots = omega (arith, c.slots-slots.ensures.slots) in
+    let from : c.args.from ≤ slot = c.first_slot-slot.ensures.last c.args.from (omega (arith, c.slots-slots.ensures.slots)) c.requires.operands in
+    let level = level_at_hit c.args.self.now (g.V.Visit.operands c.args.visit) (g.G.Merge.gives c.args.merge.now) c.args.arena.now c.in-Some.root slot
+    c.requires.sources c.first_slot-slot.ensures.from (omega (arith, c.slots-slots.ensures.slots)) (g.met.G.Merge.one_number c.args.merge.now) c.slots-slots.ensures.arena held.0 held.1 in
+    omega (arith, level)
+
+pub apply_from-returns-in-Some-clause-value : goal.apply_from-returns-in-Some-clause-value
+apply_from-returns-in-Some-clause-value g t c =
+    (c.requires.holds (entry (g.V.Visit.round c.args.visit) (g.V.Visit.operands c.args.visit) c.in-Some.root) c.in-Some.ensures.found c.requires.round).1
+
+pub apply_from-returns-in-Some-clause-holds : goal.apply_from-returns-in-Some-clause-holds
+apply_from-returns-in-Some-clause-holds g t c =
+    holds_less (merged_by c.args.self.now) c.args.self.now.round (g.G.Merge.gives c.args.merge.now) c.args.arena.now c.args.memo.now c.remembered.new.memo c.remembered.ensures.kept c.requires.holds
+
+-- ---- what is gone through, and remembered then
+
+pub apply_from-merge_sides-requires : goal.apply_from-merge_sides-requires
+apply_from-merge_sides-requires g t c κs within = (
+  search rules,
+  (
+    search rules,
+    (
+      search rules,
+      (
+        c.requires.sources,
+        (
+          omega (arith, c.slots-slots.ensures.slots),
+          (
+            c.requires.round,
+            (
+              c.first_slot-slot.ensures.from,
+              (
+                c.requires.may,
+                (
+                  c.slots-slots.ensures.arena,
+                  holds_less (merged_by c.args.self.now) c.args.self.now.round (g.G.Merge.gives c.args.merge.now) c.args.arena.now c.args.memo.now c.remembered.new.memo c.remembered.ensures.kept c.requires.holds,
+                ),
+              ),
+            ),
+          ),
+        ),
+      ),
+    ),
+  ),
+)
+
+pub apply_from-returns-in_err-root-in-None-clause-stray : goal.apply_from-returns-in_err-root-in-None-clause-stray
+apply_from-returns-in_err-root-in-None-clause-stray g t c front function below agrees =
+    let from : c.args.from ≤ c.first_slot-slot.result = c.first_slot-slot.ensures.last c.args.from (omega (arith, c.slots-slots.ensures.slots)) c.requires.operands in
+    c.merge_sides.ensures.stray front function (omega arith) agrees
+
+pub apply_from-returns-in_ok-root-in-None-clause-stray : goal.apply_from-returns-in_ok-root-in-None-clause-stray
+apply_from-returns-in_ok-root-in-None-clause-stray g t c front function below agrees =
+    let from : c.args.from ≤ c.first_slot-slot.result = c.first_slot-slot.ensures.last c.args.from (omega (arith, c.slots-slots.ensures.slots)) c.requires.operands in
+    c.merge_sides.ensures.stray front function (omega arith) agrees
+
+pub apply_from-returns-in_ok-root-in-None-clause-holds : goal.apply_from-returns-in_ok-root-in-None-clause-holds
+apply_from-returns-in_ok-root-in-None-clause-holds g t c =
+    let gives = g.G.Merge.gives c.merge_sides.new.merge in
+    let own = entry (g.V.Visit.round c.args.visit) (g.V.Visit.operands c.args.visit) c.in_ok-root-in-None.root in
+    holds_more (merged_by c.args.self.now) c.args.self.now.round gives c.merge_sides.new.arena c.merge_sides.new.memo c.remember.new.memo
+    own c.remember.ensures.adds c.in_ok-root-in-None.ensures.is_ref c.in_ok-root-in-None.ensures.value c.merge_sides.ensures.holds
+
+pub apply_from-returns-in_ok-root-in-None-clause-others : goal.apply_from-returns-in_ok-root-in-None-clause-others
+apply_from-returns-in_ok-root-in-None-clause-others g t c =
+    let round = c.args.self.now.round in
+    let own = entry (g.V.Visit.round c.args.visit) (g.V.Visit.operands c.args.visit) c.in_ok-root-in-None.root in
+    let asked = others_less round c.args.memo.now c.remembered.new.memo c.remembered.ensures.kept in
+    let added = others_more round c.merge_sides.new.memo c.remember.new.memo own c.remember.ensures.adds c.requires.round in
+    others_in_turn round c.args.memo.now c.merge_sides.new.memo c.remember.new.memo
+    (others_in_turn round c.args.memo.now c.remembered.new.memo c.merge_sides.new.memo asked c.merge_sides.ensures.others) added
+
+-- ---- both sides, and then the node
+
+pub merge_sides-apply_from-requires : goal.merge_sides-apply_from-requires
+merge_sides-apply_from-requires g t c κs within =
+    let slot = c.args.slot in
+    let inner = c.requires.slot in
     let side = c.in_ok-when_false.ensures.when_false.fixed in (
       search rules,
       (
@@ -38,7 +119,7 @@ apply_from-requires g t c κs within =
                   c.in_ok-when_false.ensures.when_false.from,
                   (
                     λ letter size. subst (g.G.Merge.may c.args.merge.now) (sym (side.at letter (omega arith))) (c.requires.may (set letter slot false) (length-set letter slot false ∙ size)),
-                    holds_less (merged_by c.args.self.now) c.args.self.now.round (g.G.Merge.gives c.args.merge.now) c.args.arena.now c.args.memo.now c.remembered.new.memo c.remembered.ensures.kept c.requires.holds,
+                    c.requires.holds,
                   ),
                 ),
               ),
@@ -48,36 +129,34 @@ apply_from-requires g t c κs within =
       ),
     )
 
-pub returns-in_err-lo-clause-stray : goal.returns-in_err-lo-clause-stray
-returns-in_err-lo-clause-stray g t c front function below agrees =
-    let slot = c.first_slot-slot.result in
-    let inner : slot < c.args.arena.now.slots = omega (arith, c.slots-slots.ensures.slots) in
-    let from : c.args.from ≤ slot = c.first_slot-slot.ensures.last c.args.from (omega (arith, c.slots-slots.ensures.slots)) c.requires.operands in
+pub merge_sides-returns-in_err-lo-clause-stray : goal.merge_sides-returns-in_err-lo-clause-stray
+merge_sides-returns-in_err-lo-clause-stray g t c front function below agrees =
+    let slot = c.args.slot in
+    let inner = c.requires.slot in
     let side = c.in_ok-when_false.ensures.when_false.fixed in
     side_adds side (g.G.Merge.gives c.apply_from.new.merge) (g.G.Merge.gives c.apply_from.new.merge) c.args.arena.now c.apply_from.new.arena front function inner (omega arith)
     (λ _ _ given. given) c.apply_from.ensures.stray agrees
 
-pub returns-in_err-lo-clause-full : goal.returns-in_err-lo-clause-full
-returns-in_err-lo-clause-full g t c limit front function e below agrees =
-    let slot = c.first_slot-slot.result in
-    let inner : slot < c.args.arena.now.slots = omega (arith, c.slots-slots.ensures.slots) in
-    let from : c.args.from ≤ slot = c.first_slot-slot.ensures.last c.args.from (omega (arith, c.slots-slots.ensures.slots)) c.requires.operands in
+pub merge_sides-returns-in_err-lo-clause-full : goal.merge_sides-returns-in_err-lo-clause-full
+merge_sides-returns-in_err-lo-clause-full g t c limit e front function below agrees =
+    let slot = c.args.slot in
+    let inner = c.requires.slot in
     let side = c.in_ok-when_false.ensures.when_false.fixed in
     let p = err_from_is_err_and c.from_residual-in_err-lo.result c.from_residual-in_err-lo.ensures.1 in
     let fault = c.in_err-lo.was ∙ ap Err (sym p.2) ∙ sym p.1 ∙ e in
     side_full side (g.G.Merge.gives c.apply_from.new.merge) (g.G.Merge.gives c.apply_from.new.merge) limit c.args.arena.now front function inner (omega arith)
-    (λ _ _ given. given) (λ front function. c.apply_from.ensures.full limit front function fault) agrees
+    (λ _ _ given. given) (c.apply_from.ensures.full limit fault) agrees
 
-pub returns-clause-kept : goal.returns-clause-kept
-returns-clause-kept g t c =
+pub merge_sides-returns-clause-kept : goal.merge_sides-returns-clause-kept
+merge_sides-returns-clause-kept g t c =
     kept_in_turn c.args.arena.now c.apply_from.new.arena c.node.new.self c.apply_from.ensures.kept
     (kept_in_turn c.apply_from.new.arena c.apply_from-2.new.arena c.node.new.self c.apply_from-2.ensures.kept c.node.ensures.kept)
 
-pub apply_from-requires-2 : goal.apply_from-requires-2
-apply_from-requires-2 g t c κs within =
-    let slot = c.first_slot-slot.result in
+pub merge_sides-apply_from-requires-2 : goal.merge_sides-apply_from-requires-2
+merge_sides-apply_from-requires-2 g t c κs within =
+    let slot = c.args.slot in
     let same = c.apply_from.ensures.kept.slots in
-    let inner : slot < c.args.arena.now.slots = omega (arith, c.slots-slots.ensures.slots) in
+    let inner = c.requires.slot in
     let side = c.in_ok-when_false.ensures.when_true.fixed in (
       search rules,
       (
@@ -105,39 +184,32 @@ apply_from-requires-2 g t c κs within =
       ),
     )
 
-pub returns-in_err-hi-clause-stray : goal.returns-in_err-hi-clause-stray
-returns-in_err-hi-clause-stray g t c front function below agrees =
-    let slot = c.first_slot-slot.result in
-    let inner : slot < c.args.arena.now.slots = omega (arith, c.slots-slots.ensures.slots) in
-    let from : c.args.from ≤ slot = c.first_slot-slot.ensures.last c.args.from (omega (arith, c.slots-slots.ensures.slots)) c.requires.operands in
+pub merge_sides-returns-in_err-hi-clause-stray : goal.merge_sides-returns-in_err-hi-clause-stray
+merge_sides-returns-in_err-hi-clause-stray g t c front function below agrees =
+    let slot = c.args.slot in
+    let inner = c.requires.slot in
     let low = c.in_ok-when_false.ensures.when_false.fixed in
     let high = c.in_ok-when_false.ensures.when_true.fixed in
     sides_add low high (g.G.Merge.gives c.apply_from.new.merge) (g.G.Merge.gives c.apply_from-2.new.merge) c.apply_from-2.ensures.known
     c.args.arena.now c.apply_from.new.arena c.apply_from-2.new.arena c.apply_from.ensures.kept c.apply_from-2.ensures.kept inner
     front function (omega arith) c.apply_from.ensures.stray c.apply_from-2.ensures.stray agrees
 
-pub returns-in_err-hi-clause-full : goal.returns-in_err-hi-clause-full
-returns-in_err-hi-clause-full g t c limit front function e below agrees =
-    let slot = c.first_slot-slot.result in
-    let inner : slot < c.args.arena.now.slots = omega (arith, c.slots-slots.ensures.slots) in
-    let from : c.args.from ≤ slot = c.first_slot-slot.ensures.last c.args.from (omega (arith, c.slots-slots.ensures.slots)) c.requires.operands in
+pub merge_sides-returns-in_err-hi-clause-full : goal.merge_sides-returns-in_err-hi-clause-full
+merge_sides-returns-in_err-hi-clause-full g t c limit e front function below agrees =
+    let slot = c.args.slot in
+    let inner = c.requires.slot in
     let low = c.in_ok-when_false.ensures.when_false.fixed in
     let high = c.in_ok-when_false.ensures.when_true.fixed in
     let p = err_from_is_err_and c.from_residual-in_err-hi.result c.from_residual-in_err-hi.ensures.1 in
     let fault = c.in_err-hi.was ∙ ap Err (sym p.2) ∙ sym p.1 ∙ e in
     sides_full low high (g.G.Merge.gives c.apply_from.new.merge) (g.G.Merge.gives c.apply_from-2.new.merge) c.apply_from-2.ensures.known
     c.args.arena.now c.apply_from.new.arena c.apply_from-2.new.arena c.apply_from.ensures.kept c.apply_from-2.ensures.kept inner
-    limit front function c.slots-slots.ensures.arena c.apply_from.ensures.arena (omega arith) c.apply_from.ensures.stray (λ front function. c.apply_from-2.ensures.full limit front function fault) agrees
+    limit front function c.requires.arena c.apply_from.ensures.arena (omega arith) c.apply_from.ensures.stray (c.apply_from-2.ensures.full limit fault) agrees
 
-pub returns-clause-level : goal.returns-clause-level
-returns-clause-level g t c =
-    let from : c.args.from ≤ c.first_slot-slot.result = c.first_slot-slot.ensures.last c.args.from (omega (arith, c.slots-slots.ensures.slots)) c.requires.operands in
-    omega (arith, c.in_ok-root.ensures.level)
-
-pub returns-clause-value : goal.returns-clause-value
-returns-clause-value g t c letter size =
-    let slot = c.first_slot-slot.result in
-    let inner : slot < c.args.arena.now.slots = omega (arith, c.slots-slots.ensures.slots) in
+pub merge_sides-returns-clause-value : goal.merge_sides-returns-clause-value
+merge_sides-returns-clause-value g t c letter size =
+    let slot = c.args.slot in
+    let inner = c.requires.slot in
     let low = c.in_ok-when_false.ensures.when_false.fixed in
     let high = c.in_ok-when_false.ensures.when_true.fixed in
     subst (g.G.Merge.gives c.apply_from-2.new.merge _) (sym (c.in_ok-root.ensures.value letter))
@@ -145,11 +217,10 @@ returns-clause-value g t c letter size =
     c.args.arena.now c.apply_from.new.arena c.apply_from-2.new.arena c.apply_from.ensures.kept c.apply_from-2.ensures.kept inner
     c.in_ok-lo.lo c.in_ok-hi.hi c.in_ok-lo.ensures.is_ref c.in_ok-lo.ensures.value c.in_ok-hi.ensures.value letter (size ∙ c.node.ensures.kept.slots))
 
-pub returns-in_err-root-clause-stray : goal.returns-in_err-root-clause-stray
-returns-in_err-root-clause-stray g t c front function below agrees =
-    let slot = c.first_slot-slot.result in
-    let inner : slot < c.args.arena.now.slots = omega (arith, c.slots-slots.ensures.slots) in
-    let from : c.args.from ≤ slot = c.first_slot-slot.ensures.last c.args.from (omega (arith, c.slots-slots.ensures.slots)) c.requires.operands in
+pub merge_sides-returns-in_err-root-clause-stray : goal.merge_sides-returns-in_err-root-clause-stray
+merge_sides-returns-in_err-root-clause-stray g t c front function below agrees =
+    let slot = c.args.slot in
+    let inner = c.requires.slot in
     let low = c.in_ok-when_false.ensures.when_false.fixed in
     let high = c.in_ok-when_false.ensures.when_true.fixed in
     subst (λ new. AddsOnlyNodesOfFunction c.args.arena.now new function) (sym c.in_err-root.ensures.err)
@@ -157,22 +228,21 @@ returns-in_err-root-clause-stray g t c front function below agrees =
     c.args.arena.now c.apply_from.new.arena c.apply_from-2.new.arena c.apply_from.ensures.kept c.apply_from-2.ensures.kept inner
     front function (omega arith) c.apply_from.ensures.stray c.apply_from-2.ensures.stray agrees)
 
-pub returns-in_err-root-clause-limit : goal.returns-in_err-root-clause-limit
-returns-in_err-root-clause-limit g t c limit e =
+pub merge_sides-returns-in_err-root-clause-limit : goal.merge_sides-returns-in_err-root-clause-limit
+merge_sides-returns-in_err-root-clause-limit g t c limit e =
     let p = err_from_is_err_and c.from_residual-in_err-root.result c.from_residual-in_err-root.ensures.1 in
     let fault = c.in_err-root.was ∙ ap Err (full_from_arena _ _ _ limit p.1 p.2 e) in
     ((c.node.ensures.full limit).0 fault).0 ∙ c.apply_from-2.ensures.kept.limit ∙ c.apply_from.ensures.kept.limit
 
-pub returns-in_err-root-clause-full : goal.returns-in_err-root-clause-full
-returns-in_err-root-clause-full g t c limit front function e below agrees =
-    let slot = c.first_slot-slot.result in
+pub merge_sides-returns-in_err-root-clause-full : goal.merge_sides-returns-in_err-root-clause-full
+merge_sides-returns-in_err-root-clause-full g t c limit e front function below agrees =
+    let slot = c.args.slot in
     let old = c.args.arena.now in
     let one = c.apply_from.new.arena in
     let two = c.apply_from-2.new.arena in
     let gives = g.G.Merge.gives c.apply_from-2.new.merge in
-    let whole = merged_by c.args.self.now (g.V.Visit.operands c.args.visit) in
-    let inner : slot < old.slots = omega (arith, c.slots-slots.ensures.slots) in
-    let from : c.args.from ≤ slot = c.first_slot-slot.ensures.last c.args.from (omega (arith, c.slots-slots.ensures.slots)) c.requires.operands in
+    let whole = merged_by c.args.self.now (g.V.Visit.operands c.args.visit.now) in
+    let inner = c.requires.slot in
     let kept = kept_in_turn old one two c.apply_from.ensures.kept c.apply_from-2.ensures.kept in
     let low = c.in_ok-when_false.ensures.when_false.fixed in
     let high = c.in_ok-when_false.ensures.when_true.fixed in
@@ -188,21 +258,20 @@ returns-in_err-root-clause-full g t c limit front function e below agrees =
     let lo_ref = c.apply_from-2.ensures.kept.refs c.in_ok-lo.lo c.in_ok-lo.ensures.is_ref in
     let lo_level = c.apply_from-2.ensures.kept.levels c.in_ok-lo.lo c.in_ok-lo.ensures.is_ref in
     let more = node_full gives whole front function old two slot c.in_ok-lo.lo c.in_ok-hi.hi
-    c.slots-slots.ensures.arena c.apply_from-2.ensures.arena kept adds lo_ref c.in_ok-hi.ensures.is_ref (omega (arith, kept.slots))
+    c.requires.arena c.apply_from-2.ensures.arena kept adds lo_ref c.in_ok-hi.ensures.is_ref (omega (arith, kept.slots))
     (omega (arith, lo_level, c.in_ok-lo.ensures.level)) (omega (arith, c.in_ok-hi.ensures.level)) is_full.1 (omega arith) merged (agrees_at gives whole old.slots two.slots front function kept.slots agrees) in
     omega (arith, more, is_full.0, is_full.2)
 
-pub returns-clause-stray : goal.returns-clause-stray
-returns-clause-stray g t c front function below agrees =
-    let slot = c.first_slot-slot.result in
+pub merge_sides-returns-clause-stray : goal.merge_sides-returns-clause-stray
+merge_sides-returns-clause-stray g t c front function below agrees =
+    let slot = c.args.slot in
     let old = c.args.arena.now in
     let one = c.apply_from.new.arena in
     let two = c.apply_from-2.new.arena in
     let new = c.node.new.self in
     let gives = g.G.Merge.gives c.apply_from-2.new.merge in
-    let whole = merged_by c.args.self.now (g.V.Visit.operands c.args.visit) in
-    let inner : slot < old.slots = omega (arith, c.slots-slots.ensures.slots) in
-    let from : c.args.from ≤ slot = c.first_slot-slot.ensures.last c.args.from (omega (arith, c.slots-slots.ensures.slots)) c.requires.operands in
+    let whole = merged_by c.args.self.now (g.V.Visit.operands c.args.visit.now) in
+    let inner = c.requires.slot in
     let low = c.in_ok-when_false.ensures.when_false.fixed in
     let high = c.in_ok-when_false.ensures.when_true.fixed in
     let adds = sides_add low high (g.G.Merge.gives c.apply_from.new.merge) gives c.apply_from-2.ensures.known
@@ -217,85 +286,16 @@ returns-clause-stray g t c front function below agrees =
     (merged_adds gives whole front function two new c.in_ok-root.root c.node.ensures.arena c.in_ok-root.ensures.is_ref (omega (arith, c.in_ok-root.ensures.level)) means
     (agrees_at gives whole old.slots new.slots front function (c.node.ensures.kept.slots ∙ c.apply_from-2.ensures.kept.slots ∙ c.apply_from.ensures.kept.slots) agrees) c.in_ok-root.ensures.adds)
 
--- ---- what the memo holds, exit by exit
+-- ---- what the memo holds once the node is there
 
-pub returns-in_err-leaf-clause-holds : goal.returns-in_err-leaf-clause-holds
-returns-in_err-leaf-clause-holds g t c =
-    holds_known (merged_by c.args.self.now) c.args.self.now.round (g.G.Merge.gives c.args.merge.now) (g.G.Merge.gives c.leaf.new.self) c.args.arena.now c.args.memo.now c.leaf.ensures.known c.requires.holds
-
-pub returns-then-slot-slots-clause-holds : goal.returns-then-slot-slots-clause-holds
-returns-then-slot-slots-clause-holds g t c =
-    holds_known (merged_by c.args.self.now) c.args.self.now.round (g.G.Merge.gives c.args.merge.now) (g.G.Merge.gives c.leaf.new.self) c.args.arena.now c.args.memo.now c.leaf.ensures.known c.requires.holds
-
-pub returns-in-Some-clause-is_ref : goal.returns-in-Some-clause-is_ref
-returns-in-Some-clause-is_ref g t c =
-    (c.requires.holds (entry (g.V.Visit.round c.args.visit) (g.V.Visit.operands c.args.visit) c.in-Some.root) c.in-Some.ensures.found c.requires.round).0
-
-pub returns-in-Some-clause-level : goal.returns-in-Some-clause-level
-returns-in-Some-clause-level g t c =
-    let held = c.requires.holds (entry (g.V.Visit.round c.args.visit) (g.V.Visit.operands c.args.visit) c.in-Some.root) c.in-Some.ensures.found c.requires.round in
-    let slot = c.first_slot-slot.result in
-    let from : c.args.from ≤ slot = c.first_slot-slot.ensures.last c.args.from (omega (arith, c.slots-slots.ensures.slots)) c.requires.operands in
-    let level = level_at_hit c.args.self.now (g.V.Visit.operands c.args.visit) (g.G.Merge.gives c.args.merge.now) c.args.arena.now c.in-Some.root slot
-    c.requires.sources c.first_slot-slot.ensures.from (omega (arith, c.slots-slots.ensures.slots)) (g.met.G.Merge.one_number c.args.merge.now) c.slots-slots.ensures.arena held.0 held.1 in
-    omega (arith, level)
-
-pub returns-in-Some-clause-value : goal.returns-in-Some-clause-value
-returns-in-Some-clause-value g t c =
-    (c.requires.holds (entry (g.V.Visit.round c.args.visit) (g.V.Visit.operands c.args.visit) c.in-Some.root) c.in-Some.ensures.found c.requires.round).1
-
-pub returns-in-Some-clause-holds : goal.returns-in-Some-clause-holds
-returns-in-Some-clause-holds g t c =
-    holds_less (merged_by c.args.self.now) c.args.self.now.round (g.G.Merge.gives c.args.merge.now) c.args.arena.now c.args.memo.now c.remembered.new.memo c.remembered.ensures.kept c.requires.holds
-
-pub returns-in_err-when_false-clause-holds : goal.returns-in_err-when_false-clause-holds
-returns-in_err-when_false-clause-holds g t c =
-    holds_less (merged_by c.args.self.now) c.args.self.now.round (g.G.Merge.gives c.args.merge.now) c.args.arena.now c.args.memo.now c.remembered.new.memo c.remembered.ensures.kept c.requires.holds
-
-pub returns-in_err-hi-clause-others : goal.returns-in_err-hi-clause-others
-returns-in_err-hi-clause-others g t c =
-    let round = c.args.self.now.round in
-    let asked = others_less round c.args.memo.now c.remembered.new.memo c.remembered.ensures.kept in
-    others_in_turn round c.args.memo.now c.apply_from.new.memo c.apply_from-2.new.memo
-    (others_in_turn round c.args.memo.now c.remembered.new.memo c.apply_from.new.memo asked c.apply_from.ensures.others) c.apply_from-2.ensures.others
-
-pub returns-in_err-root-clause-holds : goal.returns-in_err-root-clause-holds
-returns-in_err-root-clause-holds g t c =
+pub merge_sides-returns-in_err-root-clause-holds : goal.merge_sides-returns-in_err-root-clause-holds
+merge_sides-returns-in_err-root-clause-holds g t c =
     let gives = g.G.Merge.gives c.apply_from-2.new.merge in
     holds_grown (merged_by c.args.self.now) c.args.self.now.round gives gives c.apply_from-2.new.arena c.node.new.self c.apply_from-2.new.memo
     (λ _ _ given. given) c.node.ensures.kept c.apply_from-2.ensures.holds
 
-pub returns-in_err-root-clause-others : goal.returns-in_err-root-clause-others
-returns-in_err-root-clause-others g t c =
-    let round = c.args.self.now.round in
-    let asked = others_less round c.args.memo.now c.remembered.new.memo c.remembered.ensures.kept in
-    others_in_turn round c.args.memo.now c.apply_from.new.memo c.apply_from-2.new.memo
-    (others_in_turn round c.args.memo.now c.remembered.new.memo c.apply_from.new.memo asked c.apply_from.ensures.others) c.apply_from-2.ensures.others
-
-pub returns-clause-holds : goal.returns-clause-holds
-returns-clause-holds g t c =
-    let slot = c.first_slot-slot.result in
-    let two = c.apply_from-2.new.arena in
-    let new = c.node.new.self in
+pub merge_sides-returns-clause-holds : goal.merge_sides-returns-clause-holds
+merge_sides-returns-clause-holds g t c =
     let gives = g.G.Merge.gives c.apply_from-2.new.merge in
-    let whole = merged_by c.args.self.now (g.V.Visit.operands c.args.visit) in
-    let inner : slot < c.args.arena.now.slots = omega (arith, c.slots-slots.ensures.slots) in
-    let low = c.in_ok-when_false.ensures.when_false.fixed in
-    let high = c.in_ok-when_false.ensures.when_true.fixed in
-    let merged = sides_merged low high (g.G.Merge.gives c.apply_from.new.merge) gives c.apply_from-2.ensures.known
-    c.args.arena.now c.apply_from.new.arena two c.apply_from.ensures.kept c.apply_from-2.ensures.kept inner
-    c.in_ok-lo.lo c.in_ok-hi.hi c.in_ok-lo.ensures.is_ref c.in_ok-lo.ensures.value c.in_ok-hi.ensures.value in
-    let means : MeansMerged gives whole new c.in_ok-root.root = λ letter size.
-    subst (gives (whole letter)) (sym (c.in_ok-root.ensures.value letter)) (merged letter (size ∙ c.node.ensures.kept.slots)) in
-    holds_more (merged_by c.args.self.now) c.args.self.now.round gives new c.apply_from-2.new.memo c.remember.new.memo
-    (entry (g.V.Visit.round c.args.visit) (g.V.Visit.operands c.args.visit) c.in_ok-root.root) c.remember.ensures.adds c.in_ok-root.ensures.is_ref means
-    (holds_grown (merged_by c.args.self.now) c.args.self.now.round gives gives two new c.apply_from-2.new.memo (λ _ _ given. given) c.node.ensures.kept c.apply_from-2.ensures.holds)
-
-pub returns-clause-others : goal.returns-clause-others
-returns-clause-others g t c =
-    let round = c.args.self.now.round in
-    let asked = others_less round c.args.memo.now c.remembered.new.memo c.remembered.ensures.kept in
-    let added = others_more round c.apply_from-2.new.memo c.remember.new.memo (entry (g.V.Visit.round c.args.visit) (g.V.Visit.operands c.args.visit) c.in_ok-root.root) c.remember.ensures.adds c.requires.round in
-    others_in_turn round c.args.memo.now c.apply_from-2.new.memo c.remember.new.memo
-    (others_in_turn round c.args.memo.now c.apply_from.new.memo c.apply_from-2.new.memo
-    (others_in_turn round c.args.memo.now c.remembered.new.memo c.apply_from.new.memo asked c.apply_from.ensures.others) c.apply_from-2.ensures.others) added
+    holds_grown (merged_by c.args.self.now) c.args.self.now.round gives gives c.apply_from-2.new.arena c.node.new.self c.apply_from-2.new.memo
+    (λ _ _ given. given) c.node.ensures.kept c.apply_from-2.ensures.holds

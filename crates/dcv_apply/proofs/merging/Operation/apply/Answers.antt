@@ -32,7 +32,7 @@ returns-in-Some-clause-merged g c =
     let all = c.apply_from.ensures in
     subst (λ numbers. IsApplied gives too_many numbers c.args.arena.now c.apply_from.new.arena c.apply_from.result) same
     (applied gives (merged_by c.args.self.now items) c.args.arena.now c.apply_from.new.arena too_many c.apply_from.result (g.met.G.Merge.one_number c.apply_from.new.merge)
-    all.is_ref all.value all.stray all.limit all.full all.states all.kept all.arena)
+    all.is_ref all.value all.stray all.limit (λ limit front function e. all.full limit e front function) all.states all.kept all.arena)
 
 pub returns-clause-merged : goal.returns-clause-merged
 returns-clause-merged g c =
@@ -44,4 +44,4 @@ returns-clause-merged g c =
     let all = c.apply_from-2.ensures in
     subst (λ items. IsApplied gives too_many (merged_by c.args.self.now items) c.args.arena.now c.apply_from-2.new.arena c.apply_from-2.result) same
     (applied gives (merged_by c.args.self.now items) c.args.arena.now c.apply_from-2.new.arena too_many c.apply_from-2.result (g.met.G.Merge.one_number c.apply_from-2.new.merge)
-    all.is_ref all.value all.stray all.limit all.full all.states all.kept all.arena)
+    all.is_ref all.value all.stray all.limit (λ limit front function e. all.full limit e front function) all.states all.kept all.arena)
