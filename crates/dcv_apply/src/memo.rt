@@ -106,6 +106,16 @@ impl Memo {
         if old.is_some() || self.later.is_empty() {
             return old;
         }
+        self.get_late(pair)
+    }
+
+    // What the cache has of two operands. That is rare, so it stands apart and `get_pair` stays small.
+    #[inline(never)]
+    fn get_late(&mut self, pair: &Pair) -> Option<Ref>
+        ensures found { IfSome result (λ root. Contains self.old.entries (entry pair.now.round (pair_operands pair.now) root)) }
+        ensures kept { KeepsEntries self.old self.new }
+        ensures capacity { self.new.capacity ≡ self.old.capacity }
+    {
         let alloc = *self.first.allocator();
         self.later.get(&pair.key(alloc)).copied()
     }

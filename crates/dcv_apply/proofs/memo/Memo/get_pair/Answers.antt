@@ -2,9 +2,8 @@ use Rattle.std.proofs.Common.{map, ◌++◌, Contains, IfSome, inl, inr, subst, 
 use Rattle.dcv_arena.specs.declared.nodes.Ref.{Ref}
 use Rattle.dcv_apply.specs.Memo.{EntryValue, MemoValue}
 use Rattle.dcv_apply.specs.Remembered.{entry_of, entry_of_pair}
-use Rattle.dcv_apply.specs.contracts.keys.KeyPartialEq.TheImpl.{eq-value as key_eq}
 use Rattle.dcv_apply.specs.contracts.keys.PairPartialEq.TheImpl.{eq-value as pair_eq}
-use Rattle.dcv_apply.proofs.MemoFacts.{same_entry, same_pair, found_if, found_in, promoted_were, parts_keep}
+use Rattle.dcv_apply.proofs.MemoFacts.{same_pair, found_if, found_in}
 use Rattle.dcv_apply.proofs.memo.Memo.get_pair.Goals as goal
 
 pub returns-then-is_some-clause-found : goal.returns-then-is_some-clause-found
@@ -30,27 +29,3 @@ returns-then-is_some-2-clause-found c =
     subst (λ (memo : MemoValue). IfSome found (λ root. Contains memo.entries (own root))) c.self.view_is
     (found_in young (old ++ (first ++ later)) own found (inr (found_in old (first ++ later) own found
     (inl (found_if pair_eq.it entry_of_pair same_pair c.self.inside.older.entries c.args.pair.now found (c.copied-old.ensures ∙ c.get-2.ensures.value))))))
-
-pub returns-clause-found : goal.returns-clause-found
-returns-clause-found c =
-    let found = c.copied.result in
-    let own : Ref → EntryValue = λ root. entry_of_pair (c.args.pair.now, root) in
-    let young = map entry_of_pair c.self.inside.younger.entries in
-    let old = map entry_of_pair c.self.inside.older.entries in
-    let first = map entry_of c.self.inside.first.entries in
-    let later = map entry_of c.self.inside.later.entries in
-    let there = found_if key_eq.it entry_of same_entry c.self.inside.later.entries c.key.result found (c.copied.ensures ∙ c.get-3.ensures.value) in
-    subst (λ (memo : MemoValue). IfSome found (λ root. Contains memo.entries (own root))) c.self.view_is
-    (found_in young (old ++ (first ++ later)) own found (inr (found_in old (first ++ later) own found (inr (found_in first later own found
-    (inr (subst (λ (at : Ref → EntryValue). IfSome found (λ root. Contains later (at root))) (λ i root. c.key.ensures root i) there)))))))
-
-pub returns-clause-kept : goal.returns-clause-kept
-returns-clause-kept c one there =
-    let young = map entry_of_pair c.self.inside.younger.entries in
-    let old = map entry_of_pair c.self.inside.older.entries in
-    let first = map entry_of c.self.inside.first.entries in
-    let later = map entry_of c.self.inside.later.entries in
-    subst (λ (memo : MemoValue). Contains memo.entries one) c.self.view_is
-    (parts_keep young (old ++ (first ++ later)) _ (parts_keep old (first ++ later) _ (parts_keep first later _
-    (λ one there. promoted_were key_eq.it entry_of same_entry c.self.inside.later.entries c.key.result one
-    (subst (λ cache. Contains (map entry_of cache.entries) one) c.get-3.follows.holds-at-none there)))) one there)
