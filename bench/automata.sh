@@ -12,25 +12,25 @@
 #   drawn    30,000 states that seem to be random, over three variables
 #   parity   5,000 states that each letter leads on in which an odd number of 16 variables are true
 #
-# The last figures: 27 November 2026, an Intel Xeon at 2.5 GHz, with little else to do, the least of three runs. The goals of minimise, a second
+# The last figures: 28 November 2026, an Intel Xeon at 2.5 GHz with nothing else to do, the least of three runs. The goals of minimise, a second
 # and 200 MB each, are reached:
 #
 #   task      table        size milliseconds megabytes
-#   minimise  chain       10002          6.3       2.7
-#   minimise  count       10001         13.9       3.9
-#   minimise  grid        28562         52.3      11.9
-#   minimise  drawn       29987        452.9      49.2
-#   minimise  parity       5000        130.1      22.9
-#   shortest  chain       10000          0.4       2.8
-#   shortest  count       10000          1.1       4.0
-#   shortest  grid          168          5.3      11.9
-#   shortest  drawn           1         20.0      49.2
-#   shortest  parity       4998          9.9      22.8
-#   separate  chain       10001         11.3       4.6
-#   separate  count       10000         22.3       6.0
-#   separate  grid        28561        107.8      16.3
-#   separate  drawn          30       1736.9      49.1
-#   separate  parity       4999        127.4      22.8
+#   minimise  chain       10002          6.1       2.8
+#   minimise  count       10001         11.7       4.1
+#   minimise  grid        28562         41.0      12.5
+#   minimise  drawn       29987        397.8      45.0
+#   minimise  parity       5000         75.5      21.0
+#   shortest  chain       10000          0.4       2.9
+#   shortest  count       10000          0.9       4.1
+#   shortest  grid          168          2.0      12.5
+#   shortest  drawn           1          5.4      45.0
+#   shortest  parity       4998          2.1      21.1
+#   separate  chain       10001         11.3       4.5
+#   separate  count       10000         22.4       5.9
+#   separate  grid        28561        106.3      16.0
+#   separate  drawn          30       1608.5      48.1
+#   separate  parity       4999        118.7      21.1
 set -euo pipefail
 here=$(cd "$(dirname "$(readlink -f "${BASH_SOURCE[0]}")")" && pwd)
 runs=${RUNS:-3}

@@ -16,43 +16,42 @@
 #
 # Goals: a start at most 5 ms, slen 9999 at most 200 ms, product 150 (some 23,000 states) at most 200 ms, m14 at most 2 s.
 #
-# The last figures: 27 November 2026, an Intel Xeon at 2.5 GHz with little else to do, the least of seven runs, beside MONA 1.4. Some 2 ms of each
+# The last figures: 28 November 2026, an Intel Xeon at 2.5 GHz with nothing else to do, the least of seven runs, beside MONA 1.4. Some 2 ms of each
 # are the program that tells the memory.
 #
-#   alternation           1.9 ms   1.4 MB     MONA    7.7 ms   4.4 MB
-#   always                4.4 ms   1.3 MB     MONA    6.8 ms   4.4 MB
-#   arbiter               4.8 ms   1.5 MB     MONA    7.2 ms   4.6 MB
-#   at_most               3.9 ms   1.5 MB     MONA    7.5 ms   4.6 MB
-#   door_closed           3.7 ms   1.5 MB     MONA    6.7 ms   4.4 MB
-#   gas_burner           24.8 ms   4.5 MB     MONA   21.9 ms   6.4 MB
-#   lamp                  3.7 ms   1.5 MB     MONA    6.9 ms   4.4 MB
-#   m14                  91.8 ms   3.7 MB
-#   mine_pump             4.6 ms   1.5 MB     MONA    7.4 ms   4.4 MB
-#   minimum_duration      4.1 ms   1.5 MB     MONA    7.2 ms   4.6 MB
-#   never_both            3.7 ms   1.4 MB     MONA    6.9 ms   4.4 MB
-#   product 100          40.7 ms   6.1 MB
-#   product 150          90.3 ms  11.2 MB
-#   product 50           13.1 ms   2.8 MB
-#   projection 99         4.9 ms   1.6 MB
-#   projection 999       12.1 ms   2.2 MB
-#   response              4.6 ms   1.5 MB     MONA    7.1 ms   4.4 MB
-#   scount 99             4.0 ms   1.5 MB
-#   scount 999            5.8 ms   1.8 MB
-#   scount 9999          26.2 ms   4.3 MB
-#   slen 99               3.8 ms   1.5 MB
-#   slen 999              4.7 ms   1.6 MB
-#   slen 9999            13.7 ms   3.2 MB
-#   slots 32              4.1 ms   1.7 MB
-#   start                 4.0 ms   1.3 MB
-#   window 10             8.4 ms   1.9 MB
-#   window 20            68.6 ms  16.0 MB     over the budget
-#   window 30            63.2 ms  15.7 MB     over the budget
+#   alternation             2.7 ms   1.9 MB     MONA    6.3 ms   4.4 MB
+#   always                  3.5 ms   1.9 MB     MONA    5.7 ms   4.4 MB
+#   arbiter                 3.6 ms   1.9 MB     MONA    6.9 ms   4.5 MB
+#   at_most                 3.4 ms   1.9 MB     MONA    7.4 ms   4.4 MB
+#   door_closed             3.7 ms   1.8 MB     MONA    6.2 ms   4.4 MB
+#   gas_burner             22.3 ms   4.6 MB     MONA   24.5 ms   6.4 MB
+#   lamp                    3.9 ms   1.9 MB     MONA    7.0 ms   4.4 MB
+#   m14                    91.8 ms   4.1 MB
+#   mine_pump               4.1 ms   1.9 MB     MONA    7.3 ms   4.4 MB
+#   minimum_duration        4.1 ms   1.9 MB     MONA    6.7 ms   4.5 MB
+#   never_both              3.9 ms   1.9 MB     MONA    6.0 ms   4.4 MB
+#   product 100            27.8 ms   6.5 MB
+#   product 150            62.2 ms  11.4 MB
+#   product 50             10.1 ms   3.3 MB
+#   projection 99           4.3 ms   1.9 MB
+#   projection 999          9.5 ms   2.6 MB
+#   response                3.9 ms   1.8 MB     MONA    6.3 ms   4.4 MB
+#   scount 99               4.2 ms   1.9 MB
+#   scount 999              5.7 ms   2.1 MB
+#   scount 9999            22.6 ms   5.0 MB
+#   slen 99                 3.9 ms   1.9 MB
+#   slen 999                4.5 ms   2.0 MB
+#   slen 9999              12.9 ms   3.3 MB
+#   slots 32                4.1 ms   2.0 MB
+#   start                   3.6 ms   1.9 MB
+#   window 10               6.6 ms   2.3 MB
+#   window 20              42.7 ms  14.5 MB     over the budget
+#   window 30              42.2 ms  14.1 MB     over the budget
 #
-# With COMMAND=automaton, the least of three runs on the day: the examples as above, slen 9999 25.6 ms and 5.2 MB, scount 9999 53.2 ms and 6.3 MB,
-# product 150 178.1 ms and 14.2 MB, m14 94.7 ms and 4.1 MB.
+# With COMMAND=automaton, the least of three runs on the day: the examples as above, slen 9999 23.8 ms and 5.2 MB, scount 9999 45.0 ms and 7.7 MB,
+# product 150 134.6 ms and 13.5 MB, m14 89.8 ms and 4.1 MB.
 #
-# The line of gas_burner is of the same day's last program, the least of forty runs in turns with MONA; the program before took 30.6 ms in these turns.
-# `product 150` took 96.4 ms there, and now takes 90.8.
+# `gas_burner` takes 126.5 million instructions and `product 150` 330.9 million. A day before they took 158.7 and 492 million, and 24.8 and 90.3 ms.
 #
 # A count that is written out as positions, as bench/to_mona.py does, is no fair question for MONA: `product 50` took it 28 s and 334 MB.
 set -euo pipefail

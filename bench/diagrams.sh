@@ -15,39 +15,39 @@
 #
 # A case is a word of dcv_bench's arguments, beside its slots and how often it is done.
 #
-# The last figures: 27 November 2026, an Intel Xeon at 2.5 GHz whose host others kept busy, so a quiet machine takes up to half as long. The two
-# programs took turns; each figure is the least of two passes, in nanoseconds: of 27 runs and more at 16 and 32 slots, and of eight to sixteen at
-# 20. The goal is at most twice the time of C. It is reached where nodes are built, and nowhere else in both passes:
+# The last figures: 28 November 2026, an Intel Xeon at 2.5 GHz with nothing else to do, the two programs in turns, in nanoseconds: the least of
+# forty runs for the parities, and of twelve for the others. The goal, at most twice the time of C, is reached everywhere:
 #
 #   case         slots      size       rattle            C  times
-#   build           16      8316      1989568      1481702   1.34
-#   build           20    107040     38903936     30925468   1.26
-#   random          16      8317      5915713      2392589   2.47
-#   random          20    107093    195640150     68673518   2.85
-#   multiplier      16      3859      1837086       748670   2.45
-#   multiplier      20     31381     15238352      9284540   1.64
-#   parity          16        15         8904         2579   3.45
-#   parity          20        19        12103         3551   3.41
-#   parity          32        31        18424         5252   3.51
-#   remap           16      3825       534440       219901   2.43
-#   remap           20     31258      5642869      2529672   2.23
-#   letters         16         2       140569        39287   3.58
-#   letters         20         2      1924922       489745   3.93
+#   build           16      8316      1935421      1444097   1.34
+#   build           20    107040     35329612     25119834   1.41
+#   random          16      8317      2088121      1639988   1.27
+#   random          20    107093     48034403     37178218   1.29
+#   multiplier      16      3859       738231       501707   1.47
+#   multiplier      20     31381      7299416      4894096   1.49
+#   parity          16        15         4494         2542   1.77
+#   parity          20        19         6284         3488   1.80
+#   parity          32        31         9710         5081   1.91
+#   remap           16      3825       178233       142151   1.25
+#   remap           20     31258      1869698      1652579   1.13
+#   letters         16         2        49995        39317   1.27
+#   letters         20         2       460407       403707   1.14
 #
-# At 20 slots the two passes differ: build 0.84 and 2.04, random 1.80 and 2.87, multiplier 2.25 and 1.64. Builds of the same day that had the
-# operations alone took, in quieter minutes, 2.03 (random 16), 2.23 (multiplier 16) and 3.3 (parity 32) times as long as C.
+# The parity of 32 slots took 2.04 times as long as in C in one series of twelve runs: it is over so soon that making and dropping the memo counts.
 #
-# Instructions of one operation (callgrind), which no other load disturbs: in C, in Rattle where the memo was the cache alone, and now.
+# Instructions of one operation (callgrind), which no other load disturbs: in C, in Rattle where two operands were a list and places stood in
+# maps, and now.
 #
-#   build 16       10041756   14125015   14714851
-#   random 16       7561184   30411361   19998822
-#   multiplier 16   2663414   10674652    7306239
-#   parity 32         51722     217048     147126
-#   remap 16         848353    2470656    2478539
-#   letters 16       288605    1345691    1355141
+#   build 16       10041756   14714854   14969543
+#   random 16       7561184   19170043   12678413
+#   random 20      96335609  305228626  175992807
+#   multiplier 16   2643834    7003623    4685245
+#   parity 32         51734     140573      81192
+#   remap 16         845005    2480366    1357896
+#   letters 16       288604    1355145     400296
 #
-# Of a merge (parity, 32 slots) the visits have 57 in a hundred, what the memo puts 15, nodes 8, the comparison of keys 5. A visit moves keys of 48
-# bytes, takes any number of operands, and begins by setting its locals to zero; the C program has two operands and a memo in one array.
+# Of a merge (parity, 32 slots) what is gone through has 50 in a hundred, what the memo puts 25, nodes 13. A look-up that finds nothing and the entry that
+# is put later each hash the operands and search the map; an entry that is made at the look-up and filled later would save one of the two.
 set -euo pipefail
 here=$(cd "$(dirname "$(readlink -f "${BASH_SOURCE[0]}")")" && pwd)
 runs=${RUNS:-5}

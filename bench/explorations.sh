@@ -17,28 +17,27 @@
 #
 # A case is a word of dcv_bench's arguments, beside its size and how often it is done.
 #
-# The last figures: 27 November 2026, an Intel Xeon at 2.5 GHz whose host others kept busy, the two programs in turns, the least of two passes of
-# fourteen runs, in nanoseconds a state. The goals are 400 for grid, 12,000 for wide and 3,000 for shared. Grid misses its own here, where C
-# took 203; on a quiet machine C took 153. A build of the same day took 404 in a quieter minute:
+# The last figures: 28 November 2026, an Intel Xeon at 2.5 GHz with nothing else to do, the two programs in turns, the least of ten runs, in
+# nanoseconds a state. The goals are 400 for grid, 12,000 for wide and 3,000 for shared, and are reached:
 #
 #   case       size   states   rattle        C  times
-#   counter   30000    30000      485
-#   grid        170    28900      446      203   2.20
-#   wide        100    10000     8387     4520   1.86
-#   shared      100    10000     2366     1230   1.92
-#   chop        100    19800     3601
-#   exists    10000    10000      916
-#   sets        100     5050     8581
+#   counter   30000    30000      284
+#   grid        170    28900      277      162   1.71
+#   wide        100    10000     2860     2621   1.09
+#   shared      100    10000     1027      781   1.31
+#   chop        100    19800     3229
+#   exists    10000    10000      546
+#   sets        100     5050     7967
 #
-# Instructions of one exploration (callgrind), which no other load disturbs: in C, in Rattle where the memo was the cache alone, and now.
+# Instructions of one exploration (callgrind), which no other load disturbs: in C, in Rattle where two operands were a list, and now.
 #
-#   grid       20326323    80390122    59872555
-#   wide       81028835   265993842   234797581
-#   shared     30893953   116909152    91712033
-#   counter                81229048    59788873
-#   exists                 36404725    32844684
-#   chop                  589632777   397077812
-#   sets                              312596617
+#   grid       20326323    59872555    44913022
+#   wide       81028835   234797581   120182722
+#   shared     30893953    91712033    51262314
+#   counter                59788873    44684838
+#   exists                 32844684    31069020
+#   chop                  397077812   389816147
+#   sets                  312596617   309976303
 set -euo pipefail
 here=$(cd "$(dirname "$(readlink -f "${BASH_SOURCE[0]}")")" && pwd)
 runs=${RUNS:-5}
