@@ -8,8 +8,8 @@ use Rattle.dcv_language.specs.AtomMachines.{constant_machine, point_machine, run
 use Rattle.dcv_language.specs.MachineLaws.{ConstantMachineAccepts, PointMachineAccepts, RunMachineAccepts, EveryMachineAccepts, UnitMachineAccepts}
 use Rattle.dcv_language.specs.MachineLaws.{SlenMachineAccepts, ScountMachineAccepts, SdurMachineAccepts}
 use Rattle.dcv_language.specs.MachineLaws.{EqualSettles, LessSettles, AtMostSettles, GreaterSettles, AtLeastSettles}
-use Rattle.dcv_scope.specs.Core.{BasicConstant, BasicPoint, BasicRun, BasicEvery, BasicUnit, BasicSlen, BasicScount, BasicSdur}
-use Rattle.dcv_scope.specs.Holds.{truth_holds}
+use Rattle.dcv_core.specs.Core.{BasicConstant, BasicPoint, BasicRun, BasicEvery, BasicUnit, BasicSlen, BasicScount, BasicSdur}
+use Rattle.dcv_core.specs.Holds.{truth_holds}
 use Rattle.dcv_atoms.specs.AtomRows.{kept_constant, constant_found, kept_point, point_found, kept_run, run_found, kept_every, every_found}
 use Rattle.dcv_atoms.specs.AtomRows.{kept_unit, unit_found, kept_count, count_found, kept_duration, duration_found}
 use Rattle.dcv_atoms.specs.Laws.{MachineAcceptsForm}

@@ -12,8 +12,8 @@ use Rattle.dcv_arena.proofs.Growth.{keeps_all}
 use Rattle.dcv_arena.proofs.Members.{Contains-flat_map, Contains-flat_map_cases}
 use Rattle.dcv_arena.proofs.Roots.{no_nodes, one_more, kept_in_turn}
 use Rattle.dcv_arena.proofs.Tables.{same_table}
-use Rattle.dcv_scope.specs.Core.{PlainTruth}
-use Rattle.dcv_scope.specs.Holds.{truth_holds}
+use Rattle.dcv_core.specs.Core.{PlainTruth}
+use Rattle.dcv_core.specs.Holds.{truth_holds}
 use Rattle.dcv_atoms.specs.Parts.{number_at, part_nodes}
 use Rattle.dcv_atoms.specs.Functions.{Means}
 use Rattle.dcv_atoms.specs.Built.{truth_table, HasParts, Builds, Exceeds, Leads}

@@ -6,9 +6,9 @@ use Rattle.dcv_arena.specs.Arena.{ArenaValue, IsRef, value_of, table_of, places,
 use Rattle.dcv_arena.specs.Diagram.{node_count}
 use Rattle.dcv_arena.specs.declared.nodes.Ref.{Ref}
 use Rattle.dcv_arena.proofs.Tables.{same_table}
-use Rattle.dcv_scope.specs.Core.{PlainTruth}
-use Rattle.dcv_scope.specs.Holds.{truth_holds, all_truths, some_truth, iff_truths}
-use Rattle.dcv_scope.specs.TruthViews.{truths_of}
+use Rattle.dcv_core.specs.Core.{PlainTruth}
+use Rattle.dcv_core.specs.Holds.{truth_holds, all_truths, some_truth, iff_truths}
+use Rattle.dcv_core.specs.TruthViews.{truths_of}
 use Rattle.dcv_atoms.specs.declared.functions.Join.{Join}
 use Rattle.dcv_atoms.specs.declared.functions.Join.TheVariants.{And, Or, Iff}
 use Rattle.dcv_atoms.specs.Parts.{number_of_truth, parts, all_parts}

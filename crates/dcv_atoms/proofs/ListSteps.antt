@@ -6,10 +6,10 @@ use Rattle.std.proofs.Math.ListN.{drop_of_length-le}
 use Rattle.std.specs.Result.{IfOk, OnOk}
 use Rattle.dcv_arena.specs.Arena.{ArenaValue, IsArena, KeepsRefs, AddsOnlyNodesOf, count_with}
 use Rattle.dcv_arena.specs.declared.nodes.Ref.{Ref}
-use Rattle.dcv_scope.specs.declared.truths.Truth.{Truth}
-use Rattle.dcv_scope.specs.Core.{PlainTruth, TruthNot}
-use Rattle.dcv_scope.specs.Holds.{truth_holds}
-use Rattle.dcv_scope.specs.TruthViews.{plain_truth, truths_of}
+use Rattle.dcv_core.specs.declared.truths.Truth.{Truth}
+use Rattle.dcv_core.specs.Core.{PlainTruth, TruthNot}
+use Rattle.dcv_core.specs.Holds.{truth_holds}
+use Rattle.dcv_core.specs.TruthViews.{plain_truth, truths_of}
 use Rattle.dcv_atoms.specs.declared.faults.AtomFault.{AtomFault}
 use Rattle.dcv_atoms.specs.declared.functions.Join.{Join}
 use Rattle.dcv_atoms.specs.Parts.{parts, number_at}

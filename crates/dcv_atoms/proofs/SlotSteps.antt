@@ -4,7 +4,7 @@ use Rattle.std.proofs.Math.ListN.{get_or-eq_default}
 use Rattle.dcv_arena.specs.Arena.{ArenaValue, IsArena, IsRef, IsNew, value_of, level_of, KeepsRefs, AddsOnlyNodesOf}
 use Rattle.dcv_arena.specs.declared.nodes.Ref.{Ref}
 use Rattle.dcv_arena.proofs.Together.{new_is_one_more}
-use Rattle.dcv_scope.specs.Core.{TruthSlot}
+use Rattle.dcv_core.specs.Core.{TruthSlot}
 use Rattle.dcv_atoms.specs.Parts.{number_of_truth, number_at}
 use Rattle.dcv_atoms.specs.Built.{Builds, Exceeds}
 use Rattle.dcv_atoms.proofs.Building.{builds_one, builds_there, exceeds_one}

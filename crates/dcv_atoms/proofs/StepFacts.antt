@@ -2,9 +2,9 @@
 use Rattle.std.proofs.Common.{List, slice_get, refl, sym, ap, subst, ◌∙◌}
 use Rattle.std.specs.Option.{option_map}
 use Rattle.std.proofs.lemmas.Option.{slice_get-map}
-use Rattle.dcv_scope.specs.Steps.{CoreStep, steps_of, without_core}
-use Rattle.dcv_scope.specs.StepWords.{IsOperation}
-use Rattle.dcv_scope.specs.Laws.{WordsOfAtom, StepsAreOperations}
+use Rattle.dcv_core.specs.Steps.{CoreStep, steps_of, without_core}
+use Rattle.dcv_core.specs.StepWords.{IsOperation}
+use Rattle.dcv_core.specs.Laws.{WordsOfAtom, StepsAreOperations}
 use Rattle.dcv_atoms.specs.Laws.{MachineAcceptsForm, MachineAcceptsAtom, MachineAcceptsStep, StepIsAtom}
 
 pub accepts_atom : MachineAcceptsForm → WordsOfAtom → MachineAcceptsAtom

@@ -14,8 +14,8 @@ use Rattle.dcv_language.specs.AtomMachines.{RunState, RunStart, RunFirst, RunOk,
 use Rattle.dcv_language.specs.AtomMachines.{EveryState, EveryStart, EveryOk, EveryBad, every_machine}
 use Rattle.dcv_language.specs.AtomMachines.{UnitState, UnitStart, UnitOne, UnitGood, UnitDead, unit_machine}
 use Rattle.dcv_language.specs.AtomMachines.{slen_machine, scount_machine, DurationState, DurationStart, Lasted as DurationLasted, sdur_machine}
-use Rattle.dcv_scope.specs.Core.{PlainBasic, BasicConstant, BasicPoint, BasicRun, BasicEvery, BasicUnit, BasicSlen, BasicScount, BasicSdur}
-use Rattle.dcv_scope.specs.Holds.{truth_holds}
+use Rattle.dcv_core.specs.Core.{PlainBasic, BasicConstant, BasicPoint, BasicRun, BasicEvery, BasicUnit, BasicSlen, BasicScount, BasicSdur}
+use Rattle.dcv_core.specs.Holds.{truth_holds}
 use Rattle.dcv_atoms.specs.declared.states.AtomMacro.{AtomMacro}
 use Rattle.dcv_atoms.specs.declared.states.AtomMacro.TheVariants.{Start, First, Good, Last, Bad, Count, Lasted}
 use Rattle.dcv_atoms.specs.Embedded.{embedded}

@@ -4,7 +4,7 @@
 use Rattle.std.specs.Prelude.{◌≡◌, length}
 use Rattle.dcv_arena.specs.Arena.{ArenaValue, IsArena}
 use Rattle.dcv_arena.specs.declared.nodes.Ref.{Ref}
-use Rattle.dcv_scope.specs.Core.{PlainBasic}
+use Rattle.dcv_core.specs.Core.{PlainBasic}
 use Rattle.dcv_atoms.specs.AtomRows.{test_of}
 use Rattle.dcv_atoms.specs.Functions.{Means}
 use Rattle.dcv_atoms.specs.Numbers.{HasRoom}

@@ -10,7 +10,7 @@ use Rattle.std.specs.List.{All, flat_map}
 use Rattle.dcv_arena.specs.Arena.{ArenaValue, IsArena, IsRef, table_of, KeepsRefs, HasOnlyNodesOf}
 use Rattle.dcv_arena.specs.Diagram.{as_table}
 use Rattle.dcv_arena.specs.declared.nodes.Ref.{Ref}
-use Rattle.dcv_scope.specs.Core.{PlainTruth}
+use Rattle.dcv_core.specs.Core.{PlainTruth}
 use Rattle.dcv_atoms.specs.declared.functions.Join.{Join}
 use Rattle.dcv_atoms.specs.Functions.{Means, unit_of, all_joined}
 use Rattle.dcv_atoms.specs.Parts.{parts, number_at, part_nodes}

@@ -10,8 +10,8 @@ use Rattle.std.specs.Prelude.{◌≡◌, ◌<◌, ◌==◌, ℕ, Bool, true, fal
 use Rattle.dcv_arena.specs.Arena.{ArenaValue, IsArena, IsRef, value_of}
 use Rattle.dcv_arena.specs.declared.nodes.Ref.{Ref}
 use Rattle.dcv_logic.specs.Value.{iff}
-use Rattle.dcv_scope.specs.Core.{PlainTruth, PlainTruths, TruthAnd, TruthOr, TruthIff}
-use Rattle.dcv_scope.specs.Holds.{truth_holds}
+use Rattle.dcv_core.specs.Core.{PlainTruth, PlainTruths, TruthAnd, TruthOr, TruthIff}
+use Rattle.dcv_core.specs.Holds.{truth_holds}
 use Rattle.dcv_atoms.specs.declared.functions.Join.{Join}
 use Rattle.dcv_atoms.specs.declared.functions.Join.TheVariants.{And, Or, Iff}
 use Rattle.dcv_atoms.specs.Parts.{number_of_truth}

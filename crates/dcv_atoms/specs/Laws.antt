@@ -1,10 +1,10 @@
 -- The laws that `src/laws.rt` proves.
 use Rattle.std.specs.Prelude.{◌≡◌, ℕ, Some, slice_get, map}
 use Rattle.dcv_syntax.specs.declared.names.Span.{Span}
-use Rattle.dcv_scope.specs.Core.{PlainBasic, CoreTree, CoreAtom}
-use Rattle.dcv_scope.specs.Holds.{words_of}
-use Rattle.dcv_scope.specs.Steps.{PlainCore, PlainStep, OpAtom, steps_of, without_core}
-use Rattle.dcv_scope.specs.StepWords.{basic_words}
+use Rattle.dcv_core.specs.Core.{PlainBasic, CoreTree, CoreAtom}
+use Rattle.dcv_core.specs.Holds.{words_of}
+use Rattle.dcv_core.specs.Steps.{PlainCore, PlainStep, OpAtom, steps_of, without_core}
+use Rattle.dcv_core.specs.StepWords.{basic_words}
 use Rattle.dcv_language.specs.Automaton.{accepts}
 use Rattle.dcv_language.specs.Language.{HaveSameBehaviours}
 use Rattle.dcv_language.specs.MachineLaws.{AcceptsWordsOf}

@@ -1,7 +1,7 @@
 -- Which numbers a measure may be compared with.
 --     HasRoom basic     there is a number of 32 bits for one more than that with which the form compares
 use Rattle.std.specs.Prelude.{◌+◌, ◌^◌, ◌<◌}
-use Rattle.dcv_scope.specs.Core.{PlainBasic, BasicConstant, BasicPoint, BasicRun, BasicEvery, BasicUnit, BasicSlen, BasicScount, BasicSdur}
+use Rattle.dcv_core.specs.Core.{PlainBasic, BasicConstant, BasicPoint, BasicRun, BasicEvery, BasicUnit, BasicSlen, BasicScount, BasicSdur}
 
 abbrev pub HasRoom : PlainBasic → Type 0
 HasRoom (BasicConstant truth) = Unit {0}

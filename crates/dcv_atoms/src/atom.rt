@@ -1,8 +1,8 @@
 // The machine of a form.
 ghost use Rattle.std.specs.Prelude.{◌≡◌, ◌<◌, ◌≤◌, ◌==◌, ◌↔◌, ℕ, List, [], Bool, false, Err, length, IfOk, OnOk, IsTrue, slice_index_or};
 ghost use Rattle.dcv_arena.specs.Arena.{IsRef, IsArena};
-ghost use Rattle.dcv_scope.specs.Core.{PlainBasic};
-ghost use Rattle.dcv_scope.specs.TruthViews.{plain_basic};
+ghost use Rattle.dcv_core.specs.Core.{PlainBasic};
+ghost use Rattle.dcv_core.specs.TruthViews.{plain_basic};
 ghost use Rattle.dcv_atoms.specs.declared.states.AtomMacro.{AtomMacro};
 ghost use Rattle.dcv_atoms.specs.declared.faults.AtomFault.TheVariants.{Nodes};
 ghost use Rattle.dcv_atoms.specs.AtomRows.{atom_machine, test_of, after_letter};
@@ -19,8 +19,8 @@ use crate::proposition::diagram;
 use crate::rows;
 use crate::states::AtomMacro;
 use dcv_arena::{Arena, Ref};
+use dcv_core::{Basic, Core, Op};
 use dcv_explore::{Limits, Machine, Operands};
-use dcv_scope::{Basic, Core, Op};
 use std::alloc::{AllocError, Global};
 use std::marker::Model;
 
@@ -35,8 +35,8 @@ pub struct Atom<'a> {
 
 impl<'a> Model for Atom<'a> {
     ghost use Rattle.std.specs.Coded.{codes};
-    ghost use Rattle.dcv_scope.specs.TruthCode.{truth_code};
-    ghost use Rattle.dcv_scope.specs.TruthViews.{plain_basic};
+    ghost use Rattle.dcv_core.specs.TruthCode.{truth_code};
+    ghost use Rattle.dcv_core.specs.TruthViews.{plain_basic};
     ghost use Rattle.dcv_atoms.specs.AtomValue.{AtomValue, IsAtomValue, atom_value};
 
     ghost Value = { AtomValue };

@@ -1,8 +1,8 @@
 //! Laws of atoms. Each function here does nothing: its contract is the law.
 ghost use Rattle.dcv_atoms.specs.Laws.{MachineAcceptsForm, MachineAcceptsAtom, MachineAcceptsStep, StepIsAtom};
 
+use dcv_core::laws::{steps_are_operations, words_are_operations};
 use dcv_language::machine_laws::{brackets_accept, comparisons_settle, measures_accept};
-use dcv_scope::laws::{steps_are_operations, words_are_operations};
 
 /// The machine of a form accepts the form's words.
 pub fn machines_accept_forms()

@@ -4,9 +4,9 @@
 // would take as many steps as they have truths together, which is exponential in the slots.
 ghost use Rattle.std.specs.Prelude.{◌≡◌, ℕ, Bool, List, [], ◌∷◌, Err, map, not, IfOk, OnOk};
 ghost use Rattle.dcv_arena.specs.Arena.{IsRef, IsArena};
-ghost use Rattle.dcv_scope.specs.Core.{PlainTruth, TruthConstant, TruthSlot, TruthNot};
-ghost use Rattle.dcv_scope.specs.Holds.{truth_holds};
-ghost use Rattle.dcv_scope.specs.TruthViews.{plain_truth, truths_of};
+ghost use Rattle.dcv_core.specs.Core.{PlainTruth, TruthConstant, TruthSlot, TruthNot};
+ghost use Rattle.dcv_core.specs.Holds.{truth_holds};
+ghost use Rattle.dcv_core.specs.TruthViews.{plain_truth, truths_of};
 ghost use Rattle.dcv_atoms.specs.Parts.{parts};
 ghost use Rattle.dcv_atoms.specs.Functions.{Means, list_of};
 ghost use Rattle.dcv_atoms.specs.Built.{Builds, Exceeds};
@@ -15,7 +15,7 @@ ghost use Rattle.dcv_atoms.specs.declared.faults.AtomFault.TheVariants.{Nodes};
 use crate::faults::AtomFault;
 use crate::functions::{Function, Join};
 use dcv_arena::{Arena, Ref};
-use dcv_scope::Truth;
+use dcv_core::Truth;
 use std::alloc::Global;
 
 // The letters in which the proposition holds.

@@ -2,13 +2,13 @@
 ghost use Rattle.std.specs.Prelude.{◌≡◌, ◌<◌, ◌+◌, ◌^◌, ℕ, Bool, List, []};
 ghost use Rattle.dcv_logic.specs.Satisfaction.{compares};
 ghost use Rattle.dcv_language.specs.AtomMachines.{capped, point_next, run_next, every_next, unit_next, slen_next, scount_next, sdur_next};
-ghost use Rattle.dcv_scope.specs.TruthViews.{plain_basic};
+ghost use Rattle.dcv_core.specs.TruthViews.{plain_basic};
 ghost use Rattle.dcv_atoms.specs.AtomRows.{kept_point, point_found, kept_run, run_found, kept_every, every_found, kept_unit, unit_found};
 ghost use Rattle.dcv_atoms.specs.AtomRows.{kept_count, count_found, kept_duration, duration_found, after_letter, is_accepted};
 ghost use Rattle.dcv_atoms.specs.Numbers.{HasRoom};
 
 use crate::states::AtomMacro;
-use dcv_scope::{Basic, Rel};
+use dcv_core::{Basic, Rel};
 
 // The state after a letter.
 pub(crate) fn after(basic: &Basic, from: AtomMacro, holds: bool) -> AtomMacro

@@ -9,11 +9,11 @@ use Rattle.dcv_language.specs.Table.{Table, automaton_of as table_automaton}
 use Rattle.dcv_language.proofs.OperationRuns.{not_accepts, and_accepts, or_accepts, iff_accepts, chop_accepts, star_accepts, exists_accepts}
 use Rattle.dcv_language.proofs.OperationSets.{of_set}
 use Rattle.dcv_language.proofs.Sameness.{outside_same, intersection_same, union_same, agreement_same, chop_same, star_same, projection_same}
-use Rattle.dcv_scope.specs.Core.{CoreTree, PlainBasic, BasicConstant, BasicPoint, BasicRun, BasicEvery, BasicUnit, BasicSlen, BasicScount, BasicSdur}
-use Rattle.dcv_scope.specs.Holds.{words_of}
-use Rattle.dcv_scope.specs.Steps.{PlainOp, OpAtom, OpNot, OpAnd, OpOr, OpIff, OpChop, OpStar, OpExists, PlainStep, steps_before, steps_of}
-use Rattle.dcv_scope.specs.StepWords.{basic_words, TakesOne, TakesTwo, IsOperation}
-use Rattle.dcv_scope.proofs.StepList.{steps_are_operations}
+use Rattle.dcv_core.specs.Core.{CoreTree, PlainBasic, BasicConstant, BasicPoint, BasicRun, BasicEvery, BasicUnit, BasicSlen, BasicScount, BasicSdur}
+use Rattle.dcv_core.specs.Holds.{words_of}
+use Rattle.dcv_core.specs.Steps.{PlainOp, OpAtom, OpNot, OpAnd, OpOr, OpIff, OpChop, OpStar, OpExists, PlainStep, steps_before, steps_of}
+use Rattle.dcv_core.specs.StepWords.{basic_words, TakesOne, TakesTwo, IsOperation}
+use Rattle.dcv_core.proofs.StepList.{steps_are_operations}
 use Rattle.dcv_dfa.specs.Raw.{RawValue, automaton_of}
 use Rattle.dcv_dfa.specs.Auto.{table_of_states}
 use Rattle.dcv_atoms.specs.AtomRows.{atom_machine}

@@ -5,10 +5,10 @@ use Rattle.std.proofs.lemmas.Option.{slice_get-map}
 use Rattle.dcv_language.specs.Language.{Language, outside}
 use Rattle.dcv_language.specs.Operations.{intersection, union, agreement, chop, star, projection}
 use Rattle.dcv_language.specs.OperationMachines.{not_machine, and_machine, or_machine, iff_machine, chop_machine, star_machine, exists_machine}
-use Rattle.dcv_scope.specs.Core.{CoreTree, PlainBasic}
-use Rattle.dcv_scope.specs.Steps.{PlainOp, OpAtom, OpNot, OpAnd, OpOr, OpIff, OpChop, OpStar, OpExists, PlainStep, CoreStep, PlainCore, without_core, steps_of}
-use Rattle.dcv_scope.specs.StepWords.{TakesOne, TakesTwo, IsOperation}
-use Rattle.dcv_scope.proofs.StepList.{steps_are_operations}
+use Rattle.dcv_core.specs.Core.{CoreTree, PlainBasic}
+use Rattle.dcv_core.specs.Steps.{PlainOp, OpAtom, OpNot, OpAnd, OpOr, OpIff, OpChop, OpStar, OpExists, PlainStep, CoreStep, PlainCore, without_core, steps_of}
+use Rattle.dcv_core.specs.StepWords.{TakesOne, TakesTwo, IsOperation}
+use Rattle.dcv_core.proofs.StepList.{steps_are_operations}
 use Rattle.dcv_dfa.specs.Raw.{RawValue, automaton_of}
 use Rattle.dcv_atoms.specs.Steps.{IsAtom}
 use Rattle.dcv_explore.specs.declared.explorer.Limits.{Limits}

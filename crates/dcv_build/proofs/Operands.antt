@@ -5,11 +5,11 @@ use Rattle.std.proofs.lemmas.Option.{slice_get-map, get_or_from_slice_get, same_
 use Rattle.dcv_language.specs.Automaton.{accepts}
 use Rattle.dcv_language.specs.Language.{Language, HaveSameBehaviours}
 use Rattle.dcv_language.specs.Table.{Table, automaton_of as table_automaton}
-use Rattle.dcv_scope.specs.Core.{CoreTree}
-use Rattle.dcv_scope.specs.Holds.{words_of}
-use Rattle.dcv_scope.specs.Steps.{PlainOp, PlainStep, CoreStep, PlainCore, without_core, steps_before, steps_of}
-use Rattle.dcv_scope.specs.StepWords.{TakesOne, TakesTwo}
-use Rattle.dcv_scope.proofs.StepList.{some_same}
+use Rattle.dcv_core.specs.Core.{CoreTree}
+use Rattle.dcv_core.specs.Holds.{words_of}
+use Rattle.dcv_core.specs.Steps.{PlainOp, PlainStep, CoreStep, PlainCore, without_core, steps_before, steps_of}
+use Rattle.dcv_core.specs.StepWords.{TakesOne, TakesTwo}
+use Rattle.dcv_core.proofs.StepList.{some_same}
 use Rattle.dcv_dfa.specs.Raw.{RawValue, IsRaw, automaton_of}
 use Rattle.dcv_dfa.specs.Auto.{table_of_states}
 use Rattle.dcv_dfa.proofs.States.{table_has_the_flags, table_has_the_steps, leads_below}

@@ -4,10 +4,10 @@ use Rattle.std.proofs.lemmas.Bool.{cases_order}
 use Rattle.std.proofs.lemmas.Option.{slice_get-get_or, slice_get_within}
 use Rattle.dcv_language.specs.Laws.{OneCanonicalTable}
 use Rattle.dcv_language.specs.Table.{Table}
-use Rattle.dcv_scope.specs.Core.{CoreTree}
-use Rattle.dcv_scope.specs.Holds.{words_of}
-use Rattle.dcv_scope.specs.Laws.{StepsAreOperations}
-use Rattle.dcv_scope.specs.Steps.{PlainStep, steps_of}
+use Rattle.dcv_core.specs.Core.{CoreTree}
+use Rattle.dcv_core.specs.Holds.{words_of}
+use Rattle.dcv_core.specs.Laws.{StepsAreOperations}
+use Rattle.dcv_core.specs.Steps.{PlainStep, steps_of}
 use Rattle.dcv_explore.specs.declared.explorer.Limits.{Limits}
 use Rattle.dcv_explore.specs.Budget.{Kind, Exceeds}
 use Rattle.dcv_explore.proofs.Budgets.{within_excludes_exceeding}

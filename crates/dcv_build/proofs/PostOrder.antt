@@ -3,9 +3,9 @@
 use Rattle.std.proofs.Common.{◌≡◌, ℕ, suc, ◌+◌, ◌<◌, ◌≤◌, List, [], ◌∷◌, ◌++◌, Some, length, refl, sym, ap, subst, ◌∙◌, arith}
 use Rattle.std.specs.List.{slice_get}
 use Rattle.std.proofs.lemmas.Option.{slice_get_within}
-use Rattle.dcv_scope.specs.Core.{CoreTree, CoreAtom, CoreNot, CoreAnd, CoreOr, CoreIff, CoreChop, CoreStar, CoreExists}
-use Rattle.dcv_scope.specs.Steps.{PlainOp, OpAtom, OpNot, OpAnd, OpOr, OpIff, OpChop, OpStar, OpExists, PlainStep, steps_before, own_step, steps_from, steps_of}
-use Rattle.dcv_scope.proofs.StepList.{steps_from-length, some_same, last_step, Has, has_left, has_one, last_of_one, last_of_two, first_of_two, second_of_two, by_place_of_one, by_place_of_two, has_itself}
+use Rattle.dcv_core.specs.Core.{CoreTree, CoreAtom, CoreNot, CoreAnd, CoreOr, CoreIff, CoreChop, CoreStar, CoreExists}
+use Rattle.dcv_core.specs.Steps.{PlainOp, OpAtom, OpNot, OpAnd, OpOr, OpIff, OpChop, OpStar, OpExists, PlainStep, steps_before, own_step, steps_from, steps_of}
+use Rattle.dcv_core.proofs.StepList.{steps_from-length, some_same, last_step, Has, has_left, has_one, last_of_one, last_of_two, first_of_two, second_of_two, by_place_of_one, by_place_of_two, has_itself}
 
 -- how many steps stand between where a step's operands begin and the step, by its operator
 pub record IsAfterOne (steps : List PlainStep) (operand before : ℕ) : Type 0 where

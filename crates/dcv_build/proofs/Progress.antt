@@ -8,10 +8,10 @@ use Rattle.dcv_language.specs.Canonical.{IsCanonical}
 use Rattle.dcv_language.specs.Language.{HaveSameBehaviours}
 use Rattle.dcv_language.specs.Table.{Table}
 use Rattle.dcv_language.proofs.Canonicals.{canonical_for_same_behaviours}
-use Rattle.dcv_scope.specs.Core.{CoreTree}
-use Rattle.dcv_scope.specs.Holds.{words_of}
-use Rattle.dcv_scope.specs.Steps.{PlainStep, steps_before, steps_of}
-use Rattle.dcv_scope.proofs.StepList.{steps_are_operations, some_same}
+use Rattle.dcv_core.specs.Core.{CoreTree}
+use Rattle.dcv_core.specs.Holds.{words_of}
+use Rattle.dcv_core.specs.Steps.{PlainStep, steps_before, steps_of}
+use Rattle.dcv_core.proofs.StepList.{steps_are_operations, some_same}
 use Rattle.dcv_dfa.specs.Raw.{RawValue}
 use Rattle.dcv_dfa.specs.Auto.{table_of_states}
 use Rattle.dcv_explore.specs.declared.explorer.Limits.{Limits}

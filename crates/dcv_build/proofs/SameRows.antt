@@ -2,8 +2,8 @@
 use Rattle.std.proofs.Common.{◌≡◌, ℕ, suc, ◌+◌, ◌<◌, List, [], slice_index_or, subst, arith}
 use Rattle.dcv_language.specs.Table.{Table, automaton_of}
 use Rattle.dcv_language.specs.OperationMachines.{not_machine, and_machine, or_machine, iff_machine, chop_machine, star_machine, exists_machine}
-use Rattle.dcv_scope.specs.Steps.{PlainOp, OpAtom, OpNot, OpAnd, OpOr, OpIff, OpChop, OpStar, OpExists, PlainStep, steps_before}
-use Rattle.dcv_scope.specs.StepWords.{IsOperation}
+use Rattle.dcv_core.specs.Steps.{PlainOp, OpAtom, OpNot, OpAnd, OpOr, OpIff, OpChop, OpStar, OpExists, PlainStep, steps_before}
+use Rattle.dcv_core.specs.StepWords.{IsOperation}
 use Rattle.dcv_explore.specs.Budget.{Row}
 use Rattle.dcv_build.specs.Rows.{number_row, pair_row, chop_row, star_row, set_row, row_of}
 

@@ -4,11 +4,11 @@ use Rattle.std.proofs.lemmas.List.{length-reverse, length-map}
 use Rattle.dcv_language.specs.Canonical.{IsCanonical}
 use Rattle.dcv_language.specs.Language.{Language}
 use Rattle.dcv_language.specs.Table.{Table}
-use Rattle.dcv_scope.specs.Core.{CoreTree}
-use Rattle.dcv_scope.specs.Holds.{words_of}
-use Rattle.dcv_scope.specs.Steps.{PlainStep, PlainCore, CoreStep, without_core, steps_before, steps_of}
-use Rattle.dcv_scope.specs.StepWords.{TakesTwo}
-use Rattle.dcv_scope.proofs.StepList.{last_step_is_core, some_same}
+use Rattle.dcv_core.specs.Core.{CoreTree}
+use Rattle.dcv_core.specs.Holds.{words_of}
+use Rattle.dcv_core.specs.Steps.{PlainStep, PlainCore, CoreStep, without_core, steps_before, steps_of}
+use Rattle.dcv_core.specs.StepWords.{TakesTwo}
+use Rattle.dcv_core.proofs.StepList.{last_step_is_core, some_same}
 use Rattle.dcv_dfa.specs.Raw.{RawValue}
 use Rattle.dcv_dfa.specs.Auto.{table_of_states}
 use Rattle.dcv_explore.specs.declared.explorer.Limits.{Limits}

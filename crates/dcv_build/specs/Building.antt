@@ -14,8 +14,8 @@ use Rattle.dcv_word.specs.Behaviour.{Word}
 use Rattle.dcv_language.specs.Automaton.{WorkingMachine, accepts}
 use Rattle.dcv_language.specs.Canonical.{IsCanonical}
 use Rattle.dcv_language.specs.Table.{Table}
-use Rattle.dcv_scope.specs.Core.{CoreTree}
-use Rattle.dcv_scope.specs.Steps.{PlainStep, PlainCore, steps_before, steps_of}
+use Rattle.dcv_core.specs.Core.{CoreTree}
+use Rattle.dcv_core.specs.Steps.{PlainStep, PlainCore, steps_before, steps_of}
 use Rattle.dcv_dfa.specs.Raw.{RawValue, IsRaw}
 use Rattle.dcv_dfa.specs.Auto.{IsAuto, table_of_states, count_of_nodes}
 use Rattle.dcv_minimise.specs.Minimal.{IsMinimalOf}

@@ -2,8 +2,8 @@
 --     IsCoreOf tree core     the core has the steps of this tree, over its declared variables
 --     IsCore core            it has those of some tree
 use Rattle.std.specs.Prelude.{◌≡◌, map}
-use Rattle.dcv_scope.specs.Core.{CoreTree}
-use Rattle.dcv_scope.specs.Steps.{PlainCore, without_core, steps_of}
+use Rattle.dcv_core.specs.Core.{CoreTree}
+use Rattle.dcv_core.specs.Steps.{PlainCore, without_core, steps_of}
 
 abbrev pub IsCoreOf : CoreTree → PlainCore → Type 0
 IsCoreOf tree core = core.steps ≡ map without_core (steps_of core.declared tree)

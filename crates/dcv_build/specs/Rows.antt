@@ -7,8 +7,8 @@ use Rattle.std.proofs.Common.{sym, ◌∙◌}
 use Rattle.dcv_language.specs.Automaton.{Automaton, WorkingMachine}
 use Rattle.dcv_language.specs.Table.{Table, automaton_of}
 use Rattle.dcv_language.specs.OperationMachines.{not_machine, and_machine, or_machine, iff_machine, ChopState, chop_machine, StarState, star_machine, exists_machine}
-use Rattle.dcv_scope.specs.Core.{PlainBasic}
-use Rattle.dcv_scope.specs.Steps.{PlainOp, OpAtom, OpNot, OpAnd, OpOr, OpIff, OpChop, OpStar, OpExists}
+use Rattle.dcv_core.specs.Core.{PlainBasic}
+use Rattle.dcv_core.specs.Steps.{PlainOp, OpAtom, OpNot, OpAnd, OpOr, OpIff, OpChop, OpStar, OpExists}
 use Rattle.dcv_explore.specs.Budget.{Row}
 use Rattle.dcv_atoms.specs.declared.states.AtomMacro.{AtomMacro}
 use Rattle.dcv_atoms.specs.declared.states.AtomMacro.TheVariants.{Start, First, Good, Last, Bad, Count, Lasted}

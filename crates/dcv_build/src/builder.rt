@@ -1,9 +1,9 @@
 // The steps of a core, built one after another. A step takes the automata of its operands from the end of those that wait, and its
 // own waits in their place.
 ghost use Rattle.std.specs.Prelude.{◌≡◌, ◌≤◌, ◌<◌, ◌+◌, ◌++◌, ◌∷◌, [], ℕ, Err, length, IfOk, OnOk};
-ghost use Rattle.dcv_scope.specs.Core.{CoreTree};
-ghost use Rattle.dcv_scope.specs.Holds.{words_of};
-ghost use Rattle.dcv_scope.specs.Steps.{steps_of};
+ghost use Rattle.dcv_core.specs.Core.{CoreTree};
+ghost use Rattle.dcv_core.specs.Holds.{words_of};
+ghost use Rattle.dcv_core.specs.Steps.{steps_of};
 ghost use Rattle.dcv_dfa.specs.Auto.{count_of_nodes};
 ghost use Rattle.dcv_explore.specs.Budget.{TooManyStates, TooManyNodes};
 ghost use Rattle.dcv_build.specs.declared.faults.BuildFault.TheVariants.{States, Nodes};
@@ -14,9 +14,9 @@ ghost use Rattle.dcv_build.specs.Building.{HasBuilt, Goes, ForTree};
 use crate::faults::BuildFault;
 use crate::operations;
 use dcv_atoms::laws::machines_accept_forms;
+use dcv_core::{Core, Op};
 use dcv_dfa::Auto;
 use dcv_explore::Limits;
-use dcv_scope::{Core, Op};
 use std::alloc::Global;
 
 /// The canonical automaton of the goal's words: the words on the whole of which the core holds.

@@ -1,7 +1,7 @@
 // The automaton of each operator, of the automata of its operands.
 ghost use Rattle.std.specs.Prelude.{◌≡◌, ◌<◌, ◌-◌, ℕ};
 ghost use Rattle.dcv_language.specs.OperationMachines.{not_machine, and_machine, or_machine, iff_machine, chop_machine, star_machine, exists_machine};
-ghost use Rattle.dcv_scope.specs.Core.{PlainBasic};
+ghost use Rattle.dcv_core.specs.Core.{PlainBasic};
 ghost use Rattle.dcv_dfa.specs.Raw.{automaton_of};
 ghost use Rattle.dcv_atoms.specs.AtomRows.{atom_machine};
 ghost use Rattle.dcv_atoms.specs.Parts.{atom_nodes};
@@ -13,11 +13,11 @@ use crate::faults::BuildFault;
 use crate::settling::settle;
 use dcv_atoms::{Atom, AtomFault};
 use dcv_chop::{Chop, Star};
+use dcv_core::Core;
 use dcv_dfa::Auto;
 use dcv_explore::Limits;
 use dcv_product::{And, Iff, Or};
 use dcv_project::Exists;
-use dcv_scope::Core;
 use std::alloc::Global;
 
 // A form without a formula in it, with the nodes of its proposition's parts.

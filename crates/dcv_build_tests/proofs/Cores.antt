@@ -2,8 +2,8 @@
 use Rattle.std.proofs.Common.{◌≡◌, ℕ, Option, None, Some, slice_get, map, refl, sym, subst}
 use Rattle.std.specs.Option.{option_map}
 use Rattle.std.proofs.lemmas.Option.{same_Some}
-use Rattle.dcv_scope.specs.Core.{CoreTree, PlainBasic}
-use Rattle.dcv_scope.specs.Steps.{OpAtom, CoreStep, PlainCore, without_core, steps_of}
+use Rattle.dcv_core.specs.Core.{CoreTree, PlainBasic}
+use Rattle.dcv_core.specs.Steps.{OpAtom, CoreStep, PlainCore, without_core, steps_of}
 use Rattle.dcv_atoms.specs.Steps.{IsAtom}
 use Rattle.dcv_build.specs.Given.{IsCore}
 

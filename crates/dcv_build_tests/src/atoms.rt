@@ -2,9 +2,9 @@
 // count is as much as is needed: with a limit of one less there is a fault.
 use crate::goals::{LIMITS, conjunction, core_of, quantified};
 use dcv_atoms::{Atom, AtomFault};
+use dcv_core::{Core, Op};
 use dcv_dfa::Raw;
 use dcv_explore::{ExploreFault, Limits, explore};
-use dcv_scope::{Core, Op};
 use std::alloc::Global;
 use std::test::Fail;
 

@@ -3,10 +3,11 @@ ghost use Rattle.std.specs.Prelude.{IfOk};
 ghost use Rattle.dcv_build.specs.Given.{IsCore};
 
 use dcv_build::{BuildFault, build};
+use dcv_core::Core;
 use dcv_dfa::Auto;
 use dcv_explore::Limits;
 use dcv_reader::read_file;
-use dcv_scope::{Core, expand};
+use dcv_scope::expand;
 use dcv_syntax::File;
 use std::alloc::{AllocError, Global};
 use std::fmt::Write;

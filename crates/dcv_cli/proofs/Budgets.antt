@@ -8,11 +8,11 @@ use Rattle.dcv_language.specs.Laws.{CanonicalForSameBehaviours, VerdictOfSameBeh
 use Rattle.dcv_language.specs.Verdict.{Verdict, IsVerdict}
 use Rattle.dcv_syntax.specs.Plain.{PlainFile}
 use Rattle.dcv_logic.specs.Models.{models}
-use Rattle.dcv_scope.specs.Core.{CoreTree}
+use Rattle.dcv_core.specs.Core.{CoreTree}
 use Rattle.dcv_scope.specs.CoreOf.{core_of_file}
-use Rattle.dcv_scope.specs.Holds.{words_of}
+use Rattle.dcv_core.specs.Holds.{words_of}
 use Rattle.dcv_scope.specs.Laws.{WordsAreModels}
-use Rattle.dcv_scope.specs.Steps.{PlainCore, PlainStep, CoreStep, without_core, steps_of}
+use Rattle.dcv_core.specs.Steps.{PlainCore, PlainStep, CoreStep, without_core, steps_of}
 use Rattle.dcv_dfa.specs.Laws.{TableAcceptsAsTheStates}
 use Rattle.dcv_dfa.specs.Raw.{RawValue, IsRaw, raw_accepts}
 use Rattle.dcv_language.specs.Table.{table_accepts}

@@ -13,7 +13,7 @@ use Rattle.dcv_sentence.specs.declared.faults.ReadFault.{ReadFault}
 use Rattle.dcv_sentence.specs.declared.faults.ReadFault.TheVariants.{Byte as ByteAt, Syntax as SyntaxAt, Number as NumberAt, Name as NameAt, Nest as NestAt, Memory as ReadMemory}
 use Rattle.dcv_reader.specs.Spelling.{SpellsOne}
 use Rattle.dcv_scope.specs.CoreOf.{core_of_file}
-use Rattle.dcv_scope.specs.Steps.{PlainStep}
+use Rattle.dcv_core.specs.Steps.{PlainStep}
 use Rattle.dcv_scope.specs.Faults.{fault_of_file}
 use Rattle.dcv_scope.specs.declared.faults.ScopeFault.{ScopeFault}
 use Rattle.dcv_scope.specs.declared.faults.ScopeFault.TheVariants.{TooMany, Duplicate, Taken, Unknown, Kind, Arity, Size, Depth, Slots, Memory as ScopeMemory}
@@ -22,7 +22,6 @@ use Rattle.dcv_build.specs.Laws.{OneStepIsOver, WithinExcludesOver}
 use Rattle.dcv_cli.specs.declared.over.Over.{Over}
 use Rattle.dcv_cli.specs.declared.refusal.Refusal.{Refusal}
 use Rattle.dcv_cli.specs.declared.refusal.Refusal.TheVariants.{Budget}
-use Rattle.dcv_cli.specs.declared.refusal.TheConstants.{MOST_BYTES}
 use Rattle.dcv_cli.specs.declared.status.Status.TheVariants.{Valid, NotValid, Usage, Formula, Budget as StatusBudget, Memory as OutOfMemory}
 use Rattle.dcv_cli.specs.Budget.{steps_of_file, kind_of, IsFirstOver, IsBudgeted, OverBudget, WithinBudget}
 use Rattle.dcv_print.specs.Automaton.{DifferInSuffixes}
@@ -31,7 +30,7 @@ use Rattle.dcv_cli.specs.Report.{Says, IsReport}
 use Rattle.dcv_cli.specs.FormulaFile.{IsRefused, TooLong, Faulty, HasNoCore, IsSentence, IsFormulaFile, OnText, Refused, Read}
 use Rattle.dcv_cli.specs.Laws.{OneOutcome}
 use Rattle.dcv_cli.specs.Outcome.{Outcome, refused, Agrees}
-use Rattle.dcv_cli.specs.Refusal.{Which, Only, status_of, refusal_of_reading, refusal_of_scope}
+use Rattle.dcv_cli.specs.Refusal.{most_bytes, Which, Only, status_of, refusal_of_reading, refusal_of_scope}
 use Rattle.dcv_command.specs.Request.{Request, Check, Automaton, file_in, limits_in}
 use Rattle.dcv_cli.specs.Request.{AsksFor}
 use Rattle.dcv_print.specs.Printed.{texts_of}
@@ -98,7 +97,7 @@ module _ (one_tree : SpellsOne) (one_fault : FaultIsUnique) (one_verdict : OneVe
   one_sentence text f g s t = one_tree text f g s.spelled t.spelled
 
   -- a text that is too long or has a fault is no sentence
-  long_or_read : (text : List ℕ) (file : PlainFile) → MOST_BYTES < length text → IsSentence text file → ⊥
+  long_or_read : (text : List ℕ) (file : PlainFile) → most_bytes < length text → IsSentence text file → ⊥
   long_or_read text file long is = let fits = is.fits in omega arith
 
   -- a file that has a fault is not without one

@@ -20,11 +20,10 @@ use Rattle.dcv_scope.specs.Faults.{fault_of_file}
 use Rattle.dcv_scope.specs.declared.faults.ScopeFault.{ScopeFault}
 use Rattle.dcv_scope.specs.declared.faults.ScopeFault.TheVariants.{TooMany, Duplicate, Taken, Unknown, Kind, Arity, Size, Depth, Slots}
 use Rattle.dcv_scope.specs.declared.faults.ScopeFault.TheVariants.{Memory as ScopeMemory}
-use Rattle.dcv_cli.specs.declared.refusal.TheConstants.{MOST_BYTES}
 use Rattle.dcv_cli.specs.declared.refusal.Refusal.{Refusal}
 use Rattle.dcv_cli.specs.declared.refusal.Refusal.TheVariants.{Open, Read as ReadRefusal, Length, Text, Budget, Write, Memory}
 use Rattle.dcv_cli.specs.declared.status.Status.{Status}
-use Rattle.dcv_scope.specs.Steps.{PlainStep}
+use Rattle.dcv_core.specs.Steps.{PlainStep}
 use Rattle.dcv_explore.specs.declared.explorer.Limits.{Limits}
 use Rattle.dcv_build.specs.Budget.{IsWithinBudget}
 use Rattle.dcv_cli.specs.Budget.{steps_of_file, NamesFirstOver, IsBudgeted, OverBudget, WithinBudget}
@@ -32,7 +31,7 @@ use Rattle.dcv_cli.specs.Report.{Says, IsReport}
 use Rattle.dcv_cli.specs.Ending.{EndsBy, IsExplained, AddsFront, StopsWithin}
 use Rattle.dcv_cli.specs.FormulaFile.{TooLong, Faulty, HasNoCore, IsSentence, IsFormulaFile, OnText, Refused, Read}
 use Rattle.dcv_cli.specs.Outcome.{Outcome, refused}
-use Rattle.dcv_cli.specs.Refusal.{Only, is_of_text, refusal_of_taking, refusal_of_reading, refusal_of_scope}
+use Rattle.dcv_cli.specs.Refusal.{most_bytes, Only, is_of_text, refusal_of_taking, refusal_of_reading, refusal_of_scope}
 use Rattle.dcv_cli.specs.Request.{AsksFor}
 use Rattle.std.specs.Prelude.{String}
 use Rattle.std.specs.String.{string_bytes}
@@ -47,7 +46,7 @@ use Rattle.dcv_cli.specs.Status.{is_answer, status_of_verdict}
 -- ---- for a text
 
 -- a refusal of the reader is right
-pub explains_reading : (limits : Limits) (RightFor : PlainFile → Outcome → Type 0) (text : List ℕ) (fault : ReadFault) → length text ≤ MOST_BYTES → (fault ≢ ReadMemory → IsFirstFault text fault)
+pub explains_reading : (limits : Limits) (RightFor : PlainFile → Outcome → Type 0) (text : List ℕ) (fault : ReadFault) → length text ≤ most_bytes → (fault ≢ ReadMemory → IsFirstFault text fault)
     → IsExplained (OnText text Only (IsBudgeted limits RightFor)) (refusal_of_reading fault)
 explains_reading limits RightFor text (ByteAt at) short is = Refused _ (Faulty short (ByteAt at) (is (λ e. cc)) refl) refl
 explains_reading limits RightFor text (SyntaxAt at) short is = Refused _ (Faulty short (SyntaxAt at) (is (λ e. cc)) refl) refl
@@ -111,10 +110,10 @@ fulfils_file (Some disk) request text outcome there right = record { held = disk
 longer_text : (n : ℕ) → (text : List ℕ) × (n < length text)
 longer_text n = (replicate (suc n) 0, omega (arith, length-replicate {A = ℕ} (suc n) 0))
 
-fulfils_length : (told new : Option Disk) (request : Request) → WhereTold (ReadsPast (file_in request) MOST_BYTES) told new
+fulfils_length : (told new : Option Disk) (request : Request) → WhereTold (ReadsPast (file_in request) most_bytes) told new
     → FulfilsOver request told (refused Length Only)
 fulfils_length None None request past =
-    let text = longer_text MOST_BYTES in
+    let text = longer_text most_bytes in
     fulfils_file None request text.0 (refused Length Only) tt (Refused Length (TooLong text.1 refl) refl)
 fulfils_length None (Some disk) request past = absurd past
 fulfils_length (Some disk) None request past = absurd past
@@ -123,7 +122,7 @@ fulfils_length (Some disk) (Some new) request past =
 
 -- a refusal of the file is right for what is held
 pub explains_taking : (told new : Option Disk) (request : Request) (fault : TakeFault)
-    → IfTooLong {T = Vec ℕ Global} (Err fault) (λ limit. WhereTold (ReadsPast (file_in request) MOST_BYTES) told new)
+    → IfTooLong {T = Vec ℕ Global} (Err fault) (λ limit. WhereTold (ReadsPast (file_in request) most_bytes) told new)
     → IsExplained (FulfilsOver request told) (refusal_of_taking fault)
 explains_taking told new request TakeOpen past = tt
 explains_taking told new request TakeRead past = tt

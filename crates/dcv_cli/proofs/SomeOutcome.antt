@@ -8,7 +8,6 @@ use Rattle.dcv_syntax.specs.Plain.{PlainFile}
 use Rattle.dcv_reader.specs.Laws.{SomeReading}
 use Rattle.dcv_scope.specs.Faults.{fault_of_file}
 use Rattle.dcv_scope.specs.declared.faults.ScopeFault.{ScopeFault}
-use Rattle.dcv_cli.specs.declared.refusal.TheConstants.{MOST_BYTES}
 use Rattle.dcv_cli.specs.declared.refusal.Refusal.TheVariants.{Length}
 use Rattle.dcv_cli.specs.declared.status.Status.TheVariants.{Usage}
 use Rattle.dcv_cli.specs.Budget.{IsBudgeted}
@@ -16,7 +15,7 @@ use Rattle.dcv_cli.specs.Report.{IsReport}
 use Rattle.dcv_cli.specs.FormulaFile.{TooLong, Faulty, HasNoCore, IsSentence, IsFormulaFile, OnText, Refused}
 use Rattle.dcv_cli.specs.Laws.{AreHeld, AskForAFormula, SomeOutcome}
 use Rattle.dcv_cli.specs.Outcome.{Outcome, refused}
-use Rattle.dcv_cli.specs.Refusal.{Only, refusal_of_reading, refusal_of_scope}
+use Rattle.dcv_cli.specs.Refusal.{most_bytes, Only, refusal_of_reading, refusal_of_scope}
 use Rattle.clap.specs.Words.{fault_of, Kinds}
 use Rattle.dcv_command.specs.Laws.{TakenWordsAsk}
 use Rattle.dcv_command.specs.Program.{program}
@@ -34,14 +33,14 @@ some_on_sentence request text file holds (Some fault) is = inl (refused (refusal
 some_on_sentence request text file holds None is = inr (file, record { sentence = holds; has_core = is })
 
 module _ (some_reading : SomeReading) (words_ask : TakenWordsAsk) where
-  some_on_short : (request : Request) (text : List ℕ) → length text ≤ MOST_BYTES → Comes request text
+  some_on_short : (request : Request) (text : List ℕ) → length text ≤ most_bytes → Comes request text
   some_on_short request text short =
       elim (some_reading text) [
         | inl first ↦ inl (refused (refusal_of_reading first.0) Only, Refused _ (Faulty short first.0 first.1 refl) refl)
         | inr read ↦ some_on_sentence request text read.0 (record { fits = short; no_fault = read.2; spelled = read.1 }) (fault_of_file read.0) refl
       ]
 
-  some_on_text : (request : Request) (text : List ℕ) (fits : Bool) → nat_le (length text) MOST_BYTES ≡ fits → Comes request text
+  some_on_text : (request : Request) (text : List ℕ) (fits : Bool) → nat_le (length text) most_bytes ≡ fits → Comes request text
   some_on_text request text true is = some_on_short request text (grind (arith, nat_tests))
   some_on_text request text false is = inl (refused Length Only, Refused Length (TooLong (grind (arith, nat_tests)) refl) refl)
 
@@ -55,7 +54,7 @@ module _ (some_reading : SomeReading) (words_ask : TakenWordsAsk) where
       → held (file_in request) ≡ text → IsSome text → ((outcome : Outcome) × IsRight words held outcome) ⊎ AskForAFormula words held
   some_for_file words held request None asked is there = absurd (true≢false (sym there))
   some_for_file words held request (Some text) asked is there =
-      some_for_text words held request text asked is (some_on_text request text (nat_le (length text) MOST_BYTES) refl)
+      some_for_text words held request text asked is (some_on_text request text (nat_le (length text) most_bytes) refl)
 
   some_for_request : (words : List (List ℕ)) (held : List ℕ → Option (List ℕ)) → AreHeld words held → IsTaken words → (request : Option Request)
       → request_of words ≡ request → IsSome request → ((outcome : Outcome) × IsRight words held outcome) ⊎ AskForAFormula words held

@@ -8,7 +8,7 @@ use Rattle.std.specs.Prelude.{◌≡◌, ℕ, List, Some, length, slice_get}
 use Rattle.std.specs.Option.{option_map}
 use Rattle.dcv_syntax.specs.Plain.{PlainFile}
 use Rattle.dcv_scope.specs.CoreOf.{core_of_file}
-use Rattle.dcv_scope.specs.Steps.{PlainStep, steps_of}
+use Rattle.dcv_core.specs.Steps.{PlainStep, steps_of}
 use Rattle.dcv_explore.specs.declared.explorer.Limits.{Limits}
 use Rattle.dcv_explore.specs.Budget.{Kind, TooManyStates, TooManyNodes}
 use Rattle.dcv_build.specs.Budget.{IsOver, IsWithinBudget}

@@ -11,21 +11,20 @@ use Rattle.dcv_reader.specs.Spelling.{Spells}
 use Rattle.dcv_sentence.specs.declared.faults.ReadFault.{ReadFault}
 use Rattle.dcv_scope.specs.Faults.{fault_of_file}
 use Rattle.dcv_scope.specs.declared.faults.ScopeFault.{ScopeFault}
-use Rattle.dcv_cli.specs.declared.refusal.TheConstants.{MOST_BYTES}
 use Rattle.dcv_cli.specs.declared.refusal.Refusal.{Refusal}
 use Rattle.dcv_cli.specs.declared.refusal.Refusal.TheVariants.{Length}
 use Rattle.dcv_cli.specs.Outcome.{Outcome, refused}
-use Rattle.dcv_cli.specs.Refusal.{refusal_of_reading, refusal_of_scope, Which}
+use Rattle.dcv_cli.specs.Refusal.{most_bytes, refusal_of_reading, refusal_of_scope, Which}
 
 pub record IsSentence (text : List ℕ) (file : PlainFile) : Type 0 where
-  pub fits : length text ≤ MOST_BYTES
+  pub fits : length text ≤ most_bytes
   pub no_fault : (fault : ReadFault) → HasFault text fault → ⊥
   pub spelled : Spells text file
 
 -- It is longer than a formula file may be; or it has a fault, the first of which counts; or the file that it spells has one.
 pub data IsRefused (text : List ℕ) (refusal : Refusal) : Type 0 where
-  TooLong : MOST_BYTES < length text → refusal ≡ Length → IsRefused text refusal
-  Faulty : length text ≤ MOST_BYTES → (fault : ReadFault) → IsFirstFault text fault → refusal ≡ refusal_of_reading fault → IsRefused text refusal
+  TooLong : most_bytes < length text → refusal ≡ Length → IsRefused text refusal
+  Faulty : length text ≤ most_bytes → (fault : ReadFault) → IsFirstFault text fault → refusal ≡ refusal_of_reading fault → IsRefused text refusal
   HasNoCore : (file : PlainFile) → IsSentence text file → (fault : ScopeFault) → fault_of_file file ≡ Some fault
       → refusal ≡ refusal_of_scope fault → IsRefused text refusal
 

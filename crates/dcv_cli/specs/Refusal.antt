@@ -1,4 +1,5 @@
 -- What each refusal says, and what it comes from.
+--     most_bytes             how many bytes a formula file may have
 --     words_of refusal       the words of its line, as `fault syntax at 12`
 --     over_words over        those of the first step that is over the limits, as `budget states 30000 at 12 step 3`
 --     message_of refusal     the line
@@ -17,13 +18,15 @@ use Rattle.dcv_language.specs.VerdictText.{line}
 use Rattle.dcv_cli.specs.declared.over.Excess.{Excess}
 use Rattle.dcv_cli.specs.declared.over.Excess.TheVariants.{States, Nodes}
 use Rattle.dcv_cli.specs.declared.over.Over.{Over}
-use Rattle.dcv_cli.specs.declared.refusal.TheConstants.{MOST_BYTES}
 use Rattle.dcv_cli.specs.declared.refusal.Refusal.{Refusal}
 use Rattle.dcv_cli.specs.declared.refusal.Refusal.TheVariants.{Open, Read, Length, Text, Budget, Write, Memory}
 use Rattle.dcv_cli.specs.declared.refusal.TextFault.{TextFault}
 use Rattle.dcv_cli.specs.declared.refusal.TextFault.TheVariants.{Byte, Syntax, Number, Name, Nest, Many, Duplicate, Taken, Unknown, Kind, Arity, Size, Depth, Slots}
 use Rattle.dcv_cli.specs.declared.status.Status.{Status}
 use Rattle.dcv_cli.specs.declared.status.Status.TheVariants.{Formula, Budget as StatusBudget, Input, Output, Memory as StatusMemory}
+
+abbrev pub most_bytes : ℕ
+most_bytes = 262144
 
 abbrev pub status_of : Refusal → Status
 status_of Open = Input
@@ -70,7 +73,7 @@ over_words over =
 abbrev pub words_of : Refusal → List ℕ
 words_of Open = fault_words (codes "open")
 words_of Read = fault_words (codes "read")
-words_of Length = fault_words_at (codes "length") MOST_BYTES
+words_of Length = fault_words_at (codes "length") most_bytes
 words_of (Text fault at) = fault_words_at (text_word_of fault) at
 words_of (Budget over) = over_words over
 words_of Write = fault_words (codes "write")

@@ -3,9 +3,9 @@ ghost use Rattle.std.specs.Prelude.{◌≡◌, ◌<◌, ◌≤◌, ℕ, Some, le
 ghost use Rattle.std.specs.Option.{option_map};
 ghost use Rattle.dcv_language.specs.Language.{Language};
 ghost use Rattle.dcv_language.specs.Verdict.{IsVerdict};
-ghost use Rattle.dcv_scope.specs.Core.{CoreTree};
-ghost use Rattle.dcv_scope.specs.Holds.{words_of};
-ghost use Rattle.dcv_scope.specs.Steps.{steps_of};
+ghost use Rattle.dcv_core.specs.Core.{CoreTree};
+ghost use Rattle.dcv_core.specs.Holds.{words_of};
+ghost use Rattle.dcv_core.specs.Steps.{steps_of};
 ghost use Rattle.dcv_dfa.specs.Auto.{count_of_nodes};
 ghost use Rattle.dcv_build.specs.Budget.{IsAutomatonOf, IsWithinBudget};
 ghost use Rattle.dcv_build.specs.Given.{IsCore, IsCoreOf};
@@ -15,12 +15,12 @@ ghost use Rattle.dcv_cli.specs.Budget.{NamesFirstOver};
 use crate::over::{Excess, Over};
 use crate::refusal::Refusal;
 use dcv_build::{BuildFault, build};
+use dcv_core::Core;
 use dcv_dfa::Auto;
 use dcv_dfa::laws::tables_accept_the_same;
 use dcv_explore::Limits;
 use dcv_language::laws::verdict_of_same_behaviours;
 use dcv_print::{Verdict, verdict};
-use dcv_scope::Core;
 use std::alloc::{AllocError, Global};
 
 /// The canonical automaton of the core's words.

@@ -10,7 +10,7 @@ ghost use Rattle.dcv_command.specs.Seen.{asked_by};
 ghost use Rattle.dcv_cli.specs.Ending.{EndsBy, IsExplained, AddsFront, StopsWithin};
 ghost use Rattle.dcv_cli.specs.FormulaFile.{OnText};
 ghost use Rattle.dcv_cli.specs.Budget.{IsBudgeted};
-ghost use Rattle.dcv_cli.specs.Refusal.{Only, is_open_refusal, is_read_refusal, is_write_refusal, is_of_text};
+ghost use Rattle.dcv_cli.specs.Refusal.{most_bytes, Only, is_open_refusal, is_read_refusal, is_write_refusal, is_of_text};
 ghost use Rattle.dcv_cli.specs.Report.{IsReport};
 ghost use Rattle.dcv_cli.specs.Right.{FulfilsOver};
 ghost use Rattle.dcv_cli.specs.Seen.{reported};
@@ -69,7 +69,7 @@ pub fn perform<F: Files, O: Sink>(
 
 // The report on the formula that the text spells.
 fn judge(alloc: Global, text: &[u8], request: Request) -> Result<Report, Refusal>
-    requires short { length text.now ≤ MOST_BYTES }
+    requires short { length text.now ≤ most_bytes }
     requires limits { AreInRange (limits_in (asked_by request)) }
     ensures ok { IfOk result (λ report. OnText text.now Only (IsBudgeted (limits_in (asked_by request.entry)) (IsReport (asked_by request.entry))) (reported report)) }
     ensures answer { IfOk result (λ report. IsTrue (is_answer report.status)) }

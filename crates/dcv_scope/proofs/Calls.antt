@@ -3,15 +3,15 @@ use Rattle.std.proofs.Common.{◌≡◌, ℕ, false, List, Option, Some, None, m
 use Rattle.dcv_syntax.specs.declared.names.Span.{Span}
 use Rattle.dcv_syntax.specs.Plain.{PlainMacroBody, FormulaBody, PropBody, PlainProp, PlainFormula}
 use Rattle.dcv_scope.specs.declared.measures.MacroMeasure.{MacroMeasure}
-use Rattle.dcv_scope.specs.Core.{PlainTruth, CoreTree}
+use Rattle.dcv_core.specs.Core.{PlainTruth, CoreTree}
 use Rattle.dcv_scope.specs.CoreOf.{Sight, Expansion, bind_arguments, truth_of, truth_of_call, core_of, core_of_macro, body_expansion}
 use Rattle.dcv_scope.specs.Linear.{uses_parameter}
 use Rattle.dcv_scope.specs.Expansions.{ExpansionPassesOver, used_from, sight_of, top_sight_of, truths_in, IsCalled}
 use Rattle.dcv_scope.specs.declared.expansion.Sight.{Sight as SightOfCode}
 use Rattle.dcv_scope.specs.declared.expansion.Called.{Called}
-use Rattle.dcv_scope.specs.declared.truths.Truth.{Truth}
+use Rattle.dcv_core.specs.declared.truths.Truth.{Truth}
 use Rattle.dcv_scope.specs.Names.{texts}
-use Rattle.dcv_scope.specs.TruthViews.{plain_truth}
+use Rattle.dcv_core.specs.TruthViews.{plain_truth}
 use Rattle.dcv_syntax.specs.declared.propositions.Prop.{Prop}
 use Rattle.dcv_syntax.specs.declared.formulas.Formula.{Formula}
 use Rattle.dcv_syntax.specs.declared.files.MacroBody.TheVariants.{Formula as IsFormula}

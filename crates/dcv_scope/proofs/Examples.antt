@@ -1,17 +1,25 @@
 -- The definitions tried on worked files, whose answers were worked out by hand.
-use Rattle.std.proofs.Common.{◌≡◌, ℕ, suc, ◌+◌, true, false, List, [], ◌∷◌, ◌++◌, Some, None, map, refl}
+use Rattle.std.proofs.Common.{◌≡◌, ℕ, zero, suc, ◌+◌, Bool, true, false, List, [], ◌∷◌, ◌++◌, Some, None, map, refl}
 use Rattle.dcv_syntax.specs.declared.names.Name.{Name}
 use Rattle.dcv_syntax.specs.declared.names.Span.{Span}
-use Rattle.dcv_syntax.specs.Plain.{PlainPropKind, PropCall, PropNot, PropAnd, PropIff, no_arguments, PlainPropOperands, no_prop_operands, prop_operand, PlainProp, PlainFormulaKind, FormulaPt, FormulaExt, FormulaPoint, FormulaEvery, FormulaCall, FormulaAnd, FormulaImplies, FormulaChop, FormulaStar, FormulaEverywhere, FormulaExists, PlainFormulaOperands, no_formula_operands, formula_operand, FormulaBody, PropBody, PlainMacro, PlainFile}
+use Rattle.dcv_syntax.specs.declared.formulas.Relation.{Relation}
+use Rattle.dcv_syntax.specs.declared.formulas.Number.{Number}
+use Rattle.dcv_syntax.specs.Plain.{PlainPropKind, PropConstant, PropCall, PropNot, PropAnd, PropOr, PropImplies, PropIff, no_arguments}
+use Rattle.dcv_syntax.specs.Plain.{PlainPropOperands, no_prop_operands, prop_operand, PlainProp, PlainFormulaKind, FormulaConstant, FormulaPt}
+use Rattle.dcv_syntax.specs.Plain.{FormulaExt, FormulaPoint, FormulaRun, FormulaEvery, FormulaUnit, FormulaSlen, FormulaScount, FormulaSdur}
+use Rattle.dcv_syntax.specs.Plain.{FormulaCall, FormulaNot, FormulaAnd, FormulaOr, FormulaImplies, FormulaIff, FormulaChop, FormulaStar}
+use Rattle.dcv_syntax.specs.Plain.{FormulaSomewhere, FormulaEverywhere, FormulaExists, FormulaForAll, PlainFormulaOperands, no_formula_operands}
+use Rattle.dcv_syntax.specs.Plain.{formula_operand, FormulaBody, PropBody, PlainMacro, PlainFile}
 use Rattle.dcv_word.specs.Behaviour.{Word}
 use Rattle.dcv_logic.specs.Models.{models}
-use Rattle.dcv_scope.specs.declared.faults.ScopeFault.TheVariants.{TooMany, Duplicate, Taken, Unknown, Kind, Arity}
-use Rattle.dcv_scope.specs.Core.{TruthConstant, TruthSlot, BasicPoint, BasicRun, BasicConstant}
-use Rattle.dcv_scope.specs.Holds.{words_of}
+use Rattle.dcv_scope.specs.declared.faults.ScopeFault.TheVariants.{TooMany, Duplicate, Taken, Unknown, Kind, Arity, Size, Depth, Slots}
+use Rattle.dcv_core.specs.Core.{TruthConstant, TruthSlot, BasicPoint, BasicRun, BasicConstant}
+use Rattle.dcv_core.specs.Holds.{words_of}
 use Rattle.dcv_scope.specs.CoreOf.{core_of_file}
-use Rattle.dcv_scope.specs.Steps.{PlainOp, OpAtom, OpNot, OpAnd, OpOr, OpChop, OpStar, PlainStep, steps_of}
+use Rattle.dcv_core.specs.Steps.{PlainOp, OpAtom, OpNot, OpAnd, OpOr, OpChop, OpStar, PlainStep, steps_of}
 use Rattle.dcv_scope.specs.Names.{fault_of_names}
-use Rattle.dcv_scope.specs.Measures.{measure_of_file, slots_of_file}
+use Rattle.dcv_scope.specs.Faults.{fault_of_goal}
+use Rattle.dcv_scope.specs.Measures.{Measure, leaf, Measured, measure_of_prop, name_in_sight, measure_of_formula, measure_of_file, slots_of_file}
 
 -- ---- to write files by hand
 
@@ -222,3 +230,216 @@ slots_of_two_quantifiers = refl
 everywhere_twice : measure_of_file (file_with [] [] (FormulaEverywhere (FormulaEverywhere FormulaPt (place 0 0)) (place 0 0)))
     ≡ record { size = 12; depth = 8; quantifiers = 0 }
 everywhere_twice = refl
+
+-- ---- the table of sizes and depths, a line for each row
+
+-- of a size and a depth, without quantifiers
+abbrev sized : ℕ → ℕ → Measure
+sized size depth = record { size = size; depth = depth; quantifiers = 0 }
+
+-- what is in sight where p is declared
+abbrev p_alone : Measured
+p_alone = record { names = (112 ∷ [], leaf) ∷ []; macros = [] }
+
+abbrev p : PlainPropKind
+p = plain_name (named 112 4)
+
+abbrev three : PlainFormulaKind → PlainFormulaKind → PlainFormulaKind → PlainFormulaOperands
+three c d e = formula_operand c (place 0 0) (place 0 0) (two d e)
+
+abbrev three_props : PlainPropKind → PlainPropKind → PlainPropKind → PlainPropOperands
+three_props p q r = prop_operand p (place 0 0) (place 0 0) (two_props q r)
+
+-- true, false, p
+size_of_prop_constant : (truth : Bool) → measure_of_prop p_alone (PropConstant truth) ≡ sized 1 1
+size_of_prop_constant truth = refl
+
+size_of_variable : measure_of_prop p_alone p ≡ sized 1 1
+size_of_variable = refl
+
+-- true, false, slen R n
+size_of_constant : (sight : Measured) (truth : Bool) → measure_of_formula sight (FormulaConstant truth) ≡ sized 1 1
+size_of_constant sight truth = refl
+
+size_of_slen : (sight : Measured) (relation : Relation) (n : Number) → measure_of_formula sight (FormulaSlen relation n) ≡ sized 1 1
+size_of_slen sight relation n = refl
+
+-- pt, ext
+size_of_pt : (sight : Measured) → measure_of_formula sight FormulaPt ≡ sized 2 2
+size_of_pt sight = refl
+
+size_of_ext : (sight : Measured) → measure_of_formula sight FormulaExt ≡ sized 2 2
+size_of_ext sight = refl
+
+-- of a form with one operand, the operand's numbers being those of any operand
+module _ (sight : Measured) (q : PlainPropKind) (span : Span) where
+  -- of what has so many nodes more than q, and is so much deeper
+  abbrev over_prop : ℕ → ℕ → Measure
+  over_prop nodes deeper =
+      let m = measure_of_prop sight q in
+      record { size = nodes + m.size; depth = deeper + m.depth; quantifiers = m.quantifiers }
+
+  -- !P
+  size_of_prop_not : measure_of_prop sight (PropNot q span) ≡ over_prop 1 1
+  size_of_prop_not = refl
+
+  -- <P>, [P], [[P]], {{P}}
+  size_of_point : measure_of_formula sight (FormulaPoint (record { kind = q; span = span })) ≡ over_prop 1 1
+  size_of_point = refl
+
+  size_of_run : measure_of_formula sight (FormulaRun (record { kind = q; span = span })) ≡ over_prop 1 1
+  size_of_run = refl
+
+  size_of_every : measure_of_formula sight (FormulaEvery (record { kind = q; span = span })) ≡ over_prop 1 1
+  size_of_every = refl
+
+  size_of_unit : measure_of_formula sight (FormulaUnit (record { kind = q; span = span })) ≡ over_prop 1 1
+  size_of_unit = refl
+
+  -- scount P R n, sdur P R n
+  size_of_scount : (relation : Relation) (n : Number) → measure_of_formula sight (FormulaScount (record { kind = q; span = span }) relation n) ≡ over_prop 1 1
+  size_of_scount relation n = refl
+
+  size_of_sdur : (relation : Relation) (n : Number) → measure_of_formula sight (FormulaSdur (record { kind = q; span = span }) relation n) ≡ over_prop 1 1
+  size_of_sdur relation n = refl
+
+module _ (sight : Measured) (d : PlainFormulaKind) (span : Span) where
+  abbrev over : ℕ → ℕ → Measure
+  over nodes deeper =
+      let m = measure_of_formula sight d in
+      record { size = nodes + m.size; depth = deeper + m.depth; quantifiers = m.quantifiers }
+
+  -- !D, D*
+  size_of_not : measure_of_formula sight (FormulaNot d span) ≡ over 1 1
+  size_of_not = refl
+
+  size_of_star : measure_of_formula sight (FormulaStar d span) ≡ over 1 1
+  size_of_star = refl
+
+  -- <>D
+  size_of_somewhere : measure_of_formula sight (FormulaSomewhere d span) ≡ over 3 1
+  size_of_somewhere = refl
+
+  -- []D
+  size_of_everywhere : measure_of_formula sight (FormulaEverywhere d span) ≡ over 5 3
+  size_of_everywhere = refl
+
+module _ (sight : Measured) (name : Name) (d : PlainFormulaKind) (span : Span) where
+  -- of what is one quantifier over D
+  abbrev over_quantified : ℕ → ℕ → Measure
+  over_quantified nodes deeper =
+      let m = measure_of_formula (name_in_sight sight name.text) d in
+      record { size = nodes + m.size; depth = deeper + m.depth; quantifiers = 1 + m.quantifiers }
+
+  -- ex q. D
+  size_of_exists : measure_of_formula sight (FormulaExists name d span) ≡ over_quantified 1 1
+  size_of_exists = refl
+
+  -- all q. D
+  size_of_for_all : measure_of_formula sight (FormulaForAll name d span) ≡ over_quantified 3 3
+  size_of_for_all = refl
+
+-- lists of propositions of 1, 3 and 2 nodes, which are 1, 3 and 2 deep
+abbrev not_p : PlainPropKind
+not_p = PropNot p (place 0 0)
+
+abbrev not_not_p : PlainPropKind
+not_not_p = PropNot not_p (place 0 0)
+
+size_of_prop_and : measure_of_prop p_alone (PropAnd (three_props p not_not_p not_p)) ≡ sized 7 4
+size_of_prop_and = refl
+
+size_of_prop_or : measure_of_prop p_alone (PropOr (three_props p not_not_p not_p)) ≡ sized 7 4
+size_of_prop_or = refl
+
+size_of_prop_iff : measure_of_prop p_alone (PropIff (three_props p not_not_p not_p)) ≡ sized 7 4
+size_of_prop_iff = refl
+
+-- P => Q, where the depth is that of P, and where it is that of Q
+depth_of_premise : measure_of_prop p_alone (PropImplies not_p (place 0 0) not_p (place 0 0)) ≡ sized 6 4
+depth_of_premise = refl
+
+depth_of_conclusion : measure_of_prop p_alone (PropImplies p (place 0 0) not_not_p (place 0 0)) ≡ sized 6 4
+depth_of_conclusion = refl
+
+-- lists of formulas of 1, 5 and 2 nodes, which are 1, 3 and 2 deep
+abbrev truth : PlainFormulaKind
+truth = FormulaConstant true
+
+abbrev somewhere_pt : PlainFormulaKind
+somewhere_pt = FormulaSomewhere FormulaPt (place 0 0)
+
+size_of_and : measure_of_formula p_alone (FormulaAnd (three truth somewhere_pt FormulaPt)) ≡ sized 9 4
+size_of_and = refl
+
+size_of_or : measure_of_formula p_alone (FormulaOr (three truth somewhere_pt FormulaPt)) ≡ sized 9 4
+size_of_or = refl
+
+size_of_iff : measure_of_formula p_alone (FormulaIff (three truth somewhere_pt FormulaPt)) ≡ sized 9 4
+size_of_iff = refl
+
+size_of_chop : measure_of_formula p_alone (FormulaChop (three truth somewhere_pt FormulaPt)) ≡ sized 9 4
+size_of_chop = refl
+
+-- D => E, where the depth is that of D, and where it is that of E
+depth_of_left : measure_of_formula p_alone (FormulaImplies FormulaPt (place 0 0) FormulaPt (place 0 0)) ≡ sized 6 4
+depth_of_left = refl
+
+depth_of_right : measure_of_formula p_alone (FormulaImplies truth (place 0 0) somewhere_pt (place 0 0)) ≡ sized 8 4
+depth_of_right = refl
+
+-- quantifiers side by side take no more slots than the deepest of them, and `all` takes one
+quantifiers_side_by_side : measure_of_formula p_alone (FormulaAnd (two
+    (FormulaExists (named 97 0) (FormulaForAll (named 98 0) truth (place 0 0)) (place 0 0))
+    (FormulaForAll (named 97 0) truth (place 0 0)))) ≡ record { size = 10; depth = 6; quantifiers = 2 }
+quantifiers_side_by_side = refl
+
+-- ---- limits
+
+-- define F0(a) as <a>; define F1(a) as F0(a && a); .. : the argument of the n-th has 2^(n+1) - 1 nodes below the point
+abbrev doubling : ℕ → List PlainMacro
+doubling zero = []
+doubling (suc n) = doubling n ++ unused n ∷ []
+
+abbrev goal_of_doubled : ℕ → PlainFormulaKind
+goal_of_doubled n = FormulaCall (anywhere (n ∷ [])) (prop_of p ∷ [])
+
+-- var p; and these macros, with the goal at offset 9
+abbrev with_doubled : ℕ → PlainFormulaKind → PlainFile
+with_doubled n goal = file_of (named 112 4 ∷ [])
+    (formula_macro (anywhere (0 ∷ [])) (named 97 0 ∷ []) (FormulaPoint (prop_of (plain_name (named 97 0)))) ∷ doubling n) goal (place 9 10) (place 9 10)
+
+size_65536 : fault_of_goal (with_doubled 15 (goal_of_doubled 15)) ≡ None
+size_65536 = refl
+
+size_65537 : fault_of_goal (with_doubled 15 (FormulaNot (goal_of_doubled 15) (place 0 0))) ≡ Some (Size 9)
+size_65537 = refl
+
+-- `!` so many times over pt
+abbrev denied : ℕ → PlainFormulaKind
+denied zero = FormulaPt
+denied (suc n) = FormulaNot (denied n) (place 0 0)
+
+-- `ex p.` so many times over pt
+abbrev quantified_times : ℕ → PlainFormulaKind
+quantified_times zero = FormulaPt
+quantified_times (suc n) = FormulaExists (named 112 0) (quantified_times n) (place 0 0)
+
+abbrev goal_alone : PlainFormulaKind → PlainFile
+goal_alone goal = file_of [] [] goal (place 6 8) (place 6 8)
+
+depth_512 : fault_of_goal (goal_alone (denied 510)) ≡ None
+depth_512 = refl
+
+depth_513 : fault_of_goal (goal_alone (denied 511)) ≡ Some (Depth 6)
+depth_513 = refl
+
+slots_32 : fault_of_goal (goal_alone (quantified_times 32)) ≡ None
+slots_32 = refl
+
+slots_33 : fault_of_goal (goal_alone (quantified_times 33)) ≡ Some (Slots 6)
+slots_33 = refl
+
+-- a goal that is too deep and has too many slots is too deep first
+depth_before_slots : fault_of_goal (goal_alone (quantified_times 511)) ≡ Some (Depth 6)
+depth_before_slots = refl

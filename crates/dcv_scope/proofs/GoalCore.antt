@@ -6,10 +6,10 @@ use Rattle.dcv_syntax.specs.declared.files.File.{File}
 use Rattle.dcv_syntax.specs.Plain.{PlainFile}
 use Rattle.dcv_syntax.specs.Views.{plain_formula_kind, plain_macro, plain_file}
 use Rattle.dcv_scope.specs.declared.expansion.Binding.{Binding}
-use Rattle.dcv_scope.specs.Core.{CoreTree}
+use Rattle.dcv_core.specs.Core.{CoreTree}
 use Rattle.dcv_scope.specs.CoreOf.{Sight, declared_slots, core_of, goal_sight, core_of_file}
 use Rattle.dcv_scope.specs.Measures.{measure_of_file, slots_of_file}
-use Rattle.dcv_scope.specs.Steps.{without_core, steps_from, steps_of, PlainCore, Made, HasRoom}
+use Rattle.dcv_core.specs.Steps.{without_core, steps_from, steps_of, PlainCore, Made, HasRoom}
 use Rattle.dcv_scope.specs.Expansions.{names_of, top_sight_of}
 use Rattle.dcv_scope.proofs.InSight.{with_expansions-truths}
 use Rattle.dcv_scope.proofs.Means.{goal_slots}

@@ -14,7 +14,7 @@ use Rattle.dcv_syntax.specs.Views.{plain_macro}
 use Rattle.dcv_logic.specs.Environment.{found}
 use Rattle.dcv_logic.specs.Scope.{IsNewest}
 use Rattle.dcv_scope.specs.declared.measures.MacroMeasure.{MacroMeasure}
-use Rattle.dcv_scope.specs.Core.{PlainTruth, TruthConstant, TruthNot, TruthAnd, TruthOr, TruthIff, no_truths, truth_operand}
+use Rattle.dcv_core.specs.Core.{PlainTruth, TruthConstant, TruthNot, TruthAnd, TruthOr, TruthIff, no_truths, truth_operand}
 use Rattle.dcv_scope.specs.CoreOf.{Sight, expansion_of, with_expansions, declared_slots, truth_of, truth_of_call}
 use Rattle.dcv_scope.specs.CoreOf.{argument_truths, operand_truths}
 use Rattle.dcv_scope.specs.Measures.{Measured, macro_measure, with_measures}

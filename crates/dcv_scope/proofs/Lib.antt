@@ -1,16 +1,12 @@
-pub mod Aligned
 pub mod Calls
 pub mod Capped
-pub mod Chops
 pub mod Examples
 pub mod GoalCore
 pub mod InSight
 pub mod LinearRows
 pub mod Linearity
 pub mod ListSteps
-pub mod Local
 pub mod LookUps
-pub mod MadeSteps
 pub mod Means
 pub mod MeasuredMacros
 pub mod MeasuredText
@@ -18,9 +14,5 @@ pub mod NameRows
 pub mod Sizes
 pub mod Skipped
 pub mod Slots
-pub mod StepList
 pub mod TextRows
-pub mod Tracks
-pub mod TruthRows
-pub mod Words
 pub mod WorkLeft

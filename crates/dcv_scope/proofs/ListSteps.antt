@@ -7,11 +7,11 @@ use Rattle.dcv_syntax.specs.Plain.{PlainFormulaOperands, no_formula_operands, fo
 use Rattle.dcv_syntax.specs.Views.{plain_formula_kind}
 use Rattle.dcv_scope.specs.declared.expansion.Join.{Join}
 use Rattle.dcv_scope.specs.declared.expansion.Join.TheVariants.{And, Or, Iff, Chop}
-use Rattle.dcv_scope.specs.Core.{PlainBasic, CoreTree}
+use Rattle.dcv_core.specs.Core.{PlainBasic, CoreTree}
 use Rattle.dcv_scope.specs.CoreOf.{Sight, core_of, joined, list_core}
-use Rattle.dcv_scope.specs.Steps.{PlainOp, steps_before, nesting, PlainCore, Pushed, Made, HasRoom}
+use Rattle.dcv_core.specs.Steps.{PlainOp, steps_before, nesting, PlainCore, Pushed, Made, HasRoom}
 use Rattle.dcv_scope.specs.Expansions.{join_of, join_op, operands_of}
-use Rattle.dcv_scope.proofs.MadeSteps.{IsTwo, and_is_two, or_is_two, iff_is_two, chop_is_two, made_length}
+use Rattle.dcv_core.proofs.MadeSteps.{IsTwo, and_is_two, or_is_two, iff_is_two, chop_is_two, made_length}
 
 pub join_is_two : (j : Join) → IsTwo (join_of j) (join_op j)
 join_is_two And = and_is_two
@@ -70,3 +70,7 @@ drop_end [] zero le = refl
 drop_end [] (suc i) le = refl
 drop_end (x ∷ xs) zero le = absurd (omega (arith, le))
 drop_end (x ∷ xs) (suc i) le = drop_end xs i (omega (arith, le))
+
+-- the core of what is in sight, under another name
+pub made_in : {old new : PlainCore} {last : ℕ} (core : Sight → CoreTree) {inner outer : Sight} → inner ≡ outer → Made old inner.slots (core inner) new last → Made old outer.slots (core outer) new last
+made_in {old} {new} {last} core same = subst (λ (s : Sight). Made old s.slots (core s) new last) same

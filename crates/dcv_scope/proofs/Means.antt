@@ -16,14 +16,14 @@ use Rattle.dcv_logic.specs.Value.{value, call_value, argument_tracks, all_true, 
 use Rattle.dcv_logic.specs.Satisfaction.{compares, satisfies, macro_holds, all_hold, some_hold, iff_holds, chop_holds}
 use Rattle.dcv_logic.specs.Models.{declared_from, macro_meaning, body_meaning, with_macros, goal_environment}
 use Rattle.dcv_logic.proofs.InWords.{track-values}
-use Rattle.dcv_scope.specs.Core.{PlainTruth, TruthSlot, CoreTree, CoreAnd, CoreOr, CoreIff, CoreChop}
-use Rattle.dcv_scope.specs.Holds.{letter_at, all_truths, some_truth, iff_truths, holds_at, core_holds}
+use Rattle.dcv_core.specs.Core.{PlainTruth, TruthSlot, CoreTree, CoreAnd, CoreOr, CoreIff, CoreChop}
+use Rattle.dcv_core.specs.Holds.{letter_at, all_truths, some_truth, iff_truths, holds_at, core_holds}
 use Rattle.dcv_scope.specs.CoreOf.{Expansion, PropExpansion, FormulaExpansion, Sight, bind_slot, bind_arguments, truth_of_call, truth_of, argument_truths, operand_truths, core_of_macro, core_of, joined, body_expansion, expansion_of, with_expansions, declared_slots, goal_sight}
 use Rattle.dcv_scope.specs.Laws.{CoreMeansText, WordsAreModels}
 use Rattle.std.proofs.Math.Bool.{or-false}
-use Rattle.dcv_scope.proofs.Tracks.{with_track-length, with_track-letter, slot_track-truth, Further, further_itself, further_on, further_by_track, slot_further, slot_behind}
-use Rattle.dcv_scope.proofs.Chops.{and-true, and-assoc, or-assoc, chop-one, chop-assoc, somewhere-chop, each_true}
-use Rattle.dcv_scope.proofs.Aligned.{count_from-same, some_between-same, count_between-same, each_between-same, star-same, some_track-same}
+use Rattle.dcv_core.proofs.Tracks.{with_track-length, with_track-letter, slot_track-truth, Further, further_itself, further_on, further_by_track, slot_further, slot_behind}
+use Rattle.dcv_core.proofs.Chops.{and-true, and-assoc, or-assoc, chop-one, chop-assoc, somewhere-chop, each_true}
+use Rattle.dcv_core.proofs.Aligned.{count_from-same, some_between-same, count_between-same, each_between-same, star-same, some_track-same}
 
 -- ---- what it is to agree
 

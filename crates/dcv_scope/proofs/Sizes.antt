@@ -8,11 +8,11 @@ use Rattle.dcv_syntax.specs.Spans.{covering}
 use Rattle.dcv_syntax.specs.Plain.{PlainPropKind, PropConstant, PropCall, PropNot, PropAnd, PropOr, PropImplies, PropIff, PlainArguments, no_arguments, argument, PlainFormulaKind, FormulaConstant, FormulaPt, FormulaExt, FormulaPoint, FormulaRun, FormulaEvery, FormulaUnit, FormulaSlen, FormulaScount, FormulaSdur, FormulaCall, FormulaNot, FormulaAnd, FormulaOr, FormulaImplies, FormulaIff, FormulaChop, FormulaStar, FormulaSomewhere, FormulaEverywhere, FormulaExists, FormulaForAll, PlainFormulaOperands, no_formula_operands, formula_operand, arguments_of, PlainMacroBody, FormulaBody, PropBody, PlainMacro, PlainFile}
 use Rattle.std.proofs.lemmas.Option.{slice_get_within}
 use Rattle.dcv_logic.specs.Environment.{found}
-use Rattle.dcv_scope.specs.Core.{PlainTruth, PlainBasic, CoreTree, CoreAtom, CoreNot, CoreAnd, CoreOr, CoreIff, CoreChop, CoreStar, CoreExists}
+use Rattle.dcv_core.specs.Core.{PlainTruth, PlainBasic, CoreTree, CoreAtom, CoreNot, CoreAnd, CoreOr, CoreIff, CoreChop, CoreStar, CoreExists}
 use Rattle.dcv_scope.specs.CoreOf.{Expansion, PropExpansion, FormulaExpansion, Sight, bind_slot, bind_arguments, argument_truths, core_of_macro, core_of, joined, body_expansion, expansion_of, with_expansions, core_of_file}
-use Rattle.dcv_scope.specs.Steps.{PlainStep, steps_before, steps_from, steps_of, nesting}
+use Rattle.dcv_core.specs.Steps.{PlainStep, steps_before, steps_from, steps_of, nesting}
 use Rattle.dcv_scope.specs.Laws.{StepsAreFew, SlotsAreFew}
-use Rattle.dcv_scope.proofs.StepList.{some_same, steps_from-length}
+use Rattle.dcv_core.proofs.StepList.{some_same, steps_from-length}
 use Rattle.dcv_scope.specs.Measures.{Measure, leaf, under, nothing, beside, Measured, measure_of_macro, measure_of_name, measure_of_prop, measures_of_arguments, name_in_sight, measure_of_formula, measure_of_operands, measure_of_body, macro_measure, with_measures, measure_of_file}
 
 -- the core has fewer than twice as many steps as the measure has nodes

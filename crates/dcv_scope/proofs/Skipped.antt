@@ -15,9 +15,9 @@ use Rattle.dcv_syntax.specs.Plain.{FormulaAnd, FormulaOr, FormulaImplies, Formul
 use Rattle.dcv_syntax.specs.Plain.{FormulaExists, FormulaForAll, PlainFormulaOperands, no_formula_operands, formula_operand, arguments_of, PlainMacroBody}
 use Rattle.dcv_syntax.specs.Plain.{FormulaBody, PropBody, PlainMacro}
 use Rattle.dcv_logic.specs.Environment.{found}
-use Rattle.dcv_scope.specs.Core.{PlainTruth, TruthSlot, TruthNot, TruthAnd, TruthOr, TruthIff, no_truths, truth_operand, BasicPoint, BasicRun}
-use Rattle.dcv_scope.specs.Core.{BasicEvery, BasicUnit, BasicScount, BasicSdur, CoreTree, CoreAtom, CoreNot, CoreAnd, CoreOr, CoreIff, CoreChop, CoreStar}
-use Rattle.dcv_scope.specs.Core.{CoreExists}
+use Rattle.dcv_core.specs.Core.{PlainTruth, TruthSlot, TruthNot, TruthAnd, TruthOr, TruthIff, no_truths, truth_operand, BasicPoint, BasicRun}
+use Rattle.dcv_core.specs.Core.{BasicEvery, BasicUnit, BasicScount, BasicSdur, CoreTree, CoreAtom, CoreNot, CoreAnd, CoreOr, CoreIff, CoreChop, CoreStar}
+use Rattle.dcv_core.specs.Core.{CoreExists}
 use Rattle.dcv_scope.specs.CoreOf.{Expansion, PropExpansion, FormulaExpansion, Sight, bind_slot, bind_arguments, truth_of_macro, truth_without, truth_of_call}
 use Rattle.dcv_scope.specs.CoreOf.{truth_of, argument_truths, operand_truths, core_of_macro, somewhere_core, core_of, joined, body_expansion, expansion_of}
 use Rattle.dcv_scope.specs.CoreOf.{with_expansions, declared_slots}

@@ -8,13 +8,13 @@ use Rattle.dcv_syntax.specs.declared.names.Span.{Span}
 use Rattle.dcv_syntax.specs.Spans.{covering}
 use Rattle.dcv_syntax.specs.Plain.{PlainPropKind, PropConstant, PropCall, PropNot, PropAnd, PropOr, PropImplies, PropIff, PlainArguments, no_arguments, argument, PlainPropOperands, no_prop_operands, prop_operand, PlainFormulaKind, FormulaConstant, FormulaPt, FormulaExt, FormulaPoint, FormulaRun, FormulaEvery, FormulaUnit, FormulaSlen, FormulaScount, FormulaSdur, FormulaCall, FormulaNot, FormulaAnd, FormulaOr, FormulaImplies, FormulaIff, FormulaChop, FormulaStar, FormulaSomewhere, FormulaEverywhere, FormulaExists, FormulaForAll, PlainFormulaOperands, no_formula_operands, formula_operand, arguments_of, PlainMacroBody, FormulaBody, PropBody, PlainMacro, PlainFile}
 use Rattle.dcv_logic.specs.Environment.{found}
-use Rattle.dcv_scope.specs.Core.{PlainTruth, TruthConstant, TruthSlot, TruthNot, TruthAnd, TruthOr, TruthIff, PlainTruths, no_truths, truth_operand, CoreTree, CoreAtom, CoreNot, CoreAnd, CoreOr, CoreIff, CoreChop, CoreStar, CoreExists}
+use Rattle.dcv_core.specs.Core.{PlainTruth, TruthConstant, TruthSlot, TruthNot, TruthAnd, TruthOr, TruthIff, PlainTruths, no_truths, truth_operand, CoreTree, CoreAtom, CoreNot, CoreAnd, CoreOr, CoreIff, CoreChop, CoreStar, CoreExists}
 use Rattle.dcv_scope.specs.CoreOf.{Expansion, PropExpansion, FormulaExpansion, Sight, bind_slot, bind_arguments, truth_of_call, truth_of, argument_truths, operand_truths, core_of_macro, core_of, joined, body_expansion, expansion_of, with_expansions, declared_slots, goal_sight, core_of_file}
-use Rattle.dcv_scope.specs.Steps.{PlainStep, steps_before, steps_from, steps_of}
-use Rattle.dcv_scope.specs.Slots.{IsBelow, AreBelow, BasicIsBelow, OpIsBelow}
+use Rattle.dcv_core.specs.Steps.{PlainStep, steps_before, steps_from, steps_of}
+use Rattle.dcv_core.specs.Slots.{IsBelow, AreBelow, BasicIsBelow, OpIsBelow}
 use Rattle.dcv_scope.specs.Laws.{SlotsAreInUse}
 use Rattle.dcv_scope.proofs.Means.{goal_slots}
-use Rattle.dcv_scope.proofs.StepList.{some_same}
+use Rattle.dcv_core.proofs.StepList.{some_same}
 
 abbrev CoreBelow : ℕ → CoreTree → Type 0
 CoreBelow k (CoreAtom basic span) = BasicIsBelow k basic

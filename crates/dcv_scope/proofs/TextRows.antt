@@ -11,12 +11,13 @@ use Rattle.dcv_syntax.specs.Plain.{arguments_of, prop_operands_of}
 use Rattle.dcv_syntax.specs.Views.{plain_prop_kind, plain_prop, plain_prop_operand, plain_formula_kind}
 use Rattle.dcv_syntax.proofs.PlainRows.{plain_call, plain_prop_and, plain_prop_or, plain_prop_iff, plain_and, plain_or, plain_iff, plain_chop}
 use Rattle.dcv_logic.specs.Environment.{found}
-use Rattle.dcv_scope.specs.Core.{TruthAnd, TruthOr, TruthIff, truth_operand, PlainTruth, CoreTree}
+use Rattle.dcv_core.specs.Core.{TruthAnd, TruthOr, TruthIff, truth_operand, PlainTruth, CoreTree}
 use Rattle.dcv_scope.specs.CoreOf.{Sight, truth_of, argument_truths, operand_truths, truth_of_call, core_of_macro, core_of, list_core}
 use Rattle.dcv_scope.specs.Expansions.{truths_in, join_of, unit_of, operands_of}
 use Rattle.dcv_scope.specs.declared.expansion.Join.{Join}
 use Rattle.dcv_scope.specs.declared.expansion.Join.TheVariants as join
-use Rattle.dcv_scope.specs.TruthViews.{truths_of}
+use Rattle.dcv_core.specs.TruthViews.{truths_of}
+use Rattle.dcv_core.proofs.TruthRows.{truth_and, truth_or, truth_iff}
 
 module _ (sight : Sight) where
   abbrev pub operand_truth : PropOperand → PlainTruth
@@ -65,6 +66,8 @@ module _ (sight : Sight) where
 
     pub core-Chop : (operands : Vec FormulaOperand Global) → core_of sight (plain_formula_kind (Chop operands)) span ≡ listed join.Chop operands.items
     core-Chop operands = ap (λ kind. core_of sight kind span) (plain_chop operands)
+
+pub ruleset truth_rows = (truth_and, truth_or, truth_iff)
 
 pub ruleset prop_rows = (truth-Call, truth-And, truth-Or, truth-Iff)
 

@@ -1,5 +1,5 @@
 -- For the proofs alone: what the expansion has in sight, in the words of `CoreOf`.
-use Rattle.std.specs.Prelude.{◌≡◌, ℕ, suc, ◌+◌, ◌<◌, true, false, List, [], ◌∷◌, ◌++◌, Some, map, length, if◌then◌else◌}
+use Rattle.std.specs.Prelude.{◌≡◌, ℕ, ◌+◌, ◌<◌, true, false, List, [], ◌∷◌, Some, map, length, if◌then◌else◌}
 use Rattle.dcv_syntax.specs.declared.names.Span.{Span}
 use Rattle.dcv_syntax.specs.declared.names.Name.{Name}
 use Rattle.dcv_syntax.specs.declared.files.Macro.{Macro}
@@ -17,12 +17,12 @@ use Rattle.dcv_scope.specs.declared.expansion.Sight.{Sight as SightOfCode}
 use Rattle.dcv_scope.specs.declared.expansion.Join.{Join}
 use Rattle.dcv_scope.specs.declared.expansion.Join.TheVariants.{And, Or, Iff, Chop}
 use Rattle.dcv_scope.specs.declared.measures.MacroMeasure.{MacroMeasure}
-use Rattle.dcv_scope.specs.Core.{PlainTruth, TruthConstant, TruthSlot, PlainBasic, BasicConstant, BasicPoint, CoreTree, CoreAnd, CoreOr, CoreIff, CoreChop}
+use Rattle.dcv_core.specs.Core.{PlainTruth, TruthConstant, TruthSlot, PlainBasic, BasicConstant, BasicPoint, CoreTree, CoreAnd, CoreOr, CoreIff, CoreChop}
 use Rattle.dcv_scope.specs.CoreOf.{Sight, Expansion, PropExpansion, FormulaExpansion, expansion_of, with_expansions, declared_slots, truth_of}
-use Rattle.dcv_scope.specs.Steps.{PlainOp, OpAtom, OpAnd, OpOr, OpIff, OpChop, PlainCore}
+use Rattle.dcv_core.specs.Steps.{PlainOp, OpAnd, OpOr, OpIff, OpChop}
 use Rattle.dcv_scope.specs.Linear.{uses_parameter, AreMeasuresOf, variables_alone}
 use Rattle.dcv_scope.specs.Unused.{PassesOver}
-use Rattle.dcv_scope.specs.TruthViews.{plain_truth}
+use Rattle.dcv_core.specs.TruthViews.{plain_truth}
 
 -- what a name stands for
 abbrev pub meant : Meaning → PlainTruth
@@ -95,14 +95,3 @@ unit_of Chop = BasicPoint (TruthConstant true)
 
 abbrev pub operands_of : List FormulaOperand → PlainFormulaOperands
 operands_of operands = formula_operands_of (map plain_formula_operand operands)
-
--- the new core has the last three steps of `true ^ D ^ true` more, behind `true` and D, which have these numbers
-pub record IsChoppedRound (old : PlainCore) (before part : ℕ) (span : Span) (slots : ℕ) (new : PlainCore) (last : ℕ) : Type 0 where
-  pub added : new ≡ record old {
-    steps = old.steps
-        ++ record { op = OpChop before part; span = span; slots = slots }
-        ∷ record { op = OpAtom (BasicConstant true); span = span; slots = slots }
-        ∷ record { op = OpChop (length old.steps) (suc (length old.steps)); span = span; slots = slots }
-        ∷ [];
-  }
-  pub place : last ≡ suc (suc (length old.steps))

@@ -5,13 +5,13 @@ ghost use Rattle.dcv_scope.specs.Faults.{fault_of_goal, fault_of_file};
 ghost use Rattle.dcv_scope.specs.Linear.{capped_numbers, numbers_of};
 ghost use Rattle.dcv_scope.specs.Measures.{measure_of_file};
 ghost use Rattle.dcv_scope.specs.CoreOf.{core_of_file};
-ghost use Rattle.dcv_scope.specs.Steps.{steps_of, without_core};
+ghost use Rattle.dcv_core.specs.Steps.{steps_of, without_core};
 
 use crate::expansion::core_of_goal;
 use crate::faults::{MOST_DEPTH, MOST_NODES, MOST_SLOTS, ScopeFault};
 use crate::measures::{Measure, measure_of_goal, measures_of_macros};
 use crate::naming::fault_of_names;
-use crate::steps::Core;
+use dcv_core::Core;
 use dcv_syntax::File;
 use std::alloc::Global;
 

@@ -6,22 +6,22 @@ ghost use Rattle.dcv_syntax.specs.Spans.{covering};
 ghost use Rattle.dcv_syntax.specs.Views.{plain_prop_kind, plain_formula_kind, plain_macro, plain_file};
 ghost use Rattle.dcv_logic.specs.Environment.{found};
 ghost use Rattle.dcv_logic.specs.Scope.{IsNewest};
-ghost use Rattle.dcv_scope.specs.Core.{TruthConstant, TruthNot, TruthOr, no_truths, truth_operand, BasicConstant};
-ghost use Rattle.dcv_scope.specs.Core.{CoreAtom, CoreNot, CoreOr, CoreStar, CoreExists};
+ghost use Rattle.dcv_core.specs.Core.{TruthConstant, TruthNot, TruthOr, no_truths, truth_operand, BasicConstant};
+ghost use Rattle.dcv_core.specs.Core.{CoreAtom, CoreNot, CoreOr, CoreStar, CoreExists};
 ghost use Rattle.dcv_scope.specs.CoreOf.{bind_slot, bind_arguments, declared_slots, truth_of_call, truth_of};
 ghost use Rattle.dcv_scope.specs.CoreOf.{core_of_macro, somewhere_core, core_of, list_core, core_of_file};
 ghost use Rattle.dcv_scope.specs.Measures.{measure_of_file, slots_of_file};
 ghost use Rattle.dcv_scope.specs.Linear.{AreMeasuresOf, variables_alone};
-ghost use Rattle.dcv_scope.specs.Steps.{Made, HasRoom, without_core, steps_of};
-ghost use Rattle.dcv_scope.specs.StepViews.{plain_operator};
-ghost use Rattle.dcv_scope.specs.TruthViews.{plain_truth, plain_basic};
+ghost use Rattle.dcv_core.specs.Steps.{Made, HasRoom, IsChoppedRound, without_core, steps_of};
+ghost use Rattle.dcv_core.specs.StepViews.{plain_operator};
+ghost use Rattle.dcv_core.specs.TruthViews.{plain_truth, plain_basic};
 ghost use Rattle.dcv_scope.specs.Names.{texts};
+ghost use Rattle.dcv_scope.specs.Faults.{most_nodes, most_slots};
 ghost use Rattle.dcv_scope.specs.Expansions.{meant, names_of, sight_of, top_sight_of, IsSight, IsCalled, used_from, truths_in};
-ghost use Rattle.dcv_scope.specs.Expansions.{join_of, join_op, unit_of, operands_of, IsChoppedRound};
+ghost use Rattle.dcv_scope.specs.Expansions.{join_of, join_op, unit_of, operands_of};
 
 use crate::measures::MacroMeasure;
-use crate::steps::{Core, Operator};
-use crate::truths::{Basic, Truth};
+use dcv_core::{Basic, Core, Operator, Truth};
 use dcv_syntax::{
     File, Formula, FormulaKind, FormulaOperand, Macro, MacroBody, Name, Prop, PropKind,
     PropOperand, Span, Text,
@@ -206,7 +206,7 @@ impl<'a> Sight<'a> {
 
     // `P => Q`, which is `!P || Q`
     #[cycle(truths)]
-    #[tactic(auto, using(crate::proofs::TruthRows::truth_rows))]
+    #[tactic(auto, using(crate::proofs::TextRows::truth_rows))]
     fn implication(&self, premise: &Prop, conclusion: &Prop) -> Result<Truth, AllocError>
         requires is_sight { IsSight self.now }
         ensures { IfOk result (λ truth. plain_truth truth ≡ TruthOr (truth_operand
@@ -599,8 +599,8 @@ pub(crate) fn core_of_goal(
     file: &File,
     uses: &[MacroMeasure],
 ) -> Result<Core, AllocError>
-    requires size { (measure_of_file (plain_file file.now)).size ≤ 65536 }
-    requires slots { slots_of_file (plain_file file.now) ≤ 32 }
+    requires size { (measure_of_file (plain_file file.now)).size ≤ most_nodes }
+    requires slots { slots_of_file (plain_file file.now) ≤ most_slots }
     requires measured { AreMeasuresOf (variables_alone file.now.variables.items) (plain_file file.now).macros uses.now }
     ensures declared { IfOk result (λ core. core.declared ≡ length (plain_file file.now).variables) }
     ensures steps { IfOk result (λ core. core.steps ≡ map without_core

@@ -5,6 +5,12 @@ ghost use Rattle.dcv_scope.specs.declared.faults.ScopeFault.TheVariants.{Memory 
 use std::alloc::AllocError;
 use thiserror::Error;
 
+/// The most declared variables.
+pub(crate) const MOST_VARIABLES: usize = 16;
+/// The most parameters of a macro.
+pub(crate) const MOST_PARAMETERS: usize = 8;
+/// The most macros.
+pub(crate) const MOST_MACROS: usize = 256;
 /// The most nodes of a goal whose macros are replaced by their bodies.
 pub const MOST_NODES: u32 = 65_536;
 /// The most nodes of such a goal that stand one below another.

@@ -13,14 +13,12 @@ ghost use Rattle.dcv_scope.specs.Walk.{linear_of_name, linear_of_macro, linear_o
 ghost use Rattle.dcv_scope.specs.Walk.{linear_in_sight, leaves, quantified_leaves, parameters_from, name_too, first_linear, all_in_turn, IsMeasured};
 ghost use Rattle.dcv_scope.specs.Walk.{linear_of, with_linears, declared_alone, linear_measures};
 
+use crate::faults::MOST_PARAMETERS as PARAMETERS;
 use dcv_syntax::{
     File, Formula, FormulaKind, FormulaOperand, Macro, MacroBody, Name, Prop, PropKind,
     PropOperand, Text,
 };
 use std::alloc::{AllocError, Global};
-
-/// The most parameters that a macro has.
-const PARAMETERS: usize = 8;
 
 /// How many nodes a goal or a body has, how deep they are nested, and how deep its quantifiers are. Each number stops at the
 /// greatest of its type.

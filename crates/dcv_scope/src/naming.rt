@@ -10,7 +10,7 @@ ghost use Rattle.std.specs.Option.{option_or, is_some};
 ghost use Rattle.dcv_scope.specs.declared.faults.ScopeFault.TheVariants.{Arity};
 ghost use Rattle.dcv_scope.specs.Sights.{in_sight_of, first_of, top_sight, faults_of_macros};
 
-use crate::faults::ScopeFault;
+use crate::faults::{MOST_MACROS, MOST_PARAMETERS, MOST_VARIABLES, ScopeFault};
 use dcv_syntax::{
     File, Formula, FormulaKind, FormulaOperand, Macro, MacroBody, Name, Prop, PropKind,
     PropOperand, Text,
@@ -291,7 +291,7 @@ impl<'a> Names<'a> {
         ensures { result ≡ fault_at (occurs name.now (Parameter (texts before.now)) (in_sight_of self.now)) }
     {
         let at = name.span.start;
-        if before.len() >= 8 {
+        if before.len() >= MOST_PARAMETERS {
             return Some(ScopeFault::TooMany { at });
         }
         if is_among(&name.text, before) {
@@ -308,7 +308,7 @@ impl<'a> Names<'a> {
         ensures { result ≡ fault_at (occurs name.now Defined (in_sight_of self.now)) }
     {
         let at = name.span.start;
-        if self.macros.len() >= 256 {
+        if self.macros.len() >= MOST_MACROS {
             return Some(ScopeFault::TooMany { at });
         }
         if self.is_variable(&name.text) || self.is_taken(&name.text) {
@@ -357,7 +357,7 @@ fn variable(name: &Name, before: &[Name]) -> Option<ScopeFault>
     ensures { result ≡ fault_at (occurs name.now (Declared (texts before.now)) nothing_in_sight) }
 {
     let at = name.span.start;
-    if before.len() >= 16 {
+    if before.len() >= MOST_VARIABLES {
         return Some(ScopeFault::TooMany { at });
     }
     if is_among(&name.text, before) {

@@ -1,7 +1,8 @@
 // The cores of texts, each step in a short form: its operator with the numbers of its operands, its place, and the number of slots
 // over which it is judged, as in `and(0,1)@6..16/1`.
+use dcv_core::{Basic, Core, Op, Rel, Truth};
 use dcv_reader::read_file;
-use dcv_scope::{Basic, Core, Op, Rel, ScopeFault, Truth, expand};
+use dcv_scope::{ScopeFault, expand};
 use std::alloc::{AllocError, Global};
 use std::test::Fail;
 

@@ -1,9 +1,9 @@
 use Rattle.std.proofs.Common.{rules, ◌≡◌, ◌+◌, ℕ, List, [], map, drop, Err, refl, ap, sym, subst, ◌∙◌, arith}
 use Rattle.std.proofs.lemmas.Result.{err_from_is_err_and}
-use Rattle.dcv_scope.specs.declared.truths.Truth.{Truth}
-use Rattle.dcv_scope.specs.Core.{PlainTruth, TruthConstant, TruthNot}
-use Rattle.dcv_scope.specs.Holds.{truth_holds}
-use Rattle.dcv_scope.specs.TruthViews.{plain_truth, truths_of}
+use Rattle.dcv_core.specs.declared.truths.Truth.{Truth}
+use Rattle.dcv_core.specs.Core.{PlainTruth, TruthConstant, TruthNot}
+use Rattle.dcv_core.specs.Holds.{truth_holds}
+use Rattle.dcv_core.specs.TruthViews.{plain_truth, truths_of}
 use Rattle.dcv_atoms.specs.declared.faults.AtomFault.TheVariants.{Nodes}
 use Rattle.dcv_atoms.specs.Parts.{number_of_truth, parts}
 use Rattle.dcv_atoms.specs.Functions.{list_of}

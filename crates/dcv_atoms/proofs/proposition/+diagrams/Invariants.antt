@@ -1,5 +1,5 @@
 use Rattle.std.proofs.Common.{map, drop}
-use Rattle.dcv_scope.specs.TruthViews.{plain_truth}
+use Rattle.dcv_core.specs.TruthViews.{plain_truth}
 use Rattle.dcv_atoms.specs.Built.{OnTheWay}
 use Rattle.dcv_atoms.proofs.proposition.+diagrams.Given as goal
 

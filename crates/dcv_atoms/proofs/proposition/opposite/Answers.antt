@@ -1,6 +1,6 @@
 use Rattle.std.proofs.Common.{Bool, false, List, not}
-use Rattle.dcv_scope.specs.Core.{TruthNot}
-use Rattle.dcv_scope.specs.Holds.{truth_holds}
+use Rattle.dcv_core.specs.Core.{TruthNot}
+use Rattle.dcv_core.specs.Holds.{truth_holds}
 use Rattle.dcv_atoms.specs.Functions.{Means}
 use Rattle.dcv_atoms.proofs.Building.{exceeds_one}
 use Rattle.dcv_atoms.proofs.ListSteps.{means_at, put_builds}

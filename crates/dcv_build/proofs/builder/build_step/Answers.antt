@@ -1,5 +1,5 @@
-use Rattle.dcv_scope.specs.Steps.{OpAtom}
-use Rattle.dcv_scope.specs.TruthViews.{plain_basic}
+use Rattle.dcv_core.specs.Steps.{OpAtom}
+use Rattle.dcv_core.specs.TruthViews.{plain_basic}
 use Rattle.dcv_build.proofs.Arms.{goes_atom}
 use Rattle.dcv_build.proofs.AtSteps.{atom_at, not_waits, star_waits, exists_waits, and_waits, or_waits, iff_waits, chop_waits}
 use Rattle.dcv_build.proofs.AtSteps.{and_slots, or_slots, iff_slots, chop_slots, exists_slots}

@@ -1,4 +1,4 @@
-use Rattle.dcv_scope.specs.TruthViews.{plain_basic}
+use Rattle.dcv_core.specs.TruthViews.{plain_basic}
 use Rattle.dcv_build_tests.proofs.Cores.{is_atom}
 use Rattle.dcv_build_tests.proofs.atoms.atom_of.Goals as goal
 

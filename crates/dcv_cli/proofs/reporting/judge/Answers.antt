@@ -12,8 +12,8 @@ use Rattle.dcv_syntax.specs.declared.names.Name.{Name}
 use Rattle.dcv_cli.proofs.VariableNames.{are_names}
 use Rattle.dcv_explore.specs.declared.explorer.Limits.{Limits}
 use Rattle.dcv_logic.specs.Models.{models}
-use Rattle.dcv_scope.specs.Core.{CoreTree}
-use Rattle.dcv_scope.specs.Steps.{steps_of}
+use Rattle.dcv_core.specs.Core.{CoreTree}
+use Rattle.dcv_core.specs.Steps.{steps_of}
 use Rattle.dcv_build.specs.Budget.{IsWithinBudget}
 use Rattle.dcv_build.specs.Given.{IsCoreOf}
 use Rattle.dcv_cli.specs.Report.{Says, IsReport}

@@ -3,7 +3,6 @@ use Rattle.std.proofs.Common.{◌≡◌, ℕ, List, Some, Err, Vec, Global, subs
 use Rattle.std.specs.Prelude.{IfSome}
 use Rattle.dcv_io.specs.Disk.{held_of, WhereTold, ReadsPast}
 use Rattle.dcv_io.specs.Taking.{IfTooLong}
-use Rattle.dcv_cli.specs.declared.refusal.TheConstants.{MOST_BYTES}
 use Rattle.std.proofs.lemmas.Result.{err_from_is_err_and}
 use Rattle.dcv_io.specs.Written.{Appends, AppendsStrictPrefix}
 use Rattle.dcv_cli.specs.Budget.{IsBudgeted}
@@ -12,7 +11,7 @@ use Rattle.dcv_command.specs.Request.{limits_in}
 use Rattle.dcv_command.specs.Seen.{asked_by}
 use Rattle.dcv_cli.specs.Ending.{IsExplained}
 use Rattle.dcv_cli.specs.FormulaFile.{OnText}
-use Rattle.dcv_cli.specs.Refusal.{Only}
+use Rattle.dcv_cli.specs.Refusal.{most_bytes, Only}
 use Rattle.dcv_cli.specs.Seen.{reported}
 use Rattle.dcv_cli.proofs.Outcomes.{explains_taking, explains_text, on_true, whole_ends, whole_front, part_front, part_stops}
 use Rattle.dcv_cli.proofs.reporting.perform.Goals as goal
@@ -22,7 +21,7 @@ returns-in_err-text-clause-refused g c =
     let request = asked_by c.args.request in
     let p = err_from_is_err_and c.from_residual.result c.from_residual.ensures.1 in
     rw (p.1, p.2) (explains_taking (g.F.Files.told c.args.files.now) (g.F.Files.told c.read_all.new.files) request c.in_err-text.field-0.0
-    (subst (λ (name : List ℕ). IfTooLong {T = Vec ℕ Global} (Err c.in_err-text.field-0.0) (λ limit. WhereTold (ReadsPast name MOST_BYTES)
+    (subst (λ (name : List ℕ). IfTooLong {T = Vec ℕ Global} (Err c.in_err-text.field-0.0) (λ limit. WhereTold (ReadsPast name most_bytes)
     (g.F.Files.told c.args.files.now) (g.F.Files.told c.read_all.new.files))) c.file.ensures c.in_err-text.ensures.too_long))
 
 pub returns-in_err-report-clause-refused : goal.returns-in_err-report-clause-refused

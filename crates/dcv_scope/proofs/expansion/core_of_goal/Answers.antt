@@ -2,8 +2,8 @@ use Rattle.std.proofs.Common.{◌≡◌, ◌++◌, length, sym, ap, ◌∙◌}
 use Rattle.dcv_syntax.specs.Views.{plain_file}
 use Rattle.dcv_scope.specs.CoreOf.{declared_slots}
 use Rattle.dcv_scope.specs.Expansions.{names_of}
-use Rattle.dcv_scope.specs.Steps.{PlainCore}
-use Rattle.dcv_scope.proofs.MadeSteps.{room_same, made_same}
+use Rattle.dcv_core.specs.Steps.{PlainCore}
+use Rattle.dcv_core.proofs.MadeSteps.{room_same, made_same}
 use Rattle.dcv_scope.proofs.GoalCore.{goal_core, goal_room, made_whole}
 use Rattle.dcv_scope.proofs.expansion.core_of_goal.Goals as goal
 

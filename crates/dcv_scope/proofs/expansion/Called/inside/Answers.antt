@@ -4,7 +4,7 @@ use Rattle.std.proofs.lemmas.Slice.Zip.{either_empty_from_Zip}
 use Rattle.dcv_syntax.specs.declared.names.Name.{Name}
 use Rattle.dcv_scope.specs.CoreOf.{declared_slots}
 use Rattle.dcv_scope.specs.Names.{texts}
-use Rattle.dcv_scope.specs.TruthViews.{plain_truth}
+use Rattle.dcv_core.specs.TruthViews.{plain_truth}
 use Rattle.dcv_scope.specs.Expansions.{names_of, top_sight_of}
 use Rattle.dcv_scope.proofs.InSight.{no_pairs, top-truths}
 use Rattle.dcv_scope.proofs.expansion.Called.inside.Goals as goal

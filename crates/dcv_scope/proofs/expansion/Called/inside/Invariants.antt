@@ -3,7 +3,7 @@ use Rattle.std.specs.List.{zip}
 use Rattle.std.specs.Iterator.Adapters.{zip_first, zip_second}
 use Rattle.std.specs.Slice.Iter.{iter_rest}
 use Rattle.dcv_scope.specs.Names.{texts}
-use Rattle.dcv_scope.specs.TruthViews.{plain_truth}
+use Rattle.dcv_core.specs.TruthViews.{plain_truth}
 use Rattle.dcv_scope.specs.Expansions.{names_of}
 use Rattle.dcv_scope.proofs.expansion.Called.inside.Given as goal
 

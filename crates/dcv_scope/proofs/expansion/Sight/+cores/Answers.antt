@@ -8,14 +8,14 @@ use Rattle.dcv_syntax.specs.Views.{plain_formula_kind}
 use Rattle.dcv_logic.specs.Environment.{found}
 use Rattle.dcv_logic.proofs.Measures.{work, list_work, work-And, work-Or, work-Iff, work-Chop, work_at, body_work, all_bodies, left_after_call}
 use Rattle.dcv_scope.specs.declared.expansion.Join.TheVariants as join
-use Rattle.dcv_scope.specs.Core.{CoreTree, CoreNot}
+use Rattle.dcv_core.specs.Core.{CoreTree, CoreNot}
 use Rattle.dcv_scope.specs.CoreOf.{Sight, core_of, core_of_macro, joined, list_core}
-use Rattle.dcv_scope.specs.TruthViews.{plain_truth}
+use Rattle.dcv_core.specs.TruthViews.{plain_truth}
 use Rattle.dcv_scope.specs.Expansions.{sight_of, truths_in, join_of, unit_of, operands_of}
 use Rattle.dcv_scope.proofs.Calls.{core_inside}
-use Rattle.dcv_scope.proofs.MadeSteps.{then_ok, made_length, made_one, not_is_one, star_is_one, exists_is_one, made_two, or_is_two, made_round, room_same}
-use Rattle.dcv_scope.proofs.MadeSteps.{made_same, made_in}
-use Rattle.dcv_scope.proofs.ListSteps.{join_is_two, first_room, operand_room, join_room, pushed_as, drop_end}
+use Rattle.dcv_core.proofs.MadeSteps.{then_ok, made_length, made_one, not_is_one, star_is_one, exists_is_one, made_two, or_is_two, made_round, room_same}
+use Rattle.dcv_core.proofs.MadeSteps.{made_same}
+use Rattle.dcv_scope.proofs.ListSteps.{made_in, join_is_two, first_room, operand_room, join_room, pushed_as, drop_end}
 use Rattle.dcv_scope.proofs.NameRows.{drop-more}
 use Rattle.dcv_scope.proofs.TextRows.{listed, core-Call, core-And, core-Or, core-Iff, core-Chop}
 use Rattle.dcv_scope.proofs.expansion.Sight.+cores.Goals as goal

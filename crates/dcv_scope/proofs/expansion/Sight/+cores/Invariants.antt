@@ -1,8 +1,8 @@
 use Rattle.std.proofs.Common.{◌≡◌, ◌+◌, ◌*◌, drop}
 use Rattle.dcv_logic.proofs.Measures.{work, list_work}
-use Rattle.dcv_scope.specs.Core.{CoreTree}
+use Rattle.dcv_core.specs.Core.{CoreTree}
 use Rattle.dcv_scope.specs.CoreOf.{joined, list_core}
-use Rattle.dcv_scope.specs.Steps.{Made}
+use Rattle.dcv_core.specs.Steps.{Made}
 use Rattle.dcv_scope.specs.Expansions.{sight_of, join_of, unit_of, operands_of}
 use Rattle.dcv_scope.proofs.WorkLeft.{work_left}
 use Rattle.dcv_scope.proofs.expansion.Sight.+cores.Given as goal

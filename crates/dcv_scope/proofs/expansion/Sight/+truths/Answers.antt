@@ -3,14 +3,14 @@ use Rattle.dcv_syntax.specs.declared.propositions.Prop.{Prop, size-Prop}
 use Rattle.dcv_syntax.specs.Views.{plain_prop_kind, plain_prop, plain_body}
 use Rattle.dcv_logic.specs.Environment.{found}
 use Rattle.dcv_logic.proofs.Measures.{prop_depth, all_bodies, left_after_call}
-use Rattle.dcv_scope.specs.Core.{PlainTruth, TruthAnd, TruthOr, TruthIff}
+use Rattle.dcv_core.specs.Core.{PlainTruth, TruthAnd, TruthOr, TruthIff}
 use Rattle.dcv_scope.specs.CoreOf.{bind_arguments, truth_of, truth_of_call}
 use Rattle.dcv_scope.specs.Names.{texts}
-use Rattle.dcv_scope.specs.TruthViews.{plain_truth, truths_of}
+use Rattle.dcv_core.specs.TruthViews.{plain_truth, truths_of}
 use Rattle.dcv_scope.specs.Expansions.{sight_of, top_sight_of, truths_in, used_from}
 use Rattle.dcv_scope.proofs.Calls.{prop_called}
-use Rattle.dcv_scope.proofs.MadeSteps.{then_ok}
-use Rattle.dcv_scope.proofs.TruthRows.{truth_and, truth_or, truth_iff}
+use Rattle.dcv_core.proofs.MadeSteps.{then_ok}
+use Rattle.dcv_core.proofs.TruthRows.{truth_and, truth_or, truth_iff}
 use Rattle.dcv_scope.proofs.TextRows.{operand_truth, truth-Call, truth-And, truth-Or, truth-Iff}
 use Rattle.dcv_scope.proofs.expansion.Sight.+truths.Goals as goal
 

@@ -4,7 +4,7 @@ use Rattle.dcv_syntax.specs.declared.propositions.PropOperand.{PropOperand}
 use Rattle.dcv_syntax.specs.Views.{plain_prop_kind}
 use Rattle.dcv_logic.proofs.Measures.{prop_depth, all_bodies}
 use Rattle.dcv_scope.specs.CoreOf.{truth_of}
-use Rattle.dcv_scope.specs.TruthViews.{plain_truth}
+use Rattle.dcv_core.specs.TruthViews.{plain_truth}
 use Rattle.dcv_scope.specs.Expansions.{sight_of, used_from, truths_in}
 use Rattle.dcv_scope.proofs.expansion.Sight.+truths.Given as goal
 

@@ -1,5 +1,5 @@
 use Rattle.std.proofs.Common.{◌≡◌, ◌∷◌, ◌++◌, drop}
-use Rattle.dcv_scope.specs.Core.{TruthSlot}
+use Rattle.dcv_core.specs.Core.{TruthSlot}
 use Rattle.dcv_scope.specs.Expansions.{names_of}
 use Rattle.dcv_scope.proofs.expansion.Sight.bind.Given as goal
 

@@ -1,4 +1,4 @@
-use Rattle.dcv_scope.proofs.MadeSteps.{then_ok, chopped_round}
+use Rattle.dcv_core.proofs.MadeSteps.{then_ok, chopped_round}
 use Rattle.dcv_scope.proofs.expansion.Sight.chop_round.Goals as goal
 
 pub returns : goal.returns

@@ -11,12 +11,12 @@ use Rattle.dcv_logic.specs.Search.{each_between, count_from, some_track}
 use Rattle.dcv_logic.specs.Value.{iff}
 use Rattle.dcv_logic.specs.Satisfaction.{compares, star}
 use Rattle.dcv_logic.proofs.InWords.{some_track-found, track-length, track-values}
-use Rattle.dcv_scope.specs.Core.{PlainTruth, PlainBasic, BasicConstant, BasicPoint, BasicRun, BasicEvery, BasicUnit, BasicSlen, BasicScount, BasicSdur, CoreTree, CoreAtom, CoreNot, CoreAnd, CoreOr, CoreIff, CoreChop, CoreStar, CoreExists}
-use Rattle.dcv_scope.specs.Holds.{letter_at, truth_holds, holds_at, basic_holds, core_holds, part_of}
-use Rattle.dcv_scope.specs.Laws.{CoreIsLocal}
-use Rattle.dcv_scope.proofs.Tracks.{with_track-length, with_track-letter}
-use Rattle.dcv_scope.proofs.Chops.{by_both}
-use Rattle.dcv_scope.proofs.Aligned.{Beside, some_between-beside, count_from-beside, count_between-beside, each_between-beside, equal-beside, star-beside}
+use Rattle.dcv_core.specs.Core.{PlainTruth, PlainBasic, BasicConstant, BasicPoint, BasicRun, BasicEvery, BasicUnit, BasicSlen, BasicScount, BasicSdur, CoreTree, CoreAtom, CoreNot, CoreAnd, CoreOr, CoreIff, CoreChop, CoreStar, CoreExists}
+use Rattle.dcv_core.specs.Holds.{letter_at, truth_holds, holds_at, basic_holds, core_holds, part_of}
+use Rattle.dcv_core.specs.Laws.{CoreIsLocal}
+use Rattle.dcv_core.proofs.Tracks.{with_track-length, with_track-letter}
+use Rattle.dcv_core.proofs.Chops.{by_both}
+use Rattle.dcv_core.proofs.Aligned.{Beside, some_between-beside, count_from-beside, count_between-beside, each_between-beside, equal-beside, star-beside}
 
 -- from instant b to e the word u has the letters that v has from x to y
 pub record SamePart (u v : Word) (b e x y : ℕ) : Type 0 where

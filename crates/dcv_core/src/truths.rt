@@ -1,6 +1,6 @@
 // Propositions over slots, and the forms of a core without a formula in them.
 ghost use Rattle.std.specs.Prelude.{◌≡◌, map, IfOk};
-ghost use Rattle.dcv_scope.specs.TruthViews.{plain_truth};
+ghost use Rattle.dcv_core.specs.TruthViews.{plain_truth};
 
 use dcv_syntax::Relation as Rel;
 use std::alloc::{AllocError, Global};
@@ -42,7 +42,7 @@ impl Truth {
     /// Another proposition like this one.
     #[cycle(copy)]
     #[tactic(auto, using(crate::proofs::TruthRows::truth_rows))]
-    pub(crate) fn copy(&self, alloc: Global) -> Result<Truth, AllocError>
+    pub fn copy(&self, alloc: Global) -> Result<Truth, AllocError>
         ensures { IfOk result (λ truth. plain_truth truth ≡ plain_truth self.now) }
     {
         match self {

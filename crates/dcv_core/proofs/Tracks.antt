@@ -6,7 +6,7 @@ use Rattle.std.proofs.lemmas.List.{append_assoc, append-nil}
 use Rattle.dcv_word.specs.Behaviour.{Word}
 use Rattle.dcv_language.specs.Operations.{with_track}
 use Rattle.dcv_logic.specs.Track.{Track, truth_at, slot_track}
-use Rattle.dcv_scope.specs.Holds.{letter_at}
+use Rattle.dcv_core.specs.Holds.{letter_at}
 
 pub with_track-length : (word : Word) (track : Track) → length track ≡ length word → length (with_track word track) ≡ length word
 with_track-length [] track e = refl

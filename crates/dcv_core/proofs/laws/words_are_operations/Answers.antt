@@ -1,5 +1,5 @@
-use Rattle.dcv_scope.proofs.Words.{words_of_atom, words_of_not, words_of_and, words_of_or, words_of_iff, words_of_chop, words_of_star, words_of_exists}
-use Rattle.dcv_scope.proofs.laws.words_are_operations.Goals as goal
+use Rattle.dcv_core.proofs.Words.{words_of_atom, words_of_not, words_of_and, words_of_or, words_of_iff, words_of_chop, words_of_star, words_of_exists}
+use Rattle.dcv_core.proofs.laws.words_are_operations.Goals as goal
 
 pub returns-clause-atom : goal.returns-clause-atom
 returns-clause-atom c = words_of_atom

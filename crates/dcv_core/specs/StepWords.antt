@@ -9,9 +9,9 @@ use Rattle.dcv_logic.specs.Satisfaction.{compares}
 use Rattle.dcv_language.specs.Language.{Language, outside, HaveSameBehaviours}
 use Rattle.dcv_language.specs.Operations.{intersection, union, agreement, chop, star, projection}
 use Rattle.dcv_language.specs.Atoms.{constant, point, run, every, unit, slen, scount, sdur}
-use Rattle.dcv_scope.specs.Core.{PlainBasic, BasicConstant, BasicPoint, BasicRun, BasicEvery, BasicUnit, BasicSlen, BasicScount, BasicSdur}
-use Rattle.dcv_scope.specs.Holds.{truth_holds, words_of}
-use Rattle.dcv_scope.specs.Steps.{PlainOp, OpAtom, OpNot, OpAnd, OpOr, OpIff, OpChop, OpStar, OpExists, PlainStep, steps_before}
+use Rattle.dcv_core.specs.Core.{PlainBasic, BasicConstant, BasicPoint, BasicRun, BasicEvery, BasicUnit, BasicSlen, BasicScount, BasicSdur}
+use Rattle.dcv_core.specs.Holds.{truth_holds, words_of}
+use Rattle.dcv_core.specs.Steps.{PlainOp, OpAtom, OpNot, OpAnd, OpOr, OpIff, OpChop, OpStar, OpExists, PlainStep, steps_before}
 
 abbrev pub basic_words : PlainBasic → Language
 basic_words (BasicConstant truth) = constant truth

@@ -3,12 +3,10 @@ use Rattle.std.proofs.Common.{◌≡◌, ℕ, suc, ◌+◌, true, List, [], ◌�
 use Rattle.std.proofs.Common.{length-append, max}
 use Rattle.std.proofs.lemmas.List.{map-append, append_assoc, length-map}
 use Rattle.dcv_syntax.specs.declared.names.Span.{Span}
-use Rattle.dcv_scope.specs.Core.{PlainBasic, BasicConstant, CoreTree, CoreAtom, CoreNot, CoreAnd, CoreOr, CoreIff, CoreChop, CoreStar, CoreExists}
-use Rattle.dcv_scope.specs.Steps.{PlainOp, OpAtom, OpNot, OpAnd, OpOr, OpIff, OpChop, OpStar, OpExists, steps_before, own_step, steps_from}
-use Rattle.dcv_scope.specs.Steps.{CoreStep, without_core, PlainCore, Pushed, Made, HasRoom, nesting}
-use Rattle.dcv_scope.specs.CoreOf.{Sight}
-use Rattle.dcv_scope.specs.Expansions.{IsChoppedRound}
-use Rattle.dcv_scope.proofs.StepList.{steps_from-length}
+use Rattle.dcv_core.specs.Core.{PlainBasic, BasicConstant, CoreTree, CoreAtom, CoreNot, CoreAnd, CoreOr, CoreIff, CoreChop, CoreStar, CoreExists}
+use Rattle.dcv_core.specs.Steps.{PlainOp, OpAtom, OpNot, OpAnd, OpOr, OpIff, OpChop, OpStar, OpExists, steps_before, own_step, steps_from}
+use Rattle.dcv_core.specs.Steps.{CoreStep, without_core, PlainCore, Pushed, Made, HasRoom, IsChoppedRound, nesting}
+use Rattle.dcv_core.proofs.StepList.{steps_from-length}
 
 -- what follows of a result, where there is one
 pub then_ok : {X E : Type 0} {P Q : X → Type 0} (r : Result X E) → IfOk r P → ((x : X) → P x → Q x) → IfOk r Q
@@ -171,6 +169,3 @@ room_same {old} {k} {j} {x} {y} room slots same = record {
 pub made_same : {old new : PlainCore} {k j last : ℕ} {x y : CoreTree} → Made old k x new last → k ≡ j → x ≡ y → Made old j y new last
 made_same {old} {new} {k} {j} {last} {x} {y} made slots same =
     subst (λ (core : CoreTree). Made old j core new last) same (subst (λ (n : ℕ). Made old n x new last) slots made)
-
-pub made_in : {old new : PlainCore} {last : ℕ} (core : Sight → CoreTree) {inner outer : Sight} → inner ≡ outer → Made old inner.slots (core inner) new last → Made old outer.slots (core outer) new last
-made_in {old} {new} {last} core same = subst (λ (s : Sight). Made old s.slots (core s) new last) same

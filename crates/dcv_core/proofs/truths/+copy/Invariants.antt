@@ -1,6 +1,6 @@
 use Rattle.std.proofs.Common.{◌≡◌, ◌++◌, map, drop}
-use Rattle.dcv_scope.specs.TruthViews.{plain_truth}
-use Rattle.dcv_scope.proofs.truths.+copy.Given as goal
+use Rattle.dcv_core.specs.TruthViews.{plain_truth}
+use Rattle.dcv_core.proofs.truths.+copy.Given as goal
 
 -- the copies so far and what is left are the whole
 abbrev pub invariant-copy_all-loop-truth : goal.invariant-copy_all-loop-truth

@@ -6,9 +6,10 @@
 --     Pushed           one step more
 --     Made             the steps of a core more
 --     HasRoom          there are numbers enough for these steps and their slots
-use Rattle.std.specs.Prelude.{◌≡◌, ℕ, suc, ◌+◌, ◌^◌, ◌<◌, max, List, [], ◌∷◌, ◌++◌, length, map}
+--     IsChoppedRound   the last three steps of `true ^ D ^ true` more
+use Rattle.std.specs.Prelude.{◌≡◌, ℕ, true, suc, ◌+◌, ◌^◌, ◌<◌, max, List, [], ◌∷◌, ◌++◌, length, map}
 use Rattle.dcv_syntax.specs.declared.names.Span.{Span}
-use Rattle.dcv_scope.specs.Core.{PlainBasic, CoreTree, CoreAtom, CoreNot, CoreAnd, CoreOr, CoreIff, CoreChop, CoreStar, CoreExists}
+use Rattle.dcv_core.specs.Core.{PlainBasic, BasicConstant, CoreTree, CoreAtom, CoreNot, CoreAnd, CoreOr, CoreIff, CoreChop, CoreStar, CoreExists}
 
 pub data PlainOp : Type 0 where
   OpAtom : (basic : PlainBasic) → PlainOp
@@ -109,3 +110,14 @@ nesting (CoreExists d span) = suc (nesting d)
 pub record HasRoom (old : PlainCore) (slots : ℕ) (core : CoreTree) : Type 0 where
   pub enough_steps : suc (length old.steps + steps_before core) < 2 ^ 32
   pub enough_slots : slots + nesting core < 256
+
+-- the new core has the last three steps of `true ^ D ^ true` more, behind `true` and D, which have these numbers
+pub record IsChoppedRound (old : PlainCore) (before part : ℕ) (span : Span) (slots : ℕ) (new : PlainCore) (last : ℕ) : Type 0 where
+  pub added : new ≡ record old {
+    steps = old.steps
+        ++ record { op = OpChop before part; span = span; slots = slots }
+        ∷ record { op = OpAtom (BasicConstant true); span = span; slots = slots }
+        ∷ record { op = OpChop (length old.steps) (suc (length old.steps)); span = span; slots = slots }
+        ∷ [];
+  }
+  pub place : last ≡ suc (suc (length old.steps))

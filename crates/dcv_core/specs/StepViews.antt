@@ -1,12 +1,12 @@
 -- The steps of the code as those of `Steps`.
-use Rattle.dcv_scope.specs.declared.steps.Op.{Op}
-use Rattle.dcv_scope.specs.declared.steps.Op.TheVariants.{Atom, Not, And, Or, Iff, Chop, Star, Exists}
-use Rattle.dcv_scope.specs.declared.steps.Operator.{Operator}
-use Rattle.dcv_scope.specs.declared.steps.Operator.TheVariants.{Atom as OwnAtom, Not as OwnNot, And as OwnAnd, Or as OwnOr, Iff as OwnIff, Chop as OwnChop}
-use Rattle.dcv_scope.specs.declared.steps.Operator.TheVariants.{Star as OwnStar, Exists as OwnExists}
-use Rattle.dcv_scope.specs.declared.steps.Step.{Step}
-use Rattle.dcv_scope.specs.Steps.{PlainOp, OpAtom, OpNot, OpAnd, OpOr, OpIff, OpChop, OpStar, OpExists, CoreStep}
-use Rattle.dcv_scope.specs.TruthViews.{plain_basic}
+use Rattle.dcv_core.specs.declared.steps.Op.{Op}
+use Rattle.dcv_core.specs.declared.steps.Op.TheVariants.{Atom, Not, And, Or, Iff, Chop, Star, Exists}
+use Rattle.dcv_core.specs.declared.steps.Operator.{Operator}
+use Rattle.dcv_core.specs.declared.steps.Operator.TheVariants.{Atom as OwnAtom, Not as OwnNot, And as OwnAnd, Or as OwnOr, Iff as OwnIff, Chop as OwnChop}
+use Rattle.dcv_core.specs.declared.steps.Operator.TheVariants.{Star as OwnStar, Exists as OwnExists}
+use Rattle.dcv_core.specs.declared.steps.Step.{Step}
+use Rattle.dcv_core.specs.Steps.{PlainOp, OpAtom, OpNot, OpAnd, OpOr, OpIff, OpChop, OpStar, OpExists, CoreStep}
+use Rattle.dcv_core.specs.TruthViews.{plain_basic}
 
 abbrev pub plain_op : Op → PlainOp
 plain_op (Atom basic) = OpAtom (plain_basic basic.now)

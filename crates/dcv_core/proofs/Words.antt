@@ -12,12 +12,12 @@ use Rattle.dcv_logic.specs.Search.{some_from, some_between, each_between, count_
 use Rattle.dcv_logic.specs.Value.{iff as same_truths}
 use Rattle.dcv_logic.specs.Satisfaction.{compares, star as star_of}
 use Rattle.dcv_logic.proofs.SearchSteps.{star_enough}
-use Rattle.dcv_scope.specs.Core.{PlainTruth, BasicConstant, BasicPoint, BasicRun, BasicEvery, BasicUnit, BasicSlen, BasicScount, BasicSdur, CoreTree}
-use Rattle.dcv_scope.specs.Holds.{letter_at, truth_holds, holds_at, core_holds, words_of}
-use Rattle.dcv_scope.specs.Laws.{WordsOfAtom, WordsOfNot, WordsOfAnd, WordsOfOr, WordsOfIff, WordsOfChop, WordsOfStar, WordsOfExists}
-use Rattle.dcv_scope.proofs.Tracks.{with_track-length}
-use Rattle.dcv_scope.proofs.Aligned.{star-beside}
-use Rattle.dcv_scope.proofs.Local.{SamePart, inner_part, local}
+use Rattle.dcv_core.specs.Core.{PlainTruth, BasicConstant, BasicPoint, BasicRun, BasicEvery, BasicUnit, BasicSlen, BasicScount, BasicSdur, CoreTree}
+use Rattle.dcv_core.specs.Holds.{letter_at, truth_holds, holds_at, core_holds, words_of}
+use Rattle.dcv_core.specs.Laws.{WordsOfAtom, WordsOfNot, WordsOfAnd, WordsOfOr, WordsOfIff, WordsOfChop, WordsOfStar, WordsOfExists}
+use Rattle.dcv_core.proofs.Tracks.{with_track-length}
+use Rattle.dcv_core.proofs.Aligned.{star-beside}
+use Rattle.dcv_core.proofs.Local.{SamePart, inner_part, local}
 
 -- the whole of a nonempty word
 whole : (core : CoreTree) (word : Word) → 0 < length word → words_of core word ≡ core_holds core word 0 (length word - 1)

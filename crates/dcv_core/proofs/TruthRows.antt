@@ -1,10 +1,10 @@
 -- A proposition of the code that holds a vector has the propositions in it as operands.
 use Rattle.std.proofs.Common.{◌≡◌, map, Vec, Global, refl, ap, ◌∙◌}
 use mathlib.Core.Former.{Count}
-use Rattle.dcv_scope.specs.declared.truths.Truth.{Truth, And', And, Or, Iff, items-the_row-Truth, items_hidden-the_row-Truth-0}
-use Rattle.dcv_scope.specs.declared.truths.Truth.TheBlock.{Row_of-Truth, end_of-Truth, more_of-Truth}
-use Rattle.dcv_scope.specs.Core.{TruthAnd, TruthOr, TruthIff, truth_operand}
-use Rattle.dcv_scope.specs.TruthViews.{plain_truth, plain_truths, truths_of}
+use Rattle.dcv_core.specs.declared.truths.Truth.{Truth, And', And, Or, Iff, items-the_row-Truth, items_hidden-the_row-Truth-0}
+use Rattle.dcv_core.specs.declared.truths.Truth.TheBlock.{Row_of-Truth, end_of-Truth, more_of-Truth}
+use Rattle.dcv_core.specs.Core.{TruthAnd, TruthOr, TruthIff, truth_operand}
+use Rattle.dcv_core.specs.TruthViews.{plain_truth, plain_truths, truths_of}
 
 truths_are : (n : _) (row : Row_of-Truth n) → plain_truths row ≡ truths_of (map plain_truth (items-the_row-Truth n row))
 truths_are n end_of-Truth = refl

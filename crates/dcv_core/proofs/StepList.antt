@@ -5,12 +5,12 @@ use Rattle.std.proofs.Math.Nat.{eq-or-lt_of_le}
 use Rattle.std.proofs.lemmas.Option.{slice_get_within}
 use Rattle.dcv_language.specs.Language.{Language, HaveSameBehaviours}
 use Rattle.dcv_language.specs.Operations.{intersection, union, agreement, chop}
-use Rattle.dcv_scope.specs.Core.{CoreTree, CoreAtom, CoreNot, CoreAnd, CoreOr, CoreIff, CoreChop, CoreStar, CoreExists}
-use Rattle.dcv_scope.specs.Holds.{words_of}
-use Rattle.dcv_scope.specs.Steps.{OpAtom, PlainStep, steps_before, own_step, steps_from, steps_of}
-use Rattle.dcv_scope.specs.StepWords.{TakesOne, TakesTwo, IsOperation}
-use Rattle.dcv_scope.specs.Laws.{SameNonempty, StepsAreOperations, LastStepIsCore}
-use Rattle.dcv_scope.proofs.Words.{words_of_atom, words_of_not, words_of_and, words_of_or, words_of_iff, words_of_chop, words_of_star, words_of_exists}
+use Rattle.dcv_core.specs.Core.{CoreTree, CoreAtom, CoreNot, CoreAnd, CoreOr, CoreIff, CoreChop, CoreStar, CoreExists}
+use Rattle.dcv_core.specs.Holds.{words_of}
+use Rattle.dcv_core.specs.Steps.{OpAtom, PlainStep, steps_before, own_step, steps_from, steps_of}
+use Rattle.dcv_core.specs.StepWords.{TakesOne, TakesTwo, IsOperation}
+use Rattle.dcv_core.specs.Laws.{SameNonempty, StepsAreOperations, LastStepIsCore}
+use Rattle.dcv_core.proofs.Words.{words_of_atom, words_of_not, words_of_and, words_of_or, words_of_iff, words_of_chop, words_of_star, words_of_exists}
 
 slice_get-left : (xs ys : List PlainStep) (i : ℕ) → i < length xs → slice_get (xs ++ ys) i ≡ slice_get xs i
 slice_get-left [] ys i lt = absurd (omega (arith, lt))

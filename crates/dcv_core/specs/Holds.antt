@@ -11,9 +11,9 @@ use Rattle.dcv_logic.specs.Satisfaction.{compares, star}
 use Rattle.dcv_word.specs.Behaviour.{Word}
 use Rattle.dcv_language.specs.Language.{Language}
 use Rattle.dcv_language.specs.Operations.{with_track}
-use Rattle.dcv_scope.specs.Core.{PlainTruth, TruthConstant, TruthSlot, TruthNot, TruthAnd, TruthOr, TruthIff, PlainTruths, no_truths, truth_operand}
-use Rattle.dcv_scope.specs.Core.{PlainBasic, BasicConstant, BasicPoint, BasicRun, BasicEvery, BasicUnit, BasicSlen, BasicScount, BasicSdur, CoreTree}
-use Rattle.dcv_scope.specs.Core.{CoreAtom, CoreNot, CoreAnd, CoreOr, CoreIff, CoreChop, CoreStar, CoreExists}
+use Rattle.dcv_core.specs.Core.{PlainTruth, TruthConstant, TruthSlot, TruthNot, TruthAnd, TruthOr, TruthIff, PlainTruths, no_truths, truth_operand}
+use Rattle.dcv_core.specs.Core.{PlainBasic, BasicConstant, BasicPoint, BasicRun, BasicEvery, BasicUnit, BasicSlen, BasicScount, BasicSdur, CoreTree}
+use Rattle.dcv_core.specs.Core.{CoreAtom, CoreNot, CoreAnd, CoreOr, CoreIff, CoreChop, CoreStar, CoreExists}
 
 -- the letter at an instant
 abbrev pub letter_at : Word → ℕ → List Bool

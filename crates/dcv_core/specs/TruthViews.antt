@@ -1,11 +1,11 @@
 -- The propositions and forms of the code as those of `Core`.
 use Rattle.std.specs.Prelude.{List, [], ◌∷◌}
-use Rattle.dcv_scope.specs.declared.truths.Truth.{Truth, Constant, Slot, Not', And', Or', Iff'}
-use Rattle.dcv_scope.specs.declared.truths.Truth.TheBlock.{Row_of-Truth, end_of-Truth, more_of-Truth}
-use Rattle.dcv_scope.specs.declared.truths.Basic.{Basic}
-use Rattle.dcv_scope.specs.declared.truths.Basic.TheVariants.{Constant as ConstantForm, Point, Run, Every, Unit as TwoInstants, Slen, Scount, Sdur}
-use Rattle.dcv_scope.specs.Core.{PlainTruth, TruthConstant, TruthSlot, TruthNot, TruthAnd, TruthOr, TruthIff, PlainTruths, no_truths, truth_operand}
-use Rattle.dcv_scope.specs.Core.{PlainBasic, BasicConstant, BasicPoint, BasicRun, BasicEvery, BasicUnit, BasicSlen, BasicScount, BasicSdur}
+use Rattle.dcv_core.specs.declared.truths.Truth.{Truth, Constant, Slot, Not', And', Or', Iff'}
+use Rattle.dcv_core.specs.declared.truths.Truth.TheBlock.{Row_of-Truth, end_of-Truth, more_of-Truth}
+use Rattle.dcv_core.specs.declared.truths.Basic.{Basic}
+use Rattle.dcv_core.specs.declared.truths.Basic.TheVariants.{Constant as ConstantForm, Point, Run, Every, Unit as TwoInstants, Slen, Scount, Sdur}
+use Rattle.dcv_core.specs.Core.{PlainTruth, TruthConstant, TruthSlot, TruthNot, TruthAnd, TruthOr, TruthIff, PlainTruths, no_truths, truth_operand}
+use Rattle.dcv_core.specs.Core.{PlainBasic, BasicConstant, BasicPoint, BasicRun, BasicEvery, BasicUnit, BasicSlen, BasicScount, BasicSdur}
 
 abbrev mutual
   pub plain_truth : Truth → PlainTruth

@@ -1,8 +1,8 @@
 // The core of a formula, as the list of its steps: its operators in post-order, each after its operands.
 ghost use Rattle.std.specs.Prelude.{◌≡◌, ◌<◌, ◌+◌, ◌^◌, [], length, Some, slice_get, IfOk};
 ghost use Rattle.std.specs.Option.{option_map};
-ghost use Rattle.dcv_scope.specs.Steps.{Pushed};
-ghost use Rattle.dcv_scope.specs.StepViews.{plain_op, plain_operator};
+ghost use Rattle.dcv_core.specs.Steps.{Pushed};
+ghost use Rattle.dcv_core.specs.StepViews.{plain_op, plain_operator};
 
 use crate::truths::Basic;
 use dcv_syntax::Span;
@@ -23,9 +23,9 @@ pub enum Op<'a> {
     Exists(u32),
 }
 
-// The same, with a form of its own.
+/// The same, with a form of its own, as a step is made.
 #[derive(Debug, Drop)]
-pub(crate) enum Operator {
+pub enum Operator {
     Atom(Basic),
     Not(u32),
     And(u32, u32),
@@ -38,10 +38,10 @@ pub(crate) enum Operator {
 
 // An operator with its place and the number of slots over which it is judged.
 #[derive(Debug, Drop)]
-pub(crate) struct Step {
-    pub(crate) operator: Operator,
-    pub(crate) span: Span,
-    pub(crate) slots: u8,
+struct Step {
+    operator: Operator,
+    span: Span,
+    slots: u8,
 }
 
 /// The core of a goal: how many variables are declared, and its steps, numbered from 0. The last is that of the whole.
@@ -53,9 +53,9 @@ pub struct Core {
 
 impl Model for Core {
     ghost use Rattle.std.specs.Prelude.{◌<◌, ◌^◌, length, map};
-    ghost use Rattle.dcv_scope.specs.Steps.{PlainCore};
-    ghost use Rattle.dcv_scope.specs.StepViews.{plain_step};
-    ghost use Rattle.dcv_scope.specs.TruthCode.{truth_code};
+    ghost use Rattle.dcv_core.specs.Steps.{PlainCore};
+    ghost use Rattle.dcv_core.specs.StepViews.{plain_step};
+    ghost use Rattle.dcv_core.specs.TruthCode.{truth_code};
     ghost use Rattle.std.specs.Coded.{codes};
 
     ghost Value = { PlainCore };
@@ -68,8 +68,8 @@ impl Model for Core {
 }
 
 impl Core {
-    // A core without steps.
-    pub(crate) fn new(alloc: Global, declared: u8) -> Core
+    /// A core without steps.
+    pub fn new(alloc: Global, declared: u8) -> Core
         ensures { result ≡ record { declared = declared; steps = [] } }
     {
         Core {
@@ -116,13 +116,8 @@ impl Core {
         self.steps[step as usize].operator.seen()
     }
 
-    // Adds a step, and gives its number.
-    pub(crate) fn push(
-        &mut self,
-        operator: Operator,
-        span: Span,
-        slots: u8,
-    ) -> Result<u32, AllocError>
+    /// Adds a step, and gives its number.
+    pub fn push(&mut self, operator: Operator, span: Span, slots: u8) -> Result<u32, AllocError>
         requires { length self.old.steps + 1 < 2 ^ 32 }
         ensures { IfOk result (Pushed self.old (plain_operator operator) span slots self.new) }
     {

@@ -1,5 +1,0 @@
-use Rattle.dcv_scope.proofs.Local.{core_is_local}
-use Rattle.dcv_scope.proofs.laws.core_is_local.Goals as goal
-
-pub returns : goal.returns
-returns c = core_is_local
