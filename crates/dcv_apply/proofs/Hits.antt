@@ -7,7 +7,7 @@ use Rattle.std.proofs.lemmas.List.Elements.{All-head, All-tail}
 use Rattle.dcv_arena.specs.Arena.{ArenaValue, IsArena, IsRef, level_of, value_of}
 use Rattle.dcv_arena.specs.declared.nodes.Ref.{Ref}
 use Rattle.dcv_arena.proofs.Refs.{own_slot_matters}
-use Rattle.dcv_apply.specs.Merged.{MeansMerged}
+use Rattle.dcv_arena.specs.Pointwise.{MeansMerged}
 use Rattle.dcv_apply.specs.Operands.{arena_at, IsOperandFrom, number_at, numbers_at, merged_at}
 use Rattle.dcv_apply.specs.Sources.{HasArenas, IsFrom, merged_by}
 use Rattle.dcv_apply.specs.declared.operands.LastSlot.{LastSlot}

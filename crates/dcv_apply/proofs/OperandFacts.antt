@@ -3,12 +3,12 @@ use Rattle.std.proofs.Common.{◌≡◌, ◌≢◌, ℕ, zero, suc, ◌+◌, ◌
 use Rattle.std.proofs.lemmas.List.{get_or-set_same, get_or-set_other, get_or_past}
 use Rattle.std.proofs.lemmas.List.Elements.{All-more, All-weaker}
 use Rattle.std.specs.List.{All}
-use Rattle.std.proofs.lemmas.Nat.Bits.{bit_at-zero}
 use Rattle.dcv_word.specs.Letter.{letter_of}
 use Rattle.dcv_arena.specs.Arena.{ArenaValue, IsArena, IsRef, level_of, value_of}
 use Rattle.dcv_arena.specs.declared.nodes.Ref.{Ref}
 use Rattle.dcv_arena.specs.declared.nodes.Ref.TheVariants.{Leaf, Place}
 use Rattle.dcv_arena.proofs.Refs.{AgreeFrom, ignores_earlier, level_of-place, node_there}
+use Rattle.dcv_arena.proofs.Blank.{no_values}
 use Rattle.dcv_apply.specs.Operands.{arena_at, DependsFrom, IsOperandFrom, number_at}
 
 -- ---- from which slot on a ref depends
@@ -54,12 +54,6 @@ pub ignores_before : (arena : ArenaValue) → IsArena arena → (slot : ℕ) (ro
     → (letter other : List Bool) → AgreeFrom slot letter other → value_of arena root letter ≡ value_of arena root other
 ignores_before arena is slot (Leaf number) one from letter other same = refl
 ignores_before arena is slot (Place place) one from letter other same = ignores_earlier arena is.reduced slot (Place place) one from letter other same
-
--- the letter of the number 0 has no true value
-pub no_values : (width slot : ℕ) → get_or (letter_of width 0) slot false ≡ false
-no_values zero slot = refl
-no_values (suc width) zero = ap (λ bit. bit == 1) (bit_at-zero width)
-no_values (suc width) (suc slot) = no_values width slot
 
 -- one of two refs has its numbers
 at_side : (arena : ArenaValue) (lo hi : Ref) (value : Bool) (letter : List Bool) → value_of arena (cond value hi lo) letter ≡ cond value (value_of arena hi letter) (value_of arena lo letter)

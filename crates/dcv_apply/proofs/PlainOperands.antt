@@ -8,7 +8,7 @@ use Rattle.dcv_arena.specs.declared.nodes.Ref.TheVariants.{Leaf, Place}
 use Rattle.dcv_apply.specs.Operands.{arena_at, IsOperand, DependsFrom, IsOperandFrom, number_at, numbers_at, merged_at}
 use Rattle.dcv_apply.specs.Pairs.{plain}
 use Rattle.dcv_apply.specs.Sources.{IsIn, IsFrom, IsSide, number_in, merged_by}
-use Rattle.dcv_apply.proofs.Sides.{merged_side}
+use Rattle.dcv_apply.proofs.MergedSides.{merged_side}
 use Rattle.dcv_apply.specs.declared.operands.LastSlot.{LastSlot}
 use Rattle.dcv_apply.specs.declared.operands.LastSlot.TheVariants.{Kept, Merged}
 use Rattle.dcv_apply.specs.declared.operands.Sources.{Sources}

@@ -2,7 +2,7 @@
 use Rattle.std.proofs.Common.{◌≡◌, ℕ, Bool, List, inl, inr, sym, ap, subst, ◌∙◌}
 use Rattle.dcv_arena.specs.Arena.{ArenaValue, IsRef, value_of, KeepsRefs}
 use Rattle.dcv_arena.specs.declared.nodes.Ref.{Ref}
-use Rattle.dcv_apply.specs.Merged.{MeansMerged}
+use Rattle.dcv_arena.specs.Pointwise.{MeansMerged}
 use Rattle.dcv_apply.specs.Memo.{EntryValue, MemoValue, HoldsRound, KeepsOthers}
 use Rattle.dcv_apply.specs.Remembered.{Adds, KeepsEntries}
 

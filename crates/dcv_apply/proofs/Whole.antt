@@ -6,20 +6,13 @@ use Rattle.dcv_arena.specs.declared.nodes.Ref.{Ref}
 use Rattle.dcv_arena.proofs.Growth.{keeps_all}
 use Rattle.dcv_apply.specs.declared.faults.ApplyFault.{ApplyFault}
 use Rattle.dcv_apply.specs.declared.faults.ApplyFault.TheVariants.{Full, States, Memory}
-use Rattle.dcv_apply.specs.Merged.{MeansMerged, AgreesWithMerged, AgreesBehind, IsApplied}
-use Rattle.dcv_apply.proofs.Sides.{adds_nothing}
+use Rattle.dcv_arena.specs.Pointwise.{MeansMerged, AgreesBehind}
+use Rattle.dcv_apply.specs.Merged.{AgreesWithMerged, IsApplied}
+use Rattle.dcv_arena.proofs.Sides.{adds_nothing, adds_root}
 
 module _ (gives : List ℕ → ℕ → Type 0) (numbers : List Bool → List ℕ) where
   pub from_start : (slots : ℕ) (function : List Bool → ℕ) → AgreesWithMerged gives numbers slots function → AgreesBehind gives numbers slots [] function
   from_start slots function agrees values number size given = agrees values number (omega arith) given
-
-  -- what was added for each function that the result might be was added for the result
-  pub adds_root : (old new : ArenaValue) (root : Ref) → ((list : List ℕ) (first second : ℕ) → gives list first → gives list second → first ≡ second)
-      → new.slots ≡ old.slots → ((function : List Bool → ℕ) → AgreesWithMerged gives numbers old.slots function → AddsOnlyNodesOfFunction old new function)
-      → MeansMerged gives numbers new root → AddsOnlyNodesOf old new root
-  unfolding table_of
-  adds_root old new root one same stray merged =
-      stray (value_of new root) (λ letter number size given. one (numbers letter) (value_of new root letter) number (merged letter (size ∙ sym same)) given)
 
   -- what is known behind every front is known of the whole
   pub applied : (old new : ArenaValue) (too_many : ℕ → Type 0) (result : Result Ref ApplyFault)
@@ -34,7 +27,7 @@ module _ (gives : List ℕ → ℕ → Type 0) (numbers : List Bool → List ℕ
   applied old new too_many result one is_ref value stray limit full states kept is = record {
     is_ref = is_ref;
     value = value;
-    adds = IfOk-weaker result _ _ (λ root merged. adds_root old new root one kept.slots (λ function agrees. stray [] function (omega arith) (from_start old.slots function agrees)) merged) value;
+    adds = IfOk-weaker result _ _ (λ root merged. adds_root gives numbers old new root one kept.slots (λ function agrees. stray [] function (omega arith) agrees) merged) value;
     stray = λ function agrees. stray [] function (omega arith) (from_start old.slots function agrees);
     limit = limit;
     full = λ limit function e agrees. full limit [] function e (omega arith) (from_start old.slots function agrees);

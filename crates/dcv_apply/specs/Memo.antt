@@ -6,7 +6,7 @@
 use Rattle.std.specs.Prelude.{◌≡◌, ◌≢◌, ℕ, Bool, List, Contains}
 use Rattle.dcv_arena.specs.Arena.{ArenaValue, IsRef}
 use Rattle.dcv_arena.specs.declared.nodes.Ref.{Ref}
-use Rattle.dcv_apply.specs.Merged.{MeansMerged}
+use Rattle.dcv_arena.specs.Pointwise.{MeansMerged}
 
 pub record EntryValue : Type 0 where
   pub round : ℕ

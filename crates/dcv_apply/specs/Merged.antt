@@ -1,25 +1,17 @@
 -- What operands are merged into. What a merge gives for a list of numbers is a relation, with at most one number for each list.
---     MeansMerged gives numbers arena root       the ref has the number that the merge gives, at each letter
 --     AgreesWithMerged gives numbers slots function    the function has that number, at each letter where the merge gives one
---     AgreesBehind gives numbers slots front function    the same at the letters that begin with a front
 --     AddsOnlyOfMerged gives numbers from old now    all nodes that came are of each function that may come of the merge, below others
 --     HasMoreMerged gives numbers from old limit    each function that may come of the merge has more new nodes than this
 --     IsApplied gives too_many numbers old new result    what merging answers, and what becomes of the arena
-use Rattle.std.specs.Prelude.{◌≡◌, ℕ, ◌+◌, ◌≤◌, ◌<◌, Bool, List, ◌++◌, length, Result, Err, IfOk}
-use Rattle.dcv_arena.specs.Arena.{ArenaValue, IsArena, IsRef, value_of, KeepsRefs, AddsOnlyNodesOf, AddsOnlyNodesOfFunction, count_with}
+use Rattle.std.specs.Prelude.{◌≡◌, ℕ, ◌≤◌, ◌<◌, Bool, List, length, Result, Err, IfOk}
+use Rattle.dcv_arena.specs.Arena.{ArenaValue, IsArena, IsRef, KeepsRefs, AddsOnlyNodesOf, AddsOnlyNodesOfFunction, count_with}
+use Rattle.dcv_arena.specs.Pointwise.{MeansMerged, AgreesBehind}
 use Rattle.dcv_arena.specs.declared.nodes.Ref.{Ref}
 use Rattle.dcv_apply.specs.declared.faults.ApplyFault.{ApplyFault}
 use Rattle.dcv_apply.specs.declared.faults.ApplyFault.TheVariants.{Full, States}
 
-abbrev pub MeansMerged : (List ℕ → ℕ → Type 0) → (List Bool → List ℕ) → ArenaValue → Ref → Type 0
-MeansMerged gives numbers arena root = (letter : List Bool) → length letter ≡ arena.slots → gives (numbers letter) (value_of arena root letter)
-
 abbrev pub AgreesWithMerged : (List ℕ → ℕ → Type 0) → (List Bool → List ℕ) → ℕ → (List Bool → ℕ) → Type 0
 AgreesWithMerged gives numbers slots function = (letter : List Bool) (number : ℕ) → length letter ≡ slots → gives (numbers letter) number → function letter ≡ number
-
-abbrev pub AgreesBehind : (List ℕ → ℕ → Type 0) → (List Bool → List ℕ) → ℕ → List Bool → (List Bool → ℕ) → Type 0
-AgreesBehind gives numbers slots front function = (values : List Bool) (number : ℕ) → length front + length values ≡ slots
-    → gives (numbers (front ++ values)) number → function (front ++ values) ≡ number
 
 -- a function may come of the merge, where that depends on no slot before this one, if it agrees at all letters that begin with a front of such slots
 abbrev pub AddsOnlyOfMerged : (List ℕ → ℕ → Type 0) → (List Bool → List ℕ) → ℕ → ArenaValue → ArenaValue → Type 0

@@ -9,6 +9,7 @@
 use Rattle.std.specs.Prelude.{◌≡◌, ℕ, ◌+◌, ◌<◌, Bool, List, length, slice_set}
 use Rattle.std.specs.List.{All}
 use Rattle.dcv_arena.specs.Arena.{IsArena}
+use Rattle.dcv_arena.specs.Pointwise.{FixesSlot}
 use Rattle.dcv_arena.specs.declared.nodes.Ref.{Ref}
 use Rattle.dcv_apply.specs.Operands.{IsOperand, IsOperandFrom, number_at, numbers_at, merged_at}
 use Rattle.dcv_apply.specs.declared.operands.Sources.{Sources}
@@ -36,9 +37,6 @@ HaveSideOf sources operands slot value parts = (letter : List Bool) → slot < l
 
 abbrev pub merged_by : Operation → List (ℕ × Ref) → List Bool → List ℕ
 merged_by operation operands letter = merged_at operation.last_slot operation.sources.first.now operation.sources.second.now operands letter
-
-pub record FixesSlot (whole part : List Bool → List ℕ) (slot : ℕ) (value : Bool) : Type 0 where
-  pub at : (letter : List Bool) → slot < length letter → part letter ≡ whole (slice_set letter slot value)
 
 pub record IsSide (operation : Operation) (operands : List (ℕ × Ref)) (slot : ℕ) (value : Bool) (side_round : ℕ) (side : List (ℕ × Ref)) : Type 0 where
   pub round : side_round ≡ operation.round

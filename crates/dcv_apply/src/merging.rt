@@ -8,7 +8,8 @@ ghost use Rattle.dcv_arena.specs.Arena.{IsRef, IsArena, level_of, KeepsRefs};
 ghost use Rattle.dcv_apply.specs.Operands.{IsOperand, numbers_at, numbers_at_both};
 ghost use Rattle.dcv_apply.specs.Sources.{HasArenas, IsIn, IsFrom, merged_by};
 ghost use Rattle.dcv_apply.specs.Memo.{HoldsRound, KeepsOthers};
-ghost use Rattle.dcv_apply.specs.Merged.{MeansMerged, AddsOnlyOfMerged, HasMoreMerged, IsApplied};
+ghost use Rattle.dcv_arena.specs.Pointwise.{MeansMerged};
+ghost use Rattle.dcv_apply.specs.Merged.{AddsOnlyOfMerged, HasMoreMerged, IsApplied};
 ghost use Rattle.dcv_apply.specs.declared.faults.MergeFault.TheVariants.{States as MergeStates};
 ghost use Rattle.dcv_apply.specs.declared.faults.ApplyFault.TheVariants.{Full, States};
 

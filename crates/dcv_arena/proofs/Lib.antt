@@ -1,4 +1,5 @@
 pub mod Behind
+pub mod Blank
 pub mod Blocks
 pub mod Counts
 pub mod Fewer
@@ -11,5 +12,6 @@ pub mod Refs
 pub mod Renumbered
 pub mod Roots
 pub mod Same
+pub mod Sides
 pub mod Tables
 pub mod Together

@@ -12,7 +12,7 @@ use Rattle.dcv_core.specs.TruthViews.{truths_of}
 use Rattle.dcv_atoms.specs.declared.functions.Join.{Join}
 use Rattle.dcv_atoms.specs.declared.functions.Join.TheVariants.{And, Or, Iff}
 use Rattle.dcv_atoms.specs.Parts.{number_of_truth, parts, all_parts}
-use Rattle.dcv_apply.specs.Renumbered.{renumbered}
+use Rattle.dcv_renumber.specs.Renumbered.{renumbered}
 use Rattle.dcv_atoms.specs.Functions.{FunctionValue, Means, joined, unit_of, all_joined, list_of, number_joined}
 
 -- ---- truths as numbers

@@ -1,9 +1,8 @@
 // Why an atom has no machine.
 ghost use Rattle.std.specs.Prelude.{◌≡◌};
 ghost use Rattle.dcv_atoms.specs.declared.faults.AtomFault.TheVariants.{Memory};
-ghost use Rattle.dcv_atoms.specs.Faults.{fault_of_arena, fault_of_apply};
+ghost use Rattle.dcv_atoms.specs.Faults.{fault_of_arena};
 
-use dcv_apply::ApplyFault;
 use dcv_arena::ArenaFault;
 use std::alloc::{AllocError, AllocFailed};
 use thiserror::Error;
@@ -42,18 +41,6 @@ impl From<ArenaFault> for AtomFault {
         match fault {
             ArenaFault::Full { limit } => AtomFault::Nodes { limit },
             ArenaFault::Memory => AtomFault::Memory,
-        }
-    }
-}
-
-// No operation here makes too many numbers.
-impl From<ApplyFault> for AtomFault {
-    ghost from_gives = { λ fault e. e ≡ fault_of_apply fault };
-
-    fn from(fault: ApplyFault) -> AtomFault {
-        match fault {
-            ApplyFault::Full { limit } => AtomFault::Nodes { limit },
-            ApplyFault::States { .. } | ApplyFault::Memory => AtomFault::Memory,
         }
     }
 }

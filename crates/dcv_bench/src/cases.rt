@@ -3,8 +3,10 @@ ghost use Rattle.std.specs.Prelude.{◌≡◌, ◌≤◌, ◌<◌, ℕ, Bool, Li
 ghost use Rattle.dcv_arena.specs.Arena.{IsRef, KeepsRefs, value_of};
 
 use crate::functions::{Function, parity};
-use dcv_apply::{ApplyFault, Memo, Merge, MergeFault, apply, least_letters, remap};
+use dcv_apply::{ApplyFault, Memo, Merge, MergeFault, apply};
 use dcv_arena::{Arena, ArenaFault, Ref};
+use dcv_letters::least_letters;
+use dcv_renumber::remap;
 use std::alloc::Global;
 use std::time::{CpuClock, Duration};
 

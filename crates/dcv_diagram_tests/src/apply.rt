@@ -5,11 +5,10 @@ ghost use Rattle.dcv_arena.specs.Arena.{IsRef, KeepsRefs, value_of};
 ghost use Rattle.dcv_apply.specs.Operands.{IsOperand, numbers_at};
 ghost use Rattle.dcv_diagram_tests.specs.Bits.{IsFrom};
 
-use dcv_apply::{
-    ApplyFault, LetterSearch, Memo, Merge, MergeFault, Remapping, apply, apply_last, least_letters,
-    remap,
-};
+use dcv_apply::{ApplyFault, Memo, Merge, MergeFault, apply, apply_last};
 use dcv_arena::{Arena, ArenaFault, Ref};
+use dcv_letters::{LetterSearch, least_letters};
+use dcv_renumber::{Remapping, remap};
 use dcv_word::Letter;
 use indexmap::IndexSet;
 use std::alloc::Global;

@@ -8,7 +8,7 @@ use Rattle.dcv_arena.specs.declared.nodes.Ref.{Ref}
 use Rattle.dcv_arena.specs.declared.nodes.Ref.TheVariants.{Leaf}
 use Rattle.dcv_arena.proofs.Refs.{same_ref}
 use Rattle.dcv_arena.proofs.Roots.{no_nodes, one_more}
-use Rattle.dcv_apply.specs.Renumbered.{renumbered}
+use Rattle.dcv_renumber.specs.Renumbered.{renumbered}
 use Rattle.dcv_dfa.specs.Raw.{RawValue, IsRaw, row_of, next_in}
 use Rattle.dcv_dfa.proofs.States.{leads_below}
 use Rattle.dcv_minimise.specs.Classes.{HaveSameRow, IsFirstLike}

@@ -5,7 +5,7 @@
 use Rattle.std.specs.Prelude.{◌≡◌, ℕ, Bool, List, length}
 use Rattle.dcv_arena.specs.Arena.{ArenaValue, IsArena, IsRef, value_of}
 use Rattle.dcv_arena.specs.declared.nodes.Ref.{Ref}
-use Rattle.dcv_apply.specs.Renumbered.{HoldsNew}
+use Rattle.dcv_renumber.specs.Renumbered.{HoldsNew}
 use Rattle.dcv_dfa.specs.Raw.{RawValue, IsRaw, next_in}
 use Rattle.dcv_minimise.specs.Partition.{block_of}
 use Rattle.dcv_minimise.specs.declared.refine.keys.Keys.{Keys}

@@ -10,10 +10,10 @@ ghost use Rattle.dcv_minimise.specs.Partition.{IsPartition, block_of};
 ghost use Rattle.dcv_minimise.specs.Classes.{HasFirsts, IsFirstLike, AreKept, IsKeptList, AreBlockNumbers, AreNumbers};
 ghost use Rattle.dcv_minimise.specs.Folded.{HasRows, flags_of, IsFirstOf};
 
-use dcv_apply::Remapping;
 use dcv_arena::{Arena, Ref};
 use dcv_dfa::{Auto, Raw};
 use dcv_reach::{Found, Reached};
+use dcv_renumber::Remapping;
 use std::alloc::{AllocError, Global};
 
 // The states that are kept: with their rows and flags they are the states 0, 1, 2, .. of the new automaton.

@@ -12,9 +12,9 @@ mod members;
 mod partition;
 mod votes;
 
-use dcv_apply::Places;
 use dcv_dfa::Raw;
 use dcv_index::Index;
+use dcv_renumber::Places;
 use members::Members;
 use partition::Partition;
 use std::alloc::{AllocError, Global};

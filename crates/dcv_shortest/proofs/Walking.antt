@@ -7,7 +7,7 @@ use Rattle.std.proofs.lemmas.List.Folds.{list_any-append}
 use Rattle.dcv_word.specs.Behaviour.{Word}
 use Rattle.dcv_arena.specs.Arena.{ArenaValue, value_of, KeepsRefs}
 use Rattle.dcv_arena.specs.declared.nodes.Ref.{Ref}
-use Rattle.dcv_apply.specs.Walk.{AgreeBefore}
+use Rattle.dcv_letters.specs.Walk.{AgreeBefore}
 use Rattle.dcv_dfa.specs.Raw.{RawValue}
 use Rattle.dcv_shortest.specs.Separation.{word_at, accepts_word, TellAlike, has, AreTogether, IsSplit, Advances}
 use Rattle.dcv_shortest.specs.Marks.{marked, IsMarkFrom, IsSideOf, AreTold, AreDone, IsSplitOff}

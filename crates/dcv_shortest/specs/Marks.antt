@@ -11,7 +11,7 @@ use Rattle.std.specs.List.{list_any}
 use Rattle.dcv_word.specs.Behaviour.{Word}
 use Rattle.dcv_arena.specs.Arena.{ArenaValue, IsRef, level_of, value_of}
 use Rattle.dcv_arena.specs.declared.nodes.Ref.{Ref}
-use Rattle.dcv_apply.specs.Walk.{AgreeBefore}
+use Rattle.dcv_letters.specs.Walk.{AgreeBefore}
 use Rattle.dcv_dfa.specs.Raw.{RawValue}
 use Rattle.dcv_shortest.specs.Separation.{accepts_word, TellAlike, AreTogether, has}
 

@@ -8,9 +8,9 @@ ghost use Rattle.dcv_minimise.specs.Division.{IsDividing, IsDivision, IsDivided,
 use super::keys::Keys;
 use super::members::Listed;
 use super::votes::choose;
-use dcv_apply::Places;
 use dcv_arena::Ref;
 use dcv_dfa::Raw;
+use dcv_renumber::Places;
 use indexmap::IndexSet;
 use std::alloc::{AllocError, Global};
 

@@ -3,9 +3,9 @@ ghost use Rattle.std.specs.Prelude.{◌≡◌, ◌<◌, List, ℕ, length, IfOk}
 ghost use Rattle.dcv_arena.specs.Arena.{KeepsRefs};
 ghost use Rattle.dcv_minimise.specs.Keys.{IsKeys, IsKeyOf, blocks_in};
 
-use dcv_apply::{Places, Remapping};
 use dcv_arena::{Arena, Ref};
 use dcv_dfa::Raw;
+use dcv_renumber::{Places, Remapping};
 use std::alloc::{AllocError, Global};
 
 // Each node of the rows is gone through once, however many states are asked for.

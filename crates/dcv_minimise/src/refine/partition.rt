@@ -8,8 +8,8 @@ ghost use Rattle.dcv_minimise.specs.Members.{IsListed};
 
 use super::division::{Move, divide};
 use super::members::Listed;
-use dcv_apply::Places;
 use dcv_dfa::Raw;
+use dcv_renumber::Places;
 use std::alloc::{AllocError, Global};
 use std::mem;
 

@@ -1,5 +1,5 @@
 use Rattle.std.proofs.Common.{◌≡◌, length}
-use Rattle.dcv_apply.specs.Renumbered.{HoldsNew}
+use Rattle.dcv_renumber.specs.Renumbered.{HoldsNew}
 use Rattle.dcv_minimise.specs.Folded.{HasRows}
 use Rattle.dcv_minimise.proofs.fold.rows_of.Given as goal
 

@@ -4,9 +4,9 @@ use Rattle.std.proofs.lemmas.Result.{err_from_is_err_and}
 use Rattle.dcv_arena.specs.Arena.{AddsOnlyNodesOfFunction}
 use Rattle.dcv_arena.proofs.Roots.{kept_in_turn}
 use Rattle.dcv_apply.specs.Sources.{merged_by}
-use Rattle.dcv_apply.specs.Merged.{MeansMerged}
+use Rattle.dcv_arena.specs.Pointwise.{MeansMerged}
 use Rattle.dcv_apply.specs.Remembered.{entry}
-use Rattle.dcv_apply.proofs.Sides.{side_adds, side_full, adds_in_turn, merged_adds, node_full, sides_add, sides_full, sides_merged, agrees_at}
+use Rattle.dcv_arena.proofs.Sides.{side_adds, side_full, adds_in_turn, merged_adds, node_full, sides_add, sides_full, sides_merged, agrees_at}
 use Rattle.dcv_apply.proofs.Remembering.{holds_grown, holds_known, holds_less, holds_more, others_in_turn, others_less, others_more}
 use Rattle.dcv_apply.proofs.Hits.{level_at_hit}
 use Rattle.dcv_apply.proofs.FaultFacts.{full_from_arena}

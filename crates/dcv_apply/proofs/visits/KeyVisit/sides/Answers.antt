@@ -1,7 +1,8 @@
 use Rattle.std.proofs.Common.{false, true, ◌+◌, sym, subst, ◌∙◌}
 use Rattle.std.specs.List.{All}
-use Rattle.dcv_apply.specs.Sources.{IsFrom, FixesSlot, merged_by}
-use Rattle.dcv_apply.proofs.Sides.{merged_side}
+use Rattle.dcv_arena.specs.Pointwise.{FixesSlot}
+use Rattle.dcv_apply.specs.Sources.{IsFrom, merged_by}
+use Rattle.dcv_apply.proofs.MergedSides.{merged_side}
 use Rattle.dcv_apply.proofs.visits.KeyVisit.sides.Goals as goal
 
 pub returns-clause-when_false : goal.returns-clause-when_false

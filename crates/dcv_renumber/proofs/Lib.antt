@@ -1,0 +1,2 @@
+mod NewNumbers
+mod PlaceFacts
