@@ -86,6 +86,13 @@ module _ {X : Type 0} {part : X → Part} {all : List X → Part} (s : Separated
     pub level_start : (x : X) (rest : List Token) → BeginWithRule level tokens → ReadAs (s.item ∷ []) tokens (part x ∷ []) rest → OperandsRead part s.item s.more tokens (x ∷ []) rest
     level_start x rest b reads = operands_start s [] x rest (level_begins b) reads
 
+    -- one item and no separator behind it
+    pub level_alone : {result : Part} (x : X) (rest : List Token) → BeginWithRule level tokens → ReadAs (s.item ∷ []) tokens (part x ∷ []) rest → is_next s.separator rest ≡ false → action level (part x ∷ all [] ∷ []) ≡ result → RuleReadAs level tokens result rest
+    unfolding level_start operands_start
+    level_alone x rest b reads is stands =
+        let start = level_start x rest b reads in
+        rule_read level (always (s.item ∷ Rule s.more ∷ [])) at (s.item ∷ Rule s.more ∷ []) (always_picked (s.item ∷ Rule s.more ∷ []) tokens) stands (operands_read s start is)
+
     pub level_read : {operands : List X} {rest : List Token} {result : Part} → OperandsRead part s.item s.more tokens operands rest → is_next s.separator rest ≡ false → ((x : X) (xs : List X) → operands ≡ x ∷ xs → action level (part x ∷ all xs ∷ []) ≡ result) → RuleReadAs level tokens result rest
     level_read read is stands =
         rule_read level (always (s.item ∷ Rule s.more ∷ [])) at (s.item ∷ Rule s.more ∷ []) (always_picked (s.item ∷ Rule s.more ∷ []) tokens) (stands read.first read.others read.are) (operands_read s read is)

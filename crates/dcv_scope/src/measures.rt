@@ -324,111 +324,123 @@ impl<'a> Sight<'a> {
     // The measure of a proposition.
     #[cycle(props)]
     #[tactic(auto, using(crate::proofs::LinearRows::rows))]
-    fn prop(&self, prop: &Prop) -> MacroMeasure
+    fn prop(&self, prop: &Prop) -> Result<Box<MacroMeasure>, AllocError>
         requires measured { IsMeasured self.now }
-        ensures { result ≡ capped_macro
-            (linear_of_prop (linear_in_sight self.now) (plain_prop_kind prop.now.kind)) }
+        ensures { IfOk result (λ measure. measure.value ≡ capped_macro
+            (linear_of_prop (linear_in_sight self.now) (plain_prop_kind prop.now.kind))) }
     {
         match &prop.kind {
-            PropKind::Constant(_) => leaf(),
+            PropKind::Constant(_) => alone(self.alloc),
             PropKind::Call(name, arguments) => self.use_of(name, arguments),
-            PropKind::Not(operand) => self.prop(operand).under(1, 1, 0),
-            PropKind::And(operands) => self.prop_operands(operands).under(1, 1, 0),
-            PropKind::Or(operands) => self.prop_operands(operands).under(1, 1, 0),
+            PropKind::Not(operand) => Ok(below(self.prop(operand)?, 1, 1, 0)),
+            PropKind::And(operands) => Ok(below(self.prop_operands(operands)?, 1, 1, 0)),
+            PropKind::Or(operands) => Ok(below(self.prop_operands(operands)?, 1, 1, 0)),
             PropKind::Implies(premise, conclusion) => {
-                let refuted = self.prop(premise).under(1, 1, 0);
-                refuted.beside(self.prop(conclusion)).under(1, 1, 0)
+                let refuted = below(self.prop(premise)?, 1, 1, 0);
+                Ok(below(both(refuted, self.prop(conclusion)?), 1, 1, 0))
             }
-            PropKind::Iff(operands) => self.prop_operands(operands).under(1, 1, 0),
+            PropKind::Iff(operands) => Ok(below(self.prop_operands(operands)?, 1, 1, 0)),
         }
     }
 
+    #[inline(never)]
     #[cycle(props)]
-    fn prop_operands(&self, operands: &[PropOperand]) -> MacroMeasure
+    fn prop_operands(&self, operands: &[PropOperand]) -> Result<Box<MacroMeasure>, AllocError>
         requires measured { IsMeasured self.now }
-        ensures { result ≡ capped_macro (all_in_turn (λ (o : PropOperand). linear_of_prop
-            (linear_in_sight self.now) (plain_prop_kind o.prop.kind)) (constant nothing) operands.now) }
+        ensures { IfOk result (λ measure. measure.value ≡ capped_macro (all_in_turn (λ (o : PropOperand). linear_of_prop
+            (linear_in_sight self.now) (plain_prop_kind o.prop.kind)) (constant nothing) operands.now)) }
     {
-        let mut all = MacroMeasure::constant(Measure::nothing());
+        let none = MacroMeasure::constant(Measure::nothing());
+        let mut all = Box::new(self.alloc, none)?;
         for operand in operands {
-            all = all.beside(self.prop(&operand.prop));
+            let measure = self.prop(&operand.prop)?;
+            all = both(all, measure);
         }
-        all
+        Ok(all)
     }
 
     // A name where a proposition is asked for, with these arguments.
+    #[inline(never)]
     #[cycle(props)]
-    fn use_of(&self, name: &Name, arguments: &[Prop]) -> MacroMeasure
+    fn use_of(&self, name: &Name, arguments: &[Prop]) -> Result<Box<MacroMeasure>, AllocError>
         requires measured { IsMeasured self.now }
-        ensures { let sight = linear_in_sight self.now in result ≡ capped_macro (linear_of_name
+        ensures { IfOk result (λ measure. let sight = linear_in_sight self.now in measure.value ≡ capped_macro (linear_of_name
             (found sight.names name.now.text) (found sight.macros name.now.text)
-            (map (λ (p : Prop). linear_of_prop sight (plain_prop_kind p.kind)) arguments.now)) }
+            (map (λ (p : Prop). linear_of_prop sight (plain_prop_kind p.kind)) arguments.now))) }
     {
         match self.named(&name.text) {
-            Some(named) => named,
+            Some(named) => Ok(Box::new(self.alloc, named)?),
             None => self.call(name, arguments),
         }
     }
 
     // A macro at these arguments.
     #[cycle(props)]
-    fn call(&self, name: &Name, arguments: &[Prop]) -> MacroMeasure
+    fn call(&self, name: &Name, arguments: &[Prop]) -> Result<Box<MacroMeasure>, AllocError>
         requires measured { IsMeasured self.now }
-        ensures { let sight = linear_in_sight self.now in result ≡ capped_macro (linear_of_macro
+        ensures { IfOk result (λ measure. let sight = linear_in_sight self.now in measure.value ≡ capped_macro (linear_of_macro
             (found sight.macros name.now.text)
-            (map (λ (p : Prop). linear_of_prop sight (plain_prop_kind p.kind)) arguments.now)) }
+            (map (λ (p : Prop). linear_of_prop sight (plain_prop_kind p.kind)) arguments.now))) }
     {
         match self.called(&name.text) {
             Some(called) => self.expanded(called, arguments),
-            None => leaf(),
+            None => alone(self.alloc),
         }
     }
 
     // What a macro measures at these arguments.
     #[cycle(props)]
-    fn expanded(&self, called: MacroMeasure, arguments: &[Prop]) -> MacroMeasure
+    fn expanded(
+        &self,
+        called: MacroMeasure,
+        arguments: &[Prop],
+    ) -> Result<Box<MacroMeasure>, AllocError>
         requires measured { IsMeasured self.now }
-        ensures { result ≡ capped_macro (linear_at called
-            (map (λ (p : Prop). linear_of_prop (linear_in_sight self.now) (plain_prop_kind p.kind)) arguments.now)) }
+        ensures { IfOk result (λ measure. measure.value ≡ capped_macro (linear_at called
+            (map (λ (p : Prop). linear_of_prop (linear_in_sight self.now) (plain_prop_kind p.kind)) arguments.now))) }
     {
-        let mut whole = MacroMeasure::constant(called.own);
+        let own = MacroMeasure::constant(called.own);
+        let mut whole = Box::new(self.alloc, own)?;
         for place in 0..PARAMETERS {
-            whole = self.with_argument(whole, called.shares[place], arguments, place);
+            whole = self.with_argument(whole, called.shares[place], arguments, place)?;
         }
-        whole
+        Ok(whole)
     }
 
     // What an argument adds, of which the macro has this share.
     #[cycle(props)]
     fn with_argument(
         &self,
-        whole: MacroMeasure,
+        whole: Box<MacroMeasure>,
         share: Option<Share>,
         arguments: &[Prop],
         place: usize,
-    ) -> MacroMeasure
+    ) -> Result<Box<MacroMeasure>, AllocError>
         requires measured { IsMeasured self.now }
-        requires capped { whole ≡ capped_macro whole }
-        ensures { result ≡ capped_macro (linear_with whole share (first_linear (drop place
-            (map (λ (p : Prop). linear_of_prop (linear_in_sight self.now) (plain_prop_kind p.kind)) arguments.now)))) }
+        requires capped { whole.value ≡ capped_macro whole.value }
+        ensures { IfOk result (λ measure. measure.value ≡ capped_macro (linear_with whole.value share (first_linear (drop place
+            (map (λ (p : Prop). linear_of_prop (linear_in_sight self.now) (plain_prop_kind p.kind)) arguments.now))))) }
     {
         match share {
-            Some(share) => whole.beside(self.argument(arguments, place).within(share)),
-            None => whole,
+            Some(share) => {
+                let argument = self.argument(arguments, place)?;
+                Ok(both(whole, shared(argument, share)))
+            }
+            None => Ok(whole),
         }
     }
 
     // The argument at a place. One that is missing, as none is in a well-named file, counts as one node.
     #[cycle(props)]
-    fn argument(&self, arguments: &[Prop], place: usize) -> MacroMeasure
+    fn argument(&self, arguments: &[Prop], place: usize) -> Result<Box<MacroMeasure>, AllocError>
         requires measured { IsMeasured self.now }
-        ensures { result ≡ capped_macro (first_linear (drop place
-            (map (λ (p : Prop). linear_of_prop (linear_in_sight self.now) (plain_prop_kind p.kind)) arguments.now))) }
+        ensures { IfOk result (λ measure. measure.value ≡ capped_macro (first_linear (drop place
+            (map (λ (p : Prop). linear_of_prop (linear_in_sight self.now) (plain_prop_kind p.kind)) arguments.now)))) }
     {
         if place < arguments.len() {
             self.prop(&arguments[place])
         } else {
-            leaf()
+            alone(self.alloc)
         }
     }
 }
@@ -451,62 +463,74 @@ impl<'a> Sight<'a> {
         })
     }
 
+    // The measure of a form round a proposition.
+    #[inline(never)]
+    #[tactic(auto, using(crate::proofs::Capped::under_capped))]
+    fn around(&self, prop: &Prop) -> Result<Box<MacroMeasure>, AllocError>
+        requires measured { IsMeasured self.now }
+        ensures { IfOk result (λ measure. measure.value ≡ capped_macro
+            (linear_under 1 1 0 (linear_of_prop (linear_in_sight self.now) (plain_prop_kind prop.now.kind)))) }
+    {
+        Ok(below(self.prop(prop)?, 1, 1, 0))
+    }
+
     // The measure of a formula.
     #[cycle(formulas)]
     #[tactic(auto, using(crate::proofs::LinearRows::formula_rows))]
-    fn formula(&self, formula: &'a Formula) -> Result<MacroMeasure, AllocError>
+    fn formula(&self, formula: &'a Formula) -> Result<Box<MacroMeasure>, AllocError>
         requires measured { IsMeasured self.now }
-        ensures { IfOk result (λ measure. measure ≡ capped_macro
+        ensures { IfOk result (λ measure. measure.value ≡ capped_macro
             (linear_of_formula (linear_in_sight self.now) (plain_formula_kind formula.now.kind))) }
     {
         match &formula.kind {
-            FormulaKind::Constant(_) => Ok(leaf()),
-            FormulaKind::Pt => Ok(leaf().under(1, 1, 0)),
-            FormulaKind::Ext => Ok(leaf().under(1, 1, 0)),
-            FormulaKind::Point(prop) => Ok(self.prop(prop).under(1, 1, 0)),
-            FormulaKind::Run(prop) => Ok(self.prop(prop).under(1, 1, 0)),
-            FormulaKind::Every(prop) => Ok(self.prop(prop).under(1, 1, 0)),
-            FormulaKind::Unit(prop) => Ok(self.prop(prop).under(1, 1, 0)),
-            FormulaKind::Slen(_, _) => Ok(leaf()),
-            FormulaKind::Scount(prop, _, _) => Ok(self.prop(prop).under(1, 1, 0)),
-            FormulaKind::Sdur(prop, _, _) => Ok(self.prop(prop).under(1, 1, 0)),
-            FormulaKind::Call(name, arguments) => Ok(self.call(name, arguments)),
-            FormulaKind::Not(body) => Ok(self.formula(body)?.under(1, 1, 0)),
-            FormulaKind::And(operands) => Ok(self.operands(operands)?.under(1, 1, 0)),
-            FormulaKind::Or(operands) => Ok(self.operands(operands)?.under(1, 1, 0)),
+            FormulaKind::Constant(_) => alone(self.alloc),
+            FormulaKind::Pt => Ok(below(alone(self.alloc)?, 1, 1, 0)),
+            FormulaKind::Ext => Ok(below(alone(self.alloc)?, 1, 1, 0)),
+            FormulaKind::Point(prop) => self.around(prop),
+            FormulaKind::Run(prop) => self.around(prop),
+            FormulaKind::Every(prop) => self.around(prop),
+            FormulaKind::Unit(prop) => self.around(prop),
+            FormulaKind::Slen(_, _) => alone(self.alloc),
+            FormulaKind::Scount(prop, _, _) => self.around(prop),
+            FormulaKind::Sdur(prop, _, _) => self.around(prop),
+            FormulaKind::Call(name, arguments) => self.call(name, arguments),
+            FormulaKind::Not(body) => Ok(below(self.formula(body)?, 1, 1, 0)),
+            FormulaKind::And(operands) => Ok(below(self.operands(operands)?, 1, 1, 0)),
+            FormulaKind::Or(operands) => Ok(below(self.operands(operands)?, 1, 1, 0)),
             FormulaKind::Implies(premise, conclusion) => {
-                let refuted = self.formula(premise)?.under(1, 1, 0);
-                Ok(refuted.beside(self.formula(conclusion)?).under(1, 1, 0))
+                let refuted = below(self.formula(premise)?, 1, 1, 0);
+                Ok(below(both(refuted, self.formula(conclusion)?), 1, 1, 0))
             }
-            FormulaKind::Iff(operands) => Ok(self.operands(operands)?.under(1, 1, 0)),
-            FormulaKind::Chop(operands) => Ok(self.operands(operands)?.under(1, 1, 0)),
-            FormulaKind::Star(body) => Ok(self.formula(body)?.under(1, 1, 0)),
-            FormulaKind::Somewhere(body) => Ok(self.formula(body)?.under(3, 1, 0)),
-            FormulaKind::Everywhere(body) => Ok(self.formula(body)?.under(5, 3, 0)),
-            FormulaKind::Exists(name, body) => Ok(self.quantified(name, body)?.under(1, 1, 1)),
-            FormulaKind::ForAll(name, body) => Ok(self.quantified(name, body)?.under(3, 3, 1)),
+            FormulaKind::Iff(operands) => Ok(below(self.operands(operands)?, 1, 1, 0)),
+            FormulaKind::Chop(operands) => Ok(below(self.operands(operands)?, 1, 1, 0)),
+            FormulaKind::Star(body) => Ok(below(self.formula(body)?, 1, 1, 0)),
+            FormulaKind::Somewhere(body) => Ok(below(self.formula(body)?, 3, 1, 0)),
+            FormulaKind::Everywhere(body) => Ok(below(self.formula(body)?, 5, 3, 0)),
+            FormulaKind::Exists(name, body) => Ok(below(self.quantified(name, body)?, 1, 1, 1)),
+            FormulaKind::ForAll(name, body) => Ok(below(self.quantified(name, body)?, 3, 3, 1)),
         }
     }
 
     #[cycle(formulas)]
-    fn operands(&self, operands: &'a [FormulaOperand]) -> Result<MacroMeasure, AllocError>
+    fn operands(&self, operands: &'a [FormulaOperand]) -> Result<Box<MacroMeasure>, AllocError>
         requires measured { IsMeasured self.now }
-        ensures { IfOk result (λ measure. measure ≡ capped_macro (all_in_turn (λ (o : FormulaOperand).
+        ensures { IfOk result (λ measure. measure.value ≡ capped_macro (all_in_turn (λ (o : FormulaOperand).
             linear_of_formula (linear_in_sight self.now) (plain_formula_kind o.formula.kind)) (constant nothing) operands.now)) }
     {
-        let mut all = MacroMeasure::constant(Measure::nothing());
+        let none = MacroMeasure::constant(Measure::nothing());
+        let mut all = Box::new(self.alloc, none)?;
         for operand in operands {
             let measure = self.formula(&operand.formula)?;
-            all = all.beside(measure);
+            all = both(all, measure);
         }
         Ok(all)
     }
 
     // The formula behind a quantifier.
     #[cycle(formulas)]
-    fn quantified(&self, name: &'a Name, body: &'a Formula) -> Result<MacroMeasure, AllocError>
+    fn quantified(&self, name: &'a Name, body: &'a Formula) -> Result<Box<MacroMeasure>, AllocError>
         requires measured { IsMeasured self.now }
-        ensures { IfOk result (λ measure. measure ≡ capped_macro (linear_of_formula
+        ensures { IfOk result (λ measure. measure.value ≡ capped_macro (linear_of_formula
             (name_too (linear_in_sight self.now) name.now.text) (plain_formula_kind body.now.kind))) }
     {
         let inside = self.bind(name)?;
@@ -521,8 +545,8 @@ impl<'a> Sight<'a> {
             (linear_of_body (linear_in_sight self.now) (plain_body body.now))) }
     {
         match body {
-            MacroBody::Formula(formula) => self.formula(formula),
-            MacroBody::Prop(prop) => Ok(self.prop(prop)),
+            MacroBody::Formula(formula) => Ok(Box::into_inner(self.formula(formula)?)),
+            MacroBody::Prop(prop) => Ok(Box::into_inner(self.prop(prop)?)),
         }
     }
 }
@@ -532,6 +556,44 @@ fn leaf() -> MacroMeasure
     ensures { result ≡ capped_macro (constant leaf) }
 {
     MacroMeasure::constant(Measure::leaf())
+}
+
+// The same in a box, as formulas have theirs: a measure is large, and calls nest as deep as the text.
+#[inline(never)]
+fn alone(alloc: Global) -> Result<Box<MacroMeasure>, AllocError>
+    ensures { IfOk result (λ measure. measure.value ≡ capped_macro (constant leaf)) }
+{
+    Ok(Box::new(alloc, leaf())?)
+}
+
+// Below so many nodes more, so much deeper, and below so many quantifiers.
+#[inline(never)]
+fn below(inside: Box<MacroMeasure>, nodes: u32, deeper: u32, quantifiers: u32) -> Box<MacroMeasure>
+    ensures { result.value ≡ capped_macro (linear_under nodes deeper quantifiers inside.value) }
+{
+    let mut inside = inside;
+    *inside = inside.under(nodes, deeper, quantifiers);
+    inside
+}
+
+// The share of something with this measure.
+#[inline(never)]
+fn shared(inside: Box<MacroMeasure>, share: Share) -> Box<MacroMeasure>
+    ensures { result.value ≡ capped_macro (linear_within share inside.value) }
+{
+    let mut inside = inside;
+    *inside = inside.within(share);
+    inside
+}
+
+// Side by side.
+#[inline(never)]
+fn both(left: Box<MacroMeasure>, right: Box<MacroMeasure>) -> Box<MacroMeasure>
+    ensures { result.value ≡ capped_macro (linear_beside left.value right.value) }
+{
+    let mut left = left;
+    *left = left.beside(Box::into_inner(right));
+    left
 }
 
 // The measure of a macro, before which these variables and macros are in sight.

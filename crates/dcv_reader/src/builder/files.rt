@@ -34,7 +34,7 @@ impl Builder<'_, '_> {
         Ok(File {
             variables,
             macros,
-            goal,
+            goal: Box::into_inner(goal),
         })
     }
 
@@ -122,10 +122,10 @@ impl Builder<'_, '_> {
     {
         if class == WORD_DEFINE {
             let body = self.formula()?;
-            Ok(MacroBody::Formula(body.formula))
+            Ok(MacroBody::Formula(Box::into_inner(body).formula))
         } else {
             let body = self.prop()?;
-            Ok(MacroBody::Prop(body.prop))
+            Ok(MacroBody::Prop(Box::into_inner(body).prop))
         }
     }
 }

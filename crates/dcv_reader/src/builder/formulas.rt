@@ -1,10 +1,12 @@
-// Formulas.
-ghost use Rattle.std.specs.Prelude.{◌≡◌, ◌∷◌, ◌<◌, [], List, length, map, IfOk};
+// Formulas. These calls nest as deep as the text, so each frame is small: a rule hands on a box, what is large is handled in a
+// function that is not inlined, and a rule without an operator hands its one operand on.
+ghost use Rattle.std.specs.Prelude.{◌≡◌, ◌∷◌, ◌++◌, ◌<◌, [], List, length, map, IfOk};
 ghost use Rattle.dcv_syntax.specs.Plain.{PlainFormulaOperand, formula_operands_of};
 ghost use Rattle.dcv_syntax.specs.Views.{plain_prop, plain_formula_kind, plain_formula_operand};
 ghost use Rattle.dcv_tokens.specs.Reading.{seen};
 ghost use Rattle.dcv_tokens.specs.Tokens.{Token as TextToken, span_of};
-ghost use Rattle.dcv_reader.specs.Nodes.{number_of, relation_of, bare, formula_list, implication, prefixed, starred, quantified, bracketed, formula_word, measure, formula_call};
+ghost use Rattle.dcv_reader.specs.Nodes.{number_of, relation_of, bare, formula_list, implication, prefixed, starred, quantified};
+ghost use Rattle.dcv_reader.specs.Nodes.{bracketed, formula_word, measure, formula_call};
 
 use super::props::Arguments;
 use super::{Builder, name_of};
@@ -32,6 +34,22 @@ fn bare(kind: FormulaKind, span: Span) -> FormulaOperand
     }
 }
 
+// The same in a box.
+fn boxed(alloc: Global, kind: FormulaKind, span: Span) -> Result<Box<FormulaOperand>, AllocError>
+    ensures { IfOk result (λ d. plain_formula_operand d.value ≡ bare (plain_formula_kind kind) span) }
+{
+    Ok(Box::new(alloc, bare(kind, span))?)
+}
+
+// One operand more.
+#[inline(never)]
+fn add(operands: &mut Vec<FormulaOperand>, operand: Box<FormulaOperand>) -> Result<(), AllocError>
+    ensures { IfOk result (λ _. operands.new.items ≡ operands.old.items ++ operand.value ∷ []) }
+{
+    operands.push(Box::into_inner(operand))?;
+    Ok(())
+}
+
 impl FormulaList {
     ghost use Rattle.dcv_reader.specs.FormulaLists.{formula_list_kind};
 
@@ -47,8 +65,24 @@ impl FormulaList {
         }
     }
 
+    // What these operands come to.
+    #[inline(never)]
+    fn of(
+        self,
+        alloc: Global,
+        operands: Vec<FormulaOperand>,
+    ) -> Result<Box<FormulaOperand>, AllocError>
+        requires { 0 < length operands.items }
+        ensures { IfOk result (λ whole. (d : PlainFormulaOperand) (ds : List PlainFormulaOperand) →
+            map plain_formula_operand operands.items ≡ d ∷ ds →
+            plain_formula_operand whole.value ≡ formula_list (formula_list_kind self) d ds) }
+    {
+        let whole = self.whole(operands);
+        Ok(Box::new(alloc, whole)?)
+    }
+
     // One operand stands for itself, and more are a list.
-    fn of(self, operands: Vec<FormulaOperand>) -> FormulaOperand
+    fn whole(self, operands: Vec<FormulaOperand>) -> FormulaOperand
         requires { 0 < length operands.items }
         ensures { (d : PlainFormulaOperand) (ds : List PlainFormulaOperand) → map plain_formula_operand operands.items ≡ d ∷ ds →
             plain_formula_operand result ≡ formula_list (formula_list_kind self) d ds }
@@ -73,9 +107,9 @@ impl Builder<'_, '_> {
 
     /// formula = ("ex" | "all") name "." formula | formula_iff
     #[cycle(formula)]
-    pub fn formula(&mut self) -> Result<FormulaOperand, AllocError>
+    pub fn formula(&mut self) -> Result<Box<FormulaOperand>, AllocError>
         requires { BeginWithRule rules.formula (left self.old) }
-        ensures { IfOk result (λ d. RuleReadAs rules.formula (left self.old) (AFormula (plain_formula_operand d)) (left self.new)) }
+        ensures { IfOk result (λ d. RuleReadAs rules.formula (left self.old) (AFormula (plain_formula_operand d.value)) (left self.new)) }
     {
         if !self.is_next_of(&[WORD_EX, WORD_ALL]) {
             return self.formula_iff();
@@ -89,24 +123,28 @@ impl Builder<'_, '_> {
 
     // formula_iff = formula_implies {"<=>" formula_implies}
     #[cycle(formula)]
-    fn formula_iff(&mut self) -> Result<FormulaOperand, AllocError>
+    fn formula_iff(&mut self) -> Result<Box<FormulaOperand>, AllocError>
         requires { BeginWithRule rules.formula_iff (left self.old) }
-        ensures { IfOk result (λ d. RuleReadAs rules.formula_iff (left self.old) (AFormula (plain_formula_operand d)) (left self.new)) }
+        ensures { IfOk result (λ d. RuleReadAs rules.formula_iff (left self.old) (AFormula (plain_formula_operand d.value)) (left self.new)) }
     {
+        let first = self.formula_implies()?;
+        if !self.is_next(DOUBLE_ARROW) {
+            return Ok(first);
+        }
         let mut operands = Vec::new(self.alloc);
-        operands.push(self.formula_implies()?)?;
+        add(&mut operands, first)?;
         'more: while self.is_next(DOUBLE_ARROW) {
             let _separator = self.take();
-            operands.push(self.formula_implies()?)?;
+            add(&mut operands, self.formula_implies()?)?;
         }
-        Ok(FormulaList::Iff.of(operands))
+        FormulaList::Iff.of(self.alloc, operands)
     }
 
     // formula_implies = formula_or ["=>" formula_implies]
     #[cycle(formula)]
-    fn formula_implies(&mut self) -> Result<FormulaOperand, AllocError>
+    fn formula_implies(&mut self) -> Result<Box<FormulaOperand>, AllocError>
         requires { BeginWithRule rules.formula_implies (left self.old) }
-        ensures { IfOk result (λ d. RuleReadAs rules.formula_implies (left self.old) (AFormula (plain_formula_operand d)) (left self.new)) }
+        ensures { IfOk result (λ d. RuleReadAs rules.formula_implies (left self.old) (AFormula (plain_formula_operand d.value)) (left self.new)) }
     {
         let premise = self.formula_or()?;
         if !self.is_next(ARROW) {
@@ -119,54 +157,66 @@ impl Builder<'_, '_> {
 
     // formula_or = formula_and {"||" formula_and}
     #[cycle(formula)]
-    fn formula_or(&mut self) -> Result<FormulaOperand, AllocError>
+    fn formula_or(&mut self) -> Result<Box<FormulaOperand>, AllocError>
         requires { BeginWithRule rules.formula_or (left self.old) }
-        ensures { IfOk result (λ d. RuleReadAs rules.formula_or (left self.old) (AFormula (plain_formula_operand d)) (left self.new)) }
+        ensures { IfOk result (λ d. RuleReadAs rules.formula_or (left self.old) (AFormula (plain_formula_operand d.value)) (left self.new)) }
     {
+        let first = self.formula_and()?;
+        if !self.is_next(DOUBLE_BAR) {
+            return Ok(first);
+        }
         let mut operands = Vec::new(self.alloc);
-        operands.push(self.formula_and()?)?;
+        add(&mut operands, first)?;
         'more: while self.is_next(DOUBLE_BAR) {
             let _separator = self.take();
-            operands.push(self.formula_and()?)?;
+            add(&mut operands, self.formula_and()?)?;
         }
-        Ok(FormulaList::Or.of(operands))
+        FormulaList::Or.of(self.alloc, operands)
     }
 
     // formula_and = formula_chop {"&&" formula_chop}
     #[cycle(formula)]
-    fn formula_and(&mut self) -> Result<FormulaOperand, AllocError>
+    fn formula_and(&mut self) -> Result<Box<FormulaOperand>, AllocError>
         requires { BeginWithRule rules.formula_and (left self.old) }
-        ensures { IfOk result (λ d. RuleReadAs rules.formula_and (left self.old) (AFormula (plain_formula_operand d)) (left self.new)) }
+        ensures { IfOk result (λ d. RuleReadAs rules.formula_and (left self.old) (AFormula (plain_formula_operand d.value)) (left self.new)) }
     {
+        let first = self.formula_chop()?;
+        if !self.is_next(DOUBLE_AMPERSAND) {
+            return Ok(first);
+        }
         let mut operands = Vec::new(self.alloc);
-        operands.push(self.formula_chop()?)?;
+        add(&mut operands, first)?;
         'more: while self.is_next(DOUBLE_AMPERSAND) {
             let _separator = self.take();
-            operands.push(self.formula_chop()?)?;
+            add(&mut operands, self.formula_chop()?)?;
         }
-        Ok(FormulaList::And.of(operands))
+        FormulaList::And.of(self.alloc, operands)
     }
 
     // formula_chop = formula_prefix {"^" formula_prefix}
     #[cycle(formula)]
-    fn formula_chop(&mut self) -> Result<FormulaOperand, AllocError>
+    fn formula_chop(&mut self) -> Result<Box<FormulaOperand>, AllocError>
         requires { BeginWithRule rules.formula_chop (left self.old) }
-        ensures { IfOk result (λ d. RuleReadAs rules.formula_chop (left self.old) (AFormula (plain_formula_operand d)) (left self.new)) }
+        ensures { IfOk result (λ d. RuleReadAs rules.formula_chop (left self.old) (AFormula (plain_formula_operand d.value)) (left self.new)) }
     {
+        let first = self.formula_prefix()?;
+        if !self.is_next(CARET) {
+            return Ok(first);
+        }
         let mut operands = Vec::new(self.alloc);
-        operands.push(self.formula_prefix()?)?;
+        add(&mut operands, first)?;
         'more: while self.is_next(CARET) {
             let _separator = self.take();
-            operands.push(self.formula_prefix()?)?;
+            add(&mut operands, self.formula_prefix()?)?;
         }
-        Ok(FormulaList::Chop.of(operands))
+        FormulaList::Chop.of(self.alloc, operands)
     }
 
     // formula_prefix = ("!" | "<>" | "[]") formula_prefix | formula_star
     #[cycle(formula)]
-    fn formula_prefix(&mut self) -> Result<FormulaOperand, AllocError>
+    fn formula_prefix(&mut self) -> Result<Box<FormulaOperand>, AllocError>
         requires { BeginWithRule rules.formula_prefix (left self.old) }
-        ensures { IfOk result (λ d. RuleReadAs rules.formula_prefix (left self.old) (AFormula (plain_formula_operand d)) (left self.new)) }
+        ensures { IfOk result (λ d. RuleReadAs rules.formula_prefix (left self.old) (AFormula (plain_formula_operand d.value)) (left self.new)) }
     {
         if !self.is_next_of(&[EXCLAMATION, DIAMOND, BOX]) {
             return self.formula_star();
@@ -178,9 +228,9 @@ impl Builder<'_, '_> {
 
     // formula_star = formula_atom {"*"}
     #[cycle(formula)]
-    fn formula_star(&mut self) -> Result<FormulaOperand, AllocError>
+    fn formula_star(&mut self) -> Result<Box<FormulaOperand>, AllocError>
         requires { BeginWithRule rules.formula_star (left self.old) }
-        ensures { IfOk result (λ d. RuleReadAs rules.formula_star (left self.old) (AFormula (plain_formula_operand d)) (left self.new)) }
+        ensures { IfOk result (λ d. RuleReadAs rules.formula_star (left self.old) (AFormula (plain_formula_operand d.value)) (left self.new)) }
     {
         let mut body = self.formula_atom()?;
         'more: while self.is_next(STAR) {
@@ -192,20 +242,29 @@ impl Builder<'_, '_> {
 
     // formula_atom = "(" formula ")" | ..
     #[cycle(formula)]
-    fn formula_atom(&mut self) -> Result<FormulaOperand, AllocError>
+    fn formula_atom(&mut self) -> Result<Box<FormulaOperand>, AllocError>
         requires { BeginWithRule rules.formula_atom (left self.old) }
-        ensures { IfOk result (λ d. RuleReadAs rules.formula_atom (left self.old) (AFormula (plain_formula_operand d)) (left self.new)) }
+        ensures { IfOk result (λ d. RuleReadAs rules.formula_atom (left self.old) (AFormula (plain_formula_operand d.value)) (left self.new)) }
     {
         if !self.is_next(OPEN_PARENTHESIS) {
-            return self.other_atom();
+            return self.boxed_atom();
         }
         let opening = self.take();
-        let inside = self.formula()?;
+        let mut inside = self.formula()?;
         let closing = self.take();
-        Ok(FormulaOperand {
-            formula: inside.formula,
-            span: opening.span_to(&closing),
-        })
+        inside.span = opening.span_to(&closing);
+        Ok(inside)
+    }
+
+    // What follows, in a box.
+    #[inline(never)]
+    fn boxed_atom(&mut self) -> Result<Box<FormulaOperand>, AllocError>
+        requires begins { BeginWithRule rules.formula_atom (left self.old) }
+        requires other { IsFalse (is_next OPEN_PARENTHESIS (left self.old)) }
+        ensures { IfOk result (λ d. RuleReadAs rules.formula_atom (left self.old) (AFormula (plain_formula_operand d.value)) (left self.new)) }
+    {
+        let atom = self.other_atom()?;
+        Ok(Box::new(self.alloc, atom)?)
     }
 
     // .. "<" prop ">" | "[" prop "]" | "[[" prop "]]" | "{{" prop "}}" | "pt" | "ext" | "true" | "false"
@@ -241,7 +300,7 @@ impl Builder<'_, '_> {
         let opening = self.take();
         let inside = self.prop()?;
         let closing = self.take();
-        Ok(bracketed(&opening, inside.prop, &closing))
+        Ok(bracketed(&opening, Box::into_inner(inside).prop, &closing))
     }
 
     // "pt" | "ext" | "true" | "false"
@@ -277,7 +336,7 @@ impl Builder<'_, '_> {
         let measured = self.prop_prefix()?;
         let relation = self.relation();
         let number = self.number();
-        Ok(measure(&word, measured.prop, relation, number))
+        Ok(measure(&word, Box::into_inner(measured).prop, relation, number))
     }
 
     // relation = "=" | "<" | "<=" | ">" | ">="
@@ -349,53 +408,67 @@ fn formula_call(
     Ok(bare(FormulaKind::Call(name, arguments.props), span))
 }
 
-fn starred(alloc: Global, body: FormulaOperand, star: Span) -> Result<FormulaOperand, AllocError>
-    ensures { IfOk result (λ d. plain_formula_operand d ≡ starred (plain_formula_operand body) star) }
+#[inline(never)]
+fn starred(
+    alloc: Global,
+    body: Box<FormulaOperand>,
+    star: Span,
+) -> Result<Box<FormulaOperand>, AllocError>
+    ensures { IfOk result (λ d. plain_formula_operand d.value ≡ starred (plain_formula_operand body.value) star) }
 {
     let span = body.span.to(star);
-    Ok(bare(FormulaKind::Star(Box::new(alloc, body.formula)?), span))
+    let body = Box::new(alloc, Box::into_inner(body).formula)?;
+    boxed(alloc, FormulaKind::Star(body), span)
 }
 
 // `!D`, `<>D` or `[]D`
-fn prefixed(alloc: Global, sign: &Token, body: FormulaOperand) -> Result<FormulaOperand, AllocError>
-    ensures { IfOk result (λ d. plain_formula_operand d ≡ prefixed (seen sign.now) (plain_formula_operand body)) }
+#[inline(never)]
+fn prefixed(
+    alloc: Global,
+    sign: &Token,
+    body: Box<FormulaOperand>,
+) -> Result<Box<FormulaOperand>, AllocError>
+    ensures { IfOk result (λ d. plain_formula_operand d.value ≡ prefixed (seen sign.now) (plain_formula_operand body.value)) }
 {
     let span = sign.span().to(body.span);
-    let body = Box::new(alloc, body.formula)?;
+    let body = Box::new(alloc, Box::into_inner(body).formula)?;
     match sign.class {
-        EXCLAMATION => Ok(bare(FormulaKind::Not(body), span)),
-        DIAMOND => Ok(bare(FormulaKind::Somewhere(body), span)),
-        _ => Ok(bare(FormulaKind::Everywhere(body), span)),
+        EXCLAMATION => boxed(alloc, FormulaKind::Not(body), span),
+        DIAMOND => boxed(alloc, FormulaKind::Somewhere(body), span),
+        _ => boxed(alloc, FormulaKind::Everywhere(body), span),
     }
 }
 
 // `ex p. D` or `all p. D`
+#[inline(never)]
 fn quantified(
     alloc: Global,
     word: &Token,
     name: &Token,
-    body: FormulaOperand,
-) -> Result<FormulaOperand, AllocError>
-    ensures { IfOk result (λ d. plain_formula_operand d ≡ quantified (seen word.now) (seen name.now) (plain_formula_operand body)) }
+    body: Box<FormulaOperand>,
+) -> Result<Box<FormulaOperand>, AllocError>
+    ensures { IfOk result (λ d. plain_formula_operand d.value ≡ quantified (seen word.now) (seen name.now) (plain_formula_operand body.value)) }
 {
     let span = word.span().to(body.span);
-    let body = Box::new(alloc, body.formula)?;
+    let body = Box::new(alloc, Box::into_inner(body).formula)?;
     let name = name_of(alloc, name)?;
     if word.class == WORD_EX {
-        return Ok(bare(FormulaKind::Exists(name, body), span));
+        return boxed(alloc, FormulaKind::Exists(name, body), span);
     }
-    Ok(bare(FormulaKind::ForAll(name, body), span))
+    boxed(alloc, FormulaKind::ForAll(name, body), span)
 }
 
+#[inline(never)]
 fn implication(
     alloc: Global,
-    premise: FormulaOperand,
-    conclusion: FormulaOperand,
-) -> Result<FormulaOperand, AllocError>
-    ensures { IfOk result (λ d. plain_formula_operand d ≡ implication (plain_formula_operand premise) (plain_formula_operand conclusion)) }
+    premise: Box<FormulaOperand>,
+    conclusion: Box<FormulaOperand>,
+) -> Result<Box<FormulaOperand>, AllocError>
+    ensures { IfOk result (λ d. plain_formula_operand d.value
+        ≡ implication (plain_formula_operand premise.value) (plain_formula_operand conclusion.value)) }
 {
     let span = premise.span.to(conclusion.span);
-    let premise = Box::new(alloc, premise.formula)?;
-    let conclusion = Box::new(alloc, conclusion.formula)?;
-    Ok(bare(FormulaKind::Implies(premise, conclusion), span))
+    let premise = Box::new(alloc, Box::into_inner(premise).formula)?;
+    let conclusion = Box::new(alloc, Box::into_inner(conclusion).formula)?;
+    boxed(alloc, FormulaKind::Implies(premise, conclusion), span)
 }

@@ -1,5 +1,5 @@
-// Propositions.
-ghost use Rattle.std.specs.Prelude.{◌≡◌, ◌∷◌, ◌<◌, List, length, map};
+// Propositions, read with small frames as formulas are.
+ghost use Rattle.std.specs.Prelude.{◌≡◌, ◌∷◌, ◌++◌, ◌<◌, [], List, length, map};
 ghost use Rattle.dcv_syntax.specs.Plain.{PlainPropKind, PlainPropOperand, prop_operands_of};
 ghost use Rattle.dcv_syntax.specs.Views.{plain_prop_kind, plain_prop_operand};
 ghost use Rattle.std.specs.Prelude.{IfOk};
@@ -31,6 +31,31 @@ fn bare_prop(kind: PropKind, span: Span) -> PropOperand
     }
 }
 
+// The same in a box.
+fn boxed_prop(alloc: Global, kind: PropKind, span: Span) -> Result<Box<PropOperand>, AllocError>
+    ensures { IfOk result (λ p. plain_prop_operand p.value ≡ bare_prop (plain_prop_kind kind) span) }
+{
+    Ok(Box::new(alloc, bare_prop(kind, span))?)
+}
+
+// One operand more.
+#[inline(never)]
+fn add_operand(operands: &mut Vec<PropOperand>, operand: Box<PropOperand>) -> Result<(), AllocError>
+    ensures { IfOk result (λ _. operands.new.items ≡ operands.old.items ++ operand.value ∷ []) }
+{
+    operands.push(Box::into_inner(operand))?;
+    Ok(())
+}
+
+// One argument more.
+#[inline(never)]
+fn add_argument(props: &mut Vec<Prop>, argument: Box<PropOperand>) -> Result<(), AllocError>
+    ensures { IfOk result (λ _. props.new.items ≡ props.old.items ++ argument.value.prop ∷ []) }
+{
+    props.push(Box::into_inner(argument).prop)?;
+    Ok(())
+}
+
 impl PropList {
     ghost use Rattle.dcv_reader.specs.PropLists.{prop_list_kind};
 
@@ -45,8 +70,20 @@ impl PropList {
         }
     }
 
+    // What these operands come to.
+    #[inline(never)]
+    fn of(self, alloc: Global, operands: Vec<PropOperand>) -> Result<Box<PropOperand>, AllocError>
+        requires { 0 < length operands.items }
+        ensures { IfOk result (λ whole. (p : PlainPropOperand) (ps : List PlainPropOperand) →
+            map plain_prop_operand operands.items ≡ p ∷ ps →
+            plain_prop_operand whole.value ≡ prop_list (prop_list_kind self) p ps) }
+    {
+        let whole = self.whole(operands);
+        Ok(Box::new(alloc, whole)?)
+    }
+
     // One operand stands for itself, and more are a list.
-    fn of(self, operands: Vec<PropOperand>) -> PropOperand
+    fn whole(self, operands: Vec<PropOperand>) -> PropOperand
         requires { 0 < length operands.items }
         ensures { (p : PlainPropOperand) (ps : List PlainPropOperand) → map plain_prop_operand operands.items ≡ p ∷ ps →
             plain_prop_operand result ≡ prop_list (prop_list_kind self) p ps }
@@ -78,24 +115,28 @@ impl Builder<'_, '_> {
 
     /// prop = prop_implies {"<=>" prop_implies}
     #[cycle(prop)]
-    pub fn prop(&mut self) -> Result<PropOperand, AllocError>
+    pub fn prop(&mut self) -> Result<Box<PropOperand>, AllocError>
         requires { BeginWithRule rules.prop (left self.old) }
-        ensures { IfOk result (λ p. RuleReadAs rules.prop (left self.old) (AProp (plain_prop_operand p)) (left self.new)) }
+        ensures { IfOk result (λ p. RuleReadAs rules.prop (left self.old) (AProp (plain_prop_operand p.value)) (left self.new)) }
     {
+        let first = self.prop_implies()?;
+        if !self.is_next(DOUBLE_ARROW) {
+            return Ok(first);
+        }
         let mut operands = Vec::new(self.alloc);
-        operands.push(self.prop_implies()?)?;
+        add_operand(&mut operands, first)?;
         'more: while self.is_next(DOUBLE_ARROW) {
             let _separator = self.take();
-            operands.push(self.prop_implies()?)?;
+            add_operand(&mut operands, self.prop_implies()?)?;
         }
-        Ok(PropList::Iff.of(operands))
+        PropList::Iff.of(self.alloc, operands)
     }
 
     // prop_implies = prop_or ["=>" prop_implies]
     #[cycle(prop)]
-    fn prop_implies(&mut self) -> Result<PropOperand, AllocError>
+    fn prop_implies(&mut self) -> Result<Box<PropOperand>, AllocError>
         requires { BeginWithRule rules.prop_implies (left self.old) }
-        ensures { IfOk result (λ p. RuleReadAs rules.prop_implies (left self.old) (AProp (plain_prop_operand p)) (left self.new)) }
+        ensures { IfOk result (λ p. RuleReadAs rules.prop_implies (left self.old) (AProp (plain_prop_operand p.value)) (left self.new)) }
     {
         let premise = self.prop_or()?;
         if !self.is_next(ARROW) {
@@ -108,39 +149,47 @@ impl Builder<'_, '_> {
 
     // prop_or = prop_and {"||" prop_and}
     #[cycle(prop)]
-    fn prop_or(&mut self) -> Result<PropOperand, AllocError>
+    fn prop_or(&mut self) -> Result<Box<PropOperand>, AllocError>
         requires { BeginWithRule rules.prop_or (left self.old) }
-        ensures { IfOk result (λ p. RuleReadAs rules.prop_or (left self.old) (AProp (plain_prop_operand p)) (left self.new)) }
+        ensures { IfOk result (λ p. RuleReadAs rules.prop_or (left self.old) (AProp (plain_prop_operand p.value)) (left self.new)) }
     {
+        let first = self.prop_and()?;
+        if !self.is_next(DOUBLE_BAR) {
+            return Ok(first);
+        }
         let mut operands = Vec::new(self.alloc);
-        operands.push(self.prop_and()?)?;
+        add_operand(&mut operands, first)?;
         'more: while self.is_next(DOUBLE_BAR) {
             let _separator = self.take();
-            operands.push(self.prop_and()?)?;
+            add_operand(&mut operands, self.prop_and()?)?;
         }
-        Ok(PropList::Or.of(operands))
+        PropList::Or.of(self.alloc, operands)
     }
 
     // prop_and = prop_prefix {"&&" prop_prefix}
     #[cycle(prop)]
-    fn prop_and(&mut self) -> Result<PropOperand, AllocError>
+    fn prop_and(&mut self) -> Result<Box<PropOperand>, AllocError>
         requires { BeginWithRule rules.prop_and (left self.old) }
-        ensures { IfOk result (λ p. RuleReadAs rules.prop_and (left self.old) (AProp (plain_prop_operand p)) (left self.new)) }
+        ensures { IfOk result (λ p. RuleReadAs rules.prop_and (left self.old) (AProp (plain_prop_operand p.value)) (left self.new)) }
     {
+        let first = self.prop_prefix()?;
+        if !self.is_next(DOUBLE_AMPERSAND) {
+            return Ok(first);
+        }
         let mut operands = Vec::new(self.alloc);
-        operands.push(self.prop_prefix()?)?;
+        add_operand(&mut operands, first)?;
         'more: while self.is_next(DOUBLE_AMPERSAND) {
             let _separator = self.take();
-            operands.push(self.prop_prefix()?)?;
+            add_operand(&mut operands, self.prop_prefix()?)?;
         }
-        Ok(PropList::And.of(operands))
+        PropList::And.of(self.alloc, operands)
     }
 
     /// prop_prefix = "!" prop_prefix | prop_atom
     #[cycle(prop)]
-    pub fn prop_prefix(&mut self) -> Result<PropOperand, AllocError>
+    pub fn prop_prefix(&mut self) -> Result<Box<PropOperand>, AllocError>
         requires { BeginWithRule rules.prop_prefix (left self.old) }
-        ensures { IfOk result (λ p. RuleReadAs rules.prop_prefix (left self.old) (AProp (plain_prop_operand p)) (left self.new)) }
+        ensures { IfOk result (λ p. RuleReadAs rules.prop_prefix (left self.old) (AProp (plain_prop_operand p.value)) (left self.new)) }
     {
         if !self.is_next(EXCLAMATION) {
             return self.prop_atom();
@@ -152,24 +201,23 @@ impl Builder<'_, '_> {
 
     // prop_atom = "(" prop ")" | "true" | "false" | name arguments
     #[cycle(prop)]
-    fn prop_atom(&mut self) -> Result<PropOperand, AllocError>
+    fn prop_atom(&mut self) -> Result<Box<PropOperand>, AllocError>
         requires { BeginWithRule rules.prop_atom (left self.old) }
-        ensures { IfOk result (λ p. RuleReadAs rules.prop_atom (left self.old) (AProp (plain_prop_operand p)) (left self.new)) }
+        ensures { IfOk result (λ p. RuleReadAs rules.prop_atom (left self.old) (AProp (plain_prop_operand p.value)) (left self.new)) }
     {
         if self.is_next(WORD_TRUE) || self.is_next(WORD_FALSE) {
-            return Ok(self.prop_constant());
+            let constant = self.prop_constant();
+            return Ok(Box::new(self.alloc, constant)?);
         }
         let first = self.take();
         if first.class != OPEN_PARENTHESIS {
             let arguments = self.arguments()?;
             return prop_call(self.alloc, &first, arguments);
         }
-        let inside = self.prop()?;
+        let mut inside = self.prop()?;
         let closing = self.take();
-        Ok(PropOperand {
-            prop: inside.prop,
-            span: first.span_to(&closing),
-        })
+        inside.span = first.span_to(&closing);
+        Ok(inside)
     }
 
     /// arguments = ["(" prop {"," prop} ")"]
@@ -187,10 +235,10 @@ impl Builder<'_, '_> {
             });
         }
         let opening = self.take();
-        props.push(self.prop()?.prop)?;
+        add_argument(&mut props, self.prop()?)?;
         'more: while self.is_next(COMMA) {
             let _separator = self.take();
-            props.push(self.prop()?.prop)?;
+            add_argument(&mut props, self.prop()?)?;
         }
         let closing = self.take();
         Ok(Arguments {
@@ -230,34 +278,44 @@ impl Arguments {
 }
 
 // A call of what a name stands for.
-fn prop_call(alloc: Global, token: &Token, arguments: Arguments) -> Result<PropOperand, AllocError>
-    ensures { IfOk result (λ p. plain_prop_operand p ≡ prop_call (seen token.now) (map plain_prop arguments.props.items) arguments.parentheses) }
+#[inline(never)]
+fn prop_call(
+    alloc: Global,
+    token: &Token,
+    arguments: Arguments,
+) -> Result<Box<PropOperand>, AllocError>
+    ensures { IfOk result (λ p. plain_prop_operand p.value
+        ≡ prop_call (seen token.now) (map plain_prop arguments.props.items) arguments.parentheses) }
 {
     let span = arguments.call_span(token);
     let name = name_of(alloc, token)?;
-    Ok(bare_prop(PropKind::Call(name, arguments.props), span))
+    boxed_prop(alloc, PropKind::Call(name, arguments.props), span)
 }
 
+#[inline(never)]
 fn prop_negation(
     alloc: Global,
     sign: &Token,
-    negated: PropOperand,
-) -> Result<PropOperand, AllocError>
-    ensures { IfOk result (λ p. plain_prop_operand p ≡ prop_negation (seen sign.now) (plain_prop_operand negated)) }
+    negated: Box<PropOperand>,
+) -> Result<Box<PropOperand>, AllocError>
+    ensures { IfOk result (λ p. plain_prop_operand p.value ≡ prop_negation (seen sign.now) (plain_prop_operand negated.value)) }
 {
     let span = sign.span().to(negated.span);
-    Ok(bare_prop(PropKind::Not(Box::new(alloc, negated.prop)?), span))
+    let negated = Box::new(alloc, Box::into_inner(negated).prop)?;
+    boxed_prop(alloc, PropKind::Not(negated), span)
 }
 
+#[inline(never)]
 fn prop_implication(
     alloc: Global,
-    premise: PropOperand,
-    conclusion: PropOperand,
-) -> Result<PropOperand, AllocError>
-    ensures { IfOk result (λ p. plain_prop_operand p ≡ prop_implication (plain_prop_operand premise) (plain_prop_operand conclusion)) }
+    premise: Box<PropOperand>,
+    conclusion: Box<PropOperand>,
+) -> Result<Box<PropOperand>, AllocError>
+    ensures { IfOk result (λ p. plain_prop_operand p.value
+        ≡ prop_implication (plain_prop_operand premise.value) (plain_prop_operand conclusion.value)) }
 {
     let span = premise.span.to(conclusion.span);
-    let premise = Box::new(alloc, premise.prop)?;
-    let conclusion = Box::new(alloc, conclusion.prop)?;
-    Ok(bare_prop(PropKind::Implies(premise, conclusion), span))
+    let premise = Box::new(alloc, Box::into_inner(premise).prop)?;
+    let conclusion = Box::new(alloc, Box::into_inner(conclusion).prop)?;
+    boxed_prop(alloc, PropKind::Implies(premise, conclusion), span)
 }

@@ -1,5 +1,6 @@
 use Rattle.std.proofs.Common.{[], ◌∷◌, refl, sym, ap, ◌∙◌, arith}
-use Rattle.dcv_syntax.specs.Views.{plain_formula_operand}
+use Rattle.dcv_syntax.specs.declared.formulas.FormulaOperand.{FormulaOperand}
+use Rattle.dcv_syntax.specs.Views.{plain_formula, plain_formula_operand}
 use Rattle.dcv_tokens.specs.Classes as classes
 use Rattle.dcv_tokens.specs.Reading.{seen}
 use Rattle.dcv_sentence.specs.RuleNumbers as rules
@@ -9,109 +10,133 @@ use Rattle.dcv_reader.specs.Left.{left}
 use Rattle.dcv_reader.specs.Nodes.{starred}
 use Rattle.dcv_reader.proofs.BuilderParts.{if_ok}
 use Rattle.dcv_reader.proofs.BuilderForms.{next_of_there, premise_begins, premise_alone, conclusion_begins, conclusion_read, rule_begins, rule_passed, prefix_next, prefix_read, inside_next, closing_there, inside_read, second_there, third_there, fourth_next, fourth_read}
-use Rattle.dcv_reader.proofs.BuilderLevels.{level_first, level_begun, operand_next, operands_pushed, level_read}
+use Rattle.dcv_reader.proofs.BuilderLevels.{level_first, level_begun, level_alone, operand_next, operands_pushed, level_read}
 use Rattle.dcv_reader.proofs.BuilderFormulas.{iff_operands, iff_at, or_operands, or_at, and_operands, and_at, chop_operands, chop_at, formula_at, implies_at, implied_at, prefix_at, atom_at, picks_quantifier, picks_iff, picks_prefix, picks_star, picks_group, star_atom, stars_begin, stars_more, stars_read}
 use Rattle.dcv_reader.proofs.builder.Builder.+formula.Goals as goal
 
 pub formula_iff-formula_implies-requires : goal.formula_iff-formula_implies-requires
 formula_iff-formula_implies-requires t c = (omega arith, level_first iff_operands rules.formula_iff iff_at c.requires)
 
+pub formula_iff-returns-then-not-is_next : goal.formula_iff-returns-then-not-is_next
+formula_iff-returns-then-not-is_next t c =
+    level_alone iff_operands rules.formula_iff iff_at (plain_formula_operand c.in_ok-first.first.value) (left c.formula_implies.new.self) c.requires c.in_ok-first.ensures (sym c.is_next.ensures ∙ c.if-not-is_next.true) refl
+
 pub formula_iff-more-init : goal.formula_iff-more-init
 formula_iff-more-init t c =
-    level_begun plain_formula_operand iff_operands rules.formula_iff iff_at c.new-operands.result.items c.push.new.self.items c.in_ok-formula_implies.field-0 (left c.formula_implies.new.self) c.new-operands.ensures.items c.in_ok-push.ensures.items c.requires c.in_ok-formula_implies.ensures
+    level_begun plain_formula_operand iff_operands rules.formula_iff iff_at c.new-operands.result.items c.add.new.operands.items c.in_ok-first.first.value (left c.formula_implies.new.self) c.new-operands.ensures.items c.in_ok-add.ensures c.requires c.in_ok-first.ensures
 
 pub formula_iff-formula_implies-requires-in-more : goal.formula_iff-formula_implies-requires-in-more
 formula_iff-formula_implies-requires-in-more t c =
-    let next = operand_next iff_operands c.more.invariant (seen c.take-separator.result) (left c.take-separator.new.self) (sym c.is_next.ensures ∙ c.more-test.true) c.take-separator.ensures in
+    let next = operand_next iff_operands c.more.invariant (seen c.take-separator.result) (left c.take-separator.new.self) (sym c.is_next-in-more.ensures ∙ c.more-test.true) c.take-separator.ensures in
     let shorter = next.1 in
     (omega arith, next.0)
 
 pub formula_iff-more-smaller : goal.formula_iff-more-smaller
 formula_iff-more-smaller t c =
-    (operands_pushed plain_formula_operand iff_operands c.more.operands.items c.push-in-more.new.self.items c.in_ok-formula_implies-2.field-0 (left c.more.self) (left c.take-separator.new.self) (left c.formula_implies-in-more.new.self) (seen c.take-separator.result) c.more.invariant (sym c.is_next.ensures ∙ c.more-test.true) c.take-separator.ensures c.in_ok-formula_implies-2.ensures c.in_ok-push-2.ensures.items).1
+    (operands_pushed plain_formula_operand iff_operands c.more.operands.items c.add-in-more.new.operands.items c.in_ok-formula_implies.field-0.value (left c.more.self) (left c.take-separator.new.self) (left c.formula_implies-in-more.new.self) (seen c.take-separator.result) c.more.invariant (sym c.is_next-in-more.ensures ∙ c.more-test.true) c.take-separator.ensures c.in_ok-formula_implies.ensures c.in_ok-add-2.ensures).1
 
 pub formula_iff-more-preserved : goal.formula_iff-more-preserved
 formula_iff-more-preserved t c =
-    (operands_pushed plain_formula_operand iff_operands c.more.operands.items c.push-in-more.new.self.items c.in_ok-formula_implies-2.field-0 (left c.more.self) (left c.take-separator.new.self) (left c.formula_implies-in-more.new.self) (seen c.take-separator.result) c.more.invariant (sym c.is_next.ensures ∙ c.more-test.true) c.take-separator.ensures c.in_ok-formula_implies-2.ensures c.in_ok-push-2.ensures.items).0
+    (operands_pushed plain_formula_operand iff_operands c.more.operands.items c.add-in-more.new.operands.items c.in_ok-formula_implies.field-0.value (left c.more.self) (left c.take-separator.new.self) (left c.formula_implies-in-more.new.self) (seen c.take-separator.result) c.more.invariant (sym c.is_next-in-more.ensures ∙ c.more-test.true) c.take-separator.ensures c.in_ok-formula_implies.ensures c.in_ok-add-2.ensures).0
 
 pub formula_iff-returns : goal.formula_iff-returns
 formula_iff-returns t c =
-    level_read iff_operands rules.formula_iff iff_at c.more.invariant (sym c.is_next.ensures ∙ c.more-test.false) (λ p ps e. ap AFormula (sym (c.of.ensures p ps e)))
+    if_ok c.of.result
+    (λ d is. level_read iff_operands rules.formula_iff iff_at c.more.invariant (sym c.is_next-in-more.ensures ∙ c.more-test.false) (λ p ps e. ap AFormula (sym (is p ps e))))
+    c.of.ensures
 
 pub formula_or-formula_and-requires : goal.formula_or-formula_and-requires
 formula_or-formula_and-requires t c = (omega arith, level_first or_operands rules.formula_or or_at c.requires)
 
+pub formula_or-returns-then-not-is_next : goal.formula_or-returns-then-not-is_next
+formula_or-returns-then-not-is_next t c =
+    level_alone or_operands rules.formula_or or_at (plain_formula_operand c.in_ok-first.first.value) (left c.formula_and.new.self) c.requires c.in_ok-first.ensures (sym c.is_next.ensures ∙ c.if-not-is_next.true) refl
+
 pub formula_or-more-init : goal.formula_or-more-init
 formula_or-more-init t c =
-    level_begun plain_formula_operand or_operands rules.formula_or or_at c.new-operands.result.items c.push.new.self.items c.in_ok-formula_and.field-0 (left c.formula_and.new.self) c.new-operands.ensures.items c.in_ok-push.ensures.items c.requires c.in_ok-formula_and.ensures
+    level_begun plain_formula_operand or_operands rules.formula_or or_at c.new-operands.result.items c.add.new.operands.items c.in_ok-first.first.value (left c.formula_and.new.self) c.new-operands.ensures.items c.in_ok-add.ensures c.requires c.in_ok-first.ensures
 
 pub formula_or-formula_and-requires-in-more : goal.formula_or-formula_and-requires-in-more
 formula_or-formula_and-requires-in-more t c =
-    let next = operand_next or_operands c.more.invariant (seen c.take-separator.result) (left c.take-separator.new.self) (sym c.is_next.ensures ∙ c.more-test.true) c.take-separator.ensures in
+    let next = operand_next or_operands c.more.invariant (seen c.take-separator.result) (left c.take-separator.new.self) (sym c.is_next-in-more.ensures ∙ c.more-test.true) c.take-separator.ensures in
     let shorter = next.1 in
     (omega arith, next.0)
 
 pub formula_or-more-smaller : goal.formula_or-more-smaller
 formula_or-more-smaller t c =
-    (operands_pushed plain_formula_operand or_operands c.more.operands.items c.push-in-more.new.self.items c.in_ok-formula_and-2.field-0 (left c.more.self) (left c.take-separator.new.self) (left c.formula_and-in-more.new.self) (seen c.take-separator.result) c.more.invariant (sym c.is_next.ensures ∙ c.more-test.true) c.take-separator.ensures c.in_ok-formula_and-2.ensures c.in_ok-push-2.ensures.items).1
+    (operands_pushed plain_formula_operand or_operands c.more.operands.items c.add-in-more.new.operands.items c.in_ok-formula_and.field-0.value (left c.more.self) (left c.take-separator.new.self) (left c.formula_and-in-more.new.self) (seen c.take-separator.result) c.more.invariant (sym c.is_next-in-more.ensures ∙ c.more-test.true) c.take-separator.ensures c.in_ok-formula_and.ensures c.in_ok-add-2.ensures).1
 
 pub formula_or-more-preserved : goal.formula_or-more-preserved
 formula_or-more-preserved t c =
-    (operands_pushed plain_formula_operand or_operands c.more.operands.items c.push-in-more.new.self.items c.in_ok-formula_and-2.field-0 (left c.more.self) (left c.take-separator.new.self) (left c.formula_and-in-more.new.self) (seen c.take-separator.result) c.more.invariant (sym c.is_next.ensures ∙ c.more-test.true) c.take-separator.ensures c.in_ok-formula_and-2.ensures c.in_ok-push-2.ensures.items).0
+    (operands_pushed plain_formula_operand or_operands c.more.operands.items c.add-in-more.new.operands.items c.in_ok-formula_and.field-0.value (left c.more.self) (left c.take-separator.new.self) (left c.formula_and-in-more.new.self) (seen c.take-separator.result) c.more.invariant (sym c.is_next-in-more.ensures ∙ c.more-test.true) c.take-separator.ensures c.in_ok-formula_and.ensures c.in_ok-add-2.ensures).0
 
 pub formula_or-returns : goal.formula_or-returns
 formula_or-returns t c =
-    level_read or_operands rules.formula_or or_at c.more.invariant (sym c.is_next.ensures ∙ c.more-test.false) (λ p ps e. ap AFormula (sym (c.of.ensures p ps e)))
+    if_ok c.of.result
+    (λ d is. level_read or_operands rules.formula_or or_at c.more.invariant (sym c.is_next-in-more.ensures ∙ c.more-test.false) (λ p ps e. ap AFormula (sym (is p ps e))))
+    c.of.ensures
 
 pub formula_and-formula_chop-requires : goal.formula_and-formula_chop-requires
 formula_and-formula_chop-requires t c = (omega arith, level_first and_operands rules.formula_and and_at c.requires)
 
+pub formula_and-returns-then-not-is_next : goal.formula_and-returns-then-not-is_next
+formula_and-returns-then-not-is_next t c =
+    level_alone and_operands rules.formula_and and_at (plain_formula_operand c.in_ok-first.first.value) (left c.formula_chop.new.self) c.requires c.in_ok-first.ensures (sym c.is_next.ensures ∙ c.if-not-is_next.true) refl
+
 pub formula_and-more-init : goal.formula_and-more-init
 formula_and-more-init t c =
-    level_begun plain_formula_operand and_operands rules.formula_and and_at c.new-operands.result.items c.push.new.self.items c.in_ok-formula_chop.field-0 (left c.formula_chop.new.self) c.new-operands.ensures.items c.in_ok-push.ensures.items c.requires c.in_ok-formula_chop.ensures
+    level_begun plain_formula_operand and_operands rules.formula_and and_at c.new-operands.result.items c.add.new.operands.items c.in_ok-first.first.value (left c.formula_chop.new.self) c.new-operands.ensures.items c.in_ok-add.ensures c.requires c.in_ok-first.ensures
 
 pub formula_and-formula_chop-requires-in-more : goal.formula_and-formula_chop-requires-in-more
 formula_and-formula_chop-requires-in-more t c =
-    let next = operand_next and_operands c.more.invariant (seen c.take-separator.result) (left c.take-separator.new.self) (sym c.is_next.ensures ∙ c.more-test.true) c.take-separator.ensures in
+    let next = operand_next and_operands c.more.invariant (seen c.take-separator.result) (left c.take-separator.new.self) (sym c.is_next-in-more.ensures ∙ c.more-test.true) c.take-separator.ensures in
     let shorter = next.1 in
     (omega arith, next.0)
 
 pub formula_and-more-smaller : goal.formula_and-more-smaller
 formula_and-more-smaller t c =
-    (operands_pushed plain_formula_operand and_operands c.more.operands.items c.push-in-more.new.self.items c.in_ok-formula_chop-2.field-0 (left c.more.self) (left c.take-separator.new.self) (left c.formula_chop-in-more.new.self) (seen c.take-separator.result) c.more.invariant (sym c.is_next.ensures ∙ c.more-test.true) c.take-separator.ensures c.in_ok-formula_chop-2.ensures c.in_ok-push-2.ensures.items).1
+    (operands_pushed plain_formula_operand and_operands c.more.operands.items c.add-in-more.new.operands.items c.in_ok-formula_chop.field-0.value (left c.more.self) (left c.take-separator.new.self) (left c.formula_chop-in-more.new.self) (seen c.take-separator.result) c.more.invariant (sym c.is_next-in-more.ensures ∙ c.more-test.true) c.take-separator.ensures c.in_ok-formula_chop.ensures c.in_ok-add-2.ensures).1
 
 pub formula_and-more-preserved : goal.formula_and-more-preserved
 formula_and-more-preserved t c =
-    (operands_pushed plain_formula_operand and_operands c.more.operands.items c.push-in-more.new.self.items c.in_ok-formula_chop-2.field-0 (left c.more.self) (left c.take-separator.new.self) (left c.formula_chop-in-more.new.self) (seen c.take-separator.result) c.more.invariant (sym c.is_next.ensures ∙ c.more-test.true) c.take-separator.ensures c.in_ok-formula_chop-2.ensures c.in_ok-push-2.ensures.items).0
+    (operands_pushed plain_formula_operand and_operands c.more.operands.items c.add-in-more.new.operands.items c.in_ok-formula_chop.field-0.value (left c.more.self) (left c.take-separator.new.self) (left c.formula_chop-in-more.new.self) (seen c.take-separator.result) c.more.invariant (sym c.is_next-in-more.ensures ∙ c.more-test.true) c.take-separator.ensures c.in_ok-formula_chop.ensures c.in_ok-add-2.ensures).0
 
 pub formula_and-returns : goal.formula_and-returns
 formula_and-returns t c =
-    level_read and_operands rules.formula_and and_at c.more.invariant (sym c.is_next.ensures ∙ c.more-test.false) (λ p ps e. ap AFormula (sym (c.of.ensures p ps e)))
+    if_ok c.of.result
+    (λ d is. level_read and_operands rules.formula_and and_at c.more.invariant (sym c.is_next-in-more.ensures ∙ c.more-test.false) (λ p ps e. ap AFormula (sym (is p ps e))))
+    c.of.ensures
 
 pub formula_chop-formula_prefix-requires : goal.formula_chop-formula_prefix-requires
 formula_chop-formula_prefix-requires t c = (omega arith, level_first chop_operands rules.formula_chop chop_at c.requires)
 
+pub formula_chop-returns-then-not-is_next : goal.formula_chop-returns-then-not-is_next
+formula_chop-returns-then-not-is_next t c =
+    level_alone chop_operands rules.formula_chop chop_at (plain_formula_operand c.in_ok-first.first.value) (left c.formula_prefix.new.self) c.requires c.in_ok-first.ensures (sym c.is_next.ensures ∙ c.if-not-is_next.true) refl
+
 pub formula_chop-more-init : goal.formula_chop-more-init
 formula_chop-more-init t c =
-    level_begun plain_formula_operand chop_operands rules.formula_chop chop_at c.new-operands.result.items c.push.new.self.items c.in_ok-formula_prefix.field-0 (left c.formula_prefix.new.self) c.new-operands.ensures.items c.in_ok-push.ensures.items c.requires c.in_ok-formula_prefix.ensures
+    level_begun plain_formula_operand chop_operands rules.formula_chop chop_at c.new-operands.result.items c.add.new.operands.items c.in_ok-first.first.value (left c.formula_prefix.new.self) c.new-operands.ensures.items c.in_ok-add.ensures c.requires c.in_ok-first.ensures
 
 pub formula_chop-formula_prefix-requires-in-more : goal.formula_chop-formula_prefix-requires-in-more
 formula_chop-formula_prefix-requires-in-more t c =
-    let next = operand_next chop_operands c.more.invariant (seen c.take-separator.result) (left c.take-separator.new.self) (sym c.is_next.ensures ∙ c.more-test.true) c.take-separator.ensures in
+    let next = operand_next chop_operands c.more.invariant (seen c.take-separator.result) (left c.take-separator.new.self) (sym c.is_next-in-more.ensures ∙ c.more-test.true) c.take-separator.ensures in
     let shorter = next.1 in
     (omega arith, next.0)
 
 pub formula_chop-more-smaller : goal.formula_chop-more-smaller
 formula_chop-more-smaller t c =
-    (operands_pushed plain_formula_operand chop_operands c.more.operands.items c.push-in-more.new.self.items c.in_ok-formula_prefix-2.field-0 (left c.more.self) (left c.take-separator.new.self) (left c.formula_prefix-in-more.new.self) (seen c.take-separator.result) c.more.invariant (sym c.is_next.ensures ∙ c.more-test.true) c.take-separator.ensures c.in_ok-formula_prefix-2.ensures c.in_ok-push-2.ensures.items).1
+    (operands_pushed plain_formula_operand chop_operands c.more.operands.items c.add-in-more.new.operands.items c.in_ok-formula_prefix.field-0.value (left c.more.self) (left c.take-separator.new.self) (left c.formula_prefix-in-more.new.self) (seen c.take-separator.result) c.more.invariant (sym c.is_next-in-more.ensures ∙ c.more-test.true) c.take-separator.ensures c.in_ok-formula_prefix.ensures c.in_ok-add-2.ensures).1
 
 pub formula_chop-more-preserved : goal.formula_chop-more-preserved
 formula_chop-more-preserved t c =
-    (operands_pushed plain_formula_operand chop_operands c.more.operands.items c.push-in-more.new.self.items c.in_ok-formula_prefix-2.field-0 (left c.more.self) (left c.take-separator.new.self) (left c.formula_prefix-in-more.new.self) (seen c.take-separator.result) c.more.invariant (sym c.is_next.ensures ∙ c.more-test.true) c.take-separator.ensures c.in_ok-formula_prefix-2.ensures c.in_ok-push-2.ensures.items).0
+    (operands_pushed plain_formula_operand chop_operands c.more.operands.items c.add-in-more.new.operands.items c.in_ok-formula_prefix.field-0.value (left c.more.self) (left c.take-separator.new.self) (left c.formula_prefix-in-more.new.self) (seen c.take-separator.result) c.more.invariant (sym c.is_next-in-more.ensures ∙ c.more-test.true) c.take-separator.ensures c.in_ok-formula_prefix.ensures c.in_ok-add-2.ensures).0
 
 pub formula_chop-returns : goal.formula_chop-returns
 formula_chop-returns t c =
-    level_read chop_operands rules.formula_chop chop_at c.more.invariant (sym c.is_next.ensures ∙ c.more-test.false) (λ p ps e. ap AFormula (sym (c.of.ensures p ps e)))
+    if_ok c.of.result
+    (λ d is. level_read chop_operands rules.formula_chop chop_at c.more.invariant (sym c.is_next-in-more.ensures ∙ c.more-test.false) (λ p ps e. ap AFormula (sym (is p ps e))))
+    c.of.ensures
 
 pub formula_implies-formula_or-requires : goal.formula_implies-formula_or-requires
 formula_implies-formula_or-requires t c =
@@ -119,18 +144,18 @@ formula_implies-formula_or-requires t c =
 
 pub formula_implies-returns-then-not-is_next : goal.formula_implies-returns-then-not-is_next
 formula_implies-returns-then-not-is_next t c =
-    premise_alone AFormula Formulas rules.formula_implies rules.formula_or rules.formula_implied implies_at implied_at refl (λ token p. refl) c.requires (plain_formula_operand c.in_ok-premise.premise) (left c.formula_or.new.self) c.in_ok-premise.ensures _ (sym c.is_next.ensures ∙ c.if-not-is_next.true) refl
+    premise_alone AFormula Formulas rules.formula_implies rules.formula_or rules.formula_implied implies_at implied_at refl (λ token p. refl) c.requires (plain_formula_operand c.in_ok-premise.premise.value) (left c.formula_or.new.self) c.in_ok-premise.ensures _ (sym c.is_next.ensures ∙ c.if-not-is_next.true) refl
 
 pub formula_implies-formula_implies-requires : goal.formula_implies-formula_implies-requires
 formula_implies-formula_implies-requires t c =
-    let next = conclusion_begins AFormula Formulas rules.formula_implies rules.formula_or rules.formula_implied implies_at implied_at refl (λ token p. refl) c.requires (plain_formula_operand c.in_ok-premise.premise) (left c.formula_or.new.self) c.in_ok-premise.ensures (seen c.take-arrow.result) (left c.take-arrow.new.self) (sym c.is_next.ensures ∙ c.if-not-is_next.false) c.take-arrow.ensures in
+    let next = conclusion_begins AFormula Formulas rules.formula_implies rules.formula_or rules.formula_implied implies_at implied_at refl (λ token p. refl) c.requires (plain_formula_operand c.in_ok-premise.premise.value) (left c.formula_or.new.self) c.in_ok-premise.ensures (seen c.take-arrow.result) (left c.take-arrow.new.self) (sym c.is_next.ensures ∙ c.if-not-is_next.false) c.take-arrow.ensures in
     let shorter = next.1 in
     (omega arith, next.0)
 
 pub formula_implies-returns : goal.formula_implies-returns
 formula_implies-returns t c =
     if_ok c.implication.result
-    (λ p is. conclusion_read AFormula Formulas rules.formula_implies rules.formula_or rules.formula_implied implies_at implied_at refl (λ token p. refl) c.requires (plain_formula_operand c.in_ok-premise.premise) (left c.formula_or.new.self) c.in_ok-premise.ensures (seen c.take-arrow.result) (left c.take-arrow.new.self) (sym c.is_next.ensures ∙ c.if-not-is_next.false) c.take-arrow.ensures (plain_formula_operand c.in_ok-conclusion.conclusion) (left c.formula_implies.new.self) (AFormula (plain_formula_operand p)) c.in_ok-conclusion.ensures (ap AFormula (sym is)))
+    (λ p is. conclusion_read AFormula Formulas rules.formula_implies rules.formula_or rules.formula_implied implies_at implied_at refl (λ token p. refl) c.requires (plain_formula_operand c.in_ok-premise.premise.value) (left c.formula_or.new.self) c.in_ok-premise.ensures (seen c.take-arrow.result) (left c.take-arrow.new.self) (sym c.is_next.ensures ∙ c.if-not-is_next.false) c.take-arrow.ensures (plain_formula_operand c.in_ok-conclusion.conclusion.value) (left c.formula_implies.new.self) (AFormula (plain_formula_operand p.value)) c.in_ok-conclusion.ensures (ap AFormula (sym is)))
     c.implication.ensures
 
 pub formula-formula_iff-requires : goal.formula-formula_iff-requires
@@ -140,7 +165,7 @@ formula-formula_iff-requires t c =
 pub formula-returns-then-not-is_next_of : goal.formula-returns-then-not-is_next_of
 formula-returns-then-not-is_next_of t c =
     if_ok c.formula_iff.result
-    (λ d reads. rule_passed rules.formula formula_rule formula_at c.requires rules.formula_iff (picks_iff (left c.args.self.now) (sym c.is_next_of.ensures ∙ c.if-not-is_next_of.true)) (AFormula (plain_formula_operand d)) _ (left c.formula_iff.new.self) reads refl)
+    (λ d reads. rule_passed rules.formula formula_rule formula_at c.requires rules.formula_iff (picks_iff (left c.args.self.now) (sym c.is_next_of.ensures ∙ c.if-not-is_next_of.true)) (AFormula (plain_formula_operand d.value)) _ (left c.formula_iff.new.self) reads refl)
     c.formula_iff.ensures
 
 pub formula-take-word-requires : goal.formula-take-word-requires
@@ -167,7 +192,7 @@ pub formula-returns : goal.formula-returns
 formula-returns t c =
     let picked = picks_quantifier (left c.args.self.now) (sym c.is_next_of.ensures ∙ c.if-not-is_next_of.false) in
     if_ok c.quantified.result
-    (λ d is. fourth_read rules.formula formula_rule formula_at c.requires picked.0 classes.name classes.dot rules.formula (seen c.take-word.result) (left c.take-word.new.self) picked.1 c.take-word.ensures (seen c.take-name.result) (left c.take-name.new.self) c.take-name.ensures (seen c.take-dot.result) (left c.take-dot.new.self) c.take-dot.ensures (AFormula (plain_formula_operand c.in_ok-body.body)) (AFormula (plain_formula_operand d)) (left c.formula.new.self) c.in_ok-body.ensures (ap AFormula (sym is)))
+    (λ d is. fourth_read rules.formula formula_rule formula_at c.requires picked.0 classes.name classes.dot rules.formula (seen c.take-word.result) (left c.take-word.new.self) picked.1 c.take-word.ensures (seen c.take-name.result) (left c.take-name.new.self) c.take-name.ensures (seen c.take-dot.result) (left c.take-dot.new.self) c.take-dot.ensures (AFormula (plain_formula_operand c.in_ok-body.body.value)) (AFormula (plain_formula_operand d.value)) (left c.formula.new.self) c.in_ok-body.ensures (ap AFormula (sym is)))
     c.quantified.ensures
 
 pub formula_prefix-formula_star-requires : goal.formula_prefix-formula_star-requires
@@ -177,7 +202,7 @@ formula_prefix-formula_star-requires t c =
 pub formula_prefix-returns-then-not-is_next_of : goal.formula_prefix-returns-then-not-is_next_of
 formula_prefix-returns-then-not-is_next_of t c =
     if_ok c.formula_star.result
-    (λ d reads. rule_passed rules.formula_prefix formula_prefix_rule prefix_at c.requires rules.formula_star (picks_star (left c.args.self.now) (sym c.is_next_of.ensures ∙ c.if-not-is_next_of.true)) (AFormula (plain_formula_operand d)) _ (left c.formula_star.new.self) reads refl)
+    (λ d reads. rule_passed rules.formula_prefix formula_prefix_rule prefix_at c.requires rules.formula_star (picks_star (left c.args.self.now) (sym c.is_next_of.ensures ∙ c.if-not-is_next_of.true)) (AFormula (plain_formula_operand d.value)) _ (left c.formula_star.new.self) reads refl)
     c.formula_star.ensures
 
 pub formula_prefix-take-sign-requires : goal.formula_prefix-take-sign-requires
@@ -194,22 +219,22 @@ pub formula_prefix-returns : goal.formula_prefix-returns
 formula_prefix-returns t c =
     let picked = picks_prefix (left c.args.self.now) (sym c.is_next_of.ensures ∙ c.if-not-is_next_of.false) in
     if_ok c.prefixed.result
-    (λ d is. prefix_read rules.formula_prefix formula_prefix_rule prefix_at c.requires picked.0 rules.formula_prefix (seen c.take-sign.result) (left c.take-sign.new.self) picked.1 c.take-sign.ensures (AFormula (plain_formula_operand c.in_ok-body.body)) (AFormula (plain_formula_operand d)) (left c.formula_prefix.new.self) c.in_ok-body.ensures (ap AFormula (sym is)))
+    (λ d is. prefix_read rules.formula_prefix formula_prefix_rule prefix_at c.requires picked.0 rules.formula_prefix (seen c.take-sign.result) (left c.take-sign.new.self) picked.1 c.take-sign.ensures (AFormula (plain_formula_operand c.in_ok-body.body.value)) (AFormula (plain_formula_operand d.value)) (left c.formula_prefix.new.self) c.in_ok-body.ensures (ap AFormula (sym is)))
     c.prefixed.ensures
 
 pub formula_star-formula_atom-requires : goal.formula_star-formula_atom-requires
 formula_star-formula_atom-requires t c = (omega arith, star_atom c.requires)
 
 pub formula_star-more-init : goal.formula_star-more-init
-formula_star-more-init t c = stars_begin c.requires (plain_formula_operand c.in_ok-body.body) (left c.formula_atom.new.self) c.in_ok-body.ensures
+formula_star-more-init t c = stars_begin c.requires (plain_formula_operand c.in_ok-body.body.value) (left c.formula_atom.new.self) c.in_ok-body.ensures
 
 pub formula_star-more-smaller : goal.formula_star-more-smaller
 formula_star-more-smaller t c =
-    (stars_more c.requires c.more.invariant (seen c.take-star.result) (left c.take-star.new.self) (plain_formula_operand c.in_ok-body-2.body) (sym c.is_next.ensures ∙ c.more-test.true) c.take-star.ensures (c.in_ok-body-2.ensures ∙ ap (starred (plain_formula_operand c.more.body)) c.span.ensures)).1
+    (stars_more c.requires c.more.invariant (seen c.take-star.result) (left c.take-star.new.self) (plain_formula_operand c.in_ok-body-2.body.value) (sym c.is_next.ensures ∙ c.more-test.true) c.take-star.ensures (c.in_ok-body-2.ensures ∙ ap (starred (plain_formula_operand c.more.body.value)) c.span.ensures)).1
 
 pub formula_star-more-preserved : goal.formula_star-more-preserved
 formula_star-more-preserved t c =
-    (stars_more c.requires c.more.invariant (seen c.take-star.result) (left c.take-star.new.self) (plain_formula_operand c.in_ok-body-2.body) (sym c.is_next.ensures ∙ c.more-test.true) c.take-star.ensures (c.in_ok-body-2.ensures ∙ ap (starred (plain_formula_operand c.more.body)) c.span.ensures)).0
+    (stars_more c.requires c.more.invariant (seen c.take-star.result) (left c.take-star.new.self) (plain_formula_operand c.in_ok-body-2.body.value) (sym c.is_next.ensures ∙ c.more-test.true) c.take-star.ensures (c.in_ok-body-2.ensures ∙ ap (starred (plain_formula_operand c.more.body.value)) c.span.ensures)).0
 
 pub formula_star-returns : goal.formula_star-returns
 formula_star-returns t c = stars_read c.requires c.more.invariant (sym c.is_next.ensures ∙ c.more-test.false)
@@ -229,6 +254,6 @@ formula_atom-take-closing-requires t c =
 pub formula_atom-returns : goal.formula_atom-returns
 formula_atom-returns t c =
     let picked = picks_group (left c.args.self.now) (sym c.is_next.ensures ∙ c.if-not-is_next.false) in
-    let inside = plain_formula_operand c.in_ok-inside.inside in
+    let inside = plain_formula_operand c.in_ok-inside.inside.value in
     inside_read rules.formula_atom formula_atom_rule atom_at c.requires classes.open_parenthesis rules.formula classes.close_parenthesis (seen c.take-opening.result) (left c.take-opening.new.self) picked c.take-opening.ensures (AFormula inside) (left c.formula.new.self) c.in_ok-inside.ensures (seen c.take-closing.result) (left c.take-closing.new.self) _ c.take-closing.ensures
-    (ap (λ s. AFormula (record { formula = inside.formula; span = s })) (sym c.span_to.ensures))
+    (ap (λ s. AFormula (record { formula = inside.formula; span = s })) (sym c.span_to.ensures) ∙ ap (λ (o : FormulaOperand). AFormula (record { formula = plain_formula o.formula; span = c.span_to.result })) (sym c.deref_mut.ensures.value))

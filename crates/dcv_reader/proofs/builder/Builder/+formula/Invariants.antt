@@ -62,7 +62,7 @@ abbrev pub decreases-formula_chop-more : goal.decreases-formula_chop-more
 decreases-formula_chop-more l = length (left l.self)
 
 abbrev pub invariant-formula_star-more : goal.invariant-formula_star-more
-invariant-formula_star-more l = StarsRead (left l.fn.self) (plain_formula_operand l.body) (left l.self)
+invariant-formula_star-more l = StarsRead (left l.fn.self) (plain_formula_operand l.body.value) (left l.self)
 
 abbrev pub decreases-formula_star-more : goal.decreases-formula_star-more
 decreases-formula_star-more l = length (left l.self)

@@ -1,5 +1,6 @@
 use Rattle.std.proofs.Common.{[], ◌∷◌, map, Some, None, refl, sym, ap, ◌∙◌, subst, arith}
 use Rattle.dcv_grammar.specs.declared.grammar.Symbol.TheVariants.{Class, Rule}
+use Rattle.dcv_syntax.specs.declared.propositions.PropOperand.{PropOperand}
 use Rattle.dcv_syntax.specs.Plain.{PlainPropOperand}
 use Rattle.dcv_syntax.specs.Views.{plain_prop, plain_prop_operand}
 use Rattle.dcv_tokens.specs.Classes as classes
@@ -10,7 +11,7 @@ use Rattle.dcv_reader.specs.Actions.{AProp, Props, Arguments}
 use Rattle.dcv_sentence.specs.Language.{prop_prefix_rule, prop_atom_rule}
 use Rattle.dcv_reader.specs.Building.{RuleReadAs}
 use Rattle.dcv_reader.specs.Left.{left}
-use Rattle.dcv_reader.proofs.BuilderLevels.{level_first, level_begun, operand_next, operands_pushed, level_read, pushed_first, pushed_more, enclosed_first, enclosed_begun, enclosed_next, enclosed_more, enclosed_closes, enclosed_read}
+use Rattle.dcv_reader.proofs.BuilderLevels.{level_first, level_begun, level_alone, operand_next, operands_pushed, level_read, pushed_first, pushed_more, enclosed_first, enclosed_begun, enclosed_next, enclosed_more, enclosed_closes, enclosed_read}
 use Rattle.dcv_reader.proofs.BuilderParts.{if_ok}
 use Rattle.dcv_reader.proofs.BuilderForms.{premise_begins, premise_alone, conclusion_begins, conclusion_read, rule_begins, rule_passed, prefix_next, prefix_read, inside_next, closing_there, inside_read, nothing_read}
 use Rattle.dcv_reader.proofs.BuilderProps.{iff_operands, iff_at, or_operands, or_at, and_operands, and_at, argument_operands, arguments_at, implies_at, implied_at, prefix_at, atom_at, picks_negation, picks_atom, atom_there, picks_group, picks_call}
@@ -19,77 +20,95 @@ use Rattle.dcv_reader.proofs.builder.Builder.+prop.Goals as goal
 pub prop-prop_implies-requires : goal.prop-prop_implies-requires
 prop-prop_implies-requires t c = (omega arith, level_first iff_operands rules.prop iff_at c.requires)
 
+pub prop-returns-then-not-is_next : goal.prop-returns-then-not-is_next
+prop-returns-then-not-is_next t c =
+    level_alone iff_operands rules.prop iff_at (plain_prop_operand c.in_ok-first.first.value) (left c.prop_implies.new.self) c.requires c.in_ok-first.ensures (sym c.is_next.ensures ∙ c.if-not-is_next.true) refl
+
 pub prop-more-init : goal.prop-more-init
 prop-more-init t c =
-    level_begun plain_prop_operand iff_operands rules.prop iff_at c.new-operands.result.items c.push.new.self.items c.in_ok-prop_implies.field-0 (left c.prop_implies.new.self) c.new-operands.ensures.items c.in_ok-push.ensures.items c.requires c.in_ok-prop_implies.ensures
+    level_begun plain_prop_operand iff_operands rules.prop iff_at c.new-operands.result.items c.add_operand.new.operands.items c.in_ok-first.first.value (left c.prop_implies.new.self) c.new-operands.ensures.items c.in_ok-add_operand.ensures c.requires c.in_ok-first.ensures
 
 pub prop-prop_implies-requires-in-more : goal.prop-prop_implies-requires-in-more
 prop-prop_implies-requires-in-more t c =
-    let next = operand_next iff_operands c.more.invariant (seen c.take-separator.result) (left c.take-separator.new.self) (sym c.is_next.ensures ∙ c.more-test.true) c.take-separator.ensures in
+    let next = operand_next iff_operands c.more.invariant (seen c.take-separator.result) (left c.take-separator.new.self) (sym c.is_next-in-more.ensures ∙ c.more-test.true) c.take-separator.ensures in
     let shorter = next.1 in
     (omega arith, next.0)
 
 pub prop-more-smaller : goal.prop-more-smaller
 prop-more-smaller t c =
-    (operands_pushed plain_prop_operand iff_operands c.more.operands.items c.push-in-more.new.self.items c.in_ok-prop_implies-2.field-0 (left c.more.self) (left c.take-separator.new.self) (left c.prop_implies-in-more.new.self) (seen c.take-separator.result) c.more.invariant (sym c.is_next.ensures ∙ c.more-test.true) c.take-separator.ensures c.in_ok-prop_implies-2.ensures c.in_ok-push-2.ensures.items).1
+    (operands_pushed plain_prop_operand iff_operands c.more.operands.items c.add_operand-in-more.new.operands.items c.in_ok-prop_implies.field-0.value (left c.more.self) (left c.take-separator.new.self) (left c.prop_implies-in-more.new.self) (seen c.take-separator.result) c.more.invariant (sym c.is_next-in-more.ensures ∙ c.more-test.true) c.take-separator.ensures c.in_ok-prop_implies.ensures c.in_ok-add_operand-2.ensures).1
 
 pub prop-more-preserved : goal.prop-more-preserved
 prop-more-preserved t c =
-    (operands_pushed plain_prop_operand iff_operands c.more.operands.items c.push-in-more.new.self.items c.in_ok-prop_implies-2.field-0 (left c.more.self) (left c.take-separator.new.self) (left c.prop_implies-in-more.new.self) (seen c.take-separator.result) c.more.invariant (sym c.is_next.ensures ∙ c.more-test.true) c.take-separator.ensures c.in_ok-prop_implies-2.ensures c.in_ok-push-2.ensures.items).0
+    (operands_pushed plain_prop_operand iff_operands c.more.operands.items c.add_operand-in-more.new.operands.items c.in_ok-prop_implies.field-0.value (left c.more.self) (left c.take-separator.new.self) (left c.prop_implies-in-more.new.self) (seen c.take-separator.result) c.more.invariant (sym c.is_next-in-more.ensures ∙ c.more-test.true) c.take-separator.ensures c.in_ok-prop_implies.ensures c.in_ok-add_operand-2.ensures).0
 
 pub prop-returns : goal.prop-returns
 prop-returns t c =
-    level_read iff_operands rules.prop iff_at c.more.invariant (sym c.is_next.ensures ∙ c.more-test.false) (λ p ps e. ap AProp (sym (c.of.ensures p ps e)))
+    if_ok c.of.result
+    (λ d is. level_read iff_operands rules.prop iff_at c.more.invariant (sym c.is_next-in-more.ensures ∙ c.more-test.false) (λ p ps e. ap AProp (sym (is p ps e))))
+    c.of.ensures
 
 pub prop_or-prop_and-requires : goal.prop_or-prop_and-requires
 prop_or-prop_and-requires t c = (omega arith, level_first or_operands rules.prop_or or_at c.requires)
 
+pub prop_or-returns-then-not-is_next : goal.prop_or-returns-then-not-is_next
+prop_or-returns-then-not-is_next t c =
+    level_alone or_operands rules.prop_or or_at (plain_prop_operand c.in_ok-first.first.value) (left c.prop_and.new.self) c.requires c.in_ok-first.ensures (sym c.is_next.ensures ∙ c.if-not-is_next.true) refl
+
 pub prop_or-more-init : goal.prop_or-more-init
 prop_or-more-init t c =
-    level_begun plain_prop_operand or_operands rules.prop_or or_at c.new-operands.result.items c.push.new.self.items c.in_ok-prop_and.field-0 (left c.prop_and.new.self) c.new-operands.ensures.items c.in_ok-push.ensures.items c.requires c.in_ok-prop_and.ensures
+    level_begun plain_prop_operand or_operands rules.prop_or or_at c.new-operands.result.items c.add_operand.new.operands.items c.in_ok-first.first.value (left c.prop_and.new.self) c.new-operands.ensures.items c.in_ok-add_operand.ensures c.requires c.in_ok-first.ensures
 
 pub prop_or-prop_and-requires-in-more : goal.prop_or-prop_and-requires-in-more
 prop_or-prop_and-requires-in-more t c =
-    let next = operand_next or_operands c.more.invariant (seen c.take-separator.result) (left c.take-separator.new.self) (sym c.is_next.ensures ∙ c.more-test.true) c.take-separator.ensures in
+    let next = operand_next or_operands c.more.invariant (seen c.take-separator.result) (left c.take-separator.new.self) (sym c.is_next-in-more.ensures ∙ c.more-test.true) c.take-separator.ensures in
     let shorter = next.1 in
     (omega arith, next.0)
 
 pub prop_or-more-smaller : goal.prop_or-more-smaller
 prop_or-more-smaller t c =
-    (operands_pushed plain_prop_operand or_operands c.more.operands.items c.push-in-more.new.self.items c.in_ok-prop_and-2.field-0 (left c.more.self) (left c.take-separator.new.self) (left c.prop_and-in-more.new.self) (seen c.take-separator.result) c.more.invariant (sym c.is_next.ensures ∙ c.more-test.true) c.take-separator.ensures c.in_ok-prop_and-2.ensures c.in_ok-push-2.ensures.items).1
+    (operands_pushed plain_prop_operand or_operands c.more.operands.items c.add_operand-in-more.new.operands.items c.in_ok-prop_and.field-0.value (left c.more.self) (left c.take-separator.new.self) (left c.prop_and-in-more.new.self) (seen c.take-separator.result) c.more.invariant (sym c.is_next-in-more.ensures ∙ c.more-test.true) c.take-separator.ensures c.in_ok-prop_and.ensures c.in_ok-add_operand-2.ensures).1
 
 pub prop_or-more-preserved : goal.prop_or-more-preserved
 prop_or-more-preserved t c =
-    (operands_pushed plain_prop_operand or_operands c.more.operands.items c.push-in-more.new.self.items c.in_ok-prop_and-2.field-0 (left c.more.self) (left c.take-separator.new.self) (left c.prop_and-in-more.new.self) (seen c.take-separator.result) c.more.invariant (sym c.is_next.ensures ∙ c.more-test.true) c.take-separator.ensures c.in_ok-prop_and-2.ensures c.in_ok-push-2.ensures.items).0
+    (operands_pushed plain_prop_operand or_operands c.more.operands.items c.add_operand-in-more.new.operands.items c.in_ok-prop_and.field-0.value (left c.more.self) (left c.take-separator.new.self) (left c.prop_and-in-more.new.self) (seen c.take-separator.result) c.more.invariant (sym c.is_next-in-more.ensures ∙ c.more-test.true) c.take-separator.ensures c.in_ok-prop_and.ensures c.in_ok-add_operand-2.ensures).0
 
 pub prop_or-returns : goal.prop_or-returns
 prop_or-returns t c =
-    level_read or_operands rules.prop_or or_at c.more.invariant (sym c.is_next.ensures ∙ c.more-test.false) (λ p ps e. ap AProp (sym (c.of.ensures p ps e)))
+    if_ok c.of.result
+    (λ d is. level_read or_operands rules.prop_or or_at c.more.invariant (sym c.is_next-in-more.ensures ∙ c.more-test.false) (λ p ps e. ap AProp (sym (is p ps e))))
+    c.of.ensures
 
 pub prop_and-prop_prefix-requires : goal.prop_and-prop_prefix-requires
 prop_and-prop_prefix-requires t c = (omega arith, level_first and_operands rules.prop_and and_at c.requires)
 
+pub prop_and-returns-then-not-is_next : goal.prop_and-returns-then-not-is_next
+prop_and-returns-then-not-is_next t c =
+    level_alone and_operands rules.prop_and and_at (plain_prop_operand c.in_ok-first.first.value) (left c.prop_prefix.new.self) c.requires c.in_ok-first.ensures (sym c.is_next.ensures ∙ c.if-not-is_next.true) refl
+
 pub prop_and-more-init : goal.prop_and-more-init
 prop_and-more-init t c =
-    level_begun plain_prop_operand and_operands rules.prop_and and_at c.new-operands.result.items c.push.new.self.items c.in_ok-prop_prefix.field-0 (left c.prop_prefix.new.self) c.new-operands.ensures.items c.in_ok-push.ensures.items c.requires c.in_ok-prop_prefix.ensures
+    level_begun plain_prop_operand and_operands rules.prop_and and_at c.new-operands.result.items c.add_operand.new.operands.items c.in_ok-first.first.value (left c.prop_prefix.new.self) c.new-operands.ensures.items c.in_ok-add_operand.ensures c.requires c.in_ok-first.ensures
 
 pub prop_and-prop_prefix-requires-in-more : goal.prop_and-prop_prefix-requires-in-more
 prop_and-prop_prefix-requires-in-more t c =
-    let next = operand_next and_operands c.more.invariant (seen c.take-separator.result) (left c.take-separator.new.self) (sym c.is_next.ensures ∙ c.more-test.true) c.take-separator.ensures in
+    let next = operand_next and_operands c.more.invariant (seen c.take-separator.result) (left c.take-separator.new.self) (sym c.is_next-in-more.ensures ∙ c.more-test.true) c.take-separator.ensures in
     let shorter = next.1 in
     (omega arith, next.0)
 
 pub prop_and-more-smaller : goal.prop_and-more-smaller
 prop_and-more-smaller t c =
-    (operands_pushed plain_prop_operand and_operands c.more.operands.items c.push-in-more.new.self.items c.in_ok-prop_prefix-2.field-0 (left c.more.self) (left c.take-separator.new.self) (left c.prop_prefix-in-more.new.self) (seen c.take-separator.result) c.more.invariant (sym c.is_next.ensures ∙ c.more-test.true) c.take-separator.ensures c.in_ok-prop_prefix-2.ensures c.in_ok-push-2.ensures.items).1
+    (operands_pushed plain_prop_operand and_operands c.more.operands.items c.add_operand-in-more.new.operands.items c.in_ok-prop_prefix.field-0.value (left c.more.self) (left c.take-separator.new.self) (left c.prop_prefix-in-more.new.self) (seen c.take-separator.result) c.more.invariant (sym c.is_next-in-more.ensures ∙ c.more-test.true) c.take-separator.ensures c.in_ok-prop_prefix.ensures c.in_ok-add_operand-2.ensures).1
 
 pub prop_and-more-preserved : goal.prop_and-more-preserved
 prop_and-more-preserved t c =
-    (operands_pushed plain_prop_operand and_operands c.more.operands.items c.push-in-more.new.self.items c.in_ok-prop_prefix-2.field-0 (left c.more.self) (left c.take-separator.new.self) (left c.prop_prefix-in-more.new.self) (seen c.take-separator.result) c.more.invariant (sym c.is_next.ensures ∙ c.more-test.true) c.take-separator.ensures c.in_ok-prop_prefix-2.ensures c.in_ok-push-2.ensures.items).0
+    (operands_pushed plain_prop_operand and_operands c.more.operands.items c.add_operand-in-more.new.operands.items c.in_ok-prop_prefix.field-0.value (left c.more.self) (left c.take-separator.new.self) (left c.prop_prefix-in-more.new.self) (seen c.take-separator.result) c.more.invariant (sym c.is_next-in-more.ensures ∙ c.more-test.true) c.take-separator.ensures c.in_ok-prop_prefix.ensures c.in_ok-add_operand-2.ensures).0
 
 pub prop_and-returns : goal.prop_and-returns
 prop_and-returns t c =
-    level_read and_operands rules.prop_and and_at c.more.invariant (sym c.is_next.ensures ∙ c.more-test.false) (λ p ps e. ap AProp (sym (c.of.ensures p ps e)))
+    if_ok c.of.result
+    (λ d is. level_read and_operands rules.prop_and and_at c.more.invariant (sym c.is_next-in-more.ensures ∙ c.more-test.false) (λ p ps e. ap AProp (sym (is p ps e))))
+    c.of.ensures
 
 pub prop_implies-prop_or-requires : goal.prop_implies-prop_or-requires
 prop_implies-prop_or-requires t c =
@@ -97,18 +116,18 @@ prop_implies-prop_or-requires t c =
 
 pub prop_implies-returns-then-not-is_next : goal.prop_implies-returns-then-not-is_next
 prop_implies-returns-then-not-is_next t c =
-    premise_alone AProp Props rules.prop_implies rules.prop_or rules.prop_implied implies_at implied_at refl (λ token p. refl) c.requires (plain_prop_operand c.in_ok-premise.premise) (left c.prop_or.new.self) c.in_ok-premise.ensures _ (sym c.is_next.ensures ∙ c.if-not-is_next.true) refl
+    premise_alone AProp Props rules.prop_implies rules.prop_or rules.prop_implied implies_at implied_at refl (λ token p. refl) c.requires (plain_prop_operand c.in_ok-premise.premise.value) (left c.prop_or.new.self) c.in_ok-premise.ensures _ (sym c.is_next.ensures ∙ c.if-not-is_next.true) refl
 
 pub prop_implies-prop_implies-requires : goal.prop_implies-prop_implies-requires
 prop_implies-prop_implies-requires t c =
-    let next = conclusion_begins AProp Props rules.prop_implies rules.prop_or rules.prop_implied implies_at implied_at refl (λ token p. refl) c.requires (plain_prop_operand c.in_ok-premise.premise) (left c.prop_or.new.self) c.in_ok-premise.ensures (seen c.take-arrow.result) (left c.take-arrow.new.self) (sym c.is_next.ensures ∙ c.if-not-is_next.false) c.take-arrow.ensures in
+    let next = conclusion_begins AProp Props rules.prop_implies rules.prop_or rules.prop_implied implies_at implied_at refl (λ token p. refl) c.requires (plain_prop_operand c.in_ok-premise.premise.value) (left c.prop_or.new.self) c.in_ok-premise.ensures (seen c.take-arrow.result) (left c.take-arrow.new.self) (sym c.is_next.ensures ∙ c.if-not-is_next.false) c.take-arrow.ensures in
     let shorter = next.1 in
     (omega arith, next.0)
 
 pub prop_implies-returns : goal.prop_implies-returns
 prop_implies-returns t c =
     if_ok c.prop_implication.result
-    (λ p is. conclusion_read AProp Props rules.prop_implies rules.prop_or rules.prop_implied implies_at implied_at refl (λ token p. refl) c.requires (plain_prop_operand c.in_ok-premise.premise) (left c.prop_or.new.self) c.in_ok-premise.ensures (seen c.take-arrow.result) (left c.take-arrow.new.self) (sym c.is_next.ensures ∙ c.if-not-is_next.false) c.take-arrow.ensures (plain_prop_operand c.in_ok-conclusion.conclusion) (left c.prop_implies.new.self) (AProp (plain_prop_operand p)) c.in_ok-conclusion.ensures (ap AProp (sym is)))
+    (λ p is. conclusion_read AProp Props rules.prop_implies rules.prop_or rules.prop_implied implies_at implied_at refl (λ token p. refl) c.requires (plain_prop_operand c.in_ok-premise.premise.value) (left c.prop_or.new.self) c.in_ok-premise.ensures (seen c.take-arrow.result) (left c.take-arrow.new.self) (sym c.is_next.ensures ∙ c.if-not-is_next.false) c.take-arrow.ensures (plain_prop_operand c.in_ok-conclusion.conclusion.value) (left c.prop_implies.new.self) (AProp (plain_prop_operand p.value)) c.in_ok-conclusion.ensures (ap AProp (sym is)))
     c.prop_implication.ensures
 
 pub prop_prefix-prop_atom-requires : goal.prop_prefix-prop_atom-requires
@@ -118,7 +137,7 @@ prop_prefix-prop_atom-requires t c =
 pub prop_prefix-returns-then-not-is_next : goal.prop_prefix-returns-then-not-is_next
 prop_prefix-returns-then-not-is_next t c =
     if_ok c.prop_atom.result
-    (λ p reads. rule_passed rules.prop_prefix prop_prefix_rule prefix_at c.requires rules.prop_atom (picks_atom (left c.args.self.now) (sym c.is_next.ensures ∙ c.if-not-is_next.true)) (AProp (plain_prop_operand p)) _ (left c.prop_atom.new.self) reads refl)
+    (λ p reads. rule_passed rules.prop_prefix prop_prefix_rule prefix_at c.requires rules.prop_atom (picks_atom (left c.args.self.now) (sym c.is_next.ensures ∙ c.if-not-is_next.true)) (AProp (plain_prop_operand p.value)) _ (left c.prop_atom.new.self) reads refl)
     c.prop_atom.ensures
 
 pub prop_prefix-prop_prefix-requires : goal.prop_prefix-prop_prefix-requires
@@ -130,7 +149,7 @@ prop_prefix-prop_prefix-requires t c =
 pub prop_prefix-returns : goal.prop_prefix-returns
 prop_prefix-returns t c =
     if_ok c.prop_negation.result
-    (λ p is. prefix_read rules.prop_prefix prop_prefix_rule prefix_at c.requires classes.exclamation rules.prop_prefix (seen c.take-sign.result) (left c.take-sign.new.self) (picks_negation (left c.args.self.now) (sym c.is_next.ensures ∙ c.if-not-is_next.false)) c.take-sign.ensures (AProp (plain_prop_operand c.in_ok-negated.negated)) (AProp (plain_prop_operand p)) (left c.prop_prefix.new.self) c.in_ok-negated.ensures (ap AProp (sym is)))
+    (λ p is. prefix_read rules.prop_prefix prop_prefix_rule prefix_at c.requires classes.exclamation rules.prop_prefix (seen c.take-sign.result) (left c.take-sign.new.self) (picks_negation (left c.args.self.now) (sym c.is_next.ensures ∙ c.if-not-is_next.false)) c.take-sign.ensures (AProp (plain_prop_operand c.in_ok-negated.negated.value)) (AProp (plain_prop_operand p.value)) (left c.prop_prefix.new.self) c.in_ok-negated.ensures (ap AProp (sym is)))
     c.prop_negation.ensures
 
 pub prop_atom-take-first-requires : goal.prop_atom-take-first-requires
@@ -151,7 +170,7 @@ prop_atom-returns-then-first-ne-OPEN_PARENTHESIS t c =
     let after = left c.take-first.new.self in
     let picked = picks_call (left c.args.self.now) after first c.take-first.ensures (sym c.is_next.ensures ∙ c.if-is_next.false) (sym c.is_next-else-is_next.ensures ∙ c.if-is_next-2.false) (λ e. c.if-first-ne-OPEN_PARENTHESIS.true (c.take-first.result.of_class ∙ e)) in
     if_ok c.prop_call.result
-    (λ p is. prefix_read rules.prop_atom prop_atom_rule atom_at c.requires classes.name rules.arguments first after picked c.take-first.ensures _ (AProp (plain_prop_operand p)) (left c.arguments.new.self) c.in_ok-arguments.ensures (ap AProp (sym is)))
+    (λ p is. prefix_read rules.prop_atom prop_atom_rule atom_at c.requires classes.name rules.arguments first after picked c.take-first.ensures _ (AProp (plain_prop_operand p.value)) (left c.arguments.new.self) c.in_ok-arguments.ensures (ap AProp (sym is)))
     c.prop_call.ensures
 
 pub prop_atom-prop-requires : goal.prop_atom-prop-requires
@@ -175,9 +194,9 @@ prop_atom-returns t c =
     let first = seen c.take-first.result in
     let after = left c.take-first.new.self in
     let picked = picks_group (left c.args.self.now) after first c.take-first.ensures (sym c.take-first.result.of_class ∙ c.if-first-ne-OPEN_PARENTHESIS.false) in
-    let inside = plain_prop_operand c.in_ok-inside.inside in
+    let inside = plain_prop_operand c.in_ok-inside.inside.value in
     inside_read rules.prop_atom prop_atom_rule atom_at c.requires classes.open_parenthesis rules.prop classes.close_parenthesis first after picked c.take-first.ensures (AProp inside) (left c.prop.new.self) c.in_ok-inside.ensures (seen c.take-closing.result) (left c.take-closing.new.self) _ c.take-closing.ensures
-    (ap (λ s. AProp (record { prop = inside.prop; span = s })) (sym c.span_to.ensures))
+    (ap (λ s. AProp (record { prop = inside.prop; span = s })) (sym c.span_to.ensures) ∙ ap (λ (o : PropOperand). AProp (record { prop = plain_prop o.prop; span = c.span_to.result })) (sym c.deref_mut.ensures.value))
 
 pub arguments-returns-then-not-is_next : goal.arguments-returns-then-not-is_next
 arguments-returns-then-not-is_next t c =
@@ -192,8 +211,8 @@ arguments-prop-requires t c =
 
 pub arguments-more-init : goal.arguments-more-init
 arguments-more-init t c =
-    enclosed_begun (λ (operand : PlainPropOperand). operand.prop) argument_operands rules.arguments classes.open_parenthesis classes.close_parenthesis arguments_at c.requires (sym c.is_next.ensures ∙ c.if-not-is_next.false) (seen c.take-opening.result) (left c.take-opening.new.self) (left c.prop.new.self) (plain_prop_operand c.in_ok-prop.field-0) [] (map plain_prop c.push.new.self.items) (plain_prop c.in_ok-prop.field-0.prop) c.take-opening.ensures c.in_ok-prop.ensures refl
-    (pushed_first plain_prop c.new-props.result.items c.push.new.self.items c.in_ok-prop.field-0.prop c.new-props.ensures.items c.in_ok-push.ensures.items) refl
+    enclosed_begun (λ (operand : PlainPropOperand). operand.prop) argument_operands rules.arguments classes.open_parenthesis classes.close_parenthesis arguments_at c.requires (sym c.is_next.ensures ∙ c.if-not-is_next.false) (seen c.take-opening.result) (left c.take-opening.new.self) (left c.prop.new.self) (plain_prop_operand c.in_ok-prop.field-0.value) [] (map plain_prop c.add_argument.new.props.items) (plain_prop c.in_ok-prop.field-0.value.prop) c.take-opening.ensures c.in_ok-prop.ensures refl
+    (pushed_first plain_prop c.new-props.result.items c.add_argument.new.props.items c.in_ok-prop.field-0.value.prop c.new-props.ensures.items c.in_ok-add_argument.ensures) refl
 
 pub arguments-prop-requires-in-more : goal.arguments-prop-requires-in-more
 arguments-prop-requires-in-more t c =
@@ -203,13 +222,13 @@ arguments-prop-requires-in-more t c =
 
 pub arguments-more-smaller : goal.arguments-more-smaller
 arguments-more-smaller t c =
-    (enclosed_more (λ (operand : PlainPropOperand). operand.prop) argument_operands rules.arguments classes.open_parenthesis classes.close_parenthesis arguments_at c.requires (sym c.is_next.ensures ∙ c.if-not-is_next.false) (seen c.take-opening.result) (map plain_prop c.more.props.items) (left c.more.self) c.more.invariant (seen c.take-separator.result) (left c.take-separator.new.self) (left c.prop-in-more.new.self) (plain_prop_operand c.in_ok-prop-2.field-0) (map plain_prop c.push-in-more.new.self.items) (plain_prop c.in_ok-prop-2.field-0.prop) (sym c.is_next-in-more.ensures ∙ c.more-test.true) c.take-separator.ensures c.in_ok-prop-2.ensures
-    (pushed_more plain_prop c.more.props.items c.push-in-more.new.self.items c.in_ok-prop-2.field-0.prop c.in_ok-push-2.ensures.items) refl).1
+    (enclosed_more (λ (operand : PlainPropOperand). operand.prop) argument_operands rules.arguments classes.open_parenthesis classes.close_parenthesis arguments_at c.requires (sym c.is_next.ensures ∙ c.if-not-is_next.false) (seen c.take-opening.result) (map plain_prop c.more.props.items) (left c.more.self) c.more.invariant (seen c.take-separator.result) (left c.take-separator.new.self) (left c.prop-in-more.new.self) (plain_prop_operand c.in_ok-prop-2.field-0.value) (map plain_prop c.add_argument-in-more.new.props.items) (plain_prop c.in_ok-prop-2.field-0.value.prop) (sym c.is_next-in-more.ensures ∙ c.more-test.true) c.take-separator.ensures c.in_ok-prop-2.ensures
+    (pushed_more plain_prop c.more.props.items c.add_argument-in-more.new.props.items c.in_ok-prop-2.field-0.value.prop c.in_ok-add_argument-2.ensures) refl).1
 
 pub arguments-more-preserved : goal.arguments-more-preserved
 arguments-more-preserved t c =
-    (enclosed_more (λ (operand : PlainPropOperand). operand.prop) argument_operands rules.arguments classes.open_parenthesis classes.close_parenthesis arguments_at c.requires (sym c.is_next.ensures ∙ c.if-not-is_next.false) (seen c.take-opening.result) (map plain_prop c.more.props.items) (left c.more.self) c.more.invariant (seen c.take-separator.result) (left c.take-separator.new.self) (left c.prop-in-more.new.self) (plain_prop_operand c.in_ok-prop-2.field-0) (map plain_prop c.push-in-more.new.self.items) (plain_prop c.in_ok-prop-2.field-0.prop) (sym c.is_next-in-more.ensures ∙ c.more-test.true) c.take-separator.ensures c.in_ok-prop-2.ensures
-    (pushed_more plain_prop c.more.props.items c.push-in-more.new.self.items c.in_ok-prop-2.field-0.prop c.in_ok-push-2.ensures.items) refl).0
+    (enclosed_more (λ (operand : PlainPropOperand). operand.prop) argument_operands rules.arguments classes.open_parenthesis classes.close_parenthesis arguments_at c.requires (sym c.is_next.ensures ∙ c.if-not-is_next.false) (seen c.take-opening.result) (map plain_prop c.more.props.items) (left c.more.self) c.more.invariant (seen c.take-separator.result) (left c.take-separator.new.self) (left c.prop-in-more.new.self) (plain_prop_operand c.in_ok-prop-2.field-0.value) (map plain_prop c.add_argument-in-more.new.props.items) (plain_prop c.in_ok-prop-2.field-0.value.prop) (sym c.is_next-in-more.ensures ∙ c.more-test.true) c.take-separator.ensures c.in_ok-prop-2.ensures
+    (pushed_more plain_prop c.more.props.items c.add_argument-in-more.new.props.items c.in_ok-prop-2.field-0.value.prop c.in_ok-add_argument-2.ensures) refl).0
 
 pub arguments-take-closing-requires : goal.arguments-take-closing-requires
 arguments-take-closing-requires t c =

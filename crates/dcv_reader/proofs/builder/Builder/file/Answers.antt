@@ -1,4 +1,6 @@
-use Rattle.std.proofs.Common.{refl}
+use Rattle.std.proofs.Common.{map, ap, sym}
+use Rattle.dcv_syntax.specs.Views.{plain_formula_operand, plain_macro}
+use Rattle.dcv_reader.specs.Actions.{AFile}
 use Rattle.dcv_reader.proofs.BuilderFiles.{file_going, going_token, going_rule, going_ends, token_is_there, rule_is_there}
 use Rattle.dcv_reader.proofs.builder.Builder.file.Goals as goal
 
@@ -23,4 +25,5 @@ take-semicolon-requires c =
 pub returns : goal.returns
 returns c =
     let begun = going_rule (going_rule (file_going c.requires) c.in_ok-variables.ensures) c.in_ok-macros.ensures in
-    going_ends (going_token (going_rule (going_token begun c.take-infer.ensures) c.in_ok-goal.ensures) c.take-semicolon.ensures) refl
+    going_ends (going_token (going_rule (going_token begun c.take-infer.ensures) c.in_ok-goal.ensures) c.take-semicolon.ensures)
+    (ap (λ goal. AFile (record { variables = c.in_ok-variables.variables.items; macros = map plain_macro c.in_ok-macros.macros.items; goal = plain_formula_operand goal })) (sym c.into_inner.ensures))

@@ -10,5 +10,5 @@ use Rattle.dcv_scope.proofs.measures.Sight.+formulas.Given as goal
 abbrev pub invariant-operands-loop-operand : goal.invariant-operands-loop-operand
 invariant-operands-loop-operand l =
     let each = λ (o : FormulaOperand). linear_of_formula (linear_in_sight l.self) (plain_formula_kind o.formula.kind) in
-    (l.all ≡ capped_macro l.all)
-    × (capped_macro (all_in_turn each l.all (drop l.operand-index l.operands)) ≡ capped_macro (all_in_turn each (constant nothing) l.operands))
+    (l.all.value ≡ capped_macro l.all.value)
+    × (capped_macro (all_in_turn each l.all.value (drop l.operand-index l.operands)) ≡ capped_macro (all_in_turn each (constant nothing) l.operands))

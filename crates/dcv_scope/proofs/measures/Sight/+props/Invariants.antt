@@ -11,11 +11,11 @@ use Rattle.dcv_scope.proofs.measures.Sight.+props.Given as goal
 abbrev pub invariant-prop_operands-loop-operand : goal.invariant-prop_operands-loop-operand
 invariant-prop_operands-loop-operand l =
     let each = λ (o : PropOperand). linear_of_prop (linear_in_sight l.self) (plain_prop_kind o.prop.kind) in
-    (l.all ≡ capped_macro l.all)
-    × (capped_macro (all_in_turn each l.all (drop l.operand-index l.operands)) ≡ capped_macro (all_in_turn each (constant nothing) l.operands))
+    (l.all.value ≡ capped_macro l.all.value)
+    × (capped_macro (all_in_turn each l.all.value (drop l.operand-index l.operands)) ≡ capped_macro (all_in_turn each (constant nothing) l.operands))
 
 abbrev pub invariant-expanded-loop-place : goal.invariant-expanded-loop-place
 invariant-expanded-loop-place l =
     let arguments = map (λ (p : Prop). linear_of_prop (linear_in_sight l.self) (plain_prop_kind p.kind)) l.arguments in
-    (l.whole ≡ capped_macro l.whole)
-    × (capped_macro (linear_with_all l.whole (drop l.place l.called.shares) (drop l.place arguments)) ≡ capped_macro (linear_at l.called arguments))
+    (l.whole.value ≡ capped_macro l.whole.value)
+    × (capped_macro (linear_with_all l.whole.value (drop l.place l.called.shares) (drop l.place arguments)) ≡ capped_macro (linear_at l.called arguments))

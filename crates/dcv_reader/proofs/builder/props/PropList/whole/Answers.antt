@@ -2,7 +2,7 @@ use Rattle.std.proofs.Common.{ap, ◌∙◌}
 use Rattle.dcv_reader.specs.Nodes.{bare_prop}
 use Rattle.dcv_reader.specs.PropLists.{prop_list_kind}
 use Rattle.dcv_reader.proofs.BuilderProps.{only_prop, listed_props}
-use Rattle.dcv_reader.proofs.builder.props.PropList.of.Goals as goal
+use Rattle.dcv_reader.proofs.builder.props.PropList.whole.Goals as goal
 
 pub returns : goal.returns
 returns c = λ p ps e.
