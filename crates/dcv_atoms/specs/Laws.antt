@@ -10,6 +10,7 @@ use Rattle.dcv_language.specs.Language.{HaveSameBehaviours}
 use Rattle.dcv_language.specs.MachineLaws.{AcceptsWordsOf}
 use Rattle.dcv_atoms.specs.AtomRows.{atom_machine}
 use Rattle.dcv_atoms.specs.Steps.{IsAtom}
+use Rattle.dcv_atoms.specs.declared.states.AtomMacro.{AtomMacro}
 
 -- a form's machine accepts the words of the form's set
 abbrev pub MachineAcceptsForm : Type 0
@@ -30,3 +31,7 @@ abbrev pub StepIsAtom : Type 0
 StepIsAtom = (made : PlainCore) (k : ℕ) (core : CoreTree) (n : ℕ) (step : PlainStep) (basic : PlainBasic)
     → made.steps ≡ map without_core (steps_of k core) → slice_get (steps_of k core) n ≡ Some step → step.op ≡ OpAtom basic
     → IsAtom made n basic step.slots
+
+-- what a state of a form's machine is kept as finds the state again, so the explored states are as many as the machine's
+abbrev pub FindsAgain : {State : Type 0} → (State → AtomMacro) → (AtomMacro → State) → Type 0
+FindsAgain {State} kept found = (state : State) → found (kept state) ≡ state

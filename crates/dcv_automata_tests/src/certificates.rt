@@ -3,6 +3,8 @@ ghost use Rattle.std.specs.Prelude.{◌<◌, length};
 
 use crate::examples::{EACH_LETTER, FEWER_THAN_THREE, LAST_LETTER, ODD_DIFFERENCES, ONE_LETTER};
 use crate::minimal::{auto_of, chain};
+use crate::shown::{letters, table};
+use crate::slow::ends;
 use crate::tables::raw_of;
 use dcv_dfa::Auto;
 use dcv_minimise::minimise;
@@ -12,7 +14,7 @@ use std::alloc::Global;
 use std::test::Fail;
 
 // Whether every two states are told apart, and each suffix tells two apart that no earlier one does.
-fn tells_all(alloc: Global, auto: &Auto, suffixes: &[Suffix]) -> Result<bool, Fail> {
+pub(crate) fn tells_all(alloc: Global, auto: &Auto, suffixes: &[Suffix]) -> Result<bool, Fail> {
     let accepted = accepted(alloc, auto, suffixes)?;
     let mut is_first = vec![in alloc; false; suffixes.len()]?;
     for second in 0..auto.states() {
@@ -80,6 +82,55 @@ fn is_accepted(
     };
     let accepted = from.get(next as usize).copied();
     Ok(accepted.ok_or("there is no such state")?)
+}
+
+// Whether each state's access word is the least that leads to it, and that of a start that no word leads to is empty, by the places of
+// words among all words of at most five letters, in order.
+pub(crate) fn are_least(alloc: Global, auto: &Auto, access: &[Access]) -> Result<bool, Fail> {
+    let ends = ends(alloc, &table(alloc, auto)?, 0, 5)?;
+    let places = places(alloc, auto.slots(), access)?;
+    Ok(
+        places.iter().enumerate().all(|(state, place)| {
+            let mut behaviours = ends.iter().enumerate().skip(1);
+            let least = behaviours.find(|(_, end)| **end as usize == state);
+            *place == least.map_or(0, |(place, _)| place)
+        }),
+    )
+}
+
+// The places of the access words. That of state 0 is found last, since it may go on from any other.
+fn places(alloc: Global, slots: u8, access: &[Access]) -> Result<Vec<usize>, Fail> {
+    let letters = letters(alloc, slots)?;
+    let mut places = vec![in alloc; 0]?;
+    for word in access.iter().skip(1) {
+        places.push(place_of(&letters, &places, word)?)?;
+    }
+    let first = access.first().ok_or("there is no state")?;
+    let start = place_of(&letters, &places, first)?;
+    if let Some(place) = places.first_mut() {
+        *place = start;
+    }
+    Ok(places)
+}
+
+// The place of an access word, by those of others.
+fn place_of(letters: &[Letter], places: &[usize], word: &Access) -> Result<usize, Fail> {
+    let (before, last) = match word {
+        Access::Empty => return Ok(0),
+        Access::Start(letter) => (0, letter),
+        Access::After(state, letter) => {
+            let before = places.get(*state as usize).copied();
+            (before.ok_or("a word goes on from a later one")?, letter)
+        }
+    };
+    let number = letters.iter().position(|letter| letter == last);
+    let number = number.ok_or("a letter has another width")?;
+    Ok(
+        before
+            .saturating_mul(letters.len())
+            .saturating_add(number)
+            .saturating_add(1),
+    )
 }
 
 // One state accepts everything: there are no two to tell apart.

@@ -1,8 +1,12 @@
-// Each table of two states over one slot, and drawn tables over two slots, against the slow quotient.
+// Each table of two states over one slot, and drawn tables over two slots: the minimal automaton against the slow quotient, and the
+// words that show that it is minimal against words gone through one after another.
 ghost use Rattle.std.specs.Prelude.{◌<◌};
 
+use crate::certificates::{are_least, tells_all};
 use crate::minimal::minimal_text;
-use crate::tables::State;
+use crate::tables::{State, raw_of};
+use dcv_minimise::minimise;
+use dcv_shortest::separate;
 use std::alloc::Global;
 use std::test::Fail;
 
@@ -53,11 +57,25 @@ fn table_of_bits(alloc: Global, bits: u32) -> Result<Vec<State>, Fail> {
     Ok(states)
 }
 
+// Judges what is made of a table of at most five states.
+fn judge(alloc: Global, slots: u8, states: &[State], start: u32) -> Result<(), Fail> {
+    let text = minimal_text(alloc, slots, states, start)?;
+    let auto = minimise(alloc, raw_of(alloc, slots, states, start)?)?;
+    let proof = separate(alloc, &auto)?;
+    if !are_least(alloc, &auto, proof.access())? {
+        return Err(Fail::new(format_args!("of {text} an access word is not the least")));
+    }
+    if !tells_all(alloc, &auto, proof.suffixes())? {
+        return Err(Fail::new(format_args!("of {text} two states are not told apart")));
+    }
+    Ok(())
+}
+
 #[test]
 fn two_states(rt: HostRuntime) -> Result<(), Fail> {
     let alloc = rt.alloc();
     for bits in 0..64 {
-        minimal_text(alloc, 1, &table_of_bits(alloc, bits)?, 0)?;
+        judge(alloc, 1, &table_of_bits(alloc, bits)?, 0)?;
     }
     Ok(())
 }
@@ -69,7 +87,7 @@ fn drawn_tables(rt: HostRuntime) -> Result<(), Fail> {
     for _ in 0..500 {
         let count = draws.below(5) + 1;
         let states = draws.table(alloc, count)?;
-        minimal_text(alloc, 2, &states, draws.below(count))?;
+        judge(alloc, 2, &states, draws.below(count))?;
     }
     Ok(())
 }

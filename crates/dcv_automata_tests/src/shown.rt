@@ -32,7 +32,7 @@ pub(crate) fn text_of_auto(alloc: Global, auto: &Auto) -> Result<String, Fail> {
 }
 
 // Its states.
-fn table(alloc: Global, auto: &Auto) -> Result<Vec<State>, Fail> {
+pub(crate) fn table(alloc: Global, auto: &Auto) -> Result<Vec<State>, Fail> {
     let letters = letters(alloc, auto.slots())?;
     let mut states = Vec::new(alloc);
     for number in 0..auto.states() {

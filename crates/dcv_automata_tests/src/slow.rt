@@ -101,7 +101,12 @@ fn accepts(states: &[State], state: u32) -> bool {
 }
 
 // The states to which words of at most so many letters lead, in the order of the words.
-fn ends(alloc: Global, states: &[State], from: u32, letters: u32) -> Result<Vec<u32>, Fail> {
+pub(crate) fn ends(
+    alloc: Global,
+    states: &[State],
+    from: u32,
+    letters: u32,
+) -> Result<Vec<u32>, Fail> {
     let mut last = vec![in alloc; from]?;
     let mut all = vec![in alloc; from]?;
     for _ in 0..letters {

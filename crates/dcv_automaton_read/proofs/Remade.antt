@@ -16,8 +16,8 @@ use Rattle.dcv_automaton_lines.specs.declared.lines.Lines.{Lines}
 use Rattle.dcv_automaton_lines.specs.Seen.{file_of, target_of, node_line_of, state_line_of, access_line_of, suffix_line_of, access_of, suffix_of}
 use Rattle.dcv_automaton_read.specs.declared.nodes.Node.{Node}
 use Rattle.dcv_automaton_read.specs.declared.file.Row.{Row}
-use Rattle.dcv_automaton_read.specs.declared.file.Access.{Access as ReadAccess}
-use Rattle.dcv_automaton_read.specs.declared.file.Suffix.{Suffix as ReadSuffix}
+use Rattle.dcv_language.specs.declared.certificate.Access.{Access as ReadAccess}
+use Rattle.dcv_language.specs.declared.certificate.Suffix.{Suffix as ReadSuffix}
 use Rattle.dcv_automaton_read.specs.File.{target_from, access_from, suffix_from, node_line, state_line, access_line, suffix_line, file_from, row_of, IsNarrow, IsNarrowSuffix, IsRead}
 use Rattle.dcv_automaton_read.specs.Parts.{judged_lines}
 use Rattle.dcv_automaton_read.specs.Seen.{child_of, node_of, AreNodesOf}

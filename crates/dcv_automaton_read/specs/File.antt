@@ -18,10 +18,10 @@ use Rattle.dcv_automaton_read.specs.declared.nodes.Child.{Child}
 use Rattle.dcv_automaton_read.specs.declared.nodes.Child.TheVariants.{State, Node as AtNode}
 use Rattle.dcv_automaton_read.specs.declared.nodes.Node.{Node}
 use Rattle.dcv_automaton_read.specs.declared.file.Row.{Row}
-use Rattle.dcv_automaton_read.specs.declared.file.Access.{Access as ReadAccess}
-use Rattle.dcv_automaton_read.specs.declared.file.Access.TheVariants.{Empty as NoLetter, Start, After}
-use Rattle.dcv_automaton_read.specs.declared.file.Suffix.{Suffix as ReadSuffix}
-use Rattle.dcv_automaton_read.specs.declared.file.Suffix.TheVariants.{Empty, Then}
+use Rattle.dcv_language.specs.declared.certificate.Access.{Access as ReadAccess}
+use Rattle.dcv_language.specs.declared.certificate.Access.TheVariants.{Empty as NoLetter, Start, After}
+use Rattle.dcv_language.specs.declared.certificate.Suffix.{Suffix as ReadSuffix}
+use Rattle.dcv_language.specs.declared.certificate.Suffix.TheVariants.{Empty, Then}
 
 abbrev pub target_from : Child → Target
 target_from (State number) = ToState number

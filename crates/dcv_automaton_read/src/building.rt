@@ -6,10 +6,11 @@ ghost use Rattle.dcv_automaton_lines.specs.Seen.{file_of, access_of, suffix_of};
 ghost use Rattle.dcv_automaton_read.specs.Seen.{texts_of, AreNodesOf};
 ghost use Rattle.dcv_automaton_read.specs.File.{access_from, suffix_from, row_of, IsNarrow, IsNarrowSuffix};
 
-use crate::file::{Access, AutoFile, Row, Suffix};
+use crate::file::{AutoFile, Row};
 use crate::letters::letter_of;
 use crate::nodes::{Node, child_of};
 use dcv_automaton_lines::{AccessLine, AccessWord, Lines, StateLine, SuffixLine, SuffixWord};
+use dcv_language::{Access, Suffix};
 use dcv_syntax::Text;
 use indexmap::IndexSet;
 use std::alloc::{AllocError, Global};

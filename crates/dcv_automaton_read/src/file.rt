@@ -7,6 +7,7 @@ ghost use Rattle.dcv_automaton_read.specs.File.{file_from, IsRead, access_from, 
 
 use crate::nodes::{Child, Node};
 use crate::walk::leaf;
+use dcv_language::{Access, Suffix};
 use dcv_syntax::Text;
 use dcv_word::Letter;
 use dcv_word::laws::letters_of_width_are_all;
@@ -18,24 +19,6 @@ use std::marker::Model;
 pub struct Row {
     pub accepting: bool,
     pub next: Child,
-}
-
-/// How the access word of a state is spelled.
-#[derive(Clone, Copy, Debug, PartialEq, Eq)]
-pub enum Access {
-    Empty,
-    /// A word of this letter alone.
-    Start(Letter),
-    /// The access word of this state, and then the letter.
-    After(u32, Letter),
-}
-
-/// How a suffix is spelled.
-#[derive(Clone, Copy, Debug, PartialEq, Eq)]
-pub enum Suffix {
-    Empty,
-    /// The letter, and then the suffix with this number.
-    Then(Letter, u32),
 }
 
 /// What the text of an automaton says, where it keeps the table rules. It is seen as the plain data of the text.

@@ -14,7 +14,8 @@ mod rules;
 mod walk;
 mod words;
 
+pub use dcv_language::{Access, Suffix};
 pub use faults::AutoFault;
-pub use file::{Access, AutoFile, Row, Suffix};
+pub use file::{AutoFile, Row};
 pub use nodes::{Child, Node};
 pub use reading::automaton_read;

@@ -31,35 +31,35 @@ use Rattle.dcv_build.proofs.SameRows.{table_at}
 
 -- ---- what the machines accept of operands that accept the behaviours of given sets
 
-and_sets : (slots : ℕ) → JoinsSets (and_machine slots) intersection
+pub and_sets : (slots : ℕ) → JoinsSets (and_machine slots) intersection
 and_sets slots k first second L M one two =
     of_set (and_machine slots first second).automaton k (intersection (accepts first) (accepts second)) (intersection L M) (and_accepts slots first second)
     (intersection_same k (accepts first) L (accepts second) M one two)
 
-or_sets : (slots : ℕ) → JoinsSets (or_machine slots) union
+pub or_sets : (slots : ℕ) → JoinsSets (or_machine slots) union
 or_sets slots k first second L M one two =
     of_set (or_machine slots first second).automaton k (union (accepts first) (accepts second)) (union L M) (or_accepts slots first second)
     (union_same k (accepts first) L (accepts second) M one two)
 
-iff_sets : (slots : ℕ) → JoinsSets (iff_machine slots) agreement
+pub iff_sets : (slots : ℕ) → JoinsSets (iff_machine slots) agreement
 iff_sets slots k first second L M one two =
     of_set (iff_machine slots first second).automaton k (agreement (accepts first) (accepts second)) (agreement L M) (iff_accepts slots first second)
     (agreement_same k (accepts first) L (accepts second) M one two)
 
-chop_sets : (slots : ℕ) → JoinsSets (chop_machine slots) chop
+pub chop_sets : (slots : ℕ) → JoinsSets (chop_machine slots) chop
 chop_sets slots k first second L M one two =
     of_set (chop_machine slots first second).automaton k (chop (accepts first) (accepts second)) (chop L M) (chop_accepts slots first second)
     (chop_same k (accepts first) L (accepts second) M one two)
 
-not_set : (slots : ℕ) (operand : Automaton ℕ) (L : Language) → HaveSameBehaviours slots (accepts operand) L → HaveSameBehaviours slots (accepts (not_machine slots operand).automaton) (outside L)
+pub not_set : (slots : ℕ) (operand : Automaton ℕ) (L : Language) → HaveSameBehaviours slots (accepts operand) L → HaveSameBehaviours slots (accepts (not_machine slots operand).automaton) (outside L)
 not_set slots operand L same =
     of_set (not_machine slots operand).automaton slots (outside (accepts operand)) (outside L) (not_accepts slots operand) (outside_same slots (accepts operand) L same)
 
-star_set : (slots : ℕ) (operand : Automaton ℕ) (L : Language) → HaveSameBehaviours slots (accepts operand) L → HaveSameBehaviours slots (accepts (star_machine slots operand).automaton) (star L)
+pub star_set : (slots : ℕ) (operand : Automaton ℕ) (L : Language) → HaveSameBehaviours slots (accepts operand) L → HaveSameBehaviours slots (accepts (star_machine slots operand).automaton) (star L)
 star_set slots operand L same =
     of_set (star_machine slots operand).automaton slots (star (accepts operand)) (star L) (star_accepts slots operand) (star_same slots (accepts operand) L same)
 
-exists_set : (slots : ℕ) (operand : Automaton ℕ) (L : Language) → HaveSameBehaviours (suc slots) (accepts operand) L
+pub exists_set : (slots : ℕ) (operand : Automaton ℕ) (L : Language) → HaveSameBehaviours (suc slots) (accepts operand) L
     → HaveSameBehaviours slots (accepts (exists_machine slots operand).automaton) (projection L)
 exists_set slots operand L same =
     of_set (exists_machine slots operand).automaton slots (projection (accepts operand)) (projection L) (exists_accepts slots operand) (projection_same slots (accepts operand) L same)

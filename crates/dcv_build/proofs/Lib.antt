@@ -9,4 +9,5 @@ mod PostOrder
 mod Progress
 mod SameRows
 mod Settled
+mod StepMachines
 mod Waiting

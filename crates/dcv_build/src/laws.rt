@@ -1,6 +1,7 @@
-//! Laws of the budget. Each function here does nothing: its contract is the law.
-ghost use Rattle.dcv_build.specs.Laws.{OneStepIsOver, WithinExcludesOver};
+//! Laws of the budget, and of the machines that are explored. Each function here does nothing: its contract is the law.
+ghost use Rattle.dcv_build.specs.Laws.{MachineAcceptsStep, OneStepIsOver, WithinExcludesOver};
 
+use dcv_atoms::laws::machines_accept_steps as atoms_accept_steps;
 use dcv_core::laws::steps_are_operations;
 use dcv_language::laws::one_canonical_table;
 
@@ -11,4 +12,13 @@ pub fn one_step_is_over()
 {
     one_canonical_table();
     steps_are_operations();
+}
+
+/// The machine that is explored for a step accepts exactly the step's words: that of a form in the logic, and of `!`, `&&`, `||`,
+/// `<=>`, `^`, `*` and `ex` over the canonical automata of the operands.
+pub fn machines_accept_steps()
+    ensures { MachineAcceptsStep }
+{
+    steps_are_operations();
+    atoms_accept_steps();
 }

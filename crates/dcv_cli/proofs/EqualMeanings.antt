@@ -76,9 +76,6 @@ says_of_same move (Check name limits) k L M names v text same says = says
 says_of_same move (Automaton name limits) k L M names v text same says =
     record { automaton = says.automaton; is = move k L M names says.automaton same says.is; says = says.says }
 
-answer_is_no_budget : (status : Status) → IsTrue (is_answer status) → status ≢ StatusBudget
-answer_is_no_budget status answers is = true≢false (sym (subst (λ (s : Status). IsTrue (is_answer s)) is answers))
-
 module _ (one_tree : SpellsOne) (one_verdict : OneVerdict) (move_verdict : VerdictOfSameBehaviours) (one_automaton : OneAutomaton) (move : AutomatonOfSameBehaviours) where
   pub equal_meanings : EqualMeanings
   equal_meanings request other held other_held file other_file one another ask mean answer other_answer =
@@ -98,5 +95,4 @@ module _ (one_tree : SpellsOne) (one_verdict : OneVerdict) (move_verdict : Verdi
         report =
             same_texts one_automaton request other ask (length file.variables) (models other_file) (texts_of file.variables) r.verdict s.verdict one.out another.out same says other_says;
         message = λ taken within. r.no_message ∙ sym s.no_message;
-        step = λ budget. absurd (answer_is_no_budget one.status answer.answers budget);
       }

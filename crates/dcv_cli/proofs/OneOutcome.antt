@@ -1,5 +1,5 @@
 -- One outcome at most is right.
-use Rattle.std.proofs.Common.{◌≡◌, ◌≢◌, ◌⊎◌, inl, inr, ℕ, ◌<◌, Bool, true, false, List, length, Option, None, Some, sym, ap, ◌∙◌, subst, arith}
+use Rattle.std.proofs.Common.{◌≡◌, ◌≢◌, ◌⊎◌, inl, inr, refl, ℕ, ◌<◌, Bool, true, false, List, length, Option, None, Some, sym, ap, ◌∙◌, subst, arith}
 use Rattle.std.specs.Prelude.{IsSomeAnd, is_none, slice_get, if◌then◌else◌}
 use Rattle.std.specs.Option.{option_map}
 use Rattle.dcv_syntax.specs.Plain.{PlainFile}
@@ -18,32 +18,35 @@ use Rattle.dcv_scope.specs.Faults.{fault_of_file}
 use Rattle.dcv_scope.specs.declared.faults.ScopeFault.{ScopeFault}
 use Rattle.dcv_scope.specs.declared.faults.ScopeFault.TheVariants.{TooMany, Duplicate, Taken, Unknown, Kind, Arity, Size, Depth, Slots, Memory as ScopeMemory}
 use Rattle.dcv_explore.specs.declared.explorer.Limits.{Limits}
+use Rattle.dcv_explore.specs.Budget.{Kind as KindOfExcess, TooManyStates, TooManyNodes}
+use Rattle.dcv_build.specs.Budget.{IsOver}
 use Rattle.dcv_build.specs.Laws.{OneStepIsOver, WithinExcludesOver}
+use Rattle.dcv_cli.specs.declared.over.Excess.{Excess}
+use Rattle.dcv_cli.specs.declared.over.Excess.TheVariants.{States, Nodes}
 use Rattle.dcv_cli.specs.declared.over.Over.{Over}
 use Rattle.dcv_cli.specs.declared.refusal.Refusal.{Refusal}
 use Rattle.dcv_cli.specs.declared.refusal.Refusal.TheVariants.{Budget}
 use Rattle.dcv_cli.specs.declared.status.Status.TheVariants.{Valid, NotValid, Usage, Formula, Budget as StatusBudget, Memory as OutOfMemory}
-use Rattle.dcv_cli.specs.Budget.{steps_of_file, kind_of, IsFirstOver, IsBudgeted, OverBudget, WithinBudget}
+use Rattle.dcv_cli.specs.Budget.{steps_of_file, kind_of, limit_of, IsFirstOver, IsBudgeted, OverBudget, WithinBudget}
 use Rattle.dcv_print.specs.Automaton.{DifferInSuffixes}
 use Rattle.dcv_print.specs.Laws.{OneAutomaton}
 use Rattle.dcv_cli.specs.Report.{Says, IsReport}
 use Rattle.dcv_cli.specs.FormulaFile.{IsRefused, TooLong, Faulty, HasNoCore, IsSentence, IsFormulaFile, OnText, Refused, Read}
-use Rattle.dcv_cli.specs.Laws.{OneOutcome}
+use Rattle.dcv_cli.specs.Laws.{NameOneStep, OneOutcome}
 use Rattle.dcv_cli.specs.Outcome.{Outcome, refused, Agrees}
-use Rattle.dcv_cli.specs.Refusal.{most_bytes, Which, Only, status_of, refusal_of_reading, refusal_of_scope}
+use Rattle.dcv_cli.specs.Refusal.{most_bytes, Which, Only, message_of, status_of, refusal_of_reading, refusal_of_scope}
 use Rattle.dcv_command.specs.Request.{Request, Check, Automaton, file_in, limits_in}
 use Rattle.dcv_cli.specs.Request.{AsksFor}
 use Rattle.dcv_print.specs.Printed.{texts_of}
 use Rattle.dcv_cli.specs.Right.{Fulfils, Misused, Fulfilled}
 use Rattle.dcv_cli.specs.Status.{status_of_verdict}
 
--- outcomes that are the same agree, where they are of no step over the limits
-same_agrees : (one other : Outcome) → one ≡ other → one.status ≢ StatusBudget → Agrees one other
-same_agrees one other e within = record {
+-- outcomes that are the same agree
+same_agrees : (one other : Outcome) → one ≡ other → Agrees one other
+same_agrees one other e = record {
   status = ap (λ (o : Outcome). o.status) e;
   report = inl (ap (λ (o : Outcome). o.out) e);
   message = λ taken within. ap (λ (o : Outcome). o.err) e;
-  step = λ over. absurd (within over);
 }
 
 -- ---- statuses that are not that of a step over the limits
@@ -136,7 +139,6 @@ module _ (one_tree : SpellsOne) (one_fault : FaultIsUnique) (one_verdict : OneVe
       → (a b : Outcome) → OnText text which RightFor a → OnText text which RightFor b → Agrees a b
   one_on_text text which RightFor one a b (Refused r is e) (Refused s is' e') =
       same_agrees a b (e ∙ ap (λ r. refused r which) (one_refusal text r s is is') ∙ sym e')
-      (λ over. refused_is_formula text r is (sym (ap (λ (o : Outcome). o.status) e) ∙ over))
   one_on_text text which RightFor one a b (Refused r is e) (Read file is' right) = absurd (refused_or_read text r file is is')
   one_on_text text which RightFor one a b (Read file is right) (Refused s is' e') = absurd (refused_or_read text s file is' is)
   one_on_text text which RightFor one a b (Read f is right) (Read g is' right') =
@@ -149,26 +151,86 @@ module _ (one_tree : SpellsOne) (one_fault : FaultIsUnique) (one_verdict : OneVe
   one_on_file (Some text) which RightFor one a b p q = one_on_text text which RightFor one a b p q
 
   -- one step is the first over the limits, and its part of the text begins at one place
-  one_over : (limits : Limits) (file : PlainFile) (a b : Outcome) (over another : Over) → IsFirstOver limits file over → IsFirstOver limits file another
-      → a ≡ refused (Budget over) Only → b ≡ refused (Budget another) Only → Agrees a b
-  one_over limits file a b over another is is' e e' =
-      let same : over.step ≡ another.step =
-      one_step (length file.variables) (core_of_file file) limits (kind_of over.excess) (kind_of another.excess) over.step another.step is.is_over is'.is_over in
+  one_first : (limits : Limits) (file : PlainFile) (over another : Over) → IsFirstOver limits file over → IsFirstOver limits file another → over.step ≡ another.step
+  one_first limits file over another is is' =
+      one_step (length file.variables) (core_of_file file) limits (kind_of over.excess) (kind_of another.excess) over.step another.step is.is_over is'.is_over
+
+  -- what there is too much of decides what is said of it
+  one_excess : (limits : Limits) (file : PlainFile) (over another : Over) → IsFirstOver limits file over → IsFirstOver limits file another
+      → over.excess ≡ another.excess → over ≡ another
+  one_excess limits file over another is is' excess =
+      let step : over.step ≡ another.step = one_first limits file over another is is' in
+      let limit : over.limit ≡ another.limit = is.limit ∙ ap (λ (e : Excess). limit_of e limits) excess ∙ sym is'.limit in
       let places : Some over.at ≡ Some another.at =
-      sym is.begins ∙ ap (λ number. option_map (λ (step : PlainStep). step.span.start) (slice_get (steps_of_file file) number)) same ∙ is'.begins in
+      sym is.begins ∙ ap (λ number. option_map (λ (step : PlainStep). step.span.start) (slice_get (steps_of_file file) number)) step ∙ is'.begins in
+      let place = one_some over.at another.at places in
+      λ i. record { excess = excess i; limit = limit i; at = place i; step = step i }
+
+  -- and of two things of which there is too much, both kinds are
+  both_over : (limits : Limits) (file : PlainFile) (over another : Over) → IsFirstOver limits file over → IsFirstOver limits file another
+      → over.excess ≢ another.excess → (kind : KindOfExcess) → IsOver (steps_of_file file) limits kind over.step
+  both_over limits file over another is is' differ kind = by over.excess another.excess kind is.is_over
+      (subst (λ step. IsOver (steps_of_file file) limits (kind_of another.excess) step) (sym (one_first limits file over another is is')) is'.is_over) differ
+    where
+      by : (one other : Excess) (kind : KindOfExcess) → IsOver (steps_of_file file) limits (kind_of one) over.step → IsOver (steps_of_file file) limits (kind_of other) over.step
+          → one ≢ other → IsOver (steps_of_file file) limits kind over.step
+      by States States kind p q differ = absurd (differ refl)
+      by Nodes Nodes kind p q differ = absurd (differ refl)
+      by States Nodes TooManyStates p q differ = p
+      by States Nodes TooManyNodes p q differ = q
+      by Nodes States TooManyStates p q differ = q
+      by Nodes States TooManyNodes p q differ = p
+
+  -- a right outcome with the status of a step over the limits names it
+  record Names (request : Request) (text : List ℕ) (outcome : Outcome) : Type 0 where
+    file : PlainFile
+    formula : IsFormulaFile text file
+    over : Over
+    is : IsFirstOver (limits_in request) file over
+    says : outcome.err ≡ message_of (Budget over)
+
+  named : (request : Request) (text : List ℕ) (outcome : Outcome) → OnText text Only (IsBudgeted (limits_in request) (IsReport request)) outcome
+      → outcome.status ≡ StatusBudget → Names request text outcome
+  named request text outcome (Refused refusal is e) budget =
+      absurd (refused_is_formula text refusal is (sym (ap (λ (o : Outcome). o.status) e) ∙ budget))
+  named request text outcome (Read file is (WithinBudget within report)) budget = absurd (answer_is_no_refusal report.verdict (sym report.status ∙ budget))
+  named request text outcome (Read file is (OverBudget over first e)) budget =
+      record { file = file; formula = is; over = over; is = first; says = ap (λ (o : Outcome). o.err) e }
+
+  two_names : (words : List (List ℕ)) (held : List ℕ → Option (List ℕ)) (request : Request) (text : List ℕ) (a b : Outcome) → AsksFor words request
+      → held (file_in request) ≡ Some text → Names request text a → Names request text b → NameOneStep words held a.err b.err
+  two_names words held request text a b asks there one other =
+      let second = subst (λ (file : PlainFile). IsFirstOver (limits_in request) file other.over) (one_file text other.file one.file other.formula one.formula) other.is in
       record {
-        status = ap (λ (o : Outcome). o.status) e ∙ sym (ap (λ (o : Outcome). o.status) e');
-        report = inl (ap (λ (o : Outcome). o.out) e ∙ sym (ap (λ (o : Outcome). o.out) e'));
-        message = λ taken within. absurd (within (ap (λ (o : Outcome). o.status) e));
-        step = λ budget. record {
-          first = over;
-          second = another;
-          one_is = ap (λ (o : Outcome). o.err) e;
-          other_is = ap (λ (o : Outcome). o.err) e';
-          step = same;
-          place = one_some over.at another.at places;
-        };
+        asks = record { request = request; asked = asks; text = text; there = there; file = one.file; formula = one.formula };
+        first = one.over;
+        second = other.over;
+        first_is = one.is;
+        second_is = second;
+        one_is = one.says;
+        other_is = other.says;
+        step = one_first (limits_in request) one.file one.over other.over one.is second;
+        same = one_excess (limits_in request) one.file one.over other.over one.is second;
+        both = both_over (limits_in request) one.file one.over other.over one.is second;
       }
+
+  one_step_named : (words : List (List ℕ)) (held : List ℕ → Option (List ℕ)) (request : Request) (a b : Outcome) → AsksFor words request
+      → Fulfils request held a → Fulfils request held b → a.status ≡ StatusBudget → b.status ≡ StatusBudget → NameOneStep words held a.err b.err
+  one_step_named words held request a b asks p q over over' = by (held (file_in request)) refl p q
+    where
+      by : (found : Option (List ℕ)) → held (file_in request) ≡ found
+          → IsSomeAnd found (λ text. OnText text Only (IsBudgeted (limits_in request) (IsReport request)) a)
+          → IsSomeAnd found (λ text. OnText text Only (IsBudgeted (limits_in request) (IsReport request)) b) → NameOneStep words held a.err b.err
+      by None there p q = absurd p
+      by (Some text) there p q = two_names words held request text a b asks there (named request text a p over) (named request text b q over')
+
+  -- two messages of one step agree but for the message
+  one_over : (limits : Limits) (file : PlainFile) (a b : Outcome) (over another : Over) → a ≡ refused (Budget over) Only → b ≡ refused (Budget another) Only → Agrees a b
+  one_over limits file a b over another e e' = record {
+    status = ap (λ (o : Outcome). o.status) e ∙ sym (ap (λ (o : Outcome). o.status) e');
+    report = inl (ap (λ (o : Outcome). o.out) e ∙ sym (ap (λ (o : Outcome). o.out) e'));
+    message = λ taken within. absurd (within (ap (λ (o : Outcome). o.status) e));
+  }
 
   -- one text is what is asked for, but for the suffixes of an automaton
   one_text : (request : Request) (k : ℕ) (L : Language) (names : List (List ℕ)) (v u : Verdict) (one other : List ℕ) → v ≡ u
@@ -189,13 +251,12 @@ module _ (one_tree : SpellsOne) (one_fault : FaultIsUnique) (one_verdict : OneVe
         status = r.status ∙ ap status_of_verdict same ∙ sym s.status;
         report = one_text request (length file.variables) (models file) (texts_of file.variables) r.verdict s.verdict a.out b.out same r.says s.says;
         message = λ taken within. r.no_message ∙ sym s.no_message;
-        step = λ budget. absurd (answer_is_no_refusal r.verdict (sym r.status ∙ budget));
       }
 
   one_budgeted : (limits : Limits) (RightFor : PlainFile → Outcome → Type 0)
       → ((file : PlainFile) (a b : Outcome) → RightFor file a → RightFor file b → Agrees a b)
       → (file : PlainFile) (a b : Outcome) → IsBudgeted limits RightFor file a → IsBudgeted limits RightFor file b → Agrees a b
-  one_budgeted limits RightFor one file a b (OverBudget over is e) (OverBudget another is' e') = one_over limits file a b over another is is' e e'
+  one_budgeted limits RightFor one file a b (OverBudget over is e) (OverBudget another is' e') = one_over limits file a b over another e e'
   one_budgeted limits RightFor one file a b (OverBudget over is e) (WithinBudget within right) =
       absurd (none_over (length file.variables) (core_of_file file) limits (kind_of over.excess) over.step within is.is_over)
   one_budgeted limits RightFor one file a b (WithinBudget within right) (OverBudget over is e) =
@@ -214,11 +275,24 @@ module _ (one_tree : SpellsOne) (one_fault : FaultIsUnique) (one_verdict : OneVe
       some_same : (r s : Request) → Some r ≡ Some s → r ≡ s
       some_same r s e = cc
 
-  pub one_outcome : OneOutcome
-  one_outcome words held one other (Misused not s o) (Misused not' s' o') =
-      record { status = s ∙ sym s'; report = inl (o ∙ sym o'); message = λ told within. absurd (told s); step = λ budget. absurd (no_usage_budget (sym s ∙ budget)) }
-  one_outcome words held one other (Misused not s o) (Fulfilled request asked right) = absurd (not asked.taken)
-  one_outcome words held one other (Fulfilled request asked right) (Misused not s o) = absurd (not asked.taken)
-  one_outcome words held one other (Fulfilled r asked right) (Fulfilled s asked' right') =
+  one_right : (words : List (List ℕ)) (held : List ℕ → Option (List ℕ)) (one other : Outcome) → IsRight words held one → IsRight words held other → Agrees one other
+  one_right words held one other (Misused not s o) (Misused not' s' o') =
+      record { status = s ∙ sym s'; report = inl (o ∙ sym o'); message = λ told within. absurd (told s) }
+  one_right words held one other (Misused not s o) (Fulfilled request asked right) = absurd (not asked.taken)
+  one_right words held one other (Fulfilled request asked right) (Misused not s o) = absurd (not asked.taken)
+  one_right words held one other (Fulfilled r asked right) (Fulfilled s asked' right') =
       one_fulfilled r held one other right
       (subst (λ (request : Request). Fulfils request held other) (one_request words s r asked' asked) right')
+
+  right_names_one : (words : List (List ℕ)) (held : List ℕ → Option (List ℕ)) (one other : Outcome) → IsRight words held one → IsRight words held other
+      → one.status ≡ StatusBudget → other.status ≡ StatusBudget → NameOneStep words held one.err other.err
+  right_names_one words held one other (Misused not s o) right over over' = absurd (no_usage_budget (sym s ∙ over))
+  right_names_one words held one other (Fulfilled r asked right) (Misused not s o) over over' = absurd (no_usage_budget (sym s ∙ over'))
+  right_names_one words held one other (Fulfilled r asked right) (Fulfilled s asked' right') over over' =
+      one_step_named words held r one other asked right
+      (subst (λ (request : Request). Fulfils request held other) (one_request words s r asked' asked) right') over over'
+
+  pub one_outcome : OneOutcome
+  one_outcome words held one other is is' =
+      let agrees = one_right words held one other is is' in
+      (agrees, λ over. right_names_one words held one other is is' over (sym agrees.status ∙ over))

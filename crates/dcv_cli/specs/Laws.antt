@@ -1,25 +1,23 @@
 -- The laws that `src/laws.rt` proves.
-use Rattle.std.specs.Prelude.{◌≡◌, ◌⊎◌, ℕ, List, Option, Some, IsSome, IsTrue, length}
+use Rattle.std.specs.Prelude.{◌≡◌, ◌≢◌, ◌⊎◌, ℕ, List, Option, Some, IsSome, IsTrue, length}
 use Rattle.std.specs.List.{All}
 use Rattle.dcv_syntax.specs.Plain.{PlainFile}
 use Rattle.dcv_language.specs.Language.{HaveSameBehaviours}
 use Rattle.dcv_logic.specs.Models.{models}
 use Rattle.dcv_print.specs.Printed.{texts_of}
+use Rattle.dcv_explore.specs.Budget.{Kind}
+use Rattle.dcv_build.specs.Budget.{IsOver}
+use Rattle.dcv_cli.specs.declared.over.Over.{Over}
+use Rattle.dcv_cli.specs.declared.refusal.Refusal.TheVariants.{Budget}
+use Rattle.dcv_cli.specs.declared.status.Status.TheVariants.{Budget as StatusBudget}
+use Rattle.dcv_cli.specs.Budget.{steps_of_file, IsFirstOver}
+use Rattle.dcv_cli.specs.Refusal.{message_of}
 use Rattle.dcv_cli.specs.FormulaFile.{IsFormulaFile}
 use Rattle.dcv_cli.specs.Outcome.{Outcome, Agrees}
-use Rattle.dcv_command.specs.Request.{Request, Check, Automaton, file_in}
+use Rattle.dcv_command.specs.Request.{Request, Check, Automaton, file_in, limits_in}
 use Rattle.dcv_cli.specs.Request.{AsksFor, files_of}
 use Rattle.dcv_cli.specs.Right.{Fulfils, IsRight}
 use Rattle.dcv_cli.specs.Status.{is_answer}
-
--- two outcomes that are right for the words and what is held are the same, but for what is left to the program
-abbrev pub OneOutcome : Type 0
-OneOutcome = (words : List (List ℕ)) (held : List ℕ → Option (List ℕ)) (one other : Outcome)
-    → IsRight words held one → IsRight words held other → Agrees one other
-
--- each file that the words name is held
-abbrev pub AreHeld : List (List ℕ) → (List ℕ → Option (List ℕ)) → Type 0
-AreHeld words held = (request : Request) → AsksFor words request → All (λ name. IsSome (held name)) (files_of request)
 
 -- the words ask for a report on a file, and what is held there is a formula file
 pub record AskForAFormula (words : List (List ℕ)) (held : List ℕ → Option (List ℕ)) : Type 0 where
@@ -29,6 +27,33 @@ pub record AskForAFormula (words : List (List ℕ)) (held : List ℕ → Option 
   pub there : held (file_in request) ≡ Some text
   pub file : PlainFile
   pub formula : IsFormulaFile text file
+
+-- ---- one outcome
+
+-- Both messages are of the first step over the limits of the file that the words name. Where they name one excess they are the same;
+-- where one names the states and the other the nodes, the step has too many of both.
+pub record NameOneStep (words : List (List ℕ)) (held : List ℕ → Option (List ℕ)) (one other : List ℕ) : Type 0 where
+  pub asks : AskForAFormula words held
+  pub first : Over
+  pub second : Over
+  pub first_is : IsFirstOver (limits_in asks.request) asks.file first
+  pub second_is : IsFirstOver (limits_in asks.request) asks.file second
+  pub one_is : one ≡ message_of (Budget first)
+  pub other_is : other ≡ message_of (Budget second)
+  pub step : first.step ≡ second.step
+  pub same : first.excess ≡ second.excess → first ≡ second
+  pub both : first.excess ≢ second.excess → (kind : Kind) → IsOver (steps_of_file asks.file) (limits_in asks.request) kind first.step
+
+-- two outcomes that are right for the words and what is held are the same, but for what is left to the program
+abbrev pub OneOutcome : Type 0
+OneOutcome = (words : List (List ℕ)) (held : List ℕ → Option (List ℕ)) (one other : Outcome) → IsRight words held one → IsRight words held other
+    → Agrees one other × (one.status ≡ StatusBudget → NameOneStep words held one.err other.err)
+
+-- ---- some outcome
+
+-- each file that the words name is held
+abbrev pub AreHeld : List (List ℕ) → (List ℕ → Option (List ℕ)) → Type 0
+AreHeld words held = (request : Request) → AsksFor words request → All (λ name. IsSome (held name)) (files_of request)
 
 -- Some outcome is right for all words, where the files that they name are held, unless they name a formula file.
 abbrev pub SomeOutcome : Type 0

@@ -1,17 +1,14 @@
 -- How a run may end.
 --     Outcome                 status, report and message
 --     refused refusal which   nothing but the line of a refusal
---     NameOneStep             two messages name the same step over the budget
 --     Agrees one other        the same, but for what is left to the program
 use Rattle.std.specs.Prelude.{◌≡◌, ◌≢◌, ◌⊎◌, ℕ, List, []}
 use Rattle.dcv_language.specs.VerdictText.{line}
-use Rattle.dcv_cli.specs.declared.over.Over.{Over}
 use Rattle.dcv_cli.specs.declared.refusal.Refusal.{Refusal}
-use Rattle.dcv_cli.specs.declared.refusal.Refusal.TheVariants.{Budget}
 use Rattle.dcv_cli.specs.declared.status.Status.{Status}
 use Rattle.dcv_cli.specs.declared.status.Status.TheVariants.{Usage, Budget as StatusBudget}
 use Rattle.dcv_print.specs.Automaton.{DifferInSuffixes}
-use Rattle.dcv_cli.specs.Refusal.{status_of, words_of, message_of, Which, ended}
+use Rattle.dcv_cli.specs.Refusal.{status_of, words_of, Which, ended}
 
 -- how a run ends, and what it adds to the output and to the messages
 pub record Outcome : Type 0 where
@@ -22,19 +19,10 @@ pub record Outcome : Type 0 where
 abbrev pub refused : Refusal → Which → Outcome
 refused refusal which = record { status = status_of refusal; out = []; err = line (ended which (words_of refusal)) }
 
--- both messages are of a step over the budget, and it is the same step, at the same place of the text
-pub record NameOneStep (one other : List ℕ) : Type 0 where
-  pub first : Over
-  pub second : Over
-  pub one_is : one ≡ message_of (Budget first)
-  pub other_is : other ≡ message_of (Budget second)
-  pub step : first.step ≡ second.step
-  pub place : first.at ≡ second.at
-
--- The message of a run whose words are refused is left to the program, where a step has too many states and too many nodes, which
--- of the two is named, and in the text of an automaton which suffixes are listed. All else is the same.
+-- Left to the program are the message of a run whose words are refused, which suffixes the text of an automaton lists, and where a step
+-- has too many states and too many nodes, which of the two is named (`NameOneStep` of `Laws` says of what two such messages are). All
+-- else is the same.
 pub record Agrees (one other : Outcome) : Type 0 where
   pub status : one.status ≡ other.status
   pub report : (one.out ≡ other.out) ⊎ DifferInSuffixes one.out other.out
   pub message : one.status ≢ Usage → one.status ≢ StatusBudget → one.err ≡ other.err
-  pub step : one.status ≡ StatusBudget → NameOneStep one.err other.err

@@ -1,12 +1,15 @@
--- Words that begin with a subcommand's name: what `clap` finds in them is what it finds in the words behind the name.
-use Rattle.std.proofs.Common.{◌≡◌, refl, sym, ap, ◌∙◌, true, false, List, [], ◌∷◌, ◌++◌, Some, codes, is_some}
-use Rattle.std.specs.Prelude.{fold}
+-- Words that begin with a subcommand's name: what `clap` finds in them is what it finds in the words behind the name, and they pass its
+-- test where these do.
+use Rattle.std.proofs.Common.{◌≡◌, refl, sym, ap, ◌∙◌, Bool, true, false, List, [], ◌∷◌, ◌++◌, Some, codes, is_some}
+use Rattle.std.specs.Prelude.{fold, ◌&&◌}
+use Rattle.std.specs.List.{list_all}
 use Rattle.std.proofs.lemmas.List.{append-nil, append_assoc}
-use Rattle.clap.specs.Words.{Kinds, Rule, Shape, Text, built, fault_of, subcommand_of}
+use Rattle.clap.specs.Words.{Kinds, Rule, Shape, Text, built, fault_of, subcommand_of, takes}
 use Rattle.clap.specs.Kinds.{or_else}
 use Rattle.clap.specs.Walk.{Names, Walk, finished, nothing_held, rows_after, settled, walk, walk_from, walked}
 use Rattle.clap.specs.Simple.{built_leaf, entered, names_of}
 use Rattle.clap.specs.Faults.{check_fault, defaults_fault, entered_fault, level_fault, settle_fault, turn_fault, walk_fault}
+use Rattle.clap.specs.Takes.{default_passes, entered_passes, is_valid, level_passes, settle_passes, turn_passes, walk_passes}
 use Rattle.clap.proofs.OnLiterals.{clap_on_literals}
 use Rattle.dcv_command.specs.Program.{over_a_formula, program}
 
@@ -27,6 +30,11 @@ no_more_faults : (shape : Shape) (names : Names) (name : Text) (seen rest : List
 unfolding walk_fault walked
 no_more_faults shape names name seen [] = refl
 no_more_faults shape names name seen (word ∷ rest) = no_more_faults shape names name (seen ++ word ∷ []) rest
+
+all_pass : (shape : Shape) (names : Names) (name : Text) (seen rest : List Text) → walk_passes shape names (stopped_at name seen) rest ≡ true
+unfolding walk_passes walked
+all_pass shape names name seen [] = refl
+all_pass shape names name seen (word ∷ rest) = all_pass shape names name (seen ++ word ∷ []) rest
 
 nothing_else : (kinds : Kinds) → or_else kinds [] ≡ kinds
 nothing_else [] = refl
@@ -49,6 +57,14 @@ faults_by kinds w =
     (or_else (defaults_fault (settled top.rules w.held).rows top.rules)
     (check_fault top (finished top.rules w.held) (is_some (entered (built program) w.stopped))))))
 
+-- whether they pass the test, by the walk over them
+abbrev takes_by : Bool → Walk → Bool
+takes_by passes w =
+    entered_passes (built program) w.stopped
+    && (passes
+    && (settle_passes top.rules top.args_override_self w.held
+    && (list_all default_passes top.rules && is_valid top (finished top.rules w.held) (is_some (entered (built program) w.stopped)))))
+
 -- a subcommand over a formula file, as it is built
 abbrev pub leaf : Text → Shape
 leaf name = built_leaf (record (over_a_formula name) { no_binary_name = true })
@@ -58,6 +74,8 @@ pub record IsSubcommand (name : Text) : Type 0 where
   pub met : walked top.rules names (walk_from nothing_held) name ≡ stopped_at name []
   pub no_fault : turn_fault top names (walk_from nothing_held) name ≡ []
   pub faults : (rest : List Text) → faults_by [] (stopped_at name rest) ≡ or_else (level_fault (leaf name) [] nothing_held rest false []) []
+  pub passes : turn_passes top names (walk_from nothing_held) name ≡ true
+  pub takes : (rest : List Text) → takes_by true (stopped_at name rest) ≡ level_passes (leaf name) [] nothing_held rest false && true
   pub found : (rest : List Text) → entered (built program) (Some (name, rest)) ≡ Some (name, rows_after (leaf name).rules [] rest)
 
 module _ (name : Text) (is : IsSubcommand name) (rest : List Text) where
@@ -75,13 +93,25 @@ module _ (name : Text) (is : IsSubcommand name) (rest : List Text) where
       ap (λ kinds. faults_by kinds (walk top.rules names nothing_held (name ∷ rest))) none_above
       ∙ ap (faults_by []) is_met ∙ is.faults rest ∙ nothing_else (level_fault (leaf name) [] nothing_held rest false [])
 
+  all_pass_above : walk_passes top names (walk_from nothing_held) (name ∷ rest) ≡ true
+  unfolding walk_passes
+  all_pass_above =
+      ap (λ passes. passes && walk_passes top names (walked top.rules names (walk_from nothing_held) name) rest) is.passes
+      ∙ ap (λ w. walk_passes top names w rest) is.met ∙ all_pass top names name [] rest
+
+  pub takes_below : takes program (name ∷ rest) ≡ level_passes (leaf name) [] nothing_held rest false && true
+  unfolding clap_on_literals
+  takes_below =
+      ap (λ passes. takes_by passes (walk top.rules names nothing_held (name ∷ rest))) all_pass_above
+      ∙ ap (takes_by true) is_met ∙ is.takes rest
+
   pub found_below : subcommand_of program (name ∷ rest) ≡ Some (name, rows_after (leaf name).rules [] rest)
   found_below = ap (λ (w : Walk). entered (built program) w.stopped) is_met ∙ is.found rest
 
 pub check_is_one : IsSubcommand (codes "check")
 unfolding clap_on_literals
-check_is_one = record { met = refl; no_fault = refl; faults = λ rest. refl; found = λ rest. refl }
+check_is_one = record { met = refl; no_fault = refl; faults = λ rest. refl; passes = refl; takes = λ rest. refl; found = λ rest. refl }
 
 pub automaton_is_one : IsSubcommand (codes "automaton")
 unfolding clap_on_literals
-automaton_is_one = record { met = refl; no_fault = refl; faults = λ rest. refl; found = λ rest. refl }
+automaton_is_one = record { met = refl; no_fault = refl; faults = λ rest. refl; passes = refl; takes = λ rest. refl; found = λ rest. refl }

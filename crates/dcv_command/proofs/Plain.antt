@@ -1,12 +1,13 @@
 -- Words that do not begin with a dash, in `clap`'s walk of a subcommand that has none below it.
-use Rattle.std.proofs.Common.{◌≡◌, refl, ap, ◌∙◌, false, List, ℕ, [], ◌∷◌, None}
-use Rattle.std.specs.Prelude.{◌==◌}
+use Rattle.std.proofs.Common.{◌≡◌, refl, ap, ◌∙◌, true, false, List, ℕ, [], ◌∷◌, None}
+use Rattle.std.specs.Prelude.{◌==◌, ◌&&◌}
 use Rattle.std.specs.Str.{bytes_eq}
 use Rattle.clap.specs.Words.{Rule, Shape, Text}
 use Rattle.clap.specs.Kinds.{or_else}
 use Rattle.clap.specs.Lexer.{long_of, short_of}
 use Rattle.clap.specs.Walk.{Held, Step, Waiting, idle, option, positional, Walk, after_step, plain_word, subcommand_met, walked, word_met}
 use Rattle.clap.specs.Faults.{step_fault, turn_fault, word_fault}
+use Rattle.clap.specs.Takes.{step_passes, turn_passes, word_passes}
 
 -- the word is not empty, and its first byte is no dash
 abbrev pub HasNoDash : Text → Type 0
@@ -62,6 +63,21 @@ pub turn_plain : (shape : Shape) (held : Held) (waiting : Waiting) (position : �
 turn_plain shape held waiting position word none step =
     ap (λ kinds. or_else kinds (step_fault shape position met.0 met.1)) (no_word_fault shape waiting word held none)
     ∙ ap (λ (one : Held × Step). step_fault shape position one.0 one.1) (met_plain shape.rules waiting position word held none) ∙ step
+  where
+    met : Held × Step
+    met = word_met shape.rules [] false waiting position word held
+
+-- ---- what passes `clap`'s test
+
+plain_word_passes : (shape : Shape) (waiting : Waiting) (word : Text) (held : Held) → HasNoDash word → word_passes shape [] false waiting word held ≡ true
+plain_word_passes shape waiting word held none = rw (none_met waiting word, no_dashes word none, no_long word none, no_short word none) refl
+
+pub turn_plain_passes : (shape : Shape) (held : Held) (waiting : Waiting) (position : ℕ) (word : Text) → HasNoDash word
+    → step_passes shape position (plain_word shape.rules waiting word held).0 (plain_word shape.rules waiting word held).1 ≡ true
+    → turn_passes shape [] (going held waiting position) word ≡ true
+turn_plain_passes shape held waiting position word none step =
+    ap (λ passes. passes && step_passes shape position met.0 met.1) (plain_word_passes shape waiting word held none)
+    ∙ ap (λ (one : Held × Step). step_passes shape position one.0 one.1) (met_plain shape.rules waiting position word held none) ∙ step
   where
     met : Held × Step
     met = word_met shape.rules [] false waiting position word held

@@ -5,12 +5,12 @@
 --     AreAllowed options         each number is in its range
 --     IsFileName name            the name is not empty, and does not begin with a dash
 --     AskFor words request       the words are taken, and ask for the request
-use Rattle.std.specs.Prelude.{◌≡◌, ◌≢◌, ℕ, ◌≤◌, List, [], ◌∷◌, Some, codes}
+use Rattle.std.specs.Prelude.{◌≡◌, ◌≢◌, ℕ, ◌≤◌, true, List, [], ◌∷◌, Some, codes}
 use Rattle.std.specs.Fmt.{decimal}
 use Rattle.std.specs.Str.{byte}
-use Rattle.clap.specs.Words.{Text}
+use Rattle.clap.specs.Words.{Text, takes}
 use Rattle.dcv_explore.specs.declared.explorer.Limits.{Limits}
-use Rattle.dcv_command.specs.Program.{most_states, most_nodes}
+use Rattle.dcv_command.specs.Program.{program, most_states, most_nodes}
 use Rattle.dcv_command.specs.Request.{Request, IsTaken, limits_of, request_of}
 
 pub data Options : Type 0 where
@@ -49,6 +49,8 @@ abbrev pub IsFileName : Text → Type 0
 IsFileName [] = ⊥
 IsFileName (first ∷ rest) = first ≢ byte "-"
 
+-- (that they are taken is said by both of `clap`'s definitions: it finds no fault in them, and they pass its test)
 pub record AskFor (words : List Text) (request : Request) : Type 0 where
   pub taken : IsTaken words
+  pub passes : takes program words ≡ true
   pub asked : request_of words ≡ Some request

@@ -6,8 +6,12 @@
 //! canonical table has two states with the same row, `0 1`: state 0 rejects and has the access word `0`, state 1 accepts
 //! and has the access word `1`. The empty suffix tells the two apart.
 //!
-//! The definitions stand in `specs/`; here are their laws, on sets and tables in [`laws`], on machines in [`machine_laws`].
+//! The definitions stand in `specs/`; here are their laws, on sets and tables in [`laws`], on machines in [`machine_laws`], and how the
+//! words of a certificate are spelled ([`Access`], [`Suffix`]).
 #![tactic(auto)]
 
+mod certificate;
 pub mod laws;
 pub mod machine_laws;
+
+pub use certificate::{Access, Suffix};
