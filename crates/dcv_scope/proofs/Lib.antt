@@ -11,6 +11,7 @@ pub mod Means
 pub mod MeasuredMacros
 pub mod MeasuredText
 pub mod NameRows
+pub mod Relays
 pub mod Sizes
 pub mod Skipped
 pub mod Slots

@@ -1,11 +1,11 @@
 -- For the proofs alone: what the expansion has in sight, in the words of `CoreOf`.
-use Rattle.std.specs.Prelude.{◌≡◌, ℕ, ◌+◌, ◌<◌, true, false, List, [], ◌∷◌, Some, map, length, if◌then◌else◌}
+use Rattle.std.specs.Prelude.{◌≡◌, ℕ, suc, ◌+◌, ◌<◌, true, false, List, [], ◌∷◌, ◌++◌, Option, Some, None, map, length, if◌then◌else◌, slice_index_or}
 use Rattle.dcv_syntax.specs.declared.names.Span.{Span}
 use Rattle.dcv_syntax.specs.declared.names.Name.{Name}
 use Rattle.dcv_syntax.specs.declared.files.Macro.{Macro}
 use Rattle.dcv_syntax.specs.declared.propositions.Prop.{Prop}
 use Rattle.dcv_syntax.specs.declared.formulas.FormulaOperand.{FormulaOperand}
-use Rattle.dcv_syntax.specs.Plain.{PlainFormulaOperands, formula_operands_of}
+use Rattle.dcv_syntax.specs.Plain.{PlainPropKind, PropCall, no_arguments, PlainFormulaOperands, formula_operands_of}
 use Rattle.dcv_syntax.specs.Views.{plain_prop_kind, plain_formula_operand, plain_macro}
 use Rattle.dcv_logic.specs.Environment.{found}
 use Rattle.dcv_logic.specs.Scope.{IsNewest}
@@ -45,9 +45,55 @@ sight_of s = record {
   macros = (top_sight_of s.variables.now s.macros.now).macros;
 }
 
+-- what a relay stands for is its argument at place j, whatever the others are
+abbrev pub IsRelay : ℕ → Expansion → Type 0
+IsRelay j (PropExpansion c) = (before : List PlainTruth) → length before ≡ j → (one : PlainTruth) (after : List PlainTruth) → c (before ++ one ∷ after) ≡ one
+IsRelay j (FormulaExpansion c) = ⊥
+
+-- a place is told of relays alone
+abbrev pub IsRelayTo : Option ℕ → Expansion → Type 0
+IsRelayTo None e = Unit {0}
+IsRelayTo (Some j) e = IsRelay j e
+
+-- of each macro, where those before it are in sight
+abbrev pub AreRelays : List Name → List Macro → List (Option ℕ) → Type 0
+AreRelays variables macros relays = (earlier : List Macro) (last : Macro) (after : List Macro) → macros ≡ earlier ++ last ∷ after
+    → IsRelayTo (slice_index_or relays (length earlier) None) (expansion_of (top_sight_of variables earlier) (plain_macro last))
+
+-- the name stands for such a macro
+pub record IsRelayed (sight : Sight) (name : List ℕ) (j : ℕ) : Type 0 where
+  pub free : found sight.truths name ≡ None
+  pub expansion : Expansion
+  pub stands : found sight.macros name ≡ Some expansion
+  pub relay : IsRelay j expansion
+
+-- the second list has no other names
+abbrev pub HasNoOthers : List (List ℕ × PlainTruth) → List (List ℕ × PlainTruth) → Type 0
+HasNoOthers truths others = (name : List ℕ) → found truths name ≡ None → found others name ≡ None
+
+-- both propositions stand for the same, whatever these names stand for
+abbrev pub StandAlike : Sight → PlainPropKind → PlainPropKind → Type 0
+StandAlike sight p q = (truths : List (List ℕ × PlainTruth)) → HasNoOthers sight.truths truths
+    → truth_of (record sight { truths = truths }) p ≡ truth_of (record sight { truths = truths }) q
+
+-- parameters that stand for anything, and their places
+abbrev pub parameter_slots : List Name → List (List ℕ × PlainTruth)
+parameter_slots = map (λ (p : Name). (p.text, TruthSlot 0))
+
+abbrev pub places_from : ℕ → List Name → List (List ℕ × ℕ)
+places_from j [] = []
+places_from j (name ∷ names) = (name.text, j) ∷ places_from (j + 1) names
+
+-- the proposition is the parameter at place j
+pub record IsParameter (parameters : List Name) (p : PlainPropKind) (j : ℕ) : Type 0 where
+  pub name : Name
+  pub is : p ≡ PropCall name no_arguments
+  pub place : found (places_from 0 parameters) name.text ≡ Some j
+
 -- the measures are those of the macros, and there are numbers enough for the variables
 pub record IsSight (s : SightOfCode) : Type 0 where
   pub few : length s.variables.now < 256
+  pub relays : AreRelays s.variables.now s.macros.now s.relays.now
   pub measured : AreMeasuresOf (variables_alone s.variables.now) (map plain_macro s.macros.now) s.uses.now
 
 -- what a macro stands for does not depend on its argument at place j
@@ -60,6 +106,7 @@ pub record IsCalled (s : SightOfCode) (name : List ℕ) (called : Called) : Type
   pub newest : IsNewest s.macros.now name called.defined.now called.macros.now
   pub few : length called.variables.now < 256
   pub measured : AreMeasuresOf (variables_alone called.variables.now) (map plain_macro called.macros.now) called.uses.now
+  pub relays : AreRelays called.variables.now called.macros.now called.relays.now
   pub expansion : found (sight_of s).macros name ≡ Some (expansion_of (top_sight_of called.variables.now called.macros.now) (plain_macro called.defined.now))
   pub skips : (j : ℕ) → uses_parameter called.measure.now j ≡ false
       → ExpansionPassesOver j (expansion_of (top_sight_of called.variables.now called.macros.now) (plain_macro called.defined.now))

@@ -18,8 +18,12 @@ ghost use Rattle.dcv_core.specs.TruthViews.{plain_truth, plain_basic};
 ghost use Rattle.dcv_scope.specs.Names.{texts};
 ghost use Rattle.dcv_scope.specs.Faults.{most_nodes, most_slots};
 ghost use Rattle.dcv_scope.specs.Expansions.{meant, names_of, sight_of, top_sight_of, IsSight, IsCalled, used_from, truths_in};
+ghost use Rattle.dcv_scope.specs.Expansions.{AreRelays};
 ghost use Rattle.dcv_scope.specs.Expansions.{join_of, join_op, unit_of, operands_of};
 
+mod relays;
+
+use self::relays::relays_of;
 use crate::measures::MacroMeasure;
 use dcv_core::{Basic, Core, Operator, Truth};
 use dcv_syntax::{
@@ -61,9 +65,10 @@ struct Sight<'a> {
     // Declared variables, parameters and quantified names, the newest first.
     names: Vec<Binding<'a>>,
     variables: &'a [Name],
-    // The macros before this one, in order, with their measures.
+    // The macros before this one, in order, with their measures, and the places to which relays hand on.
     macros: &'a [Macro],
     uses: &'a [MacroMeasure],
+    relays: &'a [Option<usize>],
 }
 
 // A macro that is called, and what its body sees: the declared variables and the macros before it.
@@ -74,6 +79,7 @@ struct Called<'a> {
     variables: &'a [Name],
     macros: &'a [Macro],
     uses: &'a [MacroMeasure],
+    relays: &'a [Option<usize>],
 }
 
 // The last macro of the name, and those before it.
@@ -119,6 +125,7 @@ impl<'a> Called<'a> {
     ) -> Result<Sight<'a>, AllocError>
         requires few { length self.now.variables.now < 256 }
         requires measured { AreMeasuresOf (variables_alone self.now.variables.now) (map plain_macro self.now.macros.now) self.now.uses.now }
+        requires relays { AreRelays self.now.variables.now self.now.macros.now self.now.relays.now }
         ensures sight { IfOk result (λ inner. sight_of inner ≡ record (bind_arguments
             (top_sight_of self.now.variables.now self.now.macros.now)
             (texts self.now.defined.now.parameters.items) (map plain_truth arguments.now)) { slots = slots }) }
@@ -139,6 +146,7 @@ impl<'a> Called<'a> {
             variables: self.variables,
             macros: self.macros,
             uses: self.uses,
+            relays: self.relays,
         })
     }
 }
@@ -172,13 +180,25 @@ impl<'a> Sight<'a> {
             variables: self.variables,
             macros,
             uses: &self.uses[..macros.len()],
+            relays: self.relays,
         })
     }
 
     // The proposition over slots that a proposition stands for.
+    #[inline(always)]
+    #[cycle(truths)]
+    fn prop(&self, prop: &Prop) -> Result<Truth, AllocError>
+        requires is_sight { IsSight self.now }
+        ensures { IfOk result (λ truth. plain_truth truth
+            ≡ truth_of (sight_of self.now) (plain_prop_kind prop.now.kind)) }
+    {
+        self.form(self.behind(prop))
+    }
+
+    // The same, in the form in which it is written.
     #[cycle(truths)]
     #[tactic(auto, using(crate::proofs::TextRows::prop_rows))]
-    fn prop(&self, prop: &Prop) -> Result<Truth, AllocError>
+    fn form(&self, prop: &Prop) -> Result<Truth, AllocError>
         requires is_sight { IsSight self.now }
         ensures { IfOk result (λ truth. plain_truth truth
             ≡ truth_of (sight_of self.now) (plain_prop_kind prop.now.kind)) }
@@ -607,6 +627,7 @@ pub(crate) fn core_of_goal(
         (steps_of (length (plain_file file.now).variables) (core_of_file (plain_file file.now)))) }
 {
     let declared = file.variables.len() as u8;
+    let relays = relays_of(alloc, &file.variables, &file.macros)?;
     let sight = Sight {
         alloc,
         slots: declared,
@@ -614,6 +635,7 @@ pub(crate) fn core_of_goal(
         variables: &file.variables,
         macros: &file.macros,
         uses,
+        relays: &relays,
     };
     let mut core = Core::new(alloc, declared);
     sight.formula(&file.goal.formula, &mut core)?;

@@ -12,8 +12,8 @@ formula-requires-clause-room c =
     let file = c.args.file.now in
     let slots : c.len-declared.result ≡ length file.variables.items = c.len-declared.ensures ∙ sym c.deref.ensures.len ∙ ap length c.deref.ensures.value in
     let names : names_of c.in_ok-with_variables.field-0.items ≡ declared_slots 0 file.variables.items =
-    c.in_ok-with_variables.ensures ∙ (λ i. names_of (c.new.ensures.items i) ++ declared_slots 0 (c.deref.ensures.value i)) in
-    let core = goal_core file c.len-declared.result c.in_ok-with_variables.field-0.items c.deref-2.result.now c.deref-3.result.now c.deref-2.ensures.value c.deref-3.ensures.value slots names in
+    c.in_ok-with_variables.ensures ∙ (λ i. names_of (c.new.ensures.items i) ++ declared_slots 0 (c.deref-3.ensures.value i)) in
+    let core = goal_core file c.len-declared.result c.in_ok-with_variables.field-0.items c.deref-4.result.now c.deref-5.result.now c.deref-4.ensures.value c.deref-5.ensures.value slots names in
     let empty = ap (λ (p : PlainCore). p.steps) c.new-core.ensures in
     room_same (goal_room (plain_file file) c.new-core.result empty c.requires.size c.requires.slots) (sym slots) (sym core)
 
@@ -22,7 +22,7 @@ returns-clause-steps c =
     let file = c.args.file.now in
     let slots : c.len-declared.result ≡ length file.variables.items = c.len-declared.ensures ∙ sym c.deref.ensures.len ∙ ap length c.deref.ensures.value in
     let names : names_of c.in_ok-with_variables.field-0.items ≡ declared_slots 0 file.variables.items =
-    c.in_ok-with_variables.ensures ∙ (λ i. names_of (c.new.ensures.items i) ++ declared_slots 0 (c.deref.ensures.value i)) in
-    let core = goal_core file c.len-declared.result c.in_ok-with_variables.field-0.items c.deref-2.result.now c.deref-3.result.now c.deref-2.ensures.value c.deref-3.ensures.value slots names in
+    c.in_ok-with_variables.ensures ∙ (λ i. names_of (c.new.ensures.items i) ++ declared_slots 0 (c.deref-3.ensures.value i)) in
+    let core = goal_core file c.len-declared.result c.in_ok-with_variables.field-0.items c.deref-4.result.now c.deref-5.result.now c.deref-4.ensures.value c.deref-5.ensures.value slots names in
     let empty = ap (λ (p : PlainCore). p.steps) c.new-core.ensures in
     made_whole (made_same c.in_ok-formula.ensures slots core) empty

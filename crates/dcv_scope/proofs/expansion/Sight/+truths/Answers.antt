@@ -39,8 +39,13 @@ named-returns-in_ok-inside-in-Prop t c =
     (found (sight_of self).macros name) is_called.expansion (plain_prop c.in-Prop.body) body (found (sight_of self).truths name) (sym c.in_default.ensures) in
     then_ok c.prop.result c.prop.ensures (λ truth e. e ∙ same)
 
-pub prop-returns-in-Call : goal.prop-returns-in-Call
-prop-returns-in-Call t c =
+pub prop-returns : goal.prop-returns
+prop-returns t c =
+    let sight = sight_of c.args.self.now in
+    then_ok c.form.result c.form.ensures (λ truth e. e ∙ c.behind.ensures.alike sight.truths (λ name none. none))
+
+pub form-returns-in-Call : goal.form-returns-in-Call
+form-returns-in-Call t c =
     let sight = sight_of c.args.self.now in
     let name = c.in-Call.name in
     let of_list : List Prop → PlainTruth = λ arguments. truth_of_call (found sight.truths name.text) (found sight.macros name.text) (truths_in sight arguments) in
@@ -48,24 +53,24 @@ prop-returns-in-Call t c =
     ap of_list c.deref.ensures.value ∙ sym (truth-Call sight name c.in-Call.arguments) ∙ sym (ap (λ kind. truth_of sight (plain_prop_kind kind)) c.in-Call.is) in
     then_ok c.named.result c.named.ensures (λ truth e. e ∙ same)
 
-pub prop-returns-in_ok-prop_operands-in-And : goal.prop-returns-in_ok-prop_operands-in-And
-prop-returns-in_ok-prop_operands-in-And t c =
+pub form-returns-in_ok-prop_operands-in-And : goal.form-returns-in_ok-prop_operands-in-And
+form-returns-in_ok-prop_operands-in-And t c =
     let sight = sight_of c.args.self.now in
     truth_and c.in_ok-prop_operands-in-And.field-0
     ∙ ap (λ truths. TruthAnd (truths_of truths)) (c.in_ok-prop_operands-in-And.ensures ∙ ap (map (operand_truth sight)) c.deref-in-And.ensures.value)
     ∙ sym (truth-And sight c.in-And.operands)
     ∙ sym (ap (λ kind. truth_of sight (plain_prop_kind kind)) c.in-And.is)
 
-pub prop-returns-in_ok-prop_operands-in-Or : goal.prop-returns-in_ok-prop_operands-in-Or
-prop-returns-in_ok-prop_operands-in-Or t c =
+pub form-returns-in_ok-prop_operands-in-Or : goal.form-returns-in_ok-prop_operands-in-Or
+form-returns-in_ok-prop_operands-in-Or t c =
     let sight = sight_of c.args.self.now in
     truth_or c.in_ok-prop_operands-in-Or.field-0
     ∙ ap (λ truths. TruthOr (truths_of truths)) (c.in_ok-prop_operands-in-Or.ensures ∙ ap (map (operand_truth sight)) c.deref-in-Or.ensures.value)
     ∙ sym (truth-Or sight c.in-Or.operands)
     ∙ sym (ap (λ kind. truth_of sight (plain_prop_kind kind)) c.in-Or.is)
 
-pub prop-returns-in_ok-prop_operands-in-Iff : goal.prop-returns-in_ok-prop_operands-in-Iff
-prop-returns-in_ok-prop_operands-in-Iff t c =
+pub form-returns-in_ok-prop_operands-in-Iff : goal.form-returns-in_ok-prop_operands-in-Iff
+form-returns-in_ok-prop_operands-in-Iff t c =
     let sight = sight_of c.args.self.now in
     truth_iff c.in_ok-prop_operands-in-Iff.field-0
     ∙ ap (λ truths. TruthIff (truths_of truths)) (c.in_ok-prop_operands-in-Iff.ensures ∙ ap (map (operand_truth sight)) c.deref-in-Iff.ensures.value)

@@ -20,20 +20,23 @@ invariant-prop_operands-loop-operand l =
     map plain_truth l.truths.items ++ map truth (drop l.operand-index l.operands) ≡ map truth l.operands
 
 -- a call of a macro goes on with fewer macros, and every other call deeper into the proposition
+abbrev pub decreases-form : goal.decreases-form
+decreases-form l = 4 * (all_bodies prop_depth l.self.now.macros.now + goal.size-form l)
+
 abbrev pub decreases-prop : goal.decreases-prop
-decreases-prop l = 3 * (all_bodies prop_depth l.self.now.macros.now + goal.size-prop l)
+decreases-prop l = 4 * (all_bodies prop_depth l.self.now.macros.now + goal.size-prop l) + 1
 
 abbrev pub decreases-opposite : goal.decreases-opposite
-decreases-opposite l = 3 * (all_bodies prop_depth l.self.now.macros.now + goal.size-opposite l) + 1
+decreases-opposite l = 4 * (all_bodies prop_depth l.self.now.macros.now + goal.size-opposite l) + 2
 
 abbrev pub decreases-implication : goal.decreases-implication
-decreases-implication l = 3 * (all_bodies prop_depth l.self.now.macros.now + max (size-Prop l.premise.now) (size-Prop l.conclusion.now)) + 2
+decreases-implication l = 4 * (all_bodies prop_depth l.self.now.macros.now + max (size-Prop l.premise.now) (size-Prop l.conclusion.now)) + 3
 
 abbrev pub decreases-arguments : goal.decreases-arguments
-decreases-arguments l = 3 * (all_bodies prop_depth l.self.now.macros.now + goal.size-arguments l) + 1
+decreases-arguments l = 4 * (all_bodies prop_depth l.self.now.macros.now + goal.size-arguments l) + 2
 
 abbrev pub decreases-named : goal.decreases-named
-decreases-named l = 3 * (all_bodies prop_depth l.self.now.macros.now + goal.size-named l) + 2
+decreases-named l = 4 * (all_bodies prop_depth l.self.now.macros.now + goal.size-named l) + 3
 
 abbrev pub decreases-prop_operands : goal.decreases-prop_operands
-decreases-prop_operands l = 3 * (all_bodies prop_depth l.self.now.macros.now + goal.size-prop_operands l)
+decreases-prop_operands l = 4 * (all_bodies prop_depth l.self.now.macros.now + goal.size-prop_operands l)

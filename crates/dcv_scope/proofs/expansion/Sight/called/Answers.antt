@@ -1,5 +1,6 @@
 use Rattle.std.proofs.Common.{arith}
 use Rattle.dcv_scope.proofs.InSight.{found_newest, found_none, newest_within, newest_measures, newest_skips, length-first}
+use Rattle.dcv_scope.proofs.Relays.{fewer_relays}
 use Rattle.dcv_scope.proofs.expansion.Sight.called.Goals as goal
 
 pub returns-in_default : goal.returns-in_default
@@ -29,6 +30,7 @@ returns c =
       newest = newest;
       few = c.requires.is_sight.few;
       measured = newest_measures variables self.macros.now name last earlier newest self.uses.now measured;
+      relays = fewer_relays variables self.macros.now earlier last newest.later.0 self.relays.now newest.later.1 c.requires.is_sight.relays;
       expansion = found_newest variables self.macros.now name last earlier newest;
       skips = newest_skips variables self.macros.now name last earlier newest self.uses.now measured _;
     }

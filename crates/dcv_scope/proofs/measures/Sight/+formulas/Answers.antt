@@ -9,7 +9,7 @@ use Rattle.dcv_scope.specs.Walk.{constant, linear_beside, linear_under, linear_o
 use Rattle.dcv_scope.proofs.Capped.{in_turn_capped}
 use Rattle.dcv_scope.proofs.LinearRows.{formula-Call, formula-And, formula-Or, formula-Iff, formula-Chop, measured, measured_formula, is_capped}
 use Rattle.dcv_scope.proofs.LinearRows.{taken_in_turn}
-use Rattle.dcv_scope.proofs.MadeSteps.{then_ok}
+use Rattle.dcv_core.proofs.MadeSteps.{then_ok}
 use Rattle.dcv_scope.proofs.measures.Sight.+formulas.Goals as goal
 
 pub formula-returns-in-Call : goal.formula-returns-in-Call

@@ -10,7 +10,7 @@ use Rattle.dcv_scope.specs.Walk.{linear_with_all, linear_with, first_linear, all
 use Rattle.dcv_scope.proofs.Capped.{beside_second, within_capped, in_turn_capped, with_all_first}
 use Rattle.dcv_scope.proofs.LinearRows.{linear-Call, linear-And, linear-Or, linear-Iff, measured, measured_operand, is_capped, called_at}
 use Rattle.dcv_scope.proofs.LinearRows.{taken_in_turn, taken_with, first-drop}
-use Rattle.dcv_scope.proofs.MadeSteps.{then_ok}
+use Rattle.dcv_core.proofs.MadeSteps.{then_ok}
 use Rattle.dcv_scope.proofs.measures.Sight.+props.Goals as goal
 
 pub prop-returns-in-Call : goal.prop-returns-in-Call
