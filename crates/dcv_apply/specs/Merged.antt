@@ -1,4 +1,5 @@
 -- What operands are merged into. What a merge gives for a list of numbers is a relation, with at most one number for each list.
+--     GoesOn may gives becomes old new            a merge that was called goes on, and keeps what it said
 --     AgreesWithMerged gives numbers slots function    the function has that number, at each letter where the merge gives one
 --     AddsOnlyOfMerged gives numbers from old now    all nodes that came are of each function that may come of the merge, below others
 --     HasMoreMerged gives numbers from old limit    each function that may come of the merge has more new nodes than this
@@ -9,6 +10,12 @@ use Rattle.dcv_arena.specs.Pointwise.{MeansMerged, AgreesBehind}
 use Rattle.dcv_arena.specs.declared.nodes.Ref.{Ref}
 use Rattle.dcv_apply.specs.declared.faults.ApplyFault.{ApplyFault}
 use Rattle.dcv_apply.specs.declared.faults.ApplyFault.TheVariants.{Full, States}
+
+-- numbers that were merged are merged so from then on, and lists that may be merged may be merged still
+pub record GoesOn {M : Type 0} (may : M → List ℕ → Type 0) (gives : M → List ℕ → ℕ → Type 0) (becomes : M → M → Type 0) (old new : M) : Type 0 where
+  pub known : (numbers : List ℕ) (number : ℕ) → gives old numbers number → gives new numbers number
+  pub may_kept : (numbers : List ℕ) → may old numbers → may new numbers
+  pub became : becomes old new
 
 abbrev pub AgreesWithMerged : (List ℕ → ℕ → Type 0) → (List Bool → List ℕ) → ℕ → (List Bool → ℕ) → Type 0
 AgreesWithMerged gives numbers slots function = (letter : List Bool) (number : ℕ) → length letter ≡ slots → gives (numbers letter) number → function letter ≡ number

@@ -1,4 +1,4 @@
--- The entries of the cache that a memo stands on, as plain data.
+-- The entries of what a memo stands on, two maps by two operands, a map by lists of them, and a cache, as plain data.
 --     entry_of pair             the entry that a key and its ref are
 --     entry_of_pair pair        the entry that two operands and their ref are
 --     Adds entry old new        nothing is remembered that was not before, but for this entry

@@ -31,8 +31,10 @@ fn make_first_room(pairs: &mut IndexMap<Pair, Ref>, most: usize)
 
 /// What operations remember: for a round and operands, the ref that they were merged into.
 ///
-/// It holds as many entries as its capacity, and forgets those first that were put or used long ago. A round is a number that the
-/// caller gives to one merge with one arena for the results, and entries are found again in their round alone.
+/// It never holds more entries than its capacity. Entries of two operands are forgotten by age, a half at a time, whether they were used or
+/// not. Of other numbers of operands the first ones are kept for good, while there is room; the rest, of two operands too where the room is
+/// taken up, goes through a cache of an eighth of the capacity, from which the entry that was used least lately goes first. A round is a number
+/// that the caller gives to one merge with one arena for the results, and entries are found again in their round alone.
 #[derive(Debug, Drop)]
 pub struct Memo {
     younger: IndexMap<Pair, Ref>,
@@ -120,7 +122,7 @@ impl Memo {
         self.later.get(&pair.key(alloc)).copied()
     }
 
-    // Remembers the ref of two operands, unless memory runs out, which changes nothing.
+    // Remembers the ref of two operands, unless memory runs out. Others may be forgotten for it, and then too.
     pub(crate) fn put_pair(&mut self, pair: Pair, root: Ref)
         ensures adds { Adds (entry pair.round (pair_operands pair) root) self.old self.new }
         ensures capacity { self.new.capacity ≡ self.old.capacity }
@@ -167,7 +169,7 @@ impl Memo {
         self.later.get(key).copied()
     }
 
-    // Remembers the ref, unless memory runs out, which changes nothing.
+    // Remembers the ref, unless memory runs out. Another may be forgotten for it.
     pub(crate) fn put(&mut self, key: Key, root: Ref)
         ensures adds { Adds (entry key.round key.operands.items root) self.old self.new }
         ensures capacity { self.new.capacity ≡ self.old.capacity }

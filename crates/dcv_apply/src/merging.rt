@@ -7,9 +7,9 @@ ghost use Rattle.std.specs.List.{All};
 ghost use Rattle.dcv_arena.specs.Arena.{IsRef, IsArena, level_of, KeepsRefs};
 ghost use Rattle.dcv_apply.specs.Operands.{IsOperand, numbers_at, numbers_at_both};
 ghost use Rattle.dcv_apply.specs.Sources.{HasArenas, IsIn, IsFrom, merged_by};
-ghost use Rattle.dcv_apply.specs.Memo.{HoldsRound, KeepsOthers};
+ghost use Rattle.dcv_apply.specs.Memo.{HoldsRound, KeepsOthers, Remembers};
 ghost use Rattle.dcv_arena.specs.Pointwise.{MeansMerged};
-ghost use Rattle.dcv_apply.specs.Merged.{AddsOnlyOfMerged, HasMoreMerged, IsApplied};
+ghost use Rattle.dcv_apply.specs.Merged.{GoesOn, AddsOnlyOfMerged, HasMoreMerged, IsApplied};
 ghost use Rattle.dcv_apply.specs.declared.faults.MergeFault.TheVariants.{States as MergeStates};
 ghost use Rattle.dcv_apply.specs.declared.faults.ApplyFault.TheVariants.{Full, States};
 
@@ -75,16 +75,12 @@ pub fn apply<G: Merge>(
     requires may { (letter : List Bool) → length letter ≡ arena.old.slots → G.may merge.old (numbers_at first.now second.now operands.now letter) }
     requires holds { HoldsRound (G.gives merge.old) (numbers_at first.now second.now) arena.old round memo.old }
 
-    // What merging answers, and what becomes of the arena; numbers that were merged are merged so from then on.
+    // What merging answers, and what becomes of the arena and of the merge.
     ensures merged { IsApplied (G.gives merge.new) (G.full merge.new) (numbers_at first.now second.now operands.now) arena.old arena.new result }
-    ensures known { (numbers : List ℕ) (number : ℕ) → G.gives merge.old numbers number → G.gives merge.new numbers number }
-    ensures may_kept { (numbers : List ℕ) → G.may merge.old numbers → G.may merge.new numbers }
-    ensures becomes { G.becomes merge.old merge.new }
+    ensures goes_on { GoesOn G.may G.gives G.becomes merge.old merge.new }
 
     // The memo holds what this merge gives, in the round, and of other rounds only what it held.
-    ensures holds { HoldsRound (G.gives merge.new) (numbers_at first.now second.now) arena.new round memo.new }
-    ensures others { KeepsOthers round memo.old memo.new }
-    ensures capacity { memo.new.capacity ≡ memo.old.capacity }
+    ensures remembered { Remembers (G.gives merge.new) (numbers_at first.now second.now) arena.new round memo.old memo.new }
 {
     let operation = Operation {
         alloc,
@@ -111,16 +107,12 @@ pub fn apply_last<G: Merge>(
     requires may { (letter : List Bool) → length letter ≡ arena.old.slots → G.may merge.old (numbers_at_both first.now second.now operands.now letter) }
     requires holds { HoldsRound (G.gives merge.old) (numbers_at_both first.now second.now) arena.old round memo.old }
 
-    // What merging answers, and what becomes of the arena; numbers that were merged are merged so from then on.
+    // What merging answers, and what becomes of the arena and of the merge.
     ensures merged { IsApplied (G.gives merge.new) (G.full merge.new) (numbers_at_both first.now second.now operands.now) arena.old arena.new result }
-    ensures known { (numbers : List ℕ) (number : ℕ) → G.gives merge.old numbers number → G.gives merge.new numbers number }
-    ensures may_kept { (numbers : List ℕ) → G.may merge.old numbers → G.may merge.new numbers }
-    ensures becomes { G.becomes merge.old merge.new }
+    ensures goes_on { GoesOn G.may G.gives G.becomes merge.old merge.new }
 
     // The memo holds what this merge gives, in the round, and of other rounds only what it held.
-    ensures holds { HoldsRound (G.gives merge.new) (numbers_at_both first.now second.now) arena.new round memo.new }
-    ensures others { KeepsOthers round memo.old memo.new }
-    ensures capacity { memo.new.capacity ≡ memo.old.capacity }
+    ensures remembered { Remembers (G.gives merge.new) (numbers_at_both first.now second.now) arena.new round memo.old memo.new }
 {
     let operation = Operation {
         alloc,
@@ -154,12 +146,8 @@ impl Operation<'_> {
             → G.may merge.old (merged_by self.now operands.now letter) }
         requires holds { HoldsRound (G.gives merge.old) (merged_by self.now) arena.old self.now.round memo.old }
         ensures merged { IsApplied (G.gives merge.new) (G.full merge.new) (merged_by self.now operands.now) arena.old arena.new result }
-        ensures known { (numbers : List ℕ) (number : ℕ) → G.gives merge.old numbers number → G.gives merge.new numbers number }
-        ensures may_kept { (numbers : List ℕ) → G.may merge.old numbers → G.may merge.new numbers }
-        ensures becomes { G.becomes merge.old merge.new }
-        ensures holds { HoldsRound (G.gives merge.new) (merged_by self.now) arena.new self.now.round memo.new }
-        ensures others { KeepsOthers self.now.round memo.old memo.new }
-        ensures capacity { memo.new.capacity ≡ memo.old.capacity }
+        ensures goes_on { GoesOn G.may G.gives G.becomes merge.old merge.new }
+        ensures remembered { Remembers (G.gives merge.new) (merged_by self.now) arena.new self.now.round memo.old memo.new }
     {
         // for the prover: of an arena that was asked it is known what is true of every arena.
         let _ = (
@@ -202,9 +190,7 @@ impl Operation<'_> {
         ensures value { IfOk result (MeansMerged (G.gives merge.new) (merged_by self.now (V.operands visit.now)) arena.now) }
         ensures room { (limit : ℕ) → result ≢ Err (Full limit) }
         ensures states { (limit : ℕ) → result ≡ Err (States limit) → G.full merge.new limit }
-        ensures known { (numbers : List ℕ) (number : ℕ) → G.gives merge.old numbers number → G.gives merge.new numbers number }
-        ensures may_kept { (numbers : List ℕ) → G.may merge.old numbers → G.may merge.new numbers }
-        ensures becomes { G.becomes merge.old merge.new }
+        ensures goes_on { GoesOn G.may G.gives G.becomes merge.old merge.new }
     {
         let numbers = visit.numbers(self, arena.slots())?;
         Ok(arena.leaf(merge.leaf(&numbers)?))
@@ -239,9 +225,7 @@ impl Operation<'_> {
         ensures states { (limit : ℕ) → result ≡ Err (States limit) → G.full merge.new limit }
         ensures kept { KeepsRefs arena.old arena.new }
         ensures arena { IsArena arena.new }
-        ensures known { (numbers : List ℕ) (number : ℕ) → G.gives merge.old numbers number → G.gives merge.new numbers number }
-        ensures may_kept { (numbers : List ℕ) → G.may merge.old numbers → G.may merge.new numbers }
-        ensures becomes { G.becomes merge.old merge.new }
+        ensures goes_on { GoesOn G.may G.gives G.becomes merge.old merge.new }
         ensures holds { HoldsRound (G.gives merge.new) (merged_by self.now) arena.new self.now.round memo.new }
         ensures others { KeepsOthers self.now.round memo.old memo.new }
         ensures capacity { memo.new.capacity ≡ memo.old.capacity }
@@ -291,9 +275,7 @@ impl Operation<'_> {
         ensures states { (limit : ℕ) → result ≡ Err (States limit) → G.full merge.new limit }
         ensures kept { KeepsRefs arena.old arena.new }
         ensures arena { IsArena arena.new }
-        ensures known { (numbers : List ℕ) (number : ℕ) → G.gives merge.old numbers number → G.gives merge.new numbers number }
-        ensures may_kept { (numbers : List ℕ) → G.may merge.old numbers → G.may merge.new numbers }
-        ensures becomes { G.becomes merge.old merge.new }
+        ensures goes_on { GoesOn G.may G.gives G.becomes merge.old merge.new }
         ensures holds { HoldsRound (G.gives merge.new) (merged_by self.now) arena.new self.now.round memo.new }
         ensures others { KeepsOthers self.now.round memo.old memo.new }
         ensures capacity { memo.new.capacity ≡ memo.old.capacity }

@@ -46,7 +46,7 @@ pub(crate) trait Visit: Drop {
         ensures kept { KeepsEntries memo.old memo.new }
         ensures capacity { memo.new.capacity ≡ memo.old.capacity };
 
-    // Remembers the ref, unless memory runs out, which changes nothing.
+    // Remembers the ref, unless memory runs out. Others may be forgotten for it, and then too.
     fn remember(self, memo: &mut Memo, root: Ref)
         ensures adds { Adds (entry (round self) (operands self) root) memo.old memo.new }
         ensures capacity { memo.new.capacity ≡ memo.old.capacity };

@@ -16,7 +16,7 @@ use Rattle.dcv_apply.proofs.merging.Operation.+apply_from.Goals as goal
 
 pub apply_from-returns-then-slot-slots-clause-holds : goal.apply_from-returns-then-slot-slots-clause-holds
 apply_from-returns-then-slot-slots-clause-holds g t c =
-    holds_known (merged_by c.args.self.now) c.args.self.now.round (g.G.Merge.gives c.args.merge.now) (g.G.Merge.gives c.merge_numbers.new.merge) c.args.arena.now c.args.memo.now c.merge_numbers.ensures.known c.requires.holds
+    holds_known (merged_by c.args.self.now) c.args.self.now.round (g.G.Merge.gives c.args.merge.now) (g.G.Merge.gives c.merge_numbers.new.merge) c.args.arena.now c.args.memo.now c.merge_numbers.ensures.goes_on.known c.requires.holds
 
 pub apply_from-returns-in-Some-clause-is_ref : goal.apply_from-returns-in-Some-clause-is_ref
 apply_from-returns-in-Some-clause-is_ref g t c =
@@ -173,7 +173,7 @@ merge_sides-apply_from-requires-2 g t c κs within =
                   c.in_ok-when_false.ensures.when_true.from,
                   (
                     λ letter size. subst (g.G.Merge.may c.apply_from.new.merge) (sym (side.at letter (omega (arith, same))))
-                        (c.apply_from.ensures.may_kept _ (c.requires.may (set letter slot true) (length-set letter slot true ∙ size ∙ same))),
+                        (c.apply_from.ensures.goes_on.may_kept _ (c.requires.may (set letter slot true) (length-set letter slot true ∙ size ∙ same))),
                     c.apply_from.ensures.holds,
                   ),
                 ),
@@ -190,7 +190,7 @@ merge_sides-returns-in_err-hi-clause-stray g t c front function below agrees =
     let inner = c.requires.slot in
     let low = c.in_ok-when_false.ensures.when_false.fixed in
     let high = c.in_ok-when_false.ensures.when_true.fixed in
-    sides_add low high (g.G.Merge.gives c.apply_from.new.merge) (g.G.Merge.gives c.apply_from-2.new.merge) c.apply_from-2.ensures.known
+    sides_add low high (g.G.Merge.gives c.apply_from.new.merge) (g.G.Merge.gives c.apply_from-2.new.merge) c.apply_from-2.ensures.goes_on.known
     c.args.arena.now c.apply_from.new.arena c.apply_from-2.new.arena c.apply_from.ensures.kept c.apply_from-2.ensures.kept inner
     front function (omega arith) c.apply_from.ensures.stray c.apply_from-2.ensures.stray agrees
 
@@ -202,7 +202,7 @@ merge_sides-returns-in_err-hi-clause-full g t c limit e front function below agr
     let high = c.in_ok-when_false.ensures.when_true.fixed in
     let p = err_from_is_err_and c.from_residual-in_err-hi.result c.from_residual-in_err-hi.ensures.1 in
     let fault = c.in_err-hi.was ∙ ap Err (sym p.2) ∙ sym p.1 ∙ e in
-    sides_full low high (g.G.Merge.gives c.apply_from.new.merge) (g.G.Merge.gives c.apply_from-2.new.merge) c.apply_from-2.ensures.known
+    sides_full low high (g.G.Merge.gives c.apply_from.new.merge) (g.G.Merge.gives c.apply_from-2.new.merge) c.apply_from-2.ensures.goes_on.known
     c.args.arena.now c.apply_from.new.arena c.apply_from-2.new.arena c.apply_from.ensures.kept c.apply_from-2.ensures.kept inner
     limit front function c.requires.arena c.apply_from.ensures.arena (omega arith) c.apply_from.ensures.stray (c.apply_from-2.ensures.full limit fault) agrees
 
@@ -213,7 +213,7 @@ merge_sides-returns-clause-value g t c letter size =
     let low = c.in_ok-when_false.ensures.when_false.fixed in
     let high = c.in_ok-when_false.ensures.when_true.fixed in
     subst (g.G.Merge.gives c.apply_from-2.new.merge _) (sym (c.in_ok-root.ensures.value letter))
-    (sides_merged low high (g.G.Merge.gives c.apply_from.new.merge) (g.G.Merge.gives c.apply_from-2.new.merge) c.apply_from-2.ensures.known
+    (sides_merged low high (g.G.Merge.gives c.apply_from.new.merge) (g.G.Merge.gives c.apply_from-2.new.merge) c.apply_from-2.ensures.goes_on.known
     c.args.arena.now c.apply_from.new.arena c.apply_from-2.new.arena c.apply_from.ensures.kept c.apply_from-2.ensures.kept inner
     c.in_ok-lo.lo c.in_ok-hi.hi c.in_ok-lo.ensures.is_ref c.in_ok-lo.ensures.value c.in_ok-hi.ensures.value letter (size ∙ c.node.ensures.kept.slots))
 
@@ -224,7 +224,7 @@ merge_sides-returns-in_err-root-clause-stray g t c front function below agrees =
     let low = c.in_ok-when_false.ensures.when_false.fixed in
     let high = c.in_ok-when_false.ensures.when_true.fixed in
     subst (λ new. AddsOnlyNodesOfFunction c.args.arena.now new function) (sym c.in_err-root.ensures.err)
-    (sides_add low high (g.G.Merge.gives c.apply_from.new.merge) (g.G.Merge.gives c.apply_from-2.new.merge) c.apply_from-2.ensures.known
+    (sides_add low high (g.G.Merge.gives c.apply_from.new.merge) (g.G.Merge.gives c.apply_from-2.new.merge) c.apply_from-2.ensures.goes_on.known
     c.args.arena.now c.apply_from.new.arena c.apply_from-2.new.arena c.apply_from.ensures.kept c.apply_from-2.ensures.kept inner
     front function (omega arith) c.apply_from.ensures.stray c.apply_from-2.ensures.stray agrees)
 
@@ -249,10 +249,10 @@ merge_sides-returns-in_err-root-clause-full g t c limit e front function below a
     let p = err_from_is_err_and c.from_residual-in_err-root.result c.from_residual-in_err-root.ensures.1 in
     let fault = c.in_err-root.was ∙ ap Err (full_from_arena _ _ _ limit p.1 p.2 e) in
     let is_full = (c.node.ensures.full limit).0 fault in
-    let adds = sides_add low high (g.G.Merge.gives c.apply_from.new.merge) gives c.apply_from-2.ensures.known
+    let adds = sides_add low high (g.G.Merge.gives c.apply_from.new.merge) gives c.apply_from-2.ensures.goes_on.known
     old one two c.apply_from.ensures.kept c.apply_from-2.ensures.kept inner
     front function (omega arith) c.apply_from.ensures.stray c.apply_from-2.ensures.stray agrees in
-    let merged = sides_merged low high (g.G.Merge.gives c.apply_from.new.merge) gives c.apply_from-2.ensures.known
+    let merged = sides_merged low high (g.G.Merge.gives c.apply_from.new.merge) gives c.apply_from-2.ensures.goes_on.known
     old one two c.apply_from.ensures.kept c.apply_from-2.ensures.kept inner
     c.in_ok-lo.lo c.in_ok-hi.hi c.in_ok-lo.ensures.is_ref c.in_ok-lo.ensures.value c.in_ok-hi.ensures.value in
     let lo_ref = c.apply_from-2.ensures.kept.refs c.in_ok-lo.lo c.in_ok-lo.ensures.is_ref in
@@ -274,10 +274,10 @@ merge_sides-returns-clause-stray g t c front function below agrees =
     let inner = c.requires.slot in
     let low = c.in_ok-when_false.ensures.when_false.fixed in
     let high = c.in_ok-when_false.ensures.when_true.fixed in
-    let adds = sides_add low high (g.G.Merge.gives c.apply_from.new.merge) gives c.apply_from-2.ensures.known
+    let adds = sides_add low high (g.G.Merge.gives c.apply_from.new.merge) gives c.apply_from-2.ensures.goes_on.known
     old one two c.apply_from.ensures.kept c.apply_from-2.ensures.kept inner
     front function (omega arith) c.apply_from.ensures.stray c.apply_from-2.ensures.stray agrees in
-    let merged = sides_merged low high (g.G.Merge.gives c.apply_from.new.merge) gives c.apply_from-2.ensures.known
+    let merged = sides_merged low high (g.G.Merge.gives c.apply_from.new.merge) gives c.apply_from-2.ensures.goes_on.known
     old one two c.apply_from.ensures.kept c.apply_from-2.ensures.kept inner
     c.in_ok-lo.lo c.in_ok-hi.hi c.in_ok-lo.ensures.is_ref c.in_ok-lo.ensures.value c.in_ok-hi.ensures.value in
     let means : MeansMerged gives whole new c.in_ok-root.root = λ letter size.
