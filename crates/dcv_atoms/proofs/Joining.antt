@@ -1,7 +1,7 @@
 -- Truths as numbers, and how they are joined.
 use Rattle.std.proofs.Common.{◌≡◌, ℕ, zero, suc, ◌<◌, Bool, true, false, ◌&&◌, ◌||◌, ◌==◌, List, [], ◌∷◌, ◌++◌, length, map, get_or, refl, ap, sym, subst, ◌∙◌, arith}
 use Rattle.std.specs.List.{flat_map}
-use Rattle.dcv_logic.specs.Value.{iff}
+use Rattle.dcv_language.specs.Operations.{iff}
 use Rattle.dcv_arena.specs.Arena.{ArenaValue, IsRef, value_of, table_of, places, count_with}
 use Rattle.dcv_arena.specs.Diagram.{node_count}
 use Rattle.dcv_arena.specs.declared.nodes.Ref.{Ref}

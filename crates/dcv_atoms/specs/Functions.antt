@@ -9,7 +9,7 @@
 use Rattle.std.specs.Prelude.{◌≡◌, ◌<◌, ◌==◌, ℕ, Bool, true, false, ◌&&◌, ◌||◌, List, [], ◌∷◌, length, slice_index_or}
 use Rattle.dcv_arena.specs.Arena.{ArenaValue, IsArena, IsRef, value_of}
 use Rattle.dcv_arena.specs.declared.nodes.Ref.{Ref}
-use Rattle.dcv_logic.specs.Value.{iff}
+use Rattle.dcv_language.specs.Operations.{iff}
 use Rattle.dcv_core.specs.Core.{PlainTruth, PlainTruths, TruthAnd, TruthOr, TruthIff}
 use Rattle.dcv_core.specs.Holds.{truth_holds}
 use Rattle.dcv_atoms.specs.declared.functions.Join.{Join}

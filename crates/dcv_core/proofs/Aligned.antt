@@ -1,9 +1,8 @@
 -- Searches over two intervals of one length agree where what is searched for agrees at the instants that stand side by side.
-use Rattle.std.proofs.Common.{◌≡◌, ℕ, zero, suc, ◌+◌, ◌-◌, ◌<◌, ◌≤◌, Bool, true, false, cond, [], ◌∷◌, length, refl, ap, ◌∙◌, arith}
+use Rattle.std.proofs.Common.{◌≡◌, ℕ, zero, suc, ◌+◌, ◌-◌, ◌<◌, ◌≤◌, Bool, cond, refl, ap, ◌∙◌, arith}
 use Rattle.std.specs.Prelude.{◌||◌, ◌&&◌, ◌==◌, not}
 use Rattle.std.proofs.lemmas.Bool.Decides.{nat_tests}
-use Rattle.dcv_logic.specs.Track.{Track}
-use Rattle.dcv_logic.specs.Search.{some_from, some_between, each_between, count_from, count_between, some_track}
+use Rattle.dcv_logic.specs.Search.{some_from, some_between, each_between, count_from, count_between}
 use Rattle.dcv_logic.specs.Satisfaction.{star}
 
 -- instants m and m' stand side by side, where b and x do
@@ -89,12 +88,3 @@ module _ (c d : ℕ → ℕ → Bool) where
       let same_m : m ≡ m' = omega (arith, beside_m) in
       let same_k : k ≡ k' = omega (arith, beside_k) in
       h m k lo up hi ∙ (λ i. d (same_m i) (same_k i)))
-
--- ---- tracks
-
-pub some_track-same : (n : ℕ) (p q : Track → Bool) → ((track : Track) → length track ≡ n → p track ≡ q track) → some_track n p ≡ some_track n q
-some_track-same zero p q h = h [] refl
-some_track-same (suc n) p q h =
-    let one = some_track-same n (λ track. p (false ∷ track)) (λ track. q (false ∷ track)) (λ track e. h (false ∷ track) (ap suc e)) in
-    let two = some_track-same n (λ track. p (true ∷ track)) (λ track. q (true ∷ track)) (λ track e. h (true ∷ track) (ap suc e)) in
-    λ i. one i || two i

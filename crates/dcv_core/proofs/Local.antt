@@ -5,10 +5,9 @@ use Rattle.std.specs.Prelude.{◌||◌, ◌&&◌, ◌==◌, nat_lt}
 use Rattle.std.proofs.lemmas.Bool.Decides.{nat_tests}
 use Rattle.std.proofs.lemmas.List.{get_or-take, get_or-drop}
 use Rattle.dcv_word.specs.Behaviour.{Word}
-use Rattle.dcv_language.specs.Operations.{with_track}
+use Rattle.dcv_language.specs.Operations.{with_track, some_track, iff}
 use Rattle.dcv_logic.specs.Track.{Track, truth_at, track_of}
-use Rattle.dcv_logic.specs.Search.{each_between, count_from, some_track}
-use Rattle.dcv_logic.specs.Value.{iff}
+use Rattle.dcv_logic.specs.Search.{each_between, count_from}
 use Rattle.dcv_logic.specs.Satisfaction.{compares, star}
 use Rattle.dcv_logic.proofs.InWords.{some_track-found, track-length, track-values}
 use Rattle.dcv_core.specs.Core.{PlainTruth, PlainBasic, BasicConstant, BasicPoint, BasicRun, BasicEvery, BasicUnit, BasicSlen, BasicScount, BasicSdur, CoreTree, CoreAtom, CoreNot, CoreAnd, CoreOr, CoreIff, CoreChop, CoreStar, CoreExists}

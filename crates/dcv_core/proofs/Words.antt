@@ -6,12 +6,12 @@ use Rattle.std.proofs.lemmas.List.{get_or-take, get_or-drop}
 use Rattle.std.proofs.lemmas.List.Sums.{sum_by-cons}
 use Rattle.std.proofs.lemmas.Bool.Decides.{nat_tests}
 use Rattle.dcv_word.specs.Behaviour.{Word}
-use Rattle.dcv_language.specs.Operations.{some_below, some_track, with_track, iff, star_within}
+use Rattle.dcv_language.specs.Operations.{some_below, with_track, star_within}
 use Rattle.dcv_language.specs.Atoms.{all_but_last}
-use Rattle.dcv_logic.specs.Search.{some_from, some_between, each_between, count_from, count_between, some_track as some_truths}
-use Rattle.dcv_logic.specs.Value.{iff as same_truths}
+use Rattle.dcv_logic.specs.Search.{some_from, some_between, each_between, count_from, count_between}
 use Rattle.dcv_logic.specs.Satisfaction.{compares, star as star_of}
 use Rattle.dcv_logic.proofs.SearchSteps.{star_enough}
+use Rattle.dcv_language.proofs.Behaviours.{some_track-same}
 use Rattle.dcv_core.specs.Core.{PlainTruth, BasicConstant, BasicPoint, BasicRun, BasicEvery, BasicUnit, BasicSlen, BasicScount, BasicSdur, CoreTree}
 use Rattle.dcv_core.specs.Holds.{letter_at, truth_holds, holds_at, core_holds, words_of}
 use Rattle.dcv_core.specs.Laws.{WordsOfAtom, WordsOfNot, WordsOfAnd, WordsOfOr, WordsOfIff, WordsOfChop, WordsOfStar, WordsOfExists}
@@ -70,13 +70,9 @@ pub words_of_or : WordsOfOr
 words_of_or c d span [] some = absurd (omega (arith, some))
 words_of_or c d span (letter ∷ letters) some = refl
 
-iff_is : (a b : Bool) → same_truths a b ≡ iff a b
-iff_is true b = refl
-iff_is false b = refl
-
 pub words_of_iff : WordsOfIff
 words_of_iff c d span [] some = absurd (omega (arith, some))
-words_of_iff c d span (letter ∷ letters) some = iff_is (words_of c (letter ∷ letters)) (words_of d (letter ∷ letters))
+words_of_iff c d span (letter ∷ letters) some = refl
 
 -- ---- chop
 
@@ -147,18 +143,11 @@ words_of_star d span (letter ∷ letters) some =
 
 -- ---- exists
 
-some_track-alike : (n : ℕ) (p q : List Bool → Bool) → ((track : List Bool) → length track ≡ n → p track ≡ q track) → some_truths n p ≡ some_track n q
-some_track-alike zero p q h = h [] refl
-some_track-alike (suc n) p q h =
-    let one = some_track-alike n (λ track. p (false ∷ track)) (λ track. q (false ∷ track)) (λ track e. h (false ∷ track) (ap suc e)) in
-    let two = some_track-alike n (λ track. p (true ∷ track)) (λ track. q (true ∷ track)) (λ track e. h (true ∷ track) (ap suc e)) in
-    λ i. one i || two i
-
 pub words_of_exists : WordsOfExists
 words_of_exists d span [] some = absurd (omega (arith, some))
 words_of_exists d span (letter ∷ letters) some =
     let word = letter ∷ letters in
-    some_track-alike (length word) (λ track. core_holds d (with_track word track) 0 (length letters)) (λ track. words_of d (with_track word track))
+    some_track-same (length word) (λ track. core_holds d (with_track word track) 0 (length letters)) (λ track. words_of d (with_track word track))
     (λ track level.
     let as_long = with_track-length word track level in
     ap (core_holds d (with_track word track) 0) (omega (arith, as_long))

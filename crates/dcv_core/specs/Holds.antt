@@ -4,13 +4,12 @@
 --     core_holds       a core, from instant b to instant e
 --     words_of         the set of words on the whole of which a core holds
 use Rattle.std.specs.Prelude.{ℕ, ◌+◌, ◌-◌, Bool, true, false, ◌&&◌, ◌||◌, not, ◌==◌, nat_lt, List, [], ◌∷◌, length, slice_index_or, take, drop, suc}
-use Rattle.dcv_logic.specs.Search.{some_between, each_between, count_from, count_between, some_track}
+use Rattle.dcv_logic.specs.Search.{some_between, each_between, count_from, count_between}
+use Rattle.dcv_language.specs.Operations.{some_track, iff, with_track}
 use Rattle.dcv_logic.specs.Track.{truth_at}
-use Rattle.dcv_logic.specs.Value.{iff}
 use Rattle.dcv_logic.specs.Satisfaction.{compares, star}
 use Rattle.dcv_word.specs.Behaviour.{Word}
 use Rattle.dcv_language.specs.Language.{Language}
-use Rattle.dcv_language.specs.Operations.{with_track}
 use Rattle.dcv_core.specs.Core.{PlainTruth, TruthConstant, TruthSlot, TruthNot, TruthAnd, TruthOr, TruthIff, PlainTruths, no_truths, truth_operand}
 use Rattle.dcv_core.specs.Core.{PlainBasic, BasicConstant, BasicPoint, BasicRun, BasicEvery, BasicUnit, BasicSlen, BasicScount, BasicSdur, CoreTree}
 use Rattle.dcv_core.specs.Core.{CoreAtom, CoreNot, CoreAnd, CoreOr, CoreIff, CoreChop, CoreStar, CoreExists}

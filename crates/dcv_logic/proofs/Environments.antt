@@ -12,7 +12,8 @@ use Rattle.dcv_logic.specs.declared.scopes.Binding.{Binding}
 use Rattle.dcv_logic.specs.declared.scopes.Scope.{Scope}
 use Rattle.dcv_logic.specs.Environment.{Environment, found}
 use Rattle.dcv_logic.specs.Models.{macro_meaning, with_macros}
-use Rattle.dcv_logic.specs.Scope.{tracks_of, top_environment, environment_of, IsNewest}
+use Rattle.dcv_logic.specs.Newest.{IsNewest}
+use Rattle.dcv_logic.specs.Scope.{tracks_of, top_environment, environment_of}
 
 -- the first of two, where it is there
 abbrev pub or_else : {X : Type 0} → Option X → Option X → Option X

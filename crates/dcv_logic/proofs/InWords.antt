@@ -10,7 +10,8 @@ use Rattle.std.proofs.lemmas.Bool.Decides.{Decides-like, Decides-at, Decides-not
 use Rattle.std.proofs.lemmas.List.Sums.{sum_by-cons}
 use Rattle.std.proofs.lemmas.List.FromFn.{length-map-range_with_len, get_or-map-range_with_len}
 use Rattle.dcv_logic.specs.Track.{Track, truth_at, values_from}
-use Rattle.dcv_logic.specs.Search.{some_from, some_between, some_track}
+use Rattle.dcv_logic.specs.Search.{some_from, some_between}
+use Rattle.dcv_language.specs.Operations.{some_track}
 use Rattle.dcv_logic.specs.Satisfaction.{satisfies, chop_holds, star, somewhere}
 use Rattle.dcv_logic.specs.Laws.{SomeBetweenIsThere, EachBetweenIsEvery, SomeTrackIsThere, TrackHasEachInstant, TrackHasItsValues, CountFromCounts, CountBetweenCounts, RunInWords, EveryInWords, ChopOfOne, ChopInWords, StarInWords, StarBoundIsFree, SomewhereInWords, EverywhereInWords, ExistsInWords, ForAllInWords}
 use Rattle.dcv_logic.specs.Value.{value}

@@ -7,7 +7,7 @@ use Rattle.dcv_syntax.specs.declared.formulas.FormulaKind.TheBlock.{Row_of-Formu
 use Rattle.dcv_syntax.specs.declared.files.Macro.{Macro}
 use Rattle.dcv_syntax.specs.declared.files.MacroBody.{MacroBody}
 use Rattle.dcv_syntax.specs.declared.files.MacroBody.TheVariants.{Formula as FormulaBody, Prop as PropBody}
-use Rattle.dcv_logic.specs.Scope.{IsNewest}
+use Rattle.dcv_logic.specs.Newest.{IsNewest}
 
 abbrev pub prop_depth : MacroBody → ℕ
 prop_depth (FormulaBody f) = 0

@@ -13,7 +13,8 @@ use Rattle.dcv_syntax.specs.Views.{plain_prop_kind, plain_prop, plain_prop_opera
 use Rattle.dcv_syntax.proofs.PlainRows.{plain_call, plain_prop_and, plain_prop_or, plain_prop_iff, plain_and, plain_or, plain_iff, plain_chop}
 use Rattle.dcv_logic.specs.Track.{track_of}
 use Rattle.dcv_logic.specs.Environment.{Environment, found}
-use Rattle.dcv_logic.specs.Value.{value, call_value, argument_tracks, all_true, some_true, iff_all, iff}
+use Rattle.dcv_logic.specs.Value.{value, call_value, argument_tracks, all_true, some_true, iff_all}
+use Rattle.dcv_language.specs.Operations.{iff}
 use Rattle.dcv_logic.specs.Satisfaction.{satisfies, macro_holds, all_hold, some_hold, iff_holds, chop_holds}
 use Rattle.dcv_logic.specs.Scope.{argument_tracks_of, chop_of}
 use Rattle.dcv_logic.proofs.SearchSteps.{some_from-same}

@@ -6,7 +6,8 @@ use Rattle.dcv_syntax.specs.declared.names.Name.{Name}
 use Rattle.dcv_syntax.specs.declared.names.Span.{Span}
 use Rattle.dcv_syntax.specs.Plain.{PlainProp, PlainFormulaKind, FormulaRun, FormulaEvery, FormulaStar, FormulaSomewhere, FormulaEverywhere, FormulaExists, FormulaForAll, PlainFormulaOperands, no_formula_operands, formula_operand}
 use Rattle.dcv_logic.specs.Track.{Track, truth_at, track_of}
-use Rattle.dcv_logic.specs.Search.{some_between, each_between, count_from, count_between, some_track}
+use Rattle.dcv_logic.specs.Search.{some_between, each_between, count_from, count_between}
+use Rattle.dcv_language.specs.Operations.{some_track}
 use Rattle.dcv_logic.specs.Environment.{Environment, bind}
 use Rattle.dcv_logic.specs.Value.{value}
 use Rattle.dcv_logic.specs.Satisfaction.{satisfies, chop_holds, star}

@@ -2,6 +2,7 @@
 pub mod Track
 pub mod Search
 pub mod Environment
+pub mod Newest
 pub mod Value
 pub mod Satisfaction
 pub mod Models

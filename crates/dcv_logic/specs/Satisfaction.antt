@@ -12,9 +12,10 @@ use Rattle.dcv_syntax.specs.Plain.{PlainFormulaOperands, no_formula_operands, fo
 use Rattle.dcv_syntax.specs.declared.formulas.Relation.{Relation}
 use Rattle.dcv_syntax.specs.declared.formulas.Relation.TheVariants.{Equal, Less, AtMost, Greater, AtLeast}
 use Rattle.dcv_logic.specs.Track.{Track}
-use Rattle.dcv_logic.specs.Search.{some_between, each_between, count_from, count_between, some_track}
+use Rattle.dcv_logic.specs.Search.{some_between, each_between, count_from, count_between}
+use Rattle.dcv_language.specs.Operations.{some_track, iff}
 use Rattle.dcv_logic.specs.Environment.{Environment, Meaning, PropMeaning, FormulaMeaning, found, bind}
-use Rattle.dcv_logic.specs.Value.{value, argument_tracks, iff}
+use Rattle.dcv_logic.specs.Value.{value, argument_tracks}
 
 -- a number stands in the relation to another
 abbrev pub compares : Relation → ℕ → ℕ → Bool

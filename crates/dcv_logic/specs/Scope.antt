@@ -1,6 +1,5 @@
 -- What the evaluator's scope stands for, in the words of `Environment`. Only proofs and private functions speak of it.
-use Rattle.std.specs.Prelude.{◌≡◌, ◌≢◌, ℕ, Bool, ◌==◌, ◌&&◌, List, [], ◌∷◌, ◌++◌, map}
-use Rattle.std.specs.List.{AllByRecursion}
+use Rattle.std.specs.Prelude.{ℕ, Bool, ◌==◌, ◌&&◌, List, [], ◌∷◌, ◌++◌, map}
 use Rattle.dcv_syntax.specs.declared.files.Macro.{Macro}
 use Rattle.dcv_syntax.specs.declared.propositions.Prop.{Prop}
 use Rattle.dcv_syntax.specs.declared.formulas.FormulaOperand.{FormulaOperand}
@@ -29,12 +28,6 @@ environment_of scope =
     record (top_environment scope.instants scope.declared.now scope.macros.now) {
       tracks = tracks_of scope.locals.items ++ tracks_of scope.declared.now;
     }
-
--- the last macro of this name, and those before it
-pub record IsNewest (macros : List Macro) (sought : List ℕ) (last : Macro) (earlier : List Macro) : Type 0 where
-  pub name : last.name.text ≡ sought
-  pub later : (after : List Macro) × (macros ≡ earlier ++ last ∷ after)
-      × AllByRecursion (λ (m : Macro). m.name.text ≢ sought) after
 
 -- the tracks of a macro's arguments, along the code's list of them
 abbrev pub argument_tracks_of : Environment → List Prop → List Track

@@ -1,5 +1,5 @@
--- Bounded searches: some instant of an interval, some track of a length, how many instants.
-use Rattle.std.specs.Prelude.{ℕ, zero, suc, ◌+◌, ◌-◌, Bool, true, false, ◌||◌, not, List, [], ◌∷◌, if◌then◌else◌}
+-- Bounded searches: some instant of an interval, and how many instants.
+use Rattle.std.specs.Prelude.{ℕ, zero, suc, ◌+◌, ◌-◌, Bool, false, ◌||◌, not, if◌then◌else◌}
 
 -- one of the n instants from i on has p
 abbrev pub some_from : ℕ → ℕ → (ℕ → Bool) → Bool
@@ -22,8 +22,3 @@ count_from i (suc n) p = (if p i then 1 else 0) + count_from (i + 1) n p
 -- how many m with b ≤ m ≤ e have p
 abbrev pub count_between : ℕ → ℕ → (ℕ → Bool) → ℕ
 count_between b e p = count_from b (e + 1 - b) p
-
--- some list of n truths has p
-abbrev pub some_track : ℕ → (List Bool → Bool) → Bool
-some_track zero p = p []
-some_track (suc n) p = some_track n (λ track. p (false ∷ track)) || some_track n (λ track. p (true ∷ track))

@@ -1,13 +1,9 @@
 -- The value of a proposition at an instant: an equation for each form, below the form as it is written in a file.
 use Rattle.std.specs.Prelude.{ℕ, Bool, true, false, ◌&&◌, ◌||◌, not, List, [], ◌∷◌, Option, Some, None}
 use Rattle.dcv_syntax.specs.Plain.{PlainPropKind, PropConstant, PropCall, PropNot, PropAnd, PropOr, PropImplies, PropIff, PlainArguments, no_arguments, argument, PlainPropOperands, no_prop_operands, prop_operand}
+use Rattle.dcv_language.specs.Operations.{iff}
 use Rattle.dcv_logic.specs.Track.{Track, truth_at, track_of}
 use Rattle.dcv_logic.specs.Environment.{Environment, Meaning, PropMeaning, FormulaMeaning, found}
-
--- two truths are the same
-abbrev pub iff : Bool → Bool → Bool
-iff true b = b
-iff false b = not b
 
 -- a variable, parameter or quantified name: its track, where there are no arguments
 abbrev pub track_value : Track → List Track → ℕ → Bool

@@ -17,6 +17,7 @@
 #![tactic(auto)]
 
 pub mod laws;
+mod macros;
 mod models;
 mod satisfaction;
 mod scopes;
@@ -24,4 +25,5 @@ mod searches;
 mod tracks;
 mod values;
 
+pub use macros::newest;
 pub use models::holds;

@@ -3,9 +3,9 @@
 ghost use Rattle.std.specs.Prelude.{◌≡◌, ◌-◌, ◌<◌, ◌≤◌, ◌&&◌, true, IfOk};
 ghost use Rattle.std.specs.List.{list_all, list_any, fold};
 ghost use Rattle.dcv_syntax.specs.Views.{plain_formula_kind};
-ghost use Rattle.dcv_logic.specs.Search.{some_between, some_track};
+ghost use Rattle.dcv_logic.specs.Search.{some_between};
+ghost use Rattle.dcv_language.specs.Operations.{some_track, iff};
 ghost use Rattle.dcv_logic.specs.Environment.{found, bind};
-ghost use Rattle.dcv_logic.specs.Value.{iff};
 ghost use Rattle.dcv_logic.specs.Satisfaction.{compares, satisfies, macro_holds, star, somewhere};
 ghost use Rattle.dcv_logic.specs.Scope.{environment_of, argument_tracks_of, chop_of};
 

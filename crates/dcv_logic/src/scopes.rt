@@ -1,11 +1,12 @@
 // What a judgement can see: variables with their tracks, and macros.
-ghost use Rattle.std.specs.Prelude.{◌≡◌, ◌≢◌, map, IfOk, IfSome, MatchOption, option_copied};
-ghost use Rattle.std.specs.List.{AllByRecursion};
+ghost use Rattle.std.specs.Prelude.{◌≡◌, map, IfOk, IfSome, MatchOption, option_copied};
 ghost use Rattle.dcv_syntax.specs.Views.{plain_macro};
 ghost use Rattle.dcv_logic.specs.Environment.{found, bind, bind_all};
 ghost use Rattle.dcv_logic.specs.Models.{macro_meaning};
-ghost use Rattle.dcv_logic.specs.Scope.{tracks_of, top_environment, environment_of, IsNewest};
+ghost use Rattle.dcv_logic.specs.Newest.{IsNewest};
+ghost use Rattle.dcv_logic.specs.Scope.{tracks_of, top_environment, environment_of};
 
+use crate::macros::newest;
 use dcv_syntax::{Macro, Name, Text};
 use std::alloc::{AllocError, Global};
 
@@ -50,22 +51,6 @@ fn track_in<'a>(bindings: &'a [Binding], name: &Text) -> Option<&'a [bool]>
         if binding.name.as_bytes() == name.as_bytes() {
             return Some(binding.track.as_slice());
         }
-    }
-    None
-}
-
-// The last macro of the name, and those before it.
-fn newest<'a>(macros: &'a [Macro], name: &Text) -> Option<(&'a Macro, &'a [Macro])>
-    ensures { MatchOption result
-        (AllByRecursion (λ m. m.name.text ≢ name.now) macros.now)
-        (λ found. IsNewest macros.now name.now found.0.now found.1.now) }
-{
-    let mut earlier = macros;
-    while let Some((last, before)) = earlier.split_last() {
-        if last.name.text.as_bytes() == name.as_bytes() {
-            return Some((last, before));
-        }
-        earlier = before;
     }
     None
 }

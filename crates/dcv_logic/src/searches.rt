@@ -2,7 +2,8 @@
 ghost use Rattle.std.specs.Prelude.{◌≡◌, ◌∷◌, ◌+◌, ◌-◌, ◌^◌, ◌<◌, ◌||◌, Bool, true, false, List, map, IfOk};
 ghost use Rattle.std.specs.List.{list_any};
 ghost use Rattle.dcv_syntax.specs.Views.{plain_prop_kind};
-ghost use Rattle.dcv_logic.specs.Search.{each_between, count_from, some_track};
+ghost use Rattle.dcv_logic.specs.Search.{each_between, count_from};
+ghost use Rattle.dcv_language.specs.Operations.{some_track};
 ghost use Rattle.dcv_logic.specs.Value.{value};
 ghost use Rattle.dcv_logic.specs.Scope.{environment_of};
 

@@ -4,7 +4,8 @@ ghost use Rattle.std.specs.List.{list_all, list_any, fold};
 ghost use Rattle.dcv_syntax.specs.Views.{plain_prop_kind};
 ghost use Rattle.dcv_logic.specs.Track.{track_of};
 ghost use Rattle.dcv_logic.specs.Environment.{found};
-ghost use Rattle.dcv_logic.specs.Value.{value, call_value, iff};
+ghost use Rattle.dcv_logic.specs.Value.{value, call_value};
+ghost use Rattle.dcv_language.specs.Operations.{iff};
 ghost use Rattle.dcv_logic.specs.Scope.{environment_of, argument_tracks_of};
 
 use crate::scopes::Scope;

@@ -12,7 +12,7 @@ use Rattle.dcv_syntax.specs.Plain.{PlainMacro, PlainPropKind, PropConstant, Prop
 use Rattle.dcv_syntax.specs.Plain.{no_arguments, argument, PlainPropOperands, no_prop_operands, prop_operand}
 use Rattle.dcv_syntax.specs.Views.{plain_macro}
 use Rattle.dcv_logic.specs.Environment.{found}
-use Rattle.dcv_logic.specs.Scope.{IsNewest}
+use Rattle.dcv_logic.specs.Newest.{IsNewest}
 use Rattle.dcv_scope.specs.declared.measures.MacroMeasure.{MacroMeasure}
 use Rattle.dcv_core.specs.Core.{PlainTruth, TruthConstant, TruthNot, TruthAnd, TruthOr, TruthIff, no_truths, truth_operand}
 use Rattle.dcv_scope.specs.CoreOf.{Sight, expansion_of, with_expansions, declared_slots, truth_of, truth_of_call}

@@ -8,11 +8,11 @@ use Rattle.dcv_syntax.specs.declared.names.Span.{Span}
 use Rattle.dcv_syntax.specs.Spans.{covering}
 use Rattle.dcv_syntax.specs.Plain.{PlainPropKind, PropConstant, PropCall, PropNot, PropAnd, PropOr, PropImplies, PropIff, PlainArguments, no_arguments, argument, PlainPropOperands, no_prop_operands, prop_operand, PlainFormulaKind, FormulaConstant, FormulaPt, FormulaExt, FormulaPoint, FormulaRun, FormulaEvery, FormulaUnit, FormulaSlen, FormulaScount, FormulaSdur, FormulaCall, FormulaNot, FormulaAnd, FormulaOr, FormulaImplies, FormulaIff, FormulaChop, FormulaStar, FormulaSomewhere, FormulaEverywhere, FormulaExists, FormulaForAll, PlainFormulaOperands, no_formula_operands, formula_operand, arguments_of, PlainMacroBody, FormulaBody, PropBody, PlainMacro, PlainFile}
 use Rattle.dcv_word.specs.Behaviour.{Word}
-use Rattle.dcv_language.specs.Operations.{with_track}
+use Rattle.dcv_language.specs.Operations.{with_track, some_track, iff}
 use Rattle.dcv_logic.specs.Track.{Track, truth_at, slot_track}
-use Rattle.dcv_logic.specs.Search.{some_between, each_between, some_track}
+use Rattle.dcv_logic.specs.Search.{some_between, each_between}
 use Rattle.dcv_logic.specs.Environment.{Environment, Meaning, PropMeaning, FormulaMeaning, found, bind, bind_all}
-use Rattle.dcv_logic.specs.Value.{value, call_value, argument_tracks, all_true, some_true, iff_all, iff}
+use Rattle.dcv_logic.specs.Value.{value, call_value, argument_tracks, all_true, some_true, iff_all}
 use Rattle.dcv_logic.specs.Satisfaction.{compares, satisfies, macro_holds, all_hold, some_hold, iff_holds, chop_holds}
 use Rattle.dcv_logic.specs.Models.{declared_from, macro_meaning, body_meaning, with_macros, goal_environment}
 use Rattle.dcv_logic.proofs.InWords.{track-values}
@@ -23,7 +23,8 @@ use Rattle.dcv_scope.specs.Laws.{CoreMeansText, WordsAreModels}
 use Rattle.std.proofs.Math.Bool.{or-false}
 use Rattle.dcv_core.proofs.Tracks.{with_track-length, with_track-letter, slot_track-truth, Further, further_itself, further_on, further_by_track, slot_further, slot_behind}
 use Rattle.dcv_core.proofs.Chops.{and-true, and-assoc, or-assoc, chop-one, chop-assoc, somewhere-chop, each_true}
-use Rattle.dcv_core.proofs.Aligned.{count_from-same, some_between-same, count_between-same, each_between-same, star-same, some_track-same}
+use Rattle.dcv_core.proofs.Aligned.{count_from-same, some_between-same, count_between-same, each_between-same, star-same}
+use Rattle.dcv_language.proofs.Behaviours.{some_track-same}
 
 -- ---- what it is to agree
 

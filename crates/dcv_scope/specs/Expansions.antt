@@ -8,7 +8,7 @@ use Rattle.dcv_syntax.specs.declared.formulas.FormulaOperand.{FormulaOperand}
 use Rattle.dcv_syntax.specs.Plain.{PlainPropKind, PropCall, no_arguments, PlainFormulaOperands, formula_operands_of}
 use Rattle.dcv_syntax.specs.Views.{plain_prop_kind, plain_formula_operand, plain_macro}
 use Rattle.dcv_logic.specs.Environment.{found}
-use Rattle.dcv_logic.specs.Scope.{IsNewest}
+use Rattle.dcv_logic.specs.Newest.{IsNewest}
 use Rattle.dcv_scope.specs.declared.expansion.Meaning.{Meaning}
 use Rattle.dcv_scope.specs.declared.expansion.Meaning.TheVariants.{Slot, Argument}
 use Rattle.dcv_scope.specs.declared.expansion.Binding.{Binding}

@@ -1,11 +1,9 @@
 // The core of the goal: a walk over the text, in which a call goes on in the body of its macro.
-ghost use Rattle.std.specs.Prelude.{◌≡◌, ◌≢◌, ◌<◌, ◌≤◌, ◌+◌, ◌^◌, ◌++◌, [], length, map, false, Some, None, IfOk, MatchOption};
-ghost use Rattle.std.specs.List.{AllByRecursion};
+ghost use Rattle.std.specs.Prelude.{◌≡◌, ◌<◌, ◌≤◌, ◌+◌, ◌^◌, ◌++◌, [], length, map, false, Some, None, IfOk, MatchOption};
 ghost use Rattle.std.specs.Option.{option_map};
 ghost use Rattle.dcv_syntax.specs.Spans.{covering};
 ghost use Rattle.dcv_syntax.specs.Views.{plain_prop_kind, plain_formula_kind, plain_macro, plain_file};
 ghost use Rattle.dcv_logic.specs.Environment.{found};
-ghost use Rattle.dcv_logic.specs.Scope.{IsNewest};
 ghost use Rattle.dcv_core.specs.Core.{TruthConstant, TruthNot, TruthOr, no_truths, truth_operand, BasicConstant};
 ghost use Rattle.dcv_core.specs.Core.{CoreAtom, CoreNot, CoreOr, CoreStar, CoreExists};
 ghost use Rattle.dcv_scope.specs.CoreOf.{bind_slot, bind_arguments, declared_slots, truth_of_call, truth_of};
@@ -26,6 +24,7 @@ mod relays;
 use self::relays::relays_of;
 use crate::measures::MacroMeasure;
 use dcv_core::{Basic, Core, Operator, Truth};
+use dcv_logic::newest;
 use dcv_syntax::{
     File, Formula, FormulaKind, FormulaOperand, Macro, MacroBody, Name, Prop, PropKind,
     PropOperand, Span, Text,
@@ -80,22 +79,6 @@ struct Called<'a> {
     macros: &'a [Macro],
     uses: &'a [MacroMeasure],
     relays: &'a [Option<usize>],
-}
-
-// The last macro of the name, and those before it.
-fn newest<'a>(macros: &'a [Macro], name: &Text) -> Option<(&'a Macro, &'a [Macro])>
-    ensures { MatchOption result
-        (AllByRecursion (λ m. m.name.text ≢ name.now) macros.now)
-        (λ found. IsNewest macros.now name.now found.0.now found.1.now) }
-{
-    let mut earlier = macros;
-    while let Some((last, before)) = earlier.split_last() {
-        if last.name.text.as_bytes() == name.as_bytes() {
-            return Some((last, before));
-        }
-        earlier = before;
-    }
-    None
 }
 
 // These names, and then the declared variables.

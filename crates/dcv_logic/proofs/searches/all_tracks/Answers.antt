@@ -1,7 +1,7 @@
 use Rattle.std.proofs.Common.{◌∷◌, Bool, true, false, sym, ap, ◌∙◌, add-one}
 use Rattle.std.specs.Prelude.{◌||◌}
 use Rattle.std.specs.List.{list_any}
-use Rattle.dcv_logic.specs.Search.{some_track}
+use Rattle.dcv_language.specs.Operations.{some_track}
 use Rattle.dcv_logic.proofs.SearchSteps.{list_any-map}
 use Rattle.dcv_logic.proofs.searches.all_tracks.Goals as goal
 

@@ -1,6 +1,6 @@
 use Rattle.std.proofs.Common.{◌≡◌, List, Bool, map}
 use Rattle.std.specs.List.{list_any}
-use Rattle.dcv_logic.specs.Search.{some_track}
+use Rattle.dcv_language.specs.Operations.{some_track}
 use Rattle.dcv_logic.proofs.searches.all_tracks.Given as goal
 
 -- the tracks so far are all of their length

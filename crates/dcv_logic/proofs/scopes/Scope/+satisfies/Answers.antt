@@ -10,9 +10,9 @@ use Rattle.dcv_syntax.specs.declared.formulas.FormulaOperand.{FormulaOperand}
 use Rattle.dcv_logic.specs.declared.scopes.Scope.{Scope}
 use Rattle.dcv_syntax.specs.Views.{plain_formula_kind, plain_body}
 use Rattle.dcv_logic.specs.Track.{Track}
-use Rattle.dcv_logic.specs.Search.{some_between, some_track}
+use Rattle.dcv_logic.specs.Search.{some_between}
+use Rattle.dcv_language.specs.Operations.{some_track, iff}
 use Rattle.dcv_logic.specs.Environment.{Environment, found, bind, bind_all}
-use Rattle.dcv_logic.specs.Value.{iff}
 use Rattle.dcv_logic.specs.Satisfaction.{satisfies, macro_holds, star, somewhere}
 use Rattle.dcv_logic.specs.Models.{body_meaning}
 use Rattle.dcv_logic.specs.Scope.{environment_of, top_environment, argument_tracks_of, chop_of}

@@ -5,7 +5,7 @@ use Rattle.dcv_syntax.specs.declared.formulas.FormulaOperand.{FormulaOperand}
 use Rattle.dcv_syntax.specs.Views.{plain_formula_kind}
 use Rattle.dcv_logic.specs.Search.{some_from, some_between}
 use Rattle.dcv_logic.specs.Environment.{bind}
-use Rattle.dcv_logic.specs.Value.{iff}
+use Rattle.dcv_language.specs.Operations.{iff}
 use Rattle.dcv_logic.specs.Satisfaction.{satisfies, star}
 use Rattle.dcv_logic.specs.Scope.{environment_of, chop_of}
 use Rattle.dcv_logic.proofs.Measures.{work, list_work, body_work, all_bodies}

@@ -4,7 +4,8 @@ use Rattle.dcv_syntax.specs.declared.propositions.Prop.{Prop}
 use Rattle.dcv_syntax.specs.declared.propositions.PropOperand.{PropOperand}
 use Rattle.dcv_syntax.specs.Views.{plain_prop_kind}
 use Rattle.dcv_logic.specs.Track.{track_of, values_from}
-use Rattle.dcv_logic.specs.Value.{value, iff}
+use Rattle.dcv_logic.specs.Value.{value}
+use Rattle.dcv_language.specs.Operations.{iff}
 use Rattle.dcv_logic.specs.Scope.{environment_of}
 use Rattle.dcv_logic.proofs.Measures.{prop_depth, all_bodies}
 use Rattle.dcv_logic.proofs.scopes.Scope.+value.Given as goal

@@ -5,7 +5,8 @@ use Rattle.dcv_syntax.specs.Views.{plain_macro}
 use Rattle.dcv_logic.specs.declared.scopes.Scope.{Scope}
 use Rattle.dcv_logic.specs.Environment.{found}
 use Rattle.dcv_logic.specs.Models.{macro_meaning}
-use Rattle.dcv_logic.specs.Scope.{top_environment, environment_of, IsNewest}
+use Rattle.dcv_logic.specs.Newest.{IsNewest}
+use Rattle.dcv_logic.specs.Scope.{top_environment, environment_of}
 use Rattle.dcv_logic.proofs.Environments.{found_newest, found_none}
 use Rattle.dcv_logic.proofs.scopes.Scope.called.Goals as goal
 

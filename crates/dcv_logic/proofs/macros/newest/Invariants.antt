@@ -1,7 +1,7 @@
 use Rattle.std.proofs.Common.{◌≡◌, ◌≢◌, ◌++◌, List, length}
 use Rattle.std.specs.List.{AllByRecursion}
 use Rattle.dcv_syntax.specs.declared.files.Macro.{Macro}
-use Rattle.dcv_logic.proofs.scopes.newest.Given as goal
+use Rattle.dcv_logic.proofs.macros.newest.Given as goal
 
 -- none of those after has the name
 abbrev pub invariant-loop-last : goal.invariant-loop-last
