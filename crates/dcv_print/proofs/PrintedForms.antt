@@ -12,11 +12,11 @@ use Rattle.dcv_dfa.specs.declared.node_lines.NodeLine.{NodeLine}
 use Rattle.dcv_dfa.specs.NodeLines.{IsBelow, node_lines_of, numbered}
 use Rattle.dcv_dfa.specs.Raw.{raw_accepts}
 use Rattle.dcv_dfa.proofs.Reduced.{has_node_lines}
-use Rattle.dcv_shortest.specs.declared.proof.Access.{Access as CodeAccess}
-use Rattle.dcv_shortest.specs.declared.proof.Access.TheVariants.{Empty as NoLetters, Start, After}
-use Rattle.dcv_shortest.specs.declared.proof.Suffix.{Suffix as CodeSuffix}
-use Rattle.dcv_shortest.specs.declared.proof.Suffix.TheVariants.{Empty, Then}
-use Rattle.dcv_shortest.specs.Proof.{IsSpelled, suffix_words}
+use Rattle.dcv_certificate.specs.declared.proof.Access.{Access as CodeAccess}
+use Rattle.dcv_certificate.specs.declared.proof.Access.TheVariants.{Empty as NoLetters, Start, After}
+use Rattle.dcv_certificate.specs.declared.proof.Suffix.{Suffix as CodeSuffix}
+use Rattle.dcv_certificate.specs.declared.proof.Suffix.TheVariants.{Empty, Then}
+use Rattle.dcv_certificate.specs.Proof.{IsSpelled, suffix_words}
 use Rattle.dcv_automaton_text.specs.Form.{is_visible, IsNameWord, IsTarget, IsNodeLine, IsStateLine, IsAccess, IsAccessLine, IsSuffix, IsSuffixLine}
 use Rattle.dcv_automaton_text.specs.Rules.{IsPlainName, AreNames}
 use Rattle.dcv_automaton_text.proofs.Kept.{both_true, both}

@@ -17,11 +17,11 @@ use Rattle.dcv_dfa.specs.Auto.{table_of_states}
 use Rattle.dcv_dfa.specs.NodeLines.{node_lines_of}
 use Rattle.dcv_dfa.specs.Raw.{RawValue, raw_accepts}
 use Rattle.dcv_dfa.proofs.States.{table_has_the_states}
-use Rattle.dcv_shortest.specs.declared.proof.Access.{Access as CodeAccess}
-use Rattle.dcv_shortest.specs.declared.proof.Access.TheVariants.{Empty as NoLetters, Start, After}
-use Rattle.dcv_shortest.specs.declared.proof.Suffix.{Suffix as CodeSuffix}
-use Rattle.dcv_shortest.specs.declared.proof.Suffix.TheVariants.{Empty, Then}
-use Rattle.dcv_shortest.specs.Proof.{suffix_word, suffix_words, IsSpelled, IsProof}
+use Rattle.dcv_certificate.specs.declared.proof.Access.{Access as CodeAccess}
+use Rattle.dcv_certificate.specs.declared.proof.Access.TheVariants.{Empty as NoLetters, Start, After}
+use Rattle.dcv_certificate.specs.declared.proof.Suffix.{Suffix as CodeSuffix}
+use Rattle.dcv_certificate.specs.declared.proof.Suffix.TheVariants.{Empty, Then}
+use Rattle.dcv_certificate.specs.Proof.{suffix_word, suffix_words, IsSpelled, IsProof}
 use Rattle.dcv_automaton_text.specs.Rules.{has_width, has_all_states, has_all_access, keeps_access, keeps_how_access, keeps_suffix, keeps_how_suffix}
 use Rattle.dcv_automaton_text.proofs.Kept.{AreKept, both_true}
 use Rattle.dcv_print.specs.Printed.{access_of, suffix_of, state_line, access_line, suffix_line, printed_file}

@@ -3,11 +3,11 @@ use Rattle.std.proofs.Common.{◌≡◌, ℕ, zero, suc, ◌+◌, ◌<◌, List,
 use Rattle.std.specs.List.{enumerate_from}
 use Rattle.std.proofs.lemmas.List.{take_all, take_more, get_or-take}
 use Rattle.dcv_word.specs.Behaviour.{Word}
-use Rattle.dcv_shortest.specs.declared.proof.Access.{Access as CodeAccess}
-use Rattle.dcv_shortest.specs.declared.proof.Access.TheVariants.{Empty as NoLetters, Start, After}
-use Rattle.dcv_shortest.specs.declared.proof.Suffix.{Suffix as CodeSuffix}
-use Rattle.dcv_shortest.specs.declared.proof.Suffix.TheVariants.{Empty, Then}
-use Rattle.dcv_shortest.specs.Proof.{suffix_word, suffix_words, IsSpelled, AreSpelled}
+use Rattle.dcv_certificate.specs.declared.proof.Access.{Access as CodeAccess}
+use Rattle.dcv_certificate.specs.declared.proof.Access.TheVariants.{Empty as NoLetters, Start, After}
+use Rattle.dcv_certificate.specs.declared.proof.Suffix.{Suffix as CodeSuffix}
+use Rattle.dcv_certificate.specs.declared.proof.Suffix.TheVariants.{Empty, Then}
+use Rattle.dcv_certificate.specs.Proof.{suffix_word, suffix_words, IsSpelled, AreSpelled}
 use Rattle.dcv_automaton_text.specs.File.{Access, AccessLine, SuffixLine}
 use Rattle.dcv_automaton_text.specs.Meaning.{access_word_of, access_words_from, access_words_of, suffix_word_of, suffix_words_of}
 use Rattle.dcv_print.specs.Printed.{access_of, suffix_of, access_line, suffix_line, printed_file}

@@ -8,10 +8,10 @@ use Rattle.dcv_dfa.specs.declared.node_lines.Child.TheVariants.{State, Node}
 use Rattle.dcv_dfa.specs.declared.node_lines.NodeLine.{NodeLine as CodeNodeLine}
 use Rattle.dcv_dfa.specs.Raw.{RawValue, is_accepting}
 use Rattle.dcv_dfa.specs.NodeLines.{node_lines_of}
-use Rattle.dcv_shortest.specs.declared.proof.Access.{Access as CodeAccess}
-use Rattle.dcv_shortest.specs.declared.proof.Access.TheVariants.{Empty as NoLetters, Start, After}
-use Rattle.dcv_shortest.specs.declared.proof.Suffix.{Suffix as CodeSuffix}
-use Rattle.dcv_shortest.specs.declared.proof.Suffix.TheVariants.{Empty, Then}
+use Rattle.dcv_certificate.specs.declared.proof.Access.{Access as CodeAccess}
+use Rattle.dcv_certificate.specs.declared.proof.Access.TheVariants.{Empty as NoLetters, Start, After}
+use Rattle.dcv_certificate.specs.declared.proof.Suffix.{Suffix as CodeSuffix}
+use Rattle.dcv_certificate.specs.declared.proof.Suffix.TheVariants.{Empty, Then}
 use Rattle.dcv_automaton_text.specs.File.{Target, ToState, ToNode, NodeLine, StateLine, Access, EmptyAccess, StartAccess, AfterAccess, AccessLine}
 use Rattle.dcv_automaton_text.specs.File.{Suffix, EmptySuffix, ThenSuffix, SuffixLine, AutomatonFile}
 

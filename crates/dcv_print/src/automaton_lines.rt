@@ -8,8 +8,8 @@ ghost use Rattle.dcv_automaton_text.specs.Spelled.{how_suffix, spelled_line, spe
 ghost use Rattle.dcv_print.specs.Printed.{texts_of, target_of, access_of, suffix_of, node_line, state_line, printed_file};
 ghost use Rattle.dcv_print.specs.Pushed.{spaced, spelled_lines};
 
+use dcv_certificate::{Access, Proof, Suffix};
 use dcv_dfa::{Auto, Child, NodeLine};
-use dcv_shortest::{Access, Proof, Suffix};
 use dcv_syntax::Name;
 use dcv_word::Letter;
 use itoa::Buffer;
