@@ -5,8 +5,8 @@ ghost use Rattle.std.specs.Prelude.{◌<◌};
 use crate::certificates::{are_least, tells_all};
 use crate::minimal::minimal_text;
 use crate::tables::{State, raw_of};
+use dcv_certificate::separate;
 use dcv_minimise::minimise;
-use dcv_shortest::separate;
 use std::alloc::Global;
 use std::test::Fail;
 

@@ -3,8 +3,8 @@ ghost use Rattle.std.specs.Prelude.{◌≡◌, length};
 
 use crate::examples::{EACH_LETTER, LAST_LETTER, ODD_DIFFERENCES, ONE_LETTER};
 use crate::minimal::auto_of;
+use dcv_certificate::separate;
 use dcv_print::automaton_text;
-use dcv_shortest::separate;
 use dcv_syntax::{Name, Span, Text};
 use std::alloc::Global;
 use std::test::Fail;

@@ -5,9 +5,10 @@ ghost use Rattle.dcv_bench.specs.Below.{IsBelow};
 
 use anyhow::Result;
 use dcv_arena::{Arena, ArenaFault, Ref};
+use dcv_certificate::separate;
 use dcv_dfa::Raw;
 use dcv_minimise::minimise;
-use dcv_shortest::{separate, shortest};
+use dcv_shortest::shortest;
 use dcv_word::Word;
 use std::alloc::Global;
 use std::time::{CpuClock, Duration};

@@ -5,9 +5,9 @@ use Rattle.dcv_language.specs.Language.{Language}
 use Rattle.dcv_automaton_text.specs.Spelled.{spelled}
 use Rattle.dcv_dfa.specs.Laws.{TableAcceptsAsTheStates}
 use Rattle.dcv_dfa.specs.Raw.{RawValue, raw_accepts}
-use Rattle.dcv_shortest.specs.declared.proof.Access.{Access}
-use Rattle.dcv_shortest.specs.declared.proof.Suffix.{Suffix}
-use Rattle.dcv_shortest.specs.Proof.{IsProof}
+use Rattle.dcv_language.specs.declared.certificate.Access.{Access}
+use Rattle.dcv_language.specs.declared.certificate.Suffix.{Suffix}
+use Rattle.dcv_certificate.specs.Proof.{IsProof}
 use Rattle.dcv_build.specs.Budget.{IsAutomatonOf}
 use Rattle.dcv_print.specs.Printed.{printed_file}
 use Rattle.dcv_cli.specs.Automaton.{SaysAutomaton}

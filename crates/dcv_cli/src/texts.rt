@@ -10,12 +10,12 @@ ghost use Rattle.dcv_command.specs.Seen.{asked_by};
 ghost use Rattle.dcv_cli.specs.Automaton.{SaysAutomaton};
 ghost use Rattle.dcv_cli.specs.Report.{Says};
 
+use dcv_certificate::separate;
 use dcv_command::Request;
 use dcv_dfa::Auto;
 use dcv_dfa::laws::tables_accept_the_same;
 use dcv_print::laws::{automaton_of_same_behaviours, printed_is_automaton};
 use dcv_print::{Verdict, automaton_text};
-use dcv_shortest::separate;
 use dcv_syntax::Name;
 use std::alloc::{AllocError, Global};
 

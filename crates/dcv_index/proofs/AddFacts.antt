@@ -1,11 +1,13 @@
 -- A number more in the list of a leaf or a place, and an index that grows with it.
-use Rattle.std.proofs.Common.{◌≡◌, ℕ, ◌<◌, ◌+◌, Bool, false, if◌then◌else◌, List, length, slice_index_or, ◌⊎◌, inl, inr, Contains, sym, subst, ◌∙◌, arith}
+use Rattle.std.proofs.Common.{◌≡◌, ℕ, ◌<◌, ◌+◌, Bool, true, false, if◌then◌else◌, List, length, slice_index_or, ◌⊎◌, inl, inr, Contains, refl, sym, ap, subst, ◌∙◌, arith}
 use Rattle.std.proofs.lemmas.Bool.{cases_lt}
 use Rattle.dcv_arena.specs.Arena.{ArenaValue, IsRef, level_of, value_of}
 use Rattle.dcv_arena.specs.declared.nodes.Ref.{Ref}
 use Rattle.dcv_arena.specs.declared.nodes.Ref.TheVariants.{Leaf, Place}
-use Rattle.dcv_index.specs.Lists.{AddsAt, Adds, HasList, list_at, listed_at}
-use Rattle.dcv_index.specs.Index.{IsWithin, IsAbove}
+use Rattle.dcv_members.specs.Lists.{AddsAt, list_at}
+use Rattle.dcv_index.specs.Lists.{Adds, HasList, listed_at}
+use Rattle.dcv_index.specs.Leads.{row_at}
+use Rattle.dcv_index.specs.Index.{IsWithin, IsAbove, GoesDown, IsListedRow}
 use Rattle.dcv_index.specs.declared.lists.Lists.{Lists}
 
 -- the leaves' lists change, and the places' do not, or the other way round
@@ -23,8 +25,11 @@ module _ (old new : Lists) (at number : ℕ) where
       keeps (Leaf leaf) one c = adds.keeps leaf one c
       keeps (Place place) one c = subst (λ list. Contains list one) (λ i. list_at (sym same i).items place) c
 
-      only : (ref : Ref) (one : ℕ) → Contains (listed_at new ref) one → Contains (listed_at old ref) one ⊎ (one ≡ number)
-      only (Leaf leaf) one c = adds.only leaf one c
+      only : (ref : Ref) (one : ℕ) → Contains (listed_at new ref) one → Contains (listed_at old ref) one ⊎ ((ref ≡ Leaf at) × (one ≡ number))
+      only (Leaf leaf) one c = elim (adds.only leaf one c) [
+        | inl before ↦ inl before
+        | inr here ↦ inr (ap Leaf here.0, here.1)
+      ]
       only (Place place) one c = inl (subst (λ list. Contains list one) (λ i. list_at (same i).items place) c)
 
   pub adds_place : AddsAt old.places.items new.places.items at number → new.leaves ≡ old.leaves → Adds old new (Place at) number
@@ -40,9 +45,12 @@ module _ (old new : Lists) (at number : ℕ) where
       keeps (Leaf leaf) one c = subst (λ list. Contains list one) (λ i. list_at (sym same i).items leaf) c
       keeps (Place place) one c = adds.keeps place one c
 
-      only : (ref : Ref) (one : ℕ) → Contains (listed_at new ref) one → Contains (listed_at old ref) one ⊎ (one ≡ number)
+      only : (ref : Ref) (one : ℕ) → Contains (listed_at new ref) one → Contains (listed_at old ref) one ⊎ ((ref ≡ Place at) × (one ≡ number))
       only (Leaf leaf) one c = inl (subst (λ list. Contains list one) (λ i. list_at (same i).items leaf) c)
-      only (Place place) one c = adds.only place one c
+      only (Place place) one c = elim (adds.only place one c) [
+        | inl before ↦ inl before
+        | inr here ↦ inr (ap Place here.0, here.1)
+      ]
 
 -- ---- the nodes above
 
@@ -77,10 +85,10 @@ module _ (arena : ArenaValue) (count : ℕ) (old new : Lists) (ref : Ref) (numbe
     at_hi = λ within. adds.keeps was.hi place (was.at_hi within);
   }
 
-  only_kept : (bound : ℕ) → number < bound → ((at : Ref) (one : ℕ) → Contains (listed_at old at) one → one < bound) → (at : Ref) (one : ℕ) → Contains (listed_at new at) one → one < bound
-  only_kept bound within was at one c = elim (adds.only at one c) [
+  only_kept : (P : Ref → ℕ → Type 0) → P ref number → ((at : Ref) (one : ℕ) → Contains (listed_at old at) one → P at one) → (at : Ref) (one : ℕ) → Contains (listed_at new at) one → P at one
+  only_kept P own was at one c = elim (adds.only at one c) [
     | inl before ↦ was at one before
-    | inr here ↦ omega (arith, here, within)
+    | inr here ↦ subst (λ (entry : Ref × ℕ). P entry.0 entry.1) (λ i. (sym here.0 i, sym here.1 i)) own
   ]
 
 -- so many of the nodes are listed at what they go to
@@ -88,7 +96,7 @@ pub record AreFirstAbove (arena : ArenaValue) (count done : ℕ) (nodes : Lists)
   pub leaves : length nodes.leaves.items ≡ count
   pub places : length nodes.places.items ≡ length arena.nodes
   pub above : (place : ℕ) → place < done → IsAbove arena count nodes place
-  pub only : (at : Ref) (place : ℕ) → Contains (listed_at nodes at) place → place < length arena.nodes
+  pub only : (at : Ref) (place : ℕ) → Contains (listed_at nodes at) place → GoesDown arena place at
 
 module _ (arena : ArenaValue) (count place slot : ℕ) (lo hi : Ref) (within : place < length arena.nodes) (goes : GoesTo arena place slot lo hi)
     (old middle new : Lists) (at_lo : Adds old middle lo place) (at_hi : Adds middle new hi place) (was : AreFirstAbove arena count place old) where
@@ -107,6 +115,28 @@ module _ (arena : ArenaValue) (count place slot : ℕ) (lo hi : Ref) (within : p
     at_hi = λ there. at_hi.has (has_list arena count middle hi (at_lo.leaves ∙ was.leaves) (at_lo.places ∙ was.places) there);
   }
 
+  down_lo : GoesDown arena place lo
+  down_lo = record {
+    slot = slot;
+    side = false;
+    within = within;
+    inner = goes.inner;
+    later = goes.lo_level;
+    is_ref = goes.lo_is_ref;
+    value = λ letter side. goes.value letter ∙ ap (λ (side : Bool). if side then value_of arena hi letter else value_of arena lo letter) side;
+  }
+
+  down_hi : GoesDown arena place hi
+  down_hi = record {
+    slot = slot;
+    side = true;
+    within = within;
+    inner = goes.inner;
+    later = goes.hi_level;
+    is_ref = goes.hi_is_ref;
+    value = λ letter side. goes.value letter ∙ ap (λ (side : Bool). if side then value_of arena hi letter else value_of arena lo letter) side;
+  }
+
   pub one_above : AreFirstAbove arena count (place + 1) new
   one_above = record {
     leaves = at_hi.leaves ∙ at_lo.leaves ∙ was.leaves;
@@ -115,7 +145,7 @@ module _ (arena : ArenaValue) (count place slot : ℕ) (lo hi : Ref) (within : p
       | inl earlier ↦ above_kept arena count middle new hi place at_hi one (above_kept arena count old middle lo place at_lo one (was.above one earlier))
       | inr last ↦ let same : place ≡ one = omega arith in subst (IsAbove arena count new) same this_above
     ];
-    only = only_kept arena count middle new hi place at_hi (length arena.nodes) within (only_kept arena count old middle lo place at_lo (length arena.nodes) within was.only);
+    only = only_kept arena count middle new hi place at_hi (λ at one. GoesDown arena one at) down_hi (only_kept arena count old middle lo place at_lo (λ at one. GoesDown arena one at) down_lo was.only);
   }
 
 -- ---- the rows
@@ -131,5 +161,6 @@ module _ (arena : ArenaValue) (count : ℕ) (row : ℕ → Ref) (state : ℕ) (o
         subst (λ one. IsWithin arena count (row one) → Contains (listed_at new (row one)) one) same (λ there. adds.has (has_list arena count old (row state) leaves places there)) within
   ]
 
-  pub row_only : state < count → ((at : Ref) (one : ℕ) → Contains (listed_at old at) one → one < count) → (at : Ref) (one : ℕ) → Contains (listed_at new at) one → one < count
-  row_only within was = only_kept arena count old new (row state) state adds (count) within was
+  pub row_only : (refs : List Ref) → state < length refs → row_at refs state ≡ row state → ((at : Ref) (one : ℕ) → Contains (listed_at old at) one → IsListedRow refs at one)
+      → (at : Ref) (one : ℕ) → Contains (listed_at new at) one → IsListedRow refs at one
+  row_only refs within is was = only_kept arena count old new (row state) state adds (λ at one. IsListedRow refs at one) (record { below = within; is = is }) was

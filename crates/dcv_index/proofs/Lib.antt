@@ -1,4 +1,4 @@
-pub mod ListFacts
-pub mod IndexFacts
 pub mod MarkFacts
+mod IndexFacts
+mod WayFacts
 mod AddFacts

@@ -3,14 +3,12 @@ use Rattle.std.proofs.Common.{◌≡◌, ℕ, zero, suc, ◌<◌, ◌≤◌, ◌
 use Rattle.std.specs.List.{All, IsDistinct, list_any}
 use Rattle.std.proofs.lemmas.Bool.{eqb-true}
 use Rattle.std.proofs.lemmas.List.Elements.{All-weaker, All-more, All-contains, All-contains_itself, Contains-get_or, All-append, Contains-push_cases, Contains-append_right}
-use Rattle.std.proofs.lemmas.List.Folds.{Any-from_list_any}
-use Rattle.std.proofs.lemmas.Map.Steps.{length-le_from_distinct_below}
 use Rattle.std.proofs.lemmas.Option.{slice_get_within, slice_get-get_or, get_or_from_slice_get, same_Some}
 use Rattle.indexmap.specs.IndexSet.{insert_key}
 use Rattle.indexmap.proofs.CallerLemmas.{Contains-insert_key}
 use Rattle.dcv_arena.specs.declared.nodes.Ref.{Ref}
 use Rattle.dcv_index.specs.Lists.{listed_at}
-use Rattle.dcv_index.specs.Index.{IsBounded, IsFollowed, IsMarked, Grows}
+use Rattle.dcv_index.specs.Index.{IsFollowed, Grows}
 use Rattle.dcv_index.specs.declared.lists.Lists.{Lists}
 
 pub contains_at : (xs : List ℕ) (place x : ℕ) → slice_get xs place ≡ Some x → Contains xs x
@@ -67,28 +65,6 @@ pub all_from_contains : (P : ℕ → Type 0) (xs : List ℕ) → ((x : ℕ) → 
 all_from_contains P xs each = All-weaker (Contains xs) P each xs (All-contains_itself xs)
 
 module _ (nodes rows : Lists) where
-  pub few_marked : (marked looked : List ℕ) → IsMarked nodes rows marked looked → length marked ≤ length nodes.places.items
-  few_marked marked looked is =
-      length-le_from_distinct_below marked (length nodes.places.items) is.once
-      (λ q found.
-      let one = Any-from_list_any (eqb q) marked found in
-      let same = eqb-true q one.1 one.4 in
-      let inside : get_or marked one.0 one.1 < length nodes.places.items = is.places one.0 one.1 one.2 in
-      omega (arith, same, one.3, inside))
-
-  pub marked_after : IsBounded nodes rows → (ref : Ref) (marked looked new_marked : List ℕ) → IsMarked nodes rows marked looked
-      → ((place : ℕ) → Contains new_marked place → Contains marked place ⊎ Contains (listed_at nodes ref) place) → IsDistinct eqb new_marked
-      → IsMarked nodes rows new_marked (looked ++ listed_at rows ref)
-  marked_after bounded ref marked looked new_marked was only once = record {
-    places = all_from_contains (λ place. place < length nodes.places.items) new_marked (λ place c. elim (only place c) [
-      | inl old ↦ All-contains (λ place. place < length nodes.places.items) marked place was.places old
-      | inr new ↦ bounded.places ref place new
-    ]);
-    once = once;
-    states = All-append (λ state. state < length rows.leaves.items) looked (listed_at rows ref) was.states
-        (all_from_contains (λ state. state < length rows.leaves.items) (listed_at rows ref) (bounded.states ref));
-  }
-
   pub followed_after : (ref : Ref) (looked new_marked : List ℕ) → All (Contains new_marked) (listed_at nodes ref) → IsFollowed nodes rows ref new_marked (looked ++ listed_at rows ref)
   followed_after ref looked new_marked all = record {
     each_node = λ place c. All-contains (Contains new_marked) (listed_at nodes ref) place all c;

@@ -1,25 +1,21 @@
 -- What stands directly above each leaf and node of some rows, so that all rows are found that lead to one of some leaves.
---     row_at refs row                      a row, and the leaf 0 where there is none
 --     IsWithin arena count ref             a leaf below the count, or a place of the arena
 --     IsAbove arena count nodes place      the node goes by its slot to two refs, and is listed at both
---     IsIndex arena refs nodes rows        each node is listed at what it goes to, and each row at what it is
---     IsIndexOf arena refs index           the same of an `Index`
+--     GoesDown arena place ref             where its slot has one of the values, the node goes to the ref
+--     IsIndex arena refs nodes rows        each node is listed at what it goes to, each row at what it is, and nothing else is listed
+--     IsMet index leaves ref               one of the leaves, or a node that leads to one
 --     IsFollowed nodes rows ref marked looked    the nodes and the rows directly above the ref are among these
---     IsBounded nodes rows                 all listed nodes are places of the lists, and all listed rows leaves
---     IsMarked nodes rows marked looked    the marked places are places, each marked once, and the looked-at rows are rows
+--     IsMarked index leaves marked looked  the marked nodes and the looked-at rows lead to the leaves, and each node is marked once
 --     Grows                                what was marked and looked at is
---     IsClosed nodes rows moved marked looked    all that stands directly above the moved leaves and the marked places is among these
+--     IsClosed nodes rows leaves marked looked    all that stands directly above the leaves and the marked places is among these
 use Rattle.std.specs.Prelude.{◌≡◌, ℕ, ◌<◌, Bool, false, eqb, if◌then◌else◌, List, length, Some, slice_get, slice_index_or, Contains}
 use Rattle.std.specs.List.{All, IsDistinct}
-use Rattle.dcv_arena.specs.Arena.{ArenaValue, IsRef, level_of, value_of}
+use Rattle.dcv_arena.specs.Arena.{ArenaValue, IsArena, IsRef, level_of, value_of}
 use Rattle.dcv_arena.specs.declared.nodes.Ref.{Ref}
 use Rattle.dcv_arena.specs.declared.nodes.Ref.TheVariants.{Leaf, Place}
 use Rattle.dcv_index.specs.Lists.{listed_at}
+use Rattle.dcv_index.specs.Leads.{row_at, IndexedRows, LeadsInto, IsRowInto}
 use Rattle.dcv_index.specs.declared.lists.Lists.{Lists}
-use Rattle.dcv_index.specs.declared.index.Index.{Index}
-
-abbrev pub row_at : List Ref → ℕ → Ref
-row_at refs row = slice_index_or refs row (Leaf 0)
 
 abbrev pub IsWithin : ArenaValue → ℕ → Ref → Type 0
 IsWithin arena count (Leaf leaf) = leaf < count
@@ -39,43 +35,55 @@ pub record IsAbove (arena : ArenaValue) (count : ℕ) (nodes : Lists) (place : �
   pub at_lo : IsWithin arena count lo → Contains (listed_at nodes lo) place
   pub at_hi : IsWithin arena count hi → Contains (listed_at nodes hi) place
 
+pub record GoesDown (arena : ArenaValue) (place : ℕ) (ref : Ref) : Type 0 where
+  pub slot : ℕ
+  pub side : Bool
+  pub within : place < length arena.nodes
+  pub inner : slot < arena.slots
+  pub later : slot < level_of arena ref
+  pub is_ref : IsRef arena ref
+  pub value : (letter : List Bool) → slice_index_or letter slot false ≡ side → value_of arena (Place place) letter ≡ value_of arena ref letter
+
 pub record AreNodesAbove (arena : ArenaValue) (count : ℕ) (nodes : Lists) : Type 0 where
+  pub arena_is : IsArena arena
+  pub leaves : length nodes.leaves.items ≡ count
   pub places : length nodes.places.items ≡ length arena.nodes
   pub above : (place : ℕ) → place < length arena.nodes → IsAbove arena count nodes place
-  pub only : (at : Ref) (place : ℕ) → Contains (listed_at nodes at) place → place < length arena.nodes
+  pub only : (at : Ref) (place : ℕ) → Contains (listed_at nodes at) place → GoesDown arena place at
+
+pub record IsListedRow (refs : List Ref) (at : Ref) (row : ℕ) : Type 0 where
+  pub below : row < length refs
+  pub is : row_at refs row ≡ at
 
 pub record AreRowsAbove (arena : ArenaValue) (refs : List Ref) (rows : Lists) : Type 0 where
   pub leaves : length rows.leaves.items ≡ length refs
   pub above : (row : ℕ) → row < length refs → IsWithin arena (length refs) (row_at refs row) → Contains (listed_at rows (row_at refs row)) row
-  pub only : (at : Ref) (row : ℕ) → Contains (listed_at rows at) row → row < length refs
+  pub only : (at : Ref) (row : ℕ) → Contains (listed_at rows at) row → IsListedRow refs at row
 
 pub record IsIndex (arena : ArenaValue) (refs : List Ref) (nodes rows : Lists) : Type 0 where
   pub of_nodes : AreNodesAbove arena (length refs) nodes
   pub of_rows : AreRowsAbove arena refs rows
 
-abbrev pub IsIndexOf : ArenaValue → List Ref → Index → Type 0
-IsIndexOf arena refs index = IsIndex arena refs index.nodes index.rows
-
 -- ---- the way up
 
-pub record IsBounded (nodes rows : Lists) : Type 0 where
-  pub places : (at : Ref) (place : ℕ) → Contains (listed_at nodes at) place → place < length nodes.places.items
-  pub states : (at : Ref) (row : ℕ) → Contains (listed_at rows at) row → row < length rows.leaves.items
+abbrev pub IsMet : IndexedRows → List ℕ → Ref → Type 0
+IsMet index leaves (Leaf leaf) = Contains leaves leaf
+IsMet index leaves (Place place) = LeadsInto index leaves (Place place)
 
 pub record IsFollowed (nodes rows : Lists) (ref : Ref) (marked looked : List ℕ) : Type 0 where
   pub each_node : (place : ℕ) → Contains (listed_at nodes ref) place → Contains marked place
   pub each_row : (row : ℕ) → Contains (listed_at rows ref) row → Contains looked row
 
-pub record IsMarked (nodes rows : Lists) (marked looked : List ℕ) : Type 0 where
-  pub places : All (λ place. place < length nodes.places.items) marked
+pub record IsMarked (index : IndexedRows) (leaves marked looked : List ℕ) : Type 0 where
+  pub nodes : All (λ place. LeadsInto index leaves (Place place)) marked
   pub once : IsDistinct eqb marked
-  pub states : All (λ row. row < length rows.leaves.items) looked
+  pub rows : All (IsRowInto index leaves) looked
 
 -- the marked places stay where they are
 pub record Grows (old_marked old_looked marked looked : List ℕ) : Type 0 where
   pub stay : (at place : ℕ) → slice_get old_marked at ≡ Some place → slice_get marked at ≡ Some place
   pub kept : (row : ℕ) → Contains old_looked row → Contains looked row
 
-pub record IsClosed (nodes rows : Lists) (moved marked looked : List ℕ) : Type 0 where
-  pub leaves : (leaf : ℕ) → Contains moved leaf → IsFollowed nodes rows (Leaf leaf) marked looked
+pub record IsClosed (nodes rows : Lists) (leaves marked looked : List ℕ) : Type 0 where
+  pub at_leaves : (leaf : ℕ) → Contains leaves leaf → IsFollowed nodes rows (Leaf leaf) marked looked
   pub places : (place : ℕ) → Contains marked place → IsFollowed nodes rows (Place place) marked looked

@@ -1,23 +1,13 @@
 -- Lists of numbers, one for each leaf and each place of an arena.
---     list_at vectors place        the list that is kept at a place, and none behind the last
 --     listed_at lists ref          the list of a leaf or a place
 --     HasList lists ref            there is one
---     AddsAt old new place number  the list there has this number more, and the others nothing else
---     Adds old new ref number      the same for a leaf or a place
-use Rattle.std.specs.Prelude.{◌≡◌, ℕ, ◌<◌, List, [], length, Vec, slice_get, Contains, ◌⊎◌}
-use Rattle.std.specs.Option.{option_map_or}
+--     Adds old new ref number      the list of the ref, if there is one, has this number more, and no list has anything else more
+--     AreEmpty lists ..            so many lists, with nothing in them
+use Rattle.std.specs.Prelude.{◌≡◌, ℕ, ◌<◌, List, [], length, Contains, ◌⊎◌}
 use Rattle.dcv_arena.specs.declared.nodes.Ref.{Ref}
 use Rattle.dcv_arena.specs.declared.nodes.Ref.TheVariants.{Leaf, Place}
+use Rattle.dcv_members.specs.Lists.{list_at}
 use Rattle.dcv_index.specs.declared.lists.Lists.{Lists}
-
-abbrev pub list_at : {Z : Type 0} → List (Vec ℕ Z) → ℕ → List ℕ
-list_at vectors place = option_map_or (λ vector. vector.items) (slice_get vectors place) []
-
-pub record AddsAt {Z : Type 0} (old new : List (Vec ℕ Z)) (place number : ℕ) : Type 0 where
-  pub size : length new ≡ length old
-  pub keeps : (at one : ℕ) → Contains (list_at old at) one → Contains (list_at new at) one
-  pub has : place < length old → Contains (list_at new place) number
-  pub only : (at one : ℕ) → Contains (list_at new at) one → Contains (list_at old at) one ⊎ (one ≡ number)
 
 abbrev pub listed_at : Lists → Ref → List ℕ
 listed_at lists (Leaf leaf) = list_at lists.leaves.items leaf
@@ -32,7 +22,7 @@ pub record Adds (old new : Lists) (ref : Ref) (number : ℕ) : Type 0 where
   pub places : length new.places.items ≡ length old.places.items
   pub keeps : (at : Ref) (one : ℕ) → Contains (listed_at old at) one → Contains (listed_at new at) one
   pub has : HasList old ref → Contains (listed_at new ref) number
-  pub only : (at : Ref) (one : ℕ) → Contains (listed_at new at) one → Contains (listed_at old at) one ⊎ (one ≡ number)
+  pub only : (at : Ref) (one : ℕ) → Contains (listed_at new at) one → Contains (listed_at old at) one ⊎ ((at ≡ ref) × (one ≡ number))
 
 pub record AreEmpty (lists : Lists) (many_leaves many_places : ℕ) : Type 0 where
   pub leaves : length lists.leaves.items ≡ many_leaves

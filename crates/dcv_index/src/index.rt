@@ -1,108 +1,79 @@
-// What stands directly above each leaf and each node of the rows. It goes by node: pairs of a leaf and a row would be as many as
-// their product where rows are wide.
-ghost use Rattle.std.specs.Prelude.{◌≡◌, ◌<◌, ◌⊎◌, ℕ, eqb, length, slice_get, Some, IfOk, OnOk, Contains};
-ghost use Rattle.std.specs.List.{All, IsDistinct};
+// Which rows and nodes lead to some leaves: what stands directly above each leaf and each node, and the way up. It goes by node: pairs of
+// a leaf and a row would be as many as their product where rows are wide.
+ghost use Rattle.std.specs.Prelude.{◌≡◌, ◌<◌, ◌↔◌, ℕ, length, IfOk, Contains};
+ghost use Rattle.std.specs.List.{All};
+ghost use Rattle.dcv_arena.specs.Arena.{IsArena};
 ghost use Rattle.dcv_arena.specs.declared.nodes.Ref.TheVariants.{Place as AnyPlace};
-ghost use Rattle.dcv_index.specs.Index.{AreNodesAbove, AreRowsAbove, IsIndex, IsIndexOf, IsBounded, IsFollowed, IsMarked, IsClosed, Grows};
+ghost use Rattle.dcv_index.specs.Leads.{index_of, LeadsInto, IsRowInto};
+ghost use Rattle.dcv_index.specs.Index.{AreNodesAbove, AreRowsAbove};
 
+use crate::climb::{Above, Climb};
 use crate::lists::Lists;
 use dcv_arena::{Arena, Ref};
-use indexmap::IndexSet;
 use std::alloc::{AllocError, Global};
+use std::marker::Model;
 
-/// The nodes above each leaf and node, and the rows that it is, by their places.
+/// The nodes above each leaf and node of some rows, and the rows that it is, by their places.
 #[derive(Debug, Drop)]
-pub struct Index {
+pub struct Index<'a> {
+    arena: &'a Arena,
+    refs: &'a [Ref],
     nodes: Lists,
     rows: Lists,
 }
 
-/// What stands above some leaves.
-#[derive(Drop)]
-pub struct Above {
-    /// The places of the nodes, in the order in which they were met on the way up.
-    pub marked: IndexSet<u32>,
-    /// The places of the rows.
-    pub looked: Vec<u32>,
+impl<'a> Model for Index<'a> {
+    ghost use Rattle.dcv_index.specs.Leads.{IndexedRows, index_of};
+
+    ghost Value = { IndexedRows };
+
+    ghost use Rattle.dcv_index.specs.Index.{IsIndex};
+
+    ghost view = { λ index. index_of index.arena.now index.refs.now };
+
+    ghost invariant = { λ index. IsIndex index.arena.now index.refs.now index.nodes index.rows };
 }
 
-impl Index {
+impl<'a> Index<'a> {
     /// The index of these rows. A leaf has a list if its number is that of a row.
-    pub fn new(alloc: Global, arena: &Arena, rows: &[Ref]) -> Result<Index, AllocError>
-        ensures { IfOk result (IsIndexOf arena.now rows.now) }
+    pub fn new(alloc: Global, arena: &'a Arena, rows: &'a [Ref]) -> Result<Index<'a>, AllocError>
+        ensures { IfOk result (λ index. index ≡ index_of arena.now rows.now) }
     {
         let nodes = nodes_above(alloc, arena, rows.len())?;
-        let rows = rows_above(alloc, arena, rows)?;
-        Ok(Index { nodes, rows })
-    }
-
-    /// The rows that stand above one of these leaves: each that some letter leads to one is among them. And the nodes on the way.
-    pub fn above(&self, alloc: Global, moved: &[u32]) -> Result<Above, AllocError>
-        requires { IsBounded self.now.nodes self.now.rows }
-        ensures closed { IfOk result (λ found. IsClosed self.now.nodes self.now.rows moved.now found.marked.keys found.looked.items) }
-        ensures rows { IfOk result (λ found. All (λ row. row < length self.now.rows.leaves.items) found.looked.items) }
-    {
-        let mut found = Above {
-            marked: IndexSet::new(alloc),
-            looked: Vec::new(alloc),
-        };
-        for state in moved {
-            self.follow(Ref::Leaf(*state), &mut found)?;
-        }
-        self.close(&mut found)?;
-        Ok(found)
-    }
-
-    // Follows each marked place, those too that are marked on the way.
-    fn close(&self, found: &mut Above) -> Result<(), AllocError>
-        requires bounded { IsBounded self.now.nodes self.now.rows }
-        requires marked { IsMarked self.now.nodes self.now.rows found.old.marked.keys found.old.looked.items }
-        ensures followed { OnOk result ((place : ℕ) → Contains found.new.marked.keys place
-            → IsFollowed self.now.nodes self.now.rows (AnyPlace place) found.new.marked.keys found.new.looked.items) }
-        ensures marked { OnOk result (IsMarked self.now.nodes self.now.rows found.new.marked.keys found.new.looked.items) }
-        ensures grows { OnOk result (Grows found.old.marked.keys found.old.looked.items found.new.marked.keys found.new.looked.items) }
-    {
-        let mut next = 0;
-        'places: while next < found.marked.len() {
-            let place = found.marked.as_slice()[next];
-            self.follow(Ref::Place(place), found)?;
-            next += 1;
-        }
-        Ok(())
-    }
-
-    // Marks the nodes directly above, and looks at the rows that it is.
-    fn follow(&self, at: Ref, found: &mut Above) -> Result<(), AllocError>
-        requires bounded { IsBounded self.now.nodes self.now.rows }
-        requires marked { IsMarked self.now.nodes self.now.rows found.old.marked.keys found.old.looked.items }
-        ensures followed { OnOk result (IsFollowed self.now.nodes self.now.rows at found.new.marked.keys found.new.looked.items) }
-        ensures marked { OnOk result (IsMarked self.now.nodes self.now.rows found.new.marked.keys found.new.looked.items) }
-        ensures grows { OnOk result (Grows found.old.marked.keys found.old.looked.items found.new.marked.keys found.new.looked.items) }
-    {
-        found.looked.extend_from_slice(self.rows.at(at))?;
-        mark(&mut found.marked, self.nodes.at(at))?;
-        Ok(())
+        let lists = rows_above(alloc, arena, rows)?;
+        Ok(Index {
+            arena,
+            refs: rows,
+            nodes,
+            rows: lists,
+        })
     }
 }
 
-// Marks places.
-fn mark(marked: &mut IndexSet<u32>, places: &[u32]) -> Result<(), AllocError>
-    requires { IsDistinct eqb marked.old.keys }
-    ensures all { OnOk result (All (Contains marked.new.keys) places.now) }
-    ensures only { OnOk result ((place : ℕ) → Contains marked.new.keys place → Contains marked.old.keys place ⊎ Contains places.now place) }
-    ensures stay { OnOk result ((at place : ℕ) → slice_get marked.old.keys at ≡ Some place → slice_get marked.new.keys at ≡ Some place) }
-    ensures once { IsDistinct eqb marked.new.keys }
-{
-    for place in places {
-        marked.insert(*place)?;
+impl Index<'_> {
+    /// What stands above these leaves: the rows from which some letter leads to one of them, and the nodes, no others.
+    pub fn above(&self, alloc: Global, leaves: &[u32]) -> Result<Above, AllocError>
+        ensures looked { IfOk result (λ found. (row : ℕ) → Contains found.looked.items row ↔ IsRowInto self.now leaves.now row) }
+        ensures marked { IfOk result (λ found. (place : ℕ) → Contains found.marked.keys place ↔ LeadsInto self.now leaves.now (AnyPlace place)) }
+        ensures rows { IfOk result (λ found. All (λ row. row < length self.now.rows) found.looked.items) }
+    {
+        let climb = Climb {
+            arena: self.arena,
+            refs: self.refs,
+            nodes: &self.nodes,
+            rows: &self.rows,
+            leaves,
+        };
+        climb.climb(alloc)
     }
-    Ok(())
 }
 
 // Each node, at what it goes to.
 fn nodes_above(alloc: Global, arena: &Arena, leaves: usize) -> Result<Lists, AllocError>
     ensures { IfOk result (AreNodesAbove arena.now leaves) }
 {
+    // for the prover: of an arena that was asked it is known what is true of every arena.
+    let _ = arena.slots();
     let mut nodes = Lists::new(alloc, leaves, arena.len())?;
     for place in 0..arena.len() {
         let node = Ref::Place(place);

@@ -2,14 +2,15 @@
 //!
 //! ```text
 //! let index = Index::new(alloc, arena, rows)?;
-//! let found = index.above(alloc, &states)?;
-//! found.looked // the rows that have one of these leaves, by their places
-//! found.marked // the nodes on the way to them
+//! let found = index.above(alloc, &leaves)?;
+//! found.looked // the rows from which some letter leads to one of these leaves, by their places
+//! found.marked // the nodes from which one does
 //! ```
 #![tactic(auto)]
 
+mod climb;
 mod index;
 mod lists;
 
-pub use index::{Above, Index};
-pub use lists::{Lists, add_to, list};
+pub use climb::Above;
+pub use index::Index;

@@ -1,13 +1,15 @@
 // Lists of numbers, one for each leaf and each place of an arena.
 ghost use Rattle.std.specs.Prelude.{◌≡◌, ℕ, [], length, IfOk, OnOk};
-ghost use Rattle.dcv_index.specs.Lists.{AddsAt, Adds, AreEmpty, list_at, listed_at};
+ghost use Rattle.dcv_members.specs.Lists.{list_at};
+ghost use Rattle.dcv_index.specs.Lists.{Adds, AreEmpty, listed_at};
 
 use dcv_arena::Ref;
+use dcv_members::{add_to, list};
 use std::alloc::{AllocError, Global};
 
-/// Lists of numbers, one for each leaf and each place.
+// Lists of numbers, one for each leaf and each place.
 #[derive(Debug, Drop)]
-pub struct Lists {
+pub(crate) struct Lists {
     pub(crate) leaves: Vec<Vec<u32>>,
     pub(crate) places: Vec<Vec<u32>>,
 }
@@ -53,25 +55,4 @@ fn empty_lists(alloc: Global, count: usize) -> Result<Vec<Vec<u32>>, AllocError>
         lists.push(Vec::new(alloc))?;
     }
     Ok(lists)
-}
-
-/// Adds a number to the list at a place, where there is one.
-pub fn add_to(lists: &mut [Vec<u32>], at: u32, number: u32) -> Result<(), AllocError>
-    ensures { OnOk result (AddsAt lists.old lists.new at number) }
-{
-    if at as usize >= lists.len() {
-        return Ok(());
-    }
-    lists[at as usize].push(number)?;
-    Ok(())
-}
-
-/// The list at a place, and an empty one where there is none.
-pub fn list(lists: &[Vec<u32>], at: u32) -> &[u32]
-    ensures { result.now ≡ list_at lists.now at }
-{
-    match lists.get(at as usize) {
-        Some(list) => list.as_slice(),
-        None => &[],
-    }
 }

@@ -6,7 +6,7 @@ use Rattle.std.proofs.lemmas.List.Quantifiers.{position-Some}
 use Rattle.dcv_dfa.specs.Raw.{RawValue}
 use Rattle.dcv_minimise.specs.Partition.{block_of}
 use Rattle.dcv_minimise.specs.Rounds.{IsState, IsWitnessed}
-use Rattle.dcv_minimise.specs.Members.{IsChosen}
+use Rattle.dcv_minimise.specs.Listing.{IsChosen}
 
 pub found_among : (full : List ℕ) (block place : ℕ) → position (eqb block) full ≡ Some place → Contains full block
 found_among full block place found =

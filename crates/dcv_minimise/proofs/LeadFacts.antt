@@ -1,13 +1,13 @@
--- The states that stand above the moved ones are all that some letter leads to one of them.
-use Rattle.std.proofs.Common.{List, ℕ}
+-- The states that are looked at are all that some letter leads from to one of those that moved.
+use Rattle.std.proofs.Common.{List, ℕ, Contains}
+use Rattle.dcv_arena.specs.declared.nodes.Ref.TheVariants.{Leaf}
 use Rattle.dcv_dfa.specs.Raw.{RawValue, IsRaw}
-use Rattle.dcv_index.specs.Index.{IsIndex, IsClosed}
-use Rattle.dcv_index.specs.declared.lists.Lists.{Lists}
-use Rattle.dcv_index.proofs.IndexFacts.{lead_to}
+use Rattle.dcv_index.specs.Leads.{index_of, IsRowInto}
 use Rattle.dcv_minimise.specs.Rounds.{LeadTo}
 use Rattle.dcv_minimise.proofs.RoundFacts.{next_state}
 
-pub leads : (raw : RawValue) → IsRaw raw → (nodes rows : Lists) → IsIndex raw.arena raw.rows nodes rows → (moved marked looked : List ℕ) → IsClosed nodes rows moved marked looked
-    → LeadTo raw moved looked
-leads raw is nodes rows index moved marked looked closed state letter inside size c =
-    lead_to raw.arena raw.rows nodes rows index moved marked looked closed is.rows state letter inside (next_state raw is state letter inside size) c
+pub leads : (raw : RawValue) → IsRaw raw → (moved looked : List ℕ) → ((row : ℕ) → IsRowInto (index_of raw.arena raw.rows) moved row → Contains looked row) → LeadTo raw moved looked
+leads raw is moved looked all state letter inside size c = all state (record {
+  below = inside;
+  leads = record { is_ref = is.rows state (Leaf 0) inside; letter = letter; below = next_state raw is state letter inside size; leaf = c };
+})

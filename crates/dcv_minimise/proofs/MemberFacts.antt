@@ -7,7 +7,7 @@ use Rattle.std.proofs.lemmas.Map.Views.{Contains-from_any, list_any-from_Contain
 use Rattle.dcv_dfa.specs.Raw.{RawValue, IsRaw}
 use Rattle.dcv_minimise.specs.Partition.{block_of}
 use Rattle.dcv_minimise.specs.Rounds.{IsState, HaveOneRow, IsWitnessed, IsStableBut, LeadTo, witness_of}
-use Rattle.dcv_minimise.specs.Members.{IsListed, IsAlone, IsListing, IsChosen}
+use Rattle.dcv_minimise.specs.Listing.{IsListed, IsAlone, IsListing, IsChosen}
 use Rattle.dcv_minimise.proofs.WitnessFacts.{alike_itself}
 
 -- a number is in a list, or not

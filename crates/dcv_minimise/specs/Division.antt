@@ -17,7 +17,7 @@ use Rattle.dcv_dfa.specs.Raw.{RawValue}
 use Rattle.dcv_minimise.specs.Partition.{block_of}
 use Rattle.dcv_minimise.specs.Rounds.{IsState, HaveOneRow, AreAlike, witness_of}
 use Rattle.dcv_minimise.specs.Keys.{IsKeyOf}
-use Rattle.dcv_minimise.specs.Members.{IsChosen}
+use Rattle.dcv_minimise.specs.Listing.{IsChosen}
 use Rattle.dcv_minimise.specs.declared.refine.division.Move.{Move}
 use Rattle.dcv_minimise.specs.declared.refine.division.Part.{Part}
 

@@ -5,7 +5,7 @@ pub mod Partition
 pub mod Rounds
 pub mod Keys
 pub mod Division
-pub mod Members
+pub mod Listing
 pub mod Refining
 -- the classes with their numbers, and the automaton of these
 pub mod Classes

@@ -1,21 +1,23 @@
 // States in blocks by what they go on to accept. Each round divides the blocks by the blocks to which letters lead (E. F. Moore,
 // "Gedanken-experiments on sequential machines", 1956), but looks only at states that lead to one that moved in the round before.
-ghost use Rattle.std.specs.Prelude.{◌≤◌, ◌<◌, ℕ, length, IfOk, OnOk, Contains};
+ghost use Rattle.std.specs.Prelude.{◌≡◌, ◌≤◌, ◌<◌, ℕ, length, IfOk, OnOk, Contains};
 ghost use Rattle.std.specs.List.{All};
 ghost use Rattle.dcv_minimise.specs.Partition.{IsPartition};
-ghost use Rattle.dcv_index.specs.Index.{IsIndexOf};
+ghost use Rattle.dcv_index.specs.Leads.{index_of};
+ghost use Rattle.dcv_members.specs.Members.{list_of};
 ghost use Rattle.dcv_minimise.specs.Refining.{IsRefining};
 
 mod division;
 mod keys;
-mod members;
+mod listing;
 mod partition;
 mod votes;
 
 use dcv_dfa::Raw;
 use dcv_index::Index;
+use dcv_members::Members;
 use dcv_renumber::Places;
-use members::Members;
+use listing::{Listed, follow};
 use partition::Partition;
 use std::alloc::{AllocError, Global};
 
@@ -48,12 +50,12 @@ impl Refining {
     // The blocks by flags, as if they had all been one.
     fn new(alloc: Global, raw: &Raw) -> Result<Refining, AllocError>
         ensures { IfOk result (λ refining. IsRefining raw.now refining.partition.blocks.items refining.partition.witness.items
-            refining.members.lists.items refining.moved.items) }
+            (list_of refining.members) refining.moved.items) }
     {
         let all = every_state(alloc, raw.states())?;
         let partition = Partition::by_flags(alloc, raw)?;
         let mut members = Members::new(alloc);
-        members.follow(alloc, &partition.blocks, partition.witness.len(), &all)?;
+        follow(alloc, &mut members, &partition.blocks, &all)?;
         let moved = partition.outside_first(alloc)?;
         Ok(Refining {
             partition,
@@ -64,25 +66,26 @@ impl Refining {
     }
 
     // One round.
-    fn round(&mut self, alloc: Global, raw: &Raw, index: &Index) -> Result<(), AllocError>
-        requires index { IsIndexOf raw.now.arena raw.now.rows index.now }
-        requires refining { IsRefining raw.now self.old.partition.blocks.items self.old.partition.witness.items self.old.members.lists.items self.old.moved.items }
-        ensures refining { OnOk result (IsRefining raw.now self.new.partition.blocks.items self.new.partition.witness.items self.new.members.lists.items self.new.moved.items) }
+    fn round(&mut self, alloc: Global, raw: &Raw, index: &Index<'_>) -> Result<(), AllocError>
+        requires index { index.now ≡ index_of raw.now.arena raw.now.rows }
+        requires refining { IsRefining raw.now self.old.partition.blocks.items self.old.partition.witness.items (list_of self.old.members) self.old.moved.items }
+        ensures refining { OnOk result (IsRefining raw.now self.new.partition.blocks.items self.new.partition.witness.items (list_of self.new.members) self.new.moved.items) }
         ensures more { OnOk result (0 < length self.new.moved.items → length self.old.partition.witness.items < length self.new.partition.witness.items) }
         ensures no_fewer { OnOk result (length self.old.partition.witness.items ≤ length self.new.partition.witness.items) }
     {
         let found = index.above(alloc, &self.moved)?;
-        let listed = self.members.list(
+        let listed = Listed::among(
             alloc,
+            &mut self.members,
             &self.partition.blocks,
             &self.partition.witness,
             &found.looked,
         )?;
         self.moved = self.partition.split(alloc, raw, &listed, &mut self.places)?;
-        self.members.follow(
+        follow(
             alloc,
+            &mut self.members,
             &self.partition.blocks,
-            self.partition.witness.len(),
             &self.moved,
         )
     }

@@ -11,8 +11,8 @@ use Rattle.dcv_dfa.specs.declared.node_lines.Child.TheVariants.{State}
 use Rattle.dcv_dfa.specs.declared.node_lines.NodeLine.{NodeLine}
 use Rattle.dcv_dfa.specs.NodeLines.{AreReduced, node_lines_of, numbered}
 use Rattle.dcv_dfa.proofs.Reduced.{has_node_lines}
-use Rattle.dcv_shortest.specs.declared.proof.Access.TheVariants.{Empty as NoLetters}
-use Rattle.dcv_shortest.specs.declared.proof.Suffix.TheVariants.{Empty}
+use Rattle.dcv_language.specs.declared.certificate.Access.TheVariants.{Empty as NoLetters}
+use Rattle.dcv_language.specs.declared.certificate.Suffix.TheVariants.{Empty}
 use Rattle.dcv_automaton_text.specs.Spelled.{name_words, node_words, state_words, access_words, suffix_words}
 use Rattle.dcv_automaton_text.specs.Rules.{AreNames, most_names, most_states, most_nodes, is_listed, keeps_name, keeps_names, keeps_node, keeps_state, keeps_access, keeps_suffix, has_all_access, judged, judged_words}
 use Rattle.dcv_automaton_text.proofs.Kept.{AreKept, AllKeep, none_kept, both_true, kept_words, in_turn, kind_kept, none_broken}

@@ -12,15 +12,16 @@ use Rattle.dcv_dfa.specs.declared.node_lines.NodeLine.{NodeLine}
 use Rattle.dcv_dfa.specs.NodeLines.{IsBelow, node_lines_of, numbered}
 use Rattle.dcv_dfa.specs.Raw.{raw_accepts}
 use Rattle.dcv_dfa.proofs.Reduced.{has_node_lines}
-use Rattle.dcv_shortest.specs.declared.proof.Access.{Access as CodeAccess}
-use Rattle.dcv_shortest.specs.declared.proof.Access.TheVariants.{Empty as NoLetters, Start, After}
-use Rattle.dcv_shortest.specs.declared.proof.Suffix.{Suffix as CodeSuffix}
-use Rattle.dcv_shortest.specs.declared.proof.Suffix.TheVariants.{Empty, Then}
-use Rattle.dcv_shortest.specs.Proof.{IsSpelled, suffix_words}
+use Rattle.dcv_language.specs.declared.certificate.Access.{Access as CodeAccess}
+use Rattle.dcv_language.specs.declared.certificate.Access.TheVariants.{Empty as NoLetters, Start, After}
+use Rattle.dcv_language.specs.declared.certificate.Suffix.{Suffix as CodeSuffix}
+use Rattle.dcv_language.specs.declared.certificate.Suffix.TheVariants.{Empty, Then}
+use Rattle.dcv_certificate.specs.Proof.{IsSpelled, suffix_words}
 use Rattle.dcv_automaton_text.specs.Form.{is_visible, IsNameWord, IsTarget, IsNodeLine, IsStateLine, IsAccess, IsAccessLine, IsSuffix, IsSuffixLine}
 use Rattle.dcv_automaton_text.specs.Rules.{IsPlainName, AreNames}
 use Rattle.dcv_automaton_text.proofs.Kept.{both_true, both}
-use Rattle.dcv_print.specs.Printed.{target_of, access_of, suffix_of, node_line, state_line, access_line, suffix_line, printed_file}
+use Rattle.dcv_print.specs.Printed.{target_of, node_line, state_line, access_line, suffix_line, printed_file}
+use Rattle.dcv_automaton_read.specs.File.{access_from, suffix_from}
 use Rattle.dcv_print.specs.Laws.{PrintedIsSpellable}
 use Rattle.dcv_print.proofs.PrintedProofs.{length-suffix_words, count_of_words, count_of_access}
 use Rattle.dcv_print.proofs.PrintedTables.{reduced, slots_below}
@@ -70,12 +71,12 @@ small_target : (states nodes : ℕ) (child : Child) → states ≤ 32000 → nod
 small_target states nodes (State state) few few_nodes below = omega arith
 small_target states nodes (Node number) few few_nodes below = omega arith
 
-small_access : (words : List (List (List Bool))) (state : ℕ) (one : CodeAccess) → length words ≤ 32000 → IsSpelled words state one → IsAccess (access_of one)
+small_access : (words : List (List (List Bool))) (state : ℕ) (one : CodeAccess) → length words ≤ 32000 → IsSpelled words state one → IsAccess (access_from one)
 small_access words state NoLetters few is = tt
 small_access words state (Start letter) few is = tt
 small_access words state (After before letter) few is = let below = is.is_state in omega arith
 
-small_suffix : (place : ℕ) (one : CodeSuffix) → place ≤ 32000 → ((from : ℕ) (letter : List Bool) → one ≡ Then letter from → from < place) → IsSuffix (suffix_of one)
+small_suffix : (place : ℕ) (one : CodeSuffix) → place ≤ 32000 → ((from : ℕ) (letter : List Bool) → one ≡ Then letter from → from < place) → IsSuffix (suffix_from one)
 small_suffix place Empty few earlier = tt
 small_suffix place (Then letter from) few earlier = let below = earlier from letter refl in omega arith
 

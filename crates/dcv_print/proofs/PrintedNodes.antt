@@ -14,8 +14,8 @@ use Rattle.dcv_dfa.specs.declared.node_lines.Child.TheVariants.{State, Node}
 use Rattle.dcv_dfa.specs.declared.node_lines.NodeLine.{NodeLine}
 use Rattle.dcv_dfa.specs.NodeLines.{IsBelow, ComesAfter, AreReduced, node_lines_of}
 use Rattle.dcv_dfa.specs.Raw.{RawValue}
-use Rattle.dcv_shortest.specs.declared.proof.Access.{Access as CodeAccess}
-use Rattle.dcv_shortest.specs.declared.proof.Suffix.{Suffix as CodeSuffix}
+use Rattle.dcv_language.specs.declared.certificate.Access.{Access as CodeAccess}
+use Rattle.dcv_language.specs.declared.certificate.Suffix.{Suffix as CodeSuffix}
 use Rattle.dcv_automaton_text.specs.File.{NodeLine as PlainNodeLine}
 use Rattle.dcv_automaton_text.specs.Rules.{most_nodes, slot_of, slot_of_node, keeps_child, is_same_target, is_same_node, keeps_node, keeps_row, keeps_state}
 use Rattle.dcv_automaton_text.proofs.Kept.{AreKept, both_true, both}

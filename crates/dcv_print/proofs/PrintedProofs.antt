@@ -17,14 +17,15 @@ use Rattle.dcv_dfa.specs.Auto.{table_of_states}
 use Rattle.dcv_dfa.specs.NodeLines.{node_lines_of}
 use Rattle.dcv_dfa.specs.Raw.{RawValue, raw_accepts}
 use Rattle.dcv_dfa.proofs.States.{table_has_the_states}
-use Rattle.dcv_shortest.specs.declared.proof.Access.{Access as CodeAccess}
-use Rattle.dcv_shortest.specs.declared.proof.Access.TheVariants.{Empty as NoLetters, Start, After}
-use Rattle.dcv_shortest.specs.declared.proof.Suffix.{Suffix as CodeSuffix}
-use Rattle.dcv_shortest.specs.declared.proof.Suffix.TheVariants.{Empty, Then}
-use Rattle.dcv_shortest.specs.Proof.{suffix_word, suffix_words, IsSpelled, IsProof}
+use Rattle.dcv_language.specs.declared.certificate.Access.{Access as CodeAccess}
+use Rattle.dcv_language.specs.declared.certificate.Access.TheVariants.{Empty as NoLetters, Start, After}
+use Rattle.dcv_language.specs.declared.certificate.Suffix.{Suffix as CodeSuffix}
+use Rattle.dcv_language.specs.declared.certificate.Suffix.TheVariants.{Empty, Then}
+use Rattle.dcv_certificate.specs.Proof.{suffix_word, suffix_words, IsSpelled, IsProof}
 use Rattle.dcv_automaton_text.specs.Rules.{has_width, has_all_states, has_all_access, keeps_access, keeps_how_access, keeps_suffix, keeps_how_suffix}
 use Rattle.dcv_automaton_text.proofs.Kept.{AreKept, both_true}
-use Rattle.dcv_print.specs.Printed.{access_of, suffix_of, state_line, access_line, suffix_line, printed_file}
+use Rattle.dcv_print.specs.Printed.{state_line, access_line, suffix_line, printed_file}
+use Rattle.dcv_automaton_read.specs.File.{access_from, suffix_from}
 use Rattle.dcv_print.proofs.PrintedNodes.{same_number}
 
 -- ---- access words
@@ -150,7 +151,7 @@ module _ (raw : RawValue) (names : List (List ℕ)) (access : List CodeAccess) (
   unfolding printed_file
   width_kept letter same = (unsigned_Decides (length letter) (length names)).1 (same ∙ sym slots)
 
-  how_kept : (state : ℕ) (one : CodeAccess) → state < length proof.words → IsSpelled proof.words state one → AreKept (keeps_how_access (printed_file raw names access suffixes) state (access_of one))
+  how_kept : (state : ℕ) (one : CodeAccess) → state < length proof.words → IsSpelled proof.words state one → AreKept (keeps_how_access (printed_file raw names access suffixes) state (access_from one))
   unfolding printed_file
   how_kept state NoLetters within is = (no_letters_at_start raw.arena.slots (raw_accepts raw) (table_of_states raw) proof.words proof.canonical state within is, tt)
   how_kept state (Start letter) within is =
@@ -172,7 +173,7 @@ module _ (raw : RawValue) (names : List (List ℕ)) (access : List CodeAccess) (
       )
 
   how_suffix_kept : (place : ℕ) (one : CodeSuffix) → (0 < place → GrowsFrom raw.arena.slots (suffix_words (take place suffixes)) (suffix_word (suffix_words (take place suffixes)) one))
-      → ((from : ℕ) (letter : List Bool) → one ≡ Then letter from → from < place) → AreKept (keeps_how_suffix (printed_file raw names access suffixes) place (suffix_of one))
+      → ((from : ℕ) (letter : List Bool) → one ≡ Then letter from → from < place) → AreKept (keeps_how_suffix (printed_file raw names access suffixes) place (suffix_from one))
   unfolding printed_file
   how_suffix_kept zero Empty grows earlier = (refl, tt)
   how_suffix_kept zero (Then letter from) grows earlier = absurd (let wrong = earlier from letter refl in omega arith)

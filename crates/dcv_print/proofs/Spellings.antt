@@ -8,8 +8,8 @@ use Rattle.std.proofs.lemmas.List.Folds.{flat_map-map}
 use Rattle.std.proofs.lemmas.List.{append_assoc, append-nil, take_more, length-take}
 use Rattle.dcv_dfa.specs.Raw.{RawValue}
 use Rattle.dcv_dfa.specs.NodeLines.{node_lines_of}
-use Rattle.dcv_shortest.specs.declared.proof.Access.{Access as CodeAccess}
-use Rattle.dcv_shortest.specs.declared.proof.Suffix.{Suffix as CodeSuffix}
+use Rattle.dcv_language.specs.declared.certificate.Access.{Access as CodeAccess}
+use Rattle.dcv_language.specs.declared.certificate.Suffix.{Suffix as CodeSuffix}
 use Rattle.dcv_automaton_text.specs.Spelled.{name_words, node_words, state_words, access_words, suffix_words, head_lines, end_lines, lines_of, spelled_line, spelled}
 use Rattle.dcv_print.specs.Printed.{node_line, state_line, access_line, suffix_line, printed_file}
 use Rattle.dcv_print.specs.Pushed.{spaced, spelled_lines}

@@ -14,9 +14,9 @@ use Rattle.dcv_automaton_text.specs.Meaning.{table_of, access_words_of, suffix_w
 use Rattle.dcv_automaton_text.specs.Rules.{AreNames, most_states, most_nodes, IsGood}
 use Rattle.dcv_dfa.specs.Auto.{IsAuto, count_of_nodes, table_of_states}
 use Rattle.dcv_dfa.specs.Raw.{RawValue, IsRaw, raw_accepts}
-use Rattle.dcv_shortest.specs.declared.proof.Access.{Access}
-use Rattle.dcv_shortest.specs.declared.proof.Suffix.{Suffix}
-use Rattle.dcv_shortest.specs.Proof.{AreSpelled, suffix_words, IsProof}
+use Rattle.dcv_language.specs.declared.certificate.Access.{Access}
+use Rattle.dcv_language.specs.declared.certificate.Suffix.{Suffix}
+use Rattle.dcv_certificate.specs.Proof.{AreSpelled, suffix_words, IsProof}
 use Rattle.dcv_print.specs.Automaton.{IsAutomatonOf, AreSameButForSuffixes}
 use Rattle.dcv_print.specs.Printed.{printed_file}
 

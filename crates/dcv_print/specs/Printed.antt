@@ -8,12 +8,10 @@ use Rattle.dcv_dfa.specs.declared.node_lines.Child.TheVariants.{State, Node}
 use Rattle.dcv_dfa.specs.declared.node_lines.NodeLine.{NodeLine as CodeNodeLine}
 use Rattle.dcv_dfa.specs.Raw.{RawValue, is_accepting}
 use Rattle.dcv_dfa.specs.NodeLines.{node_lines_of}
-use Rattle.dcv_shortest.specs.declared.proof.Access.{Access as CodeAccess}
-use Rattle.dcv_shortest.specs.declared.proof.Access.TheVariants.{Empty as NoLetters, Start, After}
-use Rattle.dcv_shortest.specs.declared.proof.Suffix.{Suffix as CodeSuffix}
-use Rattle.dcv_shortest.specs.declared.proof.Suffix.TheVariants.{Empty, Then}
-use Rattle.dcv_automaton_text.specs.File.{Target, ToState, ToNode, NodeLine, StateLine, Access, EmptyAccess, StartAccess, AfterAccess, AccessLine}
-use Rattle.dcv_automaton_text.specs.File.{Suffix, EmptySuffix, ThenSuffix, SuffixLine, AutomatonFile}
+use Rattle.dcv_language.specs.declared.certificate.Access.{Access as CodeAccess}
+use Rattle.dcv_language.specs.declared.certificate.Suffix.{Suffix as CodeSuffix}
+use Rattle.dcv_automaton_read.specs.File.{access_from, suffix_from}
+use Rattle.dcv_automaton_text.specs.File.{Target, ToState, ToNode, NodeLine, StateLine, AccessLine, SuffixLine, AutomatonFile}
 
 abbrev pub texts_of : List Name → List (List ℕ)
 texts_of names = map (λ (name : Name). name.text) names
@@ -23,15 +21,6 @@ texts_of names = map (λ (name : Name). name.text) names
 abbrev pub target_of : Child → Target
 target_of (State state) = ToState state
 target_of (Node number) = ToNode number
-
-abbrev pub access_of : CodeAccess → Access
-access_of NoLetters = EmptyAccess
-access_of (Start letter) = StartAccess letter
-access_of (After state letter) = AfterAccess state letter
-
-abbrev pub suffix_of : CodeSuffix → Suffix
-suffix_of Empty = EmptySuffix
-suffix_of (Then letter place) = ThenSuffix letter place
 
 -- ---- lines, of what has a number
 
@@ -44,10 +33,10 @@ abbrev pub state_line : RawValue → ℕ × Child → StateLine
 state_line raw numbered = record { number = numbered.0; accepting = is_accepting raw numbered.0; row = target_of numbered.1 }
 
 abbrev pub access_line : ℕ × CodeAccess → AccessLine
-access_line numbered = record { number = numbered.0; access = access_of numbered.1 }
+access_line numbered = record { number = numbered.0; access = access_from numbered.1 }
 
 abbrev pub suffix_line : ℕ × CodeSuffix → SuffixLine
-suffix_line numbered = record { number = numbered.0; suffix = suffix_of numbered.1 }
+suffix_line numbered = record { number = numbered.0; suffix = suffix_from numbered.1 }
 
 -- ---- the file
 

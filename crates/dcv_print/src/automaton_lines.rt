@@ -5,11 +5,12 @@ ghost use Rattle.std.specs.Str.{byte};
 ghost use Rattle.dcv_word.specs.TraceLine.{trace_line};
 ghost use Rattle.dcv_automaton_text.specs.Spelled.{target_word, name_words, node_words, state_words, how_access};
 ghost use Rattle.dcv_automaton_text.specs.Spelled.{how_suffix, spelled_line, spelled};
-ghost use Rattle.dcv_print.specs.Printed.{texts_of, target_of, access_of, suffix_of, node_line, state_line, printed_file};
+ghost use Rattle.dcv_print.specs.Printed.{texts_of, target_of, node_line, state_line, printed_file};
+ghost use Rattle.dcv_automaton_read.specs.File.{access_from, suffix_from};
 ghost use Rattle.dcv_print.specs.Pushed.{spaced, spelled_lines};
 
+use dcv_certificate::{Access, Proof, Suffix};
 use dcv_dfa::{Auto, Child, NodeLine};
-use dcv_shortest::{Access, Proof, Suffix};
 use dcv_syntax::Name;
 use dcv_word::Letter;
 use itoa::Buffer;
@@ -155,7 +156,7 @@ trait Entry: Copy {
 }
 
 impl Entry for Access {
-    ghost words = { λ access. how_access (access_of access) };
+    ghost words = { λ access. how_access (access_from access) };
 
     fn push(self, text: &mut Vec<u8>) -> Result<(), AllocError> {
         match self {
@@ -175,7 +176,7 @@ impl Entry for Access {
 }
 
 impl Entry for Suffix {
-    ghost words = { λ suffix. how_suffix (suffix_of suffix) };
+    ghost words = { λ suffix. how_suffix (suffix_from suffix) };
 
     fn push(self, text: &mut Vec<u8>) -> Result<(), AllocError> {
         match self {

@@ -6,7 +6,7 @@ ghost use Rattle.dcv_minimise.specs.Rounds.{IsState, IsWitnessed};
 ghost use Rattle.dcv_minimise.specs.Division.{IsDividing, IsDivision, IsDivided, IsSettled, HasNumber};
 
 use super::keys::Keys;
-use super::members::Listed;
+use super::listing::Listed;
 use super::votes::choose;
 use dcv_arena::Ref;
 use dcv_dfa::Raw;

@@ -4,10 +4,10 @@ ghost use Rattle.std.specs.List.{All};
 ghost use Rattle.dcv_minimise.specs.Partition.{block_of};
 ghost use Rattle.dcv_minimise.specs.Rounds.{IsState, HaveOneRow, IsRound, IsWitnessed, IsTold, HaveStayed, IsByFlag, IsByNumber, witness_of, flag_block};
 ghost use Rattle.dcv_minimise.specs.Division.{HasMoved};
-ghost use Rattle.dcv_minimise.specs.Members.{IsListed};
+ghost use Rattle.dcv_minimise.specs.Listing.{IsListed};
 
 use super::division::{Move, divide};
-use super::members::Listed;
+use super::listing::Listed;
 use dcv_dfa::Raw;
 use dcv_renumber::Places;
 use std::alloc::{AllocError, Global};

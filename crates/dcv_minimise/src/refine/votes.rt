@@ -5,10 +5,10 @@ ghost use Rattle.std.specs.Prelude.{◌<◌, length, OnOk};
 ghost use Rattle.std.specs.List.{All};
 ghost use Rattle.dcv_minimise.specs.Keys.{IsKeys};
 ghost use Rattle.dcv_minimise.specs.Rounds.{IsState, IsWitnessed};
-ghost use Rattle.dcv_minimise.specs.Members.{IsChosen};
+ghost use Rattle.dcv_minimise.specs.Listing.{IsChosen};
 
 use super::keys::Keys;
-use super::members::Listed;
+use super::listing::Listed;
 use dcv_dfa::Raw;
 use indexmap::IndexSet;
 use std::alloc::{AllocError, Global};

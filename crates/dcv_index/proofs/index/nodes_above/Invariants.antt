@@ -1,7 +1,7 @@
 use Rattle.std.proofs.Common.{◌≡◌, ℕ, ◌<◌, length, Contains}
 use Rattle.dcv_arena.specs.declared.nodes.Ref.{Ref}
 use Rattle.dcv_index.specs.Lists.{listed_at}
-use Rattle.dcv_index.specs.Index.{IsAbove}
+use Rattle.dcv_index.specs.Index.{IsAbove, GoesDown}
 use Rattle.dcv_index.proofs.index.nodes_above.Given as goal
 
 abbrev pub invariant-loop-place : goal.invariant-loop-place
@@ -9,5 +9,5 @@ invariant-loop-place l = record {
   leaves : length l.nodes.leaves.items ≡ l.leaves;
   places : length l.nodes.places.items ≡ length l.arena.nodes;
   above : (place : ℕ) → place < l.place → IsAbove l.arena l.leaves l.nodes place;
-  only : (at : Ref) (place : ℕ) → Contains (listed_at l.nodes at) place → place < length l.arena.nodes;
+  only : (at : Ref) (place : ℕ) → Contains (listed_at l.nodes at) place → GoesDown l.arena place at;
 }

@@ -1,6 +1,6 @@
-use Rattle.std.proofs.Common.{◌<◌, length, subst, ◌∙◌}
+use Rattle.std.proofs.Common.{◌<◌, length, subst, refl, ◌∙◌}
 use Rattle.dcv_index.specs.Lists.{Adds}
-use Rattle.dcv_index.specs.Index.{row_at}
+use Rattle.dcv_index.specs.Leads.{row_at}
 use Rattle.dcv_index.proofs.AddFacts.{row_above, row_only}
 use Rattle.dcv_index.proofs.index.rows_above.Goals as goal
 
@@ -16,5 +16,5 @@ loop-place-preserved c =
       leaves = adds.leaves ∙ was.leaves;
       places = adds.places ∙ was.places;
       above = row_above arena (length rows) (row_at rows) place c.loop-place.lists c.add.new.self adds was.leaves was.places was.above;
-      only = row_only arena (length rows) (row_at rows) place c.loop-place.lists c.add.new.self adds inside was.only;
+      only = row_only arena (length rows) (row_at rows) place c.loop-place.lists c.add.new.self adds rows inside refl was.only;
     }

@@ -1,5 +1,5 @@
 use Rattle.std.proofs.Common.{◌≡◌, ℕ, [], length}
-use Rattle.dcv_index.specs.Lists.{list_at}
+use Rattle.dcv_members.specs.Lists.{list_at}
 use Rattle.dcv_index.proofs.lists.empty_lists.Given as goal
 
 abbrev pub invariant-loop-place : goal.invariant-loop-place

@@ -1,9 +1,10 @@
 use Rattle.std.proofs.Common.{◌+◌, ◌-◌, min, length}
+use Rattle.dcv_members.specs.Members.{list_of}
 use Rattle.dcv_minimise.specs.Refining.{IsRefining}
 use Rattle.dcv_minimise.proofs.refine.refine.Given as goal
 
 abbrev pub invariant-rounds : goal.invariant-rounds
-invariant-rounds l = IsRefining l.raw l.refining.partition.blocks.items l.refining.partition.witness.items l.refining.members.lists.items l.refining.moved.items
+invariant-rounds l = IsRefining l.raw l.refining.partition.blocks.items l.refining.partition.witness.items (list_of l.refining.members) l.refining.moved.items
 
 -- each round but the last makes a block more, and there are at most as many as states
 abbrev pub decreases-rounds : goal.decreases-rounds

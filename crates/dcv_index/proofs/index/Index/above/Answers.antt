@@ -1,38 +1,34 @@
-use Rattle.std.proofs.Common.{take, subst}
-use Rattle.std.specs.List.{All}
-use Rattle.std.proofs.lemmas.List.{take_all}
-use Rattle.std.proofs.lemmas.List.Elements.{All-more, All-weaker, All-contains}
-use Rattle.dcv_arena.specs.declared.nodes.Ref.TheVariants.{Leaf}
-use Rattle.dcv_index.specs.Index.{IsFollowed}
-use Rattle.dcv_index.proofs.MarkFacts.{followed_on}
+use Rattle.std.proofs.Common.{ℕ, ◌↔◌, IfOk, Contains, subst}
+use Rattle.std.proofs.lemmas.List.Elements.{All-contains}
+use Rattle.dcv_arena.specs.declared.nodes.Ref.TheVariants.{Place}
+use Rattle.dcv_index.specs.Leads.{IndexedRows, index_of, LeadsInto, IsRowInto}
+use Rattle.dcv_index.proofs.IndexFacts.{if_ok_two, all_looked, all_marked}
 use Rattle.dcv_index.proofs.index.Index.above.Goals as goal
 
-pub loop-state-preserved : goal.loop-state-preserved
-loop-state-preserved c =
-    let nodes = c.args.self.now.nodes in
-    let rows = c.args.self.now.rows in
-    let was = c.loop-state.invariant in
-    let all = c.in_ok-follow.ensures in
-    let old = c.loop-state.found in
-    let new = c.follow.new.found in
-    record {
-      marked = all.marked;
-      followed = All-more (λ state. IsFollowed nodes rows (Leaf state) new.marked.keys new.looked.items) c.args.moved.now c.loop-state.state-index 0 c.loop-state-test.true
-          (All-weaker (λ state. IsFollowed nodes rows (Leaf state) old.marked.keys old.looked.items) (λ state. IsFollowed nodes rows (Leaf state) new.marked.keys new.looked.items)
-          (λ state one. followed_on nodes rows (Leaf state) old.marked.keys old.looked.items new.marked.keys new.looked.items all.grows one) (take c.loop-state.state-index c.args.moved.now) was.followed)
-          all.followed;
-    }
+pub returns-clause-looked : goal.returns-clause-looked
+returns-clause-looked c =
+    let fields = c.self.inside in
+    let arena = fields.arena.now in
+    let refs = fields.refs.now in
+    let leaves = c.args.leaves.now in
+    let nodes = fields.nodes in
+    let rows = fields.rows in
+    subst (λ (index : IndexedRows). IfOk c.climb.result (λ found. (row : ℕ) → Contains found.looked.items row ↔ IsRowInto index leaves row)) c.self.view_is
+    (if_ok_two c.climb.result _ _ _ (λ found closed marked row. (
+      All-contains (IsRowInto (index_of arena refs) leaves) found.looked.items row marked.rows,
+      all_looked arena refs nodes rows c.self.invariant leaves found.marked.keys found.looked.items closed row,
+    )) c.climb.ensures.closed c.climb.ensures.marked)
 
-pub returns-clause-closed : goal.returns-clause-closed
-returns-clause-closed c =
-    let nodes = c.args.self.now.nodes in
-    let rows = c.args.self.now.rows in
-    let all = c.in_ok-close.ensures in
-    let old = c.loop-state.found in
-    let new = c.close.new.found in
-    let leaves = subst (All (λ state. IsFollowed nodes rows (Leaf state) old.marked.keys old.looked.items)) (take_all c.loop-state.state-index c.args.moved.now c.loop-state-test.false) c.loop-state.invariant.followed in
-    record {
-      leaves = λ state there. followed_on nodes rows (Leaf state) old.marked.keys old.looked.items new.marked.keys new.looked.items all.grows
-          (All-contains (λ state. IsFollowed nodes rows (Leaf state) old.marked.keys old.looked.items) c.args.moved.now state leaves there);
-      places = all.followed;
-    }
+pub returns-clause-marked : goal.returns-clause-marked
+returns-clause-marked c =
+    let fields = c.self.inside in
+    let arena = fields.arena.now in
+    let refs = fields.refs.now in
+    let leaves = c.args.leaves.now in
+    let nodes = fields.nodes in
+    let rows = fields.rows in
+    subst (λ (index : IndexedRows). IfOk c.climb.result (λ found. (place : ℕ) → Contains found.marked.keys place ↔ LeadsInto index leaves (Place place))) c.self.view_is
+    (if_ok_two c.climb.result _ _ _ (λ found closed marked place. (
+      All-contains (λ place. LeadsInto (index_of arena refs) leaves (Place place)) found.marked.keys place marked.nodes,
+      all_marked arena refs nodes rows c.self.invariant leaves found.marked.keys found.looked.items closed place,
+    )) c.climb.ensures.closed c.climb.ensures.marked)

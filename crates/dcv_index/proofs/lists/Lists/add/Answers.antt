@@ -2,7 +2,8 @@ use Rattle.std.proofs.Common.{◌≡◌, length, subst, sym, refl, arith}
 use Rattle.std.specs.Vec.{with_items}
 use Rattle.std.proofs.lemmas.List.{with_items_is}
 use Rattle.indexmap.proofs.MapLemmas.{OnOk-map}
-use Rattle.dcv_index.specs.Lists.{AddsAt, Adds}
+use Rattle.dcv_members.specs.Lists.{AddsAt}
+use Rattle.dcv_index.specs.Lists.{Adds}
 use Rattle.dcv_index.specs.declared.lists.Lists.{Lists}
 use Rattle.dcv_index.proofs.AddFacts.{adds_leaf, adds_place}
 use Rattle.dcv_index.proofs.lists.Lists.add.Goals as goal

@@ -1,6 +1,6 @@
 use Rattle.std.proofs.Common.{◌<◌, length, Contains, inl, sym, ap, subst, ◌∙◌, arith}
 use Rattle.std.specs.List.{All}
-use Rattle.dcv_minimise.specs.Members.{IsComplete}
+use Rattle.dcv_members.specs.Members.{list_of, HaveTheirOwn}
 use Rattle.dcv_minimise.proofs.RoundFacts.{stable_at_start}
 use Rattle.dcv_minimise.proofs.refine.Refining.new.Goals as goal
 
@@ -14,8 +14,6 @@ pub returns : goal.returns
 returns c =
     let raw = c.args.raw.now in
     let blocks = c.in_ok-partition.partition.blocks.items in
-    let witness = c.in_ok-partition.partition.witness in
-    let lists = c.follow.new.self.lists.items in
     let first = c.in_ok-partition.ensures in
     let size = first.witnessed.each in
     let moved = c.in_ok-moved.moved.items in
@@ -26,6 +24,6 @@ returns c =
         told = first.told;
         stable = stable_at_start raw c.states.ensures.raw blocks moved size c.in_ok-moved.ensures.all;
       };
-      complete = subst (λ count. IsComplete blocks count lists) (c.len.ensures ∙ witness.ok.0) (subst (λ blocks. IsComplete blocks c.len.result lists) c.deref.ensures.value c.in_ok-follow.ensures);
+      own = subst (λ blocks. HaveTheirOwn blocks (list_of c.follow.new.members)) c.deref.ensures.value c.in_ok-follow.ensures;
       states = subst (λ count. All (λ state. state < count) moved) size c.in_ok-moved.ensures.states;
     }

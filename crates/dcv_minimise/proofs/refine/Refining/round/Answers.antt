@@ -1,18 +1,17 @@
-use Rattle.std.proofs.Common.{◌≡◌, ◌<◌, length, Contains, inl, inr, sym, ap, subst, ◌∙◌, arith}
+use Rattle.std.proofs.Common.{◌≡◌, ℕ, ◌<◌, List, length, Contains, inl, inr, sym, ap, subst, ◌∙◌, arith}
 use Rattle.indexmap.proofs.MapLemmas.{OnOk-map}
 use Rattle.dcv_minimise.specs.Partition.{block_of}
-use Rattle.dcv_index.specs.Lists.{list_at}
-use Rattle.dcv_index.specs.Index.{IsClosed}
-use Rattle.dcv_minimise.specs.Members.{IsComplete, IsListing}
-use Rattle.dcv_index.proofs.IndexFacts.{is_bounded}
+use Rattle.dcv_index.specs.Leads.{IndexedRows, IsRowInto}
+use Rattle.dcv_minimise.specs.Listing.{IsListing}
+use Rattle.dcv_members.specs.Members.{list_of, HaveTheirOwn}
 use Rattle.dcv_minimise.proofs.MemberFacts.{is_in, others_go}
 use Rattle.dcv_minimise.proofs.RoundFacts.{refined_on}
 use Rattle.dcv_minimise.proofs.LeadFacts.{leads}
 use Rattle.dcv_minimise.proofs.refine.Refining.round.Goals as goal
 use Rattle.dcv_minimise.proofs.refine.Refining.round.Goals.{In_ok-listed, After-deref-6}
 
-pub above-requires : goal.above-requires
-above-requires c = is_bounded c.args.raw.now.arena c.args.raw.now.rows c.args.index.now.nodes c.args.index.now.rows c.requires.index
+pub among-requires-clause-members : goal.among-requires-clause-members
+among-requires-clause-members c = subst (λ blocks. HaveTheirOwn blocks (list_of c.args.self.now.members)) (sym c.deref-2.ensures.value) c.requires.refining.own
 
 listing : (c : In_ok-listed) → IsListing c.args.self.now.partition.blocks.items c.args.self.now.partition.witness.items c.in_ok-found.found.looked.items c.in_ok-listed.listed.states.items c.in_ok-listed.listed.full.keys
 listing c =
@@ -31,18 +30,14 @@ split-requires-clause-others c =
     let is = c.requires.refining.is_raw in
     let moved = c.args.self.now.moved.items in
     let looked = c.in_ok-found.found.looked.items in
-    let nodes = c.args.index.now.nodes in
-    let rows = c.args.index.now.rows in
-    let marked = c.in_ok-found.found.marked.keys in
-    let closed = subst (λ moved. IsClosed nodes rows moved marked looked) c.deref.ensures.value c.in_ok-found.ensures.closed in
+    let all = subst (λ (index : IndexedRows). (row : ℕ) → IsRowInto index moved row → Contains looked row) c.requires.index
+    (subst (λ (moved : List ℕ). (row : ℕ) → IsRowInto c.args.index.now moved row → Contains looked row) c.deref.ensures.value (λ row. (c.in_ok-found.ensures.looked row).1)) in
     others_go raw is c.args.self.now.partition.blocks.items c.args.self.now.partition.witness.items moved looked c.in_ok-listed.listed.states.items c.in_ok-listed.listed.full.keys
-    c.requires.refining.refined.witnessed c.requires.refining.refined.stable (leads raw is nodes rows c.requires.index moved marked looked closed) (listing (goal.at.split-requires-clause-others c).In_ok-listed)
+    c.requires.refining.refined.witnessed c.requires.refining.refined.stable (leads raw is moved looked all) (listing (goal.at.split-requires-clause-others c).In_ok-listed)
 
 -- the lists as they were gone through
-complete : (c : After-deref-6) → IsComplete c.args.self.now.partition.blocks.items (length c.args.self.now.partition.witness.items) c.list.new.self.lists.items
-complete c =
-    subst (λ witness. IsComplete c.args.self.now.partition.blocks.items (length witness) c.list.new.self.lists.items) c.deref-3.ensures.value
-    (subst (λ blocks. IsComplete blocks (length c.deref-3.result.now) c.list.new.self.lists.items) c.deref-2.ensures.value c.in_ok-listed.ensures.complete)
+own : (c : After-deref-6) → HaveTheirOwn c.args.self.now.partition.blocks.items (list_of c.among.new.members)
+own c = subst (λ blocks. HaveTheirOwn blocks (list_of c.among.new.members)) c.deref-2.ensures.value c.in_ok-listed.ensures.members
 
 same_size : (c : After-deref-6) → length c.deref-5.result.now ≡ length c.args.self.now.partition.blocks.items
 same_size c = omega (arith, ap length c.deref-5.ensures.value, c.in_ok-self.ensures.witnessed.each, c.requires.refining.refined.witnessed.each)
@@ -51,7 +46,7 @@ pub follow-requires-clause-has : goal.follow-requires-clause-has
 follow-requires-clause-has c state inside =
     let old = c.args.self.now.partition.blocks.items in
     let new = c.split.new.self.blocks.items in
-    let lists = c.list.new.self.lists.items in
+    let lists = list_of c.among.new.members in
     let moved = c.in_ok-self.field-0.items in
     let before : state < length old = omega (arith, same_size c, inside) in
     let there : state < length c.args.raw.now.rows = omega (arith, before, c.requires.refining.refined.witnessed.each) in
@@ -59,11 +54,8 @@ follow-requires-clause-has c state inside =
       | inl one ↦ inl (subst (λ list. Contains list state) (sym c.deref-6.ensures.value) one)
       | inr stays ↦
           let same : block_of c.deref-5.result.now state ≡ block_of old state = ap (λ blocks. block_of blocks state) c.deref-5.ensures.value ∙ c.in_ok-self.ensures.stayed state there stays in
-          inr (subst (λ at. Contains (list_at lists at) state) (sym same) ((complete c).has state before))
+          inr (subst (λ at. Contains (lists at) state) (sym same) (own c state before))
     ]
-
-pub follow-requires-clause-states : goal.follow-requires-clause-states
-follow-requires-clause-states c at state one = omega (arith, same_size c, (complete c).states at state one)
 
 pub returns-clause-refining : goal.returns-clause-refining
 returns-clause-refining c =
@@ -73,10 +65,9 @@ returns-clause-refining c =
     let old = c.args.self.now.partition in
     let new = c.split.new.self in
     let moved = c.in_ok-self.field-0.items in
-    let lists = c.follow.new.self.lists.items in
     OnOk-map c.follow.result _ _ (λ done. record {
       is_raw = was.is_raw;
       refined = refined_on raw was.is_raw old.blocks.items new.blocks.items all.round old.witness.items new.witness.items c.args.self.now.moved.items moved was.refined all.witnessed all.stayed;
-      complete = subst (λ count. IsComplete new.blocks.items count lists) (c.len.ensures ∙ new.witness.ok.0) (subst (λ blocks. IsComplete blocks c.len.result lists) c.deref-5.ensures.value done);
+      own = subst (λ blocks. HaveTheirOwn blocks (list_of c.follow.new.members)) c.deref-5.ensures.value done;
       states = all.states;
     }) c.follow.ensures

@@ -1,7 +1,7 @@
 use Rattle.std.proofs.Common.{◌≡◌, List, ℕ, length, take, drop, ◌++◌, sym, ap, subst, arith}
 use Rattle.std.proofs.lemmas.Result.{IfOk-weaker}
 use Rattle.dcv_minimise.specs.Rounds.{IsWitnessed}
-use Rattle.dcv_minimise.specs.Members.{IsChosen}
+use Rattle.dcv_minimise.specs.Listing.{IsChosen}
 use Rattle.dcv_minimise.specs.Division.{IsDivision}
 use Rattle.dcv_minimise.proofs.Pushed.{written_back}
 use Rattle.dcv_minimise.proofs.MemberFacts.{chosen_witnessed}

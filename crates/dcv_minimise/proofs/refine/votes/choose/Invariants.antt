@@ -1,5 +1,5 @@
 use Rattle.dcv_minimise.specs.Keys.{IsKeys}
-use Rattle.dcv_minimise.specs.Members.{IsChosen}
+use Rattle.dcv_minimise.specs.Listing.{IsChosen}
 use Rattle.dcv_minimise.proofs.refine.votes.choose.Given as goal
 
 abbrev pub invariant-loop-state : goal.invariant-loop-state

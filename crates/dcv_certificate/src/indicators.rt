@@ -1,0 +1,120 @@
+// Where letters lead into a part of the states: a function for each row, which has 1 at the letters that do, and 0 at the others.
+ghost use Rattle.std.specs.Prelude.{◌≡◌, ◌<◌, ℕ, Bool, List, true, if◌then◌else◌, nat_eq, length, IfOk, OnOk, Contains};
+ghost use Rattle.std.specs.List.{All};
+ghost use Rattle.indexmap.specs.IndexMap.{get};
+ghost use Rattle.indexmap.specs.IndexSet.{contains};
+ghost use Rattle.dcv_arena.specs.Arena.{IsRef, IsArena, KeepsRefs, level_of};
+ghost use Rattle.dcv_certificate.specs.Separation.{has};
+ghost use Rattle.dcv_certificate.specs.Marks.{IsMarkFrom};
+ghost use Rattle.dcv_certificate.specs.Indicators.{IsIndicator, Became, IsMarkedAbove, part_of, AreIndicators};
+
+use dcv_arena::{Arena, Ref};
+use indexmap::{IndexMap, IndexSet};
+use std::alloc::{AllocError, Global};
+
+// The states of the part, and the nodes that stand above them.
+#[derive(Drop)]
+pub(crate) struct Part<'a> {
+    pub(crate) arena: &'a Arena,
+    states: IndexSet<u32>,
+    above: &'a IndexSet<u32>,
+}
+
+impl<'a> Part<'a> {
+    pub(crate) fn new(
+        alloc: Global,
+        arena: &'a Arena,
+        states: &[u32],
+        above: &'a IndexSet<u32>,
+    ) -> Result<Part<'a>, AllocError>
+        ensures arena { IfOk result (λ part. part.arena.now ≡ arena.now) }
+        ensures states { IfOk result (λ part. (state : ℕ) → part_of part state ≡ has states.now state) }
+        ensures above { IfOk result (λ part. part.above.now.keys ≡ above.now.keys) }
+    {
+        let states = set_of(alloc, states)?;
+        Ok(Part {
+            arena,
+            states,
+            above,
+        })
+    }
+}
+
+impl Part<'_> {
+    // The indicators of these rows, each beside its state.
+    pub(crate) fn marks(
+        &self,
+        alloc: Global,
+        scratch: &mut Arena,
+        rows: &[Ref],
+        looked: &[u32],
+    ) -> Result<Vec<(usize, Ref)>, AllocError>
+        requires rows { All (IsRef self.now.arena.now) rows.now }
+        requires looked { All (λ state. state < length rows.now) looked.now }
+        requires above { IsMarkedAbove self.now }
+        requires slots { scratch.old.slots ≡ self.now.arena.now.slots }
+        requires arena { IsArena scratch.old }
+        ensures kept { KeepsRefs scratch.old scratch.new }
+        ensures arena { IsArena scratch.new }
+        ensures marks { IfOk result (λ marks. All (IsMarkFrom scratch.new (length rows.now) 0) marks.items) }
+        ensures marked { IfOk result (λ marks. AreIndicators self.now rows.now looked.now scratch.new marks.items) }
+    {
+        // for the prover: of an arena that was asked it is known what is true of every arena.
+        let _ = scratch.slots();
+        let mut became = IndexMap::new(alloc);
+        let mut marks = Vec::new(alloc);
+        for state in looked {
+            let mark = self.indicator(scratch, rows[*state as usize], &mut became)?;
+            marks.push((*state as usize, mark))?;
+        }
+        Ok(marks)
+    }
+
+    // The function that has 1 where the ref leads into the part. What nodes became is kept.
+    fn indicator(
+        &self,
+        scratch: &mut Arena,
+        root: Ref,
+        became: &mut IndexMap<u32, Ref>,
+    ) -> Result<Ref, AllocError>
+        requires root { IsRef self.now.arena.now root }
+        requires above { IsMarkedAbove self.now }
+        requires slots { scratch.old.slots ≡ self.now.arena.now.slots }
+        requires arena { IsArena scratch.old }
+        requires became { Became self.now scratch.old (get nat_eq became.old) }
+        ensures kept { KeepsRefs scratch.old scratch.new }
+        ensures arena { IsArena scratch.new }
+        ensures became { OnOk result (Became self.now scratch.new (get nat_eq became.new)) }
+        ensures indicator { IfOk result (IsIndicator self.now scratch.new root) }
+    {
+        match root {
+            Ref::Leaf(state) => Ok(scratch.leaf(u32::from(self.states.contains(&state)))),
+            Ref::Place(place) => {
+                let slot = self.arena.level(root);
+                if !self.above.contains(&place) {
+                    return Ok(scratch.leaf(0));
+                }
+                if let Some(mark) = became.get(&place).copied() {
+                    return Ok(mark);
+                }
+                let (lo, hi) = self.arena.split(root, slot);
+                let low = self.indicator(scratch, lo, became)?;
+                let high = self.indicator(scratch, hi, became)?;
+                let mark = scratch.node(slot, low, high).map_err(|_| AllocError)?;
+                became.insert(place, mark)?;
+                Ok(mark)
+            }
+        }
+    }
+}
+
+// The set of these states.
+fn set_of(alloc: Global, states: &[u32]) -> Result<IndexSet<u32>, AllocError>
+    ensures { IfOk result (λ set. (state : ℕ) → contains nat_eq set state ≡ has states.now state) }
+{
+    let mut set = IndexSet::new(alloc);
+    for state in states {
+        set.insert(*state)?;
+    }
+    Ok(set)
+}

@@ -1,0 +1,65 @@
+// The states that have 1 at a letter, and how many of them each block has.
+ghost use Rattle.std.specs.Prelude.{◌≡◌, ◌<◌, ◌==◌, ℕ, Bool, List, false, if◌then◌else◌, nat_eq, IfOk, OnOk, Contains};
+ghost use Rattle.indexmap.specs.IndexMap.{get};
+ghost use Rattle.indexmap.specs.IndexSet.{contains};
+ghost use Rattle.dcv_certificate.specs.Ones.{is_one, ones_in, AreNoOnes, IsOneMore};
+
+use indexmap::{IndexMap, IndexSet};
+use std::alloc::{AllocError, Global};
+
+#[derive(Drop)]
+pub(crate) struct Ones {
+    states: IndexSet<usize>,
+    counts: IndexMap<usize, usize>,
+    pub(crate) blocks: Vec<usize>,
+}
+
+impl Ones {
+    pub(crate) fn new(alloc: Global) -> Ones
+        ensures { AreNoOnes result }
+    {
+        Ones {
+            states: IndexSet::new(alloc),
+            counts: IndexMap::new(alloc),
+            blocks: Vec::new(alloc),
+        }
+    }
+
+    // Adds a state of a block, unless it is there.
+    pub(crate) fn add(&mut self, state: usize, block: usize) -> Result<(), AllocError>
+        ensures { OnOk result (IsOneMore self.old state block self.new) }
+    {
+        if !self.states.insert(state)? {
+            return Ok(());
+        }
+        let count = self.count(block).checked_add(1).ok_or(AllocError)?;
+        self.counts.insert(block, count)?;
+        if count == 1 {
+            self.blocks.push(block)?;
+        }
+        Ok(())
+    }
+
+    // Whether a state is there.
+    pub(crate) fn has(&self, state: usize) -> bool
+        ensures { result ≡ is_one self.now state }
+    {
+        self.states.contains(&state)
+    }
+
+    // How many states of a block are there.
+    pub(crate) fn count(&self, block: usize) -> usize
+        ensures { result ≡ ones_in self.now block }
+    {
+        self.counts.get(&block).copied().unwrap_or(0)
+    }
+
+    // All of them.
+    pub(crate) fn states(&self, alloc: Global) -> Result<Vec<usize>, AllocError>
+        ensures { IfOk result (λ states. states.items ≡ self.now.states.keys) }
+    {
+        let mut states = Vec::new(alloc);
+        states.extend_from_slice(self.states.as_slice())?;
+        Ok(states)
+    }
+}

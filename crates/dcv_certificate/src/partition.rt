@@ -1,0 +1,208 @@
+// The states in blocks, which are split by one suffix after another.
+ghost use Rattle.std.specs.Prelude.{◌≡◌, ◌+◌, ◌<◌, ◌≤◌, ℕ, List, Bool, length, slice_set, IfOk, OnOk};
+ghost use Rattle.std.specs.List.{All};
+ghost use Rattle.dcv_arena.specs.Arena.{IsArena};
+ghost use Rattle.dcv_dfa.specs.Raw.{next_in};
+ghost use Rattle.dcv_certificate.specs.Vertices.{raw_of};
+ghost use Rattle.dcv_certificate.specs.Separation.{AreVertices, IsSplit, has, part_at};
+ghost use Rattle.dcv_certificate.specs.Partition.{raw_in, parts_in, Separates, HasFinished, GoesOn, IsMovedTo};
+ghost use Rattle.dcv_certificate.specs.Marks.{marked, IsMarkFrom};
+ghost use Rattle.dcv_certificate.specs.Tallies.{AreSizes};
+ghost use Rattle.dcv_certificate.specs.Members.{AreMembers, count_up};
+ghost use Rattle.dcv_index.specs.Leads.{index_of};
+
+use crate::indicators::Part;
+use crate::members::Members;
+use crate::vertices::Vertices;
+use dcv_arena::{Arena, Ref};
+use dcv_index::Index;
+use dcv_language::Suffix;
+use dcv_word::Letter;
+use indexmap::IndexSet;
+use std::alloc::{AllocError, Global};
+
+// The suffixes so far; the block of each state; for each suffix the states that it took out of their blocks; a number above those of all
+// blocks; and how many states each block has, and which.
+#[derive(Drop)]
+pub(crate) struct Partition<'a> {
+    pub(crate) alloc: Global,
+    pub(crate) vertices: &'a Vertices<'a>,
+    pub(crate) suffixes: Vec<Suffix>,
+    pub(crate) blocks: Vec<usize>,
+    pub(crate) parts: Vec<Vec<usize>>,
+    pub(crate) count: usize,
+    pub(crate) sizes: Vec<usize>,
+    pub(crate) members: Members,
+}
+
+impl<'a> Partition<'a> {
+    // The empty suffix, and a block for each flag.
+    pub(crate) fn new(
+        alloc: Global,
+        vertices: &'a Vertices<'a>,
+    ) -> Result<Partition<'a>, AllocError>
+        requires { AreVertices (raw_of vertices.now) }
+        ensures vertices { IfOk result (λ new. raw_in new ≡ raw_of vertices.now) }
+        ensures separates { IfOk result (λ new. Separates (raw_of vertices.now) new) }
+    {
+        let mut suffixes = Vec::new(alloc);
+        suffixes.push(Suffix::Empty)?;
+        let mut parts = Vec::new(alloc);
+        parts.push(vertices.with_flag(alloc, vertices.rarer_flag())?)?;
+        let blocks = vertices.flag_numbers(alloc)?;
+        let sizes = sizes_of(alloc, &blocks, 2)?;
+        let members = Members::new(alloc, &blocks, 2)?;
+        Ok(Partition {
+            alloc,
+            vertices,
+            suffixes,
+            blocks,
+            parts,
+            count: 2,
+            sizes,
+            members,
+        })
+    }
+}
+
+impl Partition<'_> {
+    // Lists each letter before the suffix at this place that tells states of one block apart, and splits these blocks.
+    pub(crate) fn go_on_from(&mut self, index: &Index<'_>, place: usize) -> Result<(), AllocError>
+        requires index { index.now ≡ index_of (raw_in self.old).arena (raw_in self.old).rows }
+        requires vertices { AreVertices (raw_in self.old) }
+        requires place { place < length self.old.suffixes.items }
+        requires separates { Separates (raw_in self.old) self.old }
+        requires finished { HasFinished (raw_in self.old) self.old place }
+        ensures vertices { raw_in self.new ≡ raw_in self.old }
+        ensures separates { OnOk result (Separates (raw_in self.old) self.new) }
+        ensures finished { OnOk result (HasFinished (raw_in self.old) self.new (place + 1)) }
+        ensures goes_on { OnOk result (GoesOn (raw_in self.old) self.old self.new) }
+    {
+        let from = number_of(place)?;
+        let slots = self.vertices.arena.slots();
+        let mut scratch = Arena::new(self.alloc, slots, u32::MAX);
+        let marks = self.marks(&mut scratch, index, place)?;
+        self.walk(&scratch, from, Letter::new(slots, 0), 0, &marks)
+    }
+
+    // At which letters each state goes to the part of the suffix at this place.
+    fn marks(
+        &self,
+        scratch: &mut Arena,
+        index: &Index<'_>,
+        place: usize,
+    ) -> Result<Vec<(usize, Ref)>, AllocError>
+        requires index { index.now ≡ index_of (raw_in self.now).arena (raw_in self.now).rows }
+        requires vertices { AreVertices (raw_in self.now) }
+        requires arena { IsArena scratch.old }
+        requires slots { scratch.old.slots ≡ (raw_in self.now).arena.slots }
+        requires place { place < length self.now.parts.items }
+        requires states { All (λ state. state < length (raw_in self.now).rows) (part_at (parts_in self.now) place) }
+        ensures slots { scratch.new.slots ≡ (raw_in self.now).arena.slots }
+        ensures arena { IsArena scratch.new }
+        ensures marks { IfOk result (λ marks. All (IsMarkFrom scratch.new (length (raw_in self.now).rows) 0) marks.items) }
+        ensures marked { IfOk result (λ marks. (state : ℕ) (letter : List Bool) → state < length (raw_in self.now).rows
+            → length letter ≡ (raw_in self.now).arena.slots → marked scratch.new marks.items letter state
+            ≡ has (part_at (parts_in self.now) place) (next_in (raw_in self.now) state letter)) }
+    {
+        let leaves = leaves_of(self.alloc, &self.parts[place])?;
+        let found = index.above(self.alloc, &leaves)?;
+        let part = Part::new(self.alloc, self.vertices.arena, &leaves, &found.marked)?;
+        part.marks(self.alloc, scratch, &self.vertices.rows, &found.looked)
+    }
+
+    // Gives new blocks to these states, one for all that come from one block.
+    pub(crate) fn renumber(&mut self, part: &[usize]) -> Result<(), AllocError>
+        requires members { All (λ state. state < length self.old.blocks.items) part.now }
+        requires numbers { All (λ block. block < self.old.count) self.old.blocks.items }
+        requires sizes { AreSizes self.old.blocks.items self.old.count self.old.sizes.items }
+        requires listed { AreMembers self.old.blocks.items self.old.count self.old.members.lists.items }
+        ensures vertices { raw_in self.new ≡ raw_in self.old }
+        ensures suffixes { self.new.suffixes ≡ self.old.suffixes }
+        ensures parts { self.new.parts ≡ self.old.parts }
+        ensures split { OnOk result (IsSplit (length self.old.blocks.items) self.old.blocks.items part.now self.new.blocks.items) }
+        ensures numbers { OnOk result (All (λ block. block < self.new.count) self.new.blocks.items) }
+        ensures sizes { OnOk result (AreSizes self.new.blocks.items self.new.count self.new.sizes.items) }
+        ensures listed { OnOk result (AreMembers self.new.blocks.items self.new.count self.new.members.lists.items) }
+    {
+        let mut left = IndexSet::new(self.alloc);
+        for state in part {
+            let block = self.new_block(&mut left, self.blocks[*state])?;
+            self.move_to(*state, block)?;
+        }
+        self.count = self.sizes.len();
+        Ok(())
+    }
+
+    // Moves a state to another block, which may be a new one behind the last.
+    fn move_to(&mut self, state: usize, block: usize) -> Result<(), AllocError>
+        requires state { state < length self.old.blocks.items }
+        requires numbers { All (λ block. block < length self.old.sizes.items) self.old.blocks.items }
+        requires block { block ≤ length self.old.sizes.items }
+        requires sizes { AreSizes self.old.blocks.items (length self.old.sizes.items) self.old.sizes.items }
+        requires members { AreMembers self.old.blocks.items (length self.old.sizes.items) self.old.members.lists.items }
+        ensures vertices { raw_in self.new ≡ raw_in self.old }
+        ensures suffixes { self.new.suffixes ≡ self.old.suffixes }
+        ensures parts { self.new.parts ≡ self.old.parts }
+        ensures count { self.new.count ≡ self.old.count }
+        ensures blocks { OnOk result (self.new.blocks.items ≡ slice_set self.old.blocks.items state block) }
+        ensures sizes { OnOk result (AreSizes self.new.blocks.items (count_up (length self.old.sizes.items) block) self.new.sizes.items) }
+        ensures members { OnOk result (AreMembers self.new.blocks.items (count_up (length self.old.sizes.items) block) self.new.members.lists.items) }
+    {
+        let old = self.blocks[state];
+        if block == self.sizes.len() {
+            self.sizes.push(0)?;
+            self.members.grow(self.alloc)?;
+        }
+        self.sizes[old] -= 1;
+        self.sizes[block] += 1;
+        self.members.put(block, state)?;
+        self.blocks[state] = block;
+        Ok(())
+    }
+
+    // The new number of a state that leaves this block, after the blocks that others have left; a state that has a new number keeps it.
+    fn new_block(&self, left: &mut IndexSet<usize>, block: usize) -> Result<usize, AllocError>
+        ensures moved { IfOk result (λ new. IsMovedTo self.now.count left.old.keys left.new.keys block new) }
+    {
+        if self.count <= block {
+            return Ok(block);
+        }
+        let (place, _) = left.insert_full(block)?;
+        self.count.checked_add(place).ok_or(AllocError)
+    }
+}
+
+// The place as a 32-bit number. There are fewer suffixes than states, so there always is one; a place without one would count as want
+// of memory.
+fn number_of(place: usize) -> Result<u32, AllocError>
+    ensures { IfOk result (λ number. number ≡ place) }
+{
+    match u32::try_from(place) {
+        Ok(number) => Ok(number),
+        Err(_) => Err(AllocError),
+    }
+}
+
+// The places of states as leaves. One behind all leaves would count as want of memory.
+fn leaves_of(alloc: Global, states: &[usize]) -> Result<Vec<u32>, AllocError>
+    ensures { IfOk result (λ leaves. leaves.items ≡ states.now) }
+{
+    let mut leaves = Vec::new(alloc);
+    for state in states {
+        leaves.push(number_of(*state)?)?;
+    }
+    Ok(leaves)
+}
+
+// How many states each block has.
+fn sizes_of(alloc: Global, blocks: &[usize], count: usize) -> Result<Vec<usize>, AllocError>
+    requires { All (λ block. block < count) blocks.now }
+    ensures { IfOk result (λ sizes. AreSizes blocks.now count sizes.items) }
+{
+    let mut sizes = vec![in alloc; 0usize; count]?;
+    for block in blocks {
+        sizes[*block] += 1;
+    }
+    Ok(sizes)
+}

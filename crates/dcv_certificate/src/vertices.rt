@@ -1,0 +1,65 @@
+// The states that are told apart: those of the automaton, and a start that stands alone once more, accepting. The empty suffix
+// says nothing of the empty word, so such a start must be told from each other state by a suffix that is not empty.
+ghost use Rattle.std.specs.Prelude.{◌≡◌, ◌<◌, true, length, map, if◌then◌else◌, IfOk};
+ghost use Rattle.std.specs.List.{All};
+ghost use Rattle.dcv_certificate.specs.Vertices.{raw_of, with_start, HasFlagged};
+
+use dcv_arena::{Arena, Ref};
+use std::alloc::{AllocError, Global};
+
+#[derive(Drop)]
+pub(crate) struct Vertices<'a> {
+    pub(crate) arena: &'a Arena,
+    pub(crate) rows: Vec<Ref>,
+    pub(crate) flags: Vec<bool>,
+}
+
+impl<'a> Vertices<'a> {
+    // And the start once more, accepting.
+    pub(crate) fn with_start(self) -> Result<Vertices<'a>, AllocError>
+        requires { 0 < length self.rows.items }
+        ensures { IfOk result (λ new. raw_of new ≡ with_start true (raw_of self.entry)) }
+    {
+        let mut rows = self.rows;
+        let mut flags = self.flags;
+        rows.push(rows[0])?;
+        flags.push(true)?;
+        Ok(Vertices {
+            arena: self.arena,
+            rows,
+            flags,
+        })
+    }
+}
+
+impl Vertices<'_> {
+    // The states with this flag.
+    pub(crate) fn with_flag(&self, alloc: Global, flag: bool) -> Result<Vec<usize>, AllocError>
+        ensures flagged { IfOk result (λ states. HasFlagged self.now.flags.items flag states.items) }
+        ensures states { IfOk result (λ states. All (λ state. state < length self.now.flags.items) states.items) }
+    {
+        let mut states = Vec::new(alloc);
+        for (state, accepting) in self.flags.iter().enumerate() {
+            if *accepting == flag {
+                states.push(state)?;
+            }
+        }
+        Ok(states)
+    }
+
+    // Whether no more states accept than do not.
+    pub(crate) fn rarer_flag(&self) -> bool {
+        let accepting = self.flags.iter().filter(|flag| **flag).count();
+        accepting <= self.flags.len() / 2
+    }
+
+    // 1 for the states that accept, and 0 for the others.
+    pub(crate) fn flag_numbers(&self, alloc: Global) -> Result<Vec<usize>, AllocError>
+        ensures { IfOk result (λ numbers. numbers.items ≡ map (λ flag. if flag then 1 else 0) self.now.flags.items) }
+    {
+        self.flags
+            .iter()
+            .map(|flag| usize::from(*flag))
+            .collect(alloc)
+    }
+}

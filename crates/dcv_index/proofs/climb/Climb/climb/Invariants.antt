@@ -1,0 +1,12 @@
+use Rattle.std.proofs.Common.{take}
+use Rattle.std.specs.List.{All}
+use Rattle.dcv_arena.specs.declared.nodes.Ref.TheVariants.{Leaf}
+use Rattle.dcv_index.specs.Leads.{index_of}
+use Rattle.dcv_index.specs.Index.{IsMarked, IsFollowed}
+use Rattle.dcv_index.proofs.climb.Climb.climb.Given as goal
+
+abbrev pub invariant-loop-leaf : goal.invariant-loop-leaf
+invariant-loop-leaf l = record {
+  marked : IsMarked (index_of l.self.arena.now l.self.refs.now) l.self.leaves.now l.found.marked.keys l.found.looked.items;
+  followed : All (λ leaf. IsFollowed l.self.nodes.now l.self.rows.now (Leaf leaf) l.found.marked.keys l.found.looked.items) (take l.leaf-index l.self.leaves.now);
+}

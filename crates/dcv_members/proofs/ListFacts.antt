@@ -1,0 +1,29 @@
+-- What stands in a list of lists where one of them is written.
+use Rattle.std.proofs.Common.{◌≡◌, ◌≢◌, ℕ, zero, suc, ◌<◌, List, [], ◌∷◌, length, set, Vec, Option, Some, slice_get, Contains, refl, ap, arith}
+use Rattle.std.specs.Option.{option_map_or}
+use Rattle.dcv_members.specs.Lists.{list_at}
+
+pub get_set_same : {X : Type 0} (xs : List X) (i : ℕ) (v : X) → i < length xs → slice_get (set xs i v) i ≡ Some v
+get_set_same [] i v within = absurd (omega arith)
+get_set_same (x ∷ xs) zero v within = refl
+get_set_same (x ∷ xs) (suc i) v within = get_set_same xs i v (omega arith)
+
+pub get_set_other : {X : Type 0} (xs : List X) (i j : ℕ) (v : X) → j ≢ i → slice_get (set xs i v) j ≡ slice_get xs j
+get_set_other [] i j v other = refl
+get_set_other (x ∷ xs) zero zero v other = absurd (other refl)
+get_set_other (x ∷ xs) zero (suc j) v other = refl
+get_set_other (x ∷ xs) (suc i) zero v other = refl
+get_set_other (x ∷ xs) (suc i) (suc j) v other = get_set_other xs i j v (λ e. other (ap suc e))
+
+module _ {Z : Type 0} (old : List (Vec ℕ Z)) (place number : ℕ) (vector : Vec ℕ Z) (within : place < length old) where
+  pub list_there : list_at (set old place vector) place ≡ vector.items
+  list_there = ap (λ (found : Option (Vec ℕ Z)). option_map_or (λ one. one.items) found []) (get_set_same old place vector within)
+
+  pub list_else : (at : ℕ) → at ≢ place → list_at (set old place vector) at ≡ list_at old at
+  list_else at other = ap (λ (found : Option (Vec ℕ Z)). option_map_or (λ one. one.items) found []) (get_set_other old place at vector other)
+
+-- a list that has something is one of the lists
+pub list_within : {Z : Type 0} (vectors : List (Vec ℕ Z)) (at x : ℕ) → Contains (list_at vectors at) x → at < length vectors
+list_within [] at x c = absurd (omega (arith, c.1))
+list_within (v ∷ vs) zero x c = omega arith
+list_within (v ∷ vs) (suc at) x c = let within = list_within vs at x c in omega (arith, within)

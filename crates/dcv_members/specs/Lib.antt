@@ -1,0 +1,3 @@
+-- what public clauses cite: lists of numbers, and the lists of the blocks' members
+pub mod Lists
+pub mod Members

@@ -1,0 +1,37 @@
+// Lists of numbers, each at a place.
+ghost use Rattle.std.specs.Prelude.{◌≡◌, ◌≤◌, ℕ, length, OnOk};
+ghost use Rattle.dcv_members.specs.Lists.{AddsAt, list_at};
+
+use std::alloc::{AllocError, Global};
+
+/// Adds a number to the list at a place, where there is one.
+pub fn add_to(lists: &mut [Vec<u32>], at: u32, number: u32) -> Result<(), AllocError>
+    ensures { OnOk result (AddsAt lists.old lists.new at number) }
+{
+    if at as usize >= lists.len() {
+        return Ok(());
+    }
+    lists[at as usize].push(number)?;
+    Ok(())
+}
+
+/// The list at a place, and an empty one where there is none.
+pub fn list(lists: &[Vec<u32>], at: u32) -> &[u32]
+    ensures { result.now ≡ list_at lists.now at }
+{
+    match lists.get(at as usize) {
+        Some(list) => list.as_slice(),
+        None => &[],
+    }
+}
+
+// Adds empty lists until there are so many.
+pub(crate) fn grow(alloc: Global, lists: &mut Vec<Vec<u32>>, count: usize) -> Result<(), AllocError>
+    ensures size { OnOk result (count ≤ length lists.new.items) }
+    ensures same { OnOk result ((at : ℕ) → list_at lists.new.items at ≡ list_at lists.old.items at) }
+{
+    for _place in lists.len()..count {
+        lists.push(Vec::new(alloc))?;
+    }
+    Ok(())
+}

@@ -1,0 +1,11 @@
+use Rattle.std.proofs.Common.{ℕ, take, Contains}
+use Rattle.std.specs.List.{All}
+use Rattle.dcv_members.specs.Members.{list_of}
+use Rattle.dcv_minimise.specs.Partition.{block_of}
+use Rattle.dcv_minimise.proofs.refine.listing.follow.Given as goal
+
+abbrev pub invariant-loop-state : goal.invariant-loop-state
+invariant-loop-state l = record {
+  keeps : (at one : ℕ) → Contains (list_of l.fn.members at) one → Contains (list_of l.members at) one;
+  moved : All (λ state. Contains (list_of l.members (block_of l.blocks state)) state) (take l.state-index l.moved);
+}

@@ -1,5 +1,0 @@
-use Rattle.dcv_shortest.proofs.AccessWords.{SpelledSoFar}
-use Rattle.dcv_shortest.proofs.access.spellings.Given as goal
-
-abbrev pub invariant-loop-one : goal.invariant-loop-one
-invariant-loop-one l = SpelledSoFar l.states l.one-index l.found l.access.items
