@@ -1,7 +1,10 @@
 -- Candidates, while the blocks in which ones are not few are listed.
-use Rattle.std.proofs.Common.{◌≡◌, ◌⊎◌, inl, inr, ℕ, ◌<◌, ◌+◌, ◌/◌, true, false, List, length, get_or, take, All, Contains, refl, sym, subst, ◌∙◌, arith}
+use Rattle.std.proofs.Common.{◌≡◌, ◌⊎◌, inl, inr, ℕ, ◌<◌, ◌+◌, ◌/◌, true, false, List, ◌++◌, length, get_or, take, All, Contains, refl, sym, subst, ◌∙◌, arith}
 use Rattle.std.proofs.lemmas.Bool.{true≢false}
-use Rattle.std.proofs.lemmas.List.Elements.{All-more, All-weaker, All-contains}
+use Rattle.std.proofs.lemmas.List.Elements.{All-more, All-weaker, All-contains, All-append, Contains-append_left, Contains-append_right}
+use Rattle.dcv_members.specs.Members.{IsMended, HaveTheirOwn}
+use Rattle.dcv_members.proofs.MemberFacts.{block_mended}
+use Rattle.dcv_index.proofs.MarkFacts.{all_from_contains}
 use Rattle.dcv_certificate.specs.declared.ones.Ones.{Ones}
 use Rattle.dcv_certificate.specs.Separation.{block_of, count_below}
 use Rattle.dcv_certificate.specs.Ones.{is_one, ones_in, AreCounted, are_few_in, AreCandidates}
@@ -11,6 +14,20 @@ use Rattle.dcv_certificate.proofs.Rarer.{many_is, in_block_is, is_in_block}
 -- all states of the block are among these
 abbrev pub IsListed : List ℕ → List ℕ → ℕ → Type 0
 IsListed blocks states block = (state : ℕ) → state < length blocks → block_of blocks state ≡ block → Contains states state
+
+-- the states of a list that was mended are added to others
+module _ (blocks : List ℕ) (block : ℕ) (old new : ℕ → List ℕ) (is : IsMended blocks block old new) (own : HaveTheirOwn blocks old) (states more : List ℕ) (grown : more ≡ states ++ new block) where
+  pub added_below : All (λ state. state < length blocks) states → All (λ state. state < length blocks) more
+  added_below was =
+      subst (All (λ state. state < length blocks)) (sym grown)
+      (All-append (λ state. state < length blocks) states (new block) was
+      (all_from_contains (λ state. state < length blocks) (new block) (λ state there. ((block_mended blocks old new block is own state).0 there).0)))
+
+  pub added_grows : (state : ℕ) → Contains states state → Contains more state
+  added_grows state there = subst (λ more. Contains more state) (sym grown) (Contains-append_left states (new block) state there)
+
+  pub added_listed : IsListed blocks more block
+  added_listed state h same = subst (λ more. Contains more state) (sym grown) (Contains-append_right states (new block) state ((block_mended blocks old new block is own state).1 (h, same)))
 
 -- ones are few in the block, or its states are listed
 abbrev pub IsSettled : List ℕ → List ℕ → Ones → List ℕ → ℕ → Type 0

@@ -10,7 +10,6 @@ mod AccessWords
 mod Tallying
 mod Sizing
 mod Shifting
-mod MemberLists
 mod Having
 mod Counted
 mod Rarer

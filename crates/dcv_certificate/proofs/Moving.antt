@@ -9,7 +9,7 @@ use Rattle.std.proofs.lemmas.List.Folds.{list_any_more}
 use Rattle.std.proofs.lemmas.Option.{same_Some, slice_get_within}
 use Rattle.dcv_certificate.specs.Separation.{has, block_of, IsSplit}
 use Rattle.dcv_certificate.specs.Partition.{OnceEach, IsBehind, IsMovedTo}
-use Rattle.dcv_certificate.specs.Members.{count_up}
+use Rattle.dcv_certificate.specs.Tallies.{count_up}
 use Rattle.dcv_certificate.proofs.Truths.{or_right, or_neither}
 
 -- ---- members of a list

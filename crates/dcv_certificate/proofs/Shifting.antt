@@ -1,12 +1,10 @@
--- Sizes and lists of members after a state was moved to another block, which may be a new one.
+-- Sizes after a state was moved to another block, which may be a new one.
 use Rattle.std.proofs.Common.{◌≡◌, inl, inr, ℕ, ◌<◌, ◌≤◌, ◌+◌, ◌-◌, ◌==◌, List, [], ◌∷◌, ◌++◌, length, get_or, set, All, Vec, Contains, refl, ap, sym, subst, ◌∙◌, arith}
 use Rattle.std.proofs.lemmas.Bool.{cases_lt, cases_eq, eq-eqb, ne_eqb}
 use Rattle.std.proofs.lemmas.List.{get_or-set_same, get_or-set_other, length-set, length-append, get_or_append_left}
 use Rattle.std.proofs.Math.Seq.{get_or-append_seam}
-use Rattle.dcv_members.specs.Lists.{AddsAt, list_at}
 use Rattle.dcv_certificate.specs.Separation.{block_of, count_below}
 use Rattle.dcv_certificate.specs.Tallies.{AreSizes}
-use Rattle.dcv_certificate.specs.Members.{AreMembers}
 use Rattle.dcv_certificate.proofs.Counting.{one_if, count_change, count_none, count_some}
 use Rattle.dcv_certificate.proofs.Sizing.{count-le}
 
@@ -89,31 +87,3 @@ module _ (blocks sizes : List ℕ) (count state block : ℕ) (s : AreSizes block
         let size : count_below (length new) (λ n. block_of new n == k) ≡ count_below (length blocks) (λ n. block_of new n == k) = ap (λ count. count_below count (λ n. block_of new n == k)) (length-set blocks state block) in
         omega (arith, change, moved, size, s.are k h, fewer_at k h, shifted_at k h);
   }
-
--- ---- members
-
-module _ {Z : Type 0} (blocks : List ℕ) (count : ℕ) (old new : List (Vec ℕ Z)) where
-  pub members_grown : length new ≡ length old + 1 → ((block : ℕ) → list_at new block ≡ list_at old block) → AreMembers blocks count old → AreMembers blocks (count + 1) new
-  members_grown size same m = record {
-    size = omega (arith, size, m.size);
-    has_own = λ state h. subst (λ list. Contains list state) (sym (same (block_of blocks state))) (m.has_own state h);
-    states = λ at state c. m.states at state (subst (λ list. Contains list state) (same at) c);
-  }
-
-  pub members_shifted : (state block : ℕ) → state < length blocks → block < count → AddsAt old new block state → AreMembers blocks count old → AreMembers (set blocks state block) count new
-  members_shifted state block within below adds m =
-      let size = length-set blocks state block in
-      record {
-        size = adds.size ∙ m.size;
-        has_own = λ one h. elim (cases_eq one state) [
-          | inl e ↦
-              let here : Contains (list_at new (block_of (set blocks state block) state)) state =
-              subst (λ at. Contains (list_at new at) state) (sym (get_or-set_same blocks state block 0 within)) (adds.has (omega (arith, m.size))) in
-              subst (λ one. Contains (list_at new (block_of (set blocks state block) one)) one) (sym e) here
-          | inr ne ↦ subst (λ at. Contains (list_at new at) one) (sym (get_or-set_other blocks state one block 0 ne)) (adds.keeps (block_of blocks one) one (m.has_own one (omega (arith, size))))
-        ];
-        states = λ at one c. elim (adds.only at one c) [
-          | inl before ↦ omega (arith, size, m.states at one before)
-          | inr same ↦ omega (arith, size)
-        ];
-      }

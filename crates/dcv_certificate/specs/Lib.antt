@@ -7,6 +7,5 @@ pub mod Separation
 pub mod Partition
 pub mod Marks
 pub mod Tallies
-pub mod Members
 pub mod Ones
 pub mod Indicators

@@ -13,7 +13,7 @@ use Rattle.dcv_certificate.specs.declared.partition.Partition.{Partition}
 use Rattle.dcv_certificate.specs.Proof.{suffix_words}
 use Rattle.dcv_certificate.specs.Vertices.{raw_of}
 use Rattle.dcv_certificate.specs.Tallies.{AreSizes}
-use Rattle.dcv_certificate.specs.Members.{AreMembers}
+use Rattle.dcv_members.specs.Members.{list_of, HaveTheirOwn}
 use Rattle.dcv_certificate.specs.Separation.{IsSeparation, AreFinished, Advances}
 
 abbrev pub raw_in : Partition → RawValue
@@ -29,7 +29,7 @@ pub record Separates (raw : RawValue) (partition : Partition) : Type 0 where
   pub separation : IsSeparation raw partition.suffixes.items partition.blocks.items (parts_in partition)
   pub numbers : All (λ block. block < partition.count) partition.blocks.items
   pub sizes : AreSizes partition.blocks.items partition.count partition.sizes.items
-  pub members : AreMembers partition.blocks.items partition.count partition.members.lists.items
+  pub members : HaveTheirOwn partition.blocks.items (list_of partition.members)
   pub states : All (All (λ state. state < length raw.rows)) (parts_in partition)
 
 abbrev pub HasFinished : RawValue → Partition → ℕ → Type 0

@@ -48,7 +48,7 @@ impl Part<'_> {
         scratch: &mut Arena,
         rows: &[Ref],
         looked: &[u32],
-    ) -> Result<Vec<(usize, Ref)>, AllocError>
+    ) -> Result<Vec<(u32, Ref)>, AllocError>
         requires rows { All (IsRef self.now.arena.now) rows.now }
         requires looked { All (λ state. state < length rows.now) looked.now }
         requires above { IsMarkedAbove self.now }
@@ -65,7 +65,7 @@ impl Part<'_> {
         let mut marks = Vec::new(alloc);
         for state in looked {
             let mark = self.indicator(scratch, rows[*state as usize], &mut became)?;
-            marks.push((*state as usize, mark))?;
+            marks.push((*state, mark))?;
         }
         Ok(marks)
     }

@@ -10,7 +10,7 @@
 mod access;
 mod certificate;
 mod indicators;
-mod members;
+mod numbers;
 mod ones;
 mod partition;
 mod proof;

@@ -9,9 +9,9 @@ use std::alloc::{AllocError, Global};
 
 #[derive(Drop)]
 pub(crate) struct Ones {
-    states: IndexSet<usize>,
-    counts: IndexMap<usize, usize>,
-    pub(crate) blocks: Vec<usize>,
+    states: IndexSet<u32>,
+    counts: IndexMap<u32, usize>,
+    pub(crate) blocks: Vec<u32>,
 }
 
 impl Ones {
@@ -26,7 +26,7 @@ impl Ones {
     }
 
     // Adds a state of a block, unless it is there.
-    pub(crate) fn add(&mut self, state: usize, block: usize) -> Result<(), AllocError>
+    pub(crate) fn add(&mut self, state: u32, block: u32) -> Result<(), AllocError>
         ensures { OnOk result (IsOneMore self.old state block self.new) }
     {
         if !self.states.insert(state)? {
@@ -41,21 +41,21 @@ impl Ones {
     }
 
     // Whether a state is there.
-    pub(crate) fn has(&self, state: usize) -> bool
+    pub(crate) fn has(&self, state: u32) -> bool
         ensures { result ≡ is_one self.now state }
     {
         self.states.contains(&state)
     }
 
     // How many states of a block are there.
-    pub(crate) fn count(&self, block: usize) -> usize
+    pub(crate) fn count(&self, block: u32) -> usize
         ensures { result ≡ ones_in self.now block }
     {
         self.counts.get(&block).copied().unwrap_or(0)
     }
 
     // All of them.
-    pub(crate) fn states(&self, alloc: Global) -> Result<Vec<usize>, AllocError>
+    pub(crate) fn states(&self, alloc: Global) -> Result<Vec<u32>, AllocError>
         ensures { IfOk result (λ states. states.items ≡ self.now.states.keys) }
     {
         let mut states = Vec::new(alloc);

@@ -1,4 +1,6 @@
-// The states in blocks, which are split by one suffix after another.
+// The states in blocks, which are split by one suffix after another. The lists of members are those of `dcv_members`, which `dcv_minimise`
+// has too. The rest of a partition is not shared: here a block falls in two by a test, and the blocks' sizes say which part is the smaller;
+// there it falls into parts by the keys of its states, and a vote finds the part that stays.
 ghost use Rattle.std.specs.Prelude.{◌≡◌, ◌+◌, ◌<◌, ◌≤◌, ℕ, List, Bool, length, slice_set, IfOk, OnOk};
 ghost use Rattle.std.specs.List.{All};
 ghost use Rattle.dcv_arena.specs.Arena.{IsArena};
@@ -7,16 +9,17 @@ ghost use Rattle.dcv_certificate.specs.Vertices.{raw_of};
 ghost use Rattle.dcv_certificate.specs.Separation.{AreVertices, IsSplit, has, part_at};
 ghost use Rattle.dcv_certificate.specs.Partition.{raw_in, parts_in, Separates, HasFinished, GoesOn, IsMovedTo};
 ghost use Rattle.dcv_certificate.specs.Marks.{marked, IsMarkFrom};
-ghost use Rattle.dcv_certificate.specs.Tallies.{AreSizes};
-ghost use Rattle.dcv_certificate.specs.Members.{AreMembers, count_up};
+ghost use Rattle.dcv_certificate.specs.Tallies.{AreSizes, count_up};
 ghost use Rattle.dcv_index.specs.Leads.{index_of};
+ghost use Rattle.dcv_members.specs.Members.{list_of, HaveTheirOwn};
 
 use crate::indicators::Part;
-use crate::members::Members;
+use crate::numbers::number_of;
 use crate::vertices::Vertices;
 use dcv_arena::{Arena, Ref};
 use dcv_index::Index;
 use dcv_language::Suffix;
+use dcv_members::Members;
 use dcv_word::Letter;
 use indexmap::IndexSet;
 use std::alloc::{AllocError, Global};
@@ -28,8 +31,8 @@ pub(crate) struct Partition<'a> {
     pub(crate) alloc: Global,
     pub(crate) vertices: &'a Vertices<'a>,
     pub(crate) suffixes: Vec<Suffix>,
-    pub(crate) blocks: Vec<usize>,
-    pub(crate) parts: Vec<Vec<usize>>,
+    pub(crate) blocks: Vec<u32>,
+    pub(crate) parts: Vec<Vec<u32>>,
     pub(crate) count: usize,
     pub(crate) sizes: Vec<usize>,
     pub(crate) members: Members,
@@ -51,7 +54,7 @@ impl<'a> Partition<'a> {
         parts.push(vertices.with_flag(alloc, vertices.rarer_flag())?)?;
         let blocks = vertices.flag_numbers(alloc)?;
         let sizes = sizes_of(alloc, &blocks, 2)?;
-        let members = Members::new(alloc, &blocks, 2)?;
+        let members = members_of(alloc, &blocks)?;
         Ok(Partition {
             alloc,
             vertices,
@@ -91,7 +94,7 @@ impl Partition<'_> {
         scratch: &mut Arena,
         index: &Index<'_>,
         place: usize,
-    ) -> Result<Vec<(usize, Ref)>, AllocError>
+    ) -> Result<Vec<(u32, Ref)>, AllocError>
         requires index { index.now ≡ index_of (raw_in self.now).arena (raw_in self.now).rows }
         requires vertices { AreVertices (raw_in self.now) }
         requires arena { IsArena scratch.old }
@@ -105,29 +108,29 @@ impl Partition<'_> {
             → length letter ≡ (raw_in self.now).arena.slots → marked scratch.new marks.items letter state
             ≡ has (part_at (parts_in self.now) place) (next_in (raw_in self.now) state letter)) }
     {
-        let leaves = leaves_of(self.alloc, &self.parts[place])?;
-        let found = index.above(self.alloc, &leaves)?;
-        let part = Part::new(self.alloc, self.vertices.arena, &leaves, &found.marked)?;
+        let leaves = &self.parts[place];
+        let found = index.above(self.alloc, leaves)?;
+        let part = Part::new(self.alloc, self.vertices.arena, leaves, &found.marked)?;
         part.marks(self.alloc, scratch, &self.vertices.rows, &found.looked)
     }
 
     // Gives new blocks to these states, one for all that come from one block.
-    pub(crate) fn renumber(&mut self, part: &[usize]) -> Result<(), AllocError>
+    pub(crate) fn renumber(&mut self, part: &[u32]) -> Result<(), AllocError>
         requires members { All (λ state. state < length self.old.blocks.items) part.now }
         requires numbers { All (λ block. block < self.old.count) self.old.blocks.items }
         requires sizes { AreSizes self.old.blocks.items self.old.count self.old.sizes.items }
-        requires listed { AreMembers self.old.blocks.items self.old.count self.old.members.lists.items }
+        requires listed { HaveTheirOwn self.old.blocks.items (list_of self.old.members) }
         ensures vertices { raw_in self.new ≡ raw_in self.old }
         ensures suffixes { self.new.suffixes ≡ self.old.suffixes }
         ensures parts { self.new.parts ≡ self.old.parts }
         ensures split { OnOk result (IsSplit (length self.old.blocks.items) self.old.blocks.items part.now self.new.blocks.items) }
         ensures numbers { OnOk result (All (λ block. block < self.new.count) self.new.blocks.items) }
         ensures sizes { OnOk result (AreSizes self.new.blocks.items self.new.count self.new.sizes.items) }
-        ensures listed { OnOk result (AreMembers self.new.blocks.items self.new.count self.new.members.lists.items) }
+        ensures listed { OnOk result (HaveTheirOwn self.new.blocks.items (list_of self.new.members)) }
     {
         let mut left = IndexSet::new(self.alloc);
         for state in part {
-            let block = self.new_block(&mut left, self.blocks[*state])?;
+            let block = self.new_block(&mut left, self.blocks[*state as usize])?;
             self.move_to(*state, block)?;
         }
         self.count = self.sizes.len();
@@ -135,74 +138,70 @@ impl Partition<'_> {
     }
 
     // Moves a state to another block, which may be a new one behind the last.
-    fn move_to(&mut self, state: usize, block: usize) -> Result<(), AllocError>
+    fn move_to(&mut self, state: u32, block: u32) -> Result<(), AllocError>
         requires state { state < length self.old.blocks.items }
         requires numbers { All (λ block. block < length self.old.sizes.items) self.old.blocks.items }
         requires block { block ≤ length self.old.sizes.items }
         requires sizes { AreSizes self.old.blocks.items (length self.old.sizes.items) self.old.sizes.items }
-        requires members { AreMembers self.old.blocks.items (length self.old.sizes.items) self.old.members.lists.items }
+        requires members { HaveTheirOwn self.old.blocks.items (list_of self.old.members) }
         ensures vertices { raw_in self.new ≡ raw_in self.old }
         ensures suffixes { self.new.suffixes ≡ self.old.suffixes }
         ensures parts { self.new.parts ≡ self.old.parts }
         ensures count { self.new.count ≡ self.old.count }
         ensures blocks { OnOk result (self.new.blocks.items ≡ slice_set self.old.blocks.items state block) }
         ensures sizes { OnOk result (AreSizes self.new.blocks.items (count_up (length self.old.sizes.items) block) self.new.sizes.items) }
-        ensures members { OnOk result (AreMembers self.new.blocks.items (count_up (length self.old.sizes.items) block) self.new.members.lists.items) }
+        ensures members { OnOk result (HaveTheirOwn self.new.blocks.items (list_of self.new.members)) }
     {
-        let old = self.blocks[state];
-        if block == self.sizes.len() {
+        let old = self.blocks[state as usize];
+        if block as usize == self.sizes.len() {
             self.sizes.push(0)?;
-            self.members.grow(self.alloc)?;
         }
-        self.sizes[old] -= 1;
-        self.sizes[block] += 1;
-        self.members.put(block, state)?;
-        self.blocks[state] = block;
+        self.sizes[old as usize] -= 1;
+        self.sizes[block as usize] += 1;
+        self.members.put(self.alloc, block, state)?;
+        self.blocks[state as usize] = block;
         Ok(())
     }
 
     // The new number of a state that leaves this block, after the blocks that others have left; a state that has a new number keeps it.
-    fn new_block(&self, left: &mut IndexSet<usize>, block: usize) -> Result<usize, AllocError>
+    fn new_block(&self, left: &mut IndexSet<u32>, block: u32) -> Result<u32, AllocError>
         ensures moved { IfOk result (λ new. IsMovedTo self.now.count left.old.keys left.new.keys block new) }
     {
-        if self.count <= block {
+        if self.count <= block as usize {
             return Ok(block);
         }
         let (place, _) = left.insert_full(block)?;
-        self.count.checked_add(place).ok_or(AllocError)
+        number_behind(self.count, place)
     }
 }
 
-// The place as a 32-bit number. There are fewer suffixes than states, so there always is one; a place without one would count as want
-// of memory.
-fn number_of(place: usize) -> Result<u32, AllocError>
-    ensures { IfOk result (λ number. number ≡ place) }
+// The number that is so far behind the count.
+fn number_behind(count: usize, place: usize) -> Result<u32, AllocError>
+    ensures { IfOk result (λ number. number ≡ count + place) }
 {
-    match u32::try_from(place) {
-        Ok(number) => Ok(number),
-        Err(_) => Err(AllocError),
-    }
+    let number = count.checked_add(place).ok_or(AllocError)?;
+    number_of(number)
 }
 
-// The places of states as leaves. One behind all leaves would count as want of memory.
-fn leaves_of(alloc: Global, states: &[usize]) -> Result<Vec<u32>, AllocError>
-    ensures { IfOk result (λ leaves. leaves.items ≡ states.now) }
+// Each state, in the list of its block.
+fn members_of(alloc: Global, blocks: &[u32]) -> Result<Members, AllocError>
+    ensures { IfOk result (λ members. HaveTheirOwn blocks.now (list_of members)) }
 {
-    let mut leaves = Vec::new(alloc);
-    for state in states {
-        leaves.push(number_of(*state)?)?;
+    let mut members = Members::new(alloc);
+    for (state, block) in blocks.iter().enumerate() {
+        members.put(alloc, *block, number_of(state)?)?;
     }
-    Ok(leaves)
+    Ok(members)
 }
 
 // How many states each block has.
-fn sizes_of(alloc: Global, blocks: &[usize], count: usize) -> Result<Vec<usize>, AllocError>
+fn sizes_of(alloc: Global, blocks: &[u32], count: usize) -> Result<Vec<usize>, AllocError>
     requires { All (λ block. block < count) blocks.now }
     ensures { IfOk result (λ sizes. AreSizes blocks.now count sizes.items) }
 {
     let mut sizes = vec![in alloc; 0usize; count]?;
     for block in blocks {
-        sizes[*block] += 1;
+        sizes[*block as usize] += 1;
     }
     Ok(sizes)
 }

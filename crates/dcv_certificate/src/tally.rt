@@ -10,8 +10,8 @@ use std::alloc::{AllocError, Global};
 
 #[derive(Drop)]
 pub(crate) struct Tally {
-    states: IndexSet<usize>,
-    blocks: IndexMap<usize, (Ref, usize)>,
+    states: IndexSet<u32>,
+    blocks: IndexMap<u32, (Ref, usize)>,
 }
 
 impl Tally {
@@ -25,7 +25,7 @@ impl Tally {
     }
 
     // Adds a mark, unless its block has another function too.
-    pub(crate) fn add(&mut self, state: usize, block: usize, mark: Ref) -> Result<bool, AllocError>
+    pub(crate) fn add(&mut self, state: u32, block: u32, mark: Ref) -> Result<bool, AllocError>
         ensures { IfOk result (λ alone. alone ≡ true → IsAdded (tallied self.old) (was_met self.old) state block mark (tallied self.new) (was_met self.new)) }
     {
         let fresh = self.states.insert(state)?;
@@ -38,7 +38,7 @@ impl Tally {
     }
 
     // How many states of the block have its function.
-    pub(crate) fn number(&self, block: usize) -> usize
+    pub(crate) fn number(&self, block: u32) -> usize
         ensures { result ≡ number_of (tallied self.now block) }
     {
         match self.blocks.get(&block).copied() {

@@ -4,6 +4,7 @@ ghost use Rattle.std.specs.Prelude.{◌≡◌, ◌<◌, true, length, map, if◌
 ghost use Rattle.std.specs.List.{All};
 ghost use Rattle.dcv_certificate.specs.Vertices.{raw_of, with_start, HasFlagged};
 
+use crate::numbers::number_of;
 use dcv_arena::{Arena, Ref};
 use std::alloc::{AllocError, Global};
 
@@ -34,14 +35,14 @@ impl<'a> Vertices<'a> {
 
 impl Vertices<'_> {
     // The states with this flag.
-    pub(crate) fn with_flag(&self, alloc: Global, flag: bool) -> Result<Vec<usize>, AllocError>
+    pub(crate) fn with_flag(&self, alloc: Global, flag: bool) -> Result<Vec<u32>, AllocError>
         ensures flagged { IfOk result (λ states. HasFlagged self.now.flags.items flag states.items) }
         ensures states { IfOk result (λ states. All (λ state. state < length self.now.flags.items) states.items) }
     {
         let mut states = Vec::new(alloc);
         for (state, accepting) in self.flags.iter().enumerate() {
             if *accepting == flag {
-                states.push(state)?;
+                states.push(number_of(state)?)?;
             }
         }
         Ok(states)
@@ -54,12 +55,12 @@ impl Vertices<'_> {
     }
 
     // 1 for the states that accept, and 0 for the others.
-    pub(crate) fn flag_numbers(&self, alloc: Global) -> Result<Vec<usize>, AllocError>
+    pub(crate) fn flag_numbers(&self, alloc: Global) -> Result<Vec<u32>, AllocError>
         ensures { IfOk result (λ numbers. numbers.items ≡ map (λ flag. if flag then 1 else 0) self.now.flags.items) }
     {
         self.flags
             .iter()
-            .map(|flag| usize::from(*flag))
+            .map(|flag| u32::from(*flag))
             .collect(alloc)
     }
 }

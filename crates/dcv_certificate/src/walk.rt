@@ -7,7 +7,7 @@ ghost use Rattle.dcv_certificate.specs.Separation.{AreVertices, word_at, block_o
 ghost use Rattle.dcv_certificate.specs.Partition.{raw_in, listed_in, Separates, GoesOn, IsButMended};
 ghost use Rattle.dcv_certificate.specs.Tallies.{number_of, tallied, AreSizes, AreMarkedAlike};
 ghost use Rattle.dcv_certificate.specs.Marks.{marked, IsMarkFrom, IsSideOf, AreTold, AreDone, IsSplitOff};
-ghost use Rattle.dcv_certificate.specs.Members.{AreMembers};
+ghost use Rattle.dcv_members.specs.Members.{list_of, HaveTheirOwn};
 ghost use Rattle.dcv_certificate.specs.Ones.{is_one, AreCounted, are_few_in, AreCandidates, AreRarer};
 
 use crate::ones::Ones;
@@ -26,7 +26,7 @@ impl Partition<'_> {
         from: u32,
         front: Letter,
         slot: u8,
-        marks: &[(usize, Ref)],
+        marks: &[(u32, Ref)],
     ) -> Result<(), AllocError>
         requires vertices { AreVertices (raw_in self.old) }
         requires slots { scratch.now.slots ≡ (raw_in self.old).arena.slots }
@@ -55,7 +55,7 @@ impl Partition<'_> {
 
     // Whether some block has marks of two functions, or states with and without a mark. Else no letter tells its states apart, so
     // that the walk goes only where a block is split.
-    fn is_mixed(&self, marks: &[(usize, Ref)]) -> Result<bool, AllocError>
+    fn is_mixed(&self, marks: &[(u32, Ref)]) -> Result<bool, AllocError>
         requires states { All (λ mark. mark.0 < length self.now.blocks.items) marks.now }
         requires numbers { All (λ block. block < self.now.count) self.now.blocks.items }
         requires sizes { AreSizes self.now.blocks.items self.now.count self.now.sizes.items }
@@ -63,7 +63,7 @@ impl Partition<'_> {
     {
         let mut tally = Tally::new(self.alloc);
         for (state, mark) in marks {
-            if !tally.add(*state, self.blocks[*state], *mark)? {
+            if !tally.add(*state, self.blocks[*state as usize], *mark)? {
                 return Ok(true);
             }
         }
@@ -71,7 +71,7 @@ impl Partition<'_> {
     }
 
     // Whether all states of each block that has marks were counted.
-    fn are_full(&self, tally: &Tally, marks: &[(usize, Ref)]) -> bool
+    fn are_full(&self, tally: &Tally, marks: &[(u32, Ref)]) -> bool
         requires states { All (λ mark. mark.0 < length self.now.blocks.items) marks.now }
         requires numbers { All (λ block. block < self.now.count) self.now.blocks.items }
         requires sizes { length self.now.sizes.items ≡ self.now.count }
@@ -79,8 +79,8 @@ impl Partition<'_> {
             ≤ number_of (tallied tally.now (block_of self.now.blocks.items mark.0))) marks.now }
     {
         for (state, _) in marks {
-            let block = self.blocks[*state];
-            if tally.number(block) < self.sizes[block] {
+            let block = self.blocks[*state as usize];
+            if tally.number(block) < self.sizes[block as usize] {
                 return false;
             }
         }
@@ -93,7 +93,7 @@ impl Partition<'_> {
         scratch: &Arena,
         from: u32,
         letter: Letter,
-        marks: &[(usize, Ref)],
+        marks: &[(u32, Ref)],
     ) -> Result<(), AllocError>
         requires vertices { AreVertices (raw_in self.old) }
         requires slots { scratch.now.slots ≡ (raw_in self.old).arena.slots }
@@ -122,16 +122,16 @@ impl Partition<'_> {
         &mut self,
         scratch: &Arena,
         letter: Letter,
-        marks: &[(usize, Ref)],
-    ) -> Result<Vec<usize>, AllocError>
+        marks: &[(u32, Ref)],
+    ) -> Result<Vec<u32>, AllocError>
         requires letter { length letter ≡ scratch.now.slots }
         requires marks { All (IsMarkFrom scratch.now (length (raw_in self.old).rows) scratch.now.slots) marks.now }
         requires each { length self.old.blocks.items ≡ length (raw_in self.old).rows }
         requires numbers { All (λ block. block < self.old.count) self.old.blocks.items }
         requires sizes { AreSizes self.old.blocks.items self.old.count self.old.sizes.items }
-        requires members { AreMembers self.old.blocks.items self.old.count self.old.members.lists.items }
+        requires members { HaveTheirOwn self.old.blocks.items (list_of self.old.members) }
         ensures kept { IsButMended self.old self.new }
-        ensures mended { OnOk result (AreMembers self.old.blocks.items self.old.count self.new.members.lists.items) }
+        ensures mended { OnOk result (HaveTheirOwn self.old.blocks.items (list_of self.new.members)) }
         ensures members { IfOk result (λ part. All (λ state. state < length self.old.blocks.items) part.items) }
         ensures part { IfOk result (λ part. IsSplitOff (raw_in self.old) self.old.blocks.items (marked scratch.now marks.now letter) part.items) }
     {
@@ -145,7 +145,7 @@ impl Partition<'_> {
         &self,
         scratch: &Arena,
         letter: Letter,
-        marks: &[(usize, Ref)],
+        marks: &[(u32, Ref)],
     ) -> Result<Ones, AllocError>
         requires letter { length letter ≡ scratch.now.slots }
         requires marks { All (IsMarkFrom scratch.now (length self.now.blocks.items) scratch.now.slots) marks.now }
@@ -155,35 +155,35 @@ impl Partition<'_> {
         let mut ones = Ones::new(self.alloc);
         for (state, mark) in marks {
             if scratch.eval(*mark, &letter) == 1 {
-                ones.add(*state, self.blocks[*state])?;
+                ones.add(*state, self.blocks[*state as usize])?;
             }
         }
         Ok(ones)
     }
 
     // The ones, and all states of the blocks in which they are not few.
-    fn candidates(&mut self, ones: &Ones) -> Result<Vec<usize>, AllocError>
+    fn candidates(&mut self, ones: &Ones) -> Result<Vec<u32>, AllocError>
         requires counted { AreCounted self.old.blocks.items ones.now }
         requires numbers { All (λ block. block < self.old.count) self.old.blocks.items }
         requires sizes { length self.old.sizes.items ≡ self.old.count }
-        requires members { AreMembers self.old.blocks.items self.old.count self.old.members.lists.items }
+        requires members { HaveTheirOwn self.old.blocks.items (list_of self.old.members) }
         ensures kept { IsButMended self.old self.new }
-        ensures mended { OnOk result (AreMembers self.old.blocks.items self.old.count self.new.members.lists.items) }
+        ensures mended { OnOk result (HaveTheirOwn self.old.blocks.items (list_of self.new.members)) }
         ensures states { IfOk result (λ states. All (λ state. state < length self.old.blocks.items) states.items) }
         ensures all { IfOk result (λ states. AreCandidates self.old.blocks.items self.old.sizes.items ones.now states.items) }
     {
         let mut states = ones.states(self.alloc)?;
         for block in &ones.blocks {
             if !self.are_few(ones, *block) {
-                self.members
-                    .list(self.alloc, &self.blocks, *block, &mut states)?;
+                self.members.mend(&self.blocks, *block);
+                states.extend_from_slice(self.members.list(*block))?;
             }
         }
         Ok(states)
     }
 
     // The candidates on the smaller side of their block.
-    fn rarer(&self, ones: &Ones, candidates: &[usize]) -> Result<Vec<usize>, AllocError>
+    fn rarer(&self, ones: &Ones, candidates: &[u32]) -> Result<Vec<u32>, AllocError>
         requires states { All (λ state. state < length self.now.blocks.items) candidates.now }
         requires numbers { All (λ block. block < length self.now.sizes.items) self.now.blocks.items }
         ensures members { IfOk result (λ part. All (λ state. state < length self.now.blocks.items) part.items) }
@@ -191,7 +191,7 @@ impl Partition<'_> {
     {
         let mut part = Vec::new(self.alloc);
         for state in candidates {
-            if ones.has(*state) == self.are_few(ones, self.blocks[*state]) {
+            if ones.has(*state) == self.are_few(ones, self.blocks[*state as usize]) {
                 part.push(*state)?;
             }
         }
@@ -199,11 +199,11 @@ impl Partition<'_> {
     }
 
     // Whether no more states of the block are ones than are not.
-    fn are_few(&self, ones: &Ones, block: usize) -> bool
+    fn are_few(&self, ones: &Ones, block: u32) -> bool
         requires { block < length self.now.sizes.items }
         ensures { result ≡ are_few_in self.now.sizes.items ones.now block }
     {
-        ones.count(block) <= self.sizes[block] / 2
+        ones.count(block) <= self.sizes[block as usize] / 2
     }
 
     // The marks with the value in the slot fixed, but for those that have no 1 there.
@@ -212,8 +212,8 @@ impl Partition<'_> {
         scratch: &Arena,
         slot: u8,
         value: bool,
-        marks: &[(usize, Ref)],
-    ) -> Result<Vec<(usize, Ref)>, AllocError>
+        marks: &[(u32, Ref)],
+    ) -> Result<Vec<(u32, Ref)>, AllocError>
         requires slot { slot < scratch.now.slots }
         requires marks { All (IsMarkFrom scratch.now (length (raw_in self.now).rows) slot) marks.now }
         ensures marks { IfOk result (λ side. All (IsMarkFrom scratch.now (length (raw_in self.now).rows) (slot + 1)) side.items) }

@@ -1,13 +1,14 @@
-use Rattle.std.proofs.Common.{◌≡◌, ◌<◌, inl, inr, ℕ, List, Vec, Global, length, get_or, All, Contains, refl, sym, ap, subst, ◌∙◌, arith}
+use Rattle.std.proofs.Common.{◌≡◌, ◌<◌, ◌++◌, inl, inr, ℕ, List, Vec, Global, length, get_or, All, Contains, refl, sym, ap, subst, ◌∙◌, arith}
 use Rattle.std.proofs.lemmas.List.{take_all}
 use Rattle.dcv_certificate.specs.declared.partition.Partition.{Partition}
 use Rattle.dcv_certificate.specs.Partition.{IsButMended}
-use Rattle.dcv_certificate.specs.Members.{AreMembers}
+use Rattle.dcv_members.specs.Members.{list_of, IsMended, HaveTheirOwn}
+use Rattle.dcv_members.proofs.MemberFacts.{own_mended}
 use Rattle.dcv_certificate.specs.Ones.{are_few_in}
 use Rattle.dcv_certificate.proofs.Counted.{every_one, ones_below}
-use Rattle.dcv_certificate.proofs.Candidates.{IsListed, IsSettled, settled_more, listed_below, all_settled}
+use Rattle.dcv_certificate.proofs.Candidates.{IsListed, IsSettled, added_below, added_grows, added_listed, settled_more, listed_below, all_settled}
 use Rattle.dcv_certificate.proofs.partition.Partition.candidates.Goals as goal
-use Rattle.dcv_certificate.proofs.partition.Partition.candidates.Goals.{Joined-not-are_few, then-not-are_few+in_ok-list, else-not-are_few}
+use Rattle.dcv_certificate.proofs.partition.Partition.candidates.Goals.{Joined-not-are_few, then-not-are_few+in_ok-extend_from_slice, else-not-are_few}
 
 pub loop-block-init : goal.loop-block-init
 loop-block-init c =
@@ -27,12 +28,6 @@ are_few-requires c =
     c.deref-block-items.ensures.value c.loop-block-test.true in
     omega (arith, below, c.requires.sizes, ap (λ (sizes : Vec ℕ Global). length sizes.items) c.loop-block.invariant.kept.sizes)
 
-pub list-requires-clause-block : goal.list-requires-clause-block
-list-requires-clause-block c =
-    let below = listed_below c.args.self.now.blocks.items c.args.ones.now c.args.self.now.count c.deref-block-items.result.now c.loop-block.block-index c.requires.counted c.requires.numbers
-    c.deref-block-items.ensures.value c.loop-block-test.true in
-    omega (arith, below, c.loop-block.invariant.mended.size)
-
 module _ (c : Joined-not-are_few) where
   abbrev blocks : List ℕ
   blocks = c.args.self.now.blocks.items
@@ -40,48 +35,60 @@ module _ (c : Joined-not-are_few) where
   abbrev block : ℕ
   block = get_or c.deref-block-items.result.now c.loop-block.block-index 0
 
-  old_blocks : c.loop-block.self.blocks.items ≡ blocks
-  old_blocks = ap (λ (blocks : Vec ℕ Global). blocks.items) c.loop-block.invariant.kept.blocks
-
   kept : IsButMended c.args.self.now c.if-not-are_few.self
   kept =
       let was = c.loop-block.invariant.kept in
       elim c.if-not-are_few.branch [
-        | then-not-are_few+in_ok-list w ↦
+        | then-not-are_few+in_ok-extend_from_slice w ↦
             subst (IsButMended c.args.self.now) (sym w.self-is) (record { vertices = was.vertices; suffixes = was.suffixes; blocks = was.blocks; parts = was.parts; count = was.count; sizes = was.sizes })
         | else-not-are_few w ↦ subst (IsButMended c.args.self.now) (sym w.self-is) was
       ]
 
-  mended : AreMembers blocks c.args.self.now.count c.if-not-are_few.self.members.lists.items
+  now_blocks : (seen : List ℕ) → seen ≡ c.loop-block.self.blocks.items → seen ≡ blocks
+  now_blocks seen is = is ∙ ap (λ (blocks : Vec ℕ Global). blocks.items) c.loop-block.invariant.kept.blocks
+
+  abbrev Mends : List ℕ → List (List ℕ) → Type 0
+  Mends seen new = IsMended seen block (list_of c.loop-block.self.members) (list_of new)
+
+  mended : HaveTheirOwn blocks (list_of c.if-not-are_few.self.members)
   mended =
       let was = c.loop-block.invariant.mended in
       elim c.if-not-are_few.branch [
-        | then-not-are_few+in_ok-list w ↦
-            subst (λ (self : Partition). AreMembers blocks c.args.self.now.count self.members.lists.items) (sym w.self-is)
-            (subst (λ count. AreMembers blocks count w.list.new.self.lists.items) was.size
-            (subst (λ blocks. AreMembers blocks (length c.loop-block.self.members.lists.items) w.list.new.self.lists.items) (w.deref.ensures.value ∙ old_blocks) w.in_ok-list.ensures.members))
-        | else-not-are_few w ↦ subst (λ (self : Partition). AreMembers blocks c.args.self.now.count self.members.lists.items) (sym w.self-is) was
+        | then-not-are_few+in_ok-extend_from_slice w ↦
+            let is = subst (λ seen. Mends seen w.mend.new.self) (now_blocks w.deref.result.now w.deref.ensures.value) w.mend.ensures in
+            subst (λ (self : Partition). HaveTheirOwn blocks (list_of self.members)) (sym w.self-is)
+            (own_mended blocks (list_of c.loop-block.self.members) (list_of w.mend.new.self) block is was)
+        | else-not-are_few w ↦ subst (λ (self : Partition). HaveTheirOwn blocks (list_of self.members)) (sym w.self-is) was
       ]
 
   states_are : All (λ state. state < length blocks) c.if-not-are_few.states.items
   states_are = elim c.if-not-are_few.branch [
-    | then-not-are_few+in_ok-list w ↦
+    | then-not-are_few+in_ok-extend_from_slice w ↦
+        let is = subst (λ seen. Mends seen w.mend.new.self) (now_blocks w.deref.result.now w.deref.ensures.value) w.mend.ensures in
+        let grown = w.in_ok-extend_from_slice.ensures.items ∙ ap (λ list. c.loop-block.states.items ++ list) w.list.ensures in
         subst (λ (states : Vec ℕ Global). All (λ state. state < length blocks) states.items) (sym w.states-is)
-        (subst (λ blocks. All (λ state. state < length blocks) w.list.new.states.items) (w.deref.ensures.value ∙ old_blocks) w.in_ok-list.ensures.states)
+        (added_below blocks block (list_of c.loop-block.self.members) (list_of w.mend.new.self) is c.loop-block.invariant.mended c.loop-block.states.items w.extend_from_slice.new.self.items grown
+        c.loop-block.invariant.states_are)
     | else-not-are_few w ↦ subst (λ (states : Vec ℕ Global). All (λ state. state < length blocks) states.items) (sym w.states-is) c.loop-block.invariant.states_are
   ]
 
   grows : (state : ℕ) → Contains c.loop-block.states.items state → Contains c.if-not-are_few.states.items state
   grows state there = elim c.if-not-are_few.branch [
-    | then-not-are_few+in_ok-list w ↦ subst (λ (states : Vec ℕ Global). Contains states.items state) (sym w.states-is) (w.in_ok-list.ensures.kept state there)
+    | then-not-are_few+in_ok-extend_from_slice w ↦
+        let is = subst (λ seen. Mends seen w.mend.new.self) (now_blocks w.deref.result.now w.deref.ensures.value) w.mend.ensures in
+        let grown = w.in_ok-extend_from_slice.ensures.items ∙ ap (λ list. c.loop-block.states.items ++ list) w.list.ensures in
+        subst (λ (states : Vec ℕ Global). Contains states.items state) (sym w.states-is)
+        (added_grows blocks block (list_of c.loop-block.self.members) (list_of w.mend.new.self) is c.loop-block.invariant.mended c.loop-block.states.items w.extend_from_slice.new.self.items grown state there)
     | else-not-are_few w ↦ subst (λ (states : Vec ℕ Global). Contains states.items state) (sym w.states-is) there
   ]
 
   settled : IsSettled blocks c.args.self.now.sizes.items c.args.ones.now c.if-not-are_few.states.items block
   settled = elim c.if-not-are_few.branch [
-    | then-not-are_few+in_ok-list w ↦
+    | then-not-are_few+in_ok-extend_from_slice w ↦
+        let is = subst (λ seen. Mends seen w.mend.new.self) (now_blocks w.deref.result.now w.deref.ensures.value) w.mend.ensures in
+        let grown = w.in_ok-extend_from_slice.ensures.items ∙ ap (λ list. c.loop-block.states.items ++ list) w.list.ensures in
         inr (subst (λ (states : Vec ℕ Global). IsListed blocks states.items block) (sym w.states-is)
-        (subst (λ blocks. IsListed blocks w.list.new.states.items block) (w.deref.ensures.value ∙ old_blocks) w.in_ok-list.ensures.listed))
+        (added_listed blocks block (list_of c.loop-block.self.members) (list_of w.mend.new.self) is c.loop-block.invariant.mended c.loop-block.states.items w.extend_from_slice.new.self.items grown))
     | else-not-are_few w ↦
         inl (ap (λ (sizes : Vec ℕ Global). are_few_in sizes.items c.args.ones.now block) (sym c.loop-block.invariant.kept.sizes) ∙ sym c.are_few.ensures ∙ w.if-not-are_few.false)
   ]

@@ -15,10 +15,10 @@ module _ (c : In_ok-part) where
   abbrev states : List ℕ
   states = part_at (parts_in c.args.self.now) c.args.place
 
-  leaves_are : c.in_ok-leaves.leaves.items ≡ states
+  leaves_are : c.index-leaves.result.now.items ≡ states
   leaves_are =
-      c.in_ok-leaves.ensures ∙ c.deref.ensures.value ∙ ap (λ (part : Vec ℕ Global). part.items) c.index.ensures
-      ∙ sym (get_or-map (λ (part : Vec ℕ Global). part.items) c.args.self.now.parts.items c.args.place c.index.result.now [] c.requires.place)
+      ap (λ (part : Vec ℕ Global). part.items) c.index-leaves.ensures
+      ∙ sym (get_or-map (λ (part : Vec ℕ Global). part.items) c.args.self.now.parts.items c.args.place c.index-leaves.result.now [] c.requires.place)
 
   abbrev rows_of : IndexedRows
   rows_of = index_of (raw_in c.args.self.now).arena (raw_in c.args.self.now).rows
@@ -26,15 +26,15 @@ module _ (c : In_ok-part) where
   all_above : (place : ℕ) → LeadsInto rows_of states (Place place) → Contains c.in_ok-found.found.marked.keys place
   all_above place =
       subst (λ (seen : IndexedRows × List ℕ). LeadsInto seen.0 seen.1 (Place place) → Contains c.in_ok-found.found.marked.keys place)
-      (λ i. (c.requires.index i, (c.deref-2.ensures.value ∙ leaves_are) i)) (c.in_ok-found.ensures.marked place).1
+      (λ i. (c.requires.index i, (c.deref.ensures.value ∙ leaves_are) i)) (c.in_ok-found.ensures.marked place).1
 
   all_looked : (row : ℕ) → IsRowInto rows_of states row → Contains c.in_ok-found.found.looked.items row
   all_looked row =
       subst (λ (seen : IndexedRows × List ℕ). IsRowInto seen.0 seen.1 row → Contains c.in_ok-found.found.looked.items row)
-      (λ i. (c.requires.index i, (c.deref-2.ensures.value ∙ leaves_are) i)) (c.in_ok-found.ensures.looked row).1
+      (λ i. (c.requires.index i, (c.deref.ensures.value ∙ leaves_are) i)) (c.in_ok-found.ensures.looked row).1
 
   part_is : (state : ℕ) → part_of c.in_ok-part.part state ≡ has states state
-  part_is state = c.in_ok-part.ensures.states state ∙ ap (λ states. has states state) (c.deref-3.ensures.value ∙ leaves_are)
+  part_is state = c.in_ok-part.ensures.states state ∙ ap (λ states. has states state) (c.deref-2.ensures.value ∙ leaves_are)
 
 pub marks-requires-clause-above : goal.marks-requires-clause-above
 marks-requires-clause-above c =
@@ -49,10 +49,10 @@ returns-clause-marked c =
     let part = c.in_ok-part.part in
     let looked = c.in_ok-found.found.looked.items in
     let scratch = c.marks.new.scratch in
-    IfOk-weaker c.marks.result (λ (marks : Vec (ℕ × Ref) Global). AreIndicators part c.deref-4.result.now c.deref-5.result.now scratch marks.items) _
+    IfOk-weaker c.marks.result (λ (marks : Vec (ℕ × Ref) Global). AreIndicators part c.deref-3.result.now c.deref-4.result.now scratch marks.items) _
     (λ marks are state letter below width.
     all_marked raw c.requires.vertices (states before) c.requires.states c.in_ok-found.found.marked.keys looked (all_above before) (all_looked before)
     part c.in_ok-part.ensures.arena (part_is before) c.in_ok-part.ensures.above scratch marks.items
-    (subst (λ rows. AreIndicators part rows looked scratch marks.items) c.deref-4.ensures.value
-    (subst (λ looked. AreIndicators part c.deref-4.result.now looked scratch marks.items) c.deref-5.ensures.value are)) state letter below)
+    (subst (λ rows. AreIndicators part rows looked scratch marks.items) c.deref-3.ensures.value
+    (subst (λ looked. AreIndicators part c.deref-3.result.now looked scratch marks.items) c.deref-4.ensures.value are)) state letter below)
     c.marks.ensures.marked

@@ -3,11 +3,12 @@ use Rattle.std.proofs.lemmas.Bool.{eq-eqb, ne_eqb}
 use Rattle.std.proofs.lemmas.List.{get_or_default, length-set}
 use Rattle.dcv_certificate.specs.declared.partition.Partition.{Partition}
 use Rattle.dcv_certificate.specs.Separation.{block_of}
-use Rattle.dcv_certificate.specs.Tallies.{AreSizes}
-use Rattle.dcv_certificate.specs.Members.{AreMembers, count_up}
-use Rattle.dcv_certificate.proofs.Shifting.{sizes_grown, size_some, fewer, shifted, size_fits, sizes_shifted, members_grown, members_shifted}
+use Rattle.dcv_certificate.specs.Tallies.{AreSizes, count_up}
+use Rattle.dcv_members.specs.Members.{list_of, HaveTheirOwn}
+use Rattle.dcv_members.proofs.MemberFacts.{own_put}
+use Rattle.dcv_certificate.proofs.Shifting.{sizes_grown, size_some, fewer, shifted, size_fits, sizes_shifted}
 use Rattle.dcv_certificate.proofs.partition.Partition.move_to.Goals as goal
-use Rattle.dcv_certificate.proofs.partition.Partition.move_to.Goals.{Joined-block-len, then-block-len+in_ok-push+in_ok-grow, else-block-len}
+use Rattle.dcv_certificate.proofs.partition.Partition.move_to.Goals.{Joined-block-len, then-block-len+in_ok-push, else-block-len}
 
 module _ (c : Joined-block-len) where
   abbrev blocks : List ℕ
@@ -27,13 +28,13 @@ module _ (c : Joined-block-len) where
 
   mid_blocks : c.if-block-len.self.blocks.items ≡ blocks
   mid_blocks = elim c.if-block-len.branch [
-    | then-block-len+in_ok-push+in_ok-grow w ↦ ap (λ (self : Partition). self.blocks.items) w.self-is
+    | then-block-len+in_ok-push w ↦ ap (λ (self : Partition). self.blocks.items) w.self-is
     | else-block-len w ↦ ap (λ (self : Partition). self.blocks.items) w.self-is
   ]
 
   mid_sizes : AreSizes blocks count c.if-block-len.self.sizes.items
   mid_sizes = elim c.if-block-len.branch [
-    | then-block-len+in_ok-push+in_ok-grow w ↦
+    | then-block-len+in_ok-push w ↦
         subst (λ (self : Partition). AreSizes blocks count self.sizes.items) (sym w.self-is)
         (subst (λ sizes. AreSizes blocks count sizes) (sym w.in_ok-push.ensures.items)
         (subst (λ count. AreSizes blocks count (c.args.self.now.sizes.items ++ 0 ∷ [])) (sym (at_end w.if-block-len.true)) (sizes_grown blocks c.args.self.now.sizes.items c.requires.numbers c.requires.sizes)))
@@ -42,26 +43,21 @@ module _ (c : Joined-block-len) where
         (subst (λ count. AreSizes blocks count c.args.self.now.sizes.items) (sym (not_end w.if-block-len.false)) c.requires.sizes)
   ]
 
-  mid_members : AreMembers blocks count c.if-block-len.self.members.lists.items
+  mid_members : HaveTheirOwn blocks (list_of c.if-block-len.self.members)
   mid_members = elim c.if-block-len.branch [
-    | then-block-len+in_ok-push+in_ok-grow w ↦
-        subst (λ (self : Partition). AreMembers blocks count self.members.lists.items) (sym w.self-is)
-        (subst (λ count. AreMembers blocks count w.grow.new.self.lists.items) (sym (at_end w.if-block-len.true))
-        (members_grown blocks many c.args.self.now.members.lists.items w.grow.new.self.lists.items w.in_ok-grow.ensures.size w.in_ok-grow.ensures.same c.requires.members))
-    | else-block-len w ↦
-        subst (λ (self : Partition). AreMembers blocks count self.members.lists.items) (sym w.self-is)
-        (subst (λ count. AreMembers blocks count c.args.self.now.members.lists.items) (sym (not_end w.if-block-len.false)) c.requires.members)
+    | then-block-len+in_ok-push w ↦ subst (λ (self : Partition). HaveTheirOwn blocks (list_of self.members)) (sym w.self-is) c.requires.members
+    | else-block-len w ↦ subst (λ (self : Partition). HaveTheirOwn blocks (list_of self.members)) (sym w.self-is) c.requires.members
   ]
 
   below : c.args.block < count
   below = elim c.if-block-len.branch [
-    | then-block-len+in_ok-push+in_ok-grow w ↦ omega (arith, at_end w.if-block-len.true, w.if-block-len.true, c.len.ensures, c.args.self.now.sizes.ok.0)
+    | then-block-len+in_ok-push w ↦ omega (arith, at_end w.if-block-len.true, w.if-block-len.true, c.len.ensures, c.args.self.now.sizes.ok.0)
     | else-block-len w ↦ omega (arith, not_end w.if-block-len.false, w.if-block-len.false, c.len.ensures, c.args.self.now.sizes.ok.0, c.requires.block)
   ]
 
   no_fewer : many ≤ count
   no_fewer = elim c.if-block-len.branch [
-    | then-block-len+in_ok-push+in_ok-grow w ↦ omega (arith, at_end w.if-block-len.true)
+    | then-block-len+in_ok-push w ↦ omega (arith, at_end w.if-block-len.true)
     | else-block-len w ↦ omega (arith, not_end w.if-block-len.false)
   ]
 
@@ -127,5 +123,5 @@ pub returns-clause-members : goal.returns-clause-members
 returns-clause-members c =
     let j = (goal.at.returns-clause-members c).Joined-block-len in
     let mid = c.if-block-len.self in
-    subst (λ blocks. AreMembers (set blocks c.args.state c.args.block) (count j) c.put.new.self.lists.items) (sym (mid_blocks j))
-    (members_shifted (blocks j) (count j) mid.members.lists.items c.put.new.self.lists.items c.args.state c.args.block c.requires.state (below j) c.in_ok-put.ensures (mid_members j))
+    subst (λ blocks. HaveTheirOwn (set blocks c.args.state c.args.block) (list_of c.put.new.self)) (sym (mid_blocks j))
+    (own_put (blocks j) (list_of mid.members) (list_of c.put.new.self) c.args.block c.args.state c.requires.state c.in_ok-put.ensures (mid_members j))

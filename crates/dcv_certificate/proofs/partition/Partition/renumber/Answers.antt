@@ -3,7 +3,6 @@ use Rattle.std.proofs.lemmas.List.{take_all, get_or_default}
 use Rattle.dcv_certificate.specs.Separation.{block_of}
 use Rattle.dcv_certificate.specs.Partition.{IsMovedTo}
 use Rattle.dcv_certificate.specs.Tallies.{AreSizes}
-use Rattle.dcv_certificate.specs.Members.{AreMembers}
 use Rattle.dcv_certificate.proofs.Moving.{AreMoved, one_moved, is_split, new_numbers, number_fits, bound_then}
 use Rattle.dcv_certificate.proofs.partition.Partition.renumber.Goals as goal
 use Rattle.dcv_certificate.proofs.partition.Partition.renumber.Goals.{In_ok-block}
@@ -58,7 +57,7 @@ loop-state-preserved c =
       count = done.count ∙ was.count;
       bound = size;
       sizes = subst (λ count. AreSizes new.blocks.items count new.sizes.items) (sym done.sizes.each) done.sizes;
-      listed = subst (λ count. AreMembers new.blocks.items count new.members.lists.items) (sym done.sizes.each) done.members;
+      listed = done.members;
       moved = subst (λ blocks. AreMoved self.count (length self.blocks.items) self.blocks.items (take (i + 1) part) blocks c.new_block.new.left.keys) (sym done.blocks)
           (one_moved self.count (length self.blocks.items) self.blocks.items part old.blocks.items c.loop-state.left.keys c.new_block.new.left.keys i c.in_ok-block.block
           (within before) (c.requires.members i 0 (within before)) refl (λ state h. c.requires.numbers state 0 h) was.moved (moved_to before));

@@ -7,6 +7,8 @@ use Rattle.dcv_language.specs.declared.certificate.Suffix.TheVariants.{Then}
 use Rattle.dcv_certificate.specs.Proof.{suffix_words}
 use Rattle.dcv_certificate.specs.Separation.{word_at, accepts_word, TellAlike, AreTogether, has, IsSplit, IsSeparation, Advances}
 use Rattle.dcv_certificate.specs.Partition.{raw_in, parts_in}
+use Rattle.dcv_members.specs.Members.{list_of, HaveTheirOwn}
+use Rattle.dcv_certificate.specs.Tallies.{AreSizes}
 use Rattle.dcv_certificate.specs.Marks.{marked, AreDone, SplitsSome}
 use Rattle.dcv_certificate.proofs.Separating.{separation_more, separation_advances}
 use Rattle.dcv_certificate.proofs.Walking.{told_at, told_by_split_off, done_at, nothing_listed, done_by_part, done_by_split}
@@ -22,6 +24,24 @@ told_part c =
     let letter = c.args.letter in
     told_by_split_off raw blocks word letter (marked c.args.scratch.now c.args.marks.now letter) c.in_ok-part.part.items
     (told_at raw blocks word c.args.scratch.now c.args.scratch.now.slots letter c.args.marks.now (c.requires.letter ∙ c.requires.slots) c.requires.told) c.in_ok-part.ensures.part
+
+pub renumber-requires-clause-listed : goal.renumber-requires-clause-listed
+renumber-requires-clause-listed c =
+    subst (λ (blocks : Vec ℕ Global). HaveTheirOwn blocks.items (list_of c.part.new.self.members)) (sym c.part.ensures.kept.blocks) c.in_ok-part.ensures.mended
+
+pub returns-then-is_empty-clause-separates : goal.returns-then-is_empty-clause-separates
+returns-then-is_empty-clause-separates c =
+    let raw = raw_in c.args.self.now in
+    let kept = c.part.ensures.kept in
+    let was = c.requires.separates in
+    record {
+      separation = subst (λ (p : Vec Suffix Global × Vec ℕ Global × Vec (Vec ℕ Global) Global). IsSeparation raw p.0.items p.1.items (map (λ (part : Vec ℕ Global). part.items) p.2.items))
+          (λ i. (sym kept.suffixes i, sym kept.blocks i, sym kept.parts i)) was.separation;
+      numbers = subst (λ (p : Vec ℕ Global × ℕ). All (λ block. block < p.1) p.0.items) (λ i. (sym kept.blocks i, sym kept.count i)) was.numbers;
+      sizes = subst (λ (p : Vec ℕ Global × ℕ × Vec ℕ Global). AreSizes p.0.items p.1 p.2.items) (λ i. (sym kept.blocks i, sym kept.count i, sym kept.sizes i)) was.sizes;
+      members = subst (λ (blocks : Vec ℕ Global). HaveTheirOwn blocks.items (list_of c.part.new.self.members)) (sym kept.blocks) c.in_ok-part.ensures.mended;
+      states = subst (λ (parts : Vec (Vec ℕ Global) Global). All (All (λ state. state < length raw.rows)) (map (λ (part : Vec ℕ Global). part.items) parts.items)) (sym kept.parts) was.states;
+    }
 
 pub returns-then-is_empty-clause-done : goal.returns-then-is_empty-clause-done
 returns-then-is_empty-clause-done c =

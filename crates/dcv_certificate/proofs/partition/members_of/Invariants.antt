@@ -1,0 +1,7 @@
+use Rattle.std.proofs.Common.{ℕ, ◌<◌, Contains}
+use Rattle.dcv_members.specs.Members.{list_of}
+use Rattle.dcv_certificate.specs.Separation.{block_of}
+use Rattle.dcv_certificate.proofs.partition.members_of.Given as goal
+
+abbrev pub invariant-loop-state : goal.invariant-loop-state
+invariant-loop-state l = (state : ℕ) → state < l.state → Contains (list_of l.members (block_of l.blocks state)) state
