@@ -2,6 +2,8 @@ pub mod Automata
 pub mod Budgets
 pub mod Endings
 pub mod EqualMeanings
+pub mod NamesInOrder
+pub mod NamesRead
 pub mod OneOutcome
 pub mod Outcomes
 pub mod Pieces

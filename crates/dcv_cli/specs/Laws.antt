@@ -1,9 +1,12 @@
 -- The laws that `src/laws.rt` proves.
-use Rattle.std.specs.Prelude.{◌≡◌, ◌≢◌, ◌⊎◌, ℕ, List, Option, Some, IsSome, IsTrue, length}
+use Rattle.std.specs.Prelude.{◌≡◌, ◌≢◌, ◌⊎◌, ℕ, List, Option, Some, IsSome, IsTrue, length, map}
 use Rattle.std.specs.List.{All}
+use Rattle.std.specs.List.Sorted.{IsStrictlyIncreasing}
 use Rattle.dcv_syntax.specs.Plain.{PlainFile}
 use Rattle.dcv_language.specs.Language.{HaveSameBehaviours}
 use Rattle.dcv_logic.specs.Models.{models}
+use Rattle.dcv_reader.specs.Spelling.{Spells}
+use Rattle.dcv_scope.specs.Names.{occurrences_in_file}
 use Rattle.dcv_print.specs.Printed.{texts_of}
 use Rattle.dcv_explore.specs.Budget.{Kind}
 use Rattle.dcv_build.specs.Budget.{IsOver}
@@ -87,3 +90,10 @@ abbrev pub EqualMeanings : Type 0
 EqualMeanings = (request other : Request) (held other_held : List ℕ → Option (List ℕ)) (file other_file : PlainFile) (one another : Outcome)
     → AskTheSame request other → MeanTheSame file other_file → IsAnswer request held file one → IsAnswer other other_held other_file another
     → Agrees one another
+
+-- ---- the order of names
+
+-- the names of a file that a text spells occur in the order of their offsets, so the first fault among them is that at the least
+abbrev pub NamesAscend : Type 0
+NamesAscend = (text : List ℕ) (file : PlainFile) → Spells text file
+    → IsStrictlyIncreasing (map (λ o. o.name.span.start) (occurrences_in_file file))

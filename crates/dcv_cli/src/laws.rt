@@ -1,5 +1,5 @@
 //! Laws on what is right, each the contract of a function that does nothing.
-ghost use Rattle.dcv_cli.specs.Laws.{OneOutcome, SomeOutcome, EqualMeanings};
+ghost use Rattle.dcv_cli.specs.Laws.{OneOutcome, SomeOutcome, EqualMeanings, NamesAscend};
 
 use dcv_build::laws::one_step_is_over;
 use dcv_command::laws::taken_words_ask;
@@ -39,3 +39,9 @@ pub fn equal_meanings()
     one_automaton();
     automaton_of_same_behaviours();
 }
+
+/// The names of a text occur in the order of their offsets. So the first fault of names, which counts, is the one at the least
+/// offset.
+pub fn names_ascend()
+    ensures { NamesAscend }
+{}
