@@ -51,7 +51,7 @@ row 3 'fault nest at 506' 'negations to the end' 'infer ' "$(times 262138 '!')"
 
 # Each operator between parentheses, and all of them.
 for operator in '<=>' '||' '&&' '^'; do
-  row 3 'fault depth at 6' "499 times $operator between boxes" 'infer ' "$(times 250 "pt$operator([]")" 'pt' "$(times 250 ')')" ';'
+  row 3 'fault depth at 6' "250 times $operator below boxes" 'infer ' "$(times 250 "[](pt$operator")" 'pt' "$(times 250 ')')" ';'
 done
 for operator in '||' '&&' '^'; do
   row 1 'not valid' "499 times $operator" 'infer ' "$(times 499 "pt$operator(")" 'pt' "$close" ';'
@@ -63,15 +63,16 @@ row 3 'fault depth at 6' 'all lists below an arrow' 'infer ' "$(times 250 'pt<=>
 row 3 'fault depth at 6' 'all lists below a star' 'infer ' "$(times 250 'pt<=>pt||pt&&pt^(')" 'pt' "$(times 250 ')*')" ';'
 row 3 'fault depth at 6' 'all lists below a diamond' 'infer ' "$(times 250 'pt<=>pt||pt&&pt^<>(')" 'pt' "$(times 250 ')')" ';'
 row 3 'fault depth at 6' 'all lists below a box' 'infer ' "$(times 250 'pt<=>pt||pt&&pt^[](')" 'pt' "$(times 250 ')')" ';'
-row 3 'fault depth at 6' 'all lists below ex' 'infer ' "$(times 250 '(pt<=>pt||pt&&pt^(ex a.')" 'pt' "$(times 250 '))')" ';'
-row 3 'fault depth at 6' 'all lists below all' 'infer ' "$(times 166 'pt<=>pt||pt&&pt^(all a.')" 'pt' "$(times 166 ')')" ';'
+row 3 'fault depth at 6' 'all lists below ex' 'infer ' "$(times 250 'pt<=>pt||pt&&pt^(ex a.')" 'pt' "$(times 250 ')')" ';'
+row 3 'fault depth at 6' 'all lists below all' 'infer ' "$(times 250 'pt<=>pt||pt&&pt^(all a.')" 'pt' "$(times 250 ')')" ';'
 
 # The same of propositions.
 row 1 'not valid' '500 parentheses in a proposition' 'var p; infer [[(' "$open" 'p' "$close" ')]];'
 row 1 'not valid' '500 negations in a proposition' 'var p; infer [[' "$(times 500 '!')" 'p]];'
 row 0 'valid' '500 arrows in a proposition' 'var p; infer [[' "$(times 500 'p=>')" 'p]];'
-for operator in '<=>' '||' '&&'; do
-  row 1 'not valid' "499 times $operator in a proposition" 'var p; infer [[' "$(times 499 "p$operator(")" '!p' "$close" ']];'
+row 1 'not valid' '499 times <=> in a proposition' 'var p; infer [[' "$(times 499 'p<=>(')" '!p' "$close" ']];'
+for operator in '||' '&&'; do
+  row 1 'not valid' "499 times $operator in a proposition" 'var p; infer [[' "$(times 499 "p$operator(")" 'p' "$close" ']];'
 done
 row 3 'fault depth at 13' 'all lists in a proposition' 'var p; infer [[' "$(times 499 '(p<=>p||p&&')" 'p' "$close" ']];'
 row 3 'fault depth at 13' 'all lists below a negation in a proposition' 'var p; infer [[' "$(times 250 'p<=>p||p&&!(')" 'p' "$(times 250 ')')" ']];'
@@ -81,8 +82,8 @@ row 3 'fault depth at 13' 'all lists below an arrow in a proposition' 'var p; in
 row 1 'not valid' '500 arguments in arguments' 'var p; prop g(a) as a; infer [[' "$(times 500 'g(')" 'p' "$(times 500 ')')" ']];'
 row 1 'not valid' '500 negations by calls' 'var p; prop g(a) as !a; infer [[' "$(times 500 'g(')" 'p' "$(times 500 ')')" ']];'
 row 1 'not valid' '500 arguments that are not used' 'var p; prop g(a) as p; infer [[' "$(times 500 'g(')" 'p' "$(times 500 ')')" ']];'
-row 3 'fault depth at 32' 'all lists in arguments' 'var p; prop g(a) as !a; infer [[' "$(times 500 'p<=>p||p&&g(')" 'p' "$(times 500 ')')" ']];'
-row 3 'fault depth at 35' 'arguments in a call of a formula' 'var p; define g(a) as [[!a]]; infer g(' "$(times 499 '(p<=>p||p&&')" 'p' "$close" ');'
+row 3 'fault depth at 30' 'all lists in arguments' 'var p; prop g(a) as !a; infer [[' "$(times 500 'p<=>p||p&&g(')" 'p' "$(times 500 ')')" ']];'
+row 3 'fault depth at 36' 'arguments in a call of a formula' 'var p; define g(a) as [[!a]]; infer g(' "$(times 499 '(p<=>p||p&&')" 'p' "$close" ');'
 
 # chain COUNT HEAD BODY LAST: macros from HEAD0, each of which has the one before it in its body, in the place of @
 chain() {
@@ -97,8 +98,10 @@ row 1 'not valid' 'a chain of 256 propositions' 'var p;' "$(chain 256 'prop g@ a
 row 1 'not valid' 'a chain of 256 negations' 'var p;' "$(chain 256 'prop g@(a) as ' '!g@(a)' 'prop g0(a) as a;')" 'infer [[g255(p)]];'
 row 1 'not valid' 'a chain of 256 formulas' "$(chain 256 'define g@ as ' 'g@' 'define g0 as pt;')" 'infer g255;'
 row 1 'not valid' 'a chain of 256 stars' "$(chain 256 'define g@ as ' 'g@*' 'define g0 as pt;')" 'infer g255;'
+row 1 'not valid' 'a chain of 256 lists' "$(chain 256 'define g@ as ' 'pt&&g@' 'define g0 as pt;')" 'infer g255;'
 row 1 'not valid' 'a chain of 256 bodies in parentheses' "$(chain 256 'define g@ as ' "$open"'g@'"$close" 'define g0 as pt;')" 'infer g255;'
-row 3 'fault size at 252862' 'a chain of bodies with all lists' 'var p;' "$(chain 40 'prop g@(a) as ' "$(times 499 '(p<=>p||p&&')g@(a)$close" 'prop g0(a) as !a;')" 'infer [[g39(p)]];'
+row 3 'fault size at 232996' 'a chain of bodies with all lists' 'var p;' \
+  "$(chain 40 'prop g@(a) as ' "$(times 496 '(p<=>p||p&&')g@(a)$(times 496 ')')" 'prop g0(a) as !a;')" 'infer [[g39(p)]];'
 row 1 'not valid' 'calls in calls that hand their argument on' 'var p; prop g0(a) as a;' \
   "$(chain 100 'prop g@(a) as ' "$(times 400 'g@(')a$(times 400 ')')" '')" 'infer [[g99(p)]];'
 row 1 'not valid' 'a chain whose arguments are handed on' 'var p; prop g(a) as a;' \
@@ -106,7 +109,7 @@ row 1 'not valid' 'a chain whose arguments are handed on' 'var p; prop g(a) as a
 
 # The longest lists.
 row 0 'valid' '43,000 operands of &&' 'infer ' "$(times 43000 'true&&')" 'true;'
-row 0 'valid' '43,000 operands of <=>' 'infer ' "$(times 32766 'true<=>')" 'true;'
+row 0 'valid' '32,000 operands of <=>' 'infer ' "$(times 32766 'true<=>')" 'true;'
 row 0 'valid' '52,000 operands of ^' 'infer ' "$(times 52000 'true^')" 'true;'
 row 1 'not valid' '65,000 operands in a proposition' 'var p; infer [[' "$(times 65000 'p&&')" 'p]];'
 row 3 'fault size at 6' 'a list of too many nodes' 'infer ' "$(times 65000 'pt&&')" 'pt;'

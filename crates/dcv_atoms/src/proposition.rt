@@ -56,7 +56,8 @@ fn value(arena: &mut Arena, slot: u8) -> Result<Ref, AtomFault>
     Ok(arena.node(slot, no, yes)?)
 }
 
-// The letters in which it does not hold.
+// The letters in which it does not hold. It stands apart, since `diagram` goes as deep as the proposition.
+#[inline(never)]
 fn opposite(alloc: Global, arena: &mut Arena, root: Ref) -> Result<Ref, AtomFault>
     requires arena { IsArena arena.old }
     requires root { IsRef arena.old root }

@@ -335,6 +335,117 @@ fn goals_within_the_limits(rt: HostRuntime) -> Result<(), Fail> {
     Ok(())
 }
 
+// A text that nests: a part so many times, what stands in its midst, and a closing parenthesis as often.
+#[derive(Clone, Copy)]
+struct Nest<'a> {
+    head: &'a str,
+    part: &'a str,
+    count: usize,
+    tail: &'a str,
+}
+
+// Every list of operands below each parenthesis, of formulas and of propositions; arguments in arguments; and a goal as deep as may be
+// of the lists with the largest frames.
+const NESTS: [(Nest<'static>, &str, (u8, &str, &str)); 5] = [
+    (
+        Nest {
+            head: "var p; infer ",
+            part: "(<p> <=> <p> || <p> && <p> ^ ",
+            count: 499,
+            tail: ";",
+        },
+        "<p>",
+        (3, "", "fault depth at 13\n"),
+    ),
+    (
+        Nest {
+            head: "var p; infer [[",
+            part: "(p <=> p || p && ",
+            count: 499,
+            tail: "]];",
+        },
+        "p",
+        (3, "", "fault depth at 13\n"),
+    ),
+    (
+        Nest {
+            head: "var p; prop g(a) as !a; infer [[",
+            part: "p <=> p || p && g(",
+            count: 500,
+            tail: "]];",
+        },
+        "p",
+        (3, "", "fault depth at 30\n"),
+    ),
+    (
+        Nest {
+            head: "var p; prop g(a) as !a; infer [[",
+            part: "g(",
+            count: 500,
+            tail: "]];",
+        },
+        "p",
+        (1, SOMETIMES, ""),
+    ),
+    (
+        Nest {
+            head: "infer ",
+            part: "pt && (",
+            count: 499,
+            tail: ";",
+        },
+        "pt",
+        (1, ONE_INSTANT_OF_NONE, ""),
+    ),
+];
+
+impl Nest<'_> {
+    fn text(&self, alloc: Global, midst: &str) -> Result<String, AllocError> {
+        let mut text = String::from_str(alloc, self.head)?;
+        for _ in 0..self.count {
+            text.push_str(self.part)?;
+        }
+        text.push_str(midst)?;
+        for _ in 0..self.count {
+            text.push(')')?;
+        }
+        text.push_str(self.tail)?;
+        Ok(text)
+    }
+}
+
+// The texts that nest deepest end as others do.
+#[test]
+fn texts_that_nest_deepest(rt: HostRuntime) -> Result<(), Fail> {
+    let alloc = rt.alloc();
+    for (nest, midst, wanted) in NESTS {
+        let text = nest.text(alloc, midst)?;
+        expect_checked(&rt, alloc, text.as_bytes(), wanted)?;
+    }
+    Ok(())
+}
+
+// Macros that hand their argument on, from `g0` up to `g99`, each of which does so by two calls of the one before it.
+fn relays(alloc: Global) -> Result<String, AllocError> {
+    let mut text = String::new(alloc);
+    text.push_str("var p; prop g0(a) as a;")?;
+    for before in 0..99 {
+        let number = before + 1;
+        write!(text, "prop g{number}(a) as g{before}(g{before}(a));")?;
+    }
+    text.push_str("infer [[g99(p)]];")?;
+    Ok(text)
+}
+
+// Calls without number of macros that hand their argument on are no work.
+#[test]
+fn calls_that_hand_on(rt: HostRuntime) -> Result<(), Fail> {
+    let alloc = rt.alloc();
+    let text = relays(alloc)?;
+    expect_checked(&rt, alloc, text.as_bytes(), (1, SOMETIMES, ""))?;
+    Ok(())
+}
+
 // Macros from `F0`, with this body, up to `F99`, each of which calls the one before it with its argument twice.
 fn chain(alloc: Global, body: &str) -> Result<String, AllocError> {
     let mut text = String::new(alloc);
