@@ -22,7 +22,8 @@ use Rattle.dcv_core.specs.Core.{PlainTruth, TruthSlot}
 use Rattle.dcv_scope.specs.CoreOf.{Sight, Expansion, PropExpansion, FormulaExpansion, bind_arguments, truth_of, truth_of_call, truth_of_macro}
 use Rattle.dcv_scope.specs.CoreOf.{declared_slots, body_expansion, expansion_of}
 use Rattle.dcv_scope.specs.Names.{texts}
-use Rattle.dcv_scope.specs.Expansions.{meant, names_of, sight_of, top_sight_of, truths_in, IsRelay, IsRelayTo, AreRelays, IsRelayed, HasNoOthers, StandAlike, parameter_slots, places_from, IsParameter}
+use Rattle.dcv_scope.specs.Expansions.{meant, names_of, sight_of, top_sight_of, truths_in, parameter_slots, places_from}
+use Rattle.dcv_scope.specs.Expansions.{IsRelay, IsRelayTo, AreRelays, IsRelayed, HasNoOthers, StandAlike, IsParameter}
 use Rattle.dcv_scope.proofs.InSight.{truth-slots, found_newest, top-truths}
 use Rattle.dcv_scope.proofs.TextRows.{truth-Call}
 
@@ -47,7 +48,8 @@ to_place e sight (p ∷ arguments) (suc j) q d lt is before relay =
     ap (truth_of_macro (Some e)) (sym (append_assoc before (one ∷ []) (truths_in sight arguments)))
     ∙ to_place e sight arguments j q d (omega (arith, lt)) is (before ++ one ∷ []) (subst (λ (k : ℕ). IsRelay k e) longer relay)
 
-pub call_stands : (sight : Sight) (name : Name) (arguments : Vec Prop Global) (j : ℕ) (q d : Prop) → IsRelayed sight name.text j → j < length arguments.items
+pub call_stands : (sight : Sight) (name : Name) (arguments : Vec Prop Global) (j : ℕ) (q d : Prop) → IsRelayed sight name.text j
+    → j < length arguments.items
     → q ≡ get_or arguments.items j d → StandAlike sight (plain_prop_kind q.kind) (plain_prop_kind (Call name arguments))
 call_stands sight name arguments j q d relayed lt is = λ truths others.
     let now : Sight = record sight { truths = truths } in
@@ -69,7 +71,8 @@ at_least [] k j name is = absurd (none_is_some is)
   where
     none_is_some : {X : Type 0} {x : X} → None ≡ Some x → ⊥
     none_is_some e = cc
-at_least (p ∷ parameters) k j name is = here_or_later (bytes_eq p.text name) (found (places_from (k + 1) parameters) name) is (at_least parameters (k + 1) j name)
+at_least (p ∷ parameters) k j name is = here_or_later (bytes_eq p.text name) (found (places_from (k + 1) parameters) name) is
+    (at_least parameters (k + 1) j name)
   where
     here_or_later : (here : Bool) (later : Option ℕ) → cond here (Some k) later ≡ Some j → (later ≡ Some j → k + 1 ≤ j) → k ≤ j
     here_or_later true later e behind =
@@ -85,14 +88,16 @@ at_parameter [] k j name before one after others is at = absurd (none_is_some is
   where
     none_is_some : {X : Type 0} {x : X} → None ≡ Some x → ⊥
     none_is_some e = cc
-at_parameter (p ∷ parameters) k j name [] one after others is at = here (bytes_eq p.text name) (found (places_from (k + 1) parameters) name) is (at_least parameters (k + 1) j name)
+at_parameter (p ∷ parameters) k j name [] one after others is at = here (bytes_eq p.text name) (found (places_from (k + 1) parameters) name) is
+    (at_least parameters (k + 1) j name)
   where
     here : (b : Bool) (later : Option ℕ) → cond b (Some k) later ≡ Some j → (later ≡ Some j → k + 1 ≤ j)
         → cond b (Some one) (found (zip (texts parameters) after ++ others) name) ≡ Some one
     here true later e behind = refl
     here false later e behind = absurd (omega (arith, at, behind e))
 at_parameter (p ∷ parameters) k j name (x ∷ before) one after others is at =
-    there (bytes_eq p.text name) (found (places_from (k + 1) parameters) name) (found (zip (texts parameters) (before ++ one ∷ after) ++ others) name) is
+    there (bytes_eq p.text name) (found (places_from (k + 1) parameters) name)
+    (found (zip (texts parameters) (before ++ one ∷ after) ++ others) name) is
     (λ e. at_parameter parameters (k + 1) j name before one after others e (omega (arith, at)))
   where
     there : (b : Bool) (later : Option ℕ) (rest : Option PlainTruth) → cond b (Some k) later ≡ Some j → (later ≡ Some j → rest ≡ Some one)
@@ -116,9 +121,11 @@ no_others (p ∷ parameters) [] others = λ name none. behind parameters name (f
     behind [] name none = none
     behind (q ∷ parameters) name none = behind parameters name (first (bytes_eq q.text name) _ none)
 no_others (p ∷ parameters) (x ∷ arguments) others =
-    λ name none. both (bytes_eq p.text name) (found (parameter_slots parameters ++ others) name) (found (zip (texts parameters) arguments ++ others) name) none (no_others parameters arguments others name)
+    λ name none. both (bytes_eq p.text name) (found (parameter_slots parameters ++ others) name)
+    (found (zip (texts parameters) arguments ++ others) name) none (no_others parameters arguments others name)
   where
-    both : (b : Bool) (slot truth : Option PlainTruth) → cond b (Some (TruthSlot 0)) slot ≡ None → (slot ≡ None → truth ≡ None) → cond b (Some x) truth ≡ None
+    both : (b : Bool) (slot truth : Option PlainTruth) → cond b (Some (TruthSlot 0)) slot ≡ None → (slot ≡ None → truth ≡ None)
+        → cond b (Some x) truth ≡ None
     both true slot truth e behind = cc
     both false slot truth e behind = behind e
 
@@ -141,7 +148,8 @@ data EndOf {X : Type 0} (xs : List X) (x : X) (before : List X) (one : X) : Type
   Earlier : (after : List X) → xs ≡ before ++ one ∷ after → EndOf xs x before one
 
 -- a member of a list that has one more at its end is that one, or stands in the list
-end_of : {X : Type 0} (xs : List X) (x : X) (before : List X) (one : X) (after : List X) → xs ++ x ∷ [] ≡ before ++ one ∷ after → EndOf xs x before one
+end_of : {X : Type 0} (xs : List X) (x : X) (before : List X) (one : X) (after : List X) → xs ++ x ∷ [] ≡ before ++ one ∷ after
+    → EndOf xs x before one
 end_of [] x [] one after is = Last refl cc
 end_of [] x (y ∷ before) one after is = absurd (omega (arith, ap length is, length-append before (one ∷ after)))
 end_of (z ∷ xs) x [] one after is =
@@ -160,20 +168,24 @@ module _ (variables : List Name) (macros : List Macro) (relays : List (Option �
   abbrev ToPlace : List Macro → Macro → Option ℕ → Type 0
   ToPlace earlier one place = IsRelayTo place (expansion_of (top_sight_of variables earlier) (plain_macro one))
 
-  pub one_more : AreRelays variables macros relays → length relays ≡ length macros → ToPlace macros last relay → AreRelays variables (macros ++ last ∷ []) (relays ++ relay ∷ [])
+  pub one_more : AreRelays variables macros relays → length relays ≡ length macros → ToPlace macros last relay
+      → AreRelays variables (macros ++ last ∷ []) (relays ++ relay ∷ [])
   one_more before long here = λ earlier one after is. at_end earlier one (end_of macros last earlier one after is)
     where
-      at_end : (earlier : List Macro) (one : Macro) → EndOf macros last earlier one → ToPlace earlier one (slice_index_or (relays ++ relay ∷ []) (length earlier) None)
+      at_end : (earlier : List Macro) (one : Macro) → EndOf macros last earlier one
+          → ToPlace earlier one (slice_index_or (relays ++ relay ∷ []) (length earlier) None)
       at_end earlier one (Last same is) =
           let place : length earlier ≡ length relays = ap length (sym same) ∙ sym long in
-          let found_last : relay ≡ slice_index_or (relays ++ relay ∷ []) (length earlier) None = sym (get_or-append_seam relays relay [] None) ∙ ap (λ n. slice_index_or (relays ++ relay ∷ []) n None) (sym place) in
+          let found_last : relay ≡ slice_index_or (relays ++ relay ∷ []) (length earlier) None = sym (get_or-append_seam relays relay [] None)
+          ∙ ap (λ n. slice_index_or (relays ++ relay ∷ []) n None) (sym place) in
           subst (λ (t : List Macro × (Macro × Option ℕ)). ToPlace t.0 t.1.0 t.1.1) (λ i. (same i, (is i, found_last i))) here
       at_end earlier one (Earlier rest is) =
           let fewer : length earlier < length relays = omega (arith, long, ap length is, length-append earlier (one ∷ rest)) in
           subst (ToPlace earlier one) (sym (get_or_append_left relays (relay ∷ []) None (length earlier) fewer)) (before earlier one rest is)
 
 -- the macros before one of them
-pub fewer_relays : (variables : List Name) (macros earlier : List Macro) (last : Macro) (after : List Macro) (relays : List (Option ℕ)) → macros ≡ earlier ++ last ∷ after
+pub fewer_relays : (variables : List Name) (macros earlier : List Macro) (last : Macro) (after : List Macro) (relays : List (Option ℕ))
+    → macros ≡ earlier ++ last ∷ after
     → AreRelays variables macros relays → AreRelays variables earlier relays
 fewer_relays variables macros earlier last after relays split all = λ first one rest is.
     all first one (rest ++ last ∷ after) (split ∙ ap (λ (ms : List Macro). ms ++ last ∷ after) is ∙ append_assoc first (one ∷ rest) (last ∷ after))
@@ -184,8 +196,10 @@ pub free_name : (m : Option Meaning) (f : Option PlainTruth) → is_some m ≡ f
 free_name None f none same = sym same
 free_name (Some m) f none same = absurd (true≢false none)
 
-pub relay_stands : (s : SightOfCode) (name : List ℕ) (last : Macro) (earlier : List Macro) → found (sight_of s).truths name ≡ None → IsNewest s.macros.now name last earlier
-    → AreRelays s.variables.now s.macros.now s.relays.now → (place : Option ℕ) → place ≡ slice_index_or s.relays.now (length earlier) None → IfSome place (IsRelayed (sight_of s) name)
+pub relay_stands : (s : SightOfCode) (name : List ℕ) (last : Macro) (earlier : List Macro) → found (sight_of s).truths name ≡ None
+    → IsNewest s.macros.now name last earlier
+    → AreRelays s.variables.now s.macros.now s.relays.now → (place : Option ℕ) → place ≡ slice_index_or s.relays.now (length earlier) None
+    → IfSome place (IsRelayed (sight_of s) name)
 relay_stands s name last earlier free newest relays None is = tt
 relay_stands s name last earlier free newest relays (Some j) is =
     let expansion = expansion_of (top_sight_of s.variables.now earlier) (plain_macro last) in
@@ -214,12 +228,15 @@ is_parameter parameters name arguments none (Some j) is = record {
 pub relay_defined : (names : List Binding) (variables : List Name) (macros : List Macro) (defined : Macro) (body : Prop) (q : PlainPropKind)
     → names_of names ≡ parameter_slots defined.parameters.items ++ declared_slots 0 variables → plain_body defined.body ≡ PropBody (plain_prop body)
     → StandAlike (record { slots = 0; truths = names_of names; macros = (top_sight_of variables macros).macros }) q (plain_prop_kind body.kind)
-    → (place : Option ℕ) → IfSome place (IsParameter defined.parameters.items q) → IsRelayTo place (expansion_of (top_sight_of variables macros) (plain_macro defined))
+    → (place : Option ℕ) → IfSome place (IsParameter defined.parameters.items q)
+    → IsRelayTo place (expansion_of (top_sight_of variables macros) (plain_macro defined))
 relay_defined names variables macros defined body q names_are is alike None parameter = tt
 relay_defined names variables macros defined body q names_are is alike (Some j) parameter =
     let top = top_sight_of variables macros in
     let parameters = defined.parameters.items in
     let truths : names_of names ≡ parameter_slots parameters ++ top.truths =
     names_are ∙ ap (λ others. parameter_slots parameters ++ others) (sym (top-truths variables macros)) in
-    let same = subst (λ (ts : List (List ℕ × PlainTruth)). StandAlike (record { slots = 0; truths = ts; macros = top.macros }) q (plain_prop_kind body.kind)) truths alike in
-    subst (λ (b : PlainMacroBody). IsRelay j (body_expansion top (texts parameters) b)) (sym is) (is_relay top parameters (plain_prop_kind body.kind) q j same parameter)
+    let same = subst (λ (ts : List (List ℕ × PlainTruth)). StandAlike (record { slots = 0; truths = ts; macros = top.macros }) q
+    (plain_prop_kind body.kind)) truths alike in
+    subst (λ (b : PlainMacroBody). IsRelay j (body_expansion top (texts parameters) b)) (sym is)
+    (is_relay top parameters (plain_prop_kind body.kind) q j same parameter)

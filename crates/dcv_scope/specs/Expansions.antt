@@ -1,5 +1,6 @@
 -- For the proofs alone: what the expansion has in sight, in the words of `CoreOf`.
-use Rattle.std.specs.Prelude.{◌≡◌, ℕ, suc, ◌+◌, ◌<◌, true, false, List, [], ◌∷◌, ◌++◌, Option, Some, None, map, length, if◌then◌else◌, slice_index_or}
+use Rattle.std.specs.Prelude.{◌≡◌, ℕ, suc, ◌+◌, ◌<◌, true, false, List, [], ◌∷◌, ◌++◌, Some, map, length, if◌then◌else◌}
+use Rattle.std.specs.Prelude.{Option, None, slice_index_or}
 use Rattle.dcv_syntax.specs.declared.names.Span.{Span}
 use Rattle.dcv_syntax.specs.declared.names.Name.{Name}
 use Rattle.dcv_syntax.specs.declared.files.Macro.{Macro}
@@ -47,7 +48,8 @@ sight_of s = record {
 
 -- what a relay stands for is its argument at place j, whatever the others are
 abbrev pub IsRelay : ℕ → Expansion → Type 0
-IsRelay j (PropExpansion c) = (before : List PlainTruth) → length before ≡ j → (one : PlainTruth) (after : List PlainTruth) → c (before ++ one ∷ after) ≡ one
+IsRelay j (PropExpansion c) =
+    (before : List PlainTruth) → length before ≡ j → (one : PlainTruth) (after : List PlainTruth) → c (before ++ one ∷ after) ≡ one
 IsRelay j (FormulaExpansion c) = ⊥
 
 -- a place is told of relays alone

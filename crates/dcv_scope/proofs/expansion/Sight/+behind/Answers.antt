@@ -11,5 +11,6 @@ returns-clause-alike t c =
     let argument = c.index.result.now in
     let within : c.in-Some.place < length c.in-Call.arguments.items = omega (arith, c.if-place-len.false, c.len.ensures) in
     let call = call_stands sight c.in-Call.name c.in-Call.arguments c.in-Some.place argument argument c.in-Some.ensures within c.index.ensures in
-    alike_in_turn sight (plain_prop_kind c.behind.result.now.kind) (plain_prop_kind argument.kind) (plain_prop_kind c.args.prop.now.kind) c.behind.ensures.alike
+    alike_in_turn sight (plain_prop_kind c.behind.result.now.kind) (plain_prop_kind argument.kind) (plain_prop_kind c.args.prop.now.kind)
+    c.behind.ensures.alike
     (subst (λ (kind : PropKind). StandAlike sight (plain_prop_kind argument.kind) (plain_prop_kind kind)) (sym c.in-Call.is) call)

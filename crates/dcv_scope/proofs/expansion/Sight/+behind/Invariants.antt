@@ -1,4 +1,3 @@
-use Rattle.std.proofs.Common.{ℕ}
 use Rattle.dcv_scope.proofs.expansion.Sight.+behind.Given as goal
 
 abbrev pub decreases-behind : goal.decreases-behind

@@ -1,4 +1,4 @@
-use Rattle.std.proofs.Common.{◌≡◌, Option, ℕ, length, sym, subst, rules, arith}
+use Rattle.std.proofs.Common.{◌≡◌, length, sym, subst, rules, arith}
 use Rattle.std.specs.Prelude.{IfSome}
 use Rattle.dcv_syntax.specs.declared.propositions.PropKind.{PropKind}
 use Rattle.dcv_syntax.specs.Views.{plain_prop_kind}

@@ -11,7 +11,10 @@ pub returns : goal.returns
 returns c =
     let variables = c.args.variables.now in
     let left = plain_prop_kind c.behind-behind.result.now.kind in
-    let names = c.in_ok-with_parameters.ensures ∙ ap (λ (parameters : List Name). parameter_slots parameters ++ declared_slots 0 variables) c.deref.ensures.value in
-    let parameter = subst (λ (parameters : List Name). IfSome c.parameter_at-relay.result (IsParameter parameters left)) c.deref-2.ensures.value c.parameter_at-relay.ensures in
-    relay_defined c.in_ok-with_parameters.field-0.items variables c.args.macros.now c.args.defined.now c.in-Prop.body left names (ap plain_body c.in-Prop.is) c.behind-behind.ensures.alike
+    let names = c.in_ok-with_parameters.ensures
+    ∙ ap (λ (parameters : List Name). parameter_slots parameters ++ declared_slots 0 variables) c.deref.ensures.value in
+    let parameter = subst (λ (parameters : List Name). IfSome c.parameter_at-relay.result (IsParameter parameters left)) c.deref-2.ensures.value
+    c.parameter_at-relay.ensures in
+    relay_defined c.in_ok-with_parameters.field-0.items variables c.args.macros.now c.args.defined.now c.in-Prop.body left names
+    (ap plain_body c.in-Prop.is) c.behind-behind.ensures.alike
     c.parameter_at-relay.result parameter
