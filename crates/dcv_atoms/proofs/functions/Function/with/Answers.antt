@@ -14,5 +14,5 @@ returns-in-Ok-clause-joins c P Q first second =
     let slots : new.slots ≡ other.slots = merged.kept.slots ∙ c.new-all.ensures.slots ∙ c.slots.ensures.slots in
     let means = subst (λ (function : FunctionValue). Means function.arena function.root other.slots P) (sym c.self.view_is) first in
     means_joined c.args.join own.arena other new own.root c.args.root root other.slots P Q means second merged.is_ref slots
-    (λ letter size. subst (λ join. value_of new root letter ≡ number_joined join (value_of own.arena own.root letter ∷ value_of other c.args.root letter ∷ [])) c.in-Ok.ensures.becomes
+    (λ letter size. subst (λ join. value_of new root letter ≡ number_joined join (value_of own.arena own.root letter ∷ value_of other c.args.root letter ∷ [])) c.in-Ok.ensures.goes_on.became
     (merged.value letter size))
