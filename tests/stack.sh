@@ -99,6 +99,10 @@ row 1 'not valid' 'a chain of 256 negations' 'var p;' "$(chain 256 'prop g@(a) a
 row 1 'not valid' 'a chain of 256 formulas' "$(chain 256 'define g@ as ' 'g@' 'define g0 as pt;')" 'infer g255;'
 row 1 'not valid' 'a chain of 256 stars' "$(chain 256 'define g@ as ' 'g@*' 'define g0 as pt;')" 'infer g255;'
 row 1 'not valid' 'a chain of 256 lists' "$(chain 256 'define g@ as ' 'pt&&g@' 'define g0 as pt;')" 'infer g255;'
+row 1 'not valid' 'a chain of two lists each' "$(chain 256 'define g@ as ' 'pt&&(pt||g@)' 'define g0 as pt;')" 'infer g255;'
+row 1 'not valid' 'a chain of two lists each in propositions' 'var p;' \
+  "$(chain 256 'prop g@(a) as ' 'p&&(p||g@(a))' 'prop g0(a) as a;')" 'infer [[g255(p)]];'
+row 1 'not valid' 'a chain with growing arguments' 'var p;' "$(chain 256 'prop g@(a) as ' '!g@(!a)' 'prop g0(a) as a;')" 'infer [[g255(p)]];'
 row 1 'not valid' 'a chain of 256 bodies in parentheses' "$(chain 256 'define g@ as ' "$open"'g@'"$close" 'define g0 as pt;')" 'infer g255;'
 row 3 'fault size at 232996' 'a chain of bodies with all lists' 'var p;' \
   "$(chain 40 'prop g@(a) as ' "$(times 496 '(p<=>p||p&&')g@(a)$(times 496 ')')" 'prop g0(a) as !a;')" 'infer [[g39(p)]];'
