@@ -1,14 +1,14 @@
-// Tests of `dcv_apply`: merges of several kinds, with functions whose tables were worked out by hand.
-ghost use Rattle.std.specs.Prelude.{◌≡◌, ◌≤◌, ◌<◌, ◌+◌, Bool, List, length, IfOk};
+// Tests of `dcv_apply`: merges of several kinds, with functions whose tables were worked out by hand. What a test looks at is made by a
+// function of its own, which builds, merges and gives back plain numbers: so a test carries no facts on arenas from call to call.
+ghost use Rattle.std.specs.Prelude.{◌≡◌, ◌≢◌, ◌≤◌, ℕ, Bool, List, Contains, length, IfOk};
 ghost use Rattle.std.specs.List.{All};
-ghost use Rattle.dcv_arena.specs.Arena.{IsRef, KeepsRefs, value_of};
+ghost use Rattle.dcv_arena.specs.Arena.{IsRef};
+ghost use Rattle.dcv_apply.specs.Memo.{EntryValue, KeepsOthers};
 ghost use Rattle.dcv_apply.specs.Operands.{IsOperand, numbers_at};
-ghost use Rattle.dcv_diagram_tests.specs.Bits.{IsFrom};
 
+use crate::builders::{parity, same, table, value};
 use dcv_apply::{ApplyFault, Memo, Merge, MergeFault, apply, apply_last};
 use dcv_arena::{Arena, ArenaFault, Ref};
-use dcv_letters::{LetterSearch, least_letters};
-use dcv_renumber::{Remapping, remap};
 use dcv_word::Letter;
 use indexmap::IndexSet;
 use std::alloc::Global;
@@ -144,65 +144,6 @@ impl Merge for Numbering {
     ghost goes_on = { λ first second third one other. tt };
 }
 
-// The value of a slot, as 0 or 1.
-fn value(arena: &mut Arena, slot: u8) -> Result<Ref, ArenaFault>
-    requires { slot < arena.old.slots }
-    ensures kept { KeepsRefs arena.old arena.new }
-    ensures is_ref { IfOk result (IsRef arena.new) }
-{
-    arena.node(slot, Ref::Leaf(0), Ref::Leaf(1))
-}
-
-// Whether slots 0 and 1 have one value.
-fn same(arena: &mut Arena) -> Result<Ref, ArenaFault>
-    requires { 2 ≤ arena.old.slots }
-    ensures kept { KeepsRefs arena.old arena.new }
-    ensures is_ref { IfOk result (IsRef arena.new) }
-{
-    let when_false = arena.node(1, Ref::Leaf(1), Ref::Leaf(0))?;
-    let when_true = arena.node(1, Ref::Leaf(0), Ref::Leaf(1))?;
-    arena.node(0, when_false, when_true)
-}
-
-// Whether the values of an odd number of slots are true.
-fn parity(arena: &mut Arena) -> Result<Ref, ArenaFault>
-    ensures kept { KeepsRefs arena.old arena.new }
-    ensures is_ref { IfOk result (IsRef arena.new) }
-    ensures bound { IfOk result (λ root. (letter : List Bool) → value_of arena.new root letter < 2) }
-{
-    let (mut even, mut odd) = (arena.leaf(0), arena.leaf(1));
-    for slot in (0..arena.slots()).rev() {
-        (even, odd) = flipped(arena, slot, even, odd)?;
-    }
-    Ok(even)
-}
-
-// The parity of the slots from this one on, and its negation, by those of the slots behind it.
-fn flipped(arena: &mut Arena, slot: u8, even: Ref, odd: Ref) -> Result<(Ref, Ref), ArenaFault>
-    requires slot { slot < arena.old.slots }
-    requires even { IsFrom arena.old (slot + 1) even }
-    requires odd { IsFrom arena.old (slot + 1) odd }
-    ensures kept { KeepsRefs arena.old arena.new }
-    ensures even { IfOk result (λ roots. IsFrom arena.new slot roots.0) }
-    ensures odd { IfOk result (λ roots. IsFrom arena.new slot roots.1) }
-{
-    let new_even = arena.node(slot, even, odd)?;
-    let new_odd = arena.node(slot, odd, even)?;
-    Ok((new_even, new_odd))
-}
-
-// The numbers of a function of three slots, in the letters' order.
-fn table(arena: &Arena, root: Ref) -> [u32; 8]
-    requires slots { arena.now.slots ≡ 3 }
-    requires root { IsRef arena.now root }
-{
-    let mut numbers = [0; 8];
-    for bits in 0..8u32 {
-        numbers[bits as usize] = arena.eval(root, &Letter::new(3, bits));
-    }
-    numbers
-}
-
 // Two operands: the value of slot 0, and that of slot 2.
 fn two(first: &mut Arena, second: &mut Arena) -> Result<[(u32, Ref); 2], ArenaFault>
     requires first { first.old.slots ≡ 3 }
@@ -246,53 +187,88 @@ fn merged<G: Merge>(
     Ok(table(&arena, root))
 }
 
+// What the two operands are merged into.
+fn two_merged<G: Merge>(alloc: Global, merge: &mut G) -> Result<[u32; 8], ApplyFault>
+    requires { (numbers : List ℕ) → G.may merge.old numbers }
+{
+    let mut first = Arena::new(alloc, 3, 100);
+    let mut second = Arena::new(alloc, 3, 100);
+    let operands = two(&mut first, &mut second)?;
+    merged(alloc, &first, &second, &operands, merge)
+}
+
+// What the five operands are merged into.
+fn five_merged<G: Merge>(alloc: Global, merge: &mut G) -> Result<[u32; 8], ApplyFault>
+    requires { (numbers : List ℕ) → G.may merge.old numbers }
+{
+    let mut first = Arena::new(alloc, 3, 100);
+    let mut second = Arena::new(alloc, 3, 100);
+    let operands = five(&mut first, &mut second)?;
+    merged(alloc, &first, &second, &operands, merge)
+}
+
 #[test]
 fn two_operands(rt: HostRuntime) -> Result<(), Fail> {
     let alloc = rt.alloc();
-    let mut first = Arena::new(alloc, 3, 100);
-    let mut second = Arena::new(alloc, 3, 100);
-    let two = two(&mut first, &mut second)?;
-    let numbers = merged(alloc, &first, &second, &two, &mut Conjunction)?;
+    let numbers = two_merged(alloc, &mut Conjunction)?;
     assert_eq!(rt; numbers, [0, 0, 0, 0, 0, 1, 0, 1]);
+    let numbers = two_merged(alloc, &mut Digits)?;
+    assert_eq!(rt; numbers, [0, 1, 0, 1, 10, 11, 10, 11]);
+    Ok(())
+}
+
+// Slot 1 is passed over, so there is a call for each value of two slots.
+#[test]
+fn sum_of_two_operands(rt: HostRuntime) -> Result<(), Fail> {
     let mut sum = Sum {
         calls: 0,
         limit: 100,
     };
-    let numbers = merged(alloc, &first, &second, &two, &mut sum)?;
+    let numbers = two_merged(rt.alloc(), &mut sum)?;
     assert_eq!(rt; numbers, [0, 1, 0, 1, 1, 2, 1, 2]);
-    // Slot 1 is passed over, so there is a call for each value of two slots.
     assert_eq!(rt; sum.calls, 4);
-    let numbers = merged(alloc, &first, &second, &two, &mut Digits)?;
-    assert_eq!(rt; numbers, [0, 1, 0, 1, 10, 11, 10, 11]);
     Ok(())
 }
 
 #[test]
 fn five_operands(rt: HostRuntime) -> Result<(), Fail> {
     let alloc = rt.alloc();
-    let mut first = Arena::new(alloc, 3, 100);
-    let mut second = Arena::new(alloc, 3, 100);
-    let five = five(&mut first, &mut second)?;
-    let numbers = merged(alloc, &first, &second, &five, &mut Conjunction)?;
+    let numbers = five_merged(alloc, &mut Conjunction)?;
     assert_eq!(rt; numbers, [0, 0, 0, 0, 0, 0, 0, 1]);
-    let mut sum = Sum {
-        calls: 0,
-        limit: 100,
-    };
-    let numbers = merged(alloc, &first, &second, &five, &mut sum)?;
-    assert_eq!(rt; numbers, [1, 2, 1, 2, 2, 3, 4, 5]);
-    assert_eq!(rt; sum.calls, 8);
     let mut numbering = Numbering {
         seen: IndexSet::new(alloc),
     };
-    let numbers = merged(alloc, &first, &second, &five, &mut numbering)?;
+    let numbers = five_merged(alloc, &mut numbering)?;
     assert_eq!(rt; numbers, [0, 1, 0, 1, 1, 2, 3, 4]);
     Ok(())
 }
 
 #[test]
-fn last_slot(rt: HostRuntime) -> Result<(), Fail> {
-    let alloc = rt.alloc();
+fn sum_of_five_operands(rt: HostRuntime) -> Result<(), Fail> {
+    let mut sum = Sum {
+        calls: 0,
+        limit: 100,
+    };
+    let numbers = five_merged(rt.alloc(), &mut sum)?;
+    assert_eq!(rt; numbers, [1, 2, 1, 2, 2, 3, 4, 5]);
+    assert_eq!(rt; sum.calls, 8);
+    Ok(())
+}
+
+// The numbers of a function of two slots, in the letters' order.
+fn table_of_two(arena: &Arena, root: Ref) -> [u32; 4]
+    requires slots { arena.now.slots ≡ 2 }
+    requires root { IsRef arena.now root }
+{
+    let mut numbers = [0; 4];
+    for bits in 0..4u32 {
+        numbers[bits as usize] = arena.eval(root, &Letter::new(2, bits));
+    }
+    numbers
+}
+
+// The digits of the values of slots 2 and 0, with slot 2 merged too, and how many nodes they have.
+fn last_merged(alloc: Global) -> Result<([u32; 4], u32), ApplyFault> {
     let mut first = Arena::new(alloc, 3, 100);
     let p = value(&mut first, 0)?;
     let r = value(&mut first, 2)?;
@@ -309,11 +285,13 @@ fn last_slot(rt: HostRuntime) -> Result<(), Fail> {
         &mut memo,
         0,
     )?;
-    // Both numbers where slot 2 is false, and then both where it is true.
-    for (letter, number) in [(0b00, 10), (0b01, 10), (0b10, 111), (0b11, 111)] {
-        assert_eq!(rt; arena.eval(root, &Letter::new(2, letter)), number);
-    }
-    assert_eq!(rt; arena.len(), 1);
+    Ok((table_of_two(&arena, root), arena.len()))
+}
+
+// Both numbers where slot 2 is false, and then both where it is true.
+#[test]
+fn last_slot(rt: HostRuntime) -> Result<(), Fail> {
+    assert_eq!(rt; last_merged(rt.alloc())?, ([10, 10, 111, 111], 1));
     Ok(())
 }
 
@@ -410,44 +388,46 @@ fn what_two_were_merged_into_is_remembered(rt: HostRuntime) -> Result<(), Fail> 
     Ok(())
 }
 
-#[test]
-fn rounds_are_kept_apart(rt: HostRuntime) -> Result<(), Fail> {
-    let alloc = rt.alloc();
+// What the two operands are merged into in a round of which the memo has no entry.
+fn two_in_round<G: Merge>(
+    alloc: Global,
+    merge: &mut G,
+    memo: &mut Memo,
+    round: u32,
+) -> Result<[u32; 8], ApplyFault>
+    requires may { (numbers : List ℕ) → G.may merge.old numbers }
+    requires none { (entry : EntryValue) → Contains memo.old.entries entry → entry.round ≢ round }
+    ensures { KeepsOthers round memo.old memo.new }
+{
     let mut first = Arena::new(alloc, 3, 100);
     let mut second = Arena::new(alloc, 3, 100);
-    let two = two(&mut first, &mut second)?;
+    let operands = two(&mut first, &mut second)?;
     let mut arena = Arena::new(alloc, 3, 100);
+    let root = apply(
+        alloc, &mut arena, &first, &second, &operands, merge, memo, round,
+    )?;
+    Ok(table(&arena, root))
+}
+
+// What two rounds of one memo make of the same operands, and how many entries there are then.
+fn in_two_rounds(alloc: Global) -> Result<([u32; 8], [u32; 8], usize), ApplyFault> {
     let mut memo = Memo::new(alloc, 100)?;
-    let least = apply(
-        alloc,
-        &mut arena,
-        &first,
-        &second,
-        &two,
-        &mut Conjunction,
-        &mut memo,
-        0,
-    )?;
-    let digits = apply(
-        alloc,
-        &mut arena,
-        &first,
-        &second,
-        &two,
-        &mut Digits,
-        &mut memo,
-        1,
-    )?;
-    assert_eq!(rt; table(&arena, least), [0, 0, 0, 0, 0, 1, 0, 1]);
-    assert_eq!(rt; table(&arena, digits), [0, 1, 0, 1, 10, 11, 10, 11]);
-    // Each round has an entry for both operands at slot 0, and one for each of the two sides.
-    assert_eq!(rt; memo.len(), 6);
+    let least = two_in_round(alloc, &mut Conjunction, &mut memo, 0)?;
+    let digits = two_in_round(alloc, &mut Digits, &mut memo, 1)?;
+    Ok((least, digits, memo.len()))
+}
+
+// Each round has an entry for both operands at slot 0, and one for each of the two sides.
+#[test]
+fn rounds_are_kept_apart(rt: HostRuntime) -> Result<(), Fail> {
+    let least = [0, 0, 0, 0, 0, 1, 0, 1];
+    let digits = [0, 1, 0, 1, 10, 11, 10, 11];
+    assert_eq!(rt; in_two_rounds(rt.alloc())?, (least, digits, 6));
     Ok(())
 }
 
-#[test]
-fn too_many_states(rt: HostRuntime) -> Result<(), Fail> {
-    let alloc = rt.alloc();
+// The fault of a merge that may give two numbers, and what the parity means then that the arena had before.
+fn refused(alloc: Global) -> Result<(Option<ApplyFault>, [u32; 8]), ApplyFault> {
     let mut arena = Arena::new(alloc, 3, 100);
     let before = parity(&mut arena)?;
     let mut first = Arena::new(alloc, 3, 100);
@@ -464,74 +444,26 @@ fn too_many_states(rt: HostRuntime) -> Result<(), Fail> {
         &mut memo,
         0,
     );
-    assert_eq!(rt; result, Err(ApplyFault::States { limit: 2 }));
-    assert_eq!(rt; table(&arena, before), [0, 1, 1, 0, 1, 0, 0, 1]);
+    Ok((result.err(), table(&arena, before)))
+}
+
+#[test]
+fn too_many_states(rt: HostRuntime) -> Result<(), Fail> {
+    let fault = ApplyFault::States { limit: 2 };
     assert_eq!(rt;
-        format!(in alloc; "{}", ApplyFault::States { limit: 2 })?.as_str(),
+        refused(rt.alloc())?,
+        (Some(fault), [0, 1, 1, 0, 1, 0, 0, 1])
+    );
+    assert_eq!(rt;
+        format!(in rt.alloc(); "{fault}")?.as_str(),
         "there are more than 2 states"
     );
     Ok(())
 }
 
-#[test]
-fn renumbered(rt: HostRuntime) -> Result<(), Fail> {
-    let alloc = rt.alloc();
-    let mut first = Arena::new(alloc, 3, 100);
-    let root = first.node(2, Ref::Leaf(0), Ref::Leaf(1))?;
-    let mut arena = Arena::new(alloc, 3, 100);
-    let new = remap(alloc, &mut arena, &first, root, &[5, 7])?;
-    assert_eq!(rt; table(&arena, new), [5, 7, 5, 7, 5, 7, 5, 7]);
-    // The two numbers become one, and so the function a leaf.
-    let mut remapping = Remapping::new(alloc, &first, &[6, 6]);
-    assert_eq!(rt; remapping.remap(&mut arena, root)?, Ref::Leaf(6));
-    // The next round goes by a list of its own, and knows nothing of what became of places before.
-    let mut turned = Remapping::over(remapping.into_places(), &first, &[7, 5]);
-    let new = turned.remap(&mut arena, root)?;
-    assert_eq!(rt; table(&arena, new), [7, 5, 7, 5, 7, 5, 7, 5]);
-    Ok(())
-}
-
-// The second function is 1 where slot 0 is false, which was found already, and 2 where it is true.
-#[test]
-fn first_letters(rt: HostRuntime) -> Result<(), Fail> {
-    let alloc = rt.alloc();
-    let mut arena = Arena::new(alloc, 4, 100);
-    let odd = parity(&mut arena)?;
-    let second = arena.node(0, Ref::Leaf(1), Ref::Leaf(2))?;
-    let expected = [
-        (0, Letter::new(4, 0b0000)),
-        (1, Letter::new(4, 0b0001)),
-        (2, Letter::new(4, 0b1000)),
-    ];
-    let found = least_letters(alloc, &arena, odd)?;
-    assert_eq!(rt; found.as_slice(), &expected[..2]);
-    let mut letters = LetterSearch::new(alloc, &arena);
-    letters.search(odd)?;
-    letters.search(second)?;
-    assert_eq!(rt; letters.found(), expected.as_slice());
-    Ok(())
-}
-
-// What was walked or merged once is not gone through again, so 2 ^ 32 letters are no trouble.
+// What was merged once is not gone through again, so 2 ^ 32 letters are no trouble.
 #[test]
 fn thirty_two_slots(rt: HostRuntime) -> Result<(), Fail> {
-    let alloc = rt.alloc();
-    let mut arena = Arena::new(alloc, 32, 100);
-    let root = parity(&mut arena)?;
-    assert_eq!(rt; least_letters(alloc, &arena, root)?.len(), 2);
-    assert_eq!(rt; parity_merged(alloc, 1, 32, 100, 4)?, (4, 63, 63));
-    Ok(())
-}
-
-// Each node is renumbered once, so this takes no longer than 63 nodes ask for. The letter has one slot that is true.
-#[test]
-fn thirty_two_slots_renumbered(rt: HostRuntime) -> Result<(), Fail> {
-    let alloc = rt.alloc();
-    let mut arena = Arena::new(alloc, 32, 100);
-    let root = parity(&mut arena)?;
-    let mut results = Arena::new(alloc, 32, 100);
-    let new = remap(alloc, &mut results, &arena, root, &[7, 5])?;
-    assert_eq!(rt; results.len(), 63);
-    assert_eq!(rt; results.eval(new, &Letter::new(32, 1)), 5);
+    assert_eq!(rt; parity_merged(rt.alloc(), 1, 32, 100, 4)?, (4, 63, 63));
     Ok(())
 }

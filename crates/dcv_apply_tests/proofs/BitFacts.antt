@@ -3,7 +3,7 @@ use Rattle.std.proofs.Common.{◌≡◌, ℕ, ◌+◌, ◌<◌, ◌≤◌, Bool,
 use Rattle.dcv_arena.specs.Arena.{ArenaValue, IsRef, level_of, value_of, KeepsRefs}
 use Rattle.dcv_arena.specs.declared.nodes.Ref.{Ref}
 use Rattle.dcv_arena.specs.declared.faults.ArenaFault.{ArenaFault}
-use Rattle.dcv_diagram_tests.specs.Bits.{IsFrom}
+use Rattle.dcv_apply_tests.specs.Bits.{IsFrom}
 
 pub small : (side : Bool) (number hi lo : ℕ) → number ≡ cond side hi lo → hi < 2 → lo < 2 → number < 2
 small true number hi lo e h l = omega arith

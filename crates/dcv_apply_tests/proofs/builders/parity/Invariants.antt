@@ -1,7 +1,7 @@
 use Rattle.std.proofs.Common.{◌≤◌}
 use Rattle.dcv_arena.specs.Arena.{KeepsRefs}
-use Rattle.dcv_diagram_tests.specs.Bits.{IsFrom}
-use Rattle.dcv_diagram_tests.proofs.apply.parity.Given as goal
+use Rattle.dcv_apply_tests.specs.Bits.{IsFrom}
+use Rattle.dcv_apply_tests.proofs.builders.parity.Given as goal
 
 abbrev pub invariant-loop-slot : goal.invariant-loop-slot
 invariant-loop-slot l = record {

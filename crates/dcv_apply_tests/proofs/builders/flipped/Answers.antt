@@ -1,5 +1,5 @@
-use Rattle.dcv_diagram_tests.proofs.BitFacts.{node_from, kept_from}
-use Rattle.dcv_diagram_tests.proofs.apply.flipped.Goals as goal
+use Rattle.dcv_apply_tests.proofs.BitFacts.{node_from, kept_from}
+use Rattle.dcv_apply_tests.proofs.builders.flipped.Goals as goal
 
 pub returns-clause-even : goal.returns-clause-even
 returns-clause-even c =

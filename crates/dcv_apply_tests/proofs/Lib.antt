@@ -1,0 +1,2 @@
+mod BitFacts
+mod MemoFacts
