@@ -14,7 +14,7 @@ use Rattle.dcv_syntax.specs.Plain.{PlainPropKind, PropCall, arguments_of, PlainM
 use Rattle.dcv_syntax.specs.Views.{plain_prop_kind, plain_prop, plain_body, plain_macro}
 use Rattle.dcv_syntax.proofs.PlainRows.{plain_call}
 use Rattle.dcv_logic.specs.Environment.{found}
-use Rattle.dcv_logic.specs.Scope.{IsNewest}
+use Rattle.dcv_logic.specs.Newest.{IsNewest}
 use Rattle.dcv_scope.specs.declared.expansion.Meaning.{Meaning}
 use Rattle.dcv_scope.specs.declared.expansion.Binding.{Binding}
 use Rattle.dcv_scope.specs.declared.expansion.Sight.{Sight as SightOfCode}

@@ -1,5 +1,5 @@
 -- For the proofs alone: what the expansion has in sight, in the words of `CoreOf`.
-use Rattle.std.specs.Prelude.{◌≡◌, ℕ, suc, ◌+◌, ◌<◌, true, false, List, [], ◌∷◌, ◌++◌, Some, map, length, if◌then◌else◌}
+use Rattle.std.specs.Prelude.{◌≡◌, ℕ, ◌+◌, ◌<◌, true, false, List, [], ◌∷◌, ◌++◌, Some, map, length, if◌then◌else◌}
 use Rattle.std.specs.Prelude.{Option, None, slice_index_or}
 use Rattle.dcv_syntax.specs.declared.names.Span.{Span}
 use Rattle.dcv_syntax.specs.declared.names.Name.{Name}

@@ -8,7 +8,8 @@ ghost use Rattle.dcv_scope.specs.CoreOf.{expansion_of, declared_slots};
 ghost use Rattle.dcv_scope.specs.Expansions.{names_of, sight_of, top_sight_of, IsRelay, IsRelayTo, AreRelays, IsRelayed, StandAlike};
 ghost use Rattle.dcv_scope.specs.Expansions.{parameter_slots, places_from, IsParameter};
 
-use super::{Binding, Meaning, Sight, newest, with_variables};
+use super::{Binding, Meaning, Sight, with_variables};
+use dcv_logic::newest;
 use dcv_syntax::{Macro, MacroBody, Name, Prop, PropKind, Text};
 use std::alloc::{AllocError, Global};
 
