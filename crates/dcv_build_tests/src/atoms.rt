@@ -17,7 +17,7 @@ struct Counts {
 }
 
 // The machine of a core's first step, where that is an atom.
-fn atom_of<'a>(
+pub(crate) fn atom_of<'a>(
     alloc: Global,
     core: &'a Core,
     nodes: u32,

@@ -15,4 +15,6 @@ mod machines;
 #[cfg(test)]
 mod meanings;
 #[cfg(test)]
+mod memos;
+#[cfg(test)]
 mod verdicts;

@@ -1,12 +1,13 @@
-// The automaton of each form accepts the behaviours on which the plain evaluator finds that the form holds, up to four instants.
-ghost use Rattle.std.specs.Prelude.{◌≡◌, IfOk};
+// The automaton of each form accepts the behaviours on which the plain evaluator finds that the form holds: up to four instants of one
+// variable, and up to two of two and of three, so that each slot has truths of its own.
+ghost use Rattle.std.specs.Prelude.{◌≡◌, ◌≤◌, length, IfOk};
 
 use crate::goals::{LIMITS, core_of_file, file_of};
 use dcv_build::build;
 use dcv_dfa::Auto;
 use dcv_logic::holds;
 use dcv_syntax::File;
-use dcv_word::{Letter, Word};
+use dcv_word::{Letter, Word, read_trace_line};
 use std::alloc::{AllocError, Global};
 use std::fmt::Write;
 use std::test::Fail;
@@ -195,6 +196,121 @@ const MACROS: [&str; 8] = [
 fn macros(rt: HostRuntime) -> Result<(), Fail> {
     for text in MACROS {
         assert_eq!(rt; differences_of(rt.alloc(), text)?.as_str(), "", "{text}");
+    }
+    Ok(())
+}
+
+// ---- several variables
+
+// The letters of two variables, and of three.
+const OF_TWO: [&str; 4] = ["00", "01", "10", "11"];
+
+const OF_THREE: [&str; 8] = ["000", "001", "010", "011", "100", "101", "110", "111"];
+
+// The behaviour with these letters.
+fn word_of(alloc: Global, width: u8, lines: &[&str]) -> Result<Word, Fail>
+    requires { width ≤ 32 }
+    ensures { IfOk result (λ word. word.width ≡ width) }
+{
+    let mut word = Word::new(alloc, width);
+    for line in lines {
+        word.push(letter_of(line, width)?)?;
+    }
+    Ok(word)
+}
+
+// One of its letters.
+fn letter_of(line: &str, width: u8) -> Result<Letter, Fail>
+    requires { width ≤ 32 }
+    ensures { IfOk result (λ letter. length letter ≡ width) }
+{
+    if line.len() > 32 {
+        return Err(Fail::new("a letter has more than 32 values"));
+    }
+    let letter = read_trace_line(line.as_bytes(), width)?;
+    Ok(letter)
+}
+
+// Whether the automaton of a file says the same of the behaviour as the evaluator.
+fn agrees(alloc: Global, file: &File, auto: &Auto, width: u8, lines: &[&str]) -> Result<bool, Fail>
+    requires { width ≤ 32 }
+{
+    let word = word_of(alloc, width, lines)?;
+    Ok(accepts(auto, &word)? == holds(alloc, file, &word)?)
+}
+
+// Whether it says the same of a letter, and of it with each further one.
+fn agrees_after(
+    alloc: Global,
+    file: &File,
+    auto: &Auto,
+    letters: &[&str],
+    first: &str,
+) -> Result<bool, Fail> {
+    let width = auto.slots().min(32);
+    let mut same = agrees(alloc, file, auto, width, &[first])?;
+    for second in letters {
+        same = same && agrees(alloc, file, auto, width, &[first, second])?;
+    }
+    Ok(same)
+}
+
+// Whether it says the same of each behaviour of one or two of these letters.
+fn agrees_on(alloc: Global, file: &File, letters: &[&str]) -> Result<bool, Fail> {
+    let core = core_of_file(alloc, file)?;
+    let auto = build(alloc, &core, LIMITS)?;
+    let mut same = true;
+    for first in letters {
+        same = same && agrees_after(alloc, file, &auto, letters, first)?;
+    }
+    Ok(same)
+}
+
+// The same of a text.
+fn text_agrees(alloc: Global, text: &str, letters: &[&str]) -> Result<bool, Fail> {
+    let file = file_of(alloc, text)?;
+    let same = agrees_on(alloc, &file, letters);
+    // for the prover, as above
+    drop(file);
+    same
+}
+
+// Goals that tell two declared variables apart, and a quantified one from both.
+const OVER_TWO: [&str; 8] = [
+    "<p && !q>",
+    "[p] ^ <q>",
+    "{{q}} ^ <!p>",
+    "scount p > 0 && sdur q = 0",
+    "ex p. [[p <=> q]]",
+    "ex q. [q] ^ <!q && p>",
+    "all r. (<r> => <q>)",
+    "([[p]] ^ [[!q]])*",
+];
+
+#[test]
+fn two_variables(rt: HostRuntime) -> Result<(), Fail> {
+    let alloc = rt.alloc();
+    for goal in OVER_TWO {
+        let text = format!(in alloc; "var p, q; infer {goal};")?;
+        assert!(rt; text_agrees(alloc, &text, &OF_TWO)?, "{goal}");
+    }
+    Ok(())
+}
+
+// The same of three.
+const OVER_THREE: [&str; 4] = [
+    "<p && !q> ^ <r>",
+    "[r] ^ <q> || [[p]]",
+    "ex q. <>{{q && r}} && true ^ <!q || p>",
+    "sdur r = 1 <=> scount q = 1",
+];
+
+#[test]
+fn three_variables(rt: HostRuntime) -> Result<(), Fail> {
+    let alloc = rt.alloc();
+    for goal in OVER_THREE {
+        let text = format!(in alloc; "var p, q, r; infer {goal};")?;
+        assert!(rt; text_agrees(alloc, &text, &OF_THREE)?, "{goal}");
     }
     Ok(())
 }
