@@ -38,7 +38,7 @@ use Rattle.dcv_cli.specs.Refusal.{most_bytes, Which, Only, message_of, status_of
 use Rattle.dcv_command.specs.Request.{Request, Check, Automaton, file_in, limits_in}
 use Rattle.dcv_cli.specs.Request.{AsksFor}
 use Rattle.dcv_print.specs.Printed.{texts_of}
-use Rattle.dcv_cli.specs.Right.{Fulfils, Misused, Fulfilled}
+use Rattle.dcv_cli.specs.Right.{Fulfils, IsRight, Misused, Fulfilled}
 use Rattle.dcv_cli.specs.Status.{status_of_verdict}
 
 -- outcomes that are the same agree
