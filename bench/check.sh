@@ -51,7 +51,8 @@
 # With COMMAND=automaton, the least of three runs on the day: the examples as above, slen 9999 23.8 ms and 5.2 MB, scount 9999 45.0 ms and 7.7 MB,
 # product 150 134.6 ms and 13.5 MB, m14 89.8 ms and 4.1 MB.
 #
-# `gas_burner` takes 126.5 million instructions and `product 150` 330.9 million. A day before they took 158.7 and 492 million, and 24.8 and 90.3 ms.
+# `gas_burner` takes 125.6 million instructions and `product 150` 325.4 million (callgrind, `check`). Before memos of pairs they took 158.7 and 492
+# million, and 24.8 and 90.3 ms. With COMMAND=automaton `product 150` takes 801.3 million.
 #
 # A count that is written out as positions, as bench/to_mona.py does, is no fair question for MONA: `product 50` took it 28 s and 334 MB.
 set -euo pipefail
