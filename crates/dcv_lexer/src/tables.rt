@@ -1,0 +1,59 @@
+// What a language is written with, and the classes of its tokens.
+ghost use Rattle.std.specs.Prelude.{◌≡◌, map, IsTrue};
+ghost use Rattle.dcv_lexer.specs.Lexicon.{class_in};
+
+/// What a language is written with. Each token has a class, a number for which the crate above has a name.
+#[derive(Clone, Copy, Debug)]
+pub struct Lexicon<'a> {
+    /// Each symbol with its class, the longer ones first.
+    pub symbols: &'a [(&'a [u8], u8)],
+    /// Each reserved word with its class.
+    pub words: &'a [(&'a [u8], u8)],
+    /// The class of a word that is not reserved.
+    pub name: u8,
+    /// The class of a number.
+    pub number: u8,
+    /// The class of what is no token.
+    pub unknown: u8,
+    /// Whether `//` and what stands behind it in its line is a comment. If not, it is nothing.
+    pub comments: bool,
+}
+
+// The class that a table has for a text.
+fn class_in(table: &[(&[u8], u8)], bytes: &[u8]) -> Option<u8>
+    ensures { result ≡ class_in (map (λ entry. (entry.0.now, entry.1)) table.now) bytes.now }
+{
+    for (text, class) in table {
+        if bytes == *text {
+            return Some(*class);
+        }
+    }
+    None
+}
+
+impl Lexicon<'_> {
+    ghost use Rattle.dcv_lexer.specs.Lexicon.{lexicon_of, is_token, word_class, class_of, is_orderly};
+
+    /// The class of a word.
+    pub fn word_class(&self, bytes: &[u8]) -> u8
+        ensures { result ≡ word_class (lexicon_of self.now) bytes.now }
+    {
+        class_in(self.words, bytes).unwrap_or(self.name)
+    }
+
+    /// The class of a token.
+    pub fn class_of(&self, bytes: &[u8]) -> u8
+        requires orderly { IsTrue (is_orderly (lexicon_of self.now)) }
+        requires token { IsTrue (is_token (lexicon_of self.now) bytes.now) }
+        ensures { result ≡ class_of (lexicon_of self.now) bytes.now }
+    {
+        let first = bytes[0];
+        if first.is_ascii_alphabetic() {
+            self.word_class(bytes)
+        } else if first.is_ascii_digit() {
+            self.number
+        } else {
+            class_in(self.symbols, bytes).unwrap_or(self.unknown)
+        }
+    }
+}

@@ -1,0 +1,2 @@
+//! What the texts of observers share below their trees.
+#![tactic(auto)]
