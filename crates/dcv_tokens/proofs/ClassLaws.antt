@@ -1,17 +1,22 @@
 -- Which tokens have the class of names, and which that of numbers.
-use Rattle.std.proofs.Common.{◌==◌, ◌≡◌, ℕ, ◌<◌, ◌≤◌, Bool, true, not, ◌&&◌, ◌||◌, nat_lt, List, [], ◌∷◌, map, Option, Some, None, IsTrue, ◌⊎◌, inl, inr, refl, sym, ap, ◌∙◌, arith}
+use Rattle.std.proofs.Common.{◌==◌, ◌≡◌, ℕ, ◌<◌, ◌≤◌, Bool, true, false, not, ◌&&◌, ◌||◌, nat_lt, List, [], ◌∷◌, map, Option, Some, None, IsTrue, ◌⊎◌, inl, inr, refl, sym, ap, ◌∙◌, arith}
 use Rattle.std.specs.Prelude.{unwrap_or, if◌then◌else◌}
 use Rattle.std.specs.List.{list_all}
 use Rattle.std.specs.Str.{bytes_eq}
 use Rattle.std.specs.Char.{is_ascii_alphabetic, is_ascii_digit}
 use Rattle.std.proofs.lemmas.Slice.Eq.{bytes_eq-Decides}
-use Rattle.std.proofs.lemmas.Bool.{eqb-false, cases_Bool, and_parts, and_from, or_cases, or_right, false≢true, both_ways, not-true, ltb-true}
-use Rattle.dcv_tokens.specs.Tokens.{is_one_of, symbols, reserved_words, is_word_byte, is_word, is_number, is_symbol, is_name, is_token}
-use Rattle.dcv_tokens.specs.Classes.{name, number, fixed_texts, class_in, class_of}
-use Rattle.dcv_tokens.proofs.FirstBytes.{one_of_passes, letter_above, digit_within}
+use Rattle.std.proofs.lemmas.Bool.{false_from_ne_true, and_left, eqb-false, cases_Bool, and_parts, and_from, or_cases, or_right, false≢true, both_ways, not-true, ltb-true}
+use Rattle.dcv_lexer.specs.Lexicon.{texts_of, word_class, symbol_class}
+use Rattle.dcv_lexer.proofs.Fronts.{digit_is_no_letter}
+use Rattle.dcv_tokens.specs.Formulas.{fixed_symbols, fixed_words, formulas}
+use Rattle.dcv_tokens.specs.Tokens.{is_one_of, reserved_words, is_word_byte, is_word, is_number, is_name, is_token}
+use Rattle.dcv_tokens.specs.Classes.{name, number, unknown, fixed_texts, class_in, class_of}
 
-abbrev texts_of : List (List ℕ × ℕ) → List (List ℕ)
-texts_of table = map (λ entry. entry.0) table
+abbrev class_of_word : List ℕ → ℕ
+class_of_word = word_class formulas
+
+abbrev class_of_symbol : List ℕ → ℕ
+class_of_symbol = symbol_class formulas
 
 -- ---- a table
 
@@ -43,105 +48,103 @@ class_there (entry ∷ table) bytes found none = elim (cases_Bool (bytes_eq byte
   | inr other ↦ class_there table bytes (rw other at found) (rw other at none)
 ]
 
--- ---- the table of symbols and reserved words
+-- ---- the tables of symbols and of reserved words
 
-symbols_there : (bytes : List ℕ) → is_symbol bytes ≡ true → is_one_of (texts_of fixed_texts) bytes ≡ true
-unfolding symbols fixed_texts
-symbols_there bytes found = one_of_passes symbols (is_one_of (texts_of fixed_texts)) bytes refl found
+symbol_below : (bytes : List ℕ) (class : ℕ) → class_in fixed_symbols bytes ≡ Some class → class < name
+unfolding fixed_symbols
+symbol_below bytes class is = ltb-true class 39 (class_passes fixed_symbols (λ c. nat_lt c 39) bytes class refl is)
 
-reserved_there : (bytes : List ℕ) → is_one_of reserved_words bytes ≡ true → is_one_of (texts_of fixed_texts) bytes ≡ true
-unfolding reserved_words fixed_texts
-reserved_there bytes found = one_of_passes reserved_words (is_one_of (texts_of fixed_texts)) bytes refl found
+word_below : (bytes : List ℕ) (class : ℕ) → class_in fixed_words bytes ≡ Some class → class < name
+unfolding fixed_words
+word_below bytes class is = ltb-true class 39 (class_passes fixed_words (λ c. nat_lt c 39) bytes class refl is)
 
--- a fixed text is reserved if it is a word, and no number
-abbrev is_fixed_right : List ℕ → Bool
-is_fixed_right text = (not (is_word text) || is_one_of reserved_words text) && not (is_number text)
+reserved_there : (bytes : List ℕ) (class : ℕ) → class_in fixed_words bytes ≡ Some class → is_one_of reserved_words bytes ≡ true
+unfolding fixed_words reserved_words
+reserved_there bytes class is = text_there fixed_words bytes class is
 
-fixed_right : (bytes : List ℕ) → is_one_of (texts_of fixed_texts) bytes ≡ true → is_fixed_right bytes ≡ true
-unfolding fixed_texts reserved_words
-fixed_right bytes found = one_of_passes (texts_of fixed_texts) is_fixed_right bytes refl found
+not_reserved : (bytes : List ℕ) → class_in fixed_words bytes ≡ None → is_one_of reserved_words bytes ≡ false
+unfolding fixed_words reserved_words
+not_reserved bytes none = false_from_ne_true (is_one_of reserved_words bytes) (λ found. class_there fixed_words bytes found none)
 
-fixed_below : (bytes : List ℕ) (class : ℕ) → class_in fixed_texts bytes ≡ Some class → class < name
-unfolding fixed_texts
-fixed_below bytes class is = ltb-true class 39 (class_passes fixed_texts (λ c. nat_lt c 39) bytes class refl is)
-
--- ---- names and numbers
+-- ---- classes of a kind
 
 some_or_none : {X : Type 0} (o : Option X) → ((x : X) × (o ≡ Some x)) ⊎ (o ≡ None)
 some_or_none None = inr refl
 some_or_none (Some x) = inl (x, refl)
 
--- a class that no fixed text has
-not_fixed : (bytes : List ℕ) → name ≤ class_of bytes → class_in fixed_texts bytes ≡ None
-not_fixed bytes high = elim (some_or_none (class_in fixed_texts bytes)) [
+-- a word's class is that of names where it is not reserved, and else less
+word_class_is : (bytes : List ℕ) → ((class_of_word bytes ≡ name) × (is_one_of reserved_words bytes ≡ false)) ⊎ ((class_of_word bytes < name) × (is_one_of reserved_words bytes ≡ true))
+word_class_is bytes = elim (some_or_none (class_in fixed_words bytes)) [
   | inl some ↦
-      let class : class_of bytes ≡ some.0 = ap (λ (o : Option ℕ). unwrap_or o (if is_word bytes then name else number)) some.1 in
-      absurd (omega (arith, class, fixed_below bytes some.0 some.1))
-  | inr none ↦ none
+      let is : class_of_word bytes ≡ some.0 = ap (λ (o : Option ℕ). unwrap_or o name) some.1 in
+      inr (omega (arith, is, word_below bytes some.0 some.1), reserved_there bytes some.0 some.1)
+  | inr none ↦ inl (ap (λ (o : Option ℕ). unwrap_or o name) none, not_reserved bytes none)
 ]
 
-by_kind : (bytes : List ℕ) → class_in fixed_texts bytes ≡ None → class_of bytes ≡ (if is_word bytes then name else number)
-by_kind bytes none = ap (λ (o : Option ℕ). unwrap_or o (if is_word bytes then name else number)) none
+-- a symbol's class is less than that of names, and what is no symbol has a greater one
+symbol_class_is : (bytes : List ℕ) → (class_of_symbol bytes < name) ⊎ (class_of_symbol bytes ≡ unknown)
+symbol_class_is bytes = elim (some_or_none (class_in fixed_symbols bytes)) [
+  | inl some ↦
+      let is : class_of_symbol bytes ≡ some.0 = ap (λ (o : Option ℕ). unwrap_or o unknown) some.1 in
+      inl (omega (arith, is, symbol_below bytes some.0 some.1))
+  | inr none ↦ inr (ap (λ (o : Option ℕ). unwrap_or o unknown) none)
+]
+
+-- ---- names and numbers
+
+of_word : (bytes : List ℕ) → is_word bytes ≡ true → class_of bytes ≡ class_of_word bytes
+of_word bytes is = rw is refl
+
+of_number : (bytes : List ℕ) → is_word bytes ≡ false → is_number bytes ≡ true → class_of bytes ≡ number
+of_number bytes word is = rw (word, is) refl
+
+of_symbol : (bytes : List ℕ) → is_word bytes ≡ false → is_number bytes ≡ false → class_of bytes ≡ class_of_symbol bytes
+of_symbol bytes word digits = rw (word, digits) refl
 
 pub number_class : (bytes : List ℕ) → IsTrue (is_token bytes) → class_of bytes ≡ number → is_number bytes ≡ true
-number_class bytes token is =
-    let none = not_fixed bytes (omega (arith, is)) in
-    elim (cases_Bool (is_word bytes)) [
-      | inl word ↦ let never : class_of bytes ≡ 39 = by_kind bytes none ∙ rw word refl in absurd (omega (arith, is, never))
-      | inr no_word ↦ elim (or_cases (is_word bytes || is_number bytes) (is_symbol bytes) token) [
-        | inl run ↦ elim (or_cases (is_word bytes) (is_number bytes) run) [
-          | inl word ↦ absurd (both_ways (is_word bytes) no_word word)
-          | inr digits ↦ digits
-        ]
-        | inr symbol ↦ absurd (class_there fixed_texts bytes (symbols_there bytes symbol) none)
-      ]
-    ]
-
--- a fixed text is no number, and is reserved if it is a word
-fixed_word : (bytes : List ℕ) (class : ℕ) → class_in fixed_texts bytes ≡ Some class → is_word bytes ≡ true → is_one_of reserved_words bytes ≡ true
-fixed_word bytes class is word =
-    let right = and_parts _ _ (fixed_right bytes (text_there fixed_texts bytes class is)) in
-    elim (or_cases (not (is_word bytes)) (is_one_of reserved_words bytes) right.0) [
-      | inl no_word ↦ absurd (both_ways (is_word bytes) (not-true _ no_word) word)
-      | inr reserved ↦ reserved
-    ]
-
-fixed_number : (bytes : List ℕ) (class : ℕ) → class_in fixed_texts bytes ≡ Some class → is_number bytes ≡ true → ⊥
-fixed_number bytes class is digits =
-    let right = and_parts _ _ (fixed_right bytes (text_there fixed_texts bytes class is)) in
-    both_ways (is_number bytes) (not-true _ right.1) digits
-
-word_is_no_number : (bytes : List ℕ) → is_word bytes ≡ true → is_number bytes ≡ true → ⊥
-word_is_no_number [] word digits = false≢true word
-word_is_no_number (b ∷ bytes) word digits =
-    omega (arith, letter_above b (and_parts (is_ascii_alphabetic b) (list_all is_word_byte bytes) word).0, digit_within b (and_parts (is_ascii_digit b) (list_all is_ascii_digit bytes) digits).0)
-
-pub class_of_number : (bytes : List ℕ) → IsTrue (is_token bytes) → is_number bytes ≡ true → class_of bytes ≡ number
-class_of_number bytes token digits = elim (some_or_none (class_in fixed_texts bytes)) [
-  | inl some ↦ absurd (fixed_number bytes some.0 some.1 digits)
-  | inr none ↦ elim (cases_Bool (is_word bytes)) [
-    | inl word ↦ absurd (word_is_no_number bytes word digits)
-    | inr no_word ↦ by_kind bytes none ∙ rw no_word refl
+number_class bytes token is = elim (cases_Bool (is_word bytes)) [
+  | inl word ↦ absurd (elim (word_class_is bytes) [
+    | inl free ↦ omega (arith, is, of_word bytes word, free.0)
+    | inr reserved ↦ omega (arith, is, of_word bytes word, reserved.0)
+  ])
+  | inr other ↦ elim (cases_Bool (is_number bytes)) [
+    | inl digits ↦ digits
+    | inr symbol ↦ absurd (elim (symbol_class_is bytes) [
+      | inl less ↦ omega (arith, is, of_symbol bytes other symbol, less)
+      | inr more ↦ omega (arith, is, of_symbol bytes other symbol, more)
+    ])
   ]
 ]
 
+word_is_no_number : (bytes : List ℕ) → is_number bytes ≡ true → is_word bytes ≡ false
+word_is_no_number [] digits = refl
+word_is_no_number (b ∷ bytes) digits =
+    and_left (is_ascii_alphabetic b) (list_all is_word_byte bytes) (digit_is_no_letter b (and_parts (is_ascii_digit b) (list_all is_ascii_digit bytes) digits).0)
+
+pub class_of_number : (bytes : List ℕ) → IsTrue (is_token bytes) → is_number bytes ≡ true → class_of bytes ≡ number
+class_of_number bytes token digits = of_number bytes (word_is_no_number bytes digits) digits
+
 pub name_class : (bytes : List ℕ) → class_of bytes ≡ name → is_name bytes ≡ true
-name_class bytes is =
-    let none = not_fixed bytes (omega (arith, is)) in
-    elim (cases_Bool (is_word bytes)) [
-      | inl word ↦ elim (cases_Bool (is_one_of reserved_words bytes)) [
-        | inl reserved ↦ absurd (class_there fixed_texts bytes (reserved_there bytes reserved) none)
-        | inr free ↦ and_from _ _ word (rw free refl)
-      ]
-      | inr no_word ↦ let never : class_of bytes ≡ 40 = by_kind bytes none ∙ rw no_word refl in absurd (omega (arith, is, never))
+name_class bytes is = elim (cases_Bool (is_word bytes)) [
+  | inl word ↦ elim (word_class_is bytes) [
+    | inl free ↦ and_from (is_word bytes) (not (is_one_of reserved_words bytes)) word (rw free.1 refl)
+    | inr reserved ↦ absurd (omega (arith, is, of_word bytes word, reserved.0))
+  ]
+  | inr other ↦ absurd (elim (cases_Bool (is_number bytes)) [
+    | inl digits ↦ omega (arith, is, of_number bytes other digits)
+    | inr symbol ↦ elim (symbol_class_is bytes) [
+      | inl less ↦ omega (arith, is, of_symbol bytes other symbol, less)
+      | inr more ↦ omega (arith, is, of_symbol bytes other symbol, more)
     ]
+  ])
+]
 
 pub class_of_name : (bytes : List ℕ) → is_name bytes ≡ true → class_of bytes ≡ name
 class_of_name bytes is =
     let both = and_parts (is_word bytes) (not (is_one_of reserved_words bytes)) is in
-    elim (some_or_none (class_in fixed_texts bytes)) [
-      | inl some ↦ absurd (both_ways (is_one_of reserved_words bytes) (not-true _ both.1) (fixed_word bytes some.0 some.1 both.0))
-      | inr none ↦ by_kind bytes none ∙ rw both.0 refl
+    elim (word_class_is bytes) [
+      | inl free ↦ of_word bytes both.0 ∙ free.0
+      | inr reserved ↦ absurd (both_ways (is_one_of reserved_words bytes) (not-true _ both.1) reserved.1)
     ]
 
 -- ---- one fixed text a class

@@ -1,21 +1,19 @@
 -- The classes of tokens: one for each symbol and each reserved word, one for names and one for numbers.
-use Rattle.std.specs.Prelude.{◌≡◌, ◌↔◌, IsTrue, ℕ, List, [], ◌∷◌, ◌++◌, Option, Some, None, bytes_eq, unwrap_or, if◌then◌else◌}
-pub use Rattle.dcv_tokens.specs.FixedTexts.{open_parenthesis, close_parenthesis, comma, semicolon, dot, exclamation, caret, star, equals, less, greater, less_equals, greater_equals, diamond, arrow, double_arrow, double_ampersand, double_bar, open_bracket, close_bracket, box, open_brackets, close_brackets, open_braces, close_braces, word_var, word_define, word_prop, word_as, word_infer, word_ex, word_all, word_true, word_false, word_pt, word_ext, word_slen, word_scount, word_sdur, name, number}
+use Rattle.std.specs.Prelude.{◌≡◌, ◌↔◌, IsTrue, ℕ, List, ◌++◌, Some}
+pub use Rattle.dcv_tokens.specs.FixedTexts.{open_parenthesis, close_parenthesis, comma, semicolon, dot, exclamation, caret, star, equals, less, greater, less_equals, greater_equals, diamond, arrow, double_arrow, double_ampersand, double_bar, open_bracket, close_bracket, box, open_brackets, close_brackets, open_braces, close_braces, word_var, word_define, word_prop, word_as, word_infer, word_ex, word_all, word_true, word_false, word_pt, word_ext, word_slen, word_scount, word_sdur, name, number, unknown}
+pub use Rattle.dcv_lexer.specs.Lexicon.{class_in}
+use Rattle.dcv_lexer.specs.Lexicon as lexicon
 use Rattle.dcv_tokens.specs.FixedTexts.{symbol_classes, word_classes}
-use Rattle.dcv_tokens.specs.Tokens.{is_word, is_number, is_name, is_token}
+use Rattle.dcv_tokens.specs.Formulas.{formulas}
+use Rattle.dcv_tokens.specs.Tokens.{is_number, is_name, is_token}
 
 -- the symbols and the reserved words, each with its class
 unfoldable pub fixed_texts : List (List ℕ × ℕ)
 fixed_texts = symbol_classes ++ word_classes
 
--- the class that a table has for a text
-abbrev pub class_in : List (List ℕ × ℕ) → List ℕ → Option ℕ
-class_in [] bytes = None
-class_in (entry ∷ entries) bytes = if bytes_eq bytes entry.0 then Some entry.1 else class_in entries bytes
-
 -- The class of a token. A word that is not reserved is a name.
 abbrev pub class_of : List ℕ → ℕ
-class_of bytes = unwrap_or (class_in fixed_texts bytes) (if is_word bytes then name else number)
+class_of bytes = lexicon.class_of formulas bytes
 
 -- a word that is not reserved has the class of names, and no other token
 abbrev pub NamesHaveTheClass : Type 0

@@ -124,6 +124,10 @@ name = 39
 abbrev pub number : ℕ
 number = 40
 
+-- of what is no token
+abbrev pub unknown : ℕ
+unknown = 41
+
 -- each symbol with its class, the longer ones first
 abbrev pub symbol_classes : List (List ℕ × ℕ)
 symbol_classes =

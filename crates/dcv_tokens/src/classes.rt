@@ -1,7 +1,11 @@
 //! The classes of tokens, as the grammar sees them: a number from 0 to 40 for each.
-ghost use Rattle.std.specs.Prelude.{◌≡◌, map, IsTrue};
+ghost use Rattle.std.specs.Prelude.{◌≡◌, IsTrue};
+ghost use Rattle.dcv_lexer.specs.Lexicon.{lexicon_of, is_orderly};
 ghost use Rattle.dcv_tokens.specs.Tokens.{is_token};
-ghost use Rattle.dcv_tokens.specs.Classes.{fixed_texts, class_in, class_of};
+ghost use Rattle.dcv_tokens.specs.Formulas.{formulas};
+ghost use Rattle.dcv_tokens.specs.Classes.{class_of};
+
+use dcv_lexer::Lexicon;
 
 /// `(`.
 pub const OPEN_PARENTHESIS: u8 = 0;
@@ -126,8 +130,11 @@ pub const NAME: u8 = 39;
 /// One digit or more.
 pub const NUMBER: u8 = 40;
 
-// The symbols and the reserved words, each with its class.
-const FIXED_TEXTS: [(&[u8], u8); 39] = [
+/// What is no token.
+pub const UNKNOWN: u8 = 41;
+
+// The symbols with their classes, the longer ones first.
+const SYMBOLS: [(&[u8], u8); 25] = [
     (b"<=>", DOUBLE_ARROW),
     (b"<=", LESS_EQUALS),
     (b">=", GREATER_EQUALS),
@@ -153,6 +160,10 @@ const FIXED_TEXTS: [(&[u8], u8); 39] = [
     (b">", GREATER),
     (b"[", OPEN_BRACKET),
     (b"]", CLOSE_BRACKET),
+];
+
+// The reserved words with their classes.
+const WORDS: [(&[u8], u8); 14] = [
     (b"var", WORD_VAR),
     (b"define", WORD_DEFINE),
     (b"prop", WORD_PROP),
@@ -169,24 +180,22 @@ const FIXED_TEXTS: [(&[u8], u8); 39] = [
     (b"sdur", WORD_SDUR),
 ];
 
-// The class that a table has for a text.
-fn class_in(table: &[(&[u8], u8)], bytes: &[u8]) -> Option<u8>
-    ensures { result ≡ class_in (map (λ entry. (entry.0.now, entry.1)) table.now) bytes.now }
-{
-    for (text, class) in table {
-        if bytes == *text {
-            return Some(*class);
-        }
-    }
-    None
-}
+static FORMULAS: Lexicon<'static> = Lexicon {
+    symbols: &SYMBOLS,
+    words: &WORDS,
+    name: NAME,
+    number: NUMBER,
+    unknown: UNKNOWN,
+    comments: true,
+};
 
-// The class of a symbol or of a reserved word.
-#[tactic(auto, unfolding(crate::specs::Classes::fixed_texts))]
-fn fixed_class(bytes: &[u8]) -> Option<u8>
-    ensures { result ≡ class_in fixed_texts bytes.now }
+/// What formula files are written with.
+#[tactic(auto, unfolding(crate::specs::Formulas::fixed_symbols, crate::specs::Formulas::fixed_words))]
+pub fn formulas() -> &'static Lexicon<'static>
+    ensures lexicon { lexicon_of result.now ≡ formulas }
+    ensures orderly { IsTrue (is_orderly (lexicon_of result.now)) }
 {
-    class_in(&FIXED_TEXTS, bytes)
+    &FORMULAS
 }
 
 /// The class of a token, from 0 to 40.
@@ -194,12 +203,5 @@ pub fn class_of(bytes: &[u8]) -> u8
     requires { IsTrue (is_token bytes.now) }
     ensures { result ≡ class_of bytes.now }
 {
-    if let Some(class) = fixed_class(bytes) {
-        return class;
-    }
-    if bytes[0].is_ascii_alphabetic() {
-        NAME
-    } else {
-        NUMBER
-    }
+    formulas().class_of(bytes)
 }

@@ -1,12 +1,14 @@
-// The tokens of a text, one after another: a lexer by the longest match, which looks at each byte a few times.
+// The tokens of a formula file, one after another.
 ghost use Rattle.std.specs.Prelude.{◌≡◌, ◌+◌, ◌^◌, ◌<◌, ◌≤◌, length, min, IsTrue};
 ghost use Rattle.dcv_tokens.specs.Tokens.{is_number, is_token};
 ghost use Rattle.dcv_tokens.specs.Classes.{class_of};
 ghost use Rattle.dcv_tokens.specs.Decimal.{value_of};
+ghost use Rattle.dcv_lexer.specs.Lexicon.{lexicon_of};
+ghost use Rattle.dcv_tokens.specs.Formulas.{formulas};
 
 use crate::classes::*;
-use crate::pieces::{is_blank, piece_length};
 use dcv_grammar::grammar::Classified;
+use dcv_lexer::{Lexeme, Lexer, value_up_to};
 use dcv_syntax::Span;
 
 /// A token where it stands.
@@ -43,19 +45,6 @@ const NESTING: [u8; 8] = [
 // What a definition or the goal begins with.
 const BEGINNINGS: [u8; 3] = [WORD_DEFINE, WORD_PROP, WORD_INFER];
 
-// The value of digits, and one above the largest number where it is larger still.
-fn capped_value(digits: &[u8]) -> u32
-    requires { IsTrue (is_number digits.now) }
-    ensures { result ≡ min (value_of digits.now) (LARGEST_NUMBER + 1) }
-{
-    let mut value = 0;
-    for digit in digits {
-        let longer = 10 * value + u32::from(*digit - b'0');
-        value = longer.min(LARGEST_NUMBER + 1);
-    }
-    value
-}
-
 impl Token<'_> {
     ghost use Rattle.dcv_tokens.specs.Tokens.{span_of, span_over};
     ghost use Rattle.dcv_tokens.specs.Limits.{largest_number, is_long, is_large, nests, begins_part};
@@ -66,7 +55,7 @@ impl Token<'_> {
         requires { IsTrue (is_number self.now.bytes.now) }
         ensures { result ≡ min (value_of self.now.bytes.now) (largest_number + 1) }
     {
-        capped_value(self.bytes)
+        value_up_to(self.bytes, LARGEST_NUMBER)
     }
 
     /// Whether it is a word with more bytes than a name may have.
@@ -123,32 +112,30 @@ impl Classified for Token<'_> {
     }
 }
 
-/// The tokens of a text from some offset on. They end where no piece begins: at the end, or at a byte fault.
+/// The tokens of a formula file from some offset on. They end where no piece begins: at the end, or at a byte fault.
 #[derive(Debug, Drop)]
 pub struct Tokens<'a> {
-    rest: &'a [u8],
-    start: u32,
-    ghost in_range: { start + length rest.now < 2 ^ 32 },
+    lexer: Lexer<'a>,
+    ghost of_formulas: { lexicon_of lexer.lexicon.now ≡ formulas },
 }
 
 impl<'a> Tokens<'a> {
     /// The tokens of a whole text.
     pub fn new(text: &'a [u8]) -> Self
         requires { length text.now < 2 ^ 32 }
-        ensures from { result.start ≡ 0 }
-        ensures all { result.rest.now ≡ text.now }
+        ensures from { result.lexer.start ≡ 0 }
+        ensures all { result.lexer.rest.now ≡ text.now }
     {
         Tokens {
-            rest: text,
-            start: 0,
+            lexer: Lexer::new(formulas(), text),
         }
     }
 
     /// What is left of the text.
     pub fn rest(&self) -> &'a [u8]
-        ensures { result.now ≡ self.now.rest.now }
+        ensures { result.now ≡ self.now.lexer.rest.now }
     {
-        self.rest
+        self.lexer.rest()
     }
 }
 
@@ -160,28 +147,21 @@ impl<'a> Iterator for Tokens<'a> {
 
     ghost next_gives = { GivesToken };
 
-    ghost remaining = { λ tokens. at_most (length tokens.rest.now) };
+    ghost remaining = { λ tokens. at_most (length tokens.lexer.rest.now) };
 
     fn next(&mut self) -> Option<Token<'a>> {
-        loop {
-            let length = piece_length(self.rest);
-            if length == 0 {
-                return None;
-            }
-            let (bytes, rest) = self.rest.split_at(length);
-            let start = self.start;
-            *self = Tokens {
-                rest,
-                start: start + length as u32,
-            };
-            if !is_blank(bytes) {
-                let class = class_of(bytes);
-                return Some(Token {
-                    bytes,
-                    start,
-                    class,
-                });
-            }
-        }
+        let Some(Lexeme {
+            bytes,
+            start,
+            class,
+        }) = self.lexer.next()
+        else {
+            return None;
+        };
+        Some(Token {
+            bytes,
+            start,
+            class,
+        })
     }
 }

@@ -1,8 +1,8 @@
 //! The tokens of a formula file.
 //!
-//! `specs/Tokens` says how a text is cut into white space, comments and tokens, `specs/Classes` what each token is to the
-//! grammar, and `specs/Limits` what is said of one token alone. A text is cut as it is read: `Tokens` goes through it
-//! token by token and keeps none.
+//! `specs/Formulas` says what formula files are written with, `specs/Tokens` how they are cut into white space, comments
+//! and tokens, `specs/Classes` what each token is to the grammar, and `specs/Limits` what is said of one token alone. A
+//! text is cut as it is read: `Tokens` goes through it token by token and keeps none.
 //!
 //! `007x<=>= // y` is cut into the tokens `007`, `x`, `<=>` and `=`, by the longest match.
 #![tactic(auto)]
@@ -10,7 +10,6 @@
 pub mod classes;
 pub mod laws;
 mod lexer;
-mod pieces;
 mod text;
 
 pub use lexer::{Token, Tokens};
