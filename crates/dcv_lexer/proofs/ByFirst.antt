@@ -1,14 +1,12 @@
 -- The first byte of a token tells its kind.
-use Rattle.std.proofs.Common.{◌≡◌, ℕ, Bool, true, ◌||◌, List, [], ◌∷◌, get_or, IsTrue, sym, ◌∙◌, arith}
+use Rattle.std.proofs.Common.{◌≡◌, ℕ, true, List, [], ◌∷◌, get_or, IsTrue, arith}
 use Rattle.std.specs.List.{list_all}
 use Rattle.std.specs.Char.{is_ascii_alphabetic, is_ascii_digit}
 use Rattle.std.proofs.lemmas.Bool.{and_parts, or_right, both_ways}
 use Rattle.std.proofs.lemmas.Bool.Decides.{same_from_decides}
-use Rattle.dcv_lexer.specs.Lexicon.{Lexicon, is_word_byte, is_word, is_number, is_blank, is_token, is_piece, word_class, symbol_class, class_of, is_orderly}
+use Rattle.dcv_lexer.specs.Lexicon.{Lexicon, is_word_byte, is_word, is_number, is_blank, is_token, is_piece, is_orderly}
 use Rattle.dcv_lexer.proofs.FirstBytes.{white_below, letter_above, digit_within, Kind, kind_of, nothing_is_no_piece}
 use Rattle.dcv_lexer.proofs.Longest.{symbol_byte_is_no_other}
-use Rattle.dcv_lexer.proofs.Cuts.{piece_has_bytes}
-use Rattle.dcv_lexer.proofs.Fronts.{digit_is_no_letter, no_word, no_number, class_of_word, class_of_number, class_of_symbol}
 
 module _ (lexicon : Lexicon) (orderly : is_orderly lexicon ≡ true) where
   word_of_letter : (b : ℕ) (bytes : List ℕ) → IsTrue (is_piece lexicon (b ∷ bytes)) → is_ascii_alphabetic b ≡ true → is_word (b ∷ bytes) ≡ true

@@ -1,5 +1,6 @@
 -- A text is cut in one way.
-use Rattle.std.proofs.Common.{◌≡◌, ℕ, zero, suc, ◌+◌, ◌<◌, ◌≤◌, List, [], ◌∷◌, ◌++◌, ◌⊎◌, inl, inr, length, take, drop, IsTrue, refl, sym, ap, subst, ◌∙◌, arith, append_assoc, length-append}
+use Rattle.std.proofs.Common.{◌≡◌, ℕ, zero, suc, ◌+◌, ◌<◌, ◌≤◌, List, [], ◌∷◌, ◌++◌, ◌⊎◌, inl, inr, length, take, drop, IsTrue, refl, sym, ap, subst, ◌∙◌}
+use Rattle.std.proofs.Common.{arith, append_assoc, length-append}
 use Rattle.std.specs.List.{concat}
 use Rattle.std.proofs.lemmas.Bool.{cases_Bool, cases_eq, both_ways}
 use Rattle.std.proofs.lemmas.List.{take-append-drop, length-take, take_at}
@@ -38,7 +39,8 @@ module _ (lexicon : Lexicon) where
       let same : length piece ≡ length other = omega (arith, l.longest other m.piece m.begins, m.longest piece l.piece l.begins) in
       (same_beginning piece other l.begins.0 m.begins.0 (sym l.begins.1 ∙ m.begins.1) same).0
 
-  pub cut_after : (text piece : List ℕ) (pieces : List (List ℕ)) (rest : List ℕ) → IsCut lexicon text (piece ∷ pieces) rest → IsCutAfter lexicon text piece pieces rest
+  pub cut_after : (text piece : List ℕ) (pieces : List (List ℕ)) (rest : List ℕ) → IsCut lexicon text (piece ∷ pieces) rest
+      → IsCutAfter lexicon text piece pieces rest
   cut_after text piece pieces rest cut =
       let parts : text ≡ piece ++ (concat pieces ++ rest) = cut.whole ∙ append_assoc piece (concat pieces) rest in
       record {
@@ -48,7 +50,8 @@ module _ (lexicon : Lexicon) where
       }
 
   -- a cut of what follows a first piece
-  pub cut_with : (text piece follows : List ℕ) (pieces : List (List ℕ)) (rest : List ℕ) → IsLongest lexicon piece text → text ≡ piece ++ follows → IsCut lexicon follows pieces rest → IsCut lexicon text (piece ∷ pieces) rest
+  pub cut_with : (text piece follows : List ℕ) (pieces : List (List ℕ)) (rest : List ℕ) → IsLongest lexicon piece text → text ≡ piece ++ follows
+      → IsCut lexicon follows pieces rest → IsCut lexicon text (piece ∷ pieces) rest
   cut_with text piece follows pieces rest first parts cut =
       let whole : text ≡ piece ++ (concat pieces ++ rest) = parts ∙ ap (λ (t : List ℕ). piece ++ t) cut.whole in
       record {
@@ -66,7 +69,8 @@ module _ (lexicon : Lexicon) where
       let first = (cut_after text piece pieces rest some).first in
       none.stuck piece first.piece first.begins
 
-  pub cut_is_unique : (text rest other_rest : List ℕ) (pieces other_pieces : List (List ℕ)) → IsCut lexicon text pieces rest → IsCut lexicon text other_pieces other_rest → (pieces ≡ other_pieces) × (rest ≡ other_rest)
+  pub cut_is_unique : (text rest other_rest : List ℕ) (pieces other_pieces : List (List ℕ)) → IsCut lexicon text pieces rest
+      → IsCut lexicon text other_pieces other_rest → (pieces ≡ other_pieces) × (rest ≡ other_rest)
   cut_is_unique text rest other_rest [] [] c d = (refl, sym c.whole ∙ d.whole)
   cut_is_unique text rest other_rest [] (q ∷ qs) c d =
       absurd (no_first rest q other_rest qs (cut_nothing rest c.stuck) (subst (λ (t : List ℕ). IsCut lexicon t (q ∷ qs) other_rest) c.whole d))
@@ -84,7 +88,8 @@ module _ (lexicon : Lexicon) where
   -- ---- one at least
 
   -- the longest of the beginnings of at most n bytes, where no longer one is a piece
-  longest_up_to : (text : List ℕ) (n : ℕ) → ((piece : List ℕ) → IsTrue (is_piece lexicon piece) → BeginsWith text piece → length piece ≤ n) → ((piece : List ℕ) × IsLongest lexicon piece text) ⊎ BeginsWithNoPiece lexicon text
+  longest_up_to : (text : List ℕ) (n : ℕ) → ((piece : List ℕ) → IsTrue (is_piece lexicon piece) → BeginsWith text piece → length piece ≤ n)
+      → ((piece : List ℕ) × IsLongest lexicon piece text) ⊎ BeginsWithNoPiece lexicon text
   longest_up_to text zero short = inr (λ piece is begins. absurd (omega (arith, short piece is begins, piece_has_bytes piece is)))
   longest_up_to text (suc n) short =
       elim (cases_Bool (is_piece lexicon (take (suc n) text))) [

@@ -1,11 +1,12 @@
 -- What the first byte of a piece tells of its kind.
-use Rattle.std.proofs.Common.{◌≡◌, ℕ, ◌<◌, Bool, true, false, not, ◌&&◌, ◌||◌, ◌==◌, List, [], ◌∷◌, inl, inr, refl, ap, ◌∙◌, arith}
+use Rattle.std.proofs.Common.{◌≡◌, ℕ, ◌<◌, Bool, true, ◌&&◌, ◌||◌, ◌==◌, List, [], ◌∷◌, inl, inr, refl, ap, ◌∙◌, arith}
 use Rattle.std.specs.List.{list_all}
 use Rattle.std.specs.Str.{bytes_eq}
 use Rattle.std.specs.Char.{is_ascii_alphabetic, is_ascii_digit}
 use Rattle.std.proofs.lemmas.Bool.{cases_Bool, and_parts, or_cases, eqb-true, false≢true}
 use Rattle.std.proofs.lemmas.Slice.Eq.{bytes_eq-Decides}
-use Rattle.dcv_lexer.specs.Lexicon.{Lexicon, texts_of, is_one_of, is_white, is_white_space, is_comment, is_word, is_number, is_symbol, is_blank, is_token, is_piece, is_symbol_byte, begins_as_symbol, are_longer_first, is_orderly}
+use Rattle.dcv_lexer.specs.Lexicon.{Lexicon, texts_of, is_one_of, is_white, is_white_space, is_comment, is_word, is_number, is_symbol, is_blank, is_token}
+use Rattle.dcv_lexer.specs.Lexicon.{is_piece, is_symbol_byte, begins_as_symbol, are_longer_first, is_orderly}
 
 -- what all of the texts pass, one of them passes
 pub one_of_passes : (texts : List (List ℕ)) (p : List ℕ → Bool) (piece : List ℕ) → list_all p texts ≡ true → is_one_of texts piece ≡ true → p piece ≡ true

@@ -1,27 +1,32 @@
 -- The longest piece with which a text begins, with its class.
-use Rattle.std.proofs.Common.{◌≡◌, ℕ, zero, suc, ◌<◌, ◌≤◌, Bool, true, false, ◌&&◌, ◌||◌, ◌==◌, nat_eq, List, [], ◌∷◌, ◌++◌, length, take, drop, get_or, Option, Some, None, IsTrue, inl, inr, refl, sym, ap, subst, ◌∙◌, arith, length-append}
-use Rattle.std.specs.Prelude.{unwrap_or, option_map, IfSome, IfNone, if◌then◌else◌}
+use Rattle.std.proofs.Common.{◌≡◌, ℕ, zero, suc, ◌<◌, ◌≤◌, true, false, ◌&&◌, ◌==◌, nat_eq, List, [], ◌∷◌, length, take, drop, get_or, Option, Some, None}
+use Rattle.std.proofs.Common.{inl, inr, refl, sym, ap, subst, ◌∙◌, arith, length-append}
+use Rattle.std.specs.Prelude.{unwrap_or, option_map, IfSome, IfNone}
 use Rattle.std.specs.List.{list_all, prefix_len, starts_with}
 use Rattle.std.specs.Char.{is_ascii_alphabetic, is_ascii_digit}
-use Rattle.std.proofs.lemmas.Bool.{cases_Bool, false_from_ne_true, and_parts, and_from, and_left, or_left, or_right, false≢true, eqb-true}
+use Rattle.std.proofs.lemmas.Bool.{cases_Bool, false_from_ne_true, and_from, and_left, or_left, or_right, false≢true, eqb-true}
 use Rattle.std.proofs.lemmas.List.{take_at}
 use Rattle.dcv_lexer.specs.declared.pieces.Front.{Front}
-use Rattle.dcv_lexer.specs.Lexicon.{Lexicon, texts_of, is_white, is_white_space, is_in_line, is_comment, is_word_byte, is_word, is_number, is_blank, is_symbol_byte, begins_as_symbol, word_class, symbol_class, class_in, class_of, is_orderly}
+use Rattle.dcv_lexer.specs.Lexicon.{Lexicon, texts_of, is_white, is_white_space, is_in_line, is_comment, is_word_byte, is_word, is_number, is_blank}
+use Rattle.dcv_lexer.specs.Lexicon.{begins_as_symbol, word_class, symbol_class, class_of, is_orderly}
 use Rattle.dcv_lexer.specs.Cuts.{IsLongest, BeginsWithNoPiece}
 use Rattle.dcv_lexer.specs.Fronts.{class_if_token, IsFront, first_fit, front_of}
 use Rattle.dcv_lexer.proofs.FirstBytes.{one_of_passes, each_begins, longer_first, white_below, letter_above, digit_within}
-use Rattle.dcv_lexer.proofs.Longest.{IsPieceLength, white_length, word_length, number_length, comment_length, passes_front, symbol_byte_is_no_other, slashes_there, first_is_longest, IsOther, no_symbol, symbol_longest}
+use Rattle.dcv_lexer.proofs.Longest.{IsPieceLength, white_length, word_length, number_length, comment_length, passes_front, symbol_byte_is_no_other}
+use Rattle.dcv_lexer.proofs.Longest.{slashes_there, first_is_longest, IsOther, no_symbol, symbol_longest}
 
 -- ---- words and numbers at the front
 
-pub word_at_front : (text : List ℕ) → is_ascii_alphabetic (get_or text 0 0) ≡ true → (0 < prefix_len is_word_byte text) × (is_word (take (prefix_len is_word_byte text) text) ≡ true)
+pub word_at_front : (text : List ℕ) → is_ascii_alphabetic (get_or text 0 0) ≡ true
+    → (0 < prefix_len is_word_byte text) × (is_word (take (prefix_len is_word_byte text) text) ≡ true)
 word_at_front [] letter = absurd (false≢true letter)
 word_at_front (b ∷ bytes) letter =
     let one : is_word_byte b ≡ true = or_left _ _ (or_left _ _ letter) in
     let next : prefix_len is_word_byte (b ∷ bytes) ≡ suc (prefix_len is_word_byte bytes) = rw one (omega arith) in
     (omega (arith, next), rw next (and_from _ _ letter (passes_front is_word_byte bytes)))
 
-pub number_at_front : (text : List ℕ) → is_ascii_digit (get_or text 0 0) ≡ true → (0 < prefix_len is_ascii_digit text) × (is_number (take (prefix_len is_ascii_digit text) text) ≡ true)
+pub number_at_front : (text : List ℕ) → is_ascii_digit (get_or text 0 0) ≡ true
+    → (0 < prefix_len is_ascii_digit text) × (is_number (take (prefix_len is_ascii_digit text) text) ≡ true)
 number_at_front [] digit = absurd (false≢true digit)
 number_at_front (b ∷ bytes) digit =
     let next : prefix_len is_ascii_digit (b ∷ bytes) ≡ suc (prefix_len is_ascii_digit bytes) = rw digit (omega arith) in
@@ -67,7 +72,8 @@ module _ (lexicon : Lexicon) where
   blank_class : (piece : List ℕ) → is_blank lexicon piece ≡ true → class_if_token lexicon piece ≡ None
   blank_class piece is = rw is refl
 
-  pub class_told : (piece : List ℕ) (class : ℕ) → class_if_token lexicon piece ≡ Some class → (is_blank lexicon piece ≡ false) × (class ≡ class_of lexicon piece)
+  pub class_told : (piece : List ℕ) (class : ℕ) → class_if_token lexicon piece ≡ Some class
+      → (is_blank lexicon piece ≡ false) × (class ≡ class_of lexicon piece)
   class_told piece class told = elim (cases_Bool (is_blank lexicon piece)) [
     | inl blank ↦ let never : None ≡ Some class = rw blank at told in cc
     | inr token ↦ (token, (let some : Some (class_of lexicon piece) ≡ Some class = rw token at told in cc))
@@ -178,7 +184,8 @@ module _ (lexicon : Lexicon) (orderly : is_orderly lexicon ≡ true) where
         number = no_number (b ∷ bytes) free.3;
       }
 
-  pub symbol_front : (text : List ℕ) (entry : List ℕ × ℕ) → IsOther lexicon orderly text → first_fit text lexicon.symbols ≡ Some entry → IsFront lexicon text (front_of entry)
+  pub symbol_front : (text : List ℕ) (entry : List ℕ × ℕ) → IsOther lexicon orderly text → first_fit text lexicon.symbols ≡ Some entry
+      → IsFront lexicon text (front_of entry)
   symbol_front text entry is found =
       let first = first_is_longest lexicon.symbols text entry (longer_first lexicon orderly) found in
       let bytes = entry.0 in

@@ -1,16 +1,18 @@
 -- The tokens that a lexer has left are given by the one cut of its text, token by token.
-use Rattle.std.proofs.Common.{◌≡◌, ℕ, ◌+◌, ◌≤◌, false, true, List, [], ◌∷◌, ◌++◌, length, Option, Some, None, refl, sym, ap, subst, ◌∙◌, arith, append_assoc, append-nil, length-append, IsTrue, inl, inr}
+use Rattle.std.proofs.Common.{◌≡◌, ℕ, ◌+◌, ◌≤◌, false, true, List, [], ◌∷◌, ◌++◌, length, Some, None, refl, sym, ap, subst, ◌∙◌, arith, append_assoc}
+use Rattle.std.proofs.Common.{length-append, IsTrue, inl, inr}
 use Rattle.std.proofs.lemmas.Bool.{or_cases, both_ways}
 use Rattle.dcv_lexer.specs.declared.reading.Lexer.{Lexer}
 use Rattle.dcv_lexer.specs.declared.reading.Lexeme.{Lexeme}
 use Rattle.dcv_lexer.specs.Lexicon.{Lexicon, is_blank, is_token, is_piece, class_of}
 use Rattle.dcv_lexer.specs.Cuts.{BeginsWithNoPiece, IsLongest, IsCut, Token, tokens_from}
-use Rattle.dcv_lexer.specs.Reading.{seen, lexicon_in, HasTokens, Reads, IsOnOf, GivesOne, GivesNone}
+use Rattle.dcv_lexer.specs.Reading.{seen, lexicon_in, HasTokens, Reads, IsFurther, GivesOne, GivesNone}
 use Rattle.dcv_lexer.specs.Fronts.{class_if_token}
 use Rattle.dcv_lexer.proofs.Cuts.{cut_exists, cut_is_unique, cut_with, cut_nothing}
 use Rattle.dcv_lexer.proofs.Fronts.{class_told, class_untold}
 
-pub tokens_are_one : (lexer : Lexer) (tokens others : List Token) (rest other_rest : List ℕ) → HasTokens lexer tokens rest → HasTokens lexer others other_rest → (tokens ≡ others) × (rest ≡ other_rest)
+pub tokens_are_one : (lexer : Lexer) (tokens others : List Token) (rest other_rest : List ℕ) → HasTokens lexer tokens rest
+    → HasTokens lexer others other_rest → (tokens ≡ others) × (rest ≡ other_rest)
 tokens_are_one lexer tokens others rest other_rest h k =
     let same = cut_is_unique (lexicon_in lexer) lexer.rest.now rest other_rest h.pieces k.pieces h.cut k.cut in
     (h.among ∙ ap (tokens_from (lexicon_in lexer) lexer.start) same.0 ∙ sym k.among, same.1)
@@ -30,7 +32,8 @@ reads_then old mid new first second r s tokens rest h =
     rw append_assoc (r (second ++ tokens) rest (s tokens rest h))
 
 -- what old has is what was read and what new has
-pub after_reading : (old new : Lexer) (read tokens : List Token) (rest : List ℕ) → Reads old read new → HasTokens old tokens rest → (more : List Token) × (tokens ≡ read ++ more) × HasTokens new more rest
+pub after_reading : (old new : Lexer) (read tokens : List Token) (rest : List ℕ) → Reads old read new → HasTokens old tokens rest
+    → (more : List Token) × (tokens ≡ read ++ more) × HasTokens new more rest
 after_reading old new read tokens rest r h =
     let left = tokens_exist new in
     let same = tokens_are_one old tokens (read ++ left.0) rest left.1 h (r left.0 left.1 left.2) in
@@ -46,14 +49,15 @@ pub record IsBehind (old : Lexer) (piece : List ℕ) (new : Lexer) : Type 0 wher
   pub start : new.start ≡ old.start + length piece
 
 module _ (old new : Lexer) (piece : List ℕ) (b : IsBehind old piece new) where
-  pub on_behind : IsOnOf old new
-  on_behind = record {
+  pub further_behind : IsFurther old new
+  further_behind = record {
     lexicon = b.lexicon;
     ends = omega (arith, b.start, ap length b.parts ∙ length-append piece new.rest.now);
   }
 
   -- the cut of what is behind the piece, in old's lexicon
-  behind : (pieces : List (List ℕ)) (rest : List ℕ) → IsCut (lexicon_in new) new.rest.now pieces rest → IsCut (lexicon_in old) old.rest.now (piece ∷ pieces) rest
+  behind : (pieces : List (List ℕ)) (rest : List ℕ) → IsCut (lexicon_in new) new.rest.now pieces rest
+      → IsCut (lexicon_in old) old.rest.now (piece ∷ pieces) rest
   behind pieces rest cut =
       cut_with (lexicon_in old) old.rest.now piece new.rest.now pieces rest b.first b.parts
       (subst (λ (lexicon : Lexicon). IsCut lexicon new.rest.now pieces rest) b.lexicon cut)
@@ -76,8 +80,8 @@ module _ (old new : Lexer) (piece : List ℕ) (b : IsBehind old piece new) where
     among = rw token (ap (λ (ts : List Token). record { bytes = piece; start = old.start } ∷ ts) (among_behind tokens h.pieces h.among));
   }
 
-pub on_then : (old mid new : Lexer) → IsOnOf old mid → IsOnOf mid new → IsOnOf old new
-on_then old mid new o p = record { lexicon = p.lexicon ∙ o.lexicon; ends = p.ends ∙ o.ends }
+pub further_then : (old mid new : Lexer) → IsFurther old mid → IsFurther mid new → IsFurther old new
+further_then old mid new o p = record { lexicon = p.lexicon ∙ o.lexicon; ends = p.ends ∙ o.ends }
 
 is_some_token : (lexicon : Lexicon) (piece : List ℕ) → IsTrue (is_piece lexicon piece) → is_blank lexicon piece ≡ false → IsTrue (is_token lexicon piece)
 is_some_token lexicon piece is token = elim (or_cases (is_blank lexicon piece) (is_token lexicon piece) is) [
@@ -88,13 +92,14 @@ is_some_token lexicon piece is token = elim (or_cases (is_blank lexicon piece) (
 -- what `next` keeps while it passes white space and comments
 pub record HasPassed (old mid : Lexer) : Type 0 where
   pub passed : Reads old [] mid
-  pub on : IsOnOf old mid
+  pub further : IsFurther old mid
   pub left : length mid.rest.now ≤ length old.rest.now
 
-pub passed_blank : (old mid new : Lexer) (piece : List ℕ) → HasPassed old mid → IsBehind mid piece new → class_if_token (lexicon_in mid) piece ≡ None → HasPassed old new
+pub passed_blank : (old mid new : Lexer) (piece : List ℕ) → HasPassed old mid → IsBehind mid piece new → class_if_token (lexicon_in mid) piece ≡ None
+    → HasPassed old new
 passed_blank old mid new piece h b untold = record {
   passed = reads_then old mid new [] [] h.passed (reads_blank mid new piece b (class_untold (lexicon_in mid) piece untold));
-  on = on_then old mid new h.on (on_behind mid new piece b);
+  further = further_then old mid new h.further (further_behind mid new piece b);
   left = omega (arith, h.left, ap length b.parts ∙ length-append piece new.rest.now);
 }
 
@@ -104,9 +109,9 @@ gives_one old mid new given h b start told =
     let piece = given.bytes.now in
     let (token, class) = class_told (lexicon_in mid) piece given.class told in
     record {
-      on = on_then old mid new h.on (on_behind mid new piece b);
-      token = subst (λ (lexicon : Lexicon). IsTrue (is_token lexicon piece)) h.on.lexicon (is_some_token (lexicon_in mid) piece b.first.piece token);
-      class = class ∙ ap (λ (lexicon : Lexicon). class_of lexicon piece) h.on.lexicon;
+      further = further_then old mid new h.further (further_behind mid new piece b);
+      token = subst (λ (lexicon : Lexicon). IsTrue (is_token lexicon piece)) h.further.lexicon (is_some_token (lexicon_in mid) piece b.first.piece token);
+      class = class ∙ ap (λ (lexicon : Lexicon). class_of lexicon piece) h.further.lexicon;
       in_range = omega (arith, mid.in_range, start, ap length b.parts ∙ length-append piece new.rest.now);
       reads = reads_then old mid new [] (seen given ∷ []) h.passed
           (subst (λ (n : ℕ). Reads mid (record { bytes = piece; start = n } ∷ []) new) (sym start) (reads_token mid new piece b token));
@@ -114,6 +119,6 @@ gives_one old mid new given h b start told =
 
 pub gives_none : (old mid : Lexer) → HasPassed old mid → BeginsWithNoPiece (lexicon_in mid) mid.rest.now → GivesNone old mid
 gives_none old mid h none = record {
-  on = h.on;
+  further = h.further;
   reads = h.passed [] mid.rest.now (record { pieces = []; cut = cut_nothing (lexicon_in mid) mid.rest.now none; among = refl });
 }

@@ -1,14 +1,17 @@
 -- The longest piece with which a text begins, by its first bytes.
-use Rattle.std.proofs.Common.{◌≡◌, ℕ, suc, ◌<◌, ◌≤◌, Bool, true, false, ◌&&◌, ◌||◌, ◌==◌, nat_le, nat_eq, List, [], ◌∷◌, ◌++◌, length, take, drop, get_or, find, IsTrue, Option, Some, None, inl, inr, refl, sym, ap, subst, ◌∙◌, arith, length-append}
+use Rattle.std.proofs.Common.{◌≡◌, ℕ, suc, ◌<◌, ◌≤◌, Bool, true, false, ◌&&◌, ◌||◌, ◌==◌, nat_le, nat_eq, List, [], ◌∷◌, ◌++◌, length, take, drop, get_or}
+use Rattle.std.proofs.Common.{IsTrue, Some, None, inl, inr, refl, sym, ap, subst, ◌∙◌, arith, length-append}
 use Rattle.std.specs.List.{list_all, prefix_len, starts_with}
 use Rattle.std.specs.Str.{bytes_eq}
 use Rattle.std.specs.Char.{is_ascii_alphabetic, is_ascii_digit}
-use Rattle.std.proofs.lemmas.Bool.{cases_Bool, false_from_ne_true, and_parts, and_from, or_left, or_right, or_cases, or_parts, not-true, leb-true, both_ways, false≢true, eqb-true, eqb-false}
-use Rattle.std.proofs.lemmas.Bool.Decides.{Decides-eqb, same_from_decides}
+use Rattle.std.proofs.lemmas.Bool.{cases_Bool, false_from_ne_true, and_parts, and_from, or_left, or_right, or_cases, or_parts, not-true, leb-true}
+use Rattle.std.proofs.lemmas.Bool.{both_ways, false≢true, eqb-true, eqb-false}
+use Rattle.std.proofs.lemmas.Bool.Decides.{Decides-eqb}
 use Rattle.std.proofs.lemmas.Slice.Eq.{bytes_eq-Decides, starts_is}
-use Rattle.std.proofs.lemmas.List.{take-append-drop, length-take, take_at}
+use Rattle.std.proofs.lemmas.List.{take-append-drop, length-take}
 use Rattle.std.proofs.lemmas.List.Sums.{prefix_len-le-length}
-use Rattle.dcv_lexer.specs.Lexicon.{Lexicon, texts_of, is_one_of, is_white, is_white_space, is_in_line, is_comment, is_word_byte, is_word, is_number, is_symbol, is_blank, is_token, is_piece, is_symbol_byte, begins_as_symbol, are_longer_first, class_in, is_orderly}
+use Rattle.dcv_lexer.specs.Lexicon.{Lexicon, texts_of, is_one_of, is_white, is_white_space, is_in_line, is_comment, is_word_byte, is_word, is_number}
+use Rattle.dcv_lexer.specs.Lexicon.{is_symbol, is_blank, is_token, is_piece, is_symbol_byte, begins_as_symbol, are_longer_first, class_in, is_orderly}
 use Rattle.dcv_lexer.specs.Cuts.{BeginsWith, BeginsWithNoPiece, IsLongest}
 use Rattle.dcv_lexer.specs.Fronts.{first_fit}
 use Rattle.dcv_lexer.proofs.FirstBytes.{one_of_passes, each_begins, longer_first, white_below, letter_above, digit_within, Kind, kind_of, nothing_is_no_piece}
@@ -39,7 +42,8 @@ covers_front p (x ∷ xs) rest all =
     rw both.0 (omega (arith, covers_front p xs rest both.1))
 
 -- what no white space, comment, word or number begins with
-pub symbol_byte_is_no_other : (b : ℕ) → is_symbol_byte b ≡ true → (is_white b ≡ false) × ((b == 47) ≡ false) × (is_ascii_alphabetic b ≡ false) × (is_ascii_digit b ≡ false)
+pub symbol_byte_is_no_other : (b : ℕ) → is_symbol_byte b ≡ true
+    → (is_white b ≡ false) × ((b == 47) ≡ false) × (is_ascii_alphabetic b ≡ false) × (is_ascii_digit b ≡ false)
 symbol_byte_is_no_other b h =
     let none = not-true _ h in
     let first = or_parts ((is_white b || b == 47) || is_ascii_alphabetic b) (is_ascii_digit b) none in
@@ -59,7 +63,8 @@ comment_in_line o (c ∷ os) h =
     let both = and_parts (o == 47) (c == 47) slashes.0 in
     rw (eqb-true o 47 both.0, eqb-true c 47 both.1) slashes.1
 
-begins_decided : (text other : List ℕ) → (starts_with nat_eq text other ≡ true → text ≡ other ++ drop (length other) text) × ((rest : List ℕ) → text ≡ other ++ rest → starts_with nat_eq text other ≡ true)
+begins_decided : (text other : List ℕ)
+    → (starts_with nat_eq text other ≡ true → text ≡ other ++ drop (length other) text) × ((rest : List ℕ) → text ≡ other ++ rest → starts_with nat_eq text other ≡ true)
 begins_decided text other = starts_is Decides-eqb text other (starts_with nat_eq text other) refl
 
 pub slashes_there : (text : List ℕ) → starts_with nat_eq text (47 ∷ 47 ∷ []) ≡ true → text ≡ 47 ∷ 47 ∷ drop 2 text
@@ -94,9 +99,9 @@ first_is_longest (first ∷ table) text entry fall is =
       | inr fails ↦
           let later = first_is_longest table text entry sizes.1 (rw fails at is) in
           let differs : bytes_eq entry.0 first.0 ≡ false = false_from_ne_true (bytes_eq entry.0 first.0) (λ same.
-              let is_first = (bytes_eq-Decides entry.0 first.0).0 same in
-              both_ways (starts_with nat_eq text first.0) fails
-              ((begins_decided text first.0).1 (drop (length entry.0) text) (later.begins ∙ ap (λ (t : List ℕ). t ++ drop (length entry.0) text) is_first))) in
+          let is_first = (bytes_eq-Decides entry.0 first.0).0 same in
+          both_ways (starts_with nat_eq text first.0) fails
+          ((begins_decided text first.0).1 (drop (length entry.0) text) (later.begins ∙ ap (λ (t : List ℕ). t ++ drop (length entry.0) text) is_first))) in
           record {
             begins = later.begins;
             found = or_right _ _ later.found;
@@ -141,7 +146,8 @@ comment_begins text (a ∷ b ∷ bytes) is begins =
 
 module _ (lexicon : Lexicon) (orderly : is_orderly lexicon ≡ true) where
   -- a piece that no other beginning exceeds
-  of_longest : (text : List ℕ) (n : ℕ) → n ≤ length text → (0 < n → IsTrue (is_piece lexicon (take n text))) → ((other : List ℕ) → IsTrue (is_piece lexicon other) → BeginsWith text other → length other ≤ n) → IsPieceLength lexicon text n
+  of_longest : (text : List ℕ) (n : ℕ) → n ≤ length text → (0 < n → IsTrue (is_piece lexicon (take n text)))
+      → ((other : List ℕ) → IsTrue (is_piece lexicon other) → BeginsWith text other → length other ≤ n) → IsPieceLength lexicon text n
   of_longest text n within is_piece_of longest = record {
     in_range = within;
     longest = λ some. record {
@@ -158,7 +164,10 @@ module _ (lexicon : Lexicon) (orderly : is_orderly lexicon ≡ true) where
   -- ---- runs of bytes
 
   -- the run of bytes that pass is the longest piece, where each piece is such a run
-  run_length : (p : ℕ → Bool) (text : List ℕ) → (list_all p (take (prefix_len p text) text) ≡ true → IsTrue (is_piece lexicon (take (prefix_len p text) text))) → ((other : List ℕ) → IsTrue (is_piece lexicon other) → BeginsWith text other → list_all p other ≡ true) → IsPieceLength lexicon text (prefix_len p text)
+  run_length : (p : ℕ → Bool) (text : List ℕ)
+      → (list_all p (take (prefix_len p text) text) ≡ true → IsTrue (is_piece lexicon (take (prefix_len p text) text)))
+      → ((other : List ℕ) → IsTrue (is_piece lexicon other) → BeginsWith text other → list_all p other ≡ true)
+      → IsPieceLength lexicon text (prefix_len p text)
   run_length p text is each = of_longest text (prefix_len p text) (prefix_len-le-length p text) (λ some. is (passes_front p text))
       (λ other other_is begins. rw begins.1 (covers_front p other begins.0 (each other other_is begins)))
 
@@ -253,7 +262,8 @@ module _ (lexicon : Lexicon) (orderly : is_orderly lexicon ≡ true) where
       (λ all. comment_is_piece (take (prefix_len is_in_line text) text) on comment)
       (λ other is begins. slash_only other is (head_is 47 (47 ∷ line) other is begins))
 
-  pub comment_length : (text : List ℕ) → lexicon.comments ≡ true → starts_with nat_eq text (47 ∷ 47 ∷ []) ≡ true → IsPieceLength lexicon text (prefix_len is_in_line text)
+  pub comment_length : (text : List ℕ) → lexicon.comments ≡ true → starts_with nat_eq text (47 ∷ 47 ∷ []) ≡ true
+      → IsPieceLength lexicon text (prefix_len is_in_line text)
   comment_length text on begins =
       let is : text ≡ 47 ∷ 47 ∷ drop 2 text = (starts_is Decides-eqb text (47 ∷ 47 ∷ []) (starts_with nat_eq text (47 ∷ 47 ∷ [])) refl).0 begins in
       subst (λ (t : List ℕ). IsPieceLength lexicon t (prefix_len is_in_line t)) (sym is) (slashes_length (drop 2 text) on)
@@ -284,7 +294,8 @@ module _ (lexicon : Lexicon) (orderly : is_orderly lexicon ≡ true) where
     pub digit : is_ascii_digit (get_or text 0 0) ≡ false
     pub slashes : (lexicon.comments && starts_with nat_eq text (47 ∷ 47 ∷ [])) ≡ false
 
-  symbol_there : (text other : List ℕ) → IsOther text → IsTrue (is_piece lexicon other) → BeginsWith text other → is_one_of (texts_of lexicon.symbols) other ≡ true
+  symbol_there : (text other : List ℕ) → IsOther text → IsTrue (is_piece lexicon other) → BeginsWith text other
+      → is_one_of (texts_of lexicon.symbols) other ≡ true
   symbol_there [] other is piece begins = absurd (omega (arith, is.some))
   symbol_there (b ∷ bytes) other is piece begins = symbol_only b bytes other is.white is.letter is.digit is.slashes piece begins
 

@@ -4,7 +4,8 @@
 --     is_token lexicon piece     a word, a number or a symbol
 --     class_of lexicon bytes     the class of a token
 --     is_orderly lexicon         the first byte tells a symbol from all else, and the first symbol that fits is the longest
-use Rattle.std.specs.Prelude.{ℕ, Bool, true, false, not, ◌&&◌, ◌||◌, ◌==◌, nat_le, List, [], ◌∷◌, Option, Some, None, length, map, bytes_eq, unwrap_or, if◌then◌else◌}
+use Rattle.std.specs.Prelude.{ℕ, Bool, true, false, not, ◌&&◌, ◌||◌, ◌==◌, nat_le, List, [], ◌∷◌, Option, Some, None, length, map, bytes_eq, unwrap_or}
+use Rattle.std.specs.Prelude.{if◌then◌else◌}
 use Rattle.std.specs.List.{list_all, list_any}
 use Rattle.std.specs.Char.{is_ascii_alphabetic, is_ascii_digit}
 use Rattle.dcv_lexer.specs.declared.tables.Lexicon.{Lexicon as LexiconTables}

@@ -23,14 +23,14 @@ pub record HasTokens (lexer : Lexer) (tokens : List Token) (rest : List ℕ) : T
 abbrev pub Reads : Lexer → List Token → Lexer → Type 0
 Reads old read new = (tokens : List Token) (rest : List ℕ) → HasTokens new tokens rest → HasTokens old (read ++ tokens) rest
 
--- the text, which ends where it did, is written with the same
-pub record IsOnOf (old new : Lexer) : Type 0 where
+-- new is further on in the text of old: it is written with the same, and ends where it did
+pub record IsFurther (old new : Lexer) : Type 0 where
   pub lexicon : lexicon_in new ≡ lexicon_in old
   pub ends : new.start + length new.rest.now ≡ old.start + length old.rest.now
 
 -- a token that was read
 pub record GivesOne (old : Lexer) (given : Lexeme) (new : Lexer) : Type 0 where
-  pub on : IsOnOf old new
+  pub further : IsFurther old new
   pub token : IsTrue (is_token (lexicon_in old) given.bytes.now)
   pub class : given.class ≡ class_of (lexicon_in old) given.bytes.now
   pub in_range : given.start + length given.bytes.now < 2 ^ 32
@@ -38,7 +38,7 @@ pub record GivesOne (old : Lexer) (given : Lexeme) (new : Lexer) : Type 0 where
 
 -- no token is left
 pub record GivesNone (old new : Lexer) : Type 0 where
-  pub on : IsOnOf old new
+  pub further : IsFurther old new
   pub reads : HasTokens old [] new.rest.now
 
 -- a call of `next`

@@ -1,11 +1,13 @@
 -- Which tokens have the class of names, and which that of numbers.
-use Rattle.std.proofs.Common.{◌==◌, ◌≡◌, ℕ, ◌<◌, ◌≤◌, Bool, true, false, not, ◌&&◌, ◌||◌, nat_lt, List, [], ◌∷◌, map, Option, Some, None, IsTrue, ◌⊎◌, inl, inr, refl, sym, ap, ◌∙◌, arith}
-use Rattle.std.specs.Prelude.{unwrap_or, if◌then◌else◌}
+use Rattle.std.proofs.Common.{◌==◌, ◌≡◌, ℕ, ◌<◌, Bool, true, false, not, ◌&&◌, nat_lt, List, [], ◌∷◌, Option, Some, None, IsTrue, ◌⊎◌, inl, inr, refl, sym}
+use Rattle.std.proofs.Common.{ap, ◌∙◌, arith}
+use Rattle.std.specs.Prelude.{unwrap_or}
 use Rattle.std.specs.List.{list_all}
 use Rattle.std.specs.Str.{bytes_eq}
 use Rattle.std.specs.Char.{is_ascii_alphabetic, is_ascii_digit}
 use Rattle.std.proofs.lemmas.Slice.Eq.{bytes_eq-Decides}
-use Rattle.std.proofs.lemmas.Bool.{false_from_ne_true, and_left, eqb-false, cases_Bool, and_parts, and_from, or_cases, or_right, false≢true, both_ways, not-true, ltb-true}
+use Rattle.std.proofs.lemmas.Bool.{false_from_ne_true, and_left, eqb-false, cases_Bool, and_parts, and_from, or_right, false≢true, both_ways, not-true}
+use Rattle.std.proofs.lemmas.Bool.{ltb-true}
 use Rattle.dcv_lexer.specs.Lexicon.{texts_of, word_class, symbol_class}
 use Rattle.dcv_lexer.proofs.Fronts.{digit_is_no_letter}
 use Rattle.dcv_tokens.specs.Formulas.{fixed_symbols, fixed_words, formulas}
@@ -21,7 +23,8 @@ class_of_symbol = symbol_class formulas
 -- ---- a table
 
 -- a text with a class is one of the table's, whose classes pass a test
-class_passes : (table : List (List ℕ × ℕ)) (p : ℕ → Bool) (bytes : List ℕ) (class : ℕ) → list_all (λ entry. p entry.1) table ≡ true → class_in table bytes ≡ Some class → p class ≡ true
+class_passes : (table : List (List ℕ × ℕ)) (p : ℕ → Bool) (bytes : List ℕ) (class : ℕ) → list_all (λ entry. p entry.1) table ≡ true
+    → class_in table bytes ≡ Some class → p class ≡ true
 class_passes [] p bytes class all is = let never : None ≡ Some class = is in cc
 class_passes (entry ∷ table) p bytes class all is =
     let both = and_parts (p entry.1) (list_all (λ e. p e.1) table) all in
@@ -73,7 +76,8 @@ some_or_none None = inr refl
 some_or_none (Some x) = inl (x, refl)
 
 -- a word's class is that of names where it is not reserved, and else less
-word_class_is : (bytes : List ℕ) → ((class_of_word bytes ≡ name) × (is_one_of reserved_words bytes ≡ false)) ⊎ ((class_of_word bytes < name) × (is_one_of reserved_words bytes ≡ true))
+word_class_is : (bytes : List ℕ)
+    → ((class_of_word bytes ≡ name) × (is_one_of reserved_words bytes ≡ false)) ⊎ ((class_of_word bytes < name) × (is_one_of reserved_words bytes ≡ true))
 word_class_is bytes = elim (some_or_none (class_in fixed_words bytes)) [
   | inl some ↦
       let is : class_of_word bytes ≡ some.0 = ap (λ (o : Option ℕ). unwrap_or o name) some.1 in
@@ -153,7 +157,8 @@ abbrev are_distinct : List (List ℕ × ℕ) → Bool
 are_distinct [] = true
 are_distinct (entry ∷ table) = list_all (λ other. not (other.1 == entry.1)) table && are_distinct table
 
-same_text : (table : List (List ℕ × ℕ)) (text other : List ℕ) (class : ℕ) → are_distinct table ≡ true → class_in table text ≡ Some class → class_in table other ≡ Some class → text ≡ other
+same_text : (table : List (List ℕ × ℕ)) (text other : List ℕ) (class : ℕ) → are_distinct table ≡ true → class_in table text ≡ Some class
+    → class_in table other ≡ Some class → text ≡ other
 same_text [] text other class distinct is other_is = let never : None ≡ Some class = is in cc
 same_text (entry ∷ table) text other class distinct is other_is =
     let both = and_parts (list_all (λ e. not (e.1 == entry.1)) table) (are_distinct table) distinct in
@@ -174,7 +179,8 @@ same_text (entry ∷ table) text other class distinct is other_is =
       ]
     ]
   where
-    not_again : (table : List (List ℕ × ℕ)) (bytes : List ℕ) (class : ℕ) → list_all (λ e. not (e.1 == class)) table ≡ true → class_in table bytes ≡ Some class → ⊥
+    not_again : (table : List (List ℕ × ℕ)) (bytes : List ℕ) (class : ℕ) → list_all (λ e. not (e.1 == class)) table ≡ true
+        → class_in table bytes ≡ Some class → ⊥
     not_again table bytes class apart is =
         eqb-false class class (not-true (class == class) (class_passes table (λ k. not (k == class)) bytes class apart is)) refl
 

@@ -2,9 +2,8 @@
 use Rattle.std.proofs.Common.{◌≡◌, ℕ, ◌<◌, List, length, IsTrue, true, refl}
 use Rattle.dcv_lexer.specs.Lexicon.{is_orderly}
 use Rattle.dcv_lexer.proofs.Cuts as cuts
-use Rattle.dcv_lexer.proofs.ByFirst as kinds
 use Rattle.dcv_tokens.specs.Formulas.{fixed_symbols, formulas}
-use Rattle.dcv_tokens.specs.Tokens.{is_piece, is_token, IsCut, CutIsUnique, CutExists}
+use Rattle.dcv_tokens.specs.Tokens.{is_piece, CutIsUnique, CutExists}
 
 pub piece_has_bytes : (piece : List ℕ) → IsTrue (is_piece piece) → 0 < length piece
 piece_has_bytes = cuts.piece_has_bytes formulas

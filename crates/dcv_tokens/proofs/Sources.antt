@@ -1,5 +1,5 @@
 -- The tokens that are left of a formula file are those of its lexer.
-use Rattle.std.proofs.Common.{◌≡◌, ◌↔◌, ℕ, List, [], ◌++◌, sym, ap, subst, ◌∙◌, append-nil}
+use Rattle.std.proofs.Common.{◌≡◌, ◌↔◌, ℕ, List, [], ◌++◌, sym, subst, ◌∙◌, append-nil}
 use Rattle.dcv_lexer.specs.Lexicon.{Lexicon}
 use Rattle.dcv_lexer.specs.Cuts as cuts
 use Rattle.dcv_lexer.specs.Reading.{lexicon_in}
@@ -28,9 +28,11 @@ module _ (source : Tokens) (text : List ℕ) (start : source.lexer.start ≡ 0) 
   to_lexer : (tokens : List Token) (rest : List ℕ) → IsTokenized text tokens rest → HasTokens source tokens rest
   to_lexer tokens rest t = record { pieces = t.pieces; cut = back t.pieces rest t.cut; among = t.among ∙ sym (same t.pieces) }
 
-pub tokens_of_text : (source : Tokens) (text : List ℕ) (tokens : List Token) (rest : List ℕ) → source.lexer.start ≡ 0 → source.lexer.rest.now ≡ text → HasTokens source tokens rest ↔ IsTokenized text tokens rest
+pub tokens_of_text : (source : Tokens) (text : List ℕ) (tokens : List Token) (rest : List ℕ) → source.lexer.start ≡ 0 → source.lexer.rest.now ≡ text
+    → HasTokens source tokens rest ↔ IsTokenized text tokens rest
 tokens_of_text source text tokens rest start whole = (of_lexer source text start whole tokens rest, to_lexer source text start whole tokens rest)
 
-pub tokenized : (source : Tokens) (text : List ℕ) (tokens : List Token) (rest : List ℕ) → source.lexer.start ≡ 0 → source.lexer.rest.now ≡ text → HasTokens source (tokens ++ []) rest → IsTokenized text tokens rest
+pub tokenized : (source : Tokens) (text : List ℕ) (tokens : List Token) (rest : List ℕ) → source.lexer.start ≡ 0 → source.lexer.rest.now ≡ text
+    → HasTokens source (tokens ++ []) rest → IsTokenized text tokens rest
 tokenized source text tokens rest start whole h =
     subst (λ (ts : List Token). IsTokenized text ts rest) (append-nil tokens) (of_lexer source text start whole (tokens ++ []) rest h)

@@ -5,7 +5,7 @@
 --     tokens_from start pieces           the tokens among the pieces
 --     IsTokenized text tokens rest       these are the text's tokens, and the rest is empty or begins with the byte fault
 --     span_of token, span_over a b       from the first byte of a token to its last, or to the last of another
-use Rattle.std.specs.Prelude.{◌≡◌, ℕ, ◌+◌, Bool, not, ◌&&◌, List, length, map, IsTrue}
+use Rattle.std.specs.Prelude.{◌≡◌, ℕ, ◌+◌, Bool, not, ◌&&◌, List, length, map}
 use Rattle.dcv_syntax.specs.declared.names.Span.{Span}
 pub use Rattle.dcv_lexer.specs.Lexicon.{is_one_of, is_white, is_white_space, is_in_line, is_comment, is_word_byte, is_word, is_number}
 pub use Rattle.dcv_lexer.specs.Cuts.{Token, BeginsWith}

@@ -150,11 +150,13 @@ impl<'a> Iterator for Tokens<'a> {
     ghost remaining = { λ tokens. at_most (length tokens.lexer.rest.now) };
 
     fn next(&mut self) -> Option<Token<'a>> {
-        let Some(Lexeme {
-            bytes,
-            start,
-            class,
-        }) = self.lexer.next()
+        let Some(
+            Lexeme {
+                bytes,
+                start,
+                class,
+            },
+        ) = self.lexer.next()
         else {
             return None;
         };

@@ -1,4 +1,4 @@
-use Rattle.std.proofs.Common.{◌≡◌, ◌∙◌, sym, refl, false, true, nat_eq, ◌&&◌, ◌∷◌, []}
+use Rattle.std.proofs.Common.{◌∙◌, sym, refl, nat_eq, ◌∷◌, []}
 use Rattle.std.specs.List.{starts_with}
 use Rattle.std.proofs.lemmas.Bool.{and_left, and_right}
 use Rattle.dcv_lexer.specs.Lexicon.{lexicon_of}

@@ -2,7 +2,7 @@ use Rattle.std.proofs.Common.{◌≡◌, ◌∙◌, ◌+◌, sym, refl}
 use Rattle.dcv_lexer.specs.declared.reading.Lexer.{Lexer}
 use Rattle.dcv_lexer.specs.Fronts.{IsFront}
 use Rattle.dcv_lexer.specs.Reading.{lexicon_in}
-use Rattle.dcv_lexer.proofs.Lexers.{IsBehind, HasPassed, passed_blank, gives_one, gives_none}
+use Rattle.dcv_lexer.proofs.Lexers.{IsBehind, passed_blank, gives_one}
 use Rattle.dcv_lexer.proofs.reading.LexerIterator.next.Goals as goal
 use Rattle.dcv_lexer.proofs.reading.LexerIterator.next.Goals.{After-split_at}
 

@@ -1,7 +1,6 @@
 use Rattle.std.proofs.Common.{◌≡◌, ◌∙◌, sym}
 use Rattle.dcv_lexer.specs.Lexicon.{lexicon_of, is_word, is_number}
-use Rattle.dcv_lexer.proofs.Cuts.{piece_has_bytes}
-use Rattle.dcv_lexer.proofs.Fronts.{class_of_word, class_of_number, class_of_symbol}
+use Rattle.dcv_lexer.proofs.Fronts.{class_of_word, class_of_number}
 use Rattle.dcv_lexer.proofs.ByFirst.{word_by_first, number_by_first, token_is_piece}
 use Rattle.dcv_lexer.proofs.tables.Lexicon.class_of.Goals as goal
 use Rattle.dcv_lexer.proofs.tables.Lexicon.class_of.Goals.{After-is_ascii_alphabetic, After-is_ascii_digit}

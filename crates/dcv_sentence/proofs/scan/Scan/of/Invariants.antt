@@ -7,4 +7,4 @@ abbrev pub invariant-loop-token : goal.invariant-loop-token
 invariant-loop-token l = Reads l.initial.source (map seen l.tokens.items) l.source
 
 abbrev pub decreases-loop-token : goal.decreases-loop-token
-decreases-loop-token l = length l.source.rest.now
+decreases-loop-token l = length l.source.lexer.rest.now
