@@ -3,7 +3,7 @@
 //!
 //! ```text
 //! // the function that is, at each letter, what `merge` makes of f's and g's numbers there
-//! let mut memo = Memo::new(alloc, 65_536)?;
+//! let mut memo = Memo::new(alloc, USUAL_CAPACITY)?;
 //! let root = apply(alloc, &mut arena, &first, &second, &[(0, f), (1, g)], &mut merge, &mut memo, 0)?;
 //! // the same with one more slot, which is thereby quantified: `merge` is given their numbers with it false, and then with it true
 //! let root = apply_last(alloc, &mut arena, &first, &second, &[(0, f), (1, g)], &mut merge, &mut memo, 1)?;
@@ -18,5 +18,5 @@ mod operands;
 mod visits;
 
 pub use faults::{ApplyFault, MergeFault};
-pub use memo::Memo;
+pub use memo::{Memo, USUAL_CAPACITY};
 pub use merging::{Merge, apply, apply_last};

@@ -7,7 +7,7 @@ ghost use Rattle.std.specs.List.{All};
 ghost use Rattle.dcv_arena.specs.Arena.{IsRef, IsArena, level_of, KeepsRefs};
 ghost use Rattle.dcv_apply.specs.Operands.{IsOperand, numbers_at, numbers_at_both};
 ghost use Rattle.dcv_apply.specs.Sources.{HasArenas, IsIn, IsFrom, merged_by};
-ghost use Rattle.dcv_apply.specs.Memo.{HoldsRound, KeepsOthers, Remembers};
+ghost use Rattle.dcv_apply.specs.Memo.{HoldsRound, Remembers};
 ghost use Rattle.dcv_arena.specs.Pointwise.{MeansMerged};
 ghost use Rattle.dcv_apply.specs.Merged.{GoesOn, AddsOnlyOfMerged, HasMoreMerged, IsApplied};
 ghost use Rattle.dcv_apply.specs.declared.faults.MergeFault.TheVariants.{States as MergeStates};
@@ -226,9 +226,7 @@ impl Operation<'_> {
         ensures kept { KeepsRefs arena.old arena.new }
         ensures arena { IsArena arena.new }
         ensures goes_on { GoesOn G.may G.gives G.becomes merge.old merge.new }
-        ensures holds { HoldsRound (G.gives merge.new) (merged_by self.now) arena.new self.now.round memo.new }
-        ensures others { KeepsOthers self.now.round memo.old memo.new }
-        ensures capacity { memo.new.capacity ≡ memo.old.capacity }
+        ensures remembered { Remembers (G.gives merge.new) (merged_by self.now) arena.new self.now.round memo.old memo.new }
     {
         let slots = arena.slots();
         let slot = visit.first_slot(&self.sources, slots);
@@ -276,9 +274,7 @@ impl Operation<'_> {
         ensures kept { KeepsRefs arena.old arena.new }
         ensures arena { IsArena arena.new }
         ensures goes_on { GoesOn G.may G.gives G.becomes merge.old merge.new }
-        ensures holds { HoldsRound (G.gives merge.new) (merged_by self.now) arena.new self.now.round memo.new }
-        ensures others { KeepsOthers self.now.round memo.old memo.new }
-        ensures capacity { memo.new.capacity ≡ memo.old.capacity }
+        ensures remembered { Remembers (G.gives merge.new) (merged_by self.now) arena.new self.now.round memo.old memo.new }
     {
         let (when_false, when_true) = visit.sides(self, slot)?;
         let lo = self.apply_from(arena, when_false, slot + 1, merge, memo)?;

@@ -1,5 +1,5 @@
 -- Truths as numbers, and how they are joined.
-use Rattle.std.proofs.Common.{◌≡◌, ℕ, zero, suc, ◌<◌, Bool, true, false, ◌&&◌, ◌||◌, ◌==◌, List, [], ◌∷◌, ◌++◌, length, map, get_or, refl, ap, sym, subst, ◌∙◌, arith}
+use Rattle.std.proofs.Common.{◌≡◌, ℕ, zero, suc, ◌<◌, Bool, true, false, not, ◌&&◌, ◌||◌, ◌==◌, List, [], ◌∷◌, ◌++◌, length, map, get_or, refl, ap, sym, subst, ◌∙◌, arith}
 use Rattle.std.specs.List.{flat_map}
 use Rattle.dcv_language.specs.Operations.{iff}
 use Rattle.dcv_arena.specs.Arena.{ArenaValue, IsRef, value_of, table_of, places, count_with}
@@ -13,7 +13,7 @@ use Rattle.dcv_atoms.specs.declared.functions.Join.{Join}
 use Rattle.dcv_atoms.specs.declared.functions.Join.TheVariants.{And, Or, Iff}
 use Rattle.dcv_atoms.specs.Parts.{number_of_truth, parts, all_parts}
 use Rattle.dcv_renumber.specs.Renumbered.{renumbered}
-use Rattle.dcv_atoms.specs.Functions.{FunctionValue, Means, joined, unit_of, all_joined, list_of, number_joined}
+use Rattle.dcv_atoms.specs.Functions.{FunctionValue, Means, HasTruths, joined, unit_of, all_joined, list_of, number_joined}
 
 -- ---- truths as numbers
 
@@ -30,6 +30,20 @@ pub itself_listed : (number : ℕ) → number < 2 → get_or (0 ∷ 1 ∷ []) nu
 itself_listed zero small = refl
 itself_listed (suc zero) small = refl
 itself_listed (suc (suc number)) small = absurd (omega (arith, small))
+
+-- a list of 1 and 0 has at each of these places the other number, and has no others
+pub turned : (holds : Bool) → get_or (1 ∷ 0 ∷ []) (number_of_truth holds) 0 ≡ number_of_truth (not holds)
+turned true = refl
+turned false = refl
+
+pub turned_small : (number : ℕ) → get_or (1 ∷ 0 ∷ []) number 0 < 2
+turned_small zero = omega arith
+turned_small (suc zero) = omega arith
+turned_small (suc (suc number)) = omega arith
+
+-- the numbers of a function that a test stands for
+pub means_truths : (arena : ArenaValue) (root : Ref) (P : List Bool → Bool) → Means arena root arena.slots P → HasTruths arena root
+means_truths arena root P means letter size = subst (λ number. number < 2) (sym (means.value letter size)) (is_small (P letter))
 
 -- functions that agree have as many nodes with an arena
 pub same_count_with : (arena : ArenaValue) (f g : List Bool → ℕ) → ((letter : List Bool) → length letter ≡ arena.slots → f letter ≡ g letter)
@@ -51,6 +65,17 @@ means_joined join first second new one other root slots P Q p q is_ref same merg
       merged letter (size ∙ sym same)
       ∙ (λ i. number_of_truth (joined join (p.value letter size i == 1) (q.value letter size i == 1)))
       ∙ (λ i. number_of_truth (joined join (truth_again (P letter) i) (truth_again (Q letter) i)));
+}
+
+-- ---- a function turned round
+
+pub means_opposite : (old new : ArenaValue) (root opposite : Ref) (P : List Bool → Bool) → Means old root old.slots P → IsRef new opposite → new.slots ≡ old.slots
+    → ((letter : List Bool) → length letter ≡ new.slots → value_of new opposite letter ≡ renumbered (1 ∷ 0 ∷ []) old root letter)
+    → Means new opposite old.slots (λ letter. not (P letter))
+means_opposite old new root opposite P means is_ref same renumbers = record {
+  is_ref = is_ref;
+  slots_are = same;
+  value = λ letter size. renumbers letter (size ∙ sym same) ∙ ap (λ number. get_or (1 ∷ 0 ∷ []) number 0) (means.value letter size) ∙ turned (P letter);
 }
 
 -- ---- operands joined one after another

@@ -7,4 +7,5 @@ pub mod Joining
 pub mod FaultFacts
 pub mod SlotSteps
 pub mod Lists
+pub mod OneRound
 pub mod ListSteps

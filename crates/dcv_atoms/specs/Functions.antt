@@ -1,7 +1,7 @@
 -- Diagrams of propositions, and how they are joined.
 --     Means arena root slots P     the ref is a function of letters of so many slots: 1 where the test holds, and 0 where it does not
---     FunctionValue, IsFunction    what contracts see of a function with an arena of its own, and what is true of each: it has no
---                                  other numbers than these
+--     HasTruths arena root         the ref has no other numbers than these
+--     FunctionValue, IsFunction    what contracts see of a function with an arena of its own, and what is true of each
 --     joined join first second     two truths joined to one
 --     unit_of join                 what no truths are joined to
 --     all_joined join so_far listed letter     the truths of propositions in a letter, joined from the left
@@ -21,6 +21,9 @@ pub record Means (arena : ArenaValue) (root : Ref) (slots : ℕ) (P : List Bool 
   pub slots_are : arena.slots ≡ slots
   pub value : (letter : List Bool) → length letter ≡ slots → value_of arena root letter ≡ number_of_truth (P letter)
 
+abbrev pub HasTruths : ArenaValue → Ref → Type 0
+HasTruths arena root = (letter : List Bool) → length letter ≡ arena.slots → value_of arena root letter < 2
+
 pub record FunctionValue : Type 0 where
   pub arena : ArenaValue
   pub root : Ref
@@ -28,7 +31,7 @@ pub record FunctionValue : Type 0 where
 pub record IsFunction (function : FunctionValue) : Type 0 where
   pub arena : IsArena function.arena
   pub is_ref : IsRef function.arena function.root
-  pub is_small : (letter : List Bool) → length letter ≡ function.arena.slots → value_of function.arena function.root letter < 2
+  pub truths : HasTruths function.arena function.root
 
 abbrev pub joined : Join → Bool → Bool → Bool
 joined And first second = first && second

@@ -12,4 +12,5 @@ pub mod Numbers
 pub mod SameStates
 pub mod Leaves
 pub mod Functions
+pub mod Rounds
 pub mod Built

@@ -18,6 +18,7 @@ mod faults;
 mod functions;
 pub mod laws;
 mod proposition;
+mod rounds;
 mod rows;
 mod states;
 

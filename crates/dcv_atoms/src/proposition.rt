@@ -1,27 +1,46 @@
 // The diagram of a proposition, in an arena that gets the nodes of its parts and no others.
 //
 // The operands of a list are joined two by two, from the left, as R. E. Bryant's `Apply` joins two functions (1986): all at once they
-// would take as many steps as they have truths together, which is exponential in the slots.
+// would take as many steps as they have truths together, which is exponential in the slots. The opposite has the same nodes with the two
+// leaves exchanged.
 ghost use Rattle.std.specs.Prelude.{◌≡◌, ℕ, Bool, List, [], ◌∷◌, Err, map, not, IfOk, OnOk};
 ghost use Rattle.dcv_arena.specs.Arena.{IsRef, IsArena};
 ghost use Rattle.dcv_core.specs.Core.{PlainTruth, TruthConstant, TruthSlot, TruthNot};
 ghost use Rattle.dcv_core.specs.Holds.{truth_holds};
 ghost use Rattle.dcv_core.specs.TruthViews.{plain_truth, truths_of};
 ghost use Rattle.dcv_atoms.specs.Parts.{parts};
-ghost use Rattle.dcv_atoms.specs.Functions.{Means, list_of};
+ghost use Rattle.dcv_atoms.specs.Functions.{Means, HasTruths, list_of};
 ghost use Rattle.dcv_atoms.specs.Built.{Builds, Exceeds};
 ghost use Rattle.dcv_atoms.specs.declared.faults.AtomFault.TheVariants.{Nodes};
 
 use crate::faults::AtomFault;
 use crate::functions::{Function, Join};
+use crate::rounds::Rounds;
 use dcv_arena::{Arena, Ref};
 use dcv_core::Truth;
 use std::alloc::Global;
 
 // The letters in which the proposition holds.
+pub(crate) fn diagram(alloc: Global, arena: &mut Arena, truth: &Truth) -> Result<Ref, AtomFault>
+    requires arena { IsArena arena.old }
+    ensures means { IfOk result (λ root. Means arena.new root arena.old.slots (truth_holds (plain_truth truth.now))) }
+    ensures builds { OnOk result (Builds arena.old arena.new (parts (plain_truth truth.now))) }
+    ensures exceeds { (limit : ℕ) → result ≡ Err (Nodes limit) → Exceeds arena.old (parts (plain_truth truth.now)) limit }
+    ensures arena { IsArena arena.new }
+{
+    let mut rounds = Rounds::new(alloc)?;
+    part(alloc, arena, truth, &mut rounds)
+}
+
+// The letters in which a part of it holds.
 #[cycle(diagrams)]
 #[tactic(auto, using(crate::proofs::Lists::list_rows))]
-pub(crate) fn diagram(alloc: Global, arena: &mut Arena, truth: &Truth) -> Result<Ref, AtomFault>
+fn part(
+    alloc: Global,
+    arena: &mut Arena,
+    truth: &Truth,
+    rounds: &mut Rounds,
+) -> Result<Ref, AtomFault>
     requires arena { IsArena arena.old }
     ensures means { IfOk result (λ root. Means arena.new root arena.old.slots (truth_holds (plain_truth truth.now))) }
     ensures builds { OnOk result (Builds arena.old arena.new (parts (plain_truth truth.now))) }
@@ -32,12 +51,12 @@ pub(crate) fn diagram(alloc: Global, arena: &mut Arena, truth: &Truth) -> Result
         Truth::Constant(truth) => Ok(arena.leaf(u32::from(*truth))),
         Truth::Slot(slot) => value(arena, *slot),
         Truth::Not(operand) => {
-            let root = diagram(alloc, arena, operand)?;
+            let root = part(alloc, arena, operand, rounds)?;
             opposite(alloc, arena, root)
         }
-        Truth::And(operands) => list(alloc, arena, Join::And, operands),
-        Truth::Or(operands) => list(alloc, arena, Join::Or, operands),
-        Truth::Iff(operands) => list(alloc, arena, Join::Iff, operands),
+        Truth::And(operands) => list(alloc, arena, Join::And, operands, rounds),
+        Truth::Or(operands) => list(alloc, arena, Join::Or, operands, rounds),
+        Truth::Iff(operands) => list(alloc, arena, Join::Iff, operands, rounds),
     }
 }
 
@@ -56,11 +75,12 @@ fn value(arena: &mut Arena, slot: u8) -> Result<Ref, AtomFault>
     Ok(arena.node(slot, no, yes)?)
 }
 
-// The letters in which it does not hold. It stands apart, since `diagram` goes as deep as the proposition.
+// The letters in which it does not hold. It stands apart, since `part` goes as deep as the proposition.
 #[inline(never)]
 fn opposite(alloc: Global, arena: &mut Arena, root: Ref) -> Result<Ref, AtomFault>
     requires arena { IsArena arena.old }
     requires root { IsRef arena.old root }
+    requires truths { HasTruths arena.old root }
     ensures means { (P : List Bool → Bool) → Means arena.old root arena.old.slots P
         → IfOk result (λ root. Means arena.new root arena.old.slots (λ letter. not (P letter))) }
     ensures builds { (p : PlainTruth) → Means arena.old root arena.old.slots (truth_holds p)
@@ -69,15 +89,19 @@ fn opposite(alloc: Global, arena: &mut Arena, root: Ref) -> Result<Ref, AtomFaul
         → Exceeds arena.old (TruthNot p ∷ []) limit }
     ensures arena { IsArena arena.new }
 {
-    // it holds exactly where it is as true as what is false
-    let never = Function::constant(alloc, arena.slots(), false);
-    let opposite = never.with(alloc, Join::Iff, arena, root)?;
+    let opposite = Function::opposite(alloc, arena, root)?;
     opposite.put(alloc, arena)
 }
 
 // The letters in which the operands are joined to true.
 #[cycle(diagrams)]
-fn list(alloc: Global, arena: &mut Arena, join: Join, operands: &[Truth]) -> Result<Ref, AtomFault>
+fn list(
+    alloc: Global,
+    arena: &mut Arena,
+    join: Join,
+    operands: &[Truth],
+    rounds: &mut Rounds,
+) -> Result<Ref, AtomFault>
     requires arena { IsArena arena.old }
     ensures means { IfOk result (λ root. Means arena.new root arena.old.slots
         (truth_holds (list_of join (truths_of (map plain_truth operands.now))))) }
@@ -88,8 +112,8 @@ fn list(alloc: Global, arena: &mut Arena, join: Join, operands: &[Truth]) -> Res
 {
     let mut all = Function::constant(alloc, arena.slots(), join.unit());
     for operand in operands {
-        let root = diagram(alloc, arena, operand)?;
-        all = all.with(alloc, join, arena, root)?;
+        let root = part(alloc, arena, operand, rounds)?;
+        all = all.with(alloc, join, arena, root, rounds)?;
     }
     all.put(alloc, arena)
 }

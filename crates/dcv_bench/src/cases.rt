@@ -3,17 +3,15 @@ ghost use Rattle.std.specs.Prelude.{◌≡◌, ◌≤◌, ◌<◌, ℕ, Bool, Li
 ghost use Rattle.dcv_arena.specs.Arena.{IsRef, KeepsRefs, value_of};
 
 use crate::functions::{Function, parity};
-use dcv_apply::{ApplyFault, Memo, Merge, MergeFault, apply};
+use dcv_apply::{ApplyFault, Memo, Merge, MergeFault, USUAL_CAPACITY, apply};
 use dcv_arena::{Arena, ArenaFault, Ref};
 use dcv_letters::least_letters;
 use dcv_renumber::remap;
 use std::alloc::Global;
 use std::time::{CpuClock, Duration};
 
-// The most nodes of an arena, and the most entries of a memo.
+// The most nodes of an arena.
 const LIMIT: u32 = 4_000_000;
-
-const ENTRIES: usize = 65_536;
 
 // What is done again and again.
 #[derive(Clone, Copy)]
@@ -153,7 +151,7 @@ fn merged(alloc: Global, arena: &Arena, one: Ref, other: Ref) -> Result<usize, A
     requires other { IsRef arena.now other }
 {
     let mut results = Arena::new(alloc, arena.slots(), LIMIT);
-    let mut memo = Memo::new(alloc, ENTRIES)?;
+    let mut memo = Memo::new(alloc, USUAL_CAPACITY)?;
     let operands = [(0, one), (0, other)];
     apply(
         alloc,

@@ -14,8 +14,8 @@ use Rattle.dcv_atoms.proofs.ListSteps.{on_ok, if_ok, means_at, operand_exceeds, 
 use Rattle.dcv_atoms.proofs.ListSteps.{way_goes_on, way_exceeds, way_means, way_ends, way_ends_over}
 use Rattle.dcv_atoms.proofs.proposition.+diagrams.Goals as goal
 
-pub diagram-returns-in-Constant-clause-builds : goal.diagram-returns-in-Constant-clause-builds
-diagram-returns-in-Constant-clause-builds t c =
+pub part-returns-in-Constant-clause-builds : goal.part-returns-in-Constant-clause-builds
+part-returns-in-Constant-clause-builds t c =
     let arena = c.args.arena.now in
     let number : c.from.result ≡ number_of_truth c.in-Constant.truth = search rules in
     subst (λ whole. Builds arena arena (parts whole)) (sym (ap plain_truth c.in-Constant.is))
@@ -25,44 +25,44 @@ diagram-returns-in-Constant-clause-builds t c =
       value = λ letter size. c.leaf.ensures.value letter ∙ number;
     }))
 
-pub diagram-returns-in_err-root-in-Not-clause-exceeds : goal.diagram-returns-in_err-root-in-Not-clause-exceeds
-diagram-returns-in_err-root-in-Not-clause-exceeds t c limit e =
+pub part-returns-in_err-root-in-Not-clause-exceeds : goal.part-returns-in_err-root-in-Not-clause-exceeds
+part-returns-in_err-root-in-Not-clause-exceeds t c limit e =
     let p = err_from_is_err_and c.from_residual.result c.from_residual.ensures.1 in
-    let more = c.diagram.ensures.exceeds limit (c.in_err-root-in-Not.was ∙ ap Err (same_fault _ _ _ (Nodes limit) p.1 p.2 e)) in
+    let more = c.part.ensures.exceeds limit (c.in_err-root-in-Not.was ∙ ap Err (same_fault _ _ _ (Nodes limit) p.1 p.2 e)) in
     let part = plain_truth c.deref.result.now in
     let same : TruthNot part ≡ plain_truth c.args.truth.now = ap (λ (truth : Truth). TruthNot (plain_truth truth)) c.deref.ensures ∙ sym (ap plain_truth c.in-Not.is) in
     subst (λ whole. Exceeds c.args.arena.now (parts whole) limit) same (operand_exceeds c.args.arena.now (parts part) (TruthNot part) limit refl more)
 
-pub diagram-returns-in_ok-root-in-Not-clause-means : goal.diagram-returns-in_ok-root-in-Not-clause-means
-diagram-returns-in_ok-root-in-Not-clause-means t c =
+pub part-returns-in_ok-root-in-Not-clause-means : goal.part-returns-in_ok-root-in-Not-clause-means
+part-returns-in_ok-root-in-Not-clause-means t c =
     let part = plain_truth c.deref.result.now in
     let same : TruthNot part ≡ plain_truth c.args.truth.now = ap (λ (truth : Truth). TruthNot (plain_truth truth)) c.deref.ensures ∙ sym (ap plain_truth c.in-Not.is) in
     let old = c.args.arena.now in
-    let middle = c.diagram.new.arena in
+    let middle = c.part.new.arena in
     let root = c.in_ok-root-in-Not.root in
     let one = c.in_ok-root-in-Not.ensures in
     let whole = plain_truth c.args.truth.now in
     if_ok c.opposite.result (λ opposite means. not_is old middle root part whole same one.means one.builds c.opposite.new.arena opposite means)
     (c.opposite.ensures.means (truth_holds part) (not_means old middle root part whole same one.means one.builds))
 
-pub diagram-returns-in_ok-root-in-Not-clause-builds : goal.diagram-returns-in_ok-root-in-Not-clause-builds
-diagram-returns-in_ok-root-in-Not-clause-builds t c =
+pub part-returns-in_ok-root-in-Not-clause-builds : goal.part-returns-in_ok-root-in-Not-clause-builds
+part-returns-in_ok-root-in-Not-clause-builds t c =
     let part = plain_truth c.deref.result.now in
     let same : TruthNot part ≡ plain_truth c.args.truth.now = ap (λ (truth : Truth). TruthNot (plain_truth truth)) c.deref.ensures ∙ sym (ap plain_truth c.in-Not.is) in
     let old = c.args.arena.now in
-    let middle = c.diagram.new.arena in
+    let middle = c.part.new.arena in
     let root = c.in_ok-root-in-Not.root in
     let one = c.in_ok-root-in-Not.ensures in
     let whole = plain_truth c.args.truth.now in
     on_ok c.opposite.result (λ late. not_builds old middle root part whole same one.means one.builds c.opposite.new.arena late)
     (c.opposite.ensures.builds part (not_means old middle root part whole same one.means one.builds))
 
-pub diagram-returns-in_ok-root-in-Not-clause-exceeds : goal.diagram-returns-in_ok-root-in-Not-clause-exceeds
-diagram-returns-in_ok-root-in-Not-clause-exceeds t c limit e =
+pub part-returns-in_ok-root-in-Not-clause-exceeds : goal.part-returns-in_ok-root-in-Not-clause-exceeds
+part-returns-in_ok-root-in-Not-clause-exceeds t c limit e =
     let part = plain_truth c.deref.result.now in
     let same : TruthNot part ≡ plain_truth c.args.truth.now = ap (λ (truth : Truth). TruthNot (plain_truth truth)) c.deref.ensures ∙ sym (ap plain_truth c.in-Not.is) in
     let old = c.args.arena.now in
-    let middle = c.diagram.new.arena in
+    let middle = c.part.new.arena in
     let root = c.in_ok-root-in-Not.root in
     let one = c.in_ok-root-in-Not.ensures in
     let whole = plain_truth c.args.truth.now in
@@ -74,7 +74,7 @@ diagram-returns-in_ok-root-in-Not-clause-exceeds t c limit e =
 pub list-returns-in_err-root-clause-exceeds : goal.list-returns-in_err-root-clause-exceeds
 list-returns-in_err-root-clause-exceeds t c limit e =
     let p = err_from_is_err_and c.from_residual.result c.from_residual.ensures.1 in
-    let more = c.diagram.ensures.exceeds limit (c.in_err-root.was ∙ ap Err (same_fault _ _ _ (Nodes limit) p.1 p.2 e)) in
+    let more = c.part.ensures.exceeds limit (c.in_err-root.was ∙ ap Err (same_fault _ _ _ (Nodes limit) p.1 p.2 e)) in
     let operands = c.args.operands.now in
     let place = c.loop-operand.operand-index in
     let item = c.operand-item.result in
@@ -94,7 +94,7 @@ list-loop-operand-preserved t c =
     let listed = map plain_truth operands in
     let old = c.args.arena.now in
     let here = c.loop-operand.arena in
-    let there = c.diagram.new.arena in
+    let there = c.part.new.arena in
     let all = c.loop-operand.all in
     let next = c.in_ok-all.all in
     let one = c.in_ok-root.ensures in

@@ -1,4 +1,4 @@
-use Rattle.std.proofs.Common.{rules, ◌≤◌, true, false, set, Err, sym, ap, subst, ◌∙◌, arith}
+use Rattle.std.proofs.Common.{rules, ◌≤◌, true, false, set, Err, refl, sym, ap, subst, ◌∙◌, arith}
 use Rattle.std.proofs.lemmas.List.{length-set}
 use Rattle.std.proofs.lemmas.Result.{err_from_is_err_and}
 use Rattle.dcv_arena.specs.Arena.{AddsOnlyNodesOfFunction}
@@ -14,9 +14,13 @@ use Rattle.dcv_apply.proofs.merging.Operation.+apply_from.Goals as goal
 
 -- ---- a leaf, and what is remembered
 
-pub apply_from-returns-then-slot-slots-clause-holds : goal.apply_from-returns-then-slot-slots-clause-holds
-apply_from-returns-then-slot-slots-clause-holds g t c =
-    holds_known (merged_by c.args.self.now) c.args.self.now.round (g.G.Merge.gives c.args.merge.now) (g.G.Merge.gives c.merge_numbers.new.merge) c.args.arena.now c.args.memo.now c.merge_numbers.ensures.goes_on.known c.requires.holds
+pub apply_from-returns-then-slot-slots-clause-remembered : goal.apply_from-returns-then-slot-slots-clause-remembered
+apply_from-returns-then-slot-slots-clause-remembered g t c = record {
+  holds = holds_known (merged_by c.args.self.now) c.args.self.now.round (g.G.Merge.gives c.args.merge.now) (g.G.Merge.gives c.merge_numbers.new.merge) c.args.arena.now c.args.memo.now
+      c.merge_numbers.ensures.goes_on.known c.requires.holds;
+  others = λ one there other. there;
+  capacity = refl;
+}
 
 pub apply_from-returns-in-Some-clause-is_ref : goal.apply_from-returns-in-Some-clause-is_ref
 apply_from-returns-in-Some-clause-is_ref g t c =
@@ -35,9 +39,13 @@ pub apply_from-returns-in-Some-clause-value : goal.apply_from-returns-in-Some-cl
 apply_from-returns-in-Some-clause-value g t c =
     (c.requires.holds (entry (g.V.Visit.round c.args.visit) (g.V.Visit.operands c.args.visit) c.in-Some.root) c.in-Some.ensures.found c.requires.round).1
 
-pub apply_from-returns-in-Some-clause-holds : goal.apply_from-returns-in-Some-clause-holds
-apply_from-returns-in-Some-clause-holds g t c =
-    holds_less (merged_by c.args.self.now) c.args.self.now.round (g.G.Merge.gives c.args.merge.now) c.args.arena.now c.args.memo.now c.remembered.new.memo c.remembered.ensures.kept c.requires.holds
+pub apply_from-returns-in-Some-clause-remembered : goal.apply_from-returns-in-Some-clause-remembered
+apply_from-returns-in-Some-clause-remembered g t c = record {
+  holds = holds_less (merged_by c.args.self.now) c.args.self.now.round (g.G.Merge.gives c.args.merge.now) c.args.arena.now c.args.memo.now c.remembered.new.memo c.remembered.ensures.kept
+      c.requires.holds;
+  others = others_less c.args.self.now.round c.args.memo.now c.remembered.new.memo c.remembered.ensures.kept;
+  capacity = c.remembered.ensures.capacity;
+}
 
 -- ---- what is gone through, and remembered then
 
@@ -81,21 +89,21 @@ apply_from-returns-in_ok-root-in-None-clause-stray g t c front function below ag
     let from : c.args.from ≤ c.first_slot-slot.result = c.first_slot-slot.ensures.last c.args.from (omega (arith, c.slots-slots.ensures.slots)) c.requires.operands in
     c.merge_sides.ensures.stray front function (omega arith) agrees
 
-pub apply_from-returns-in_ok-root-in-None-clause-holds : goal.apply_from-returns-in_ok-root-in-None-clause-holds
-apply_from-returns-in_ok-root-in-None-clause-holds g t c =
+pub apply_from-returns-in_ok-root-in-None-clause-remembered : goal.apply_from-returns-in_ok-root-in-None-clause-remembered
+apply_from-returns-in_ok-root-in-None-clause-remembered g t c =
+    let round = c.args.self.now.round in
     let gives = g.G.Merge.gives c.merge_sides.new.merge in
     let own = entry (g.V.Visit.round c.args.visit) (g.V.Visit.operands c.args.visit) c.in_ok-root-in-None.root in
-    holds_more (merged_by c.args.self.now) c.args.self.now.round gives c.merge_sides.new.arena c.merge_sides.new.memo c.remember.new.memo
-    own c.remember.ensures.adds c.in_ok-root-in-None.ensures.is_ref c.in_ok-root-in-None.ensures.value c.merge_sides.ensures.holds
-
-pub apply_from-returns-in_ok-root-in-None-clause-others : goal.apply_from-returns-in_ok-root-in-None-clause-others
-apply_from-returns-in_ok-root-in-None-clause-others g t c =
-    let round = c.args.self.now.round in
-    let own = entry (g.V.Visit.round c.args.visit) (g.V.Visit.operands c.args.visit) c.in_ok-root-in-None.root in
+    let sides = c.merge_sides.ensures.remembered in
     let asked = others_less round c.args.memo.now c.remembered.new.memo c.remembered.ensures.kept in
     let added = others_more round c.merge_sides.new.memo c.remember.new.memo own c.remember.ensures.adds c.requires.round in
-    others_in_turn round c.args.memo.now c.merge_sides.new.memo c.remember.new.memo
-    (others_in_turn round c.args.memo.now c.remembered.new.memo c.merge_sides.new.memo asked c.merge_sides.ensures.others) added
+    record {
+      holds = holds_more (merged_by c.args.self.now) round gives c.merge_sides.new.arena c.merge_sides.new.memo c.remember.new.memo
+          own c.remember.ensures.adds c.in_ok-root-in-None.ensures.is_ref c.in_ok-root-in-None.ensures.value sides.holds;
+      others = others_in_turn round c.args.memo.now c.merge_sides.new.memo c.remember.new.memo
+          (others_in_turn round c.args.memo.now c.remembered.new.memo c.merge_sides.new.memo asked sides.others) added;
+      capacity = c.remember.ensures.capacity ∙ sides.capacity ∙ c.remembered.ensures.capacity;
+    }
 
 -- ---- both sides, and then the node
 
@@ -174,7 +182,7 @@ merge_sides-apply_from-requires-2 g t c κs within =
                   (
                     λ letter size. subst (g.G.Merge.may c.apply_from.new.merge) (sym (side.at letter (omega (arith, same))))
                         (c.apply_from.ensures.goes_on.may_kept _ (c.requires.may (set letter slot true) (length-set letter slot true ∙ size ∙ same))),
-                    c.apply_from.ensures.holds,
+                    c.apply_from.ensures.remembered.holds,
                   ),
                 ),
               ),
@@ -288,14 +296,26 @@ merge_sides-returns-clause-stray g t c front function below agrees =
 
 -- ---- what the memo holds once the node is there
 
-pub merge_sides-returns-in_err-root-clause-holds : goal.merge_sides-returns-in_err-root-clause-holds
-merge_sides-returns-in_err-root-clause-holds g t c =
+pub merge_sides-returns-in_err-root-clause-remembered : goal.merge_sides-returns-in_err-root-clause-remembered
+merge_sides-returns-in_err-root-clause-remembered g t c =
     let gives = g.G.Merge.gives c.apply_from-2.new.merge in
-    holds_grown (merged_by c.args.self.now) c.args.self.now.round gives gives c.apply_from-2.new.arena c.node.new.self c.apply_from-2.new.memo
-    (λ _ _ given. given) c.node.ensures.kept c.apply_from-2.ensures.holds
+    let first = c.apply_from.ensures.remembered in
+    let second = c.apply_from-2.ensures.remembered in
+    record {
+      holds = holds_grown (merged_by c.args.self.now) c.args.self.now.round gives gives c.apply_from-2.new.arena c.node.new.self c.apply_from-2.new.memo
+          (λ _ _ given. given) c.node.ensures.kept second.holds;
+      others = others_in_turn c.args.self.now.round c.args.memo.now c.apply_from.new.memo c.apply_from-2.new.memo first.others second.others;
+      capacity = second.capacity ∙ first.capacity;
+    }
 
-pub merge_sides-returns-clause-holds : goal.merge_sides-returns-clause-holds
-merge_sides-returns-clause-holds g t c =
+pub merge_sides-returns-clause-remembered : goal.merge_sides-returns-clause-remembered
+merge_sides-returns-clause-remembered g t c =
     let gives = g.G.Merge.gives c.apply_from-2.new.merge in
-    holds_grown (merged_by c.args.self.now) c.args.self.now.round gives gives c.apply_from-2.new.arena c.node.new.self c.apply_from-2.new.memo
-    (λ _ _ given. given) c.node.ensures.kept c.apply_from-2.ensures.holds
+    let first = c.apply_from.ensures.remembered in
+    let second = c.apply_from-2.ensures.remembered in
+    record {
+      holds = holds_grown (merged_by c.args.self.now) c.args.self.now.round gives gives c.apply_from-2.new.arena c.node.new.self c.apply_from-2.new.memo
+          (λ _ _ given. given) c.node.ensures.kept second.holds;
+      others = others_in_turn c.args.self.now.round c.args.memo.now c.apply_from.new.memo c.apply_from-2.new.memo first.others second.others;
+      capacity = second.capacity ∙ first.capacity;
+    }
