@@ -11,6 +11,8 @@
 
 mod lists;
 mod members;
+mod sparse_set;
 
 pub use lists::{add_to, list};
 pub use members::Members;
+pub use sparse_set::SparseSet;
