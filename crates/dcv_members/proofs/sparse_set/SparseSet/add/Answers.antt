@@ -1,4 +1,4 @@
-use Rattle.std.proofs.Common.{List, sym, ap, subst, ◌∙◌, ◌≡◌, length, ◌++◌, ◌∷◌, [], Some, slice_get, false, set, eqb, arith}
+use Rattle.std.proofs.Common.{sym, ap, subst, ◌∙◌, ◌≡◌, length, ◌++◌, ◌∷◌, [], slice_get, false, set, eqb, arith}
 use Rattle.std.specs.List.{IsDistinct}
 use Rattle.dcv_members.specs.SparseSet.{has, StandAt}
 use Rattle.dcv_members.proofs.SetFacts.{stand_more, once_more, last_is}

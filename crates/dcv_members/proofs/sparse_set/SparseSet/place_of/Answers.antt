@@ -1,4 +1,4 @@
-use Rattle.std.proofs.Common.{◌≡◌, List, false, get_or, subst, sym, ap, ◌∙◌}
+use Rattle.std.proofs.Common.{◌≡◌, false, get_or, subst, sym, ap, ◌∙◌}
 use Rattle.dcv_members.specs.SparseSet.{has, is_at}
 use Rattle.dcv_members.proofs.SetFacts.{absent}
 use Rattle.dcv_members.proofs.sparse_set.SparseSet.place_of.Goals as goal
