@@ -1,53 +1,65 @@
 -- A number more in the list of a leaf or a place, and an index that grows with it.
-use Rattle.std.proofs.Common.{◌≡◌, ℕ, ◌<◌, ◌+◌, Bool, true, false, if◌then◌else◌, List, length, slice_index_or, ◌⊎◌, inl, inr, Contains, refl, sym, ap, subst, ◌∙◌, arith}
+use Rattle.std.proofs.Common.{◌≡◌, ℕ, ◌<◌, ◌≤◌, ◌+◌, Bool, true, false, if◌then◌else◌, List, length, slice_index_or, ◌⊎◌, inl, inr, Contains, refl, sym, ap, subst, ◌∙◌, arith}
 use Rattle.std.proofs.lemmas.Bool.{cases_lt}
 use Rattle.dcv_arena.specs.Arena.{ArenaValue, IsRef, level_of, value_of}
 use Rattle.dcv_arena.specs.declared.nodes.Ref.{Ref}
 use Rattle.dcv_arena.specs.declared.nodes.Ref.TheVariants.{Leaf, Place}
-use Rattle.dcv_members.specs.Lists.{AddsAt, list_at}
-use Rattle.dcv_index.specs.Lists.{Adds, HasList, listed_at}
+use Rattle.dcv_index.specs.Lists.{Adds, AreLinked, HasList, last_of, listed_at}
 use Rattle.dcv_index.specs.Leads.{row_at}
 use Rattle.dcv_index.specs.Index.{IsWithin, IsAbove, GoesDown, IsListedRow}
 use Rattle.dcv_index.specs.declared.lists.Lists.{Lists}
+use Rattle.dcv_index.proofs.ChainFacts.{GetsNumber, StaysSame}
 
 -- the leaves' lists change, and the places' do not, or the other way round
-module _ (old new : Lists) (at number : ℕ) where
-  pub adds_leaf : AddsAt old.leaves.items new.leaves.items at number → new.places ≡ old.places → Adds old new (Leaf at) number
-  adds_leaf adds same = record {
-    leaves = adds.size;
-    places = λ i. length (same i).items;
+module _ (old new : Lists) (linked : AreLinked old) (at number : ℕ) where
+  pub adds_leaf : GetsNumber old.entries.items old.leaves.items at number new.entries.items new.leaves.items
+      → StaysSame old.entries.items old.places.items new.entries.items new.places.items → Adds old new (Leaf at) number
+  adds_leaf gets stays = record {
+    linked = record { earlier = gets.earlier; lasts = lasts };
+    leaves = gets.size;
+    places = stays.size;
     keeps = keeps;
-    has = adds.has;
+    has = gets.has;
     only = only;
   }
     where
+      lasts : (ref : Ref) → last_of new ref ≤ length new.entries.items
+      lasts (Leaf leaf) = gets.within leaf
+      lasts (Place place) = stays.within place
+
       keeps : (ref : Ref) (one : ℕ) → Contains (listed_at old ref) one → Contains (listed_at new ref) one
-      keeps (Leaf leaf) one c = adds.keeps leaf one c
-      keeps (Place place) one c = subst (λ list. Contains list one) (λ i. list_at (sym same i).items place) c
+      keeps (Leaf leaf) one c = gets.keeps leaf one c
+      keeps (Place place) one c = subst (λ list. Contains list one) (sym (stays.same place)) c
 
       only : (ref : Ref) (one : ℕ) → Contains (listed_at new ref) one → Contains (listed_at old ref) one ⊎ ((ref ≡ Leaf at) × (one ≡ number))
-      only (Leaf leaf) one c = elim (adds.only leaf one c) [
+      only (Leaf leaf) one c = elim (gets.only leaf one c) [
         | inl before ↦ inl before
         | inr here ↦ inr (ap Leaf here.0, here.1)
       ]
-      only (Place place) one c = inl (subst (λ list. Contains list one) (λ i. list_at (same i).items place) c)
+      only (Place place) one c = inl (subst (λ list. Contains list one) (stays.same place) c)
 
-  pub adds_place : AddsAt old.places.items new.places.items at number → new.leaves ≡ old.leaves → Adds old new (Place at) number
-  adds_place adds same = record {
-    leaves = λ i. length (same i).items;
-    places = adds.size;
+  pub adds_place : GetsNumber old.entries.items old.places.items at number new.entries.items new.places.items
+      → StaysSame old.entries.items old.leaves.items new.entries.items new.leaves.items → Adds old new (Place at) number
+  adds_place gets stays = record {
+    linked = record { earlier = gets.earlier; lasts = lasts };
+    leaves = stays.size;
+    places = gets.size;
     keeps = keeps;
-    has = adds.has;
+    has = gets.has;
     only = only;
   }
     where
+      lasts : (ref : Ref) → last_of new ref ≤ length new.entries.items
+      lasts (Leaf leaf) = stays.within leaf
+      lasts (Place place) = gets.within place
+
       keeps : (ref : Ref) (one : ℕ) → Contains (listed_at old ref) one → Contains (listed_at new ref) one
-      keeps (Leaf leaf) one c = subst (λ list. Contains list one) (λ i. list_at (sym same i).items leaf) c
-      keeps (Place place) one c = adds.keeps place one c
+      keeps (Leaf leaf) one c = subst (λ list. Contains list one) (sym (stays.same leaf)) c
+      keeps (Place place) one c = gets.keeps place one c
 
       only : (ref : Ref) (one : ℕ) → Contains (listed_at new ref) one → Contains (listed_at old ref) one ⊎ ((ref ≡ Place at) × (one ≡ number))
-      only (Leaf leaf) one c = inl (subst (λ list. Contains list one) (λ i. list_at (same i).items leaf) c)
-      only (Place place) one c = elim (adds.only place one c) [
+      only (Leaf leaf) one c = inl (subst (λ list. Contains list one) (stays.same leaf) c)
+      only (Place place) one c = elim (gets.only place one c) [
         | inl before ↦ inl before
         | inr here ↦ inr (ap Place here.0, here.1)
       ]
@@ -93,6 +105,7 @@ module _ (arena : ArenaValue) (count : ℕ) (old new : Lists) (ref : Ref) (numbe
 
 -- so many of the nodes are listed at what they go to
 pub record AreFirstAbove (arena : ArenaValue) (count done : ℕ) (nodes : Lists) : Type 0 where
+  pub linked : AreLinked nodes
   pub leaves : length nodes.leaves.items ≡ count
   pub places : length nodes.places.items ≡ length arena.nodes
   pub above : (place : ℕ) → place < done → IsAbove arena count nodes place
@@ -139,6 +152,7 @@ module _ (arena : ArenaValue) (count place slot : ℕ) (lo hi : Ref) (within : p
 
   pub one_above : AreFirstAbove arena count (place + 1) new
   one_above = record {
+    linked = at_hi.linked;
     leaves = at_hi.leaves ∙ at_lo.leaves ∙ was.leaves;
     places = at_hi.places ∙ at_lo.places ∙ was.places;
     above = λ one before. elim (cases_lt one place) [

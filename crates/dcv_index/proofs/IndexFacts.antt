@@ -1,5 +1,5 @@
 -- What stands above the leaves has all rows that lead to one of them, and all nodes.
-use Rattle.std.proofs.Common.{◌≡◌, ℕ, zero, suc, ◌<◌, ◌≤◌, ◌+◌, Bool, false, if◌then◌else◌, List, length, slice_index_or, Result, Ok, Err, IfOk, Contains, inl, inr, ap, subst, ◌∙◌, arith}
+use Rattle.std.proofs.Common.{◌≡◌, ℕ, zero, suc, ◌<◌, ◌≤◌, ◌+◌, Bool, false, if◌then◌else◌, List, length, slice_index_or, Result, Ok, Err, OnOk, Contains, inl, inr, ap, subst, ◌∙◌, arith}
 use Rattle.std.proofs.lemmas.Bool.{cases_Bool}
 use Rattle.dcv_arena.specs.Arena.{ArenaValue, IsRef, level_of, value_of}
 use Rattle.dcv_arena.specs.declared.nodes.Ref.{Ref}
@@ -9,9 +9,9 @@ use Rattle.dcv_index.specs.Leads.{row_at, index_of, LeadsInto, IsRowInto}
 use Rattle.dcv_index.specs.Index.{IsWithin, IsIndex, IsFollowed, IsClosed}
 use Rattle.dcv_index.specs.declared.lists.Lists.{Lists}
 
-pub if_ok_two : {X E : Type 0} (result : Result X E) (P Q R : X → Type 0) → ((x : X) → P x → Q x → R x) → IfOk result P → IfOk result Q → IfOk result R
-if_ok_two (Ok x) P Q R join p q = join x p q
-if_ok_two (Err e) P Q R join p q = tt
+pub on_ok_two : {X E : Type 0} (result : Result X E) (P Q R : Type 0) → (P → Q → R) → OnOk result P → OnOk result Q → OnOk result R
+on_ok_two (Ok x) P Q R join p q = join p q
+on_ok_two (Err e) P Q R join p q = tt
 
 -- one of the leaves, or a place that is marked
 abbrev IsAmong : List ℕ → List ℕ → Ref → Type 0

@@ -2,3 +2,4 @@ pub mod MarkFacts
 mod IndexFacts
 mod WayFacts
 mod AddFacts
+mod ChainFacts

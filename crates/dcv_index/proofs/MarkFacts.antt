@@ -1,15 +1,18 @@
 -- Marking on the way up.
-use Rattle.std.proofs.Common.{◌≡◌, ℕ, zero, suc, ◌<◌, ◌≤◌, ◌+◌, take, Bool, true, false, if◌then◌else◌, List, [], ◌∷◌, ◌++◌, length, eqb, get_or, Some, slice_get, ◌⊎◌, inl, inr, Contains, refl, sym, ap, subst, ◌∙◌, arith}
+use Rattle.std.proofs.Common.{◌≡◌, ℕ, zero, suc, ◌<◌, ◌≤◌, ◌+◌, ◌-◌, Bool, true, false, if◌then◌else◌, List, [], ◌∷◌, ◌++◌, length, eqb, get_or, Some, slice_get, ◌⊎◌, inl, inr, Contains, refl, sym, ap, subst, ◌∙◌, arith}
 use Rattle.std.specs.List.{All, IsDistinct, list_any}
 use Rattle.std.proofs.lemmas.Bool.{eqb-true}
-use Rattle.std.proofs.lemmas.List.Elements.{All-weaker, All-more, All-contains, All-contains_itself, Contains-get_or, All-append, Contains-push_cases, Contains-append_right}
+use Rattle.std.proofs.lemmas.List.{append_assoc}
+use Rattle.std.proofs.lemmas.List.Elements.{All-weaker, All-more, All-contains, All-contains_itself, Contains-get_or, All-append, Contains-push, Contains-push_cases, Contains-append_right}
 use Rattle.std.proofs.lemmas.Option.{slice_get_within, slice_get-get_or, get_or_from_slice_get, same_Some}
-use Rattle.indexmap.specs.IndexSet.{insert_key}
-use Rattle.indexmap.proofs.CallerLemmas.{Contains-insert_key}
+use Rattle.std.proofs.lemmas.Map.Views.{Contains-from_any}
+use Rattle.dcv_members.specs.SparseSet.{has, with_number}
 use Rattle.dcv_arena.specs.declared.nodes.Ref.{Ref}
-use Rattle.dcv_index.specs.Lists.{listed_at}
+use Rattle.dcv_index.specs.Lists.{entry_at, chain, AreEarlier, listed_at}
 use Rattle.dcv_index.specs.Index.{IsFollowed, Grows}
+use Rattle.dcv_index.specs.declared.lists.Entry.{Entry}
 use Rattle.dcv_index.specs.declared.lists.Lists.{Lists}
+use Rattle.dcv_index.proofs.ChainFacts.{back}
 
 pub contains_at : (xs : List ℕ) (place x : ℕ) → slice_get xs place ≡ Some x → Contains xs x
 contains_at xs place x at = (place, slice_get_within xs place x at, get_or_from_slice_get xs place x x at)
@@ -32,14 +35,21 @@ module _ (old : List ℕ) (one : ℕ) where
   abbrev Is : List ℕ → Type 0
   Is new = (new ≡ old) ⊎ (new ≡ old ++ one ∷ [])
 
-  inserted : Is (insert_key eqb old one)
-  inserted = by (list_any (eqb one) old)
+  inserted : Is (with_number old one)
+  inserted = by (has old one)
     where
       by : (found : Bool) → Is (if found then old else old ++ one ∷ [])
       by true = inl refl
       by false = inr refl
 
-  module _ (new : List ℕ) (is : new ≡ insert_key eqb old one) where
+  in_list : Contains (with_number old one) one
+  in_list = by (has old one) refl
+    where
+      by : (found : Bool) → has old one ≡ found → Contains (if found then old else old ++ one ∷ []) one
+      by true e = Contains-from_any eqb-true one old e
+      by false e = Contains-push old one
+
+  module _ (new : List ℕ) (is : new ≡ with_number old one) where
     pub inserted_stays : (at x : ℕ) → slice_get old at ≡ Some x → slice_get new at ≡ Some x
     inserted_stays at x there = elim inserted [
       | inl same ↦ ap (λ keys. slice_get keys at) (is ∙ same) ∙ there
@@ -52,12 +62,12 @@ module _ (old : List ℕ) (one : ℕ) where
       | inr more ↦ Contains-push_cases old one x (subst (λ keys. Contains keys x) (is ∙ more) c)
     ]
 
-  module _ (new : List ℕ) (is : new ≡ insert_key eqb old one) where
+  module _ (new : List ℕ) (is : new ≡ with_number old one) where
     inserted_kept : (x : ℕ) → Contains old x → Contains new x
     inserted_kept x c = contains_at new c.0 x (inserted_stays new is c.0 x (at_of_contains old x c))
 
     inserted_there : Contains new one
-    inserted_there = subst (λ keys. Contains keys one) (sym is) (Contains-insert_key eqb eqb-true old one)
+    inserted_there = subst (λ keys. Contains keys one) (sym is) in_list
 
 -- ---- what is marked
 
@@ -86,23 +96,58 @@ grows_in_turn a b c d e f one other = record {
   kept = λ state there. other.kept state (one.kept state there);
 }
 
--- ---- marking a list of places, one after another
+-- ---- marking the places of a list, from its last entry back
 
--- the first places of a list are marked, and no others
-pub record MarksFirst (old places : List ℕ) (count : ℕ) (marked : List ℕ) : Type 0 where
-  pub all : All (Contains marked) (take count places)
-  pub only : (place : ℕ) → Contains marked place → Contains old place ⊎ Contains places place
+-- what is left of a list of entries begins at one of them, and what stands behind it is marked
+pub record MarksBack (entries : List Entry) (last : ℕ) (old : List ℕ) (next : ℕ) (marked : List ℕ) : Type 0 where
+  pub within : next ≤ length entries
+  pub listed : (place : ℕ) → Contains (chain entries next) place → Contains (chain entries last) place
+  pub done : (place : ℕ) → Contains (chain entries last) place → Contains marked place ⊎ Contains (chain entries next) place
+  pub only : (place : ℕ) → Contains marked place → Contains old place ⊎ Contains (chain entries last) place
   pub stay : (at place : ℕ) → slice_get old at ≡ Some place → slice_get marked at ≡ Some place
 
-pub marks_one_more : (old places : List ℕ) (count : ℕ) (marked new : List ℕ) → count < length places → new ≡ insert_key eqb marked (get_or places count 0)
-    → MarksFirst old places count marked → MarksFirst old places (count + 1) new
-marks_one_more old places count marked new within is was =
-    let one = get_or places count 0 in
-    record {
-      all = All-more (Contains new) places count 0 within (All-weaker (Contains marked) (Contains new) (inserted_kept marked one new is) (take count places) was.all) (inserted_there marked one new is);
-      only = λ place c. elim (inserted_only marked one new is place c) [
-        | inl before ↦ was.only place before
-        | inr here ↦ inr (subst (Contains places) here (Contains-get_or places count 0 within))
-      ];
-      stay = λ at place there. inserted_stays marked one new is at place (was.stay at place there);
-    }
+module _ (entries : List Entry) (are : AreEarlier entries) (last : ℕ) (old : List ℕ) where
+  pub marks_one_more : (next : ℕ) (marked new : List ℕ) → 0 < next → new ≡ with_number marked (entry_at entries (next - 1)).number
+      → MarksBack entries last old next marked → MarksBack entries last old (entry_at entries (next - 1)).earlier new
+  marks_one_more next marked new some is was =
+      let one = (entry_at entries (next - 1)).number in
+      let rest = chain entries (entry_at entries (next - 1)).earlier in
+      let inside : next - 1 < length entries = omega (arith, some, was.within) in
+      let before : (entry_at entries (next - 1)).earlier ≤ next - 1 = are (next - 1) inside in
+      let here : chain entries next ≡ one ∷ rest = back entries are next (next - 1) (omega (arith, some)) inside in
+      record {
+        within = omega (arith, before, some, was.within);
+        listed = λ place c. was.listed place (subst (λ list. Contains list place) (sym here) (Contains-append_right (one ∷ []) rest place c));
+        done = λ place c. elim (was.done place c) [
+          | inl old ↦ inl (inserted_kept marked one new is place old)
+          | inr left ↦ elim (first one rest place (subst (λ list. Contains list place) here left)) [
+            | inl same ↦ inl (subst (Contains new) (sym same) (inserted_there marked one new is))
+            | inr later ↦ inr later
+          ]
+        ];
+        only = λ place c. elim (inserted_only marked one new is place c) [
+          | inl before ↦ was.only place before
+          | inr this ↦ inr (was.listed place (subst (λ list. Contains list place) (sym here) (subst (Contains (one ∷ rest)) this (0, omega arith, refl))))
+        ];
+        stay = λ at place there. inserted_stays marked one new is at place (was.stay at place there);
+      }
+    where
+      first : (one : ℕ) (rest : List ℕ) (place : ℕ) → Contains (one ∷ rest) place → (place ≡ one) ⊎ Contains rest place
+      first one rest place (zero, inside, e) = inl (sym e)
+      first one rest place (suc k, inside, e) = inr (k, omega (arith, inside), e)
+
+  pub all_marked_back : (next : ℕ) (marked : List ℕ) → ¬ (0 < next) → MarksBack entries last old next marked → All (Contains marked) (chain entries last)
+  all_marked_back next marked end was = all_from_contains (Contains marked) (chain entries last) (λ place c. elim (was.done place c) [
+    | inl found ↦ found
+    | inr left ↦
+        let none : next ≡ 0 = omega (arith, end) in
+        absurd (let gone = subst (λ next. Contains (chain entries next) place) none left in omega (arith, gone.1))
+  ])
+
+pub look_back : (entries : List Entry) → AreEarlier entries → (next : ℕ) → 0 < next → next ≤ length entries → (looked new whole : List ℕ)
+    → new ≡ looked ++ (entry_at entries (next - 1)).number ∷ [] → looked ++ chain entries next ≡ whole → new ++ chain entries (entry_at entries (next - 1)).earlier ≡ whole
+look_back entries are next some within looked new whole is was =
+    let one = (entry_at entries (next - 1)).number in
+    let rest = chain entries (entry_at entries (next - 1)).earlier in
+    ap (λ list. list ++ rest) is ∙ append_assoc looked (one ∷ []) rest
+    ∙ ap (λ list. looked ++ list) (sym (back entries are next (next - 1) (omega (arith, some)) (omega (arith, some, within)))) ∙ was

@@ -10,9 +10,9 @@ use Rattle.dcv_arena.specs.Arena.{ArenaValue, IsArena, IsRef, value_of}
 use Rattle.dcv_arena.specs.declared.nodes.Ref.{Ref}
 use Rattle.dcv_arena.specs.declared.nodes.Ref.TheVariants.{Leaf, Place}
 use Rattle.dcv_arena.proofs.Refs.{AgreeFrom, ignores_earlier}
-use Rattle.dcv_members.proofs.ListFacts.{list_within}
+use Rattle.dcv_index.proofs.ChainFacts.{last_within}
 use Rattle.dcv_index.specs.Lists.{listed_at}
-use Rattle.dcv_index.specs.Leads.{row_at, index_of, LeadsInto, IsRowInto}
+use Rattle.dcv_index.specs.Leads.{row_at, index_of, IndexedRows, LeadsInto, IsRowInto}
 use Rattle.dcv_index.specs.Index.{GoesDown, IsIndex, IsMet, IsMarked}
 use Rattle.dcv_index.specs.declared.lists.Lists.{Lists}
 use Rattle.dcv_index.proofs.MarkFacts.{all_from_contains}
@@ -54,7 +54,7 @@ module _ (arena : ArenaValue) (is : IsArena arena) (refs : List Ref) (leaves : L
   leads_listed lists (Leaf leaf) x size c met = record {
     is_ref = tt;
     letter = [];
-    below = omega (arith, size, list_within lists.leaves.items leaf x c);
+    below = omega (arith, size, last_within lists.entries.items lists.leaves.items leaf x c);
     leaf = met;
   }
   leads_listed lists (Place place) x size c met = met
@@ -87,3 +87,12 @@ module _ (arena : ArenaValue) (refs : List Ref) (nodes rows : Lists) (index : Is
           leads = subst (LeadsInto (index_of arena refs) leaves) (sym listed.is) (leads_listed arena index.of_nodes.arena_is refs leaves rows ref row index.of_rows.leaves c met);
         }));
   }
+
+-- on the way's first step nothing is marked
+pub none_marked : (index : IndexedRows) (leaves marked looked : List ℕ) → marked ≡ [] → looked ≡ [] → IsMarked index leaves marked looked
+unfolding IsDistinct
+none_marked index leaves marked looked none empty = subst (λ (lists : List ℕ × List ℕ). IsMarked index leaves lists.0 lists.1) (λ i. (sym none i, sym empty i)) (record {
+  nodes = λ k d inside. absurd (omega (arith, inside));
+  once = tt;
+  rows = λ k d inside. absurd (omega (arith, inside));
+})

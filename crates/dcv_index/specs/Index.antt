@@ -13,7 +13,7 @@ use Rattle.std.specs.List.{All, IsDistinct}
 use Rattle.dcv_arena.specs.Arena.{ArenaValue, IsArena, IsRef, level_of, value_of}
 use Rattle.dcv_arena.specs.declared.nodes.Ref.{Ref}
 use Rattle.dcv_arena.specs.declared.nodes.Ref.TheVariants.{Leaf, Place}
-use Rattle.dcv_index.specs.Lists.{listed_at}
+use Rattle.dcv_index.specs.Lists.{AreLinked, listed_at}
 use Rattle.dcv_index.specs.Leads.{row_at, IndexedRows, LeadsInto, IsRowInto}
 use Rattle.dcv_index.specs.declared.lists.Lists.{Lists}
 
@@ -46,6 +46,7 @@ pub record GoesDown (arena : ArenaValue) (place : ℕ) (ref : Ref) : Type 0 wher
 
 pub record AreNodesAbove (arena : ArenaValue) (count : ℕ) (nodes : Lists) : Type 0 where
   pub arena_is : IsArena arena
+  pub linked : AreLinked nodes
   pub leaves : length nodes.leaves.items ≡ count
   pub places : length nodes.places.items ≡ length arena.nodes
   pub above : (place : ℕ) → place < length arena.nodes → IsAbove arena count nodes place
@@ -56,6 +57,7 @@ pub record IsListedRow (refs : List Ref) (at : Ref) (row : ℕ) : Type 0 where
   pub is : row_at refs row ≡ at
 
 pub record AreRowsAbove (arena : ArenaValue) (refs : List Ref) (rows : Lists) : Type 0 where
+  pub linked : AreLinked rows
   pub leaves : length rows.leaves.items ≡ length refs
   pub above : (row : ℕ) → row < length refs → IsWithin arena (length refs) (row_at refs row) → Contains (listed_at rows (row_at refs row)) row
   pub only : (at : Ref) (row : ℕ) → Contains (listed_at rows at) row → IsListedRow refs at row

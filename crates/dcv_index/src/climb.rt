@@ -1,22 +1,36 @@
 // The way up from some leaves, node by node, each followed once.
-ghost use Rattle.std.specs.Prelude.{◌≡◌, ◌⊎◌, ℕ, eqb, slice_get, Some, IfOk, OnOk, Contains};
+ghost use Rattle.std.specs.Prelude.{◌≡◌, ◌⊎◌, ◌≤◌, ◌++◌, ℕ, [], eqb, length, slice_get, Some, OnOk, Contains};
 ghost use Rattle.std.specs.List.{All, IsDistinct};
 ghost use Rattle.dcv_arena.specs.declared.nodes.Ref.TheVariants.{Place as AnyPlace};
+ghost use Rattle.dcv_index.specs.Lists.{AreEarlier, chain};
 ghost use Rattle.dcv_index.specs.Leads.{index_of};
 ghost use Rattle.dcv_index.specs.Index.{IsIndex, IsAbove, IsMet, IsFollowed, IsMarked, IsClosed, Grows};
 
-use crate::lists::Lists;
+use crate::lists::{Entry, Lists};
 use dcv_arena::{Arena, Ref};
-use indexmap::IndexSet;
+use dcv_members::SparseSet;
 use std::alloc::{AllocError, Global};
 
 /// What stands above some leaves.
-#[derive(Drop)]
+#[derive(Debug, Drop)]
 pub struct Above {
     /// The places of the nodes, in the order in which they were met on the way up.
-    pub marked: IndexSet<u32>,
+    pub marked: SparseSet,
     /// The places of the rows.
     pub looked: Vec<u32>,
+}
+
+impl Above {
+    /// Nothing was found yet.
+    pub fn new(alloc: Global) -> Above
+        ensures marked { result.marked ≡ [] }
+        ensures looked { result.looked.items ≡ [] }
+    {
+        Above {
+            marked: SparseSet::new(alloc),
+            looked: Vec::new(alloc),
+        }
+    }
 }
 
 // The rows, what stands directly above each leaf and node, and the leaves where the way begins.
@@ -31,32 +45,30 @@ pub(crate) struct Climb<'a> {
 
 impl Climb<'_> {
     // All that stands above the leaves.
-    pub(crate) fn climb(&self, alloc: Global) -> Result<Above, AllocError>
+    pub(crate) fn climb(&self, found: &mut Above) -> Result<(), AllocError>
         requires { IsIndex self.now.arena.now self.now.refs.now self.now.nodes.now self.now.rows.now }
-        ensures closed { IfOk result (λ found. IsClosed self.now.nodes.now self.now.rows.now self.now.leaves.now found.marked.keys found.looked.items) }
-        ensures marked { IfOk result (λ found. IsMarked (index_of self.now.arena.now self.now.refs.now) self.now.leaves.now
-            found.marked.keys found.looked.items) }
+        ensures closed { OnOk result (IsClosed self.now.nodes.now self.now.rows.now self.now.leaves.now found.new.marked found.new.looked.items) }
+        ensures marked { OnOk result (IsMarked (index_of self.now.arena.now self.now.refs.now) self.now.leaves.now
+            found.new.marked found.new.looked.items) }
     {
-        let mut found = Above {
-            marked: IndexSet::new(alloc),
-            looked: Vec::new(alloc),
-        };
+        found.marked.clear();
+        found.looked.clear();
         for leaf in self.leaves {
-            self.follow(Ref::Leaf(*leaf), &mut found)?;
+            self.follow(Ref::Leaf(*leaf), found)?;
         }
-        self.close(&mut found)?;
-        Ok(found)
+        self.close(found)?;
+        Ok(())
     }
 
     // Follows each marked place, those too that are marked on the way.
     fn close(&self, found: &mut Above) -> Result<(), AllocError>
         requires index { IsIndex self.now.arena.now self.now.refs.now self.now.nodes.now self.now.rows.now }
-        requires marked { IsMarked (index_of self.now.arena.now self.now.refs.now) self.now.leaves.now found.old.marked.keys found.old.looked.items }
-        ensures followed { OnOk result ((place : ℕ) → Contains found.new.marked.keys place
-            → IsFollowed self.now.nodes.now self.now.rows.now (AnyPlace place) found.new.marked.keys found.new.looked.items) }
+        requires marked { IsMarked (index_of self.now.arena.now self.now.refs.now) self.now.leaves.now found.old.marked found.old.looked.items }
+        ensures followed { OnOk result ((place : ℕ) → Contains found.new.marked place
+            → IsFollowed self.now.nodes.now self.now.rows.now (AnyPlace place) found.new.marked found.new.looked.items) }
         ensures marked { OnOk result (IsMarked (index_of self.now.arena.now self.now.refs.now) self.now.leaves.now
-            found.new.marked.keys found.new.looked.items) }
-        ensures grows { OnOk result (Grows found.old.marked.keys found.old.looked.items found.new.marked.keys found.new.looked.items) }
+            found.new.marked found.new.looked.items) }
+        ensures grows { OnOk result (Grows found.old.marked found.old.looked.items found.new.marked found.new.looked.items) }
     {
         let mut next = 0;
         'places: while next < found.marked.len() {
@@ -71,28 +83,48 @@ impl Climb<'_> {
     fn follow(&self, at: Ref, found: &mut Above) -> Result<(), AllocError>
         requires index { IsIndex self.now.arena.now self.now.refs.now self.now.nodes.now self.now.rows.now }
         requires met { IsMet (index_of self.now.arena.now self.now.refs.now) self.now.leaves.now at }
-        requires marked { IsMarked (index_of self.now.arena.now self.now.refs.now) self.now.leaves.now found.old.marked.keys found.old.looked.items }
-        ensures followed { OnOk result (IsFollowed self.now.nodes.now self.now.rows.now at found.new.marked.keys found.new.looked.items) }
+        requires marked { IsMarked (index_of self.now.arena.now self.now.refs.now) self.now.leaves.now found.old.marked found.old.looked.items }
+        ensures followed { OnOk result (IsFollowed self.now.nodes.now self.now.rows.now at found.new.marked found.new.looked.items) }
         ensures marked { OnOk result (IsMarked (index_of self.now.arena.now self.now.refs.now) self.now.leaves.now
-            found.new.marked.keys found.new.looked.items) }
-        ensures grows { OnOk result (Grows found.old.marked.keys found.old.looked.items found.new.marked.keys found.new.looked.items) }
+            found.new.marked found.new.looked.items) }
+        ensures grows { OnOk result (Grows found.old.marked found.old.looked.items found.new.marked found.new.looked.items) }
     {
-        found.looked.extend_from_slice(self.rows.at(at))?;
-        mark(&mut found.marked, self.nodes.at(at))?;
+        look(&mut found.looked, &self.rows.entries, self.rows.last(at))?;
+        mark(&mut found.marked, &self.nodes.entries, self.nodes.last(at))?;
         Ok(())
     }
 }
 
-// Marks places.
-fn mark(marked: &mut IndexSet<u32>, places: &[u32]) -> Result<(), AllocError>
-    requires { IsDistinct eqb marked.old.keys }
-    ensures all { OnOk result (All (Contains marked.new.keys) places.now) }
-    ensures only { OnOk result ((place : ℕ) → Contains marked.new.keys place → Contains marked.old.keys place ⊎ Contains places.now place) }
-    ensures stay { OnOk result ((at place : ℕ) → slice_get marked.old.keys at ≡ Some place → slice_get marked.new.keys at ≡ Some place) }
-    ensures once { IsDistinct eqb marked.new.keys }
+// Looks at the rows of a list, from its last entry back.
+fn look(looked: &mut Vec<u32>, entries: &[Entry], last: u32) -> Result<(), AllocError>
+    requires earlier { AreEarlier entries.now }
+    requires last { last ≤ length entries.now }
+    ensures { OnOk result (looked.new.items ≡ looked.old.items ++ chain entries.now last) }
 {
-    for place in places {
-        marked.insert(*place)?;
+    let mut next = last;
+    'entries: while next > 0 {
+        let entry = entries[next as usize - 1];
+        looked.push(entry.number)?;
+        next = entry.earlier;
+    }
+    Ok(())
+}
+
+// Marks the places of a list, from its last entry back.
+fn mark(marked: &mut SparseSet, entries: &[Entry], last: u32) -> Result<(), AllocError>
+    requires earlier { AreEarlier entries.now }
+    requires last { last ≤ length entries.now }
+    requires once { IsDistinct eqb marked.old }
+    ensures all { OnOk result (All (Contains marked.new) (chain entries.now last)) }
+    ensures only { OnOk result ((place : ℕ) → Contains marked.new place → Contains marked.old place ⊎ Contains (chain entries.now last) place) }
+    ensures stay { OnOk result ((at place : ℕ) → slice_get marked.old at ≡ Some place → slice_get marked.new at ≡ Some place) }
+    ensures once { IsDistinct eqb marked.new }
+{
+    let mut next = last;
+    'entries: while next > 0 {
+        let entry = entries[next as usize - 1];
+        marked.insert(entry.number)?;
+        next = entry.earlier;
     }
     Ok(())
 }

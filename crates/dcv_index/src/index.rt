@@ -1,6 +1,6 @@
 // Which rows and nodes lead to some leaves: what stands directly above each leaf and each node, and the way up. It goes by node: pairs of
 // a leaf and a row would be as many as their product where rows are wide.
-ghost use Rattle.std.specs.Prelude.{◌≡◌, ◌<◌, ◌↔◌, ℕ, length, IfOk, Contains};
+ghost use Rattle.std.specs.Prelude.{◌≡◌, ◌<◌, ◌↔◌, ℕ, length, IfOk, OnOk, Contains};
 ghost use Rattle.std.specs.List.{All};
 ghost use Rattle.dcv_arena.specs.Arena.{IsArena};
 ghost use Rattle.dcv_arena.specs.declared.nodes.Ref.TheVariants.{Place as AnyPlace};
@@ -8,7 +8,7 @@ ghost use Rattle.dcv_index.specs.Leads.{index_of, LeadsInto, IsRowInto};
 ghost use Rattle.dcv_index.specs.Index.{AreNodesAbove, AreRowsAbove};
 
 use crate::climb::{Above, Climb};
-use crate::lists::Lists;
+use crate::lists::{Lists, number_of};
 use dcv_arena::{Arena, Ref};
 use std::alloc::{AllocError, Global};
 use std::marker::Model;
@@ -51,11 +51,12 @@ impl<'a> Index<'a> {
 }
 
 impl Index<'_> {
-    /// What stands above these leaves: the rows from which some letter leads to one of them, and the nodes, no others.
-    pub fn above(&self, alloc: Global, leaves: &[u32]) -> Result<Above, AllocError>
-        ensures looked { IfOk result (λ found. (row : ℕ) → Contains found.looked.items row ↔ IsRowInto self.now leaves.now row) }
-        ensures marked { IfOk result (λ found. (place : ℕ) → Contains found.marked.keys place ↔ LeadsInto self.now leaves.now (AnyPlace place)) }
-        ensures rows { IfOk result (λ found. All (λ row. row < length self.now.rows) found.looked.items) }
+    /// Finds what stands above these leaves: the rows from which some letter leads to one of them, and the nodes, no others. What was found
+    /// before is forgotten, but its memory is used again.
+    pub fn above(&self, leaves: &[u32], found: &mut Above) -> Result<(), AllocError>
+        ensures looked { OnOk result ((row : ℕ) → Contains found.new.looked.items row ↔ IsRowInto self.now leaves.now row) }
+        ensures marked { OnOk result ((place : ℕ) → Contains found.new.marked place ↔ LeadsInto self.now leaves.now (AnyPlace place)) }
+        ensures rows { OnOk result (All (λ row. row < length self.now.rows) found.new.looked.items) }
     {
         let climb = Climb {
             arena: self.arena,
@@ -64,7 +65,7 @@ impl Index<'_> {
             rows: &self.rows,
             leaves,
         };
-        climb.climb(alloc)
+        climb.climb(found)
     }
 }
 
@@ -93,14 +94,4 @@ fn rows_above(alloc: Global, arena: &Arena, rows: &[Ref]) -> Result<Lists, Alloc
         lists.add(*row, number_of(place)?)?;
     }
     Ok(lists)
-}
-
-// The place as a 32-bit number. One without such a number would count as want of memory.
-fn number_of(place: usize) -> Result<u32, AllocError>
-    ensures { IfOk result (λ number. number ≡ place) }
-{
-    match u32::try_from(place) {
-        Ok(number) => Ok(number),
-        Err(_) => Err(AllocError),
-    }
 }

@@ -4,8 +4,8 @@ ghost use Rattle.dcv_members.specs.Lists.{AddsAt, list_at};
 
 use std::alloc::{AllocError, Global};
 
-/// Adds a number to the list at a place, where there is one.
-pub fn add_to(lists: &mut [Vec<u32>], at: u32, number: u32) -> Result<(), AllocError>
+// Adds a number to the list at a place, where there is one.
+pub(crate) fn add_to(lists: &mut [Vec<u32>], at: u32, number: u32) -> Result<(), AllocError>
     ensures { OnOk result (AddsAt lists.old lists.new at number) }
 {
     if at as usize >= lists.len() {
@@ -15,8 +15,8 @@ pub fn add_to(lists: &mut [Vec<u32>], at: u32, number: u32) -> Result<(), AllocE
     Ok(())
 }
 
-/// The list at a place, and an empty one where there is none.
-pub fn list(lists: &[Vec<u32>], at: u32) -> &[u32]
+// The list at a place, and an empty one where there is none.
+pub(crate) fn list(lists: &[Vec<u32>], at: u32) -> &[u32]
     ensures { result.now ≡ list_at lists.now at }
 {
     match lists.get(at as usize) {

@@ -1,17 +1,15 @@
 -- Witnesses that are chosen one after another.
-use Rattle.std.proofs.Common.{◌≡◌, ℕ, List, eqb, get_or, set, position, Some, inl, inr, Contains, sym, ap, subst, ◌∙◌, arith, eqb-true, get_or-set_same, get_or-set_other}
+use Rattle.std.proofs.Common.{◌≡◌, ℕ, List, eqb, get_or, set, slice_get, Some, inl, inr, Contains, sym, ap, subst, ◌∙◌, arith, eqb-true, get_or-set_same, get_or-set_other}
 use Rattle.std.proofs.lemmas.Bool.{cases_eq}
 use Rattle.std.proofs.lemmas.List.Elements.{Contains-get_or}
-use Rattle.std.proofs.lemmas.List.Quantifiers.{position-Some}
+use Rattle.std.proofs.lemmas.Option.{slice_get_within, get_or_from_slice_get}
 use Rattle.dcv_dfa.specs.Raw.{RawValue}
 use Rattle.dcv_minimise.specs.Partition.{block_of}
 use Rattle.dcv_minimise.specs.Rounds.{IsState, IsWitnessed}
 use Rattle.dcv_minimise.specs.Listing.{IsChosen}
 
-pub found_among : (full : List ℕ) (block place : ℕ) → position (eqb block) full ≡ Some place → Contains full block
-found_among full block place found =
-    let at = position-Some (eqb block) full place 0 found in
-    subst (Contains full) (sym (eqb-true block (get_or full place 0) at.1)) (Contains-get_or full place 0 at.0)
+pub found_among : (full : List ℕ) (block place : ℕ) → slice_get full place ≡ Some block → Contains full block
+found_among full block place at = (place, slice_get_within full place block at, get_or_from_slice_get full place block block at)
 
 pub chosen_one : (raw : RawValue) (blocks full witness : List ℕ) (state : ℕ) → IsWitnessed raw blocks witness → IsState raw state → Contains full (block_of blocks state)
     → IsChosen blocks full witness (set witness (block_of blocks state) state)

@@ -4,13 +4,13 @@ use Rattle.std.specs.List.{All}
 use Rattle.std.proofs.lemmas.Bool.{cases_eq}
 use Rattle.std.proofs.lemmas.List.{length-set, get_or_default, take_more}
 use Rattle.std.proofs.lemmas.List.Elements.{All-contains, All-more, All-weaker, Contains-get_or, Contains-push, Contains-push_cases, Contains-append_left, Contains-append_right, Contains-append_cases}
-use Rattle.indexmap.specs.IndexSet.{insert_key}
+use Rattle.dcv_members.specs.SparseSet.{with_number}
 use Rattle.dcv_minimise.specs.Partition.{block_of}
 use Rattle.dcv_minimise.specs.Rounds.{witness_of}
 use Rattle.dcv_minimise.specs.Listing.{IsListed, IsAlone, IsSingle, IsListing, IsBlockAdded, IsBlockListed, LooksAt}
 use Rattle.dcv_index.proofs.MarkFacts.{inserted_only, all_from_contains}
 
-pub block_added : (own : List ℕ) (block : ℕ) (states full new_states new_full : List ℕ) → new_states ≡ states ++ own → new_full ≡ insert_key eqb full block
+pub block_added : (own : List ℕ) (block : ℕ) (states full new_states new_full : List ℕ) → new_states ≡ states ++ own → new_full ≡ with_number full block
     → IsBlockAdded own block states full new_states new_full
 block_added own block states full new_states new_full more inserted =
     let all : All (Contains new_states) own =

@@ -7,14 +7,16 @@ ghost use Rattle.dcv_index.specs.Leads.{index_of};
 ghost use Rattle.dcv_members.specs.Members.{list_of};
 ghost use Rattle.dcv_minimise.specs.Refining.{IsRefining};
 
+mod counts;
 mod division;
 mod keys;
 mod listing;
 mod partition;
 mod votes;
 
+use counts::Counts;
 use dcv_dfa::Raw;
-use dcv_index::Index;
+use dcv_index::{Above, Index};
 use dcv_members::Members;
 use dcv_renumber::Places;
 use listing::{Listed, follow};
@@ -44,6 +46,10 @@ struct Refining {
     moved: Vec<u32>,
     // What keys keep of places, one list for all rounds: so a round costs what it looks at, and not what the arena holds.
     places: Places,
+    // What was found above the states that moved, how many of each block that are, and what is listed of them: lists that each round fills.
+    found: Above,
+    counts: Counts,
+    listed: Listed,
 }
 
 impl Refining {
@@ -62,6 +68,9 @@ impl Refining {
             members,
             moved,
             places: Places::new(alloc),
+            found: Above::new(alloc),
+            counts: Counts::new(alloc),
+            listed: Listed::new(alloc),
         })
     }
 
@@ -73,15 +82,19 @@ impl Refining {
         ensures more { OnOk result (0 < length self.new.moved.items → length self.old.partition.witness.items < length self.new.partition.witness.items) }
         ensures no_fewer { OnOk result (length self.old.partition.witness.items ≤ length self.new.partition.witness.items) }
     {
-        let found = index.above(alloc, &self.moved)?;
-        let listed = Listed::among(
-            alloc,
+        index.above(&self.moved, &mut self.found)?;
+        self.counts
+            .count(&self.partition.blocks, &self.found.looked)?;
+        self.listed.fill(
             &mut self.members,
             &self.partition.blocks,
             &self.partition.witness,
-            &found.looked,
+            &self.found.looked,
+            &self.counts,
         )?;
-        self.moved = self.partition.split(alloc, raw, &listed, &mut self.places)?;
+        self.moved = self
+            .partition
+            .split(alloc, raw, &self.listed, &mut self.places)?;
         follow(
             alloc,
             &mut self.members,

@@ -49,7 +49,7 @@ pub(crate) fn divide(
 ) -> Result<(Vec<Move>, Places), AllocError>
     requires witnessed { IsWitnessed raw.now blocks.now witness.old.items }
     requires listed { All (IsState raw.now) listed.now.states.items }
-    ensures { IfOk result (λ divided. IsDivided raw.now blocks.now listed.now.full.keys witness.old.items witness.new.items listed.now.states.items divided.0.items) }
+    ensures { IfOk result (λ divided. IsDivided raw.now blocks.now listed.now.full witness.old.items witness.new.items listed.now.states.items divided.0.items) }
 {
     let mut keys = Keys::new(alloc, places, raw, blocks);
     choose(alloc, raw, blocks, witness, &mut keys, listed)?;

@@ -8,15 +8,15 @@ ghost use Rattle.dcv_members.specs.Members.{list_of, HaveTheirOwn};
 ghost use Rattle.dcv_minimise.specs.Partition.{block_of};
 ghost use Rattle.dcv_minimise.specs.Listing.{IsListed, IsListing, IsBlockAdded, IsBlockListed, LooksAt};
 
-use dcv_members::Members;
-use indexmap::{IndexMap, IndexSet};
+use super::counts::Counts;
+use dcv_members::{Members, SparseSet};
 use std::alloc::{AllocError, Global};
 
-// The states that a round compares with the witnesses, and the blocks of which these are all.
+// The states that a round compares with the witnesses, and the blocks of which these are all. One is kept for all rounds.
 #[derive(Debug, Drop)]
 pub(crate) struct Listed {
     pub(crate) states: Vec<u32>,
-    pub(crate) full: IndexSet<u32>,
+    pub(crate) full: SparseSet,
 }
 
 // Puts the states that moved into the lists of their blocks.
@@ -37,31 +37,38 @@ pub(crate) fn follow(
 }
 
 impl Listed {
-    // The states to be compared, where these are looked at. So the time is that of the looked-at states, and of what is renumbered.
-    pub(crate) fn among(
-        alloc: Global,
+    // No states.
+    pub(crate) fn new(alloc: Global) -> Listed {
+        Listed {
+            states: Vec::new(alloc),
+            full: SparseSet::new(alloc),
+        }
+    }
+
+    // Lists the states to be compared, where these are looked at, so many of each block. So the time is that of the looked-at states, and of
+    // what is renumbered.
+    pub(crate) fn fill(
+        &mut self,
         members: &mut Members,
         blocks: &[u32],
         witness: &[u32],
         looked: &[u32],
-    ) -> Result<Listed, AllocError>
+        counts: &Counts,
+    ) -> Result<(), AllocError>
         requires members { HaveTheirOwn blocks.now (list_of members.old) }
         requires own { (block : ℕ) → block < length witness.now → block_of blocks.now (slice_index_or witness.now block 0) ≡ block }
         requires witnesses { (block : ℕ) → block < length witness.now → slice_index_or witness.now block 0 < length blocks.now }
         requires numbers { (state : ℕ) → state < length blocks.now → block_of blocks.now state < length witness.now }
         requires looked { All (λ state. state < length blocks.now) looked.now }
         ensures members { OnOk result (HaveTheirOwn blocks.now (list_of members.new)) }
-        ensures listing { IfOk result (λ listed. IsListing blocks.now witness.now looked.now listed.states.items listed.full.keys) }
+        ensures listing { OnOk result (IsListing blocks.now witness.now looked.now self.new.states.items self.new.full) }
     {
-        let counts = counts_of(alloc, blocks, looked)?;
-        let mut listed = Listed {
-            states: Vec::new(alloc),
-            full: IndexSet::new(alloc),
-        };
+        self.states.clear();
+        self.full.clear();
         for state in looked {
-            listed.look_at(members, blocks, witness, &counts, *state)?;
+            self.look_at(members, blocks, witness, counts, *state)?;
         }
-        Ok(listed)
+        Ok(())
     }
 
     // Lists a state that is looked at, or its block in full.
@@ -70,7 +77,7 @@ impl Listed {
         members: &mut Members,
         blocks: &[u32],
         witness: &[u32],
-        counts: &IndexMap<u32, usize>,
+        counts: &Counts,
         state: u32,
     ) -> Result<(), AllocError>
         requires members { HaveTheirOwn blocks.now (list_of members.old) }
@@ -78,15 +85,15 @@ impl Listed {
         requires witnesses { (block : ℕ) → block < length witness.now → slice_index_or witness.now block 0 < length blocks.now }
         requires state { state < length blocks.now }
         requires number { block_of blocks.now state < length witness.now }
-        requires full { (block : ℕ) → Contains self.old.full.keys block → IsListed blocks.now self.old.states.items block }
+        requires full { (block : ℕ) → Contains self.old.full block → IsListed blocks.now self.old.states.items block }
         ensures members { OnOk result (HaveTheirOwn blocks.now (list_of members.new)) }
-        ensures looks { OnOk result (LooksAt blocks.now witness.now state self.old.states.items self.old.full.keys self.new.states.items self.new.full.keys) }
+        ensures looks { OnOk result (LooksAt blocks.now witness.now state self.old.states.items self.old.full self.new.states.items self.new.full) }
     {
         let block = blocks[state as usize];
-        if self.full.contains(&block) {
+        if self.full.contains(block) {
             return Ok(());
         }
-        let many = is_many(counts, block, members.list(block).len());
+        let many = counts.is_many(block, members.list(block).len());
         if many || witness[block as usize] == state {
             return self.list_block(members, blocks, block);
         }
@@ -103,7 +110,7 @@ impl Listed {
     ) -> Result<(), AllocError>
         requires { HaveTheirOwn blocks.now (list_of members.old) }
         ensures members { OnOk result (HaveTheirOwn blocks.now (list_of members.new)) }
-        ensures listed { OnOk result (IsBlockListed blocks.now block self.old.states.items self.old.full.keys self.new.states.items self.new.full.keys) }
+        ensures listed { OnOk result (IsBlockListed blocks.now block self.old.states.items self.old.full self.new.states.items self.new.full) }
     {
         members.mend(blocks, block);
         self.add_block(block, members.list(block))
@@ -111,7 +118,7 @@ impl Listed {
 
     // Adds the states of a block, unless there is only one.
     fn add_block(&mut self, block: u32, own: &[u32]) -> Result<(), AllocError>
-        ensures { OnOk result (IsBlockAdded own.now block self.old.states.items self.old.full.keys self.new.states.items self.new.full.keys) }
+        ensures { OnOk result (IsBlockAdded own.now block self.old.states.items self.old.full self.new.states.items self.new.full) }
     {
         if own.len() <= 1 {
             return Ok(());
@@ -120,27 +127,4 @@ impl Listed {
         self.full.insert(block)?;
         Ok(())
     }
-}
-
-// How many of the looked-at states each block has.
-fn counts_of(
-    alloc: Global,
-    blocks: &[u32],
-    looked: &[u32],
-) -> Result<IndexMap<u32, usize>, AllocError>
-    requires { All (λ state. state < length blocks.now) looked.now }
-{
-    let mut counts = IndexMap::new(alloc);
-    for state in looked {
-        let block = blocks[*state as usize];
-        let count: usize = counts.get(&block).copied().unwrap_or(0);
-        counts.insert(block, count.saturating_add(1))?;
-    }
-    Ok(counts)
-}
-
-// Whether more than half of a block with so many members is looked at.
-fn is_many(counts: &IndexMap<u32, usize>, block: u32, members: usize) -> bool {
-    let count = counts.get(&block).copied().unwrap_or(0);
-    count > members / 2
 }

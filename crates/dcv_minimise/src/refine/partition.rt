@@ -56,7 +56,7 @@ impl Partition {
     ) -> Result<Vec<u32>, AllocError>
         requires witnessed { IsWitnessed raw.now self.old.blocks.items self.old.witness.items }
         requires listed { All (IsState raw.now) listed.now.states.items }
-        requires full { (block : ℕ) → Contains listed.now.full.keys block → IsListed self.old.blocks.items listed.now.states.items block }
+        requires full { (block : ℕ) → Contains listed.now.full block → IsListed self.old.blocks.items listed.now.states.items block }
         requires others { (state : ℕ) → IsState raw.now state → Contains listed.now.states.items state
             ⊎ HaveOneRow raw.now self.old.blocks.items state (witness_of self.old.blocks.items self.old.witness.items state) }
         ensures round { OnOk result (IsRound raw.now self.old.blocks.items self.new.blocks.items) }

@@ -10,7 +10,7 @@ ghost use Rattle.dcv_minimise.specs.Listing.{IsChosen};
 use super::keys::Keys;
 use super::listing::Listed;
 use dcv_dfa::Raw;
-use indexmap::IndexSet;
+use dcv_members::SparseSet;
 use std::alloc::{AllocError, Global};
 
 // Chooses the witnesses of the blocks that are listed in full.
@@ -26,7 +26,7 @@ pub(crate) fn choose(
     requires witnessed { IsWitnessed raw.now blocks.now witness.old }
     requires states { All (IsState raw.now) listed.now.states.items }
     ensures keys { OnOk result (IsKeys raw.now blocks.now keys.new) }
-    ensures chosen { OnOk result (IsChosen blocks.now listed.now.full.keys witness.old witness.new) }
+    ensures chosen { OnOk result (IsChosen blocks.now listed.now.full witness.old witness.new) }
 {
     let mut votes = vec![in alloc; 0; listed.full.len()]?;
     for state in &listed.states {
@@ -41,7 +41,7 @@ fn vote(
     blocks: &[u32],
     witness: &mut [u32],
     keys: &mut Keys<'_>,
-    full: &IndexSet<u32>,
+    full: &SparseSet,
     votes: &mut [u32],
     state: u32,
 ) -> Result<(), AllocError>
@@ -49,10 +49,10 @@ fn vote(
     requires witnessed { IsWitnessed raw.now blocks.now witness.old }
     requires state { state < length raw.now.rows }
     ensures keys { IsKeys raw.now blocks.now keys.new }
-    ensures chosen { OnOk result (IsChosen blocks.now full.now.keys witness.old witness.new) }
+    ensures chosen { OnOk result (IsChosen blocks.now full.now witness.old witness.new) }
 {
     let block = blocks[state as usize];
-    let Some(place) = full.get_index_of(&block) else {
+    let Some(place) = full.place_of(block) else {
         return Ok(());
     };
     let key = keys.of(raw, state)?;

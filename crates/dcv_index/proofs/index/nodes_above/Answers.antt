@@ -23,6 +23,6 @@ loop-place-preserved c =
       value = all.value;
     } in
     let nodes : place < length arena.nodes = omega (arith, c.len-place-end.ensures.len, c.loop-place-test.true) in
-    let before : AreFirstAbove arena count place c.loop-place.nodes = record { leaves = was.leaves; places = was.places; above = was.above; only = was.only } in
+    let before : AreFirstAbove arena count place c.loop-place.nodes = record { linked = was.linked; leaves = was.leaves; places = was.places; above = was.above; only = was.only } in
     let after = one_above arena count place slot lo hi nodes goes c.loop-place.nodes c.add.new.self c.add-in-loop-place.new.self c.in_ok-add.ensures c.in_ok-add-2.ensures before in
-    record { leaves = after.leaves; places = after.places; above = after.above; only = after.only }
+    record { linked = after.linked; leaves = after.leaves; places = after.places; above = after.above; only = after.only }

@@ -13,6 +13,7 @@ loop-place-preserved c =
     let inside : place < length rows = c.loop-place-test.true in
     let adds = subst (Adds c.loop-place.lists c.add.new.self (row_at rows place)) c.in_ok-number_of.ensures c.in_ok-add.ensures in
     record {
+      linked = adds.linked;
       leaves = adds.leaves ∙ was.leaves;
       places = adds.places ∙ was.places;
       above = row_above arena (length rows) (row_at rows) place c.loop-place.lists c.add.new.self adds was.leaves was.places was.above;

@@ -18,13 +18,13 @@ witness_now c = take c.args.witness.now.len (c.choose.new.witness ++ drop (lengt
 written : (c : After-deref) → witness_now c ≡ c.choose.new.witness
 written c = written_back c.choose.new.witness c.args.witness.now.items c.args.witness.now.len (same_size c) c.args.witness.now.ok.0
 
-chosen : (c : After-deref) → IsChosen c.args.blocks.now c.args.listed.now.full.keys c.args.witness.now.items c.choose.new.witness
-chosen c = subst (λ old. IsChosen c.args.blocks.now c.args.listed.now.full.keys old c.choose.new.witness) c.deref_mut.ensures.value c.in_ok-choose.ensures.chosen
+chosen : (c : After-deref) → IsChosen c.args.blocks.now c.args.listed.now.full c.args.witness.now.items c.choose.new.witness
+chosen c = subst (λ old. IsChosen c.args.blocks.now c.args.listed.now.full old c.choose.new.witness) c.deref_mut.ensures.value c.in_ok-choose.ensures.chosen
 
 pub settle_all-requires-clause-witnessed : goal.settle_all-requires-clause-witnessed
 settle_all-requires-clause-witnessed c =
     subst (IsWitnessed c.args.raw.now c.args.blocks.now) (sym (written c))
-    (chosen_witnessed c.args.raw.now c.args.blocks.now c.args.witness.now.items c.choose.new.witness c.args.listed.now.states.items c.args.listed.now.full.keys c.requires.witnessed (same_size c) (chosen c))
+    (chosen_witnessed c.args.raw.now c.args.blocks.now c.args.witness.now.items c.choose.new.witness c.args.listed.now.states.items c.args.listed.now.full c.requires.witnessed (same_size c) (chosen c))
 
 pub returns : goal.returns
 returns c =

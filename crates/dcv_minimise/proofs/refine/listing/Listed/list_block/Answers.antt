@@ -18,5 +18,5 @@ returns-clause-listed c =
     let new = c.add_block.new.self in
     let own = list_of c.mend.new.self block in
     OnOk-map c.add_block.result _ _ (λ added. block_listed blocks block own (block_mended blocks (list_of c.args.members.now) (list_of c.mend.new.self) block c.mend.ensures c.requires)
-    old.states.items old.full.keys new.states.items new.full.keys
-    (subst (λ own. IsBlockAdded own block old.states.items old.full.keys new.states.items new.full.keys) c.list.ensures added)) c.add_block.ensures
+    old.states.items old.full new.states.items new.full
+    (subst (λ own. IsBlockAdded own block old.states.items old.full new.states.items new.full) c.list.ensures added)) c.add_block.ensures

@@ -6,7 +6,7 @@ use Rattle.dcv_minimise.proofs.refine.listing.Listed.look_at.Goals as goal
 pub returns-then-contains-clause-looks : goal.returns-then-contains-clause-looks
 returns-then-contains-clause-looks c =
     let block = block_of c.args.blocks.now c.args.state in
-    let all = c.requires.full block (Contains-from_any eqb-true block c.args.self.now.full.keys (sym c.contains.ensures ∙ c.if-contains.true)) in
+    let all = c.requires.full block (Contains-from_any eqb-true block c.args.self.now.full (sym c.contains.ensures ∙ c.if-contains.true)) in
     record {
       grows = λ one there. there;
       only = λ one there. inl there;

@@ -12,22 +12,22 @@ use Rattle.dcv_minimise.proofs.refine.partition.Partition.split.Goals.{After-dro
 blocks_now : After-drop-moves-2 → List ℕ
 blocks_now c = take c.args.self.now.blocks.len (c.apply.new.blocks ++ drop (length c.apply.new.blocks) c.args.self.now.blocks.items)
 
-divided : (c : After-drop-moves-2) → IsDivided c.args.raw.now c.args.self.now.blocks.items c.args.listed.now.full.keys c.args.self.now.witness.items c.divide.new.witness.items c.args.listed.now.states.items
+divided : (c : After-drop-moves-2) → IsDivided c.args.raw.now c.args.self.now.blocks.items c.args.listed.now.full c.args.self.now.witness.items c.divide.new.witness.items c.args.listed.now.states.items
     c.in_ok-moves.moves.items
 divided c =
-    subst (λ blocks. IsDivided c.args.raw.now blocks c.args.listed.now.full.keys c.args.self.now.witness.items c.divide.new.witness.items c.args.listed.now.states.items c.in_ok-moves.moves.items)
+    subst (λ blocks. IsDivided c.args.raw.now blocks c.args.listed.now.full c.args.self.now.witness.items c.divide.new.witness.items c.args.listed.now.states.items c.in_ok-moves.moves.items)
     c.deref.ensures.value c.in_ok-moves.ensures
 
 -- the same with the witnesses that were chosen
 was : (c : After-drop-moves-2) → IsWitnessed c.args.raw.now c.args.self.now.blocks.items (divided c).chosen
 was c =
     let d = divided c in
-    chosen_witnessed c.args.raw.now c.args.self.now.blocks.items c.args.self.now.witness.items d.chosen c.args.listed.now.states.items c.args.listed.now.full.keys c.requires.witnessed d.size d.is_chosen
+    chosen_witnessed c.args.raw.now c.args.self.now.blocks.items c.args.self.now.witness.items d.chosen c.args.listed.now.states.items c.args.listed.now.full c.requires.witnessed d.size d.is_chosen
 
 others : (c : After-drop-moves-2) → AreOthersAlike c.args.raw.now c.args.self.now.blocks.items (divided c).chosen c.args.listed.now.states.items
 others c =
     let d = divided c in
-    chosen_others c.args.raw.now c.args.self.now.blocks.items c.args.self.now.witness.items d.chosen c.args.listed.now.states.items c.args.listed.now.full.keys c.requires.witnessed d.size d.is_chosen
+    chosen_others c.args.raw.now c.args.self.now.blocks.items c.args.self.now.witness.items d.chosen c.args.listed.now.states.items c.args.listed.now.full c.requires.witnessed d.size d.is_chosen
     c.requires.full c.requires.others
 
 same_size : (c : After-drop-moves-2) → length c.apply.new.blocks ≡ length c.args.self.now.blocks.items
