@@ -76,7 +76,7 @@ expect 'calls once built' 1 "$(calls)"
 touch "$clone/crates/dcv_word/src/lib.rt"
 run 3 '<check><f>' "$clone/dcvalid" check f
 expect 'calls after a touch' 1 "$(calls)"
-echo '// more' >>"$clone/crates/dcv_rows/src/lib.rt"
+echo '// more' >>"$clone/crates/dcv_run_tests/src/lib.rt"
 run 3 '<check><f>' "$clone/dcvalid" check f
 expect 'calls after an edit elsewhere' 1 "$(calls)"
 echo '// more' >>"$clone/crates/dcv_word/src/lib.rt"

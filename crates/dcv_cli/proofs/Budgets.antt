@@ -21,8 +21,8 @@ use Rattle.dcv_explore.specs.declared.explorer.Limits.{Limits}
 use Rattle.dcv_explore.specs.Budget.{Kind}
 use Rattle.dcv_build.specs.Budget.{IsAutomatonOf, IsOver, IsWithinBudget}
 use Rattle.dcv_build.specs.Given.{IsCoreOf}
-use Rattle.dcv_cli.specs.declared.over.Excess.{Excess}
-use Rattle.dcv_cli.specs.declared.over.Over.{Over}
+use Rattle.dcv_cli.specs.declared.budget_line.Excess.{Excess}
+use Rattle.dcv_cli.specs.declared.budget_line.Over.{Over}
 use Rattle.dcv_cli.specs.declared.refusal.Refusal.{Refusal}
 use Rattle.dcv_cli.specs.Budget.{steps_of_file, kind_of, limit_of, IsFirstOverIn, NamesFirstOver}
 

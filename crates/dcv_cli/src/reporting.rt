@@ -16,7 +16,7 @@ ghost use Rattle.dcv_cli.specs.Right.{FulfilsOver};
 ghost use Rattle.dcv_cli.specs.Seen.{reported};
 ghost use Rattle.dcv_cli.specs.Status.{is_answer};
 
-use crate::budget::{automaton_of, verdict_of};
+use crate::automaton::{automaton_of, verdict_of};
 use crate::refusal::{MOST_BYTES, Refusal};
 use crate::status::Status;
 use crate::texts::report_text;

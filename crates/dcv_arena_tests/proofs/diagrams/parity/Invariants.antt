@@ -1,6 +1,6 @@
 use Rattle.std.proofs.Common.{◌≡◌, ◌≤◌}
 use Rattle.dcv_arena.specs.Arena.{IsRef, level_of}
-use Rattle.dcv_arena_tests.proofs.tests.parity.Given as goal
+use Rattle.dcv_arena_tests.proofs.diagrams.parity.Given as goal
 
 abbrev pub invariant-loop-slot : goal.invariant-loop-slot
 invariant-loop-slot l = record {

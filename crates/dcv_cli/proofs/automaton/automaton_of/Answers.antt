@@ -1,9 +1,9 @@
 -- The step that `build` names is one of the core's, and the first that is over the limits.
 use Rattle.std.proofs.Common.{Err, ap, ◌∙◌}
 use Rattle.dcv_explore.specs.Budget.{TooManyStates, TooManyNodes}
-use Rattle.dcv_cli.specs.declared.over.Excess.TheVariants.{States, Nodes}
+use Rattle.dcv_cli.specs.declared.budget_line.Excess.TheVariants.{States, Nodes}
 use Rattle.dcv_cli.proofs.Budgets.{over_is_there, first_over}
-use Rattle.dcv_cli.proofs.budget.automaton_of.Goals as goal
+use Rattle.dcv_cli.proofs.automaton.automaton_of.Goals as goal
 
 pub over-requires : goal.over-requires
 over-requires c =

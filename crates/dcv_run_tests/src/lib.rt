@@ -1,4 +1,4 @@
-//! Worked examples, as tests: `tests` has runs of `dcv_cli::run` over files and streams in memory, `automata` those of the
+//! Worked examples, as tests: `runs` has runs of `dcv_cli::run` over files and streams in memory, `automata` those of the
 //! command `automaton` and of limits, `goals` a table of each form of the language with the behaviours on which it is true,
 //! and `recipes` the example files. The expected values were worked out by hand from the language's meaning.
 #![tactic(auto)]
@@ -10,4 +10,4 @@ mod goals;
 #[cfg(test)]
 mod recipes;
 #[cfg(test)]
-mod tests;
+mod runs;

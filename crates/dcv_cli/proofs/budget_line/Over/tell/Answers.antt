@@ -7,7 +7,7 @@ use Rattle.dcv_word.specs.TraceLine.{line_feed}
 use Rattle.dcv_language.specs.VerdictText.{line}
 use Rattle.dcv_cli.specs.Refusal.{excess_word_of, over_words}
 use Rattle.dcv_cli.proofs.Pieces.{in_any_order}
-use Rattle.dcv_cli.proofs.over.Over.tell.Goals as goal
+use Rattle.dcv_cli.proofs.budget_line.Over.tell.Goals as goal
 
 pub returns-clause-failed : goal.returns-clause-failed
 returns-clause-failed g c =

@@ -6,7 +6,7 @@ use Rattle.dcv_language.specs.VerdictText.{verdict_text}
 use Rattle.dcv_print.specs.Verdict.{seen_verdict}
 use Rattle.dcv_print.specs.Said.{SaysSomeVerdict, SaysEachVerdict}
 use Rattle.dcv_print.proofs.Texts.{says_each}
-use Rattle.dcv_print.proofs.automaton.verdict_text.Goals as goal
+use Rattle.dcv_print.proofs.verdicts.verdict_text.Goals as goal
 
 pub returns-clause-some : goal.returns-clause-some
 returns-clause-some c =

@@ -12,7 +12,7 @@ ghost use Rattle.dcv_build.specs.Given.{IsCore, IsCoreOf};
 ghost use Rattle.dcv_print.specs.Verdict.{seen_verdict};
 ghost use Rattle.dcv_cli.specs.Budget.{NamesFirstOver};
 
-use crate::over::{Excess, Over};
+use crate::budget_line::{Excess, Over};
 use crate::refusal::Refusal;
 use dcv_build::{BuildFault, build};
 use dcv_core::Core;

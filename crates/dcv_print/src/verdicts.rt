@@ -6,7 +6,7 @@ ghost use Rattle.dcv_dfa.specs.Raw.{raw_accepts};
 ghost use Rattle.dcv_print.specs.Verdict.{letters_of, seen_verdict};
 ghost use Rattle.dcv_print.specs.Said.{SaysSomeVerdict, SaysEachVerdict};
 
-use crate::lines::Verdict;
+use crate::verdict_lines::Verdict;
 use dcv_dfa::Auto;
 use dcv_language::laws::one_verdict;
 use dcv_shortest::shortest;
