@@ -1,15 +1,12 @@
-// The automaton of a core with its verdict, or the refusal that names the first step over the limits.
+// The automaton of a core, or the refusal that names the first step over the limits.
 ghost use Rattle.std.specs.Prelude.{◌≡◌, ◌<◌, ◌≤◌, ℕ, Some, length, slice_get, IfOk, IfErr, OnOk};
 ghost use Rattle.std.specs.Option.{option_map};
-ghost use Rattle.dcv_language.specs.Language.{Language};
-ghost use Rattle.dcv_language.specs.Verdict.{IsVerdict};
 ghost use Rattle.dcv_core.specs.Core.{CoreTree};
 ghost use Rattle.dcv_core.specs.Holds.{words_of};
 ghost use Rattle.dcv_core.specs.Steps.{steps_of};
 ghost use Rattle.dcv_dfa.specs.Auto.{count_of_nodes};
 ghost use Rattle.dcv_build.specs.Budget.{IsAutomatonOf, IsWithinBudget};
 ghost use Rattle.dcv_build.specs.Given.{IsCore, IsCoreOf};
-ghost use Rattle.dcv_print.specs.Verdict.{seen_verdict};
 ghost use Rattle.dcv_cli.specs.Budget.{NamesFirstOver};
 
 use crate::budget_line::{Excess, Over};
@@ -17,11 +14,8 @@ use crate::refusal::Refusal;
 use dcv_build::{BuildFault, build};
 use dcv_core::Core;
 use dcv_dfa::Auto;
-use dcv_dfa::laws::tables_accept_the_same;
 use dcv_explore::Limits;
-use dcv_language::laws::verdict_of_same_behaviours;
-use dcv_print::{Verdict, verdict};
-use std::alloc::{AllocError, Global};
+use std::alloc::Global;
 
 /// The canonical automaton of the core's words.
 pub(crate) fn automaton_of(alloc: Global, core: &Core, limits: Limits) -> Result<Auto, Refusal>
@@ -58,15 +52,4 @@ fn over(core: &Core, excess: Excess, limit: u32, step: u32) -> Over
         at: core.span(step).start,
         step,
     }
-}
-
-/// The verdict of each set whose canonical automaton this is.
-pub(crate) fn verdict_of(alloc: Global, auto: &Auto) -> Result<Verdict, AllocError>
-    ensures { (k : ℕ) (L : Language) → IsAutomatonOf k L auto.now → IfOk result (λ verdict. IsVerdict k L (seen_verdict verdict)) }
-{
-    tables_accept_the_same();
-    verdict_of_same_behaviours();
-    // for the prover: what is true of every canonical automaton.
-    let _ = auto.states();
-    verdict(alloc, auto)
 }

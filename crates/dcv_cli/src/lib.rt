@@ -15,12 +15,12 @@
 
 mod automaton;
 mod budget_line;
+mod judged;
 pub mod laws;
 mod refusal;
 mod reporting;
 mod running;
 mod status;
-mod texts;
 mod words;
 
 pub use running::run;

@@ -24,10 +24,12 @@
 
 mod automaton_lines;
 pub mod laws;
+mod report;
 mod verdict_lines;
 mod verdicts;
 
 pub use automaton_lines::automaton_text;
 pub use dcv_automaton_read::{AutoFault, AutoFile, automaton_read};
+pub use report::{Kind, Report};
 pub use verdict_lines::Verdict;
 pub use verdicts::{verdict, verdict_text};
