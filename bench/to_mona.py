@@ -231,4 +231,5 @@ class Reader:
         }[relation]
 
 
-print(Reader(open(sys.argv[1]).read()).file(), end="")
+if __name__ == "__main__":
+    print(Reader(open(sys.argv[1]).read()).file(), end="")

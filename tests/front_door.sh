@@ -1,19 +1,21 @@
 #!/usr/bin/env bash
-# Tests the script ./dcvalid with a stub in the place of rt, which proves nothing, counts its calls, and leaves a program
+# Tests the script ./dcvalid with a stub in the place of rt, which proves nothing, notes its calls, and leaves a program
 # that prints its words. It takes some seconds. Run it by hand: tests/front_door.sh
 source=$(dirname "$(dirname "$(readlink -f "${BASH_SOURCE[0]}")")") || exit 1
 work=$(mktemp -d) || exit 1
 trap 'rm -rf "$work"' EXIT
 failed=0
 
-# The stub. It fails where the file `broken` lies beside it.
+# The stub. It fails for the crate that the file `broken` beside it names, and leaves a program where it is to run one.
 mkdir "$work/bin"
 cat >"$work/bin/rt" <<END
 #!/usr/bin/env bash
-echo "\$*" >>"$work/calls"
-echo "crate dcv_word: modules loaded=1 checked=1"
-[ ! -e "$work/broken" ] || { echo "it is not proved"; exit 1; }
-mkdir -p out
+name=\$(basename "\$PWD")
+echo "\$1 \$name" >>"$work/calls"
+[ "\$(cat "$work/broken" 2>/dev/null)" != "\$name" ] || { echo "it is not proved"; exit 1; }
+sleep 0.05
+echo "done \$name" >>"$work/calls"
+[ "\$1" = run ] || exit 0
 printf '#!/usr/bin/env bash\nprintf "<%%s>" "\$@"\nexit 3\n' >out/dcvalid
 chmod +x out/dcvalid
 END
@@ -24,7 +26,8 @@ mkdir "$work/clone" || exit 1
 (cd "$source" && git ls-files -z | xargs -0 cp --parents -t "$work/clone")
 clone=$work/clone
 
-calls() { wc -l 2>/dev/null <"$work/calls" || echo 0; }
+# how often the program was built
+calls() { grep -c '^run ' "$work/calls" 2>/dev/null || true; }
 
 # run WANTED_STATUS WANTED_OUTPUT PROGRAM WORDS..: and what it did on standard error is in $work/err
 run() {
@@ -43,6 +46,15 @@ expect() {
   fi
 }
 
+# No crate is begun before those that it stands on are done, and each is proved once.
+order() {
+  awk -v list="$clone/crates.txt" '
+    BEGIN { while ((getline line < list) > 0) if (line ~ /^[a-z]/) { name = line; sub(/:.*/, "", name); needs[name] = substr(line, length(name) + 2) } }
+    $1 == "done" { done[$2] = 1; next }
+    begun[$2]++ { print $2 " twice" }
+    { count = split(needs[$2], list_of, " "); for (i = 1; i <= count; i++) if (list_of[i] in needs && !(list_of[i] in done)) print $2 " before " list_of[i] }' "$work/calls"
+}
+
 contains() {
   grep -q -- "$2" "$work/err" || { echo "FAILED: $1: no '$2' on standard error"; failed=1; }
 }
@@ -52,11 +64,11 @@ run 2 '' "$clone/dcvalid"
 contains 'no words' 'dcvalid check FILE'
 run 2 '' "$clone/dcvalid" --help
 run 2 '' "$clone/dcvalid" check --help
-expect 'calls for help' 0 "$(calls)"
+expect 'calls for help' '' "$(calls)"
 
 # No rt on the path.
 mkdir "$work/plain"
-for tool in bash env readlink dirname awk find sort xargs cksum cat mkdir sed grep tail wc sleep; do
+for tool in bash env readlink dirname awk find sort xargs cksum cat mkdir tail nproc sleep; do
   ln -s "$(command -v "$tool")" "$work/plain/$tool"
 done
 path=$work/plain run 125 '' "$clone/dcvalid" check f
@@ -65,8 +77,10 @@ contains 'no rt' 'not on the path'
 # The first call builds; later ones do not.
 run 3 '<check><a b.dc>' "$clone/dcvalid" check 'a b.dc'
 expect 'calls of the first run' 1 "$(calls)"
-contains 'progress' 'dcv_word is proved, at most'
-contains 'the log' 'out/build.log'
+contains 'progress' 'dcv_word is proved, '
+contains 'the end' 'dcvalid is proved, 0 more to go'
+contains 'the logs' 'out/build.log'
+expect 'crates in order' '' "$(order)"
 run 3 '<check><f>' "$clone/dcvalid" check f
 run 3 '<--help>' "$clone/dcvalid" --help
 run 3 '<>' "$clone/dcvalid"
@@ -76,7 +90,7 @@ expect 'calls once built' 1 "$(calls)"
 touch "$clone/crates/dcv_word/src/lib.rt"
 run 3 '<check><f>' "$clone/dcvalid" check f
 expect 'calls after a touch' 1 "$(calls)"
-echo '// more' >>"$clone/crates/dcv_rows/src/lib.rt"
+echo '// more' >>"$clone/crates/dcv_run_tests/src/lib.rt"
 run 3 '<check><f>' "$clone/dcvalid" check f
 expect 'calls after an edit elsewhere' 1 "$(calls)"
 echo '// more' >>"$clone/crates/dcv_word/src/lib.rt"
@@ -93,12 +107,12 @@ expect 'calls through a link' 2 "$(calls)"
 
 # A build that fails says so, and is tried again.
 echo '// and more' >>"$clone/crates/dcv_word/src/lib.rt"
-touch "$work/broken"
+echo dcv_word >"$work/broken"
 run 125 '' "$clone/dcvalid" check f
 contains 'a failed build' 'it is not proved'
 rm "$work/broken"
 run 3 '<check><f>' "$clone/dcvalid" check f
-expect 'calls after a failed build' 4 "$(calls)"
+expect 'calls after a failed build' 3 "$(calls)"
 
 [ "$failed" -eq 0 ] && echo 'all passed'
 exit "$failed"

@@ -1,5 +1,5 @@
 -- What `build` answers of a core is what is right for the steps of its file, and the verdict of its automaton is that of its words.
-use Rattle.std.proofs.Common.{◌≡◌, ℕ, ◌<◌, List, length, map, Option, None, Some, Result, Ok, Err, sym, ap, ◌∙◌, subst}
+use Rattle.std.proofs.Common.{◌≡◌, ℕ, ◌<◌, ◌≤◌, arith, List, length, map, Option, None, Some, Result, Ok, Err, sym, ap, ◌∙◌, subst}
 use Rattle.std.specs.Prelude.{IfOk, slice_get}
 use Rattle.std.specs.Option.{option_map}
 use Rattle.std.proofs.lemmas.Option.{slice_get-map, slice_get_within}
@@ -16,13 +16,14 @@ use Rattle.dcv_core.specs.Steps.{PlainCore, PlainStep, CoreStep, without_core, s
 use Rattle.dcv_dfa.specs.Laws.{TableAcceptsAsTheStates}
 use Rattle.dcv_dfa.specs.Raw.{RawValue, IsRaw, raw_accepts}
 use Rattle.dcv_language.specs.Table.{table_accepts}
-use Rattle.dcv_dfa.specs.Auto.{IsAuto, table_of_states}
+use Rattle.dcv_automaton_text.specs.Rules.{most_states, most_nodes}
+use Rattle.dcv_dfa.specs.Auto.{IsAuto, count_of_nodes, table_of_states}
 use Rattle.dcv_explore.specs.declared.explorer.Limits.{Limits}
 use Rattle.dcv_explore.specs.Budget.{Kind}
 use Rattle.dcv_build.specs.Budget.{IsAutomatonOf, IsOver, IsWithinBudget}
 use Rattle.dcv_build.specs.Given.{IsCoreOf}
-use Rattle.dcv_cli.specs.declared.over.Excess.{Excess}
-use Rattle.dcv_cli.specs.declared.over.Over.{Over}
+use Rattle.dcv_cli.specs.declared.budget_line.Excess.{Excess}
+use Rattle.dcv_cli.specs.declared.budget_line.Over.{Over}
 use Rattle.dcv_cli.specs.declared.refusal.Refusal.{Refusal}
 use Rattle.dcv_cli.specs.Budget.{steps_of_file, kind_of, limit_of, IsFirstOverIn, NamesFirstOver}
 
@@ -66,13 +67,18 @@ pub same_as_set : (accept : TableAcceptsAsTheStates) (auto : RawValue) → IsRaw
 same_as_set accept auto raw is k L of word b =
     sym (subst (λ k. HaveSameBehaviours k (table_accepts (table_of_states auto)) (raw_accepts auto)) of.slots (accept auto raw is.start) word b) ∙ of.canonical.exact word b
 
--- the verdict of what an automaton accepts is that of each such set
-pub verdict_of_automaton : {E V : Type 0} (seen : V → Verdict) (accept : TableAcceptsAsTheStates) (move : VerdictOfSameBehaviours)
-    (auto : RawValue) (result : Result V E) → IsRaw auto → IsAuto auto → IfOk result (λ v. IsVerdict auto.arena.slots (raw_accepts auto) (seen v))
-    → (k : ℕ) (L : Language) → IsAutomatonOf k L auto → IfOk result (λ v. IsVerdict k L (seen v))
-verdict_of_automaton seen accept move auto (Err e) raw is verdict k L of = tt
-verdict_of_automaton seen accept move auto (Ok v) raw is verdict k L of =
-    move k (raw_accepts auto) L (seen v) (same_as_set accept auto raw is k L of) (subst (λ k. IsVerdict k (raw_accepts auto) (seen v)) of.slots verdict)
+-- limits within the bounds leave an automaton within them
+pub few_states : (auto : RawValue) (given limits : Limits) → length auto.rows ≤ given.states → given ≡ limits → limits.states ≤ most_states
+    → length auto.rows ≤ most_states
+few_states auto given limits few same most =
+    let within = subst (λ (limits : Limits). length auto.rows ≤ limits.states) same few in
+    omega arith
+
+pub few_nodes : (auto : RawValue) (given limits : Limits) → count_of_nodes auto ≤ given.nodes → given ≡ limits → limits.nodes ≤ most_nodes
+    → count_of_nodes auto ≤ most_nodes
+few_nodes auto given limits few same most =
+    let within = subst (λ (limits : Limits). count_of_nodes auto ≤ limits.nodes) same few in
+    omega arith
 
 -- ---- what is said of a core, said of the file that it is of
 

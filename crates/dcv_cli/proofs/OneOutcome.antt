@@ -21,9 +21,9 @@ use Rattle.dcv_explore.specs.declared.explorer.Limits.{Limits}
 use Rattle.dcv_explore.specs.Budget.{Kind as KindOfExcess, TooManyStates, TooManyNodes}
 use Rattle.dcv_build.specs.Budget.{IsOver}
 use Rattle.dcv_build.specs.Laws.{OneStepIsOver, WithinExcludesOver}
-use Rattle.dcv_cli.specs.declared.over.Excess.{Excess}
-use Rattle.dcv_cli.specs.declared.over.Excess.TheVariants.{States, Nodes}
-use Rattle.dcv_cli.specs.declared.over.Over.{Over}
+use Rattle.dcv_cli.specs.declared.budget_line.Excess.{Excess}
+use Rattle.dcv_cli.specs.declared.budget_line.Excess.TheVariants.{States, Nodes}
+use Rattle.dcv_cli.specs.declared.budget_line.Over.{Over}
 use Rattle.dcv_cli.specs.declared.refusal.Refusal.{Refusal}
 use Rattle.dcv_cli.specs.declared.refusal.Refusal.TheVariants.{Budget}
 use Rattle.dcv_cli.specs.declared.status.Status.TheVariants.{Valid, NotValid, Usage, Formula, Budget as StatusBudget, Memory as OutOfMemory}

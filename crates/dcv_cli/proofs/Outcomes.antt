@@ -12,7 +12,9 @@ use Rattle.dcv_io.specs.declared.fault.TakeFault.{TakeFault}
 use Rattle.dcv_io.specs.declared.fault.TakeFault.TheVariants.{Open as TakeOpen, Read as TakeRead, TooLong as TakeTooLong, Memory as TakeMemory}
 use Rattle.dcv_syntax.specs.Plain.{PlainFile}
 use Rattle.dcv_logic.specs.Models.{models}
-use Rattle.dcv_language.specs.Verdict.{Verdict, IsVerdict}
+use Rattle.dcv_language.specs.Language.{Language}
+use Rattle.dcv_language.specs.Verdict.{Verdict}
+use Rattle.dcv_syntax.specs.declared.names.Name.{Name}
 use Rattle.dcv_sentence.specs.Faults.{IsFirstFault}
 use Rattle.dcv_sentence.specs.declared.faults.ReadFault.{ReadFault}
 use Rattle.dcv_sentence.specs.declared.faults.ReadFault.TheVariants.{Byte as ByteAt, Syntax as SyntaxAt, Number as NumberAt, Name as NameAt, Nest as NestAt, Memory as ReadMemory}
@@ -25,7 +27,10 @@ use Rattle.dcv_cli.specs.declared.refusal.Refusal.TheVariants.{Open, Read as Rea
 use Rattle.dcv_cli.specs.declared.status.Status.{Status}
 use Rattle.dcv_core.specs.Steps.{PlainStep}
 use Rattle.dcv_explore.specs.declared.explorer.Limits.{Limits}
-use Rattle.dcv_build.specs.Budget.{IsWithinBudget}
+use Rattle.dcv_build.specs.Budget.{IsAutomatonOf}
+use Rattle.dcv_print.specs.Report.{ReportValue}
+use Rattle.dcv_cli.specs.Judged.{IsJudged, Reports}
+use Rattle.dcv_cli.specs.declared.judged.Judged.{Judged}
 use Rattle.dcv_cli.specs.Budget.{steps_of_file, NamesFirstOver, IsBudgeted, OverBudget, WithinBudget}
 use Rattle.dcv_cli.specs.Report.{Says, IsReport}
 use Rattle.dcv_cli.specs.Ending.{EndsBy, IsExplained, AddsFront, StopsWithin}
@@ -38,8 +43,6 @@ use Rattle.std.specs.String.{string_bytes}
 use Rattle.dcv_command.specs.Request.{Request, IsTaken, request_of, file_in, limits_in}
 use Rattle.dcv_print.specs.Printed.{texts_of}
 use Rattle.dcv_cli.specs.Right.{Fulfilled, FulfilsOver, IsRightOver}
-use Rattle.dcv_cli.specs.declared.reporting.Report.{Report}
-use Rattle.dcv_cli.specs.Seen.{reported}
 use Rattle.dcv_cli.specs.declared.status.Status.TheVariants.{Valid, NotValid}
 use Rattle.dcv_cli.specs.Status.{is_answer, status_of_verdict}
 
@@ -82,13 +85,21 @@ over_is_of_text steps limits (Budget over) is = refl
 over_is_of_text steps limits Memory is = refl
 over_is_of_text steps limits _ is = absurd is
 
--- the report
-pub answers_report : (request : Request) (text : List ℕ) (file : PlainFile) (verdict : Verdict) (status : Status) (out : List ℕ)
-    → IsFormulaFile text file → IsWithinBudget (steps_of_file file) (limits_in request) → IsVerdict (length file.variables) (models file) verdict
-    → status ≡ status_of_verdict verdict → Says request (length file.variables) (models file) (texts_of file.variables) verdict out
-    → OnText text Only (IsBudgeted (limits_in request) (IsReport request)) (record { status = status; out = out; err = [] })
-answers_report request text file verdict status out holds within is s says =
-    Read file holds (WithinBudget within (record { verdict = verdict; is_verdict = is; status = s; says = says; no_message = refl }))
+-- what was judged, and the report on it
+pub answers_report : (request : Request) (text : List ℕ) (judged : Judged) (report : ReportValue) (status : Status) → IsJudged text (limits_in request) judged
+    → ((k : ℕ) (L : Language) → IsAutomatonOf k L judged.auto → Reports request k L (texts_of judged.names.items) report)
+    → status ≡ status_of_verdict report.verdict
+    → OnText text Only (IsBudgeted (limits_in request) (IsReport request)) (record { status = status; out = report.text; err = [] })
+answers_report request text judged report status is reports ends =
+    let file = is.file in
+    let said = reports (length file.variables) (models file) is.automaton in
+    Read file is.formula (WithinBudget is.within (record {
+      verdict = report.verdict;
+      is_verdict = said.verdict;
+      status = ends;
+      says = subst (λ (names : List Name). Says request (length file.variables) (models file) (texts_of names) report.verdict report.text) is.names said.says;
+      no_message = refl;
+    }))
 
 -- such a run answers
 pub answer_of_verdict : (verdict : Verdict) → IsTrue (is_answer (status_of_verdict verdict))
@@ -171,24 +182,34 @@ pub on_true : (b : Bool) {P : Type 0} → P → OnTrue b P
 on_true true h = h
 on_true false h = tt
 
-module _ (told : Option Disk) (request : Request) (text : List ℕ) (report : Report) (old new : Option (List ℕ))
-    (there : IfSome (held_of told) (λ held. held (file_in request) ≡ Some text)) (right : OnText text Only (IsBudgeted (limits_in request) (IsReport request)) (reported report)) where
-  fulfils : FulfilsOver request told (reported report)
-  fulfils = fulfils_file told request text (reported report) there right
+-- a report with this status was made, for a text that is held
+module _ (told : Option Disk) (request : Request) (text : List ℕ) (status : Status) (out : List ℕ) (old new : Option (List ℕ))
+    (there : IfSome (held_of told) (λ held. held (file_in request) ≡ Some text))
+    (right : OnText text Only (IsBudgeted (limits_in request) (IsReport request)) (record { status = status; out = out; err = [] })) where
+  reported : Outcome
+  reported = record { status = status; out = out; err = [] }
 
-  -- a report that was written whole
-  pub whole_ends : Appends old new report.text.items → EndsBy (FulfilsOver request told) report.status old new (λ message. message ≡ [])
-  whole_ends written = record { outcome = reported report; right = fulfils; ends = refl; report = written; message = refl }
+  fulfils : FulfilsOver request told reported
+  unfolding reported
+  fulfils = fulfils_file told request text reported there right
 
-  pub whole_front : Appends old new report.text.items → AddsFront (FulfilsOver request told) old new
-  whole_front written = inr (reported report, fulfils, (length report.text.items, omega arith, rw take-length written))
+  -- it was written whole
+  pub whole_ends : Appends old new out → EndsBy (FulfilsOver request told) status old new (λ message. message ≡ [])
+  unfolding reported
+  whole_ends written = record { outcome = reported; right = fulfils; ends = refl; report = written; message = refl }
 
-  -- and one that was not
-  pub part_front : AppendsStrictPrefix old new report.text.items → AddsFront (FulfilsOver request told) old new
-  part_front part = inr (reported report, fulfils, strict_is_prefix old new report.text.items part)
+  pub whole_front : Appends old new out → AddsFront (FulfilsOver request told) old new
+  unfolding reported
+  whole_front written = inr (reported, fulfils, (length out, omega arith, rw take-length written))
 
-  pub part_stops : AppendsStrictPrefix old new report.text.items → StopsWithin (FulfilsOver request told) old new
-  part_stops part = (reported report, fulfils, part)
+  -- and not whole
+  pub part_front : AppendsStrictPrefix old new out → AddsFront (FulfilsOver request told) old new
+  unfolding reported
+  part_front part = inr (reported, fulfils, strict_is_prefix old new out part)
+
+  pub part_stops : AppendsStrictPrefix old new out → StopsWithin (FulfilsOver request told) old new
+  unfolding reported
+  part_stops part = (reported, fulfils, part)
 
 pub on_true_weaker : (b : Bool) {P Q : Type 0} → (P → Q) → OnTrue b P → OnTrue b Q
 on_true_weaker true f h = f h

@@ -12,9 +12,9 @@ use Rattle.dcv_core.specs.Steps.{PlainStep, steps_of}
 use Rattle.dcv_explore.specs.declared.explorer.Limits.{Limits}
 use Rattle.dcv_explore.specs.Budget.{Kind, TooManyStates, TooManyNodes}
 use Rattle.dcv_build.specs.Budget.{IsOver, IsWithinBudget}
-use Rattle.dcv_cli.specs.declared.over.Excess.{Excess}
-use Rattle.dcv_cli.specs.declared.over.Excess.TheVariants.{States, Nodes}
-use Rattle.dcv_cli.specs.declared.over.Over.{Over}
+use Rattle.dcv_cli.specs.declared.budget_line.Excess.{Excess}
+use Rattle.dcv_cli.specs.declared.budget_line.Excess.TheVariants.{States, Nodes}
+use Rattle.dcv_cli.specs.declared.budget_line.Over.{Over}
 use Rattle.dcv_cli.specs.declared.refusal.Refusal.{Refusal}
 use Rattle.dcv_cli.specs.declared.refusal.Refusal.TheVariants.{Budget, Memory}
 use Rattle.dcv_cli.specs.Outcome.{Outcome, refused}

@@ -10,7 +10,7 @@ use Rattle.dcv_scope.specs.Names.{occurrences_in_file}
 use Rattle.dcv_print.specs.Printed.{texts_of}
 use Rattle.dcv_explore.specs.Budget.{Kind}
 use Rattle.dcv_build.specs.Budget.{IsOver}
-use Rattle.dcv_cli.specs.declared.over.Over.{Over}
+use Rattle.dcv_cli.specs.declared.budget_line.Over.{Over}
 use Rattle.dcv_cli.specs.declared.refusal.Refusal.TheVariants.{Budget}
 use Rattle.dcv_cli.specs.declared.status.Status.TheVariants.{Budget as StatusBudget}
 use Rattle.dcv_cli.specs.Budget.{steps_of_file, IsFirstOver}

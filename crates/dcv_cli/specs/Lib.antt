@@ -10,5 +10,5 @@ pub mod Report
 pub mod Right
 pub mod Ending
 pub mod Laws
--- how clauses within the crate see values of the code
-pub mod Seen
+-- what clauses within the crate cite
+pub mod Judged

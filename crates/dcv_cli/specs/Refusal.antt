@@ -15,9 +15,9 @@ use Rattle.dcv_scope.specs.declared.faults.ScopeFault.TheVariants.{TooMany as Ma
 use Rattle.dcv_scope.specs.declared.faults.ScopeFault.TheVariants.{Kind as KindAt, Arity as ArityAt, Size as SizeAt, Depth as DepthAt, Slots as SlotsAt}
 use Rattle.dcv_scope.specs.declared.faults.ScopeFault.TheVariants.{Memory as ScopeMemory}
 use Rattle.dcv_language.specs.VerdictText.{line}
-use Rattle.dcv_cli.specs.declared.over.Excess.{Excess}
-use Rattle.dcv_cli.specs.declared.over.Excess.TheVariants.{States, Nodes}
-use Rattle.dcv_cli.specs.declared.over.Over.{Over}
+use Rattle.dcv_cli.specs.declared.budget_line.Excess.{Excess}
+use Rattle.dcv_cli.specs.declared.budget_line.Excess.TheVariants.{States, Nodes}
+use Rattle.dcv_cli.specs.declared.budget_line.Over.{Over}
 use Rattle.dcv_cli.specs.declared.refusal.Refusal.{Refusal}
 use Rattle.dcv_cli.specs.declared.refusal.Refusal.TheVariants.{Open, Read, Length, Text, Budget, Write, Memory}
 use Rattle.dcv_cli.specs.declared.refusal.TextFault.{TextFault}

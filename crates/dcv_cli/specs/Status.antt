@@ -38,6 +38,7 @@ abbrev pub is_silent : Status → Bool
 is_silent Usage = true
 is_silent Formula = true
 is_silent Budget = true
+is_silent Memory = true
 is_silent _ = false
 
 -- the status of a run that a fault of the files ended

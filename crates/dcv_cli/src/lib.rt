@@ -13,14 +13,14 @@
 //! of `check` there stands the minimal automaton of the formula, with two states, in the text that `dcv_automaton_text` shows.
 #![tactic(auto)]
 
-mod budget;
+mod automaton;
+mod budget_line;
+mod judged;
 pub mod laws;
-mod over;
 mod refusal;
 mod reporting;
 mod running;
 mod status;
-mod texts;
 mod words;
 
 pub use running::run;

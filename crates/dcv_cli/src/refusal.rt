@@ -8,7 +8,7 @@ ghost use Rattle.dcv_language.specs.VerdictText.{line};
 ghost use Rattle.dcv_cli.specs.Refusal.{status_of, text_word_of, fault_words, fault_words_at, message_of};
 ghost use Rattle.dcv_cli.specs.Refusal.{refusal_of_taking, refusal_of_reading, refusal_of_scope};
 
-use crate::over::Over;
+use crate::budget_line::Over;
 use crate::status::Status;
 use dcv_io::{Failed, Sink, TakeFault, write_all};
 use dcv_reader::ReadFault;

@@ -13,15 +13,15 @@ ghost use Rattle.dcv_cli.specs.Budget.{IsBudgeted};
 ghost use Rattle.dcv_cli.specs.Refusal.{most_bytes, Only, is_open_refusal, is_read_refusal, is_write_refusal, is_of_text};
 ghost use Rattle.dcv_cli.specs.Report.{IsReport};
 ghost use Rattle.dcv_cli.specs.Right.{FulfilsOver};
-ghost use Rattle.dcv_cli.specs.Seen.{reported};
+ghost use Rattle.dcv_cli.specs.Judged.{IsJudged};
 ghost use Rattle.dcv_cli.specs.Status.{is_answer};
 
-use crate::budget::{automaton_of, verdict_of};
+use crate::automaton::automaton_of;
+use crate::judged::{Judged, report_on};
 use crate::refusal::{MOST_BYTES, Refusal};
 use crate::status::Status;
-use crate::texts::report_text;
 use dcv_command::Request;
-use dcv_io::{Files, Sink, read_all, write_all};
+use dcv_io::{Files, Sink, read_all};
 use dcv_language::laws::canonical_for_same_behaviours;
 use dcv_reader::laws::names_are_short;
 use dcv_reader::read_file;
@@ -29,13 +29,6 @@ use dcv_scope::expand;
 use dcv_scope::laws::core_means_text;
 use dcv_syntax::{File, Name};
 use std::alloc::Global;
-
-/// What is written for a file that is not refused, and the status with which the run then ends.
-#[derive(Debug, Drop)]
-pub struct Report {
-    pub status: Status,
-    pub text: Vec<u8>,
-}
 
 /// Writes the report that the request asks for.
 pub fn perform<F: Files, O: Sink>(
@@ -62,17 +55,17 @@ pub fn perform<F: Files, O: Sink>(
     ensures held { held_of (F.told files.new) ≡ held_of (F.told files.old) }
 {
     let text = read_all(alloc, files, request.file(), MOST_BYTES)?;
-    let report = judge(alloc, &text, request)?;
-    write_all(out, &report.text)?;
-    Ok(report.status)
+    let judged = judge(alloc, &text, request)?;
+    let report = report_on(alloc, request, &judged)?;
+    report.send(out)?;
+    Ok(Status::of(report.verdict()))
 }
 
-// The report on the formula that the text spells.
-fn judge(alloc: Global, text: &[u8], request: Request) -> Result<Report, Refusal>
+// The automaton of the formula that the text spells.
+fn judge(alloc: Global, text: &[u8], request: Request) -> Result<Judged, Refusal>
     requires short { length text.now ≤ most_bytes }
     requires limits { AreInRange (limits_in (asked_by request)) }
-    ensures ok { IfOk result (λ report. OnText text.now Only (IsBudgeted (limits_in (asked_by request.entry)) (IsReport (asked_by request.entry))) (reported report)) }
-    ensures answer { IfOk result (λ report. IsTrue (is_answer report.status)) }
+    ensures judged { IfOk result (IsJudged text.now (limits_in (asked_by request.entry))) }
     ensures refused { IfErr result (IsExplained (OnText text.now Only (IsBudgeted (limits_in (asked_by request.entry)) (IsReport (asked_by request.entry))))) }
     ensures own { IfErr result (λ refusal. IsTrue (is_of_text refusal)) }
 {
@@ -84,11 +77,7 @@ fn judge(alloc: Global, text: &[u8], request: Request) -> Result<Report, Refusal
     let names = names_of(file);
     let core = core?;
     let auto = automaton_of(alloc, &core, request.limits())?;
-    let verdict = verdict_of(alloc, &auto)?;
-    Ok(Report {
-        status: Status::of(&verdict),
-        text: report_text(alloc, request, &auto, &names, &verdict)?,
-    })
+    Ok(Judged { auto, names })
 }
 
 // The declared variables, which are all that is kept of the file: a tree that is dropped at the end of `judge` would give each of its

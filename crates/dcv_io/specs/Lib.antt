@@ -5,6 +5,7 @@ pub mod Faults
 pub mod FilesState
 pub mod Noted
 pub mod Plan
+pub mod Putting
 pub mod RealCounts
 pub mod SinkState
 pub mod Taking

@@ -8,24 +8,33 @@
 //! ```
 #![tactic(auto)]
 
+mod block;
 mod counts;
 mod fault;
 mod files;
+mod held;
 mod mem_files;
 mod mem_sink;
 mod noting_files;
+mod pieces;
 mod reading;
 mod real;
 mod schedule;
 mod sink;
+mod target;
+mod text;
 mod writing;
 
+pub use block::Block;
 pub use fault::{Failed, TakeFault};
 pub use files::Files;
 pub use mem_files::MemFiles;
 pub use mem_sink::MemSink;
 pub use noting_files::NotingFiles;
+pub use pieces::put_pieces;
 pub use reading::read_all;
 pub use real::{RealFiles, RealOut};
 pub use sink::Sink;
+pub use target::Target;
+pub use text::Text;
 pub use writing::write_all;

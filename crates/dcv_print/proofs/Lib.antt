@@ -9,6 +9,7 @@ mod PrintedNodes
 mod PrintedProofs
 mod PrintedTables
 mod PrintedWords
+mod Reports
 mod SameBehaviours
 mod Spellings
 mod SuffixCounts

@@ -1,17 +1,18 @@
 -- What is written, line by line: one line more, and the words of a line.
-use Rattle.std.proofs.Common.{◌≡◌, ℕ, suc, ◌+◌, ◌<◌, List, [], ◌∷◌, ◌++◌, length, map, take, get_or, refl, sym, ap, ◌∙◌, arith}
+use Rattle.std.proofs.Common.{◌≡◌, ℕ, suc, ◌+◌, ◌<◌, ◌≤◌, List, [], ◌∷◌, ◌++◌, length, map, take, get_or, refl, sym, ap, ◌∙◌, arith}
 use Rattle.std.specs.Prelude.{codes}
 use Rattle.std.specs.Fmt.{decimal}
 use Rattle.std.specs.List.{enumerate_from, flat_map, join_with_byte}
 use Rattle.std.proofs.lemmas.Grind.{flat_map-append}
 use Rattle.std.proofs.lemmas.List.Folds.{flat_map-map}
-use Rattle.std.proofs.lemmas.List.{append_assoc, append-nil, take_more, length-take}
+use Rattle.std.proofs.lemmas.List.{append_assoc, append-nil, take_more, take_all, length-take, length-map}
 use Rattle.dcv_dfa.specs.Raw.{RawValue}
 use Rattle.dcv_dfa.specs.NodeLines.{node_lines_of}
 use Rattle.dcv_language.specs.declared.certificate.Access.{Access as CodeAccess}
 use Rattle.dcv_language.specs.declared.certificate.Suffix.{Suffix as CodeSuffix}
 use Rattle.dcv_automaton_text.specs.Spelled.{name_words, node_words, state_words, access_words, suffix_words, head_lines, end_lines, lines_of, spelled_line, spelled}
-use Rattle.dcv_print.specs.Printed.{node_line, state_line, access_line, suffix_line, printed_file}
+use Rattle.dcv_syntax.specs.declared.names.Name.{Name}
+use Rattle.dcv_print.specs.Printed.{texts_of, node_line, state_line, access_line, suffix_line, printed_file}
 use Rattle.dcv_print.specs.Pushed.{spaced, spelled_lines}
 
 -- ---- lines
@@ -131,3 +132,32 @@ module _ (raw : RawValue) (names : List (List ℕ)) (access : List CodeAccess) (
       ∙ ap (λ text. text ++ (states_text ++ (access_text ++ (suffixes_text ++ end)))) c ∙ append_assoc first nodes_text (states_text ++ (access_text ++ (suffixes_text ++ end)))
       ∙ ap (λ text. text ++ (nodes_text ++ (states_text ++ (access_text ++ (suffixes_text ++ end))))) head
       ∙ sym in_parts
+
+-- ---- loops that put lines
+
+pub one_line_more : {Line : Type 0} (words : ℕ × Line → List (List ℕ)) (xs : List Line) (n : ℕ) (d : Line) (line : List ℕ) → n < length xs → line ≡ spelled_line (words (n, get_or xs n d))
+    → spelled_lines words (take (n + 1) xs) ≡ spelled_lines words (take n xs) ++ line
+one_line_more words xs n d line below same = lines_more words xs n d below ∙ ap (λ l. spelled_lines words (take n xs) ++ l) (sym same)
+
+pub all_lines : {Line : Type 0} (words : ℕ × Line → List (List ℕ)) (xs : List Line) (n : ℕ) → length xs ≤ n → spelled_lines words (take n xs) ≡ spelled_lines words xs
+all_lines words xs n past = ap (spelled_lines words) (take_all n xs past)
+
+-- the names, each behind a space
+pub names_spaced : (names : List Name) (n : ℕ) → length names ≤ n → 0 < length names
+    → flat_map (λ (name : Name). 32 ∷ name.text) (take n names) ≡ spaced (name_words (texts_of names))
+names_spaced names n past some =
+    ap (flat_map (λ (name : Name). 32 ∷ name.text)) (take_all n names past)
+    ∙ sym (flat_map-map (λ (word : List ℕ). 32 ∷ word) (λ (name : Name). name.text) names)
+    ∙ ap spaced (sym (some_names (texts_of names) (omega (arith, length-map names (λ (name : Name). name.text), some))))
+
+-- the parts one behind another
+pub text_joined : (raw : RawValue) (names : List (List ℕ)) (access : List CodeAccess) (suffixes : List CodeSuffix) (head nodes states words ends : List ℕ)
+    → head ≡ head_text raw names access suffixes → nodes ≡ nodes_text raw names access suffixes → states ≡ states_text raw names access suffixes
+    → words ≡ access_text raw names access suffixes → ends ≡ suffixes_text raw names access suffixes
+    → ((((head ++ nodes) ++ states) ++ words) ++ ends) ++ codes "end\n" ≡ spelled (printed_file raw names access suffixes)
+text_joined raw names access suffixes head nodes states words ends a b c d e =
+    let second = head ++ nodes in
+    let third = second ++ states in
+    let fourth = third ++ words in
+    text_written raw names access suffixes [] head second third fourth (fourth ++ ends) ((fourth ++ ends) ++ codes "end\n") refl a (ap (λ t. head ++ t) b) (ap (λ t. second ++ t) c)
+    (ap (λ t. third ++ t) d) (ap (λ t. fourth ++ t) e) refl

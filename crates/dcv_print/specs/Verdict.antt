@@ -3,7 +3,7 @@ use Rattle.std.specs.Prelude.{Option, option_map}
 use Rattle.dcv_word.specs.Word.{WordValue}
 use Rattle.dcv_word.specs.Behaviour.{Word}
 use Rattle.dcv_language.specs.Verdict.{Verdict}
-use Rattle.dcv_print.specs.declared.lines.Verdict.{Verdict as CodeVerdict}
+use Rattle.dcv_print.specs.declared.verdict_lines.Verdict.{Verdict as CodeVerdict}
 
 -- the letters of the word, if there is one
 abbrev pub letters_of : Option WordValue → Option Word

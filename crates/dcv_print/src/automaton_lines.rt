@@ -1,18 +1,22 @@
 // The text of an automaton, line by line.
-ghost use Rattle.std.specs.Prelude.{◌≡◌, ◌∷◌, ◌++◌, ◌<◌, ℕ, List, [], length, codes, decimal, IfOk, OnOk};
-ghost use Rattle.std.specs.List.{All, flat_map};
+ghost use Rattle.std.specs.Prelude.{◌≡◌, ◌∷◌, ◌++◌, ◌<◌, ℕ, List, [], length, codes, decimal, IfOk};
+ghost use Rattle.std.specs.List.{All};
 ghost use Rattle.std.specs.Str.{byte};
-ghost use Rattle.dcv_word.specs.TraceLine.{trace_line};
-ghost use Rattle.dcv_automaton_text.specs.Spelled.{target_word, name_words, node_words, state_words, how_access};
+ghost use Rattle.dcv_io.specs.Putting.{Puts};
+ghost use Rattle.dcv_dfa.specs.NodeLines.{node_lines_of};
+ghost use Rattle.dcv_automaton_text.specs.Spelled.{answer_word, target_word, name_words, node_words, state_words, how_access};
 ghost use Rattle.dcv_automaton_text.specs.Spelled.{how_suffix, spelled_line, spelled};
 ghost use Rattle.dcv_print.specs.Printed.{texts_of, target_of, node_line, state_line, printed_file};
 ghost use Rattle.dcv_automaton_read.specs.File.{access_from, suffix_from};
+ghost use Rattle.dcv_certificate.specs.Proof.{IsProof};
+ghost use Rattle.dcv_print.specs.Listed.{IsListed, file_of};
 ghost use Rattle.dcv_print.specs.Pushed.{spaced, spelled_lines};
 
-use dcv_certificate::{Access, Proof, Suffix};
-use dcv_dfa::{Auto, Child, NodeLine};
+use crate::verdict_lines::{put_letter, put_number};
+use dcv_certificate::{Access, Proof, Suffix, separate};
+use dcv_dfa::{Auto, Child, NodeLine, NodeLines};
+use dcv_io::{Target, Text, put_pieces};
 use dcv_syntax::Name;
-use dcv_word::Letter;
 use itoa::Buffer;
 use std::alloc::{AllocError, Global};
 
@@ -28,121 +32,205 @@ pub fn automaton_text(
     ensures { IfOk result (λ text. text.items ≡ spelled (printed_file auto.now (texts_of names.now) proof.now.access proof.now.suffixes)) }
 {
     let nodes = auto.node_lines(alloc)?;
-    let mut text = Vec::new(alloc);
-    push_head(&mut text, names, auto.states())?;
-    push_nodes(&mut text, names, nodes.lines())?;
-    push_states(&mut text, auto, nodes.rows())?;
-    push_entries(&mut text, b"access", proof.access())?;
-    push_entries(&mut text, b"suffix", proof.suffixes())?;
-    text.extend_from_slice(b"end\n")?;
-    Ok(text)
+    let mut text = Text::new(alloc);
+    put_automaton(&mut text, auto, names, &nodes, proof);
+    text.finish()
+}
+
+// An automaton with what its lines say beside it, in lists.
+#[derive(Drop)]
+pub(crate) struct Listed<'a> {
+    pub(crate) auto: &'a Auto,
+    pub(crate) names: &'a [Name],
+    pub(crate) nodes: NodeLines,
+    pub(crate) proof: Proof,
+}
+
+impl<'a> Listed<'a> {
+    // The automaton over variables with these names.
+    pub(crate) fn new(
+        alloc: Global,
+        auto: &'a Auto,
+        names: &'a [Name],
+    ) -> Result<Listed<'a>, AllocError>
+        requires { length names.now ≡ auto.now.arena.slots }
+        ensures auto { IfOk result (λ listed. listed.auto.now ≡ auto.now) }
+        ensures names { IfOk result (λ listed. listed.names.now ≡ names.now) }
+        ensures proof { IfOk result (λ listed. IsProof auto.now listed.proof.access listed.proof.suffixes) }
+        ensures listed { IfOk result IsListed }
+    {
+        let nodes = auto.node_lines(alloc)?;
+        let proof = separate(alloc, auto)?;
+        Ok(Listed {
+            auto,
+            names,
+            nodes,
+            proof,
+        })
+    }
+
+    // Puts the automaton's text.
+    pub(crate) fn put<T: Target>(&self, target: &mut T)
+        requires { IsListed self.now }
+        ensures { Puts (T.standing target.old) (T.standing target.new) (spelled (file_of self.now)) }
+    {
+        put_automaton(target, self.auto, self.names, &self.nodes, &self.proof);
+    }
+}
+
+// Puts the lines.
+fn put_automaton<T: Target>(
+    target: &mut T,
+    auto: &Auto,
+    names: &[Name],
+    nodes: &NodeLines,
+    proof: &Proof,
+)
+    requires nodes { nodes.now ≡ node_lines_of auto.now }
+    requires slots { All (λ (node : NodeLine). node.slot < length names.now) nodes.now.lines }
+    ensures { Puts (T.standing target.old) (T.standing target.new) (spelled (printed_file auto.now (texts_of names.now) proof.now.access proof.now.suffixes)) }
+{
+    put_head(target, names, auto.states());
+    put_nodes(target, names, nodes.lines());
+    put_states(target, auto, nodes.rows());
+    put_entries(target, b"access", proof.access());
+    put_entries(target, b"suffix", proof.suffixes());
+    target.put(b"end\n");
 }
 
 // The lines before those of the nodes.
-fn push_head(text: &mut Vec<u8>, names: &[Name], states: u32) -> Result<(), AllocError>
-    ensures { OnOk result (text.new.items ≡ text.old.items
-        ++ (spelled_line (codes "automaton" ∷ codes "1" ∷ [])
+fn put_head<T: Target>(target: &mut T, names: &[Name], states: u32)
+    ensures { Puts (T.standing target.old) (T.standing target.new)
+        (spelled_line (codes "automaton" ∷ codes "1" ∷ [])
         ++ (spelled_line (codes "variables" ∷ name_words (texts_of names.now))
-        ++ spelled_line (codes "states" ∷ decimal states ∷ [])))) }
+        ++ spelled_line (codes "states" ∷ decimal states ∷ []))) }
 {
-    text.extend_from_slice(b"automaton 1\n")?;
-    push_variables(text, names)?;
-    text.extend_from_slice(b"states ")?;
-    push_number(text, states as usize)?;
-    text.push(b'\n')?;
-    Ok(())
+    target.put(b"automaton 1\n");
+    put_variables(target, names);
+    put_count(target, states);
+}
+
+// The line of the number of states.
+fn put_count<T: Target>(target: &mut T, states: u32)
+    ensures { Puts (T.standing target.old) (T.standing target.new) (spelled_line (codes "states" ∷ decimal states ∷ [])) }
+{
+    let mut digits = Buffer::new();
+    put_pieces(
+        target,
+        &[b"states ", digits.format(states as usize).as_bytes(), b"\n"],
+    );
 }
 
 // The line of the variables.
-#[tactic(auto, using(crate::proofs::Spellings::line_is_spaced))]
-fn push_variables(text: &mut Vec<u8>, names: &[Name]) -> Result<(), AllocError>
-    ensures { OnOk result (text.new.items ≡ text.old.items ++ spelled_line (codes "variables" ∷ name_words (texts_of names.now))) }
+fn put_variables<T: Target>(target: &mut T, names: &[Name])
+    ensures { Puts (T.standing target.old) (T.standing target.new) (spelled_line (codes "variables" ∷ name_words (texts_of names.now))) }
 {
-    text.extend_from_slice(b"variables")?;
-    push_names(text, names)?;
-    text.push(b'\n')?;
-    Ok(())
+    target.put(b"variables");
+    put_names(target, names);
+    target.put(b"\n");
 }
 
 // The names, each behind a space.
-fn push_names(text: &mut Vec<u8>, names: &[Name]) -> Result<(), AllocError>
-    ensures { OnOk result (text.new.items ≡ text.old.items ++ spaced (name_words (texts_of names.now))) }
+fn put_names<T: Target>(target: &mut T, names: &[Name])
+    ensures { Puts (T.standing target.old) (T.standing target.new) (spaced (name_words (texts_of names.now))) }
 {
     if names.is_empty() {
-        return text.extend_from_slice(b" -");
+        target.put(b" -");
+        return;
     }
     for name in names {
-        text.push(b' ')?;
-        text.extend_from_slice(name.text.as_bytes())?;
+        put_name(target, name.text.as_bytes());
     }
-    Ok(())
+}
+
+fn put_name<T: Target>(target: &mut T, name: &[u8])
+    ensures { Puts (T.standing target.old) (T.standing target.new) (codes " " ++ name.now) }
+{
+    put_pieces(target, &[b" ", name]);
 }
 
 // A line for each node.
-fn push_nodes(text: &mut Vec<u8>, names: &[Name], nodes: &[NodeLine]) -> Result<(), AllocError>
+fn put_nodes<T: Target>(target: &mut T, names: &[Name], nodes: &[NodeLine])
     requires { All (λ (node : NodeLine). node.slot < length names.now) nodes.now }
-    ensures { OnOk result (text.new.items ≡ text.old.items
-        ++ spelled_lines (λ numbered. node_words (node_line (texts_of names.now) numbered)) nodes.now) }
+    ensures { Puts (T.standing target.old) (T.standing target.new)
+        (spelled_lines (λ numbered. node_words (node_line (texts_of names.now) numbered)) nodes.now) }
 {
     for (number, node) in nodes.iter().enumerate() {
         let name = names[usize::from(node.slot)].text.as_bytes();
-        push_node(text, number, name, *node)?;
+        put_node(target, number, name, *node);
     }
-    Ok(())
 }
 
 // The line of a node.
-fn push_node(
-    text: &mut Vec<u8>,
-    number: usize,
-    name: &[u8],
-    node: NodeLine,
-) -> Result<(), AllocError>
-    ensures { OnOk result (text.new.items ≡ text.old.items
-        ++ spelled_line (node_words (record { number = number; name = name.now; hi = target_of node.hi; lo = target_of node.lo }))) }
+fn put_node<T: Target>(target: &mut T, number: usize, name: &[u8], node: NodeLine)
+    ensures { Puts (T.standing target.old) (T.standing target.new)
+        (spelled_line (node_words (record { number = number; name = name.now; hi = target_of node.hi; lo = target_of node.lo }))) }
 {
-    text.extend_from_slice(b"node n")?;
-    push_number(text, number)?;
-    text.push(b' ')?;
-    text.extend_from_slice(name)?;
-    push_children(text, node)?;
-    text.push(b'\n')?;
-    Ok(())
+    put_node_head(target, number, name);
+    put_child(target, node.hi);
+    target.put(b" : ");
+    put_child(target, node.lo);
+    target.put(b"\n");
 }
 
-// What comes next where the variable is true, and where it is false.
-fn push_children(text: &mut Vec<u8>, node: NodeLine) -> Result<(), AllocError>
-    ensures { OnOk result (text.new.items ≡ text.old.items
-        ++ spaced (codes "?" ∷ target_word (target_of node.hi) ∷ codes ":" ∷ target_word (target_of node.lo) ∷ [])) }
+// The line up to its first child.
+fn put_node_head<T: Target>(target: &mut T, number: usize, name: &[u8])
+    ensures { Puts (T.standing target.old) (T.standing target.new) (codes "node n" ++ (decimal number ++ (codes " " ++ (name.now ++ codes " ? ")))) }
 {
-    text.extend_from_slice(b" ? ")?;
-    push_child(text, node.hi)?;
-    text.extend_from_slice(b" : ")?;
-    push_child(text, node.lo)
+    let mut digits = Buffer::new();
+    put_pieces(
+        target,
+        &[
+            b"node n",
+            digits.format(number).as_bytes(),
+            b" ",
+            name,
+            b" ? ",
+        ],
+    );
 }
 
 // A line for each state.
-fn push_states(text: &mut Vec<u8>, auto: &Auto, rows: &[Child]) -> Result<(), AllocError>
+fn put_states<T: Target>(target: &mut T, auto: &Auto, rows: &[Child])
     requires { length rows.now ≡ length auto.now.rows }
-    ensures { OnOk result (text.new.items ≡ text.old.items ++ spelled_lines (λ numbered. state_words (state_line auto.now numbered)) rows.now) }
+    ensures { Puts (T.standing target.old) (T.standing target.new) (spelled_lines (λ numbered. state_words (state_line auto.now numbered)) rows.now) }
 {
     for state in 0..auto.states() {
-        push_state(text, state, auto.accepting(state), rows[state as usize])?;
+        put_state(target, state, auto.accepting(state), rows[state as usize]);
     }
-    Ok(())
 }
 
 // The line of a state.
-fn push_state(text: &mut Vec<u8>, state: u32, accepting: bool, row: Child) -> Result<(), AllocError>
-    ensures { OnOk result (text.new.items ≡ text.old.items
-        ++ spelled_line (state_words (record { number = state; accepting = accepting; row = target_of row }))) }
+fn put_state<T: Target>(target: &mut T, state: u32, accepting: bool, row: Child)
+    ensures { Puts (T.standing target.old) (T.standing target.new)
+        (spelled_line (state_words (record { number = state; accepting = accepting; row = target_of row }))) }
 {
-    text.extend_from_slice(b"state ")?;
-    push_number(text, state as usize)?;
-    text.extend_from_slice(if accepting { b" accept " } else { b" reject " })?;
-    push_child(text, row)?;
-    text.push(b'\n')?;
-    Ok(())
+    put_state_head(target, state, answer(accepting));
+    put_child(target, row);
+    target.put(b"\n");
+}
+
+// The line up to its row.
+fn put_state_head<T: Target>(target: &mut T, state: u32, answer: &[u8])
+    ensures { Puts (T.standing target.old) (T.standing target.new) (codes "state " ++ (decimal state ++ (codes " " ++ (answer.now ++ codes " ")))) }
+{
+    let mut digits = Buffer::new();
+    put_pieces(
+        target,
+        &[
+            b"state ",
+            digits.format(state as usize).as_bytes(),
+            b" ",
+            answer,
+            b" ",
+        ],
+    );
+}
+
+fn answer(accepting: bool) -> &'static [u8]
+    ensures { result.now ≡ answer_word accepting }
+{
+    if accepting { b"accept" } else { b"reject" }
 }
 
 // What a line says behind its number.
@@ -150,26 +238,26 @@ trait Entry: Copy {
     // How it is spelled.
     ghost words: { Self → List (List ℕ) };
 
-    // Adds its words, each behind a space.
-    fn push(self, text: &mut Vec<u8>) -> Result<(), AllocError>
-        ensures { OnOk result (text.new.items ≡ text.old.items ++ spaced (words self)) };
+    // Puts its words, each behind a space.
+    fn put<T: Target>(self, target: &mut T)
+        ensures { Puts (T.standing target.old) (T.standing target.new) (spaced (words self)) };
 }
 
 impl Entry for Access {
     ghost words = { λ access. how_access (access_from access) };
 
-    fn push(self, text: &mut Vec<u8>) -> Result<(), AllocError> {
+    fn put<T: Target>(self, target: &mut T) {
         match self {
-            Access::Empty => text.extend_from_slice(b" empty"),
+            Access::Empty => target.put(b" empty"),
             Access::Start(letter) => {
-                text.extend_from_slice(b" start ")?;
-                push_letter(text, letter)
+                target.put(b" start ");
+                put_letter(target, letter);
             }
             Access::After(state, letter) => {
-                text.push(b' ')?;
-                push_number(text, state as usize)?;
-                text.push(b' ')?;
-                push_letter(text, letter)
+                target.put(b" ");
+                put_number(target, state as usize);
+                target.put(b" ");
+                put_letter(target, letter);
             }
         }
     }
@@ -178,76 +266,53 @@ impl Entry for Access {
 impl Entry for Suffix {
     ghost words = { λ suffix. how_suffix (suffix_from suffix) };
 
-    fn push(self, text: &mut Vec<u8>) -> Result<(), AllocError> {
+    fn put<T: Target>(self, target: &mut T) {
         match self {
-            Suffix::Empty => text.extend_from_slice(b" empty"),
+            Suffix::Empty => target.put(b" empty"),
             Suffix::Then(letter, place) => {
-                text.push(b' ')?;
-                push_letter(text, letter)?;
-                text.push(b' ')?;
-                push_number(text, place as usize)
+                target.put(b" ");
+                put_letter(target, letter);
+                target.put(b" ");
+                put_number(target, place as usize);
             }
         }
     }
 }
 
 // A line for each access word or each suffix, with this first word.
-fn push_entries<E: Entry>(text: &mut Vec<u8>, word: &[u8], entries: &[E]) -> Result<(), AllocError>
-    ensures { OnOk result (text.new.items ≡ text.old.items
-        ++ spelled_lines (λ numbered. word.now ∷ decimal numbered.0 ∷ E.words numbered.1) entries.now) }
+fn put_entries<T: Target, E: Entry>(target: &mut T, word: &[u8], entries: &[E])
+    ensures { Puts (T.standing target.old) (T.standing target.new)
+        (spelled_lines (λ numbered. word.now ∷ decimal numbered.0 ∷ E.words numbered.1) entries.now) }
 {
     for (number, entry) in entries.iter().enumerate() {
-        text.extend_from_slice(word)?;
-        push_entry(text, number, *entry)?;
+        target.put(word);
+        put_entry(target, number, *entry);
     }
-    Ok(())
 }
 
 // What stands on such a line behind its first word.
-fn push_entry<E: Entry>(text: &mut Vec<u8>, number: usize, entry: E) -> Result<(), AllocError>
-    ensures { OnOk result (text.new.items ≡ text.old.items ++ (spaced (decimal number ∷ E.words entry) ++ byte "\n" ∷ [])) }
+fn put_entry<T: Target, E: Entry>(target: &mut T, number: usize, entry: E)
+    ensures { Puts (T.standing target.old) (T.standing target.new) (spaced (decimal number ∷ E.words entry) ++ byte "\n" ∷ []) }
 {
-    text.push(b' ')?;
-    push_number(text, number)?;
-    entry.push(text)?;
-    text.push(b'\n')?;
-    Ok(())
+    target.put(b" ");
+    put_number(target, number);
+    entry.put(target);
+    target.put(b"\n");
 }
 
 // A state or a node.
-fn push_child(text: &mut Vec<u8>, child: Child) -> Result<(), AllocError>
-    ensures { OnOk result (text.new.items ≡ text.old.items ++ target_word (target_of child)) }
-{
-    match child {
-        Child::State(state) => {
-            text.push(b't')?;
-            push_number(text, state as usize)
-        }
-        Child::Node(number) => {
-            text.push(b'n')?;
-            push_number(text, number as usize)
-        }
-    }
-}
-
-// A number in decimal.
-fn push_number(text: &mut Vec<u8>, number: usize) -> Result<(), AllocError>
-    ensures { OnOk result (text.new.items ≡ text.old.items ++ decimal number) }
+fn put_child<T: Target>(target: &mut T, child: Child)
+    ensures { Puts (T.standing target.old) (T.standing target.new) (target_word (target_of child)) }
 {
     let mut digits = Buffer::new();
-    text.extend_from_slice(digits.format(number).as_bytes())
-}
-
-// A letter, as in a trace.
-fn push_letter(text: &mut Vec<u8>, letter: Letter) -> Result<(), AllocError>
-    ensures { OnOk result (text.new.items ≡ text.old.items ++ trace_line letter) }
-{
-    if letter.width() == 0 {
-        text.push(b'-')?;
-        return Ok(());
+    match child {
+        Child::State(state) => put_pieces(
+            target,
+            &[b"t", digits.format(state as usize).as_bytes()],
+        ),
+        Child::Node(number) => put_pieces(
+            target,
+            &[b"n", digits.format(number as usize).as_bytes()],
+        ),
     }
-    for slot in 0..letter.width() {
-        text.push(if letter.get(slot) { b'1' } else { b'0' })?;
-    }
-    Ok(())
 }

@@ -22,12 +22,14 @@
 //! The automaton's text is shown in `dcv_automaton_text`, and read back by [`automaton_read`]. What is true of it is in [`laws`].
 #![tactic(auto)]
 
-mod automaton;
 mod automaton_lines;
 pub mod laws;
-mod lines;
+mod report;
+mod verdict_lines;
+mod verdicts;
 
-pub use automaton::{verdict, verdict_text};
 pub use automaton_lines::automaton_text;
 pub use dcv_automaton_read::{AutoFault, AutoFile, automaton_read};
-pub use lines::Verdict;
+pub use report::{Kind, Report};
+pub use verdict_lines::Verdict;
+pub use verdicts::{verdict, verdict_text};

@@ -1,0 +1,24 @@
+-- What is made of the automaton is what the request asks for, of each set whose automaton it is.
+use Rattle.std.proofs.Common.{List, subst, sym, ap, ◌∙◌, arith}
+use Rattle.std.proofs.lemmas.List.{length-map}
+use Rattle.dcv_syntax.specs.declared.names.Name.{Name}
+use Rattle.dcv_command.specs.Seen.{asked_by}
+use Rattle.dcv_print.specs.Printed.{texts_of}
+use Rattle.dcv_print.specs.Report.{ReportValue, Says}
+use Rattle.dcv_cli.proofs.Automata.{report_answers}
+use Rattle.dcv_cli.proofs.judged.report_on.Goals as goal
+
+pub returns : goal.returns
+returns c k L of =
+    let judged = c.args.judged.now in
+    report_answers c.printed_is_automaton.ensures c.automaton_of_same_behaviours.ensures c.verdict_of_same_behaviours.ensures
+    c.tables_accept_the_same.ensures.accepts judged.auto (texts_of judged.names.items)
+    (record {
+      is_raw = c.states.ensures.raw;
+      auto = c.states.ensures.auto;
+      are_names = c.requires.names;
+      slots = length-map judged.names.items (λ (name : Name). name.text) ∙ c.requires.slots;
+      states = c.requires.states;
+      nodes = c.requires.nodes;
+    })
+    k L of (asked_by c.args.request) c.kind_of.result c.make.result c.kind_of.ensures c.make.ensures.verdict c.make.ensures.says

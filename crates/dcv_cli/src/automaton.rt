@@ -1,0 +1,55 @@
+// The automaton of a core, or the refusal that names the first step over the limits.
+ghost use Rattle.std.specs.Prelude.{◌≡◌, ◌<◌, ◌≤◌, ℕ, Some, length, slice_get, IfOk, IfErr, OnOk};
+ghost use Rattle.std.specs.Option.{option_map};
+ghost use Rattle.dcv_core.specs.Core.{CoreTree};
+ghost use Rattle.dcv_core.specs.Holds.{words_of};
+ghost use Rattle.dcv_core.specs.Steps.{steps_of};
+ghost use Rattle.dcv_dfa.specs.Auto.{count_of_nodes};
+ghost use Rattle.dcv_build.specs.Budget.{IsAutomatonOf, IsWithinBudget};
+ghost use Rattle.dcv_build.specs.Given.{IsCore, IsCoreOf};
+ghost use Rattle.dcv_cli.specs.Budget.{NamesFirstOver};
+
+use crate::budget_line::{Excess, Over};
+use crate::refusal::Refusal;
+use dcv_build::{BuildFault, build};
+use dcv_core::Core;
+use dcv_dfa::Auto;
+use dcv_explore::Limits;
+use std::alloc::Global;
+
+/// The canonical automaton of the core's words.
+pub(crate) fn automaton_of(alloc: Global, core: &Core, limits: Limits) -> Result<Auto, Refusal>
+    requires { IsCore core.now }
+    ensures canonical { (tree : CoreTree) → IsCoreOf tree core.now → IfOk result (IsAutomatonOf core.now.declared (words_of tree)) }
+    ensures few_states { IfOk result (λ auto. length auto.rows ≤ limits.states) }
+    ensures few_nodes { IfOk result (λ auto. count_of_nodes auto ≤ limits.nodes) }
+    ensures within { (tree : CoreTree) → IsCoreOf tree core.now → OnOk result (IsWithinBudget (steps_of core.now.declared tree) limits) }
+    ensures over { (tree : CoreTree) → IsCoreOf tree core.now → IfErr result (NamesFirstOver (steps_of core.now.declared tree) limits) }
+{
+    match build(alloc, core, limits) {
+        Ok(auto) => Ok(auto),
+        Err(BuildFault::States { step, limit }) => {
+            Err(Refusal::Budget(over(core, Excess::States, limit, step)))
+        }
+        Err(BuildFault::Nodes { step, limit }) => {
+            Err(Refusal::Budget(over(core, Excess::Nodes, limit, step)))
+        }
+        Err(BuildFault::Memory) => Err(Refusal::Memory),
+    }
+}
+
+// A step of the core that has more than the limit, with the place where its part of the text begins.
+fn over(core: &Core, excess: Excess, limit: u32, step: u32) -> Over
+    requires { step < length core.now.steps }
+    ensures excess { result.excess ≡ excess }
+    ensures limit { result.limit ≡ limit }
+    ensures step { result.step ≡ step }
+    ensures place { option_map (λ s. s.span.start) (slice_get core.now.steps step) ≡ Some result.at }
+{
+    Over {
+        excess,
+        limit,
+        at: core.span(step).start,
+        step,
+    }
+}

@@ -1,9 +1,0 @@
-use Rattle.std.proofs.Common.{◌≡◌, ◌∷◌, ◌++◌, take}
-use Rattle.std.specs.Fmt.{decimal}
-use Rattle.dcv_print.specs.Pushed.{spelled_lines}
-use Rattle.dcv_print.proofs.automaton_lines.push_entries.Given as goal
-
--- the lines so far are written
-abbrev pub invariant-loop-number : goal.invariant-loop-number
-invariant-loop-number g l =
-    l.text.items ≡ l.initial.text.items ++ spelled_lines (λ numbered. l.word ∷ decimal numbered.0 ∷ g.E.Entry.words numbered.1) (take l.number l.entries)

@@ -1,0 +1,115 @@
+// A report on the words of an automaton. It holds words, lists and references, and no text: that is written in pieces.
+ghost use Rattle.std.specs.Prelude.{◌≡◌, true, length, is_err, IfOk, OnOk, OnErr};
+ghost use Rattle.dcv_io.specs.Faults.{raised, RisesIf};
+ghost use Rattle.dcv_io.specs.Putting.{Puts};
+ghost use Rattle.dcv_io.specs.Written.{Appends, AppendsStrictPrefix};
+ghost use Rattle.dcv_language.specs.Verdict.{IsVerdict};
+ghost use Rattle.dcv_dfa.specs.Raw.{raw_accepts};
+ghost use Rattle.dcv_print.specs.Printed.{texts_of};
+ghost use Rattle.dcv_print.specs.Report.{Says, seen_report, IsSomeListed};
+ghost use Rattle.dcv_print.specs.Verdict.{seen_verdict};
+ghost use Rattle.dcv_print.specs.declared.verdict_lines.Verdict.{Verdict as CodeVerdict};
+
+use crate::automaton_lines::Listed;
+use crate::verdict_lines::Verdict;
+use crate::verdicts::verdict;
+use dcv_dfa::Auto;
+use dcv_io::{Block, Failed, Sink, Target};
+use dcv_syntax::Name;
+use std::alloc::{AllocError, Global};
+use std::marker::Model;
+
+/// What is said of an automaton.
+#[derive(Clone, Copy, Debug, PartialEq, Eq)]
+pub enum Kind {
+    /// The verdict of the words that it accepts.
+    Check,
+    /// Its own text, with words that show that it has the fewest states.
+    Automaton,
+}
+
+/// A report on the words that an automaton accepts, before it is written.
+///
+/// It is made whole before a byte is written, so that memory cannot run out half-way.
+#[derive(Drop)]
+pub struct Report<'a> {
+    verdict: Verdict,
+    listed: Option<Listed<'a>>,
+}
+
+impl<'a> Model for Report<'a> {
+    ghost use Rattle.dcv_print.specs.Report.{ReportValue, seen_report, IsSomeListed};
+
+    ghost Value = { ReportValue };
+
+    ghost view = { λ report. seen_report report.verdict report.listed };
+
+    ghost invariant = { λ report. IsSomeListed report.listed };
+}
+
+impl<'a> Report<'a> {
+    /// What the kind says of an automaton over variables with these names.
+    pub fn make(
+        alloc: Global,
+        auto: &'a Auto,
+        names: &'a [Name],
+        kind: Kind,
+    ) -> Result<Report<'a>, AllocError>
+        requires { length names.now ≡ auto.now.arena.slots }
+        ensures verdict { IfOk result (λ report. IsVerdict auto.now.arena.slots (raw_accepts auto.now) report.verdict) }
+        ensures says { IfOk result (Says kind auto.now (texts_of names.now)) }
+    {
+        let verdict = verdict(alloc, auto)?;
+        let listed = listed(alloc, auto, names, kind)?;
+        Ok(Report { verdict, listed })
+    }
+
+    /// The verdict, of whatever kind the report is.
+    pub fn verdict(&self) -> &Verdict
+        ensures { seen_verdict result.now ≡ self.now.verdict }
+    {
+        &self.verdict
+    }
+
+    /// Writes the report in blocks of 4,096 bytes, and takes no memory.
+    pub fn send<S: Sink>(&self, sink: &mut S) -> Result<(), Failed>
+        ensures ok { OnOk result (Appends (S.written sink.old) (S.written sink.new) self.now.text) }
+        ensures failed { OnErr result (AppendsStrictPrefix (S.written sink.old) (S.written sink.new) self.now.text) }
+        ensures faults { RisesIf (is_err result) (S.faults sink.old) (S.faults sink.new) }
+
+        // It stops at the first write that fails: one has failed, and it was the last.
+        ensures once { OnErr result (S.faults sink.new ≡ raised (S.faults sink.old)) }
+        ensures stops { OnErr result (S.last_failed sink.new ≡ true) }
+    {
+        let mut block = Block::new(sink);
+        self.put(&mut block);
+        block.finish()
+    }
+
+    // Puts the text.
+    fn put<T: Target>(&self, target: &mut T)
+        ensures { Puts (T.standing target.old) (T.standing target.new) self.now.text }
+    {
+        match &self.listed {
+            None => self.verdict.put(target),
+            Some(listed) => listed.put(target),
+        }
+    }
+}
+
+// The automaton with its lines, where the kind asks for them.
+fn listed<'a>(
+    alloc: Global,
+    auto: &'a Auto,
+    names: &'a [Name],
+    kind: Kind,
+) -> Result<Option<Listed<'a>>, AllocError>
+    requires { length names.now ≡ auto.now.arena.slots }
+    ensures says { IfOk result (λ listed. (verdict : CodeVerdict) → Says kind auto.now (texts_of names.now) (seen_report verdict listed)) }
+    ensures listed { IfOk result IsSomeListed }
+{
+    match kind {
+        Kind::Check => Ok(None),
+        Kind::Automaton => Ok(Some(Listed::new(alloc, auto, names)?)),
+    }
+}

@@ -1,0 +1,83 @@
+#!/usr/bin/env bash
+# Tests the script ./explain: places, marks and hints for a table of texts with the program's line for each, worked out by hand. The
+# program is a stub that answers that line; where the real one is built, it is asked too. Run it by hand: tests/explain.sh
+here=$(dirname "$(dirname "$(readlink -f "${BASH_SOURCE[0]}")")") || exit 1
+program=$here/crates/dcvalid/out/dcvalid
+work=$(mktemp -d) || exit 1
+trap 'rm -rf "$work"' EXIT
+failed=0
+
+cat >"$work/stub" <<'END'
+#!/usr/bin/env bash
+[ -z "${STUB_OUT-}" ] || printf '%b' "$STUB_OUT"
+[ -z "${STUB_ERR-}" ] || echo "$STUB_ERR" >&2
+exit "$STUB_STATUS"
+END
+chmod +x "$work/stub"
+
+fail() { echo "FAILED: $*"; failed=1; }
+
+# explained TEXT LINE STATUS: what ./explain says where the program answers this line; the text is that of printf %b
+explained() {
+  printf '%b' "$1" >"$work/text.dc"
+  if [ -x "$program" ]; then
+    [ "$("$program" check "$work/text.dc" 2>&1 >/dev/null)" = "$2" ] || fail "the program on '$1'"
+  fi
+  STUB_ERR=$2 STUB_STATUS=$3 DCVALID=$work/stub "$here/explain" check "$work/text.dc" >"$work/out" 2>"$work/err"
+  [ $? -eq "$3" ] || fail "the status for '$1'"
+  [ ! -s "$work/out" ] || fail "something on the output for '$1'"
+}
+
+# fault TEXT KIND AT ROW COLUMN HINT: the place, the column of the mark on the screen, and a word of the hint
+fault() {
+  local mark
+  explained "$1" "fault $2 at $3" 3
+  grep -q "^$work/text.dc:$4:$5: fault $2" "$work/err" || fail "the place for '$1': $(head -n 1 "$work/err")"
+  mark=$(sed -n 3p "$work/err")
+  [ "${#mark}" -eq $(($5 + 8)) ] || fail "the mark for '$1': $mark"
+  grep -q -- "$6" "$work/err" || fail "no '$6' for '$1'"
+}
+
+#     text                                           kind      at  row col  hint
+fault 'infer pt & pt;'                               byte      9   1   10   'Write &&'
+fault 'infer <p> | pt;'                              byte      10  1   11   'Write ||'
+fault 'var p;\ninfer {p};'                           byte      13  2   7    '{{p}}'
+fault 'infer pt -> pt;'                              byte      9   1   10   'Write =>'
+fault '\xef\xbb\xbfinfer pt;'                        byte      0   1   1    'byte order mark'
+fault '// \xe2\x89\xa4\nvar p; infer \xe2\x89\xa4;'  byte      20  2   14   'no ASCII'
+fault 'var p\ninfer <p>;\n'                          syntax    6   2   1    'end of line 1'
+fault 'var p\r\ninfer <p>;\r\n'                      syntax    7   2   1    'end of line 1'
+fault 'var p; // a comment;\ninfer <p>\n // more\n'  syntax    40  2   10   'whole'
+fault 'infer pt'                                     syntax    8   1   9    'whole'
+fault 'infer pt; infer pt;'                          syntax    10  1   11   'one goal'
+fault 'var p; infer slen != 3;'                      syntax    18  1   19   'relation\|!='
+fault '\tvar p;\n\tinfer\t[[r]];'                    unknown   17  2   10   'spelt'
+fault 'var p; infer p;'                              kind      13  1   14   '<p>'
+fault 'var p,p;infer pt;'                            duplicate 6   1   7    'second time'
+fault 'define f(a) as [[a]]; infer f;'               arity     28  1   29   'arguments'
+fault 'infer slen = 10000;'                          number    13  1   14   '9999'
+
+explained 'var p, q;\ninfer scount p = 200 && scount q = 200;' 'budget states 30000 at 16 step 2' 4
+grep -q "^$work/text.dc:2:7: over the budget" "$work/err" || fail 'the place of a step over the budget'
+grep -q '^Step 2 .* 30000 states' "$work/err" || fail 'what is said of a step over the budget'
+
+# A table of a behaviour, from a file that can be read once only, behind an option.
+printf 'var a, // b\n long_name; infer pt;' >"$work/text.dc"
+wanted='not valid: some behaviour breaks the requirement
+satisfiable: some behaviour meets it
+
+A shortest behaviour that breaks it, 2 instants:
+  instant  a  long_name
+        0  0          1
+        1  0          0
+
+A shortest behaviour that meets it, 1 instant:
+  instant  a  long_name
+        0  0          0'
+got=$(STUB_OUT='not valid\nsatisfiable\ncounterexample 2\n01\n00\nexample 1\n00\n' STUB_STATUS=1 DCVALID=$work/stub \
+  "$here/explain" check --states 5 /dev/stdin <"$work/text.dc")
+[ $? -eq 1 ] || fail 'the status of a verdict'
+[ "$got" = "$wanted" ] || fail "the tables: $got"
+
+[ "$failed" -eq 0 ] && echo 'all passed'
+exit "$failed"
