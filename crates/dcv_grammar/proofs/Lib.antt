@@ -9,3 +9,4 @@ pub mod ReadingLaws
 pub mod Builders
 pub mod Tables
 pub mod Verdicts
+pub mod Readings

@@ -9,7 +9,7 @@ use Rattle.dcv_grammar.specs.declared.grammar.Symbol.TheVariants.{Class, Rule}
 use Rattle.dcv_grammar.specs.Grammar.{Alternative, Production, ContextFree, bodies, Derives, nothing, by_class, by_body, IsReached, at_start, in_body, past_class, IsSentence, IsViable, IsFaultAt, IsVerdict}
 use Rattle.dcv_grammar.specs.Picked.{picked, body_for}
 use Rattle.dcv_grammar.specs.Predictive.{IsPredictive, weight_of}
-use Rattle.dcv_grammar.specs.Machine.{Wants, with_wanted}
+use Rattle.dcv_grammar.specs.Machine.{Follows, Wants, with_wanted}
 use Rattle.dcv_grammar.proofs.Facts.{facts, hints}
 use Rattle.dcv_grammar.proofs.Derivations.{body_in, from_rule, from_class, not_at_end, not_past_end, body_picked, weight_falls, known_rule, some_derived, reached_known, reached_guarded}
 
@@ -39,11 +39,6 @@ stack_weight g s = weight_of (hints g) s
 pub record IsStackFor (g : ContextFree) (next : Option ℕ) (old new : List Symbol) : Type 0 where
   pub reached : IsReached g new
   pub same : (w : List ℕ) → slice_get w 0 ≡ next → Derives g old w ↔ Derives g new w
-
--- A stack derives what may follow what was read.
-pub record Follows (g : ContextFree) (done : List ℕ) (stack : List Symbol) : Type 0 where
-  pub reached : IsReached g stack
-  pub same : (w : List ℕ) → IsSentence g (done ++ w) ↔ Derives g stack w
 
 module _ (g : ContextFree) (p : IsPredictive g) where
   -- the rule on top is in the table

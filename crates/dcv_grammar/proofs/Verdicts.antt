@@ -8,9 +8,9 @@ use Rattle.dcv_grammar.specs.declared.grammar.Symbol.TheVariants.{Class, Rule}
 use Rattle.dcv_grammar.specs.Grammar.{ContextFree, IsVerdict}
 use Rattle.dcv_grammar.specs.Picked.{body_for}
 use Rattle.dcv_grammar.specs.Predictive.{IsPredictive}
-use Rattle.dcv_grammar.specs.Machine.{Wants}
+use Rattle.dcv_grammar.specs.Machine.{Follows, Wants}
 use Rattle.dcv_grammar.proofs.Derivations.{rule_at}
-use Rattle.dcv_grammar.proofs.Steps.{IsStackFor, Follows, stack_weight, in_table, weight_less, stack_step, stack_for_itself, wants_class, wants_nothing, follows_nothing, follows_class, verdict_at, sentence_at_end, fault_at_end}
+use Rattle.dcv_grammar.proofs.Steps.{IsStackFor, stack_weight, in_table, weight_less, stack_step, stack_for_itself, wants_class, wants_nothing, follows_nothing, follows_class, verdict_at, sentence_at_end, fault_at_end}
 use Rattle.dcv_grammar.proofs.Stacks.{same_class, other_class}
 
 tested : (b : Bool) → (b ≡ true) ⊎ (b ≡ false)

@@ -8,3 +8,4 @@ pub mod ClassSet
 pub mod Picked
 -- for proofs alone: the reader's stack
 pub mod Machine
+pub mod Taking

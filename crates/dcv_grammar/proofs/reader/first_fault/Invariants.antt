@@ -1,8 +1,9 @@
-use Rattle.std.proofs.Common.{reverse, take, map}
-use Rattle.dcv_grammar.specs.Grammar.{grammar_of}
-use Rattle.dcv_grammar.proofs.Steps.{Follows}
+use Rattle.std.proofs.Common.{◌≡◌, take, map}
+use Rattle.dcv_grammar.specs.Taking.{HasTaken}
 use Rattle.dcv_grammar.proofs.reader.first_fault.Given as goal
 
 abbrev pub invariant-loop-place : goal.invariant-loop-place
-invariant-loop-place g l =
-    Follows (grammar_of l.grammar) (take l.place (map g.T.Classified.class_of l.tokens)) (reverse l.stack.items)
+invariant-loop-place g l = record {
+  grammar : l.reading.grammar ≡ l.grammar;
+  taken : HasTaken l.reading (take l.place (map g.T.Classified.class_of l.tokens));
+}
