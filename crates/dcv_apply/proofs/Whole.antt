@@ -1,7 +1,7 @@
 -- What is merged at all letters, of which none need begin alike.
-use Rattle.std.proofs.Common.{◌≡◌, ℕ, ◌<◌, ◌≤◌, Bool, List, [], length, Result, Err, IfOk, sym, ◌∙◌, arith}
+use Rattle.std.proofs.Common.{◌≡◌, ℕ, ◌<◌, ◌≤◌, Bool, List, [], length, Result, Err, IfOk, arith}
 use Rattle.std.proofs.lemmas.Result.{IfOk-weaker}
-use Rattle.dcv_arena.specs.Arena.{ArenaValue, IsArena, IsRef, value_of, table_of, KeepsRefs, AddsOnlyNodesOf, AddsOnlyNodesOfFunction, count_with}
+use Rattle.dcv_arena.specs.Arena.{ArenaValue, IsArena, IsRef, KeepsRefs, AddsOnlyNodesOfFunction, count_with}
 use Rattle.dcv_arena.specs.declared.nodes.Ref.{Ref}
 use Rattle.dcv_arena.proofs.Growth.{keeps_all}
 use Rattle.dcv_apply.specs.declared.faults.ApplyFault.{ApplyFault}

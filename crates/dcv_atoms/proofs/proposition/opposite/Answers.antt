@@ -1,4 +1,4 @@
-use Rattle.std.proofs.Common.{Bool, List, not}
+use Rattle.std.proofs.Common.{not}
 use Rattle.dcv_core.specs.Core.{TruthNot}
 use Rattle.dcv_core.specs.Holds.{truth_holds}
 use Rattle.dcv_atoms.proofs.Building.{exceeds_one}

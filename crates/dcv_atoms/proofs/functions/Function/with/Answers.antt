@@ -1,4 +1,4 @@
-use Rattle.std.proofs.Common.{◌≡◌, sym, subst, ◌∙◌}
+use Rattle.std.proofs.Common.{sym, subst, ◌∙◌}
 use Rattle.dcv_atoms.specs.Functions.{FunctionValue, Means}
 use Rattle.dcv_atoms.proofs.Joining.{means_joined}
 use Rattle.dcv_atoms.proofs.functions.Function.with.Goals as goal
