@@ -11,12 +11,12 @@ use Rattle.dcv_minimise.specs.Partition.{block_of}
 use Rattle.dcv_minimise.specs.declared.refine.keys.Keys.{Keys}
 
 abbrev pub blocks_in : Keys → List ℕ
-blocks_in keys = keys.remapping.numbers.new.now
+blocks_in keys = keys.remapping.numbers
 
 pub record IsKeys (raw : RawValue) (blocks : List ℕ) (keys : Keys) : Type 0 where
   pub is_raw : IsRaw raw
   pub each : length blocks ≡ length raw.rows
-  pub from : keys.remapping.numbers.from.now ≡ raw.arena
+  pub from : keys.remapping.from ≡ raw.arena
   pub by : blocks_in keys ≡ blocks
   pub holds : HoldsNew keys.remapping keys.scratch
   pub slots : keys.scratch.slots ≡ raw.arena.slots

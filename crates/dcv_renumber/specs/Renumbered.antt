@@ -1,4 +1,5 @@
 -- New numbers for old ones, from a list that has at each place the new number of that place.
+--     RemappingValue              whose functions get new numbers, which ones, and what places became so far
 --     renumbered new from root    the function that has the new number of the ref's number, at each letter
 --     HoldsNew remapping arena    what each place became has the new numbers, in this arena
 --     IsNewRef new from arena root result    a ref with the new numbers, which depends on no slot before the old one does
@@ -10,7 +11,11 @@ use Rattle.dcv_arena.specs.Pointwise.{AgreesBehind, exactly}
 use Rattle.dcv_arena.specs.declared.nodes.Ref.{Ref}
 use Rattle.dcv_arena.specs.declared.nodes.Ref.TheVariants.{Place}
 use Rattle.dcv_renumber.specs.Became.{HasBecome}
-use Rattle.dcv_renumber.specs.declared.renumbering.Remapping.{Remapping}
+
+pub record RemappingValue : Type 0 where
+  pub from : ArenaValue
+  pub numbers : List ℕ
+  pub places : List (Option Ref)
 
 abbrev pub renumbered : List ℕ → ArenaValue → Ref → List Bool → ℕ
 renumbered new from root letter = slice_index_or new (value_of from root letter) 0
@@ -33,5 +38,5 @@ HasMoreNew new from root old limit = (front : List Bool) (function : List Bool �
 abbrev pub HoldsPlaces : List ℕ → ArenaValue → ArenaValue → List (Option Ref) → Type 0
 HoldsPlaces new from arena became = (place : ℕ) (result : Ref) → HasBecome became place result → IsNewRef new from arena (Place place) result
 
-abbrev pub HoldsNew : Remapping → ArenaValue → Type 0
-HoldsNew remapping arena = HoldsPlaces remapping.numbers.new.now remapping.numbers.from.now arena remapping.places
+abbrev pub HoldsNew : RemappingValue → ArenaValue → Type 0
+HoldsNew remapping arena = HoldsPlaces remapping.numbers remapping.from arena remapping.places

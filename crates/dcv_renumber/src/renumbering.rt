@@ -10,6 +10,7 @@ ghost use Rattle.dcv_arena.specs.declared.faults.ArenaFault.TheVariants.{Full};
 use crate::places::Places;
 use dcv_arena::{Arena, ArenaFault, Ref};
 use std::alloc::Global;
+use std::marker::Model;
 
 /// The function that has, at each letter, the new number of the number that `root` has there. `map` has at each
 /// place the new number of that place. A slot that the letters of `arena` do not have counts as false.
@@ -49,11 +50,19 @@ pub struct Remapping<'a> {
     places: Places,
 }
 
+impl<'a> Model for Remapping<'a> {
+    ghost use Rattle.dcv_renumber.specs.Renumbered.{RemappingValue};
+
+    ghost Value = { RemappingValue };
+
+    ghost view = { λ remapping. record { from = remapping.numbers.from.now; numbers = remapping.numbers.new.now; places = remapping.places } };
+}
+
 impl<'a> Remapping<'a> {
     /// `map` has at each place the new number of that place.
     pub fn new(alloc: Global, from: &'a Arena, map: &'a [u32]) -> Remapping<'a>
-        ensures from { result.numbers.from.now ≡ from.now }
-        ensures map { result.numbers.new.now ≡ map.now }
+        ensures from { result.from ≡ from.now }
+        ensures map { result.numbers ≡ map.now }
         ensures holds { (arena : ArenaValue) → HoldsNew result arena }
     {
         Remapping {
@@ -65,8 +74,8 @@ impl<'a> Remapping<'a> {
     /// The same with the list of an earlier round, also of another arena. Nothing that it says of places counts any more, but its memory
     /// is used again: a round over the same arena costs what it goes through, however many nodes the arena has.
     pub fn over(mut places: Places, from: &'a Arena, map: &'a [u32]) -> Remapping<'a>
-        ensures from { result.numbers.from.now ≡ from.now }
-        ensures map { result.numbers.new.now ≡ map.now }
+        ensures from { result.from ≡ from.now }
+        ensures map { result.numbers ≡ map.now }
         ensures holds { (arena : ArenaValue) → HoldsNew result arena }
     {
         places.next_round();
@@ -88,26 +97,27 @@ impl Remapping<'_> {
     /// The function that has, at each letter, the new number of the number that `root` has there. A slot that the
     /// letters of `arena` do not have counts as false.
     pub fn remap(&mut self, arena: &mut Arena, root: Ref) -> Result<Ref, ArenaFault>
-        requires root { IsRef self.old.numbers.from.now root }
+        requires root { IsRef self.old.from root }
         requires map { (letter : List Bool) → length letter ≡ arena.old.slots
-            → value_of self.old.numbers.from.now root letter < length self.old.numbers.new.now }
+            → value_of self.old.from root letter < length self.old.numbers }
         requires holds { HoldsNew self.old arena.old }
 
         // The result has the new numbers, and no node has come but its own, after a refusal too.
         ensures is_ref { IfOk result (IsRef arena.new) }
         ensures value { IfOk result (λ new. (letter : List Bool) → length letter ≡ arena.old.slots
-            → value_of arena.new new letter ≡ renumbered self.old.numbers.new.now self.old.numbers.from.now root letter) }
+            → value_of arena.new new letter ≡ renumbered self.old.numbers self.old.from root letter) }
         ensures adds { IfOk result (AddsOnlyNodesOf arena.old arena.new) }
-        ensures stray { AddsOnlyNodesOfFunction arena.old arena.new (renumbered self.old.numbers.new.now self.old.numbers.from.now root) }
+        ensures stray { AddsOnlyNodesOfFunction arena.old arena.new (renumbered self.old.numbers self.old.from root) }
 
         // It has more nodes that are new than there is room.
         ensures full { (limit : ℕ) → result ≡ Err (Full limit) → (limit ≡ arena.old.limit)
-            × (limit < count_with arena.old (renumbered self.old.numbers.new.now self.old.numbers.from.now root)) }
+            × (limit < count_with arena.old (renumbered self.old.numbers self.old.from root)) }
 
         // The refs that there were mean what they meant, and the numbers and what was kept of them stay.
         ensures kept { KeepsRefs arena.old arena.new }
         ensures arena { IsArena arena.new }
-        ensures numbers { self.new.numbers ≡ self.old.numbers }
+        ensures from { self.new.from ≡ self.old.from }
+        ensures map { self.new.numbers ≡ self.old.numbers }
         ensures holds { HoldsNew self.new arena.new }
     {
         // for the prover: of an arena that was asked it is known what is true of every arena.

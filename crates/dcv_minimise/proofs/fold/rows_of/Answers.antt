@@ -21,7 +21,7 @@ remap-requires-clause-map c letter size =
     let raw = c.args.raw.now in
     let state = get_or c.args.states.now c.loop-state.state-index 0 in
     let was = c.loop-state.invariant in
-    leads_inside raw c.slots.ensures.raw c.args.numbers.now c.loop-state.remapping.numbers.new.now c.loop-state.remapping.numbers.from.now state c.row-old.result was.new was.from
+    leads_inside raw c.slots.ensures.raw c.args.numbers.now c.loop-state.remapping.numbers c.loop-state.remapping.from state c.row-old.result was.new was.from
     (get_or_from_slice_get raw.rows state c.row-old.result (Leaf 0) c.row-old.ensures.row) (c.requires.states c.loop-state.state-index 0 c.loop-state-test.true) c.requires.numbers
     c.loop-state.arena.slots was.rows.slots letter size
 
@@ -37,11 +37,11 @@ loop-state-preserved c =
     record {
       rows = subst (HasRows raw states c.args.numbers.now c.remap.new.arena) (sym c.in_ok-push-in-Ok.ensures.items)
           (more_rows raw states c.args.numbers.now before c.remap.new.arena rows c.in-Ok.new was.rows c.in-Ok.ensures.arena c.in-Ok.ensures.kept c.in-Ok.ensures.is_ref
-          (value_by raw states c.args.numbers.now c.loop-state.remapping.numbers.new.now c.loop-state.remapping.numbers.from.now c.remap.new.arena (length rows) state c.row-old.result c.in-Ok.new
+          (value_by raw states c.args.numbers.now c.loop-state.remapping.numbers c.loop-state.remapping.from c.remap.new.arena (length rows) state c.row-old.result c.in-Ok.new
           was.new was.from at (get_or_from_slice_get raw.rows state c.row-old.result (Leaf 0) c.row-old.ensures.row) before.slots c.in-Ok.ensures.value)
           c.in-Ok.ensures.adds);
       count = ap length c.in_ok-push-in-Ok.ensures.items ∙ length_push rows c.in-Ok.new ∙ ap (λ n. n + 1) was.count;
-      from = ap (λ numbers. numbers.from.now) c.in-Ok.ensures.numbers ∙ was.from;
-      new = ap (λ numbers. numbers.new.now) c.in-Ok.ensures.numbers ∙ was.new;
+      from = c.in-Ok.ensures.from ∙ was.from;
+      new = c.in-Ok.ensures.map ∙ was.new;
       holds = c.in-Ok.ensures.holds;
     }

@@ -8,7 +8,7 @@ abbrev pub invariant-loop-state : goal.invariant-loop-state
 invariant-loop-state l = record {
   rows : HasRows l.raw l.states l.numbers l.arena l.rows.items;
   count : length l.rows.items ≡ l.state-index;
-  from : l.remapping.numbers.from.now ≡ l.raw.arena;
-  new : l.remapping.numbers.new.now ≡ l.numbers;
+  from : l.remapping.from ≡ l.raw.arena;
+  new : l.remapping.numbers ≡ l.numbers;
   holds : HoldsNew l.remapping l.arena;
 }
