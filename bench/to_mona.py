@@ -231,4 +231,5 @@ class Reader:
         }[relation]
 
 
+sys.setrecursionlimit(100_000)
 print(Reader(open(sys.argv[1]).read()).file(), end="")
