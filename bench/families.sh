@@ -39,9 +39,9 @@ for file in "$files"/*; do
     measure theirs mona -q "$files/.question"
   done
   ours=$(head -n 1 "$files/.ours")
-  theirs=$(grep -m 1 -i -o -E 'formula is valid|counterexample' "$files/.theirs" || echo 'no answer')
+  theirs=$(grep -m 1 -o -E 'is valid|is unsatisfiable|counter-example' "$files/.theirs" || echo 'no answer')
   case "$ours/$theirs" in
-    'valid/Formula is valid' | 'not valid'*/*ounterexample | */'no answer') ;;
+    'valid'/'is valid' | 'not valid'*/'is unsatisfiable' | 'not valid'*/'counter-example' | */'no answer') ;;
     *) echo "$case: $ours here, $theirs by MONA" >&2; exit 1 ;;
   esac
   awk -v n="$case" -v a="${least[ours]}" -v b="${least[theirs]}" -v m="${most[ours]}" -v k="${most[theirs]}" -v s="$ours" \
