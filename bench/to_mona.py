@@ -232,4 +232,5 @@ class Reader:
 
 
 if __name__ == "__main__":
+    sys.setrecursionlimit(100_000)
     print(Reader(open(sys.argv[1]).read()).file(), end="")

@@ -5,7 +5,7 @@ use Rattle.std.specs.Cmp.{nat_eq_equiv}
 use Rattle.std.proofs.lemmas.List.Elements.{All-contains}
 use Rattle.std.proofs.lemmas.Map.Views.{list_any-from_Contains}
 use Rattle.std.proofs.lemmas.Option.{same_Some}
-use Rattle.indexmap.specs.IndexSet.{contains}
+use Rattle.dcv_members.specs.SparseSet.{has as is_among}
 use Rattle.dcv_arena.specs.Arena.{ArenaValue, IsRef, level_of, value_of, KeepsRefs}
 use Rattle.dcv_arena.specs.declared.nodes.Ref.{Ref}
 use Rattle.dcv_arena.specs.declared.nodes.Ref.TheVariants.{Leaf, Place}
@@ -63,7 +63,7 @@ indicator_of_node part old new root lo hi mark low high slot at splits low_is hi
         ∙ sym (ap (λ number. (if part_of part number then 1 else 0)) goes)
 
 -- a node that is not marked leads nowhere
-pub leads_nowhere : (part : Part) (place : ℕ) (found : Bool) → IsMarkedAbove part → IsRef part.arena.now (Place place) → found ≡ contains nat_eq part.above.now place → found ≡ false
+pub leads_nowhere : (part : Part) (place : ℕ) (found : Bool) → IsMarkedAbove part → IsRef part.arena.now (Place place) → found ≡ is_among part.above.now place → found ≡ false
     → (letter : List Bool) → leads part (Place place) letter ≡ false
 leads_nowhere part place found above is_ref is none letter = elim (cases_Bool (leads part (Place place) letter)) [
   | inl goes ↦ absurd (true≢false (sym (above place letter is_ref goes) ∙ sym is ∙ none))
@@ -111,7 +111,7 @@ one_indicator_more part rows looked place old new states marks mark kept refs wi
 module _ (raw : RawValue) (v : AreVertices raw) (states : List ℕ) (inside : All (λ state. state < length raw.rows) states)
     (above looked : List ℕ) (all_above : (place : ℕ) → LeadsInto (index_of raw.arena raw.rows) states (Place place) → Contains above place)
     (all_looked : (row : ℕ) → IsRowInto (index_of raw.arena raw.rows) states row → Contains looked row) (part : Part) (arena : part.arena.now ≡ raw.arena)
-    (is : (state : ℕ) → part_of part state ≡ has states state) (above_is : part.above.now.keys ≡ above) where
+    (is : (state : ℕ) → part_of part state ≡ has states state) (above_is : part.above.now ≡ above) where
   leads_is : (ref : Ref) (letter : List Bool) → leads part ref letter ≡ has states (value_of raw.arena ref letter)
   leads_is ref letter = ap (λ (arena : ArenaValue). part_of part (value_of arena ref letter)) arena ∙ is (value_of raw.arena ref letter)
 
@@ -122,7 +122,7 @@ module _ (raw : RawValue) (v : AreVertices raw) (states : List ℕ) (inside : Al
       let ref : IsRef raw.arena (Place place) = subst (λ (arena : ArenaValue). IsRef arena (Place place)) arena is_ref in
       let found : Contains above place =
       all_above place (record { is_ref = ref; letter = letter; below = All-contains (λ state. state < length raw.rows) states value inside there; leaf = there }) in
-      list_any-from_Contains nat_eq_equiv place part.above.now.keys (subst (λ keys. Contains keys place) (sym above_is) found)
+      list_any-from_Contains nat_eq_equiv place part.above.now (subst (λ keys. Contains keys place) (sym above_is) found)
 
   pub all_marked : (scratch : ArenaValue) (marks : List (ℕ × Ref)) → AreIndicators part raw.rows looked scratch marks → (state : ℕ) (letter : List Bool) → state < length raw.rows
       → marked scratch marks letter state ≡ has states (next_in raw state letter)

@@ -7,6 +7,7 @@
 --     AreIndicators part rows looked scratch marks   the marks of the looked-at states are the indicators of their rows, and there are no others
 use Rattle.std.specs.Prelude.{◌≡◌, ℕ, ◌≤◌, ◌&&◌, nat_eq, Bool, true, if◌then◌else◌, List, Option, Some}
 use Rattle.indexmap.specs.IndexSet.{contains}
+use Rattle.dcv_members.specs.SparseSet.{has as is_among}
 use Rattle.dcv_arena.specs.Arena.{ArenaValue, IsRef, level_of, value_of}
 use Rattle.dcv_arena.specs.declared.nodes.Ref.{Ref}
 use Rattle.dcv_arena.specs.declared.nodes.Ref.TheVariants.{Place}
@@ -31,7 +32,7 @@ Became part scratch at = (place : ℕ) (mark : Ref) → at place ≡ Some mark �
 
 abbrev pub IsMarkedAbove : Part → Type 0
 IsMarkedAbove part = (place : ℕ) (letter : List Bool) → IsRef part.arena.now (Place place) → leads part (Place place) letter ≡ true
-    → contains nat_eq part.above.now place ≡ true
+    → is_among part.above.now place ≡ true
 
 abbrev pub AreIndicators : Part → List Ref → List ℕ → ArenaValue → List (ℕ × Ref) → Type 0
 AreIndicators part rows looked scratch marks = (state : ℕ) (letter : List Bool)

@@ -15,7 +15,7 @@ use crate::proof::Proof;
 use crate::vertices::Vertices;
 use dcv_dfa::Auto;
 use dcv_dfa::laws::{tables_accept_the_same, tables_have_the_states};
-use dcv_index::Index;
+use dcv_index::{Above, Index};
 use dcv_language::Suffix;
 use dcv_language::laws::one_canonical_table;
 use std::alloc::{AllocError, Global};
@@ -85,10 +85,11 @@ fn separating(alloc: Global, vertices: &Vertices) -> Result<Vec<Suffix>, AllocEr
     ensures separated { IfOk result (λ suffixes. IsSeparated (raw_of vertices.now) (suffix_words suffixes.items)) }
 {
     let index = Index::new(alloc, vertices.arena, &vertices.rows)?;
+    let mut found = Above::new(alloc);
     let mut partition = Partition::new(alloc, vertices)?;
     let mut place = 0;
     while place < partition.suffixes.len() {
-        partition.go_on_from(&index, place)?;
+        partition.go_on_from(&index, &mut found, place)?;
         place += 1;
     }
     Ok(partition.suffixes)

@@ -9,6 +9,7 @@ ghost use Rattle.dcv_certificate.specs.Marks.{IsMarkFrom};
 ghost use Rattle.dcv_certificate.specs.Indicators.{IsIndicator, Became, IsMarkedAbove, part_of, AreIndicators};
 
 use dcv_arena::{Arena, Ref};
+use dcv_members::SparseSet;
 use indexmap::{IndexMap, IndexSet};
 use std::alloc::{AllocError, Global};
 
@@ -17,7 +18,7 @@ use std::alloc::{AllocError, Global};
 pub(crate) struct Part<'a> {
     pub(crate) arena: &'a Arena,
     states: IndexSet<u32>,
-    above: &'a IndexSet<u32>,
+    above: &'a SparseSet,
 }
 
 impl<'a> Part<'a> {
@@ -25,11 +26,11 @@ impl<'a> Part<'a> {
         alloc: Global,
         arena: &'a Arena,
         states: &[u32],
-        above: &'a IndexSet<u32>,
+        above: &'a SparseSet,
     ) -> Result<Part<'a>, AllocError>
         ensures arena { IfOk result (λ part. part.arena.now ≡ arena.now) }
         ensures states { IfOk result (λ part. (state : ℕ) → part_of part state ≡ has states.now state) }
-        ensures above { IfOk result (λ part. part.above.now.keys ≡ above.now.keys) }
+        ensures above { IfOk result (λ part. part.above.now ≡ above.now) }
     {
         let states = set_of(alloc, states)?;
         Ok(Part {
@@ -91,7 +92,7 @@ impl Part<'_> {
             Ref::Leaf(state) => Ok(scratch.leaf(u32::from(self.states.contains(&state)))),
             Ref::Place(place) => {
                 let slot = self.arena.level(root);
-                if !self.above.contains(&place) {
+                if !self.above.contains(place) {
                     return Ok(scratch.leaf(0));
                 }
                 if let Some(mark) = became.get(&place).copied() {

@@ -17,7 +17,7 @@ use crate::indicators::Part;
 use crate::numbers::number_of;
 use crate::vertices::Vertices;
 use dcv_arena::{Arena, Ref};
-use dcv_index::Index;
+use dcv_index::{Above, Index};
 use dcv_language::Suffix;
 use dcv_members::Members;
 use dcv_word::Letter;
@@ -69,8 +69,13 @@ impl<'a> Partition<'a> {
 }
 
 impl Partition<'_> {
-    // Lists each letter before the suffix at this place that tells states of one block apart, and splits these blocks.
-    pub(crate) fn go_on_from(&mut self, index: &Index<'_>, place: usize) -> Result<(), AllocError>
+    // Lists each letter before the suffix at this place that tells states of one block apart, and splits these blocks. `found` is written anew.
+    pub(crate) fn go_on_from(
+        &mut self,
+        index: &Index<'_>,
+        found: &mut Above,
+        place: usize,
+    ) -> Result<(), AllocError>
         requires index { index.now ≡ index_of (raw_in self.old).arena (raw_in self.old).rows }
         requires vertices { AreVertices (raw_in self.old) }
         requires place { place < length self.old.suffixes.items }
@@ -84,7 +89,7 @@ impl Partition<'_> {
         let from = number_of(place)?;
         let slots = self.vertices.arena.slots();
         let mut scratch = Arena::new(self.alloc, slots, u32::MAX);
-        let marks = self.marks(&mut scratch, index, place)?;
+        let marks = self.marks(&mut scratch, index, found, place)?;
         self.walk(&scratch, from, Letter::new(slots, 0), 0, &marks)
     }
 
@@ -93,6 +98,7 @@ impl Partition<'_> {
         &self,
         scratch: &mut Arena,
         index: &Index<'_>,
+        found: &mut Above,
         place: usize,
     ) -> Result<Vec<(u32, Ref)>, AllocError>
         requires index { index.now ≡ index_of (raw_in self.now).arena (raw_in self.now).rows }
@@ -109,7 +115,7 @@ impl Partition<'_> {
             ≡ has (part_at (parts_in self.now) place) (next_in (raw_in self.now) state letter)) }
     {
         let leaves = &self.parts[place];
-        let found = index.above(self.alloc, leaves)?;
+        index.above(leaves, found)?;
         let part = Part::new(self.alloc, self.vertices.arena, leaves, &found.marked)?;
         part.marks(self.alloc, scratch, &self.vertices.rows, &found.looked)
     }

@@ -1,18 +1,18 @@
 -- What is marked and looked at on the way up leads to the leaves.
-use Rattle.std.proofs.Common.{◌≡◌, ◌≢◌, ℕ, zero, suc, ◌<◌, ◌≤◌, ◌+◌, Bool, true, false, List, [], ◌∷◌, ◌++◌, length, replicate, set, eqb, get_or, slice_index_or, ◌⊎◌, inl, inr, Contains, refl, sym, ap, subst, ◌∙◌, arith}
-use Rattle.std.specs.List.{All, IsDistinct}
+use Rattle.std.proofs.Common.{◌≡◌, ◌≢◌, ℕ, zero, suc, ◌<◌, ◌≤◌, ◌+◌, Bool, false, List, [], ◌∷◌, ◌++◌, length, replicate, set, eqb, get_or, ◌⊎◌, inl, inr, Contains, refl, sym, subst, ◌∙◌, arith}
+use Rattle.std.specs.List.{IsDistinct}
 use Rattle.std.proofs.lemmas.Bool.{eqb-true}
 use Rattle.std.proofs.lemmas.List.{get_or-set_same, get_or-set_other, length-append, length-replicate}
 use Rattle.std.proofs.lemmas.List.Elements.{All-contains, All-append}
 use Rattle.std.proofs.lemmas.List.Folds.{Any-from_list_any}
 use Rattle.std.proofs.lemmas.Map.Steps.{length-le_from_distinct_below}
-use Rattle.dcv_arena.specs.Arena.{ArenaValue, IsArena, IsRef, value_of}
+use Rattle.dcv_arena.specs.Arena.{ArenaValue, IsArena, value_of}
 use Rattle.dcv_arena.specs.declared.nodes.Ref.{Ref}
 use Rattle.dcv_arena.specs.declared.nodes.Ref.TheVariants.{Leaf, Place}
 use Rattle.dcv_arena.proofs.Refs.{AgreeFrom, ignores_earlier}
 use Rattle.dcv_index.proofs.ChainFacts.{last_within}
 use Rattle.dcv_index.specs.Lists.{listed_at}
-use Rattle.dcv_index.specs.Leads.{row_at, index_of, IndexedRows, LeadsInto, IsRowInto}
+use Rattle.dcv_index.specs.Leads.{index_of, IndexedRows, LeadsInto, IsRowInto}
 use Rattle.dcv_index.specs.Index.{GoesDown, IsIndex, IsMet, IsMarked}
 use Rattle.dcv_index.specs.declared.lists.Lists.{Lists}
 use Rattle.dcv_index.proofs.MarkFacts.{all_from_contains}

@@ -1,11 +1,15 @@
 -- Keys are equal exactly where rows are, and keep what they mean while their arena grows.
-use Rattle.std.proofs.Common.{◌≡◌, ℕ, List, sym, ◌∙◌}
+use Rattle.std.proofs.Common.{◌≡◌, ℕ, ◌<◌, List, length, get_or, sym, ◌∙◌}
+use Rattle.std.specs.List.{All}
+use Rattle.std.proofs.lemmas.List.{get_or-map}
+use Rattle.std.proofs.lemmas.List.Elements.{All-map, All-weaker}
 use Rattle.dcv_arena.specs.Arena.{ArenaValue, IsArena, KeepsRefs}
 use Rattle.dcv_arena.specs.declared.nodes.Ref.{Ref}
 use Rattle.dcv_arena.proofs.Refs.{same_ref}
 use Rattle.dcv_dfa.specs.Raw.{RawValue}
-use Rattle.dcv_minimise.specs.Rounds.{HaveOneRow}
-use Rattle.dcv_minimise.specs.Keys.{IsKeyOf}
+use Rattle.dcv_minimise.specs.Rounds.{IsState, HaveOneRow}
+use Rattle.dcv_minimise.specs.Keys.{IsKeyOf, IsKeyed, states_in}
+use Rattle.dcv_minimise.specs.declared.refine.keys.Keyed.{Keyed}
 
 module _ (raw : RawValue) (blocks : List ℕ) (scratch : ArenaValue) where
   pub same_row : (first second : ℕ) (key : Ref) → IsKeyOf raw blocks scratch first key → IsKeyOf raw blocks scratch second key → HaveOneRow raw blocks first second
@@ -22,3 +26,11 @@ module _ (raw : RawValue) (blocks : List ℕ) (scratch : ArenaValue) where
     is_ref = kept.refs key was.is_ref;
     value = λ letter size. kept.values key letter was.is_ref ∙ was.value letter size;
   }
+
+-- ---- states beside their keys
+
+pub all_states : (raw : RawValue) (blocks : List ℕ) (scratch : ArenaValue) (listed : List Keyed) → All (IsKeyed raw blocks scratch) listed → All (IsState raw) (states_in listed)
+all_states raw blocks scratch listed all = All-map (IsState raw) (λ (keyed : Keyed). keyed.state) listed (All-weaker (IsKeyed raw blocks scratch) (λ keyed. IsState raw keyed.state) (λ keyed is. is.is_state) listed all)
+
+pub this_state : (listed : List Keyed) (place : ℕ) (default : Keyed) → place < length listed → (get_or listed place default).state ≡ get_or (states_in listed) place 0
+this_state listed place default within = sym (get_or-map (λ (keyed : Keyed). keyed.state) listed place default 0 within)

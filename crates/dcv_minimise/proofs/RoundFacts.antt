@@ -1,5 +1,5 @@
 -- What a round keeps: two blocks stay apart, one block has one flag, and what a round does not move leads where it did.
-use Rattle.std.proofs.Common.{◌≡◌, ◌≢◌, ℕ, ◌<◌, Bool, List, [], ◌∷◌, length, inl, inr, Contains, sym, subst, ◌∙◌, arith}
+use Rattle.std.proofs.Common.{◌≡◌, ◌≢◌, ℕ, ◌<◌, ◌≤◌, Bool, List, [], ◌∷◌, length, get_or, inl, inr, Contains, sym, ap, subst, ◌∙◌, arith}
 use Rattle.std.proofs.lemmas.Bool.{cases_eq}
 use Rattle.std.proofs.lemmas.List.Elements.{All-cons}
 use Rattle.dcv_arena.specs.declared.nodes.Ref.TheVariants.{Leaf}
@@ -8,7 +8,7 @@ use Rattle.dcv_dfa.specs.Raw.{RawValue, IsRaw, next_in, automaton_of}
 use Rattle.dcv_minimise.specs.Partition.{block_of, IsPartition}
 use Rattle.dcv_minimise.specs.Rounds.{IsState, IsRound, HaveStayed, IsWitnessed, IsTold, IsStableBut, IsRefined}
 use Rattle.dcv_minimise.proofs.Letters.{differ_or_agree}
-use Rattle.dcv_minimise.proofs.WitnessFacts.{few_blocks}
+use Rattle.dcv_minimise.proofs.WitnessFacts.{few_blocks, own_witness}
 
 -- a letter leads from states to states
 pub next_state : (raw : RawValue) → IsRaw raw → (state : ℕ) (letter : List Bool) → IsState raw state → length letter ≡ raw.arena.slots → IsState raw (next_in raw state letter)
@@ -71,6 +71,19 @@ is_partition raw blocks witness moved none is =
       steps = λ first second letter f s same size. stable first second letter f s size same (none_listed (next_in raw first letter)) (none_listed (next_in raw second letter));
       apart = is.told.apart;
     }
+
+-- where there are as many blocks as states, no block has two
+pub is_partition_alone : (raw : RawValue) (blocks witness : List ℕ) → length raw.rows ≤ length witness → IsWitnessed raw blocks witness → IsTold raw blocks → IsPartition raw blocks
+is_partition_alone raw blocks witness many is told = record {
+  each = is.each;
+  numbers = λ state inside. omega (arith, is.numbers state inside, few_blocks raw blocks witness is);
+  flags = told.flags;
+  steps = λ first second letter f s same size.
+      let one : first ≡ second =
+      own_witness raw blocks witness is first f many ∙ ap (λ block. get_or witness block 0) same ∙ sym (own_witness raw blocks witness is second s many) in
+      ap (λ state. block_of blocks (next_in raw state letter)) one;
+  apart = told.apart;
+}
 
 -- where all states outside block 0 moved, the others go on to block 0
 pub stable_at_start : (raw : RawValue) → IsRaw raw → (blocks moved : List ℕ) → length blocks ≡ length raw.rows

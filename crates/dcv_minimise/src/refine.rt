@@ -1,6 +1,6 @@
 // States in blocks by what they go on to accept. Each round divides the blocks by the blocks to which letters lead (E. F. Moore,
 // "Gedanken-experiments on sequential machines", 1956), but looks only at states that lead to one that moved in the round before.
-ghost use Rattle.std.specs.Prelude.{◌≡◌, ◌≤◌, ◌<◌, ℕ, length, IfOk, OnOk, Contains};
+ghost use Rattle.std.specs.Prelude.{◌≡◌, ◌≤◌, ◌<◌, ◌⊎◌, ℕ, true, false, length, IfOk, OnOk, Contains};
 ghost use Rattle.std.specs.List.{All};
 ghost use Rattle.dcv_minimise.specs.Partition.{IsPartition};
 ghost use Rattle.dcv_index.specs.Leads.{index_of};
@@ -32,7 +32,8 @@ pub(crate) fn refine(alloc: Global, raw: &Raw) -> Result<Vec<u32>, AllocError>
 {
     let index = Index::new(alloc, raw.arena(), raw.rows())?;
     let mut refining = Refining::new(alloc, raw)?;
-    'rounds: while !refining.moved.is_empty() {
+    let states = raw.states();
+    'rounds: while refining.goes_on(states) {
         refining.round(alloc, raw, &index)?;
     }
     Ok(refining.partition.into_blocks())
@@ -72,6 +73,14 @@ impl Refining {
             counts: Counts::new(alloc),
             listed: Listed::new(alloc),
         })
+    }
+
+    // Whether another round may find something: where each of so many states has a block of its own, none does.
+    fn goes_on(&self, states: u32) -> bool
+        ensures on { result ≡ true → 0 < length self.now.moved.items }
+        ensures over { result ≡ false → (length self.now.moved.items ≡ 0) ⊎ (states ≤ length self.now.partition.witness.items) }
+    {
+        !self.moved.is_empty() && self.partition.witness.len() < states as usize
     }
 
     // One round.

@@ -1,11 +1,12 @@
 // One round's division of the blocks: each state that does not go with the witness of its block gets the number of another.
 ghost use Rattle.std.specs.Prelude.{◌≡◌, ◌<◌, ◌+◌, ◌^◌, ℕ, length, slice_index_or, IfOk, OnOk};
 ghost use Rattle.std.specs.List.{All};
-ghost use Rattle.dcv_minimise.specs.Keys.{IsKeys};
+ghost use Rattle.dcv_arena.specs.Arena.{KeepsRefs};
+ghost use Rattle.dcv_minimise.specs.Keys.{IsKeys, IsKeyed, states_in};
 ghost use Rattle.dcv_minimise.specs.Rounds.{IsState, IsWitnessed};
 ghost use Rattle.dcv_minimise.specs.Division.{IsDividing, IsDivision, IsDivided, IsSettled, HasNumber};
 
-use super::keys::Keys;
+use super::keys::{Keyed, Keys};
 use super::listing::Listed;
 use super::votes::choose;
 use dcv_arena::Ref;
@@ -52,8 +53,9 @@ pub(crate) fn divide(
     ensures { IfOk result (λ divided. IsDivided raw.now blocks.now listed.now.full witness.old.items witness.new.items listed.now.states.items divided.0.items) }
 {
     let mut keys = Keys::new(alloc, places, raw, blocks);
-    choose(alloc, raw, blocks, witness, &mut keys, listed)?;
-    settle_all(alloc, raw, blocks, witness, keys, &listed.states)
+    let keyed = keys.of_all(alloc, raw, &listed.states)?;
+    choose(alloc, blocks, witness, &listed.full, &keyed)?;
+    settle_all(alloc, raw, blocks, witness, keys, &keyed)
 }
 
 // The same with the witnesses as they are.
@@ -63,12 +65,12 @@ fn settle_all(
     blocks: &[u32],
     witness: &mut Vec<u32>,
     keys: Keys<'_>,
-    listed: &[u32],
+    listed: &[Keyed],
 ) -> Result<(Vec<Move>, Places), AllocError>
     requires witnessed { IsWitnessed raw.now blocks.now witness.old.items }
     requires keys { IsKeys raw.now blocks.now keys }
-    requires listed { All (IsState raw.now) listed.now }
-    ensures { IfOk result (λ divided. IsDivision raw.now blocks.now witness.old.items witness.new.items listed.now divided.0.items) }
+    requires listed { All (IsKeyed raw.now blocks.now keys.scratch) listed.now }
+    ensures { IfOk result (λ divided. IsDivision raw.now blocks.now witness.old.items witness.new.items (states_in listed.now) divided.0.items) }
 {
     let mut division = Division {
         count: witness.len(),
@@ -76,8 +78,8 @@ fn settle_all(
         parts: IndexSet::new(alloc),
         moves: Vec::new(alloc),
     };
-    for state in listed {
-        division.settle(raw, blocks, witness, *state)?;
+    for keyed in listed {
+        division.settle(raw, blocks, witness, *keyed)?;
     }
     Ok((division.moves, division.keys.into_places()))
 }
@@ -89,14 +91,15 @@ impl Division<'_> {
         raw: &Raw,
         blocks: &[u32],
         witness: &mut Vec<u32>,
-        state: u32,
+        keyed: Keyed,
     ) -> Result<(), AllocError>
-        requires state { state < length raw.now.rows }
+        requires keyed { IsKeyed raw.now blocks.now self.old.keys.scratch keyed }
         requires keys { IsKeys raw.now blocks.now self.old.keys }
         requires dividing { IsDividing raw.now blocks.now self.old.count self.old.keys.scratch witness.old.items self.old.parts.keys self.old.moves.items }
         ensures keys { IsKeys raw.now blocks.now self.new.keys }
+        ensures refs { KeepsRefs self.old.keys.scratch self.new.keys.scratch }
         ensures dividing { OnOk result (IsDividing raw.now blocks.now self.old.count self.new.keys.scratch witness.new.items self.new.parts.keys self.new.moves.items) }
-        ensures settled { OnOk result (IsSettled raw.now blocks.now witness.new.items self.new.moves.items state) }
+        ensures settled { OnOk result (IsSettled raw.now blocks.now witness.new.items self.new.moves.items keyed.state) }
         ensures count { self.new.count ≡ self.old.count }
 
         // What was settled is settled, and the blocks that there were have the witnesses that they had.
@@ -104,8 +107,9 @@ impl Division<'_> {
             → IsSettled raw.now blocks.now witness.new.items self.new.moves.items other) }
         ensures firsts { OnOk result ((block : ℕ) → block < self.old.count → slice_index_or witness.new.items block 0 ≡ slice_index_or witness.old.items block 0) }
     {
+        let state = keyed.state;
+        let key = keyed.key;
         let block = blocks[state as usize];
-        let key = self.keys.of(raw, state)?;
         let kept = self.keys.of(raw, witness[block as usize])?;
         if key == kept {
             return Ok(());

@@ -1,12 +1,21 @@
 // The rows of states by blocks. Two states have one key exactly where each letter leads from both to one block.
 ghost use Rattle.std.specs.Prelude.{◌≡◌, ◌<◌, List, ℕ, length, IfOk};
+ghost use Rattle.std.specs.List.{All};
 ghost use Rattle.dcv_arena.specs.Arena.{KeepsRefs};
-ghost use Rattle.dcv_minimise.specs.Keys.{IsKeys, IsKeyOf, blocks_in};
+ghost use Rattle.dcv_minimise.specs.Rounds.{IsState};
+ghost use Rattle.dcv_minimise.specs.Keys.{IsKeys, IsKeyOf, IsKeyed, blocks_in, states_in};
 
 use dcv_arena::{Arena, Ref};
 use dcv_dfa::Raw;
 use dcv_renumber::{Places, Remapping};
 use std::alloc::{AllocError, Global};
+
+// A state beside its key.
+#[derive(Clone, Copy, Debug)]
+pub(crate) struct Keyed {
+    pub(crate) state: u32,
+    pub(crate) key: Ref,
+}
 
 // Each node of the rows is gone through once, however many states are asked for.
 #[derive(Drop)]
@@ -50,5 +59,26 @@ impl Keys<'_> {
             Ok(key) => Ok(key),
             Err(_) => Err(AllocError),
         }
+    }
+
+    // These states, each beside its key.
+    pub(crate) fn of_all(
+        &mut self,
+        alloc: Global,
+        raw: &Raw,
+        states: &[u32],
+    ) -> Result<Vec<Keyed>, AllocError>
+        requires states { All (IsState raw.now) states.now }
+        requires keys { IsKeys raw.now (blocks_in self.old) self.old }
+        ensures states { IfOk result (λ keyed. states_in keyed.items ≡ states.now) }
+        ensures keyed { IfOk result (λ keyed. All (IsKeyed raw.now (blocks_in self.old) self.new.scratch) keyed.items) }
+        ensures keys { IsKeys raw.now (blocks_in self.old) self.new }
+    {
+        let mut keyed = Vec::new(alloc);
+        for state in states {
+            let key = self.of(raw, *state)?;
+            keyed.push(Keyed { state: *state, key })?;
+        }
+        Ok(keyed)
     }
 }

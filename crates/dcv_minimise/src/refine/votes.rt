@@ -1,79 +1,88 @@
 // Which part of a block keeps its number: where more than half of the states have one key, a state with that key becomes the
 // witness (R. S. Boyer and J S. Moore, "MJRTY: A Fast Majority Vote Algorithm", 1991). So a state only ever moves with a part that
 // is no more than half of its block (J. Hopcroft, "An n log n Algorithm for Minimizing States in a Finite Automaton", 1971).
-ghost use Rattle.std.specs.Prelude.{◌<◌, length, OnOk};
+ghost use Rattle.std.specs.Prelude.{◌<◌, ℕ, length, OnOk};
 ghost use Rattle.std.specs.List.{All};
-ghost use Rattle.dcv_minimise.specs.Keys.{IsKeys};
-ghost use Rattle.dcv_minimise.specs.Rounds.{IsState, IsWitnessed};
+ghost use Rattle.dcv_minimise.specs.Partition.{block_of};
 ghost use Rattle.dcv_minimise.specs.Listing.{IsChosen};
 
-use super::keys::Keys;
-use super::listing::Listed;
-use dcv_dfa::Raw;
+use super::keys::Keyed;
+use dcv_arena::Ref;
 use dcv_members::SparseSet;
 use std::alloc::{AllocError, Global};
+
+// What the votes of a block have come to: the key that leads, and by how many votes.
+#[derive(Clone, Copy, Debug)]
+struct Ballot {
+    key: Ref,
+    votes: u32,
+}
+
+// No vote was given yet.
+const BLANK: Ballot = Ballot {
+    key: Ref::Leaf(0),
+    votes: 0,
+};
 
 // Chooses the witnesses of the blocks that are listed in full.
 pub(crate) fn choose(
     alloc: Global,
-    raw: &Raw,
     blocks: &[u32],
     witness: &mut [u32],
-    keys: &mut Keys<'_>,
-    listed: &Listed,
-) -> Result<(), AllocError>
-    requires keys { IsKeys raw.now blocks.now keys.old }
-    requires witnessed { IsWitnessed raw.now blocks.now witness.old }
-    requires states { All (IsState raw.now) listed.now.states.items }
-    ensures keys { OnOk result (IsKeys raw.now blocks.now keys.new) }
-    ensures chosen { OnOk result (IsChosen blocks.now listed.now.full witness.old witness.new) }
-{
-    let mut votes = vec![in alloc; 0; listed.full.len()]?;
-    for state in &listed.states {
-        vote(raw, blocks, witness, keys, &listed.full, &mut votes, *state)?;
-    }
-    Ok(())
-}
-
-// The vote of a state, for the witness of its block or against it. Where none is left for it, the state takes its place.
-fn vote(
-    raw: &Raw,
-    blocks: &[u32],
-    witness: &mut [u32],
-    keys: &mut Keys<'_>,
     full: &SparseSet,
-    votes: &mut [u32],
-    state: u32,
+    listed: &[Keyed],
 ) -> Result<(), AllocError>
-    requires keys { IsKeys raw.now blocks.now keys.old }
-    requires witnessed { IsWitnessed raw.now blocks.now witness.old }
-    requires state { state < length raw.now.rows }
-    ensures keys { IsKeys raw.now blocks.now keys.new }
-    ensures chosen { OnOk result (IsChosen blocks.now full.now witness.old witness.new) }
+    requires numbers { (state : ℕ) → state < length blocks.now → block_of blocks.now state < length witness.old }
+    requires states { All (λ keyed. keyed.state < length blocks.now) listed.now }
+    ensures { OnOk result (IsChosen blocks.now full.now witness.old witness.new) }
 {
-    let block = blocks[state as usize];
-    let Some(place) = full.place_of(block) else {
-        return Ok(());
-    };
-    let key = keys.of(raw, state)?;
-    let kept = keys.of(raw, witness[block as usize])?;
-    if !takes_over(votes, place, key == kept) {
-        return Ok(());
+    let mut ballots = vec![in alloc; BLANK; full.len()]?;
+    for keyed in listed {
+        vote(blocks, witness, full, &mut ballots, *keyed);
     }
-    witness[block as usize] = state;
     Ok(())
 }
 
-// Counts a vote, and says whether there was none left for the witness.
-fn takes_over(votes: &mut [u32], place: usize, agrees: bool) -> bool {
-    if place >= votes.len() {
+// The vote of a state for its key. Where no key leads in its block, the state becomes the witness.
+fn vote(
+    blocks: &[u32],
+    witness: &mut [u32],
+    full: &SparseSet,
+    ballots: &mut [Ballot],
+    keyed: Keyed,
+)
+    requires state { keyed.state < length blocks.now }
+    requires number { block_of blocks.now keyed.state < length witness.old }
+    ensures { IsChosen blocks.now full.now witness.old witness.new }
+{
+    let block = blocks[keyed.state as usize];
+    let Some(place) = full.place_of(block) else {
+        return;
+    };
+    if !takes_over(ballots, place, keyed.key) {
+        return;
+    }
+    witness[block as usize] = keyed.state;
+}
+
+// Counts a vote for a key, and says whether no other led.
+fn takes_over(ballots: &mut [Ballot], place: usize, key: Ref) -> bool {
+    if place >= ballots.len() {
         return false;
     }
-    let before = votes[place];
-    if agrees {
-        votes[place] = before.saturating_add(1);
-        return false;
+    let before = ballots[place];
+    if before.votes == 0 {
+        ballots[place] = Ballot { key, votes: 1 };
+        return true;
     }
-    votes[place] = if before == 0 { 1 } else { before - 1 };
-    before == 0
+    let votes = if before.key == key {
+        before.votes.saturating_add(1)
+    } else {
+        before.votes - 1
+    };
+    ballots[place] = Ballot {
+        key: before.key,
+        votes,
+    };
+    false
 }

@@ -3,7 +3,7 @@ use Rattle.std.proofs.lemmas.Bool.{cases_lt}
 use Rattle.std.proofs.lemmas.List.{nil_from_length}
 use Rattle.dcv_minimise.specs.Partition.{IsPartition}
 use Rattle.dcv_minimise.proofs.WitnessFacts.{few_blocks}
-use Rattle.dcv_minimise.proofs.RoundFacts.{is_partition}
+use Rattle.dcv_minimise.proofs.RoundFacts.{is_partition, is_partition_alone}
 use Rattle.dcv_minimise.proofs.refine.refine.Goals as goal
 
 -- one more block, or no state that moves
@@ -18,7 +18,7 @@ rounds-smaller c =
     let raw = c.args.raw.now in
     let moved = c.rounds.refining.moved in
     let after = c.round.new.self.partition in
-    let some : 0 < length moved.items = grind (arith, moved.ok.0, c.rounds-test.true, c.is_empty.ensures) in
+    let some : 0 < length moved.items = c.goes_on.ensures.on c.rounds-test.true in
     let few = few_blocks raw after.blocks.items after.witness.items c.in_ok-round.ensures.refining.refined.witnessed in
     falls (length raw.rows) (length c.rounds.refining.partition.witness.items) (length after.witness.items) (length moved.items) (length c.round.new.self.moved.items) some few
     c.in_ok-round.ensures.no_fewer c.in_ok-round.ensures.more
@@ -27,7 +27,11 @@ pub returns : goal.returns
 returns c =
     let raw = c.args.raw.now in
     let refining = c.rounds.refining in
-    let moved = refining.moved in
-    let none = nil_from_length moved.items (sym moved.ok.0 ∙ eqb-true _ 0 (sym c.is_empty.ensures ∙ c.rounds-test.false)) in
+    let refined = c.rounds.invariant.refined in
+    let blocks = refining.partition.blocks.items in
+    let witness = refining.partition.witness.items in
     subst (λ (blocks : Vec ℕ Global). IsPartition raw blocks.items) (sym c.into_blocks.ensures)
-    (is_partition raw refining.partition.blocks.items refining.partition.witness.items moved.items none c.rounds.invariant.refined)
+    (elim (c.goes_on.ensures.over c.rounds-test.false) [
+      | inl none ↦ is_partition raw blocks witness refining.moved.items (nil_from_length refining.moved.items none) refined
+      | inr many ↦ is_partition_alone raw blocks witness (omega (arith, many, c.states-states.ensures.states)) refined.witnessed refined.told
+    ])

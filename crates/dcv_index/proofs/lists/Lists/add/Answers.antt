@@ -1,7 +1,6 @@
 use Rattle.std.proofs.Common.{refl, sym, subst}
 use Rattle.dcv_index.specs.Lists.{Adds}
 use Rattle.dcv_index.specs.declared.lists.Lists.{Lists}
-use Rattle.dcv_index.specs.Lists.{last_of}
 use Rattle.dcv_arena.specs.declared.nodes.Ref.TheVariants.{Leaf, Place}
 use Rattle.dcv_index.proofs.AddFacts.{adds_leaf, adds_place}
 use Rattle.dcv_index.proofs.IndexFacts.{on_ok_two}

@@ -1,0 +1,51 @@
+#!/usr/bin/env bash
+# Measures `dcvalid check` and MONA (Debian's package `mona`) in turn, on files that bench/families.py writes: the least time of so many runs
+# (RUNS, 5 by custom) in milliseconds, start and end of the process included, the most memory that one took, and the quotients. The last line
+# has the geometric mean of the times' quotients.
+#
+#   bench/families.sh            every case
+#   bench/families.sh CASE..     these, as `bench/families.sh 'past 12'`
+#
+# What is valid for one must be valid for the other; where MONA's question takes over a minute, no quotient is told.
+set -euo pipefail
+here=$(cd "$(dirname "$(readlink -f "${BASH_SOURCE[0]}")")" && pwd)
+program=${PROGRAM:-$here/../crates/dcvalid/out/dcvalid}
+[ -x "$program" ] || { echo "build the program first: ./dcvalid check examples/always.dc" >&2; exit 1; }
+files=$(mktemp -d)
+trap 'rm -rf "$files"' EXIT
+python3 "$here/families.py" "$files"
+
+# Runs a command once, and keeps the least time and the most memory of its runs so far in the variables of that name.
+measure() {
+  local name=$1 begun took kept
+  shift
+  begun=${EPOCHREALTIME/./}
+  /usr/bin/time -o "$files/.kept" -f %M timeout 60 "$@" >"$files/.$name" 2>/dev/null || true
+  took=$((${EPOCHREALTIME/./} - begun))
+  kept=$(tail -n 1 "$files/.kept")
+  [ "${least[$name]:-$took}" -lt "$took" ] || least[$name]=$took
+  [ "${most[$name]:-0}" -gt "$kept" ] || most[$name]=$kept
+}
+
+printf '%-18s %9s %9s %6s   %9s %9s %6s  %s\n' case ms MONA times MB MONA times answer
+quotients=
+for file in "$files"/*; do
+  case=$(basename "$file")
+  [ $# -eq 0 ] || [[ " $* " == *" $case "* ]] || continue
+  python3 "$here/to_mona.py" "$file" >"$files/.question"
+  declare -A least=() most=()
+  for _ in $(seq "${RUNS:-5}"); do
+    measure ours "$program" check "$file"
+    measure theirs mona -q "$files/.question"
+  done
+  ours=$(head -n 1 "$files/.ours")
+  theirs=$(grep -m 1 -o -E 'is valid|is unsatisfiable|counter-example' "$files/.theirs" || echo 'no answer')
+  case "$ours/$theirs" in
+    'valid'/'is valid' | 'not valid'*/'is unsatisfiable' | 'not valid'*/'counter-example' | */'no answer') ;;
+    *) echo "$case: $ours here, $theirs by MONA" >&2; exit 1 ;;
+  esac
+  awk -v n="$case" -v a="${least[ours]}" -v b="${least[theirs]}" -v m="${most[ours]}" -v k="${most[theirs]}" -v s="$ours" \
+    'BEGIN { printf "%-18s %9.1f %9.1f %6.2f   %9.1f %9.1f %6.2f  %s\n", n, a / 1000, b / 1000, a / b, m / 1024, k / 1024, m / k, s }'
+  [ "$theirs" = 'no answer' ] || quotients+="$((least[ours])) $((least[theirs]))"$'\n'
+done
+awk 'NF == 2 { sum += log($1 / $2); count++ } END { if (count) printf "geometric mean of the times: %.3f\n", exp(sum / count) }' <<<"$quotients"
