@@ -5,3 +5,4 @@ pub mod Longest
 pub mod Fronts
 pub mod Lexers
 pub mod ByFirst
+pub mod ClassTables

@@ -41,6 +41,13 @@ impl<'a> Lexer<'a> {
         }
     }
 
+    /// What the text is written with.
+    pub fn lexicon(&self) -> &'a Lexicon<'a>
+        ensures { result.now ≡ self.now.lexicon.now }
+    {
+        self.lexicon
+    }
+
     /// What is left of the text.
     pub fn rest(&self) -> &'a [u8]
         ensures { result.now ≡ self.now.rest.now }
