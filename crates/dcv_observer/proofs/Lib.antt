@@ -1,0 +1,5 @@
+pub mod Keys
+pub mod Cutting
+pub mod Lefts
+pub mod Faults
+pub mod LaidOut

@@ -1,0 +1,50 @@
+// The names that are declared in a text, each with its place.
+ghost use Rattle.std.specs.Prelude.{◌≡◌, [], IfOk};
+
+use indexmap::IndexSet;
+use std::alloc::{AllocError, Global};
+use std::marker::Model;
+
+/// The names that are declared so far, each a part of the text, in order.
+#[derive(Drop)]
+pub struct Declared<'a> {
+    names: IndexSet<&'a [u8]>,
+}
+
+impl<'a> Model for Declared<'a> {
+    ghost use Rattle.std.specs.Prelude.{List, ℕ, map};
+
+    ghost Value = { List (List ℕ) };
+
+    ghost view = { λ declared. map (λ name. name.now) declared.names.keys };
+}
+
+impl<'a> Declared<'a> {
+    ghost use Rattle.std.specs.Prelude.{◌++◌, ◌∷◌, not, bytes_eq, if◌then◌else◌};
+    ghost use Rattle.std.specs.List.{list_any, position};
+
+    /// No names.
+    pub fn new(alloc: Global) -> Self
+        ensures { result ≡ [] }
+    {
+        Declared {
+            names: IndexSet::new(alloc),
+        }
+    }
+
+    /// Where a name stands among them.
+    pub fn place_of(&self, name: &[u8]) -> Option<usize>
+        ensures { result ≡ position (bytes_eq name.now) self.now }
+    {
+        self.names.get_index_of(name)
+    }
+
+    /// Adds a name, unless it is there, and tells whether it was new.
+    pub fn declare(&mut self, name: &'a [u8]) -> Result<bool, AllocError>
+        ensures new { IfOk result (λ new. new ≡ not (list_any (bytes_eq name.now) self.old)) }
+        ensures names { IfOk result (λ new. self.new ≡ if new then self.old ++ name.now ∷ [] else self.old) }
+    {
+        let (_, new) = self.names.insert_full(name)?;
+        Ok(new)
+    }
+}
