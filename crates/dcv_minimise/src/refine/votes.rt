@@ -44,13 +44,7 @@ pub(crate) fn choose(
 }
 
 // The vote of a state for its key. Where no key leads in its block, the state becomes the witness.
-fn vote(
-    blocks: &[u32],
-    witness: &mut [u32],
-    full: &SparseSet,
-    ballots: &mut [Ballot],
-    keyed: Keyed,
-)
+fn vote(blocks: &[u32], witness: &mut [u32], full: &SparseSet, ballots: &mut [Ballot], keyed: Keyed)
     requires state { keyed.state < length blocks.now }
     requires number { block_of blocks.now keyed.state < length witness.old }
     ensures { IsChosen blocks.now full.now witness.old witness.new }

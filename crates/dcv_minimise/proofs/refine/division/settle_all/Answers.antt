@@ -48,6 +48,7 @@ returns c =
     record {
       grouped = was.dividing.grouped;
       firsts = was.firsts;
-      settled = subst (All (IsSettled c.args.raw.now c.args.blocks.now c.loop-keyed.witness.items c.loop-keyed.division.moves.items)) (take_all c.loop-keyed.keyed-index (states_in c.args.listed.now) (omega (arith, c.loop-keyed-test.false, length-map c.args.listed.now (λ (keyed : Keyed). keyed.state)))) was.settled;
+      settled = subst (All (IsSettled c.args.raw.now c.args.blocks.now c.loop-keyed.witness.items c.loop-keyed.division.moves.items))
+          (take_all c.loop-keyed.keyed-index (states_in c.args.listed.now) (omega (arith, c.loop-keyed-test.false, length-map c.args.listed.now (λ (keyed : Keyed). keyed.state)))) was.settled;
       each_move = was.dividing.each_move;
     }
