@@ -1,7 +1,6 @@
 -- Witnesses that are chosen one after another.
-use Rattle.std.proofs.Common.{◌≡◌, ℕ, ◌<◌, List, length, eqb, get_or, set, slice_get, Some, inl, inr, Contains, sym, ap, subst, ◌∙◌, arith, eqb-true, get_or-set_same, get_or-set_other}
+use Rattle.std.proofs.Common.{◌≡◌, ℕ, ◌<◌, List, length, get_or, set, slice_get, Some, inl, inr, Contains, sym, ap, subst, ◌∙◌, arith, get_or-set_same, get_or-set_other}
 use Rattle.std.proofs.lemmas.Bool.{cases_eq}
-use Rattle.std.proofs.lemmas.List.Elements.{Contains-get_or}
 use Rattle.std.proofs.lemmas.Option.{slice_get_within, get_or_from_slice_get}
 use Rattle.dcv_minimise.specs.Partition.{block_of}
 use Rattle.dcv_minimise.specs.Listing.{IsChosen}

@@ -1,4 +1,4 @@
-use Rattle.std.proofs.Common.{◌<◌, ◌≤◌, ◌+◌, ◌-◌, min, inl, inr, ℕ, length, Vec, Global, sym, subst, ◌∙◌, arith, eqb-true}
+use Rattle.std.proofs.Common.{◌<◌, ◌≤◌, ◌+◌, ◌-◌, min, inl, inr, ℕ, length, Vec, Global, sym, subst, arith}
 use Rattle.std.proofs.lemmas.Bool.{cases_lt}
 use Rattle.std.proofs.lemmas.List.{nil_from_length}
 use Rattle.dcv_minimise.specs.Partition.{IsPartition}

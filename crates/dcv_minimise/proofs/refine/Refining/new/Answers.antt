@@ -1,4 +1,4 @@
-use Rattle.std.proofs.Common.{◌<◌, length, Contains, inl, sym, ap, subst, ◌∙◌, arith}
+use Rattle.std.proofs.Common.{◌<◌, length, Contains, inl, sym, ap, subst, arith}
 use Rattle.std.specs.List.{All}
 use Rattle.dcv_members.specs.Members.{list_of, HaveTheirOwn}
 use Rattle.dcv_minimise.proofs.RoundFacts.{stable_at_start}

@@ -36,7 +36,8 @@ loop-keyed-preserved c =
           c.args.listed.now was.keyed;
       dividing = subst (λ count. IsDividing raw c.args.blocks.now count c.settle.new.self.keys.scratch c.settle.new.witness.items c.settle.new.self.parts.keys c.settle.new.self.moves.items) count all.dividing;
       settled = settled_more raw c.args.blocks.now c.loop-keyed.witness.items c.settle.new.witness.items c.loop-keyed.division.moves.items c.settle.new.self.moves.items
-          (states_in listed) c.loop-keyed.keyed-index (omega (arith, c.loop-keyed-test.true, length-map listed (λ (keyed : Keyed). keyed.state))) (all_states raw c.args.blocks.now c.args.keys.scratch listed c.requires.listed) was.settled all.kept
+          (states_in listed) c.loop-keyed.keyed-index (omega (arith, c.loop-keyed-test.true, length-map listed (λ (keyed : Keyed). keyed.state)))
+          (all_states raw c.args.blocks.now c.args.keys.scratch listed c.requires.listed) was.settled all.kept
           (subst (IsSettled raw c.args.blocks.now c.settle.new.witness.items c.settle.new.self.moves.items) (this_state listed c.loop-keyed.keyed-index _ c.loop-keyed-test.true) all.settled);
       firsts = λ block within. all.firsts block (omega (arith, count, within)) ∙ was.firsts block within;
       count = all.count ∙ count;
@@ -48,6 +49,7 @@ returns c =
     record {
       grouped = was.dividing.grouped;
       firsts = was.firsts;
-      settled = subst (All (IsSettled c.args.raw.now c.args.blocks.now c.loop-keyed.witness.items c.loop-keyed.division.moves.items)) (take_all c.loop-keyed.keyed-index (states_in c.args.listed.now) (omega (arith, c.loop-keyed-test.false, length-map c.args.listed.now (λ (keyed : Keyed). keyed.state)))) was.settled;
+      settled = subst (All (IsSettled c.args.raw.now c.args.blocks.now c.loop-keyed.witness.items c.loop-keyed.division.moves.items))
+          (take_all c.loop-keyed.keyed-index (states_in c.args.listed.now) (omega (arith, c.loop-keyed-test.false, length-map c.args.listed.now (λ (keyed : Keyed). keyed.state)))) was.settled;
       each_move = was.dividing.each_move;
     }
