@@ -7,7 +7,6 @@ mod PrintedFiles
 mod PrintedForms
 mod PrintedNodes
 mod PrintedProofs
-mod PrintedTables
 mod PrintedWords
 mod Reports
 mod SameBehaviours

@@ -13,13 +13,13 @@ use Rattle.dcv_dfa.specs.NodeLines.{NodeLinesValue, node_lines_of}
 use Rattle.dcv_dfa.specs.Raw.{raw_accepts}
 use Rattle.dcv_automaton_text.specs.Meaning.{table_of, suffix_words_of}
 use Rattle.dcv_automaton_text.proofs.GoodFiles.{good_file}
-use Rattle.dcv_print.specs.Printed.{target_of, node_line, printed_file}
+use Rattle.dcv_print.specs.Printed.{target_of, node_line, printed_file, file_of}
 use Rattle.dcv_print.specs.Laws.{PrintedIsAutomaton}
 use Rattle.dcv_print.proofs.FileArenas.{raw_of, raw_has_the_table, is_raw}
 use Rattle.dcv_print.proofs.FileNumbers.{child_for, line_for, numbered_by_lines}
 use Rattle.dcv_print.proofs.PrintedFiles.{printed_is_good}
 use Rattle.dcv_print.proofs.PrintedForms.{printed_is_spellable}
-use Rattle.dcv_print.proofs.PrintedTables.{slot_at, reduced, slots_below, printed_table}
+use Rattle.dcv_automaton_file.proofs.Tables.{slot_at, reduced, slots_below, file_table}
 use Rattle.dcv_print.proofs.PrintedWords.{printed_access, printed_suffixes}
 
 child_back : (child : Child) → child_for (target_of child) ≡ child
@@ -37,12 +37,12 @@ lines_back names differ (line ∷ lines) first below =
     λ i. record { slot = slot i; hi = hi i; lo = lo i } ∷ rest i
 
 pub printed_is_automaton : OneTableHasOneListOfLines → LinesLeadAsTheRows → PrintedIsAutomaton
-unfolding printed_file
+unfolding file_of
 printed_is_automaton one_list lead raw names access suffixes is proof =
     let file = printed_file raw names access suffixes in
     let rules = printed_is_good raw names access suffixes is proof in
     let good = good_file file rules in
-    let table = printed_table lead raw names access suffixes is in
+    let table = file_table lead raw names _ _ is in
     let words = printed_access raw names access suffixes proof.words proof.spelled in
     let ends = printed_suffixes raw names access suffixes in
     let below = slots_below raw (length names) (reduced raw is.is_raw is.auto) is.slots in

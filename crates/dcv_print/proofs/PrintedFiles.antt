@@ -16,11 +16,11 @@ use Rattle.dcv_language.specs.declared.certificate.Suffix.TheVariants.{Empty}
 use Rattle.dcv_automaton_text.specs.Spelled.{name_words, node_words, state_words, access_words, suffix_words}
 use Rattle.dcv_automaton_text.specs.Rules.{AreNames, most_names, most_states, most_nodes, is_listed, keeps_name, keeps_names, keeps_node, keeps_state, keeps_access, keeps_suffix, has_all_access, judged, judged_words}
 use Rattle.dcv_automaton_text.proofs.Kept.{AreKept, AllKeep, none_kept, both_true, kept_words, in_turn, kind_kept, none_broken}
-use Rattle.dcv_print.specs.Printed.{node_line, state_line, access_line, suffix_line, printed_file}
+use Rattle.dcv_print.specs.Printed.{node_line, state_line, access_line, suffix_line, printed_file, file_of}
 use Rattle.dcv_print.specs.Laws.{PrintedIsGood}
 use Rattle.dcv_print.proofs.PrintedNodes.{node_kept, state_kept}
 use Rattle.dcv_print.proofs.PrintedProofs.{access_kept, suffix_kept, all_access}
-use Rattle.dcv_print.proofs.PrintedTables.{other_bytes, reduced, slots_below}
+use Rattle.dcv_automaton_file.proofs.Tables.{other_bytes, reduced, slots_below}
 
 -- ---- names
 
@@ -71,7 +71,7 @@ numbered_kept words kept line xs none each =
 -- ---- the file
 
 pub printed_is_good : PrintedIsGood
-unfolding printed_file judged_words
+unfolding file_of judged_words
 printed_is_good raw names access suffixes is proof =
     let all = node_lines_of raw in
     let file = printed_file raw names access suffixes in

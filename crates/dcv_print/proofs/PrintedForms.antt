@@ -20,11 +20,11 @@ use Rattle.dcv_certificate.specs.Proof.{IsSpelled, suffix_words}
 use Rattle.dcv_automaton_text.specs.Form.{is_visible, IsNameWord, IsTarget, IsNodeLine, IsStateLine, IsAccess, IsAccessLine, IsSuffix, IsSuffixLine}
 use Rattle.dcv_automaton_text.specs.Rules.{IsPlainName, AreNames}
 use Rattle.dcv_automaton_text.proofs.Kept.{both_true, both}
-use Rattle.dcv_print.specs.Printed.{target_of, node_line, state_line, access_line, suffix_line, printed_file}
+use Rattle.dcv_print.specs.Printed.{target_of, node_line, state_line, access_line, suffix_line, printed_file, file_of}
 use Rattle.dcv_automaton_read.specs.File.{access_from, suffix_from}
 use Rattle.dcv_print.specs.Laws.{PrintedIsSpellable}
 use Rattle.dcv_print.proofs.PrintedProofs.{length-suffix_words, count_of_words, count_of_access}
-use Rattle.dcv_print.proofs.PrintedTables.{reduced, slots_below}
+use Rattle.dcv_automaton_file.proofs.Tables.{reduced, slots_below}
 use Rattle.dcv_print.proofs.SuffixCounts.{suffixes_are_few}
 
 -- ---- names
@@ -83,7 +83,7 @@ small_suffix place (Then letter from) few earlier = let below = earlier from let
 -- ---- the file
 
 pub printed_is_spellable : PrintedIsSpellable
-unfolding printed_file
+unfolding file_of
 printed_is_spellable raw names access suffixes is proof =
     let all = node_lines_of raw in
     let lines_reduced = reduced raw is.is_raw is.auto in

@@ -19,8 +19,8 @@ use Rattle.dcv_language.specs.declared.certificate.Suffix.{Suffix as CodeSuffix}
 use Rattle.dcv_automaton_text.specs.File.{NodeLine as PlainNodeLine}
 use Rattle.dcv_automaton_text.specs.Rules.{most_nodes, slot_of, slot_of_node, keeps_child, is_same_target, is_same_node, keeps_node, keeps_row, keeps_state}
 use Rattle.dcv_automaton_text.proofs.Kept.{AreKept, both_true, both}
-use Rattle.dcv_print.specs.Printed.{target_of, node_line, state_line, printed_file}
-use Rattle.dcv_print.proofs.PrintedTables.{slot_at}
+use Rattle.dcv_print.specs.Printed.{target_of, node_line, state_line, printed_file, file_of}
+use Rattle.dcv_automaton_file.proofs.Tables.{slot_at}
 
 pub same_number : (n : ℕ) → nat_eq n n ≡ true
 same_number n = (unsigned_Decides n n).1 refl
@@ -61,7 +61,7 @@ module _ (raw : RawValue) (names : List (List ℕ)) (access : List CodeAccess) (
   slot_of_line k within = slot_at names (get_or lines k no_line).slot differ (below k no_line within)
 
   slot_of_number : (k : ℕ) → k < length lines → slot_of_node (printed_file raw names access suffixes) k ≡ (get_or lines k no_line).slot
-  unfolding printed_file
+  unfolding file_of
   slot_of_number k within =
       ap (slot_of names) (get_or-map (λ (line : PlainNodeLine). line.name) plain_lines k (node_line names (0, no_line)) [] (omega (arith, count_of_lines))
       ∙ ap (λ (line : PlainNodeLine). line.name) (line_at k (node_line names (0, no_line)) within))
@@ -69,7 +69,7 @@ module _ (raw : RawValue) (names : List (List ℕ)) (access : List CodeAccess) (
 
   child_kept : (k : ℕ) (child : Child) → k < length lines → IsBelow (length raw.rows) k child → ComesAfter lines (get_or lines k no_line).slot child
       → keeps_child (printed_file raw names access suffixes) k (target_of child) ≡ true
-  unfolding printed_file
+  unfolding file_of
   child_kept k (State state) within is_below after = lt-ltb state (length raw.rows) is_below
   child_kept k (Node number) within is_below after =
       let earlier : number < length lines = omega arith in
@@ -102,7 +102,7 @@ module _ (raw : RawValue) (names : List (List ℕ)) (access : List CodeAccess) (
       (sym (same_line k j within (omega arith) (sym (ap (is_same_node (node_line names (k, get_or lines k no_line))) line) ∙ same)))))
 
   pub node_kept : (k : ℕ) → k < length lines → length lines ≤ most_nodes → AreKept (keeps_node (printed_file raw names access suffixes) k (node_line names (k, get_or lines k no_line)))
-  unfolding printed_file
+  unfolding file_of
   node_kept k within few =
       let line = get_or lines k no_line in
       let is = reduced.lines k line (slice_get-get_or lines k no_line within) in
@@ -127,11 +127,11 @@ module _ (raw : RawValue) (names : List (List ℕ)) (access : List CodeAccess) (
       )
 
   row_kept : (child : Child) → IsBelow (length raw.rows) (length lines) child → keeps_row (printed_file raw names access suffixes) (target_of child) ≡ true
-  unfolding printed_file
+  unfolding file_of
   row_kept (State state) is_below = lt-ltb state (length raw.rows) is_below
   row_kept (Node number) is_below = lt-ltb number (length plain_lines) (omega (arith, count_of_lines))
 
   pub state_kept : (k : ℕ) → k < length raw.rows → AreKept (keeps_state (printed_file raw names access suffixes) k (state_line raw (k, get_or (node_lines_of raw).rows k (State 0))))
-  unfolding printed_file
+  unfolding file_of
   state_kept k within =
       (lt-ltb k (length raw.rows) within, (same_number k, (refl, (row_kept (get_or (node_lines_of raw).rows k (State 0)) (reduced.rows k (State 0) (omega (arith, reduced.count))), tt))))

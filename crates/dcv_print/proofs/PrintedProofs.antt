@@ -24,7 +24,7 @@ use Rattle.dcv_language.specs.declared.certificate.Suffix.TheVariants.{Empty, Th
 use Rattle.dcv_certificate.specs.Proof.{suffix_word, suffix_words, IsSpelled, IsProof}
 use Rattle.dcv_automaton_text.specs.Rules.{has_width, has_all_states, has_all_access, keeps_access, keeps_how_access, keeps_suffix, keeps_how_suffix}
 use Rattle.dcv_automaton_text.proofs.Kept.{AreKept, both_true}
-use Rattle.dcv_print.specs.Printed.{state_line, access_line, suffix_line, printed_file}
+use Rattle.dcv_print.specs.Printed.{state_line, access_line, suffix_line, printed_file, file_of}
 use Rattle.dcv_automaton_read.specs.File.{access_from, suffix_from}
 use Rattle.dcv_print.proofs.PrintedNodes.{same_number}
 
@@ -135,24 +135,24 @@ module _ (raw : RawValue) (names : List (List ℕ)) (access : List CodeAccess) (
   count_of_access = proof.spelled.count ∙ count_of_words
 
   all_states : has_all_states (printed_file raw names access suffixes) ≡ true
-  unfolding printed_file
+  unfolding file_of
   all_states =
       let numbered = enumerate_from 0 (node_lines_of raw).rows in
       le-leb (length raw.rows) (length (map (state_line raw) numbered)) (omega (arith, length-map numbered (state_line raw), length-enumerate_from 0 (node_lines_of raw).rows))
 
   pub all_access : has_all_access (printed_file raw names access suffixes) ≡ true
-  unfolding printed_file
+  unfolding file_of
   all_access =
       let numbered = enumerate_from 0 access in
       both_true (has_all_states (printed_file raw names access suffixes)) _ all_states
       (le-leb (length raw.rows) (length (map access_line numbered)) (omega (arith, length-map numbered access_line, length-enumerate_from 0 access, count_of_access)))
 
   width_kept : (letter : List Bool) → length letter ≡ raw.arena.slots → has_width (printed_file raw names access suffixes) letter ≡ true
-  unfolding printed_file
+  unfolding file_of
   width_kept letter same = (unsigned_Decides (length letter) (length names)).1 (same ∙ sym slots)
 
   how_kept : (state : ℕ) (one : CodeAccess) → state < length proof.words → IsSpelled proof.words state one → AreKept (keeps_how_access (printed_file raw names access suffixes) state (access_from one))
-  unfolding printed_file
+  unfolding file_of
   how_kept state NoLetters within is = (no_letters_at_start raw.arena.slots (raw_accepts raw) (table_of_states raw) proof.words proof.canonical state within is, tt)
   how_kept state (Start letter) within is =
       (refl, (width_kept letter (ends_with_width raw.arena.slots (raw_accepts raw) (table_of_states raw) proof.words proof.canonical state [] letter within is), tt))
@@ -165,7 +165,7 @@ module _ (raw : RawValue) (names : List (List ℕ)) (access : List CodeAccess) (
       )
 
   pub access_kept : (k : ℕ) → k < length access → AreKept (keeps_access (printed_file raw names access suffixes) k (access_line (k, get_or access k NoLetters)))
-  unfolding printed_file
+  unfolding file_of
   access_kept k within =
       let one = get_or access k NoLetters in (
         both_true (has_all_states (printed_file raw names access suffixes)) _ all_states (lt-ltb k (length raw.rows) (omega (arith, count_of_access))),
@@ -174,7 +174,7 @@ module _ (raw : RawValue) (names : List (List ℕ)) (access : List CodeAccess) (
 
   how_suffix_kept : (place : ℕ) (one : CodeSuffix) → (0 < place → GrowsFrom raw.arena.slots (suffix_words (take place suffixes)) (suffix_word (suffix_words (take place suffixes)) one))
       → ((from : ℕ) (letter : List Bool) → one ≡ Then letter from → from < place) → AreKept (keeps_how_suffix (printed_file raw names access suffixes) place (suffix_from one))
-  unfolding printed_file
+  unfolding file_of
   how_suffix_kept zero Empty grows earlier = (refl, tt)
   how_suffix_kept zero (Then letter from) grows earlier = absurd (let wrong = earlier from letter refl in omega arith)
   how_suffix_kept (suc place) Empty grows earlier = absurd (let wrong = (grows (omega arith)).grown in cc)
@@ -187,7 +187,7 @@ module _ (raw : RawValue) (names : List (List ℕ)) (access : List CodeAccess) (
       )
 
   pub suffix_kept : (k : ℕ) → k < length suffixes → AreKept (keeps_suffix (printed_file raw names access suffixes) k (suffix_line (k, get_or suffixes k Empty)))
-  unfolding printed_file
+  unfolding file_of
   suffix_kept k within =
       let one = get_or suffixes k Empty in (
         all_access,

@@ -10,7 +10,7 @@ use Rattle.dcv_language.specs.declared.certificate.Suffix.TheVariants.{Empty, Th
 use Rattle.dcv_certificate.specs.Proof.{suffix_word, suffix_words, IsSpelled, AreSpelled}
 use Rattle.dcv_automaton_text.specs.File.{Access, AccessLine, SuffixLine}
 use Rattle.dcv_automaton_text.specs.Meaning.{access_word_of, access_words_from, access_words_of, suffix_word_of, suffix_words_of}
-use Rattle.dcv_print.specs.Printed.{access_line, suffix_line, printed_file}
+use Rattle.dcv_print.specs.Printed.{access_line, suffix_line, printed_file, file_of}
 use Rattle.dcv_automaton_read.specs.File.{access_from, suffix_from}
 use Rattle.dcv_print.specs.Laws.{PrintedAccess, PrintedSuffixes}
 
@@ -31,7 +31,7 @@ same_suffixes (suffix ∷ suffixes) first earlier =
     ∙ same_suffixes suffixes (first + 1) (earlier ++ suffix_word earlier suffix ∷ [])
 
 pub printed_suffixes : PrintedSuffixes
-unfolding suffix_words_of suffix_words printed_file
+unfolding suffix_words_of suffix_words file_of
 printed_suffixes raw names access suffixes = same_suffixes suffixes 0 []
 
 -- ---- access words
@@ -86,5 +86,5 @@ words_spelled (one ∷ others) (start ∷ words) is =
     ∙ ap (λ first. first ∷ words) (start_word start words one (is.each 0 one refl))
 
 pub printed_access : PrintedAccess
-unfolding access_words_of printed_file
+unfolding access_words_of file_of
 printed_access raw names access suffixes words is = ap access_words_from (plain_access access 0) ∙ words_spelled access words is

@@ -12,7 +12,7 @@ use Rattle.dcv_language.specs.declared.certificate.Access.{Access as CodeAccess}
 use Rattle.dcv_language.specs.declared.certificate.Suffix.{Suffix as CodeSuffix}
 use Rattle.dcv_automaton_text.specs.Spelled.{name_words, node_words, state_words, access_words, suffix_words, head_lines, end_lines, lines_of, spelled_line, spelled}
 use Rattle.dcv_syntax.specs.declared.names.Name.{Name}
-use Rattle.dcv_print.specs.Printed.{texts_of, node_line, state_line, access_line, suffix_line, printed_file}
+use Rattle.dcv_print.specs.Printed.{texts_of, node_line, state_line, access_line, suffix_line, printed_file, file_of}
 use Rattle.dcv_print.specs.Pushed.{spaced, spelled_lines}
 
 -- ---- lines
@@ -106,7 +106,7 @@ module _ (raw : RawValue) (names : List (List ℕ)) (access : List CodeAccess) (
   suffixes_text = spelled_lines (λ numbered. suffix_words (suffix_line numbered)) suffixes
 
   in_parts : spelled (printed_file raw names access suffixes) ≡ head_text ++ (nodes_text ++ (states_text ++ (access_text ++ (suffixes_text ++ codes "end\n"))))
-  unfolding spelled lines_of printed_file
+  unfolding spelled lines_of file_of
   in_parts =
       let file = printed_file raw names access suffixes in
       let nodes = map node_words file.node_lines in

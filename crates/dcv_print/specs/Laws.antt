@@ -17,16 +17,12 @@ use Rattle.dcv_dfa.specs.Raw.{RawValue, IsRaw, raw_accepts}
 use Rattle.dcv_language.specs.declared.certificate.Access.{Access}
 use Rattle.dcv_language.specs.declared.certificate.Suffix.{Suffix}
 use Rattle.dcv_certificate.specs.Proof.{AreSpelled, suffix_words, IsProof}
+use Rattle.dcv_automaton_file.specs.Laws.{HasFile}
 use Rattle.dcv_print.specs.Automaton.{IsAutomatonOf, AreSameButForSuffixes}
 use Rattle.dcv_print.specs.Printed.{printed_file}
 
-pub record IsPrintable (raw : RawValue) (names : List (List ℕ)) : Type 0 where
-  pub is_raw : IsRaw raw
-  pub auto : IsAuto raw
-  pub are_names : AreNames names
-  pub slots : length names ≡ raw.arena.slots
-  pub states : length raw.rows ≤ most_states
-  pub nodes : count_of_nodes raw ≤ most_nodes
+abbrev pub IsPrintable : RawValue → List (List ℕ) → Type 0
+IsPrintable raw names = HasFile raw names
 
 -- the words of the file are words of the form
 abbrev pub PrintedIsSpellable : Type 0

@@ -1,5 +1,5 @@
 -- An automaton with what its lines say beside it.
---     file_of listed     the file that it spells
+--     listed_file listed     the file that it spells
 --     IsListed listed    the lines of nodes are the automaton's, and each names a variable that there is
 use Rattle.std.specs.Prelude.{◌≡◌, ◌<◌, length}
 use Rattle.std.specs.List.{All}
@@ -9,8 +9,8 @@ use Rattle.dcv_dfa.specs.declared.node_lines.NodeLine.{NodeLine}
 use Rattle.dcv_print.specs.Printed.{texts_of, printed_file}
 use Rattle.dcv_print.specs.declared.automaton_lines.Listed.{Listed}
 
-abbrev pub file_of : Listed → AutomatonFile
-file_of listed = printed_file listed.auto.now (texts_of listed.names.now) listed.proof.access listed.proof.suffixes
+abbrev pub listed_file : Listed → AutomatonFile
+listed_file listed = printed_file listed.auto.now (texts_of listed.names.now) listed.proof.access listed.proof.suffixes
 
 pub record IsListed (listed : Listed) : Type 0 where
   pub nodes : listed.nodes ≡ node_lines_of listed.auto.now

@@ -9,7 +9,7 @@ use Rattle.dcv_language.specs.declared.certificate.Suffix.{Suffix}
 use Rattle.dcv_automaton_text.specs.Spelled.{spelled}
 use Rattle.dcv_certificate.specs.Proof.{IsProof}
 use Rattle.dcv_dfa.specs.Raw.{RawValue}
-use Rattle.dcv_print.specs.Listed.{file_of, IsListed}
+use Rattle.dcv_print.specs.Listed.{listed_file, IsListed}
 use Rattle.dcv_print.specs.Printed.{printed_file}
 use Rattle.dcv_print.specs.Verdict.{seen_verdict}
 use Rattle.dcv_print.specs.declared.automaton_lines.Listed.{Listed}
@@ -36,7 +36,7 @@ Says Automaton raw names report = SpellsAutomaton raw names report.text
 
 abbrev pub text_of : CodeVerdict → Option Listed → List ℕ
 text_of verdict None = verdict_text (seen_verdict verdict)
-text_of verdict (Some listed) = spelled (file_of listed)
+text_of verdict (Some listed) = spelled (listed_file listed)
 
 abbrev pub seen_report : CodeVerdict → Option Listed → ReportValue
 seen_report verdict listed = record { verdict = seen_verdict verdict; text = text_of verdict listed }

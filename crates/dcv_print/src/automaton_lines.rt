@@ -9,7 +9,7 @@ ghost use Rattle.dcv_automaton_text.specs.Spelled.{how_suffix, spelled_line, spe
 ghost use Rattle.dcv_print.specs.Printed.{texts_of, target_of, node_line, state_line, printed_file};
 ghost use Rattle.dcv_automaton_read.specs.File.{access_from, suffix_from};
 ghost use Rattle.dcv_certificate.specs.Proof.{IsProof};
-ghost use Rattle.dcv_print.specs.Listed.{IsListed, file_of};
+ghost use Rattle.dcv_print.specs.Listed.{IsListed, listed_file};
 ghost use Rattle.dcv_print.specs.Pushed.{spaced, spelled_lines};
 
 use crate::verdict_lines::{put_letter, put_number};
@@ -72,7 +72,7 @@ impl<'a> Listed<'a> {
     // Puts the automaton's text.
     pub(crate) fn put<T: Target>(&self, target: &mut T)
         requires { IsListed self.now }
-        ensures { Puts (T.standing target.old) (T.standing target.new) (spelled (file_of self.now)) }
+        ensures { Puts (T.standing target.old) (T.standing target.new) (spelled (listed_file self.now)) }
     {
         put_automaton(target, self.auto, self.names, &self.nodes, &self.proof);
     }

@@ -1,5 +1,6 @@
--- The file that is printed of an automaton stands for the automaton's table.
-use Rattle.std.proofs.Common.{◌≡◌, ◌≢◌, ℕ, zero, suc, ◌+◌, ◌<◌, Bool, true, false, not, cond, List, [], ◌∷◌, ◌++◌, length, map, fold, get_or, refl, sym, ap, ◌∙◌, arith}
+-- The file of an automaton stands for the automaton's table.
+use Rattle.std.proofs.Common.{◌≡◌, ◌≢◌, ℕ, zero, suc, ◌+◌, ◌<◌, Bool, true, false, not, cond, List, [], ◌∷◌, ◌++◌, length, map, fold, get_or, refl}
+use Rattle.std.proofs.Common.{sym, ap, ◌∙◌, arith}
 use Rattle.std.specs.Prelude.{bytes_eq}
 use Rattle.std.specs.List.{All, AllPairs, enumerate_from}
 use Rattle.std.proofs.lemmas.List.{length-map, get_or-map, same_lists}
@@ -20,8 +21,8 @@ use Rattle.dcv_dfa.proofs.States.{table_has_the_states, state-at}
 use Rattle.dcv_automaton_text.specs.File.{NodeLine as PlainNodeLine}
 use Rattle.dcv_automaton_text.specs.Meaning.{state_at as plain_state_at, states_at as plain_states_at, state_of as plain_state_of, table_of}
 use Rattle.dcv_automaton_text.specs.Rules.{slot_of}
-use Rattle.dcv_print.specs.Printed.{target_of, node_line, state_line, printed_file}
-use Rattle.dcv_print.specs.Laws.{PrintedTable}
+use Rattle.dcv_automaton_file.specs.File.{target_of, node_line, state_line, file_of}
+use Rattle.dcv_automaton_file.specs.Laws.{FileHasTheTable}
 
 -- ---- names
 
@@ -51,7 +52,8 @@ same_state : (states : List ℕ) (child : Child) → plain_state_at states (targ
 same_state states (State state) = refl
 same_state states (Node number) = refl
 
-same_choice : (states : List ℕ) (side : Bool) (hi lo : Child) → plain_state_at states (cond side (target_of hi) (target_of lo)) ≡ state_at states (cond side hi lo)
+same_choice : (states : List ℕ) (side : Bool) (hi lo : Child)
+    → plain_state_at states (cond side (target_of hi) (target_of lo)) ≡ state_at states (cond side hi lo)
 same_choice states true hi lo = same_state states hi
 same_choice states false hi lo = same_state states lo
 
@@ -62,7 +64,8 @@ module _ (names : List (List ℕ)) (differ : AllPairs ◌≢◌ names) (letter :
   abbrev step : List ℕ → NodeLine → List ℕ
   step states line = states ++ state_at states (cond (get_or letter line.slot false) line.hi line.lo) ∷ []
 
-  same_step : (states : List ℕ) (number : ℕ) (line : NodeLine) → line.slot < length names → plain_step states (node_line names (number, line)) ≡ step states line
+  same_step : (states : List ℕ) (number : ℕ) (line : NodeLine) → line.slot < length names
+      → plain_step states (node_line names (number, line)) ≡ step states line
   same_step states number line below =
       ap (λ slot. states ++ plain_state_at states (cond (get_or letter slot false) (target_of line.hi) (target_of line.lo)) ∷ []) (slot_at names line.slot differ below)
       ∙ ap (λ state. states ++ state ∷ []) (same_choice states (get_or letter line.slot false) line.hi line.lo)
@@ -92,11 +95,11 @@ slots_below raw count is same number d within =
     let slot = line.slot in
     omega arith
 
-pub printed_table : LinesLeadAsTheRows → PrintedTable
-unfolding table_of printed_file arena_table
-printed_table lead raw names access suffixes is =
+pub file_table : LinesLeadAsTheRows → FileHasTheTable
+unfolding table_of file_of arena_table
+file_table lead raw names access suffixes is =
     let all = node_lines_of raw in
-    let file = printed_file raw names access suffixes in
+    let file = file_of raw names access suffixes in
     let lines_reduced = reduced raw is.is_raw is.auto in
     let below = slots_below raw (length names) lines_reduced is.slots in
     let numbered_rows = enumerate_from 0 all.rows in

@@ -1,0 +1,48 @@
+-- The file of an automaton: a line for each node of its rows, by the names of its variables, and one for each state.
+--     texts_of names                        names as bytes
+--     target_of child                       a state or a node, as a line names it
+--     node_line names (number, line)        the line of the node with this number
+--     state_line raw (number, row)          the line of the state with this number
+--     file_of raw names access suffixes     the file, where its access words and its suffixes are spelled so
+use Rattle.std.specs.Prelude.{ℕ, List, [], length, map, slice_index_or}
+use Rattle.std.specs.List.{enumerate_from}
+use Rattle.dcv_syntax.specs.declared.names.Name.{Name}
+use Rattle.dcv_dfa.specs.declared.node_lines.Child.{Child}
+use Rattle.dcv_dfa.specs.declared.node_lines.Child.TheVariants.{State, Node}
+use Rattle.dcv_dfa.specs.declared.node_lines.NodeLine.{NodeLine as CodeNodeLine}
+use Rattle.dcv_dfa.specs.Raw.{RawValue, is_accepting}
+use Rattle.dcv_dfa.specs.NodeLines.{node_lines_of}
+use Rattle.dcv_automaton_text.specs.File.{Target, ToState, ToNode, NodeLine, StateLine, AccessLine, SuffixLine, AutomatonFile}
+
+abbrev pub texts_of : List Name → List (List ℕ)
+texts_of names = map (λ (name : Name). name.text) names
+
+-- ---- what the parts of a line stand for
+
+abbrev pub target_of : Child → Target
+target_of (State state) = ToState state
+target_of (Node number) = ToNode number
+
+-- ---- lines, of what has a number
+
+abbrev pub node_line : List (List ℕ) → ℕ × CodeNodeLine → NodeLine
+node_line names numbered =
+    let line = numbered.1 in
+    record { number = numbered.0; name = slice_index_or names line.slot []; hi = target_of line.hi; lo = target_of line.lo }
+
+abbrev pub state_line : RawValue → ℕ × Child → StateLine
+state_line raw numbered = record { number = numbered.0; accepting = is_accepting raw numbered.0; row = target_of numbered.1 }
+
+-- ---- the file
+
+unfoldable pub file_of : RawValue → List (List ℕ) → List AccessLine → List SuffixLine → AutomatonFile
+file_of raw names access suffixes =
+    let all = node_lines_of raw in
+    record {
+      names = names;
+      states = length raw.rows;
+      node_lines = map (node_line names) (enumerate_from 0 all.lines);
+      state_lines = map (state_line raw) (enumerate_from 0 all.rows);
+      access_lines = access;
+      suffix_lines = suffixes;
+    }
