@@ -44,8 +44,11 @@ module _ (lexicon : Lexicon) where
   longest_of text = longest_found text (length text) (λ piece is begins. omega (arith, ap length begins.1 ∙ length-append piece begins.0))
 
   cut_found : (most : ℕ) (text : List ℕ) → length text ≤ most → (rest : List ℕ) × IsCut lexicon text (pieces_within lexicon most text) rest
-  cut_found zero text short = (text, cut_nothing lexicon text (λ piece is begins.
-      absurd (omega (arith, short, ap length begins.1 ∙ length-append piece begins.0, piece_has_bytes lexicon piece is))))
+  cut_found zero text short = (
+    text,
+    cut_nothing lexicon text (λ piece is begins.
+        absurd (omega (arith, short, ap length begins.1 ∙ length-append piece begins.0, piece_has_bytes lexicon piece is))),
+  )
   cut_found (suc most) text short =
       let size = longest_within lexicon text (length text) in
       by_size size (nat_eq size 0) refl (longest_of text) (λ follows shorter. cut_found most follows shorter)
@@ -71,7 +74,7 @@ module _ (lexicon : Lexicon) where
   one_cut text =
       let (rest, cut) = cut_found (length text) text (omega arith) in
       let same : drop (length (concat (pieces_of lexicon text))) text ≡ rest =
-          ap (λ (t : List ℕ). drop (length (concat (pieces_of lexicon text))) t) cut.whole ∙ drop_at (concat (pieces_of lexicon text)) rest _ refl in
+      ap (λ (t : List ℕ). drop (length (concat (pieces_of lexicon text))) t) cut.whole ∙ drop_at (concat (pieces_of lexicon text)) rest _ refl in
       record { cut = subst (λ (r : List ℕ). IsCut lexicon text (pieces_of lexicon text) r) (sym same) cut }
 
   -- the items of a text that begins at an offset, by any cut of it

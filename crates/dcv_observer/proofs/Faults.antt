@@ -46,10 +46,10 @@ module _ (lexicon : Lexicon) (grammar : ContextFree) (text : List ℕ) where
       let is : classes_of (read ++ item ∷ more) ≡ all = map-append (token_class lexicon) read (item ∷ more) in
       let front : take (length done) all ≡ done = take-append_seam done (class ∷ classes_of more) in
       let one_more : take (length done + 1) all ≡ take (length done) all ++ class ∷ [] =
-          take-append-add done (class ∷ classes_of more) 1 ∙ ap (λ l. l ++ class ∷ []) (sym front) in
+      take-append-add done (class ∷ classes_of more) 1 ∙ ap (λ l. l ++ class ∷ []) (sym front) in
       let inside : length done < length all = omega (arith, length-append done (class ∷ classes_of more)) in
       let fault = fault_here grammar all (length done) class inside one_more (subst (IsViable grammar) (sym front) viable)
-          (λ some. none (subst (λ l. IsViable grammar (l ++ class ∷ [])) front some)) in
+      (λ some. none (subst (λ l. IsViable grammar (l ++ class ∷ [])) front some)) in
       record {
         items = read ++ item ∷ more;
         place = length done;
@@ -87,7 +87,7 @@ module _ (lexicon : Lexicon) (grammar : ContextFree) (text : List ℕ) where
   not_both (items, has, sentence) at fault =
       let same = one_list lexicon text fault.items items fault.has has in
       let never : None ≡ Some fault.place =
-          one_verdict grammar (classes_of items) None (Some fault.place) sentence (subst (λ l. IsFaultAt grammar (classes_of l) fault.place) same fault.fault) in
+      one_verdict grammar (classes_of items) None (Some fault.place) sentence (subst (λ l. IsFaultAt grammar (classes_of l) fault.place) same fault.fault) in
       cc
 
   pub one_found : (verdict other : Option ℕ) → IsSyntaxVerdict lexicon grammar text verdict → IsSyntaxVerdict lexicon grammar text other → verdict ≡ other
@@ -97,7 +97,7 @@ module _ (lexicon : Lexicon) (grammar : ContextFree) (text : List ℕ) where
   one_found (Some at) (Some other) v w =
       let same = one_list lexicon text v.items w.items v.has w.has in
       let places : Some v.place ≡ Some w.place =
-          one_verdict grammar (classes_of w.items) (Some v.place) (Some w.place) (subst (λ l. IsFaultAt grammar (classes_of l) v.place) same v.fault) w.fault in
+      one_verdict grammar (classes_of w.items) (Some v.place) (Some w.place) (subst (λ l. IsFaultAt grammar (classes_of l) v.place) same v.fault) w.fault in
       let place : v.place ≡ w.place = cc in
       ap Some (v.offset ∙ (λ i. offset_at text (same i) (place i)) ∙ sym w.offset)
 

@@ -93,7 +93,7 @@ module _ (lexicon : Lexicon) (orderly : is_orderly lexicon ≡ true) where
           let digits : list_all is_ascii_digit (bytes ++ c ∷ more) ≡ true = (and_parts (is_ascii_digit b) _ w).1 in
           let number : is_number (b ∷ bytes) ≡ true = and_from (is_ascii_digit b) (list_all is_ascii_digit bytes) digit (all_front is_ascii_digit bytes (c ∷ more) digits) in
           let rest : cond (is_number (b ∷ bytes)) (not (is_ascii_digit c)) (ends_symbol lexicon.symbols (b ∷ bytes) c) ≡ true =
-              subst (λ t. cond t (not (is_word_byte c)) (cond (is_number (b ∷ bytes)) (not (is_ascii_digit c)) (ends_symbol lexicon.symbols (b ∷ bytes) c)) ≡ true) no_word ends in
+          subst (λ t. cond t (not (is_word_byte c)) (cond (is_number (b ∷ bytes)) (not (is_ascii_digit c)) (ends_symbol lexicon.symbols (b ∷ bytes) c)) ≡ true) no_word ends in
           let stop : not (is_ascii_digit c) ≡ true = subst (λ t. cond t (not (is_ascii_digit c)) (ends_symbol lexicon.symbols (b ∷ bytes) c) ≡ true) number rest in
           both_ways (is_ascii_digit c) (not-true _ stop) (all_behind is_ascii_digit bytes c more digits)
       by_kind (Kind.symbol w free) =
@@ -101,7 +101,7 @@ module _ (lexicon : Lexicon) (orderly : is_orderly lexicon ≡ true) where
           let no_word : is_word (b ∷ bytes) ≡ false = and_left (is_ascii_alphabetic b) (list_all is_word_byte bytes) others.2 in
           let no_number : is_number (b ∷ bytes) ≡ false = and_left (is_ascii_digit b) (list_all is_ascii_digit bytes) others.3 in
           let rest : cond (is_number (b ∷ bytes)) (not (is_ascii_digit c)) (ends_symbol lexicon.symbols (b ∷ bytes) c) ≡ true =
-              subst (λ t. cond t (not (is_word_byte c)) (cond (is_number (b ∷ bytes)) (not (is_ascii_digit c)) (ends_symbol lexicon.symbols (b ∷ bytes) c)) ≡ true) no_word ends in
+          subst (λ t. cond t (not (is_word_byte c)) (cond (is_number (b ∷ bytes)) (not (is_ascii_digit c)) (ends_symbol lexicon.symbols (b ∷ bytes) c)) ≡ true) no_word ends in
           let stop : ends_symbol lexicon.symbols (b ∷ bytes) c ≡ true = subst (λ t. cond t (not (is_ascii_digit c)) (ends_symbol lexicon.symbols (b ∷ bytes) c) ≡ true) no_number rest in
           longer_symbol lexicon.symbols (b ∷ bytes) c more stop w
 
@@ -153,17 +153,15 @@ module _ (lexicon : Lexicon) (orderly : is_orderly lexicon ≡ true) where
 
   pub each_is_longest : (pieces : List Piece) (next : ℕ) → IsLaidOut lexicon pieces next → EachIsLongest lexicon (map bytes_in pieces) []
   each_is_longest [] next h = tt
-  each_is_longest (Blank b ∷ pieces) next h =
-      (
-        longest_if (b ∷ []) (concat (map bytes_in pieces) ++ []) (or_left (is_blank lexicon (b ∷ [])) (is_token lexicon (b ∷ [])) (or_left (is_white b) _ h.0)) (λ c more rest same longer. no_longer_blank b c more h.0 longer),
-        each_is_longest pieces next h.1,
-      )
-  each_is_longest (Text bytes ∷ pieces) next h =
-      (
-        longest_if bytes (concat (map bytes_in pieces) ++ []) (or_right (is_blank lexicon bytes) (is_token lexicon bytes) h.0.0) (λ c more rest same longer.
+  each_is_longest (Blank b ∷ pieces) next h = (
+    longest_if (b ∷ []) (concat (map bytes_in pieces) ++ []) (or_left (is_blank lexicon (b ∷ [])) (is_token lexicon (b ∷ [])) (or_left (is_white b) _ h.0)) (λ c more rest same longer. no_longer_blank b c more h.0 longer),
+    each_is_longest pieces next h.1,
+  )
+  each_is_longest (Text bytes ∷ pieces) next h = (
+    longest_if bytes (concat (map bytes_in pieces) ++ []) (or_right (is_blank lexicon bytes) (is_token lexicon bytes) h.0.0) (λ c more rest same longer.
         no_longer bytes c more h.0.0 (subst (λ b. ends_before lexicon bytes b ≡ true) (begin_with pieces next c rest h.1 same) h.0.1) longer),
-        each_is_longest pieces next h.1,
-      )
+    each_is_longest pieces next h.1,
+  )
 
   -- ---- tokens
 

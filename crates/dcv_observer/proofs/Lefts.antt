@@ -38,7 +38,7 @@ gives_token old given new gives =
     let (tokens, rest, later) = tokens_exist new in
     let all = gives.reads tokens rest later in
     let same : old.start + length (concat all.pieces) ≡ new.start + length (concat later.pieces) =
-        omega (arith, behind old (seen given ∷ tokens) rest all, behind new tokens rest later, gives.further.ends) in
+    omega (arith, behind old (seen given ∷ tokens) rest all, behind new tokens rest later, gives.further.ends) in
     left_is old (seen given ∷ tokens) rest all
     ∙ ap (λ (n : ℕ). seen given ∷ (tokens ++ stray_from n rest)) same
     ∙ ap (λ (ts : List Token). seen given ∷ ts) (sym (left_is new tokens rest later))
@@ -135,4 +135,3 @@ pub goes_on : (old new : Items) (given : Option Item) → IfSome given (λ _. le
     → MakesProgress (λ _. Unit {0}) (λ (items : Items). at_most (length items.lexer.rest.now)) old given new
 goes_on old new None shorter = record { on = λ finite. tt; keeps = tt; rests = λ finite. tt }
 goes_on old new (Some item) shorter = record { on = λ finite. (tt, tt, shorter); keeps = tt; rests = λ finite. tt }
-

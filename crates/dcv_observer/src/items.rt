@@ -119,11 +119,13 @@ impl<'a> Iterator for Items<'a> {
 
     fn next(&mut self) -> Option<Item<'a>> {
         let lexicon = self.lexer.lexicon();
-        let Some(Lexeme {
-            bytes,
-            start,
-            class,
-        }) = self.lexer.next()
+        let Some(
+            Lexeme {
+                bytes,
+                start,
+                class,
+            },
+        ) = self.lexer.next()
         else {
             return self.stray();
         };
