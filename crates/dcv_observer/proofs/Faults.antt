@@ -1,5 +1,6 @@
 -- The syntax fault of a text, by what was read of its items.
-use Rattle.std.proofs.Common.{◌≡◌, ℕ, ◌+◌, ◌<◌, Bool, true, false, List, [], ◌∷◌, ◌++◌, length, map, take, Option, Some, None, refl, sym, ap, subst, ◌∙◌, arith, length-append, append_assoc, append-nil}
+use Rattle.std.proofs.Common.{◌≡◌, ℕ, ◌+◌, ◌<◌, Bool, true, false, List, [], ◌∷◌, ◌++◌, length, map, take, Option, Some, None, refl, sym, ap, subst, ◌∙◌}
+use Rattle.std.proofs.Common.{arith, length-append, append_assoc, append-nil}
 use Rattle.std.specs.Prelude.{slice_get}
 use Rattle.std.specs.Option.{option_map_or}
 use Rattle.std.proofs.Math.Seq.{take-append_seam, take-append-add}
@@ -97,63 +98,76 @@ module _ (lexicon : Lexicon) (grammar : ContextFree) (text : List ℕ) where
   one_found (Some at) (Some other) v w =
       let same = one_list lexicon text v.items w.items v.has w.has in
       let places : Some v.place ≡ Some w.place =
-      one_verdict grammar (classes_of w.items) (Some v.place) (Some w.place) (subst (λ l. IsFaultAt grammar (classes_of l) v.place) same v.fault) w.fault in
+      one_verdict grammar (classes_of w.items) (Some v.place) (Some w.place)
+      (subst (λ l. IsFaultAt grammar (classes_of l) v.place) same v.fault) w.fault in
       let place : v.place ≡ w.place = cc in
       ap Some (v.offset ∙ (λ i. offset_at text (same i) (place i)) ∙ sym w.offset)
 
 -- ---- the loop over the items
 
--- the items that were passed, of which a sentence may begin, and those that are left
-pub record HasPassed (lexicon : Lexicon) (all : List Token) (reading : Reading) (items : Items) : Type 0 where
+-- where it has passed these items, with which a sentence may begin
+pub record IsWithin (lexicon : Lexicon) (tables : GrammarTables) (text : List ℕ) (reading : Reading) (items : Items) : Type 0 where
+  pub same_grammar : reading.grammar ≡ tables
+  pub same_lexicon : lexicon_in items.lexer ≡ lexicon
   pub passed : List Token
-  pub whole : all ≡ passed ++ left items
+  pub has : HasItems lexicon text (passed ++ left items)
   pub taken : HasTaken reading (map (token_class lexicon) passed)
 
-module _ (lexicon : Lexicon) (tables : GrammarTables) (text : List ℕ) (all : List Token) (reading : Reading) (items : Items) (is : reading.grammar ≡ tables) (written : lexicon_in items.lexer ≡ lexicon) (has : HasItems lexicon text all) (h : HasPassed lexicon all reading items) where
+-- it has passed none
+pub at_start : (lexicon : Lexicon) (tables : GrammarTables) (text : List ℕ) (reading : Reading) (items : Items) → reading.grammar ≡ tables
+    → lexicon_in items.lexer ≡ lexicon → HasItems lexicon text (left items) → HasTaken reading [] → IsWithin lexicon tables text reading items
+at_start lexicon tables text reading items is written has taken =
+    record { same_grammar = is; same_lexicon = written; passed = []; has = has; taken = taken }
+
+module _ (lexicon : Lexicon) (tables : GrammarTables) (text : List ℕ) (reading : Reading) (items : Items)
+    (within : IsWithin lexicon tables text reading items) where
   abbrev grammar : ContextFree
   grammar = grammar_of tables
 
   abbrev taken : List ℕ
-  taken = map (token_class lexicon) h.passed
+  taken = map (token_class lexicon) within.passed
 
   some_begin : IsViable grammar taken
-  some_begin = subst (λ t. IsViable (grammar_of t) taken) is h.taken.viable
+  some_begin = subst (λ t. IsViable (grammar_of t) taken) within.same_grammar within.taken.viable
 
   -- one more item, and whether a sentence may begin with it too
-  module _ (item : Item) (next : Items) (new : Reading) (viable : Bool) (gives : GivesOne items item next) (same : new.grammar ≡ reading.grammar) (told : IsTaken viable new (taken ++ item.class ∷ [])) where
+  module _ (item : Item) (next : Items) (new : Reading) (viable : Bool) (gives : GivesOne items item next) (same : new.grammar ≡ reading.grammar)
+      (told : (taken : List ℕ) → HasTaken reading taken → IsTaken viable new (taken ++ item.class ∷ [])) where
     class_is : item.class ≡ token_class lexicon (seen item)
-    class_is = gives.class ∙ ap (λ l. token_class l (seen item)) written
+    class_is = gives.class ∙ ap (λ l. token_class l (seen item)) within.same_lexicon
 
-    whole_is : all ≡ h.passed ++ seen item ∷ left next
-    whole_is = h.whole ∙ ap (λ l. h.passed ++ l) gives.gives
+    has_more : HasItems lexicon text (within.passed ++ seen item ∷ left next)
+    has_more = subst (λ l. HasItems lexicon text (within.passed ++ l)) gives.gives within.has
 
     pub item_refused : viable ≡ false → IsSyntaxFault lexicon grammar text item.start
     item_refused refused =
-        fault_at_item lexicon grammar text h.passed (seen item) (left next) (subst (HasItems lexicon text) whole_is has) some_begin
-        (subst (λ class. ¬ IsViable grammar (taken ++ class ∷ [])) class_is (none_begins reading new tables same is viable (taken ++ item.class ∷ []) told refused))
+        fault_at_item lexicon grammar text within.passed (seen item) (left next) has_more some_begin
+        (subst (λ class. ¬ IsViable grammar (taken ++ class ∷ [])) class_is
+        (none_begins reading new tables same within.same_grammar viable (taken ++ item.class ∷ []) (told taken within.taken) refused))
 
-    pub item_taken : viable ≡ true → HasPassed lexicon all new next
+    pub item_taken : viable ≡ true → IsWithin lexicon tables text new next
     item_taken kept = record {
-      passed = h.passed ++ seen item ∷ [];
-      whole = whole_is ∙ sym (append_assoc h.passed (seen item ∷ []) (left next));
-      taken = subst (HasTaken new) ((λ i. taken ++ class_is i ∷ []) ∙ sym (map-append (token_class lexicon) h.passed (seen item ∷ [])))
-          (taken_is_kept reading new tables same is viable (taken ++ item.class ∷ []) told kept);
+      same_grammar = same ∙ within.same_grammar;
+      same_lexicon = gives.lexicon ∙ within.same_lexicon;
+      passed = within.passed ++ seen item ∷ [];
+      has = subst (HasItems lexicon text) (sym (append_assoc within.passed (seen item ∷ []) (left next))) has_more;
+      taken = subst (HasTaken new) ((λ i. taken ++ class_is i ∷ []) ∙ sym (map-append (token_class lexicon) within.passed (seen item ∷ [])))
+          (taken_is_kept reading new tables same within.same_grammar viable (taken ++ item.class ∷ []) (told taken within.taken) kept);
     }
 
   -- no item is left, and whether those that were passed are a sentence
-  module _ (whole : Bool) (none : left items ≡ []) (told : IsEnded whole (grammar_of reading.grammar) taken) where
-    all_passed : all ≡ h.passed
-    all_passed = h.whole ∙ ap (λ l. h.passed ++ l) none ∙ append-nil h.passed
+  module _ (whole : Bool) (none : left items ≡ [])
+      (told : (taken : List ℕ) → HasTaken reading taken → IsEnded whole (grammar_of reading.grammar) taken) where
+    has_all : HasItems lexicon text within.passed
+    has_all = subst (HasItems lexicon text) (ap (λ l. within.passed ++ l) none ∙ append-nil within.passed) within.has
 
     ended : (b : Bool) → whole ≡ b → IsEnded b grammar taken
-    ended b same = subst (λ t. IsEnded b (grammar_of t) taken) is (subst (λ w. IsEnded w (grammar_of reading.grammar) taken) same told)
+    ended b same =
+        subst (λ t. IsEnded b (grammar_of t) taken) within.same_grammar
+        (subst (λ w. IsEnded w (grammar_of reading.grammar) taken) same (told taken within.taken))
 
     pub end_refused : whole ≡ false → IsSyntaxFault lexicon grammar text (length text)
-    end_refused refused = fault_at_end lexicon grammar text h.passed (subst (HasItems lexicon text) all_passed has) some_begin (ended false refused)
+    end_refused refused = fault_at_end lexicon grammar text within.passed has_all some_begin (ended false refused)
 
     pub end_reached : whole ≡ true → IsSentenceText lexicon grammar text
-    end_reached kept = (h.passed, subst (HasItems lexicon text) all_passed has, ended true kept)
-
--- nothing was passed of all
-pub none_passed : (lexicon : Lexicon) (reading : Reading) (items : Items) → HasTaken reading [] → HasPassed lexicon (left items) reading items
-none_passed lexicon reading items taken = record { passed = []; whole = refl; taken = taken }
+    end_reached kept = (within.passed, has_all, ended true kept)

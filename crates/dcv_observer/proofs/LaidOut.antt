@@ -1,18 +1,20 @@
 -- A text that is laid out is cut into its pieces.
-use Rattle.std.proofs.Common.{◌≡◌, ℕ, zero, suc, ◌+◌, ◌<◌, ◌≤◌, Bool, true, false, not, cond, ◌||◌, ◌&&◌, nat_eq, nat_le, IsTrue, List, [], ◌∷◌, ◌++◌, ◌⊎◌, inl, inr, length, map, get_or, drop, refl, sym, ap, subst, ◌∙◌, arith, append_assoc, append-nil, length-append}
-use Rattle.std.specs.List.{concat, list_all, list_any, starts_with}
+use Rattle.std.proofs.Common.{◌≡◌, ℕ, ◌+◌, ◌<◌, Bool, true, false, not, cond, ◌||◌, ◌&&◌, nat_eq, List, [], ◌∷◌, ◌++◌, inl, inr, length, map, refl, sym}
+use Rattle.std.proofs.Common.{ap, subst, ◌∙◌, arith, append_assoc, append-nil, length-append}
+use Rattle.std.specs.List.{concat, list_all, starts_with}
 use Rattle.std.specs.Str.{bytes_eq}
 use Rattle.std.specs.Char.{is_ascii_alphabetic, is_ascii_digit}
-use Rattle.std.proofs.lemmas.Bool.{cases_Bool, and_parts, and_from, and_left, false_from_ne_true, or_left, or_right, or_cases, or_parts, not-true, both_ways, false≢true, cases_lt, eqb-true, eqb-false}
+use Rattle.std.proofs.lemmas.Bool.{and_parts, and_from, and_left, false_from_ne_true, or_left, or_right, or_cases, not-true, both_ways, false≢true}
+use Rattle.std.proofs.lemmas.Bool.{cases_lt, eqb-true, eqb-false}
 use Rattle.std.proofs.lemmas.Bool.Decides.{Decides-eqb}
 use Rattle.std.proofs.lemmas.Slice.Eq.{bytes_eq-Decides, starts_is}
-use Rattle.dcv_lexer.specs.Lexicon.{Lexicon, texts_of, is_one_of, is_white, is_white_space, is_comment, is_word_byte, is_word, is_number, is_symbol, is_blank, is_token}
+use Rattle.dcv_lexer.specs.Lexicon.{Lexicon, texts_of, is_one_of, is_white, is_white_space, is_comment, is_word_byte, is_word, is_number, is_symbol}
+use Rattle.dcv_lexer.specs.Lexicon.{is_blank, is_token}
 use Rattle.dcv_lexer.specs.Lexicon.{is_piece, begins_as_symbol, is_orderly}
-use Rattle.dcv_lexer.specs.Cuts.{Token, BeginsWith, IsLongest, BeginsWithNoPiece, EachIsLongest, IsCut, tokens_from}
+use Rattle.dcv_lexer.specs.Cuts.{Token, IsLongest, BeginsWithNoPiece, EachIsLongest, tokens_from}
 use Rattle.dcv_lexer.proofs.FirstBytes.{one_of_passes, each_begins, white_below, letter_above, digit_within, Kind, kind_of, nothing_is_no_piece}
 use Rattle.dcv_lexer.proofs.Longest.{symbol_byte_is_no_other}
-use Rattle.dcv_lexer.proofs.Cuts.{piece_has_bytes}
-use Rattle.dcv_observer.specs.Items.{stray_from, HasItems}
+use Rattle.dcv_observer.specs.Items.{HasItems}
 use Rattle.dcv_observer.specs.Pieces.{Piece, Blank, Text, bytes_in, bytes_of, tokens_at, ends_symbol, ends_before, first_byte, IsPieceBefore, IsLaidOut}
 
 module _ (lexicon : Lexicon) (orderly : is_orderly lexicon ≡ true) where
@@ -75,8 +77,13 @@ module _ (lexicon : Lexicon) (orderly : is_orderly lexicon ≡ true) where
   token_is_no_slash : (b : ℕ) (bytes : List ℕ) → is_token lexicon (b ∷ bytes) ≡ true → b ≡ 47 → ⊥
   token_is_no_slash b bytes is slash = eqb-false b 47 (is_dark b bytes is).slash slash
 
+  -- whether a token that is no word ends before a byte
+  abbrev ends_no_word : ℕ → List ℕ → ℕ → Bool
+  ends_no_word b bytes c = cond (is_number (b ∷ bytes)) (not (is_ascii_digit c)) (ends_symbol lexicon.symbols (b ∷ bytes) c)
+
   -- a token that ends before a byte is no beginning of a longer piece
-  no_longer : (bytes : List ℕ) (c : ℕ) (more : List ℕ) → is_token lexicon bytes ≡ true → ends_before lexicon bytes c ≡ true → is_piece lexicon (bytes ++ c ∷ more) ≡ true → ⊥
+  no_longer : (bytes : List ℕ) (c : ℕ) (more : List ℕ) → is_token lexicon bytes ≡ true → ends_before lexicon bytes c ≡ true
+      → is_piece lexicon (bytes ++ c ∷ more) ≡ true → ⊥
   no_longer [] c more is ends longer = nothing_is_no_piece lexicon (or_right (is_blank lexicon []) (is_token lexicon []) is)
   no_longer (b ∷ bytes) c more is ends longer = by_kind (kind_of lexicon orderly b (bytes ++ c ∷ more) longer)
     where
@@ -86,22 +93,22 @@ module _ (lexicon : Lexicon) (orderly : is_orderly lexicon ≡ true) where
       by_kind (Kind.word w letter) =
           let word_bytes : list_all is_word_byte (bytes ++ c ∷ more) ≡ true = (and_parts (is_ascii_alphabetic b) _ w).1 in
           let word : is_word (b ∷ bytes) ≡ true = and_from (is_ascii_alphabetic b) (list_all is_word_byte bytes) letter (all_front is_word_byte bytes (c ∷ more) word_bytes) in
-          let stop : not (is_word_byte c) ≡ true = subst (λ t. cond t (not (is_word_byte c)) (cond (is_number (b ∷ bytes)) (not (is_ascii_digit c)) (ends_symbol lexicon.symbols (b ∷ bytes) c)) ≡ true) word ends in
+          let stop : not (is_word_byte c) ≡ true = subst (λ t. cond t (not (is_word_byte c)) (ends_no_word b bytes c) ≡ true) word ends in
           both_ways (is_word_byte c) (not-true _ stop) (all_behind is_word_byte bytes c more word_bytes)
       by_kind (Kind.number w digit) =
           let no_word : is_word (b ∷ bytes) ≡ false = and_left (is_ascii_alphabetic b) (list_all is_word_byte bytes) (no_letter b digit) in
           let digits : list_all is_ascii_digit (bytes ++ c ∷ more) ≡ true = (and_parts (is_ascii_digit b) _ w).1 in
           let number : is_number (b ∷ bytes) ≡ true = and_from (is_ascii_digit b) (list_all is_ascii_digit bytes) digit (all_front is_ascii_digit bytes (c ∷ more) digits) in
-          let rest : cond (is_number (b ∷ bytes)) (not (is_ascii_digit c)) (ends_symbol lexicon.symbols (b ∷ bytes) c) ≡ true =
-          subst (λ t. cond t (not (is_word_byte c)) (cond (is_number (b ∷ bytes)) (not (is_ascii_digit c)) (ends_symbol lexicon.symbols (b ∷ bytes) c)) ≡ true) no_word ends in
+          let rest : ends_no_word b bytes c ≡ true =
+          subst (λ t. cond t (not (is_word_byte c)) (ends_no_word b bytes c) ≡ true) no_word ends in
           let stop : not (is_ascii_digit c) ≡ true = subst (λ t. cond t (not (is_ascii_digit c)) (ends_symbol lexicon.symbols (b ∷ bytes) c) ≡ true) number rest in
           both_ways (is_ascii_digit c) (not-true _ stop) (all_behind is_ascii_digit bytes c more digits)
       by_kind (Kind.symbol w free) =
           let others = symbol_byte_is_no_other b free in
           let no_word : is_word (b ∷ bytes) ≡ false = and_left (is_ascii_alphabetic b) (list_all is_word_byte bytes) others.2 in
           let no_number : is_number (b ∷ bytes) ≡ false = and_left (is_ascii_digit b) (list_all is_ascii_digit bytes) others.3 in
-          let rest : cond (is_number (b ∷ bytes)) (not (is_ascii_digit c)) (ends_symbol lexicon.symbols (b ∷ bytes) c) ≡ true =
-          subst (λ t. cond t (not (is_word_byte c)) (cond (is_number (b ∷ bytes)) (not (is_ascii_digit c)) (ends_symbol lexicon.symbols (b ∷ bytes) c)) ≡ true) no_word ends in
+          let rest : ends_no_word b bytes c ≡ true =
+          subst (λ t. cond t (not (is_word_byte c)) (ends_no_word b bytes c) ≡ true) no_word ends in
           let stop : ends_symbol lexicon.symbols (b ∷ bytes) c ≡ true = subst (λ t. cond t (not (is_ascii_digit c)) (ends_symbol lexicon.symbols (b ∷ bytes) c) ≡ true) no_number rest in
           longer_symbol lexicon.symbols (b ∷ bytes) c more stop w
 
@@ -119,7 +126,8 @@ module _ (lexicon : Lexicon) (orderly : is_orderly lexicon ≡ true) where
       let later = goes_on front behind other rest tail (omega arith) in
       (later.0, later.1, (λ i. sym head i ∷ later.2 i), later.3)
 
-  longest_if : (bytes behind : List ℕ) → is_piece lexicon bytes ≡ true → ((c : ℕ) (more rest : List ℕ) → behind ≡ c ∷ rest → is_piece lexicon (bytes ++ c ∷ more) ≡ true → ⊥)
+  longest_if : (bytes behind : List ℕ) → is_piece lexicon bytes ≡ true
+      → ((c : ℕ) (more rest : List ℕ) → behind ≡ c ∷ rest → is_piece lexicon (bytes ++ c ∷ more) ≡ true → ⊥)
       → IsLongest lexicon bytes (bytes ++ behind)
   longest_if bytes behind is ends =
       record {
@@ -145,7 +153,8 @@ module _ (lexicon : Lexicon) (orderly : is_orderly lexicon ≡ true) where
       by_kind (Kind.symbol w free) = both_ways (is_white b) (symbol_byte_is_no_other b free).0 blank
 
   -- the first byte of some pieces, where there are such
-  begin_with : (pieces : List Piece) (next c : ℕ) (rest : List ℕ) → IsLaidOut lexicon pieces next → concat (map bytes_in pieces) ++ [] ≡ c ∷ rest → first_byte pieces next ≡ c
+  begin_with : (pieces : List Piece) (next c : ℕ) (rest : List ℕ) → IsLaidOut lexicon pieces next → concat (map bytes_in pieces) ++ [] ≡ c ∷ rest
+      → first_byte pieces next ≡ c
   begin_with [] next c rest h same = absurd (omega (arith, ap length same))
   begin_with (Blank b ∷ pieces) next c rest h same = cc
   begin_with (Text [] ∷ pieces) next c rest h same = absurd (nothing_is_no_piece lexicon (or_right (is_blank lexicon []) (is_token lexicon []) h.0.0))
@@ -183,13 +192,18 @@ module _ (lexicon : Lexicon) (orderly : is_orderly lexicon ≡ true) where
         | inr w ↦ both_ways (nat_eq b 47) dark.slash (comment_first b bytes (and_parts lexicon.comments (is_comment piece) w).1)
       ])
 
-  pub tokens_are : (pieces : List Piece) (start next : ℕ) → IsLaidOut lexicon pieces next → tokens_from lexicon start (map bytes_in pieces) ≡ tokens_at start pieces
+  -- the tokens of a piece at an offset, and of later ones
+  abbrev with_piece : ℕ → List ℕ → List Token → Bool → List Token
+  with_piece start piece later blank = cond blank later (record { bytes = piece; start = start } ∷ later)
+
+  pub tokens_are : (pieces : List Piece) (start next : ℕ) → IsLaidOut lexicon pieces next
+      → tokens_from lexicon start (map bytes_in pieces) ≡ tokens_at start pieces
   tokens_are [] start next h = refl
   tokens_are (Blank b ∷ pieces) start next h =
-      ap (λ w. cond w (tokens_from lexicon (start + 1) (map bytes_in pieces)) (record { bytes = b ∷ []; start = start } ∷ tokens_from lexicon (start + 1) (map bytes_in pieces))) (or_left (is_white b) _ h.0)
+      ap (with_piece start (b ∷ []) (tokens_from lexicon (start + 1) (map bytes_in pieces))) (or_left (is_white b) _ h.0)
       ∙ tokens_are pieces (start + 1) next h.1
   tokens_are (Text bytes ∷ pieces) start next h =
-      ap (λ w. cond w (tokens_from lexicon (start + length bytes) (map bytes_in pieces)) (record { bytes = bytes; start = start } ∷ tokens_from lexicon (start + length bytes) (map bytes_in pieces))) (token_is_no_blank bytes h.0.0)
+      ap (with_piece start bytes (tokens_from lexicon (start + length bytes) (map bytes_in pieces))) (token_is_no_blank bytes h.0.0)
       ∙ ap (λ tokens. record { bytes = bytes; start = start } ∷ tokens) (tokens_are pieces (start + length bytes) next h.1)
 
   nothing_begins_nothing : BeginsWithNoPiece lexicon []

@@ -1,5 +1,6 @@
 -- What is left of a text's items behind one of them.
-use Rattle.std.proofs.Common.{◌≡◌, ℕ, ◌+◌, ◌<◌, true, false, ◌||◌, List, [], ◌∷◌, ◌++◌, length, take, Option, Some, None, inl, inr, refl, sym, ap, subst, ◌∙◌, arith, length-append, append_assoc}
+use Rattle.std.proofs.Common.{◌≡◌, ℕ, ◌+◌, ◌<◌, false, ◌||◌, List, [], ◌∷◌, ◌++◌, length, take, Option, Some, None, inl, inr, refl, sym, ap, subst, ◌∙◌}
+use Rattle.std.proofs.Common.{arith, length-append}
 use Rattle.std.specs.Prelude.{unwrap_or, IfSome}
 use Rattle.std.specs.Iterator.{MakesProgress, at_most}
 use Rattle.std.specs.List.{concat}
@@ -7,7 +8,7 @@ use Rattle.std.proofs.lemmas.Bool.{or_parts, or_right, both_ways, false_from_ne_
 use Rattle.dcv_lexer.specs.declared.reading.Lexer.{Lexer}
 use Rattle.dcv_lexer.specs.declared.reading.Lexeme.{Lexeme}
 use Rattle.dcv_lexer.specs.Lexicon.{Lexicon, texts_of, is_one_of, is_word, is_number, is_symbol, is_blank, is_token, class_in}
-use Rattle.dcv_lexer.specs.Cuts.{BeginsWithNoPiece, Token, tokens_from}
+use Rattle.dcv_lexer.specs.Cuts.{BeginsWithNoPiece, Token}
 use Rattle.dcv_lexer.specs.Reading.{seen, lexicon_in, HasTokens, GivesOne, GivesNone}
 use Rattle.dcv_lexer.proofs.Cuts.{piece_has_bytes, cut_nothing}
 use Rattle.dcv_lexer.proofs.ClassTables.{some_or_none, text_there}
@@ -24,10 +25,12 @@ abbrev pub left_in : Lexer → List Token
 left_in lexer = items_from (lexicon_in lexer) lexer.start lexer.rest.now
 
 -- where the rest behind the tokens begins
-behind : (lexer : Lexer) (tokens : List Token) (rest : List ℕ) (h : HasTokens lexer tokens rest) → lexer.start + length (concat h.pieces) + length rest ≡ lexer.start + length lexer.rest.now
+behind : (lexer : Lexer) (tokens : List Token) (rest : List ℕ) (h : HasTokens lexer tokens rest)
+    → lexer.start + length (concat h.pieces) + length rest ≡ lexer.start + length lexer.rest.now
 behind lexer tokens rest h = omega (arith, ap length h.cut.whole ∙ length-append (concat h.pieces) rest)
 
-left_is : (lexer : Lexer) (tokens : List Token) (rest : List ℕ) (h : HasTokens lexer tokens rest) → left_in lexer ≡ tokens ++ stray_from (lexer.start + length (concat h.pieces)) rest
+left_is : (lexer : Lexer) (tokens : List Token) (rest : List ℕ) (h : HasTokens lexer tokens rest)
+    → left_in lexer ≡ tokens ++ stray_from (lexer.start + length (concat h.pieces)) rest
 left_is lexer tokens rest h =
     items_are (lexicon_in lexer) lexer.rest.now rest h.pieces lexer.start h.cut
     ∙ ap (λ (ts : List Token). ts ++ stray_from (lexer.start + length (concat h.pieces)) rest) (sym h.among)
@@ -91,7 +94,8 @@ pub record IsStray (old : Lexer) (bytes : List ℕ) (new : Lexer) : Type 0 where
   pub item : left_in old ≡ record { bytes = bytes; start = old.start } ∷ left_in new
   pub class : class_of (lexicon_in old) bytes ≡ (lexicon_in old).unknown
 
-pub is_stray : (old new : Lexer) → BeginsWithNoPiece (lexicon_in old) old.rest.now → 0 < length old.rest.now → new.rest.now ≡ [] → IsStray old (take 1 old.rest.now) new
+pub is_stray : (old new : Lexer) → BeginsWithNoPiece (lexicon_in old) old.rest.now → 0 < length old.rest.now → new.rest.now ≡ []
+    → IsStray old (take 1 old.rest.now) new
 is_stray old new none some empty = by_rest old.rest.now refl
   where
     by_rest : (rest : List ℕ) → old.rest.now ≡ rest → IsStray old (take 1 rest) new

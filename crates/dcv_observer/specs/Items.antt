@@ -2,7 +2,7 @@
 --     HasItems lexicon text items             these are the text's tokens; a byte with which no piece begins is the last
 --     IsSentenceText lexicon grammar text     the classes of its items are a sentence
 --     IsSyntaxFault lexicon grammar text at   the items up to the one at this offset begin no sentence, or end too early
-use Rattle.std.specs.Prelude.{◌≡◌, ℕ, ◌+◌, List, [], ◌∷◌, ◌++◌, Option, Some, None, length, map, slice_get}
+use Rattle.std.specs.Prelude.{◌≡◌, ℕ, List, [], ◌∷◌, ◌++◌, Option, Some, None, length, map, slice_get}
 use Rattle.std.specs.List.{concat}
 use Rattle.std.specs.Option.{option_map_or}
 use Rattle.dcv_grammar.specs.Grammar.{ContextFree, IsSentence, IsFaultAt}

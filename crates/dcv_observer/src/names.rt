@@ -1,11 +1,12 @@
 // The names that are declared in a text, each with its place.
-ghost use Rattle.std.specs.Prelude.{◌≡◌, [], IfOk};
+ghost use Rattle.std.specs.Prelude.{◌≡◌, [], IfOk, OnErr};
 
 use indexmap::IndexSet;
 use std::alloc::{AllocError, Global};
 use std::marker::Model;
 
-/// The names that are declared so far, each a part of the text, in order.
+/// The names that are declared so far, each a part of the text, in order. The first has the place 0, and each is found by its
+/// hash.
 #[derive(Drop)]
 pub struct Declared<'a> {
     names: IndexSet<&'a [u8]>,
@@ -32,7 +33,7 @@ impl<'a> Declared<'a> {
         }
     }
 
-    /// Where a name stands among them.
+    /// The place of a name, and none where it is not declared.
     pub fn place_of(&self, name: &[u8]) -> Option<usize>
         ensures { result ≡ position (bytes_eq name.now) self.now }
     {
@@ -43,6 +44,7 @@ impl<'a> Declared<'a> {
     pub fn declare(&mut self, name: &'a [u8]) -> Result<bool, AllocError>
         ensures new { IfOk result (λ new. new ≡ not (list_any (bytes_eq name.now) self.old)) }
         ensures names { IfOk result (λ new. self.new ≡ if new then self.old ++ name.now ∷ [] else self.old) }
+        ensures failed { OnErr result (self.new ≡ self.old) }
     {
         let (_, new) = self.names.insert_full(name)?;
         Ok(new)

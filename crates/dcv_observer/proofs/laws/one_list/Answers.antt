@@ -1,6 +1,5 @@
 use Rattle.dcv_observer.specs.Left.{items_from}
 use Rattle.dcv_observer.proofs.Cutting.{has_items, one_list}
-use Rattle.dcv_observer.proofs.Lefts.{gives_token}
 use Rattle.dcv_observer.proofs.laws.one_list.Goals as goal
 
 pub returns-clause-exists : goal.returns-clause-exists
