@@ -81,7 +81,7 @@ silent_refusal P Length silent = silent
 silent_refusal P (Text fault at) silent = silent
 silent_refusal P (Budget over) silent = silent
 silent_refusal P Write silent = tt
-silent_refusal P Memory silent = tt
+silent_refusal P Memory silent = silent
 
 pub silent_refused : (P : Type 0) (refusal : Refusal) (status : Status) → status ≡ status_of refusal
     → OnFalse (is_write_refusal {T = Status} (Err refusal)) P → OnTrue (is_silent status || is_input status) P

@@ -1,10 +1,11 @@
 -- What is made of the automaton is what the request asks for, of each set whose automaton it is.
-use Rattle.std.proofs.Common.{List, subst, sym, ap, ◌∙◌, arith}
+use Rattle.std.proofs.Common.{List, subst, ◌∙◌}
+use Rattle.std.specs.Prelude.{IfOk}
 use Rattle.std.proofs.lemmas.List.{length-map}
 use Rattle.dcv_syntax.specs.declared.names.Name.{Name}
 use Rattle.dcv_command.specs.Seen.{asked_by}
 use Rattle.dcv_print.specs.Printed.{texts_of}
-use Rattle.dcv_print.specs.Report.{ReportValue, Says}
+use Rattle.dcv_print.specs.Report.{Says}
 use Rattle.dcv_cli.proofs.Automata.{report_answers}
 use Rattle.dcv_cli.proofs.judged.report_on.Goals as goal
 
@@ -21,4 +22,5 @@ returns c k L of =
       states = c.requires.states;
       nodes = c.requires.nodes;
     })
-    k L of (asked_by c.args.request) c.kind_of.result c.make.result c.kind_of.ensures c.make.ensures.verdict c.make.ensures.says
+    k L of (asked_by c.args.request) c.kind_of.result c.make.result c.kind_of.ensures c.make.ensures.verdict
+    (subst (λ (names : List Name). IfOk c.make.result (Says c.kind_of.result judged.auto (texts_of names))) c.deref.ensures.value c.make.ensures.says)

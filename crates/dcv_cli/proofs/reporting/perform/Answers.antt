@@ -1,6 +1,6 @@
 -- What is right for the text of the file is right for the request.
-use Rattle.std.proofs.Common.{◌≡◌, ◌∙◌, ℕ, List, Some, Err, Vec, Global, refl, ap, subst}
-use Rattle.std.specs.Prelude.{IfSome}
+use Rattle.std.proofs.Common.{◌≡◌, ◌∙◌, ℕ, List, Some, Err, Vec, Global, refl, sym, ap, subst}
+use Rattle.std.specs.Prelude.{IfSome, IsTrue}
 use Rattle.dcv_io.specs.Disk.{held_of, WhereTold, ReadsPast}
 use Rattle.dcv_io.specs.Taking.{IfTooLong}
 use Rattle.std.proofs.lemmas.Result.{err_from_is_err_and}
@@ -9,7 +9,8 @@ use Rattle.dcv_cli.specs.Report.{IsReport}
 use Rattle.dcv_command.specs.Request.{limits_in}
 use Rattle.dcv_command.specs.Seen.{asked_by}
 use Rattle.dcv_cli.specs.Judged.{IsJudged}
-use Rattle.dcv_cli.specs.Status.{status_of_verdict}
+use Rattle.dcv_cli.specs.declared.status.Status.{Status}
+use Rattle.dcv_cli.specs.Status.{is_answer, status_of_verdict}
 use Rattle.dcv_cli.specs.Ending.{IsExplained}
 use Rattle.dcv_cli.specs.FormulaFile.{OnText}
 use Rattle.dcv_cli.specs.Refusal.{most_bytes, Only}
@@ -74,7 +75,9 @@ returns-clause-ok g c =
     c.in_ok-send.ensures.ok
 
 pub returns-clause-answer : goal.returns-clause-answer
-returns-clause-answer g c = rw (c.of.ensures, c.verdict.ensures) (answer_of_verdict c.in_ok-report.report.verdict)
+returns-clause-answer g c =
+    subst (λ (status : Status). IsTrue (is_answer status)) (sym (c.of.ensures ∙ ap status_of_verdict c.verdict.ensures))
+    (answer_of_verdict c.in_ok-report.report.verdict)
 
 pub returns-clause-front : goal.returns-clause-front
 returns-clause-front g c =
