@@ -1,6 +1,6 @@
 // Runs of the command `automaton` with their whole output, and of both commands with limits that are met exactly and missed by one.
 // The suffixes of these texts are the only ones that there can be.
-use crate::tests::{SOMETIMES, WHOLE, expect};
+use crate::runs::{SOMETIMES, WHOLE, expect};
 use std::test::Fail;
 
 const EACH_BEHAVIOUR: &str =
