@@ -1,6 +1,7 @@
 pub mod Grammar
 pub mod Examples
 pub mod Lookups
+pub mod GoodNames
 pub mod ObservedFiles
 pub mod Runs
 pub mod OneTrace

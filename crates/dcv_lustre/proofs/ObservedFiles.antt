@@ -25,6 +25,7 @@ use Rattle.dcv_automaton_text.proofs.GoodFiles.{IsGoodNode, IsGoodState, IsGoodF
 use Rattle.dcv_automaton_file.specs.File.{target_of, node_line, state_line, file_of}
 use Rattle.dcv_automaton_file.specs.Laws.{HasFile}
 use Rattle.dcv_lustre.specs.Rules.{is_among}
+use Rattle.dcv_lustre.proofs.GoodNames.{name_kept}
 use Rattle.dcv_lustre.proofs.Lookups.{is_itself}
 
 abbrev pub IsBelow : ℕ → ℕ → Target → Type 0
@@ -100,8 +101,8 @@ module _ (file : AutomatonFile) (is : IsGoodFile file) where
   good_row : (k : ℕ) (line : StateLine) → IsGoodState file k line → GoodRow (length file.state_lines) (length file.node_lines) k line
   good_row k line good = record { number_is = good.number; row = row_below line.row good.row }
 
-  names_are : AreNames file.names
-  names_are =
+  names_are : IsGood file → AreNames file.names
+  names_are good =
       record {
         count = is.names;
         each = λ k d within.
@@ -109,7 +110,7 @@ module _ (file : AutomatonFile) (is : IsGoodFile file) where
             subst IsPlainName default (plain k within);
         differ = λ i j d before within same_name.
             let there : get_or file.names i [] ≡ get_or file.names j [] = same i d (omega arith) ∙ same_name ∙ sym (same j d within) in
-            let parts = and_parts _ (not (is_listed (take j file.names) (get_or file.names j []))) (is.name j within) in
+            let parts = and_parts _ (not (is_listed (take j file.names) (get_or file.names j []))) (name_kept file good j within) in
             let size = length-take-le j file.names (omega arith) in
             let again = list_any_at (bytes_eq (get_or file.names j [])) (take j file.names) i [] (omega (arith, size, before))
             (ap (bytes_eq (get_or file.names j [])) (get_or-take j file.names i [] before ∙ there) ∙ is_itself (get_or file.names j [])) in
@@ -131,7 +132,7 @@ module _ (file : AutomatonFile) (is : IsGoodFile file) where
       plain : (k : ℕ) → k < length file.names → IsPlainName (get_or file.names k [])
       plain k within =
           let name = get_or file.names k [] in
-          let one = and_parts _ (not (is_listed (take k file.names) name)) (is.name k within) in
+          let one = and_parts _ (not (is_listed (take k file.names) name)) (name_kept file good k within) in
           let two = and_parts _ (nat_le (length name) 24) one.0 in
           let three = and_parts (nat_lt k most_names) _ two.0 in
           record { form = three.1; short = leb-true (length name) 24 two.1 }
@@ -140,7 +141,7 @@ pub good_is_observable : (file : AutomatonFile) → IsGood file → IsObservable
 good_is_observable file good =
     let is = good_file file good in
     record {
-      names = names_are file is;
+      names = names_are file is good;
       lines = lines_from file.names (length file.state_lines) file.node_lines 0 (λ k d within.
           subst (λ n. GoodLine file.names (length file.state_lines) n (get_or file.node_lines k d)) (let here : k ≡ 0 + k = omega arith in here)
           (good_line file is k (get_or file.node_lines k d) (is.node k d within)));

@@ -24,7 +24,7 @@ use Rattle.dcv_lustre.proofs.OneNode.{one_node}
 
 -- a text that spells a node is a sentence
 sentence : (text : List ℕ) (placed : PlacedNode) → Spells text placed → IsSentenceText lexicon language text
-sentence text placed (items, has, tree, is, stands) = (
+sentence text placed (items, has, (tree, is, stands)) = (
   items,
   has,
   subst (λ items. IsSentence language (map (token_class lexicon) items)) is.whole (derives_leaves language (token_class lexicon) _ tree is.derived),
