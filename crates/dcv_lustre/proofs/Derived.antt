@@ -1,7 +1,7 @@
 -- What is laid out of a node has a derivation that stands for it.
 use Rattle.std.proofs.Common.{◌≡◌, ℕ, ◌+◌, ◌*◌, ◌<◌, ◌^◌, true, false, cond, ◌||◌, ◌⊎◌, nat_eq, List, [], ◌∷◌, ◌++◌, Option, Some, None, length, map}
 use Rattle.std.proofs.Common.{fold, inl, inr, refl, sym, ap, subst, ◌∙◌, arith, append_assoc, codes, decimal}
-use Rattle.std.specs.Prelude.{bytes_eq, unwrap_or}
+use Rattle.std.specs.Prelude.{bytes_eq}
 use Rattle.std.specs.List.{AllByRecursion, flat_map, list_all}
 use Rattle.std.specs.Char.{is_ascii_alphabetic, is_ascii_digit, digit_value}
 use Rattle.std.specs.Str.Parse.{AllDigits, digits_value_after}

@@ -1,5 +1,5 @@
 -- How clauses see a node of the code, in which a name stands by its place: the inputs first, then the output, then the locals.
-use Rattle.std.specs.Prelude.{ℕ, List, [], ◌∷◌, ◌++◌, map, slice_index_or}
+use Rattle.std.specs.Prelude.{ℕ, List, ◌∷◌, ◌++◌, map}
 pub use Rattle.dcv_observer.specs.Conditions.{Names, name_at, seen_condition, seen_test}
 use Rattle.dcv_lustre.specs.declared.node.Value.{Value as CodeValue}
 use Rattle.dcv_lustre.specs.declared.node.Value.TheVariants.{Truth as CodeTruth, Number as CodeNumber}
@@ -12,7 +12,7 @@ use Rattle.dcv_lustre.specs.declared.node.Right.{Right as CodeRight}
 use Rattle.dcv_lustre.specs.declared.node.Right.TheVariants.{Delayed as CodeDelayed, Chosen as CodeChosen, Tested as CodeTested}
 use Rattle.dcv_lustre.specs.declared.node.Equation.{Equation as CodeEquation}
 use Rattle.dcv_lustre.specs.declared.node.Local.{Local as CodeLocal}
-use Rattle.dcv_lustre.specs.Tree.{Value, Truth, Number, Kind, OfTruth, OfNumber, Item, Constant, Named, Condition, Holds, Equals, Arm, Test, Right}
+use Rattle.dcv_lustre.specs.Tree.{Value, Truth, Number, Kind, OfTruth, OfNumber, Item, Constant, Named, Arm, Right}
 use Rattle.dcv_lustre.specs.Tree.{Delayed, Chosen, Tested, Equation, Local, Node}
 use Rattle.dcv_lustre.specs.Meaning.{ok}
 use Rattle.dcv_lustre.specs.Rules.{IsWellNamed}
