@@ -3,3 +3,4 @@ pub mod Cutting
 pub mod Lefts
 pub mod Faults
 pub mod LaidOut
+pub mod Limits

@@ -6,11 +6,13 @@
 //! text is at fault where its items are. `syntax_fault` goes through a text once and keeps no items.
 #![tactic(auto)]
 
+mod conditions;
 mod items;
 pub mod laws;
 mod names;
 mod syntax;
 
+pub use conditions::{Condition, Test};
 pub use items::{Item, Items, LARGEST_NUMBER, LONGEST_WORD, NAME, NUMBER, UNKNOWN};
 pub use names::Declared;
 pub use syntax::syntax_fault;

@@ -1,0 +1,328 @@
+-- What is laid out of a node has a derivation that stands for it.
+use Rattle.std.proofs.Common.{◌≡◌, ℕ, ◌+◌, ◌*◌, ◌<◌, ◌^◌, true, false, cond, ◌||◌, ◌⊎◌, nat_eq, List, [], ◌∷◌, ◌++◌, Option, Some, None, length, map}
+use Rattle.std.proofs.Common.{fold, inl, inr, refl, sym, ap, subst, ◌∙◌, arith, append_assoc, codes, decimal}
+use Rattle.std.specs.Prelude.{bytes_eq}
+use Rattle.std.specs.List.{AllByRecursion, flat_map, list_all}
+use Rattle.std.specs.Char.{is_ascii_alphabetic, is_ascii_digit, digit_value}
+use Rattle.std.specs.Str.Parse.{AllDigits, digits_value_after}
+use Rattle.std.proofs.lemmas.Bool.{and_parts, and_from, and_left, or_left, or_from, false≢true, or_cases, false_from_ne_true, eqb-true, le-leb}
+use Rattle.std.proofs.lemmas.Fmt.{decimal_nonempty, decimal_is_IsNumeral}
+use Rattle.std.proofs.lemmas.Slice.Eq.{bytes_eq-Decides}
+use Rattle.std.proofs.lemmas.Str.{digit_value_digit}
+use Rattle.std.proofs.lemmas.Str.Parse.{digit_from_value}
+use Rattle.dcv_grammar.specs.declared.grammar.Symbol.TheVariants.{Class, Rule}
+use Rattle.dcv_lexer.specs.Lexicon.{is_word_byte, is_word, is_number}
+use Rattle.dcv_lexer.specs.Cuts.{Token}
+use Rattle.dcv_lexer.specs.Decimal.{with_digit, value_of}
+use Rattle.dcv_lexer.proofs.FirstBytes.{letter_above, digit_within}
+use Rattle.dcv_automaton_text.proofs.Words.{digits_are}
+use Rattle.dcv_observer.specs.Classes.{name as plain_name, number, is_short_word, is_small_number, class_of}
+use Rattle.dcv_observer.proofs.Limits.{small_number}
+use Rattle.dcv_observer.specs.Pieces.{Piece, Blank, Text, bytes_of, tokens_at}
+use Rattle.dcv_lustre.specs.Classes.{lexicon, word_ok, word_if, word_then, word_else}
+use Rattle.dcv_lustre.specs.Tree.{Value, Truth, Number, Item, Constant, Named, Condition, Holds, Equals, Arm, Test, Right, Delayed, Chosen, Tested}
+use Rattle.dcv_lustre.specs.Placed.{is_true_word, value_at, is_constant, item_at, condition_of, arm_of, test_of, right_of, PlacedRight, PlacedDelayed}
+use Rattle.dcv_lustre.specs.Placed.{PlacedChosen, PlacedTested, PlacedArm, PlacedTest}
+use Rattle.dcv_lustre.specs.Language as rules
+use Rattle.dcv_lustre.specs.Language.{language}
+use Rattle.dcv_lustre.specs.Actions.{AToken, ARight, Compared, Choice, ATest, Tests}
+use Rattle.dcv_lustre.specs.Form.{IsName, IsNumber, IsValue, IsItem, IsCondition, IsArm, IsTest, IsRight}
+use Rattle.dcv_lustre.specs.Layout.{value_text, item_text}
+use Rattle.dcv_lustre.proofs.NodePieces.{condition_pieces, arm_pieces, test_pieces, right_pieces}
+use Rattle.dcv_lustre.proofs.Spelt.{Spelt, none, by_token, by_rule, then, tokens_append}
+
+abbrev at : ℕ → List ℕ → Token
+at start bytes = record { bytes = bytes; start = start }
+
+-- ---- words and numbers
+
+name_class : (name : List ℕ) → IsName name → (class_of lexicon name ≡ plain_name) ⊎ (class_of lexicon name ≡ word_ok)
+name_class name is =
+    let parts = and_parts (is_short_word name) _ is in
+    elim (or_cases (nat_eq (class_of lexicon name) plain_name) (nat_eq (class_of lexicon name) word_ok) parts.1) [
+      | inl plain ↦ inl (eqb-true (class_of lexicon name) plain_name plain)
+      | inr ok ↦ inr (eqb-true (class_of lexicon name) word_ok ok)
+    ]
+
+pub name_spelt : (start : ℕ) (name : List ℕ) → IsName name → Spelt (Rule rules.name ∷ []) (at start name ∷ []) (AToken (at start name) ∷ [])
+unfolding language
+name_spelt start name is =
+    elim (name_class name is) [
+      | inl plain ↦ by_rule rules.name (0, omega arith, refl) (by_token (at start name) plain none)
+      | inr ok ↦ by_rule rules.name (1, omega arith, refl) (by_token (at start name) ok none)
+    ]
+
+-- the value of digits
+value_is : (value : ℕ) (digits : List ℕ) → AllDigits 10 digits → fold with_digit value digits ≡ digits_value_after 10 value digits
+value_is value [] d = refl
+value_is value (c ∷ digits) d =
+    let k = digit_from_value c d.0 in
+    let same : with_digit value c ≡ value * 10 + digit_value c = omega (arith, digit_value_digit c k) in
+    ap (λ v. fold with_digit v digits) same ∙ value_is (value * 10 + digit_value c) digits d.1
+
+value_of_decimal : (n : ℕ) → n < 2 ^ 64 → value_of (decimal n) ≡ n
+value_of_decimal n small = let is = decimal_is_IsNumeral n small in value_is 0 (decimal n) is.0.1 ∙ is.1
+
+digits_are_no_word : (bytes : List ℕ) → 0 < length bytes → list_all is_ascii_digit bytes ≡ true → (is_word bytes ≡ false) × (is_number bytes ≡ true)
+digits_are_no_word [] some digits = absurd (omega arith)
+digits_are_no_word (b ∷ bytes) some digits =
+    let digit = (and_parts (is_ascii_digit b) (list_all is_ascii_digit bytes) digits).0 in
+    let no_letter : is_ascii_alphabetic b ≡ false = false_from_ne_true (is_ascii_alphabetic b) (λ letter. omega (arith, letter_above b letter, digit_within b digit)) in
+    (and_left (is_ascii_alphabetic b) (list_all is_word_byte bytes) no_letter, digits)
+
+decimal_is : (n : ℕ) → IsNumber n → (is_word (decimal n) ≡ false) × (is_number (decimal n) ≡ true)
+decimal_is n small = digits_are_no_word (decimal n) (decimal_nonempty n (omega arith)) (digits_are n (omega arith))
+
+number_class : (n : ℕ) → IsNumber n → class_of lexicon (decimal n) ≡ number
+unfolding lexicon
+number_class n small =
+    let kind = decimal_is n small in
+    let within : is_small_number (decimal n) ≡ true =
+    and_from (is_number (decimal n)) _ kind.1 (le-leb (value_of (decimal n)) 32767 (omega (arith, value_of_decimal n (omega arith), small))) in
+    small_number lexicon (decimal n) kind.0 within
+
+-- ---- constants and items
+
+pub record ValueSpelt (start : ℕ) (value : Value) : Type 0 where
+  pub spelt : Spelt (Rule rules.literal ∷ []) (at start (value_text value) ∷ []) (AToken (at start (value_text value)) ∷ [])
+  pub value_is : value_at (at start (value_text value)) ≡ value
+  pub constant : is_constant (value_text value) ≡ true
+
+value_spelt : (start : ℕ) (value : Value) → IsValue value → ValueSpelt start value
+unfolding language lexicon
+value_spelt start (Truth true) is =
+    record { spelt = by_rule rules.literal (2, omega arith, refl) (by_token (at start (codes "true")) refl none); value_is = refl; constant = refl }
+value_spelt start (Truth false) is =
+    record { spelt = by_rule rules.literal (0, omega arith, refl) (by_token (at start (codes "false")) refl none); value_is = refl; constant = refl }
+value_spelt start (Number n) is =
+    let kind = decimal_is n is in
+    record {
+      spelt = by_rule rules.literal (1, omega arith, refl) (by_token (at start (decimal n)) (number_class n is) none);
+      value_is =
+          ap (λ d. cond d (Number (value_of (decimal n))) (Truth (is_true_word (decimal n)))) kind.1
+          ∙ ap Number (value_of_decimal n (omega arith));
+      constant = or_left (is_number (decimal n) || is_true_word (decimal n)) _ (or_left (is_number (decimal n)) _ kind.1);
+    }
+
+word_is_no_number : (bytes : List ℕ) → is_word bytes ≡ true → is_number bytes ≡ false
+word_is_no_number [] word = refl
+word_is_no_number (b ∷ bytes) word =
+    let letter = (and_parts (is_ascii_alphabetic b) (list_all is_word_byte bytes) word).0 in
+    and_left (is_ascii_digit b) (list_all is_ascii_digit bytes) (false_from_ne_true (is_ascii_digit b) (λ digit. omega (arith, letter_above b letter, digit_within b digit)))
+
+-- a name is no constant
+name_is_no_constant : (name : List ℕ) → IsName name → is_constant name ≡ false
+unfolding lexicon
+name_is_no_constant name is =
+    or_from (is_number name || is_true_word name) (bytes_eq name (codes "false"))
+    (or_from (is_number name) (is_true_word name) (word_is_no_number name (and_parts _ _ (and_parts (is_short_word name) _ is).0).0)
+    (false_from_ne_true (is_true_word name) (λ same. false≢true (subst IsName ((bytes_eq-Decides name (codes "true")).0 same) is))))
+    (false_from_ne_true (bytes_eq name (codes "false")) (λ same. false≢true (subst IsName ((bytes_eq-Decides name (codes "false")).0 same) is)))
+
+pub record ItemSpelt (start : ℕ) (item : Item) : Type 0 where
+  pub spelt : Spelt (Rule rules.item ∷ []) (at start (item_text item) ∷ []) (AToken (at start (item_text item)) ∷ [])
+  pub item_is : item_at (at start (item_text item)) ≡ item
+
+item_spelt : (start : ℕ) (item : Item) → IsItem item → ItemSpelt start item
+unfolding language
+item_spelt start (Constant value) is =
+    let v = value_spelt start value is in
+    record {
+      spelt = by_rule rules.item (1, omega arith, refl) v.spelt;
+      item_is = ap (λ c. cond c (Constant (value_at (at start (value_text value)))) (Named (value_text value))) v.constant ∙ ap Constant v.value_is;
+    }
+item_spelt start (Named name) is =
+    record {
+      spelt = by_rule rules.item (0, omega arith, refl) (name_spelt start name is);
+      item_is = ap (λ c. cond c (Constant (value_at (at start name))) (Named name)) (name_is_no_constant name is);
+    }
+
+-- ---- conditions and arms
+
+pub record ConditionSpelt (start : ℕ) (condition : Condition) : Type 0 where
+  pub name : Token
+  pub number : Option Token
+  pub condition_is : condition_of name.bytes number ≡ condition
+  pub spelt : Spelt (Rule rules.condition ∷ []) (tokens_at start (condition_pieces condition)) (Compared name number ∷ [])
+
+condition_spelt : (start : ℕ) (condition : Condition) → IsCondition condition → ConditionSpelt start condition
+unfolding language lexicon
+condition_spelt start (Holds name) is =
+    record {
+      name = at start name;
+      number = None;
+      condition_is = refl;
+      spelt = by_rule rules.condition (0, omega arith, refl) (then (name_spelt start name is) (by_rule rules.compared (0, omega arith, refl) none));
+    }
+condition_spelt start (Equals name n) is =
+    record {
+      name = at start name;
+      number = Some (at _ (decimal n));
+      condition_is = ap (Equals name) (value_of_decimal n (omega (arith, is.1)));
+      spelt = by_rule rules.condition (0, omega arith, refl) (then (name_spelt start name is.0)
+          (by_rule rules.compared (1, omega arith, refl) (by_token _ refl (by_token _ (number_class n is.1) none))));
+    }
+
+pub record ArmSpelt (start : ℕ) (arm : Arm) : Type 0 where
+  pub placed : PlacedArm
+  pub arm_is : arm_of placed ≡ arm
+  pub if_word : Token
+  pub then_word : Token
+  pub else_word : Token
+  pub spelt : Spelt (Class word_if ∷ Rule rules.condition ∷ Class word_then ∷ Rule rules.item ∷ Class word_else ∷ []) (tokens_at start (arm_pieces arm))
+      (AToken if_word ∷ Compared placed.name placed.number ∷ AToken then_word ∷ AToken placed.item ∷ AToken else_word ∷ [])
+
+arm_spelt : (start : ℕ) (arm : Arm) → IsArm arm → ArmSpelt start arm
+unfolding lexicon
+arm_spelt start arm is =
+    let c = condition_spelt (start + 2 + 1) arm.condition is.condition in
+    let behind = start + 2 + 1 + length (bytes_of (condition_pieces arm.condition)) in
+    let i = item_spelt (behind + 1 + 4 + 1) arm.item is.item in
+    let item = at (behind + 1 + 4 + 1) (item_text arm.item) in
+    record {
+      placed = record { name = c.name; number = c.number; item = item };
+      arm_is = λ j. record { condition = c.condition_is j; item = i.item_is j };
+      if_word = at start (codes "if");
+      then_word = at (behind + 1) (codes "then");
+      else_word = at (behind + 1 + 4 + 1 + length (item_text arm.item) + 1) (codes "else");
+      spelt =
+          subst (λ tokens. Spelt (Class word_if ∷ Rule rules.condition ∷ Class word_then ∷ Rule rules.item ∷ Class word_else ∷ []) (at start (codes "if") ∷ tokens)
+          (AToken (at start (codes "if")) ∷ Compared c.name c.number ∷ AToken (at (behind + 1) (codes "then")) ∷ AToken item
+          ∷ AToken (at (behind + 1 + 4 + 1 + length (item_text arm.item) + 1) (codes "else")) ∷ []))
+          (sym (tokens_append (condition_pieces arm.condition) _ (start + 2 + 1)))
+          (by_token (at start (codes "if")) refl (then c.spelt (by_token (at (behind + 1) (codes "then")) refl (then i.spelt
+          (by_token (at (behind + 1 + 4 + 1 + length (item_text arm.item) + 1) (codes "else")) refl none)))));
+    }
+
+-- ---- choices
+
+pub record ChoiceSpelt (start : ℕ) (arms : List Arm) (otherwise : Item) : Type 0 where
+  pub placed : List PlacedArm
+  pub last : Token
+  pub arms_are : map arm_of placed ≡ arms
+  pub last_is : item_at last ≡ otherwise
+  pub spelt : Spelt (Rule rules.choice ∷ []) (tokens_at start (flat_map arm_pieces arms ++ Text (item_text otherwise) ∷ [])) (Choice placed last ∷ [])
+
+-- the tokens of an arm and what is behind it
+arm_first : (start : ℕ) (arm : Arm) (arms : List Arm) (last : List Piece)
+    → tokens_at start (flat_map arm_pieces (arm ∷ arms) ++ last) ≡ tokens_at start (arm_pieces arm) ++ tokens_at (start + length (bytes_of (arm_pieces arm))) (flat_map arm_pieces arms ++ last)
+arm_first start arm arms last =
+    ap (tokens_at start) (append_assoc (arm_pieces arm) (flat_map arm_pieces arms) last) ∙ tokens_append (arm_pieces arm) (flat_map arm_pieces arms ++ last) start
+
+choice_spelt : (arms : List Arm) (start : ℕ) (otherwise : Item) → AllByRecursion IsArm arms → IsItem otherwise → ChoiceSpelt start arms otherwise
+unfolding language
+choice_spelt [] start otherwise are is =
+    let i = item_spelt start otherwise is in
+    record { placed = []; last = at start (item_text otherwise); arms_are = refl; last_is = i.item_is; spelt = by_rule rules.choice (0, omega arith, refl) i.spelt }
+choice_spelt (arm ∷ arms) start otherwise are is =
+    let a = arm_spelt start arm are.0 in
+    let more = choice_spelt arms (start + length (bytes_of (arm_pieces arm))) otherwise are.1 is in
+    record {
+      placed = a.placed ∷ more.placed;
+      last = more.last;
+      arms_are = λ i. a.arm_is i ∷ more.arms_are i;
+      last_is = more.last_is;
+      spelt =
+          subst (λ tokens. Spelt (Rule rules.choice ∷ []) tokens (Choice (a.placed ∷ more.placed) more.last ∷ []))
+          (sym (arm_first start arm arms (Text (item_text otherwise) ∷ [])))
+          (by_rule rules.choice (1, omega arith, refl) (then a.spelt more.spelt));
+    }
+
+-- ---- tests
+
+pub record TestSpelt (start : ℕ) (test : Test) : Type 0 where
+  pub placed : PlacedTest
+  pub test_is : test_of placed ≡ test
+  pub spelt : Spelt (Rule rules.test ∷ []) (tokens_at start (test_pieces test)) (ATest placed ∷ [])
+
+test_spelt : (start : ℕ) (test : Test) → IsTest test → TestSpelt start test
+unfolding language lexicon
+test_spelt start test is =
+    let name = at (start + 1) test.name in
+    let number = at (start + 1 + length test.name + 1 + 1 + 1) (decimal test.number) in
+    record {
+      placed = record { name = name; number = number };
+      test_is = ap (λ n. record { name = test.name; number = n }) (value_of_decimal test.number (omega (arith, is.number)));
+      spelt = by_rule rules.test (0, omega arith, refl) (by_token _ refl (then (name_spelt (start + 1) test.name is.name) (by_token _ refl
+          (by_token number (number_class test.number is.number) (by_token _ refl none)))));
+    }
+
+abbrev or_test : Test → List Piece
+or_test test = Blank 32 ∷ Text (codes "or") ∷ Blank 32 ∷ test_pieces test
+
+pub record TestsSpelt (start : ℕ) (tests : List Test) : Type 0 where
+  pub placed : List PlacedTest
+  pub tests_are : map test_of placed ≡ tests
+  pub spelt : Spelt (Rule rules.more_tests ∷ []) (tokens_at start (flat_map or_test tests)) (Tests placed ∷ [])
+
+more_tests_spelt : (tests : List Test) (start : ℕ) → AllByRecursion IsTest tests → TestsSpelt start tests
+unfolding language lexicon
+more_tests_spelt [] start are = record { placed = []; tests_are = refl; spelt = by_rule rules.more_tests (0, omega arith, refl) none }
+more_tests_spelt (test ∷ tests) start are =
+    let first = start + 1 + 2 + 1 in
+    let t = test_spelt first test are.0 in
+    let more = more_tests_spelt tests (first + length (bytes_of (test_pieces test))) are.1 in
+    record {
+      placed = t.placed ∷ more.placed;
+      tests_are = λ i. t.test_is i ∷ more.tests_are i;
+      spelt =
+          subst (λ tokens. Spelt (Rule rules.more_tests ∷ []) (at (start + 1) (codes "or") ∷ tokens) (Tests (t.placed ∷ more.placed) ∷ []))
+          (sym (tokens_append (test_pieces test) (flat_map or_test tests) first))
+          (by_rule rules.more_tests (1, omega arith, refl) (by_token (at (start + 1) (codes "or")) refl (then t.spelt more.spelt)));
+    }
+
+-- ---- right sides
+
+pub record RightSpelt (start : ℕ) (right : Right) : Type 0 where
+  pub placed : PlacedRight
+  pub right_is : right_of placed ≡ right
+  pub spelt : Spelt (Rule rules.right ∷ []) (tokens_at start (right_pieces right)) (ARight placed ∷ [])
+
+pub right_spelt : (start : ℕ) (right : Right) → IsRight right → RightSpelt start right
+unfolding language lexicon
+right_spelt start (Delayed first source) is =
+    let v = value_spelt start first is.0 in
+    let behind = start + length (value_text first) + 1 + 2 + 1 + 3 + 1 in
+    record {
+      placed = PlacedDelayed (at start (value_text first)) (at behind source);
+      right_is = ap (λ value. Delayed value source) v.value_is;
+      spelt = by_rule rules.right (1, omega arith, refl) (then v.spelt (by_rule rules.delay (1, omega arith, refl) (by_token _ refl (by_token _ refl (name_spelt behind source is.1)))));
+    }
+right_spelt start (Chosen [] (Constant value)) is =
+    let v = value_spelt start value is.1 in
+    let i = item_spelt start (Constant value) is.1 in
+    record {
+      placed = PlacedChosen [] (at start (value_text value));
+      right_is = ap (Chosen []) i.item_is;
+      spelt = by_rule rules.right (1, omega arith, refl) (then v.spelt (by_rule rules.delay (0, omega arith, refl) none));
+    }
+right_spelt start (Chosen [] (Named name)) is =
+    let i = item_spelt start (Named name) is.1 in
+    record {
+      placed = PlacedChosen [] (at start name);
+      right_is = ap (Chosen []) i.item_is;
+      spelt = by_rule rules.right (0, omega arith, refl) (name_spelt start name is.1);
+    }
+right_spelt start (Chosen (arm ∷ arms) otherwise) is =
+    let a = arm_spelt start arm is.0.0 in
+    let more = choice_spelt arms (start + length (bytes_of (arm_pieces arm))) otherwise is.0.1 is.1 in
+    record {
+      placed = PlacedChosen (a.placed ∷ more.placed) more.last;
+      right_is = λ i. Chosen (a.arm_is i ∷ more.arms_are i) (more.last_is i);
+      spelt =
+          subst (λ tokens. Spelt (Rule rules.right ∷ []) tokens (ARight (PlacedChosen (a.placed ∷ more.placed) more.last) ∷ []))
+          (sym (arm_first start arm arms (Text (item_text otherwise) ∷ [])))
+          (by_rule rules.right (2, omega arith, refl) (then a.spelt more.spelt));
+    }
+right_spelt start (Tested []) is = absurd (omega (arith, is.0))
+right_spelt start (Tested (test ∷ tests)) is =
+    let t = test_spelt start test is.1.0 in
+    let more = more_tests_spelt tests (start + length (bytes_of (test_pieces test))) is.1.1 in
+    record {
+      placed = PlacedTested (t.placed ∷ more.placed);
+      right_is = λ i. Tested (t.test_is i ∷ more.tests_are i);
+      spelt =
+          subst (λ tokens. Spelt (Rule rules.right ∷ []) tokens (ARight (PlacedTested (t.placed ∷ more.placed)) ∷ []))
+          (sym (tokens_append (test_pieces test) (flat_map or_test tests) start))
+          (by_rule rules.right (3, omega arith, refl) (then t.spelt more.spelt));
+    }

@@ -1,0 +1,11 @@
+use Rattle.std.proofs.Common.{◌≡◌, ℕ, List, length, map, take}
+use Rattle.dcv_dfa.specs.declared.node_lines.Child.{Child}
+use Rattle.dcv_lustre.specs.Seen.{seen_test}
+use Rattle.dcv_lustre.specs.Observer.{input_names, accepting_tests}
+use Rattle.dcv_lustre.specs.Building.{observer_names, state_lines}
+use Rattle.dcv_lustre.proofs.observer.output_equation.Given as goal
+
+abbrev pub invariant-loop-state : goal.invariant-loop-state
+invariant-loop-state l =
+    (names : List (List ℕ)) (nodes : ℕ) (rows : List Child) → length (input_names names) ≡ l.inputs → length rows ≡ length l.auto'.rows
+    → map (seen_test (observer_names names nodes)) l.tests.items ≡ accepting_tests (state_lines l.auto' (take l.state rows))

@@ -1,0 +1,160 @@
+-- What each rule of the grammar stands for, by what its body's symbols stand for: an equation for each body.
+--     Part                  what a symbol stands for
+--     RULE_part parts       what a rule stands for, by the parts of its body
+--     parts_of trees        what derivation trees stand for
+use Rattle.std.specs.Prelude.{◌≡◌, ℕ, List, [], ◌∷◌, Option, Some, None, slice_index_or}
+use Rattle.dcv_lexer.specs.Cuts.{Token}
+use Rattle.dcv_grammar.specs.Trees.{Nodes, done, leaf, node, IsTree}
+use Rattle.dcv_observer.specs.Items.{HasItems, token_class}
+use Rattle.dcv_lustre.specs.Classes.{lexicon}
+use Rattle.dcv_lustre.specs.Language.{language}
+use Rattle.dcv_lustre.specs.Placed.{PlacedNode, PlacedLocal, PlacedEquation, PlacedRight, PlacedDelayed, PlacedChosen, PlacedTested, PlacedArm, PlacedTest}
+
+-- what a symbol stands for
+pub data Part : Type 0 where
+  AToken : Token → Part
+  Tokens : List Token → Part
+  ALocal : PlacedLocal → Part
+  Locals : List PlacedLocal → Part
+  AnEquation : PlacedEquation → Part
+  Equations : List PlacedEquation → Part
+  ARight : PlacedRight → Part
+  -- a token that may not be there: the source of a delay, or the number of a condition
+  Maybe : Option Token → Part
+  -- a condition
+  Compared : Token → Option Token → Part
+  Choice : List PlacedArm → Token → Part
+  ATest : PlacedTest → Part
+  Tests : List PlacedTest → Part
+  ANode : PlacedNode → Part
+  -- the parts are those of no body
+  Nothing : Part
+
+-- node = "node" name "(" input more_inputs ")" output variables "let" equations "tel"
+abbrev pub node_part : List Part → Part
+node_part (AToken word ∷ AToken name ∷ AToken opening ∷ AToken input ∷ Tokens inputs ∷ AToken closing
+    ∷ AToken output ∷ Locals locals ∷ AToken let_word ∷ Equations equations ∷ AToken tel ∷ []) =
+    ANode (record { name = name; inputs = input ∷ inputs; output = output; locals = locals; equations = equations; tel = tel })
+node_part _ = Nothing
+
+-- more_inputs = {";" input}
+abbrev pub more_inputs_part : List Part → Part
+more_inputs_part [] = Tokens []
+more_inputs_part (AToken semicolon ∷ AToken input ∷ Tokens inputs ∷ []) = Tokens (input ∷ inputs)
+more_inputs_part _ = Nothing
+
+-- input = name ":" "bool"
+abbrev pub input_part : List Part → Part
+input_part (AToken name ∷ AToken colon ∷ AToken bool ∷ []) = AToken name
+input_part _ = Nothing
+
+-- output = "returns" "(" "ok" ":" "bool" ")" ";"
+abbrev pub output_part : List Part → Part
+output_part (AToken returns ∷ AToken opening ∷ AToken ok ∷ AToken colon ∷ AToken bool ∷ AToken closing ∷ AToken semicolon ∷ []) = AToken ok
+output_part _ = Nothing
+
+-- variables = ["var" local locals]
+abbrev pub variables_part : List Part → Part
+variables_part [] = Locals []
+variables_part (AToken var ∷ ALocal local ∷ Locals locals ∷ []) = Locals (local ∷ locals)
+variables_part _ = Nothing
+
+-- locals = {local}
+abbrev pub locals_part : List Part → Part
+locals_part [] = Locals []
+locals_part (ALocal local ∷ Locals locals ∷ []) = Locals (local ∷ locals)
+locals_part _ = Nothing
+
+-- local = name ":" kind ";"
+abbrev pub local_part : List Part → Part
+local_part (AToken name ∷ AToken colon ∷ AToken kind ∷ AToken semicolon ∷ []) = ALocal (record { name = name; kind = kind })
+local_part _ = Nothing
+
+-- a rule that is one token
+abbrev pub token_part : List Part → Part
+token_part (AToken token ∷ []) = AToken token
+token_part _ = Nothing
+
+-- equations = {equation}
+abbrev pub equations_part : List Part → Part
+equations_part [] = Equations []
+equations_part (AnEquation equation ∷ Equations equations ∷ []) = Equations (equation ∷ equations)
+equations_part _ = Nothing
+
+-- equation = name "=" right ";"
+abbrev pub equation_part : List Part → Part
+equation_part (AToken left ∷ AToken equals ∷ ARight right ∷ AToken semicolon ∷ []) = AnEquation (record { left = left; right = right })
+equation_part _ = Nothing
+
+abbrev pub arm : Token → Option Token → Token → PlacedArm
+arm name number item = record { name = name; number = number; item = item }
+
+-- right = literal delay | "if" condition "then" item "else" choice | test more_tests | name
+abbrev pub right_part : List Part → Part
+right_part (AToken name ∷ []) = ARight (PlacedChosen [] name)
+right_part (AToken literal ∷ Maybe None ∷ []) = ARight (PlacedChosen [] literal)
+right_part (AToken literal ∷ Maybe (Some source) ∷ []) = ARight (PlacedDelayed literal source)
+right_part (AToken if_word ∷ Compared name number ∷ AToken then_word ∷ AToken item ∷ AToken else_word ∷ Choice arms otherwise ∷ []) =
+    ARight (PlacedChosen (arm name number item ∷ arms) otherwise)
+right_part (ATest test ∷ Tests tests ∷ []) = ARight (PlacedTested (test ∷ tests))
+right_part _ = Nothing
+
+-- delay = ["->" "pre" name]
+abbrev pub delay_part : List Part → Part
+delay_part [] = Maybe None
+delay_part (AToken arrow ∷ AToken pre ∷ AToken name ∷ []) = Maybe (Some name)
+delay_part _ = Nothing
+
+-- choice = {"if" condition "then" item "else"} item
+abbrev pub choice_part : List Part → Part
+choice_part (AToken item ∷ []) = Choice [] item
+choice_part (AToken if_word ∷ Compared name number ∷ AToken then_word ∷ AToken item ∷ AToken else_word ∷ Choice arms otherwise ∷ []) =
+    Choice (arm name number item ∷ arms) otherwise
+choice_part _ = Nothing
+
+-- condition = name compared
+abbrev pub condition_part : List Part → Part
+condition_part (AToken name ∷ Maybe number ∷ []) = Compared name number
+condition_part _ = Nothing
+
+-- compared = ["=" number]
+abbrev pub compared_part : List Part → Part
+compared_part [] = Maybe None
+compared_part (AToken equals ∷ AToken number ∷ []) = Maybe (Some number)
+compared_part _ = Nothing
+
+-- test = "(" name "=" number ")"
+abbrev pub test_part : List Part → Part
+test_part (AToken opening ∷ AToken name ∷ AToken equals ∷ AToken number ∷ AToken closing ∷ []) = ATest (record { name = name; number = number })
+test_part _ = Nothing
+
+-- more_tests = {"or" test}
+abbrev pub more_tests_part : List Part → Part
+more_tests_part [] = Tests []
+more_tests_part (AToken or_word ∷ ATest test ∷ Tests tests ∷ []) = Tests (test ∷ tests)
+more_tests_part _ = Nothing
+
+-- of each rule, in the order of their numbers
+abbrev pub actions : List (List Part → Part)
+actions =
+    node_part ∷ more_inputs_part ∷ input_part ∷ variables_part ∷ locals_part ∷ local_part ∷ token_part ∷ equations_part
+    ∷ equation_part ∷ right_part ∷ delay_part ∷ choice_part ∷ condition_part ∷ compared_part ∷ test_part ∷ more_tests_part
+    ∷ token_part ∷ token_part ∷ token_part ∷ output_part ∷ []
+
+-- what a rule stands for
+abbrev pub action : ℕ → List Part → Part
+action rule parts = (slice_index_or actions rule (λ parts. Nothing)) parts
+
+-- what derivation trees stand for, from left to right
+abbrev pub parts_of : Nodes Token → List Part
+parts_of done = []
+parts_of (leaf token next) = AToken token ∷ parts_of next
+parts_of (node rule inner next) = action rule (parts_of inner) ∷ parts_of next
+
+-- the tokens have a derivation that stands for the node
+abbrev pub SpellsNode : List Token → PlacedNode → Type 0
+SpellsNode tokens placed = (tree : Nodes Token) × IsTree language (token_class lexicon) tokens tree × (parts_of tree ≡ ANode placed ∷ [])
+
+-- the text is cut into such tokens
+abbrev pub Spells : List ℕ → PlacedNode → Type 0
+Spells text placed = (items : List Token) × HasItems lexicon text items × SpellsNode items placed

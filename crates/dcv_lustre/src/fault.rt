@@ -1,0 +1,25 @@
+// Why a text is no node.
+use std::alloc::AllocError;
+
+/// Why a text is no node of the subset.
+#[derive(Clone, Copy, Debug, PartialEq, Eq)]
+pub enum ObsFault {
+    /// Up to the token or byte that begins here, or to the end of the text, the text begins a sentence, and no further.
+    Syntax { at: u32 },
+    /// The text is a sentence. Here begins its first name or constant that breaks a rule of names, or its last word where a local or the
+    /// output has no equation.
+    Names { at: u32 },
+    /// Memory ran out.
+    Memory,
+}
+
+impl From<AllocError> for ObsFault {
+    ghost use Rattle.std.specs.Prelude.{◌≡◌};
+    ghost use Rattle.dcv_lustre.specs.declared.fault.ObsFault.TheVariants.{Memory};
+
+    ghost from_gives = { λ _ e. e ≡ Memory };
+
+    fn from(_error: AllocError) -> ObsFault {
+        ObsFault::Memory
+    }
+}
