@@ -91,7 +91,7 @@ def quantified(least):
 
 
 def separation(apart):
-    return f"var p;\ninfer [](<p> ^ {{{{true}}}} ^ true ^ <p> => slen > {apart});\n"
+    return f"var p;\ninfer []({{{{p}}}} ^ (pt || [!p]) ^ <p> => slen > {apart});\n"
 
 
 FAMILIES = {one.__name__: one for one in (arbiter, layers, past, mixture, handshake, response, chain, count, quantified, separation)}
