@@ -33,6 +33,7 @@ pub fn of_auto(alloc: Global, auto: &Auto, names: &[Name]) -> Result<Node, Alloc
     ensures accepts { IfOk result (λ node. Observes auto.now.arena.slots node (raw_accepts auto.now)) }
 {
     observers_accept_the_same();
+    // for the prover: what is true of every canonical automaton.
     let _states = auto.states();
     let nodes = auto.node_lines(alloc)?;
     let inputs = input_texts(alloc, names)?;
@@ -108,7 +109,7 @@ fn local_texts(alloc: Global, nodes: u32) -> Result<Vec<Local>, AllocError>
     Ok(locals)
 }
 
-// `nx = if st = 0 then R0 else ..`.
+// `nx = if st = 0 then ROW else ..`, with a row for each state.
 fn rows_equation(alloc: Global, inputs: u32, rows: &[Child]) -> Result<Equation, AllocError>
     requires inputs { inputs ≤ 16 }
     requires some { 0 < length rows.now }
