@@ -4,8 +4,8 @@ use Rattle.dcv_grammar.specs.Grammar.{IsSentence}
 use Rattle.dcv_grammar.proofs.TreeLaws.{derives_leaves, trees_derived}
 use Rattle.dcv_observer.specs.Items.{token_class, IsSentenceText, IsSyntaxFault, IsSyntaxVerdict}
 use Rattle.dcv_observer.proofs.Faults.{some_found, one_found}
-use Rattle.dcv_lustre.specs.declared.fault.ObsFault.{ObsFault}
-use Rattle.dcv_lustre.specs.declared.fault.ObsFault.TheVariants.{Syntax, Names, Memory}
+use Rattle.dcv_observer.specs.declared.fault.ObsFault.{ObsFault}
+use Rattle.dcv_observer.specs.declared.fault.ObsFault.TheVariants.{Syntax, Names, Memory}
 use Rattle.dcv_lustre.specs.Classes.{lexicon}
 use Rattle.dcv_lustre.specs.Language.{language}
 use Rattle.dcv_lustre.specs.Tree.{Node}

@@ -3,8 +3,8 @@
 --     IsReadAs text node       the text spells the node, which keeps the rules of names
 use Rattle.std.specs.Prelude.{◌≡◌, ℕ, List}
 use Rattle.dcv_observer.specs.Items.{IsSyntaxFault}
-use Rattle.dcv_lustre.specs.declared.fault.ObsFault.{ObsFault}
-use Rattle.dcv_lustre.specs.declared.fault.ObsFault.TheVariants.{Syntax, Names, Memory}
+use Rattle.dcv_observer.specs.declared.fault.ObsFault.{ObsFault}
+use Rattle.dcv_observer.specs.declared.fault.ObsFault.TheVariants.{Syntax, Names, Memory}
 use Rattle.dcv_lustre.specs.Classes.{lexicon}
 use Rattle.dcv_lustre.specs.Language.{language}
 use Rattle.dcv_lustre.specs.Tree.{Node}

@@ -18,7 +18,7 @@ use Rattle.dcv_lustre.specs.Placed.{PlacedNode, node_of}
 use Rattle.dcv_lustre.specs.Actions.{Spells}
 use Rattle.dcv_lustre.specs.Form.{IsSpellable}
 use Rattle.dcv_lustre.specs.Faults.{HasFault, IsReadAs}
-use Rattle.dcv_lustre.specs.declared.fault.ObsFault.{ObsFault}
+use Rattle.dcv_observer.specs.declared.fault.ObsFault.{ObsFault}
 use Rattle.dcv_lustre.specs.Layout.{text_of}
 
 abbrev pub HasWidths : Node → Word → Type 0

@@ -28,14 +28,12 @@
 //! The grammar, the rules of names, the meaning and the layout stand in `specs/`; what is true of them is in [`laws`].
 #![tactic(auto)]
 
-mod fault;
 pub mod laws;
 mod layout;
 mod node;
 mod observer;
 
-pub use dcv_observer::{Condition, Test};
-pub use fault::ObsFault;
+pub use dcv_observer::{Condition, ObsFault, Test};
 pub use layout::text;
 pub use node::{Arm, Equation, Item, Kind, Local, Node, Right, Value};
 pub use observer::of_auto;

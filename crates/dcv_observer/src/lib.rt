@@ -7,12 +7,14 @@
 #![tactic(auto)]
 
 mod conditions;
+mod fault;
 mod items;
 pub mod laws;
 mod names;
 mod syntax;
 
 pub use conditions::{Condition, Test};
+pub use fault::ObsFault;
 pub use items::{Item, Items, LARGEST_NUMBER, LONGEST_WORD, NAME, NUMBER, UNKNOWN};
 pub use names::Declared;
 pub use syntax::syntax_fault;

@@ -1,13 +1,12 @@
-// Why a text is no node.
+// Why a text is no observer of its language.
 use std::alloc::AllocError;
 
-/// Why a text is no node of the subset.
+/// Why a text is no node, or no unit, of the subset in which it is written.
 #[derive(Clone, Copy, Debug, PartialEq, Eq)]
 pub enum ObsFault {
     /// Up to the token or byte that begins here, or to the end of the text, the text begins a sentence, and no further.
     Syntax { at: u32 },
-    /// The text is a sentence. Here begins its first name or constant that breaks a rule of names, or its last word where a local or the
-    /// output has no equation.
+    /// The text is a sentence. Here stands the first of its words that breaks a rule of names.
     Names { at: u32 },
     /// Memory ran out.
     Memory,
@@ -15,7 +14,7 @@ pub enum ObsFault {
 
 impl From<AllocError> for ObsFault {
     ghost use Rattle.std.specs.Prelude.{◌≡◌};
-    ghost use Rattle.dcv_lustre.specs.declared.fault.ObsFault.TheVariants.{Memory};
+    ghost use Rattle.dcv_observer.specs.declared.fault.ObsFault.TheVariants.{Memory};
 
     ghost from_gives = { λ _ e. e ≡ Memory };
 
