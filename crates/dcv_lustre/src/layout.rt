@@ -1,6 +1,7 @@
 // The text of a node.
-ghost use Rattle.std.specs.Prelude.{◌≡◌, ◌++◌, codes, decimal, map, IfOk, OnOk};
+ghost use Rattle.std.specs.Prelude.{◌≡◌, ◌++◌, codes, decimal, map, IfOk};
 ghost use Rattle.std.specs.List.{flat_map, join_by};
+ghost use Rattle.dcv_io.specs.Putting.{Puts};
 ghost use Rattle.dcv_lustre.specs.Seen.{name_at, seen_value, seen_kind, seen_item, seen_condition, seen_arm, seen_test, seen_right, seen_equation, seen_local};
 ghost use Rattle.dcv_lustre.specs.Tree.{Truth};
 ghost use Rattle.dcv_lustre.specs.Placed.{PlacedNode, node_of};
@@ -10,6 +11,7 @@ ghost use Rattle.dcv_lustre.specs.Layout.{kind_text, local_line, local_lines, in
 
 use crate::laws::texts_spell_nodes;
 use crate::node::{Arm, Equation, Item, Kind, Local, Node, Right, Value};
+use dcv_io::{Target, Text as TextInMemory, put_pieces};
 use dcv_observer::{Condition, Test};
 use dcv_syntax::Text;
 use itoa::Buffer;
@@ -23,17 +25,24 @@ pub fn text(alloc: Global, node: &Node) -> Result<Vec<u8>, AllocError>
 {
     texts_spell_nodes();
     node.keeps_the_rules();
+    let mut text = TextInMemory::new(alloc);
+    put(node, &mut text);
+    text.finish()
+}
+
+/// Puts the text of a node, piece by piece. It takes no memory but what the target does.
+pub fn put<T: Target>(node: &Node, target: &mut T)
+    ensures { Puts (T.standing target.old) (T.standing target.new) (text_of node.now) }
+{
     let names = Names {
         inputs: node.inputs(),
         locals: node.locals(),
     };
-    let mut text = Vec::new(alloc);
-    push_head(&mut text, node)?;
-    push_locals(&mut text, node.locals())?;
-    text.extend_from_slice(b"let\n")?;
-    push_equations(&mut text, &names, node.equations())?;
-    text.extend_from_slice(b"tel\n")?;
-    Ok(text)
+    put_head(target, node);
+    put_locals(target, node.locals());
+    target.put(b"let\n");
+    put_equations(target, &names, node.equations());
+    target.put(b"tel\n");
 }
 
 // The names of a node, by their places.
@@ -74,217 +83,195 @@ impl<'a> Names<'a> {
 }
 
 // The line before those of the locals.
-fn push_head(text: &mut Vec<u8>, node: &Node) -> Result<(), AllocError>
-    ensures { OnOk result (text.new.items ≡ text.old.items ++ head_line node.now) }
+fn put_head<T: Target>(target: &mut T, node: &Node)
+    ensures { Puts (T.standing target.old) (T.standing target.new) (head_line node.now) }
 {
-    text.extend_from_slice(b"node ")?;
-    text.extend_from_slice(node.name())?;
-    text.push(b'(')?;
-    push_inputs(text, node.inputs())?;
-    text.extend_from_slice(b") returns (ok: bool);\n")
+    put_pieces(target, &[b"node ", node.name(), b"("]);
+    put_inputs(target, node.inputs());
+    target.put(b") returns (ok: bool);\n");
 }
 
 // The inputs, with something between every two.
-fn push_inputs(text: &mut Vec<u8>, inputs: &[Text]) -> Result<(), AllocError>
-    ensures { OnOk result (text.new.items ≡ text.old.items ++ join_by input_text (codes "; ") inputs.now) }
+fn put_inputs<T: Target>(target: &mut T, inputs: &[Text])
+    ensures { Puts (T.standing target.old) (T.standing target.new) (join_by input_text (codes "; ") inputs.now) }
 {
     let Some((first, others)) = inputs.split_first() else {
-        return Ok(());
+        return;
     };
-    push_input(text, first.as_bytes())?;
+    put_input(target, b"", first.as_bytes());
     for input in others {
-        text.extend_from_slice(b"; ")?;
-        push_input(text, input.as_bytes())?;
+        put_input(target, b"; ", input.as_bytes());
     }
-    Ok(())
 }
 
-fn push_input(text: &mut Vec<u8>, name: &[u8]) -> Result<(), AllocError>
-    ensures { OnOk result (text.new.items ≡ text.old.items ++ input_text name.now) }
+// An input, behind what stands between it and the one before.
+fn put_input<T: Target>(target: &mut T, between: &[u8], name: &[u8])
+    ensures { Puts (T.standing target.old) (T.standing target.new) (between.now ++ input_text name.now) }
 {
-    text.extend_from_slice(name)?;
-    text.extend_from_slice(b": bool")
+    put_pieces(target, &[between, name, b": bool"]);
 }
 
 // The lines of the locals, where there are any.
-fn push_locals(text: &mut Vec<u8>, locals: &[Local]) -> Result<(), AllocError>
-    ensures { OnOk result (text.new.items ≡ text.old.items ++ local_lines (map seen_local locals.now)) }
+fn put_locals<T: Target>(target: &mut T, locals: &[Local])
+    ensures { Puts (T.standing target.old) (T.standing target.new) (local_lines (map seen_local locals.now)) }
 {
     if locals.is_empty() {
-        return Ok(());
+        return;
     }
-    text.extend_from_slice(b"var\n")?;
+    target.put(b"var\n");
     for local in locals {
-        push_local(text, local)?;
+        put_local(target, local);
     }
-    Ok(())
 }
 
-fn push_local(text: &mut Vec<u8>, local: &Local) -> Result<(), AllocError>
-    ensures { OnOk result (text.new.items ≡ text.old.items ++ local_line (seen_local local.now)) }
+fn put_local<T: Target>(target: &mut T, local: &Local)
+    ensures { Puts (T.standing target.old) (T.standing target.new) (local_line (seen_local local.now)) }
 {
-    text.extend_from_slice(b"  ")?;
-    text.extend_from_slice(local.name.as_bytes())?;
-    text.extend_from_slice(b": ")?;
-    push_kind(text, local.kind)?;
-    text.extend_from_slice(b";\n")
+    put_typed(target, local.name.as_bytes(), kind_word(local.kind));
 }
 
-fn push_kind(text: &mut Vec<u8>, kind: Kind) -> Result<(), AllocError>
-    ensures { OnOk result (text.new.items ≡ text.old.items ++ kind_text (seen_kind kind)) }
+// `name: kind;`.
+fn put_typed<T: Target>(target: &mut T, name: &[u8], kind: &[u8])
+    ensures { Puts (T.standing target.old) (T.standing target.new) (codes "  " ++ (name.now ++ (codes ": " ++ (kind.now ++ codes ";\n")))) }
+{
+    put_pieces(target, &[b"  ", name, b": ", kind, b";\n"]);
+}
+
+fn kind_word(kind: Kind) -> &'static [u8]
+    ensures { result.now ≡ kind_text (seen_kind kind) }
 {
     match kind {
-        Kind::OfTruth => text.extend_from_slice(b"bool"),
-        Kind::OfNumber => text.extend_from_slice(b"int"),
+        Kind::OfTruth => b"bool",
+        Kind::OfNumber => b"int",
     }
 }
 
 // The lines of the equations.
-fn push_equations(
-    text: &mut Vec<u8>,
-    names: &Names<'_>,
-    equations: &[Equation],
-) -> Result<(), AllocError>
-    ensures { OnOk result (text.new.items ≡ text.old.items ++ flat_map equation_line (map (seen_equation names.now) equations.now)) }
+fn put_equations<T: Target>(target: &mut T, names: &Names<'_>, equations: &[Equation])
+    ensures { Puts (T.standing target.old) (T.standing target.new) (flat_map equation_line (map (seen_equation names.now) equations.now)) }
 {
     for equation in equations {
-        push_equation(text, names, equation)?;
+        put_equation(target, names, equation);
     }
-    Ok(())
 }
 
-fn push_equation(
-    text: &mut Vec<u8>,
-    names: &Names<'_>,
-    equation: &Equation,
-) -> Result<(), AllocError>
-    ensures { OnOk result (text.new.items ≡ text.old.items ++ equation_line (seen_equation names.now equation.now)) }
+fn put_equation<T: Target>(target: &mut T, names: &Names<'_>, equation: &Equation)
+    ensures { Puts (T.standing target.old) (T.standing target.new) (equation_line (seen_equation names.now equation.now)) }
 {
-    text.extend_from_slice(b"  ")?;
-    text.extend_from_slice(names.at(equation.left))?;
-    text.extend_from_slice(b" = ")?;
-    push_right(text, names, &equation.right)?;
-    text.extend_from_slice(b";\n")
+    put_pieces(target, &[b"  ", names.at(equation.left), b" = "]);
+    put_right(target, names, &equation.right);
+    target.put(b";\n");
 }
 
-fn push_right(text: &mut Vec<u8>, names: &Names<'_>, right: &Right) -> Result<(), AllocError>
-    ensures { OnOk result (text.new.items ≡ text.old.items ++ right_text (seen_right names.now right.now)) }
+fn put_right<T: Target>(target: &mut T, names: &Names<'_>, right: &Right)
+    ensures { Puts (T.standing target.old) (T.standing target.new) (right_text (seen_right names.now right.now)) }
 {
     match right {
-        Right::Delayed(first, source) => push_delayed(text, *first, names.at(*source)),
+        Right::Delayed(first, source) => put_delayed(target, *first, names.at(*source)),
         Right::Chosen(arms, otherwise) => {
-            push_arms(text, names, arms)?;
-            push_item(text, names, *otherwise)
+            put_arms(target, names, arms);
+            put_item(target, names, *otherwise);
         }
-        Right::Tested(tests) => push_tests(text, names, tests),
+        Right::Tested(tests) => put_tests(target, names, tests),
     }
 }
 
 // `first -> pre source`.
-fn push_delayed(text: &mut Vec<u8>, first: Value, source: &[u8]) -> Result<(), AllocError>
-    ensures { OnOk result (text.new.items ≡ text.old.items ++ (value_text (seen_value first) ++ (codes " -> pre " ++ source.now))) }
+fn put_delayed<T: Target>(target: &mut T, first: Value, source: &[u8])
+    ensures { Puts (T.standing target.old) (T.standing target.new) (value_text (seen_value first) ++ (codes " -> pre " ++ source.now)) }
 {
-    push_value(text, first)?;
-    text.extend_from_slice(b" -> pre ")?;
-    text.extend_from_slice(source)
+    put_value(target, first);
+    put_pieces(target, &[b" -> pre ", source]);
 }
 
-fn push_arms(text: &mut Vec<u8>, names: &Names<'_>, arms: &[Arm]) -> Result<(), AllocError>
-    ensures { OnOk result (text.new.items ≡ text.old.items ++ flat_map arm_text (map (seen_arm names.now) arms.now)) }
+fn put_arms<T: Target>(target: &mut T, names: &Names<'_>, arms: &[Arm])
+    ensures { Puts (T.standing target.old) (T.standing target.new) (flat_map arm_text (map (seen_arm names.now) arms.now)) }
 {
     for arm in arms {
-        push_arm(text, names, *arm)?;
+        put_arm(target, names, *arm);
     }
-    Ok(())
 }
 
 // `if condition then item else`.
-fn push_arm(text: &mut Vec<u8>, names: &Names<'_>, arm: Arm) -> Result<(), AllocError>
-    ensures { OnOk result (text.new.items ≡ text.old.items ++ arm_text (seen_arm names.now arm)) }
+fn put_arm<T: Target>(target: &mut T, names: &Names<'_>, arm: Arm)
+    ensures { Puts (T.standing target.old) (T.standing target.new) (arm_text (seen_arm names.now arm)) }
 {
-    text.extend_from_slice(b"if ")?;
-    push_condition(text, names, arm.condition)?;
-    text.extend_from_slice(b" then ")?;
-    push_item(text, names, arm.item)?;
-    text.extend_from_slice(b" else ")
+    target.put(b"if ");
+    put_condition(target, names, arm.condition);
+    target.put(b" then ");
+    put_item(target, names, arm.item);
+    target.put(b" else ");
 }
 
-fn push_condition(
-    text: &mut Vec<u8>,
-    names: &Names<'_>,
-    condition: Condition,
-) -> Result<(), AllocError>
-    ensures { OnOk result (text.new.items ≡ text.old.items ++ condition_text (seen_condition names.now condition)) }
+fn put_condition<T: Target>(target: &mut T, names: &Names<'_>, condition: Condition)
+    ensures { Puts (T.standing target.old) (T.standing target.new) (condition_text (seen_condition names.now condition)) }
 {
     match condition {
-        Condition::Holds(name) => text.extend_from_slice(names.at(name)),
-        Condition::Equals(name, number) => push_equal(text, names.at(name), number),
+        Condition::Holds(name) => target.put(names.at(name)),
+        Condition::Equals(name, number) => put_equal(target, names.at(name), number),
     }
 }
 
 // `name = number`.
-fn push_equal(text: &mut Vec<u8>, name: &[u8], number: u16) -> Result<(), AllocError>
-    ensures { OnOk result (text.new.items ≡ text.old.items ++ (name.now ++ (codes " = " ++ decimal number))) }
+fn put_equal<T: Target>(target: &mut T, name: &[u8], number: u16)
+    ensures { Puts (T.standing target.old) (T.standing target.new) (name.now ++ (codes " = " ++ decimal number)) }
 {
-    text.extend_from_slice(name)?;
-    text.extend_from_slice(b" = ")?;
-    push_number(text, number)
+    let mut digits = Buffer::new();
+    put_pieces(target, &[name, b" = ", digits.format(number).as_bytes()]);
 }
 
 // The tests, with `or` between every two.
-fn push_tests(text: &mut Vec<u8>, names: &Names<'_>, tests: &[Test]) -> Result<(), AllocError>
-    ensures { OnOk result (text.new.items ≡ text.old.items ++ join_by test_text (codes " or ") (map (seen_test names.now) tests.now)) }
+fn put_tests<T: Target>(target: &mut T, names: &Names<'_>, tests: &[Test])
+    ensures { Puts (T.standing target.old) (T.standing target.new) (join_by test_text (codes " or ") (map (seen_test names.now) tests.now)) }
 {
     let Some((first, others)) = tests.split_first() else {
-        return Ok(());
+        return;
     };
-    push_test(text, names, *first)?;
+    put_test(target, b"", names, *first);
     for test in others {
-        text.extend_from_slice(b" or ")?;
-        push_test(text, names, *test)?;
-    }
-    Ok(())
-}
-
-// `(name = number)`.
-fn push_test(text: &mut Vec<u8>, names: &Names<'_>, test: Test) -> Result<(), AllocError>
-    ensures { OnOk result (text.new.items ≡ text.old.items ++ test_text (seen_test names.now test)) }
-{
-    text.push(b'(')?;
-    text.extend_from_slice(names.at(test.name))?;
-    text.extend_from_slice(b" = ")?;
-    push_number(text, test.number)?;
-    text.push(b')')?;
-    Ok(())
-}
-
-fn push_item(text: &mut Vec<u8>, names: &Names<'_>, item: Item) -> Result<(), AllocError>
-    ensures { OnOk result (text.new.items ≡ text.old.items ++ item_text (seen_item names.now item)) }
-{
-    match item {
-        Item::Constant(value) => push_value(text, value),
-        Item::Named(name) => text.extend_from_slice(names.at(name)),
+        put_test(target, b" or ", names, *test);
     }
 }
 
-fn push_value(text: &mut Vec<u8>, value: Value) -> Result<(), AllocError>
-    ensures { OnOk result (text.new.items ≡ text.old.items ++ value_text (seen_value value)) }
-{
-    match value {
-        Value::Truth(truth) => push_truth(text, truth),
-        Value::Number(number) => push_number(text, number),
-    }
-}
-
-fn push_truth(text: &mut Vec<u8>, truth: bool) -> Result<(), AllocError>
-    ensures { OnOk result (text.new.items ≡ text.old.items ++ value_text (Truth truth)) }
-{
-    text.extend_from_slice(if truth { b"true" } else { b"false" })
-}
-
-fn push_number(text: &mut Vec<u8>, number: u16) -> Result<(), AllocError>
-    ensures { OnOk result (text.new.items ≡ text.old.items ++ decimal number) }
+// `(name = number)`, behind what stands between it and the test before.
+fn put_test<T: Target>(target: &mut T, between: &[u8], names: &Names<'_>, test: Test)
+    ensures { Puts (T.standing target.old) (T.standing target.new) (between.now ++ test_text (seen_test names.now test)) }
 {
     let mut digits = Buffer::new();
-    text.extend_from_slice(digits.format(number).as_bytes())
+    let number = digits.format(test.number).as_bytes();
+    put_pieces(
+        target,
+        &[between, b"(", names.at(test.name), b" = ", number, b")"],
+    );
+}
+
+fn put_item<T: Target>(target: &mut T, names: &Names<'_>, item: Item)
+    ensures { Puts (T.standing target.old) (T.standing target.new) (item_text (seen_item names.now item)) }
+{
+    match item {
+        Item::Constant(value) => put_value(target, value),
+        Item::Named(name) => target.put(names.at(name)),
+    }
+}
+
+fn put_value<T: Target>(target: &mut T, value: Value)
+    ensures { Puts (T.standing target.old) (T.standing target.new) (value_text (seen_value value)) }
+{
+    match value {
+        Value::Truth(truth) => target.put(truth_word(truth)),
+        Value::Number(number) => put_number(target, number),
+    }
+}
+
+fn truth_word(truth: bool) -> &'static [u8]
+    ensures { result.now ≡ value_text (Truth truth) }
+{
+    if truth { b"true" } else { b"false" }
+}
+
+fn put_number<T: Target>(target: &mut T, number: u16)
+    ensures { Puts (T.standing target.old) (T.standing target.new) (decimal number) }
+{
+    let mut digits = Buffer::new();
+    target.put(digits.format(number).as_bytes());
 }

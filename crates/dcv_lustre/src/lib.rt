@@ -34,6 +34,6 @@ mod node;
 mod observer;
 
 pub use dcv_observer::{Condition, ObsFault, Test};
-pub use layout::text;
+pub use layout::{put, text};
 pub use node::{Arm, Equation, Item, Kind, Local, Node, Right, Value};
 pub use observer::of_auto;

@@ -4,3 +4,4 @@ pub mod Lefts
 pub mod Faults
 pub mod LaidOut
 pub mod Limits
+pub mod Listing

@@ -1,0 +1,7 @@
+use Rattle.dcv_io.proofs.Putting.{puts_both}
+use Rattle.dcv_lustre.proofs.layout.put_arm.Goals as goal
+
+pub returns : goal.returns
+returns g c =
+    puts_both _ _ _ _ _ c.put.ensures
+    (puts_both _ _ _ _ _ c.put_condition.ensures (puts_both _ _ _ _ _ c.put-2.ensures (puts_both _ _ _ _ _ c.put_item.ensures c.put-3.ensures)))
