@@ -1,24 +1,26 @@
 -- The report on an automaton is that on each set whose canonical automaton it is.
-use Rattle.std.proofs.Common.{◌≡◌, ℕ, List, Result, Ok, Err, subst}
+use Rattle.std.proofs.Common.{ℕ, List, [], Result, Ok, Err, refl, sym, subst}
 use Rattle.std.specs.Prelude.{IfOk}
 use Rattle.dcv_language.specs.Language.{Language}
 use Rattle.dcv_language.specs.Laws.{VerdictOfSameBehaviours}
 use Rattle.dcv_language.specs.Verdict.{Verdict, IsVerdict}
+use Rattle.dcv_automaton_file.specs.File.{file_of}
 use Rattle.dcv_dfa.specs.Laws.{TableAcceptsAsTheStates}
 use Rattle.dcv_dfa.specs.Raw.{RawValue, raw_accepts}
 use Rattle.dcv_build.specs.Budget.{IsAutomatonOf}
 use Rattle.dcv_print.specs.Automaton.{IsAutomatonOf as IsPrintedOf}
-use Rattle.dcv_print.specs.Laws.{IsPrintable, PrintedIsAutomaton, AutomatonOfSameBehaviours}
+use Rattle.dcv_print.specs.Laws.{IsPrintable, PrintedIsAutomaton, FileSaysNode, AutomatonOfSameBehaviours}
 use Rattle.dcv_print.specs.Printed.{printed_file}
-use Rattle.dcv_print.specs.Report.{ReportValue, SpellsAutomaton, Says as SaysOf}
+use Rattle.dcv_print.specs.Report.{ReportValue, SpellsAutomaton, IsLustreObserver, Says as SaysOf}
 use Rattle.dcv_print.specs.declared.report.Kind.{Kind}
-use Rattle.dcv_command.specs.Request.{Request, Check, Automaton}
+use Rattle.dcv_print.specs.declared.report.Kind.TheVariants.{Check, Automaton, Lustre}
+use Rattle.dcv_print.specs.Observers.{SaysNode}
 use Rattle.dcv_cli.specs.Automaton.{SaysAutomaton}
-use Rattle.dcv_cli.specs.Judged.{kind_of, Reports}
+use Rattle.dcv_cli.specs.Judged.{Reports}
 use Rattle.dcv_cli.specs.Report.{Says}
 use Rattle.dcv_cli.proofs.Budgets.{same_as_set}
 
-module _ (printed : PrintedIsAutomaton) (move : AutomatonOfSameBehaviours) (move_verdict : VerdictOfSameBehaviours) (accept : TableAcceptsAsTheStates)
+module _ (printed : PrintedIsAutomaton) (say_node : FileSaysNode) (move : AutomatonOfSameBehaviours) (move_verdict : VerdictOfSameBehaviours) (accept : TableAcceptsAsTheStates)
     (raw : RawValue) (names : List (List ℕ)) (printable : IsPrintable raw names) (k : ℕ) (L : Language) (of : IsAutomatonOf k L raw) where
   says_automaton : (text : List ℕ) → SpellsAutomaton raw names text → SaysAutomaton k L names text
   says_automaton text spells =
@@ -31,21 +33,31 @@ module _ (printed : PrintedIsAutomaton) (move : AutomatonOfSameBehaviours) (move
         says = spells.says;
       }
 
-  says_request : (request : Request) (report : ReportValue) → SaysOf (kind_of request) raw names report → Says request k L names report.verdict report.text
-  unfolding says_automaton
-  says_request (Check name limits) report says = says
-  says_request (Automaton name limits) report says = says_automaton report.text says
+  says_node : (text : List ℕ) → IsLustreObserver raw names text → SaysNode k L names text
+  says_node text is =
+      let file = file_of raw names [] [] in
+      subst (SaysNode k L names) (sym (is [] []))
+      (say_node k L names file (record {
+        automaton = raw;
+        has_file = printable;
+        slots = of.slots;
+        accepts = same_as_set accept raw printable.is_raw printable.auto k L of;
+        is = refl;
+      }))
+
+  says_kind : (kind : Kind) (report : ReportValue) → SaysOf kind raw names report → Says kind k L names report.verdict report.text
+  unfolding says_automaton says_node
+  says_kind Check report says = says
+  says_kind Automaton report says = says_automaton report.text says
+  says_kind Lustre report says = says_node report.text says
 
   verdict_of_set : (verdict : Verdict) → IsVerdict raw.arena.slots (raw_accepts raw) verdict → IsVerdict k L verdict
   verdict_of_set verdict is =
       move_verdict k (raw_accepts raw) L verdict (same_as_set accept raw printable.is_raw printable.auto k L of)
       (subst (λ k. IsVerdict k (raw_accepts raw) verdict) of.slots is)
 
-  pub report_answers : {E : Type 0} (request : Request) (kind : Kind) (result : Result ReportValue E) → kind ≡ kind_of request
+  pub report_answers : {E : Type 0} (kind : Kind) (result : Result ReportValue E)
       → IfOk result (λ report. IsVerdict raw.arena.slots (raw_accepts raw) report.verdict) → IfOk result (SaysOf kind raw names)
-      → IfOk result (Reports request k L names)
-  report_answers request kind (Ok report) same verdict says = record {
-    verdict = verdict_of_set report.verdict verdict;
-    says = says_request request report (subst (λ kind. SaysOf kind raw names report) same says);
-  }
-  report_answers request kind (Err e) same verdict says = tt
+      → IfOk result (Reports kind k L names)
+  report_answers kind (Ok report) verdict says = record { verdict = verdict_of_set report.verdict verdict; says = says_kind kind report says }
+  report_answers kind (Err e) verdict says = tt

@@ -1,20 +1,19 @@
--- Files that mean the same have the same verdict, and the same automaton but for its suffixes.
+-- Files that mean the same have the same verdict, the same observers, and the same automaton but for its suffixes.
 use Rattle.std.proofs.Common.{◌≡◌, ◌≢◌, ◌⊎◌, ℕ, List, length, Option, inl, inr, sym, ap, ◌∙◌, subst}
 use Rattle.std.specs.Prelude.{IsTrue, IsSomeAnd}
 use Rattle.std.proofs.lemmas.List.{length-map}
 use mathlib.Core.Bool.{true≢false}
-use Rattle.dcv_language.specs.Language.{Language, HaveSameBehaviours}
+use Rattle.dcv_language.specs.Language.{Language}
 use Rattle.dcv_language.specs.Laws.{OneVerdict, VerdictOfSameBehaviours}
 use Rattle.dcv_language.specs.Verdict.{Verdict, IsVerdict}
-use Rattle.dcv_language.specs.VerdictText.{verdict_text}
 use Rattle.dcv_logic.specs.Models.{models}
-use Rattle.dcv_print.specs.Automaton.{DifferInSuffixes}
-use Rattle.dcv_print.specs.Laws.{OneAutomaton, AutomatonOfSameBehaviours}
+use Rattle.dcv_print.specs.Laws.{OneAutomaton, AutomatonOfSameBehaviours, OneFile, FileOfSameBehaviours, FileSaysNode}
+use Rattle.dcv_print.specs.declared.report.Kind.{Kind}
 use Rattle.dcv_print.specs.Printed.{texts_of}
 use Rattle.dcv_reader.specs.Spelling.{SpellsOne}
 use Rattle.dcv_syntax.specs.declared.names.Name.{Name}
 use Rattle.dcv_syntax.specs.Plain.{PlainFile}
-use Rattle.dcv_command.specs.Request.{Request, Check, Automaton, limits_in}
+use Rattle.dcv_command.specs.Request.{Request, limits_in, kind_in}
 use Rattle.dcv_cli.specs.declared.refusal.Refusal.{Refusal}
 use Rattle.dcv_cli.specs.declared.refusal.Refusal.TheVariants.{Open, Read as ReadRefusal, Length, Text, Budget, Write, Memory}
 use Rattle.dcv_cli.specs.declared.status.Status.{Status}
@@ -26,6 +25,7 @@ use Rattle.dcv_cli.specs.Outcome.{Outcome}
 use Rattle.dcv_cli.specs.Refusal.{Only, status_of}
 use Rattle.dcv_cli.specs.Report.{Says, IsReport}
 use Rattle.dcv_cli.specs.Status.{is_answer, status_of_verdict}
+use Rattle.dcv_cli.proofs.Texts.{one_text, says_of_same}
 
 -- no refusal answers
 no_refusal_answers : (refusal : Refusal) → IsTrue (is_answer (status_of refusal)) → ⊥
@@ -42,41 +42,21 @@ answers_as outcome status is answers = subst (λ (s : Status). IsTrue (is_answer
 
 module _ (one_tree : SpellsOne) where
   report_on_text : (request : Request) (text : List ℕ) (file : PlainFile) (outcome : Outcome) → IsFormulaFile text file → IsTrue (is_answer outcome.status)
-      → OnText text Only (IsBudgeted (limits_in request) (IsReport request)) outcome → IsReport request file outcome
+      → OnText text Only (IsBudgeted (limits_in request) (IsReport (kind_in request))) outcome → IsReport (kind_in request) file outcome
   report_on_text request text file outcome formula answers (Refused refusal is e) =
       absurd (no_refusal_answers refusal (answers_as outcome (status_of refusal) (ap (λ (o : Outcome). o.status) e) answers))
   report_on_text request text file outcome formula answers (Read other is (OverBudget over first e)) =
       absurd (no_refusal_answers (Budget over) (answers_as outcome StatusBudget (ap (λ (o : Outcome). o.status) e) answers))
   report_on_text request text file outcome formula answers (Read other is (WithinBudget within report)) =
-      subst (λ (f : PlainFile). IsReport request f outcome) (one_tree text other file is.sentence.spelled formula.sentence.spelled) report
+      subst (λ (f : PlainFile). IsReport (kind_in request) f outcome) (one_tree text other file is.sentence.spelled formula.sentence.spelled) report
 
-  report_of : (request : Request) (held : List ℕ → Option (List ℕ)) (file : PlainFile) (outcome : Outcome) → IsAnswer request held file outcome → IsReport request file outcome
+  report_of : (request : Request) (held : List ℕ → Option (List ℕ)) (file : PlainFile) (outcome : Outcome) → IsAnswer request held file outcome → IsReport (kind_in request) file outcome
   report_of request held file outcome is =
       report_on_text request is.text file outcome is.formula is.answers
-      (subst (λ (text : Option (List ℕ)). IsSomeAnd text (λ bytes. OnText bytes Only (IsBudgeted (limits_in request) (IsReport request)) outcome)) is.there is.right)
+      (subst (λ (text : Option (List ℕ)). IsSomeAnd text (λ bytes. OnText bytes Only (IsBudgeted (limits_in request) (IsReport (kind_in request))) outcome)) is.there is.right)
 
-same_texts : (one_automaton : OneAutomaton) (request other : Request) → AskTheSame request other → (k : ℕ) (L : Language) (names : List (List ℕ)) (v u : Verdict)
-    (text another : List ℕ) → v ≡ u → Says request k L names v text → Says other k L names u another → (text ≡ another) ⊎ DifferInSuffixes text another
-same_texts one_automaton (Check name limits) (Check other other_limits) ask k L names v u text another same says says' =
-    inl (says ∙ ap verdict_text same ∙ sym says')
-same_texts one_automaton (Automaton name limits) (Automaton other other_limits) ask k L names v u text another same says says' = inr (record {
-  one_file = says.automaton;
-  other_file = says'.automaton;
-  one_is = says.says;
-  other_is = says'.says;
-  same = one_automaton k L names says.automaton says'.automaton says.is says'.is;
-})
-same_texts one_automaton (Check name limits) (Automaton other other_limits) ask k L names v u text another same says says' = absurd ask
-same_texts one_automaton (Automaton name limits) (Check other other_limits) ask k L names v u text another same says says' = absurd ask
-
--- what is said of a set is said of each set with the same behaviours
-says_of_same : (move : AutomatonOfSameBehaviours) (request : Request) (k : ℕ) (L M : Language) (names : List (List ℕ)) (v : Verdict) (text : List ℕ)
-    → HaveSameBehaviours k L M → Says request k L names v text → Says request k M names v text
-says_of_same move (Check name limits) k L M names v text same says = says
-says_of_same move (Automaton name limits) k L M names v text same says =
-    record { automaton = says.automaton; is = move k L M names says.automaton same says.is; says = says.says }
-
-module _ (one_tree : SpellsOne) (one_verdict : OneVerdict) (move_verdict : VerdictOfSameBehaviours) (one_automaton : OneAutomaton) (move : AutomatonOfSameBehaviours) where
+module _ (one_tree : SpellsOne) (one_verdict : OneVerdict) (move_verdict : VerdictOfSameBehaviours) (one_automaton : OneAutomaton) (move : AutomatonOfSameBehaviours)
+    (one_file : OneFile) (move_file : FileOfSameBehaviours) (say_node : FileSaysNode) where
   pub equal_meanings : EqualMeanings
   equal_meanings request other held other_held file other_file one another ask mean answer other_answer =
       let r = report_of one_tree request held file one answer in
@@ -86,13 +66,16 @@ module _ (one_tree : SpellsOne) (one_verdict : OneVerdict) (move_verdict : Verdi
       let moved = move_verdict (length file.variables) (models file) (models other_file) r.verdict mean.same_models r.is_verdict in
       let same : r.verdict ≡ s.verdict =
       one_verdict (length file.variables) (models other_file) r.verdict s.verdict moved (subst (λ k. IsVerdict k (models other_file) s.verdict) count s.is_verdict) in
-      let says = says_of_same move request (length file.variables) (models file) (models other_file) (texts_of file.variables) r.verdict one.out mean.same_models r.says in
+      let kind = kind_in request in
+      let says =
+      says_of_same move move_file say_node (length file.variables) (models file) (models other_file) (texts_of file.variables) r.verdict one.out kind mean.same_models r.says in
       let other_says =
-      subst (λ (names : List (List ℕ)). Says other (length file.variables) (models other_file) names s.verdict another.out) (sym mean.same_names)
-      (subst (λ k. Says other k (models other_file) (texts_of other_file.variables) s.verdict another.out) count s.says) in
+      subst (λ (kind : Kind). Says kind (length file.variables) (models other_file) (texts_of file.variables) s.verdict another.out) (sym ask)
+      (subst (λ (names : List (List ℕ)). Says (kind_in other) (length file.variables) (models other_file) names s.verdict another.out) (sym mean.same_names)
+      (subst (λ k. Says (kind_in other) k (models other_file) (texts_of other_file.variables) s.verdict another.out) count s.says)) in
       record {
         status = r.status ∙ ap status_of_verdict same ∙ sym s.status;
         report =
-            same_texts one_automaton request other ask (length file.variables) (models other_file) (texts_of file.variables) r.verdict s.verdict one.out another.out same says other_says;
+            one_text one_automaton one_file (length file.variables) (models other_file) (texts_of file.variables) r.verdict s.verdict one.out another.out kind same says other_says;
         message = λ taken within. r.no_message ∙ sym s.no_message;
       }

@@ -9,3 +9,4 @@ pub mod Outcomes
 pub mod Pieces
 pub mod SomeOutcome
 pub mod VariableNames
+mod Texts

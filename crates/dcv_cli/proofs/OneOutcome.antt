@@ -29,13 +29,15 @@ use Rattle.dcv_cli.specs.declared.refusal.Refusal.TheVariants.{Budget}
 use Rattle.dcv_cli.specs.declared.status.Status.TheVariants.{Valid, NotValid, Usage, Formula, Budget as StatusBudget, Memory as OutOfMemory}
 use Rattle.dcv_cli.specs.Budget.{steps_of_file, kind_of, limit_of, IsFirstOver, IsBudgeted, OverBudget, WithinBudget}
 use Rattle.dcv_print.specs.Automaton.{DifferInSuffixes}
-use Rattle.dcv_print.specs.Laws.{OneAutomaton}
-use Rattle.dcv_cli.specs.Report.{Says, IsReport}
+use Rattle.dcv_print.specs.Laws.{OneAutomaton, OneFile}
+use Rattle.dcv_print.specs.declared.report.Kind.{Kind}
+use Rattle.dcv_cli.specs.Report.{IsReport}
+use Rattle.dcv_cli.proofs.Texts.{one_text}
 use Rattle.dcv_cli.specs.FormulaFile.{IsRefused, TooLong, Faulty, HasNoCore, IsSentence, IsFormulaFile, OnText, Refused, Read}
 use Rattle.dcv_cli.specs.Laws.{NameOneStep, OneOutcome}
 use Rattle.dcv_cli.specs.Outcome.{Outcome, refused, Agrees}
 use Rattle.dcv_cli.specs.Refusal.{most_bytes, Which, Only, message_of, status_of, refusal_of_reading, refusal_of_scope}
-use Rattle.dcv_command.specs.Request.{Request, Check, Automaton, file_in, limits_in}
+use Rattle.dcv_command.specs.Request.{Request, file_in, limits_in, kind_in}
 use Rattle.dcv_cli.specs.Request.{AsksFor}
 use Rattle.dcv_print.specs.Printed.{texts_of}
 use Rattle.dcv_cli.specs.Right.{Fulfils, IsRight, Misused, Fulfilled}
@@ -95,7 +97,7 @@ answer_is_no_refusal verdict e = by (is_none verdict.counterexample) e
 one_some : (first second : ℕ) → Some first ≡ Some second → first ≡ second
 one_some first second e = cc
 
-module _ (one_tree : SpellsOne) (one_fault : FaultIsUnique) (one_verdict : OneVerdict) (one_step : OneStepIsOver) (none_over : WithinExcludesOver) (one_automaton : OneAutomaton) where
+module _ (one_tree : SpellsOne) (one_fault : FaultIsUnique) (one_verdict : OneVerdict) (one_step : OneStepIsOver) (none_over : WithinExcludesOver) (one_automaton : OneAutomaton) (one_automaton_file : OneFile) where
   one_sentence : (text : List ℕ) (f g : PlainFile) → IsSentence text f → IsSentence text g → f ≡ g
   one_sentence text f g s t = one_tree text f g s.spelled t.spelled
 
@@ -189,7 +191,7 @@ module _ (one_tree : SpellsOne) (one_fault : FaultIsUnique) (one_verdict : OneVe
     is : IsFirstOver (limits_in request) file over
     says : outcome.err ≡ message_of (Budget over)
 
-  named : (request : Request) (text : List ℕ) (outcome : Outcome) → OnText text Only (IsBudgeted (limits_in request) (IsReport request)) outcome
+  named : (request : Request) (text : List ℕ) (outcome : Outcome) → OnText text Only (IsBudgeted (limits_in request) (IsReport (kind_in request))) outcome
       → outcome.status ≡ StatusBudget → Names request text outcome
   named request text outcome (Refused refusal is e) budget =
       absurd (refused_is_formula text refusal is (sym (ap (λ (o : Outcome). o.status) e) ∙ budget))
@@ -219,8 +221,8 @@ module _ (one_tree : SpellsOne) (one_fault : FaultIsUnique) (one_verdict : OneVe
   one_step_named words held request a b asks p q over over' = by (held (file_in request)) refl p q
     where
       by : (found : Option (List ℕ)) → held (file_in request) ≡ found
-          → IsSomeAnd found (λ text. OnText text Only (IsBudgeted (limits_in request) (IsReport request)) a)
-          → IsSomeAnd found (λ text. OnText text Only (IsBudgeted (limits_in request) (IsReport request)) b) → NameOneStep words held a.err b.err
+          → IsSomeAnd found (λ text. OnText text Only (IsBudgeted (limits_in request) (IsReport (kind_in request))) a)
+          → IsSomeAnd found (λ text. OnText text Only (IsBudgeted (limits_in request) (IsReport (kind_in request))) b) → NameOneStep words held a.err b.err
       by None there p q = absurd p
       by (Some text) there p q = two_names words held request text a b asks there (named request text a p over) (named request text b q over')
 
@@ -232,24 +234,12 @@ module _ (one_tree : SpellsOne) (one_fault : FaultIsUnique) (one_verdict : OneVe
     message = λ taken within. absurd (within (ap (λ (o : Outcome). o.status) e));
   }
 
-  -- one text is what is asked for, but for the suffixes of an automaton
-  one_text : (request : Request) (k : ℕ) (L : Language) (names : List (List ℕ)) (v u : Verdict) (one other : List ℕ) → v ≡ u
-      → Says request k L names v one → Says request k L names u other → (one ≡ other) ⊎ DifferInSuffixes one other
-  one_text (Check name limits) k L names v u one other same says says' = inl (says ∙ ap verdict_text same ∙ sym says')
-  one_text (Automaton name limits) k L names v u one other same says says' = inr (record {
-    one_file = says.automaton;
-    other_file = says'.automaton;
-    one_is = says.says;
-    other_is = says'.says;
-    same = one_automaton k L names says.automaton says'.automaton says.is says'.is;
-  })
-
-  one_report : (request : Request) (file : PlainFile) (a b : Outcome) → IsReport request file a → IsReport request file b → Agrees a b
-  one_report request file a b r s =
+  one_report : (kind : Kind) (file : PlainFile) (a b : Outcome) → IsReport kind file a → IsReport kind file b → Agrees a b
+  one_report kind file a b r s =
       let same : r.verdict ≡ s.verdict = one_verdict (length file.variables) (models file) r.verdict s.verdict r.is_verdict s.is_verdict in
       record {
         status = r.status ∙ ap status_of_verdict same ∙ sym s.status;
-        report = one_text request (length file.variables) (models file) (texts_of file.variables) r.verdict s.verdict a.out b.out same r.says s.says;
+        report = one_text one_automaton one_automaton_file (length file.variables) (models file) (texts_of file.variables) r.verdict s.verdict a.out b.out kind same r.says s.says;
         message = λ taken within. r.no_message ∙ sym s.no_message;
       }
 
@@ -265,8 +255,8 @@ module _ (one_tree : SpellsOne) (one_fault : FaultIsUnique) (one_verdict : OneVe
 
   one_fulfilled : (request : Request) (held : List ℕ → Option (List ℕ)) (a b : Outcome) → Fulfils request held a → Fulfils request held b → Agrees a b
   one_fulfilled request held a b p q =
-      one_on_file (held (file_in request)) Only (IsBudgeted (limits_in request) (IsReport request))
-      (one_budgeted (limits_in request) (IsReport request) (one_report request)) a b p q
+      one_on_file (held (file_in request)) Only (IsBudgeted (limits_in request) (IsReport (kind_in request)))
+      (one_budgeted (limits_in request) (IsReport (kind_in request)) (one_report (kind_in request))) a b p q
 
   -- words ask for one thing
   one_request : (words : List (List ℕ)) (r s : Request) → AsksFor words r → AsksFor words s → r ≡ s

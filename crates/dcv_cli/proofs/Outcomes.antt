@@ -40,7 +40,7 @@ use Rattle.dcv_cli.specs.Refusal.{most_bytes, Only, is_of_text, refusal_of_takin
 use Rattle.dcv_cli.specs.Request.{AsksFor}
 use Rattle.std.specs.Prelude.{String}
 use Rattle.std.specs.String.{string_bytes}
-use Rattle.dcv_command.specs.Request.{Request, IsTaken, request_of, file_in, limits_in}
+use Rattle.dcv_command.specs.Request.{Request, IsTaken, request_of, file_in, limits_in, kind_in}
 use Rattle.dcv_print.specs.Printed.{texts_of}
 use Rattle.dcv_cli.specs.Right.{Fulfilled, FulfilsOver, IsRightOver}
 use Rattle.dcv_cli.specs.declared.status.Status.TheVariants.{Valid, NotValid}
@@ -87,9 +87,9 @@ over_is_of_text steps limits _ is = absurd is
 
 -- what was judged, and the report on it
 pub answers_report : (request : Request) (text : List ℕ) (judged : Judged) (report : ReportValue) (status : Status) → IsJudged text (limits_in request) judged
-    → ((k : ℕ) (L : Language) → IsAutomatonOf k L judged.auto → Reports request k L (texts_of judged.names.items) report)
+    → ((k : ℕ) (L : Language) → IsAutomatonOf k L judged.auto → Reports (kind_in request) k L (texts_of judged.names.items) report)
     → status ≡ status_of_verdict report.verdict
-    → OnText text Only (IsBudgeted (limits_in request) (IsReport request)) (record { status = status; out = report.text; err = [] })
+    → OnText text Only (IsBudgeted (limits_in request) (IsReport (kind_in request))) (record { status = status; out = report.text; err = [] })
 answers_report request text judged report status is reports ends =
     let file = is.file in
     let said = reports (length file.variables) (models file) is.automaton in
@@ -97,7 +97,7 @@ answers_report request text judged report status is reports ends =
       verdict = report.verdict;
       is_verdict = said.verdict;
       status = ends;
-      says = subst (λ (names : List Name). Says request (length file.variables) (models file) (texts_of names) report.verdict report.text) is.names said.says;
+      says = subst (λ (names : List Name). Says (kind_in request) (length file.variables) (models file) (texts_of names) report.verdict report.text) is.names said.says;
       no_message = refl;
     }))
 
@@ -113,7 +113,7 @@ answer_of_verdict verdict = by (is_none verdict.counterexample)
 
 -- what is right for a text is right for the name where it is held, or may be
 pub fulfils_file : (told : Option Disk) (request : Request) (text : List ℕ) (outcome : Outcome) → IfSome (held_of told) (λ held. held (file_in request) ≡ Some text)
-    → OnText text Only (IsBudgeted (limits_in request) (IsReport request)) outcome → FulfilsOver request told outcome
+    → OnText text Only (IsBudgeted (limits_in request) (IsReport (kind_in request))) outcome → FulfilsOver request told outcome
 fulfils_file None request text outcome there right = record { held = λ n. Some text; same = tt; holds = right }
 fulfils_file (Some disk) request text outcome there right = record { held = disk.held; same = refl; holds = rw there right }
 
@@ -142,7 +142,7 @@ explains_taking told new request TakeMemory past = tt
 
 -- a refusal of the text is one of what is held
 pub explains_text : (told : Option Disk) (request : Request) (text : List ℕ) (refusal : Refusal) → IfSome (held_of told) (λ held. held (file_in request) ≡ Some text)
-    → IsExplained (OnText text Only (IsBudgeted (limits_in request) (IsReport request))) refusal → IsExplained (FulfilsOver request told) refusal
+    → IsExplained (OnText text Only (IsBudgeted (limits_in request) (IsReport (kind_in request)))) refusal → IsExplained (FulfilsOver request told) refusal
 explains_text told request text Length there h = fulfils_file told request text _ there h
 explains_text told request text (Text fault at) there h = fulfils_file told request text _ there h
 explains_text told request text (Budget over) there h = fulfils_file told request text _ there h
@@ -185,7 +185,7 @@ on_true false h = tt
 -- a report with this status was made, for a text that is held
 module _ (told : Option Disk) (request : Request) (text : List ℕ) (status : Status) (out : List ℕ) (old new : Option (List ℕ))
     (there : IfSome (held_of told) (λ held. held (file_in request) ≡ Some text))
-    (right : OnText text Only (IsBudgeted (limits_in request) (IsReport request)) (record { status = status; out = out; err = [] })) where
+    (right : OnText text Only (IsBudgeted (limits_in request) (IsReport (kind_in request))) (record { status = status; out = out; err = [] })) where
   reported : Outcome
   reported = record { status = status; out = out; err = [] }
 

@@ -19,13 +19,13 @@ use Rattle.dcv_cli.specs.Refusal.{most_bytes, Only, refusal_of_reading, refusal_
 use Rattle.clap.specs.Words.{fault_of, Kinds}
 use Rattle.dcv_command.specs.Laws.{TakenWordsAsk}
 use Rattle.dcv_command.specs.Program.{program}
-use Rattle.dcv_command.specs.Request.{Request, IsTaken, request_of, file_in, limits_in}
+use Rattle.dcv_command.specs.Request.{Request, IsTaken, request_of, file_in, limits_in, kind_in}
 use Rattle.dcv_cli.specs.Request.{AsksFor}
 use Rattle.dcv_cli.specs.Right.{IsRight, Misused, Fulfilled}
 
 -- what comes of a text: an outcome, or it is a formula file
 abbrev Comes : Request → List ℕ → Type 0
-Comes request text = ((outcome : Outcome) × OnText text Only (IsBudgeted (limits_in request) (IsReport request)) outcome) ⊎ ((file : PlainFile) × IsFormulaFile text file)
+Comes request text = ((outcome : Outcome) × OnText text Only (IsBudgeted (limits_in request) (IsReport (kind_in request))) outcome) ⊎ ((file : PlainFile) × IsFormulaFile text file)
 
 -- a sentence is a formula file, or has no core
 some_on_sentence : (request : Request) (text : List ℕ) (file : PlainFile) → IsSentence text file → (fault : Option ScopeFault) → fault_of_file file ≡ fault → Comes request text

@@ -1,7 +1,7 @@
 -- What there is of a formula file that is not refused, and what a report on it says.
 --     IsJudged text limits judged     the automaton and the names are those of the formula file that the text is
 --     CanBePrinted judged              there is a name for each variable, and the automaton is within what may be printed
---     Reports request k L names r     the report has the set's verdict, and says what the request asks for
+--     Reports kind k L names r         the report has the set's verdict, and says what is asked for
 use Rattle.std.specs.Prelude.{◌≡◌, ◌≤◌, ℕ, List, length}
 use Rattle.dcv_syntax.specs.Plain.{PlainFile}
 use Rattle.dcv_logic.specs.Models.{models}
@@ -14,8 +14,6 @@ use Rattle.dcv_build.specs.Budget.{IsAutomatonOf, IsWithinBudget}
 use Rattle.dcv_print.specs.Printed.{texts_of}
 use Rattle.dcv_print.specs.Report.{ReportValue}
 use Rattle.dcv_print.specs.declared.report.Kind.{Kind}
-use Rattle.dcv_print.specs.declared.report.Kind.TheVariants.{Check as CheckKind, Automaton as AutomatonKind}
-use Rattle.dcv_command.specs.Request.{Request, Check, Automaton}
 use Rattle.dcv_cli.specs.Budget.{steps_of_file}
 use Rattle.dcv_cli.specs.FormulaFile.{IsFormulaFile}
 use Rattle.dcv_cli.specs.Report.{Says}
@@ -35,10 +33,6 @@ pub record IsJudged (text : List ℕ) (limits : Limits) (judged : Judged) : Type
   pub automaton : IsAutomatonOf (length file.variables) (models file) judged.auto
   pub printable : CanBePrinted judged
 
-abbrev pub kind_of : Request → Kind
-kind_of (Check name limits) = CheckKind
-kind_of (Automaton name limits) = AutomatonKind
-
-pub record Reports (request : Request) (k : ℕ) (L : Language) (names : List (List ℕ)) (report : ReportValue) : Type 0 where
+pub record Reports (kind : Kind) (k : ℕ) (L : Language) (names : List (List ℕ)) (report : ReportValue) : Type 0 where
   pub verdict : IsVerdict k L report.verdict
-  pub says : Says request k L names report.verdict report.text
+  pub says : Says kind k L names report.verdict report.text

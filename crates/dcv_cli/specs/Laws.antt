@@ -17,7 +17,7 @@ use Rattle.dcv_cli.specs.Budget.{steps_of_file, IsFirstOver}
 use Rattle.dcv_cli.specs.Refusal.{message_of}
 use Rattle.dcv_cli.specs.FormulaFile.{IsFormulaFile}
 use Rattle.dcv_cli.specs.Outcome.{Outcome, Agrees}
-use Rattle.dcv_command.specs.Request.{Request, Check, Automaton, file_in, limits_in}
+use Rattle.dcv_command.specs.Request.{Request, kind_in, file_in, limits_in}
 use Rattle.dcv_cli.specs.Request.{AsksFor, files_of}
 use Rattle.dcv_cli.specs.Right.{Fulfils, IsRight}
 use Rattle.dcv_cli.specs.Status.{is_answer}
@@ -67,10 +67,7 @@ SomeOutcome = (words : List (List ℕ)) (held : List ℕ → Option (List ℕ)) 
 
 -- the same command, over any file and with any limits
 abbrev pub AskTheSame : Request → Request → Type 0
-AskTheSame (Check name limits) (Check other other_limits) = Unit {0}
-AskTheSame (Automaton name limits) (Automaton other other_limits) = Unit {0}
-AskTheSame (Check name limits) (Automaton other other_limits) = ⊥
-AskTheSame (Automaton name limits) (Check other other_limits) = ⊥
+AskTheSame request other = kind_in request ≡ kind_in other
 
 -- variables with the same names, and the same behaviours that model them
 pub record MeanTheSame (one other : PlainFile) : Type 0 where
@@ -85,7 +82,7 @@ pub record IsAnswer (request : Request) (held : List ℕ → Option (List ℕ)) 
   pub right : Fulfils request held outcome
   pub answers : IsTrue (is_answer outcome.status)
 
--- files that mean the same have the same verdict, and the same automaton but for its suffixes
+-- files that mean the same have the same verdict, the same observers, and the same automaton but for its suffixes
 abbrev pub EqualMeanings : Type 0
 EqualMeanings = (request other : Request) (held other_held : List ℕ → Option (List ℕ)) (file other_file : PlainFile) (one another : Outcome)
     → AskTheSame request other → MeanTheSame file other_file → IsAnswer request held file one → IsAnswer other other_held other_file another

@@ -5,7 +5,7 @@
 use Rattle.std.specs.Prelude.{◌≡◌, ℕ, List, [], Option, IfSome}
 use Rattle.dcv_io.specs.Disk.{Disk, held_of}
 use Rattle.dcv_cli.specs.declared.status.Status.TheVariants.{Usage}
-use Rattle.dcv_command.specs.Request.{Request, IsTaken, file_in, limits_in}
+use Rattle.dcv_command.specs.Request.{Request, IsTaken, kind_in, file_in, limits_in}
 use Rattle.dcv_cli.specs.Budget.{IsBudgeted}
 use Rattle.dcv_cli.specs.FormulaFile.{OnFile}
 use Rattle.dcv_cli.specs.Outcome.{Outcome}
@@ -14,7 +14,7 @@ use Rattle.dcv_cli.specs.Report.{IsReport}
 use Rattle.dcv_cli.specs.Request.{AsksFor}
 
 abbrev pub Fulfils : Request → (List ℕ → Option (List ℕ)) → Outcome → Type 0
-Fulfils request held outcome = OnFile held (file_in request) Only (IsBudgeted (limits_in request) (IsReport request)) outcome
+Fulfils request held outcome = OnFile held (file_in request) Only (IsBudgeted (limits_in request) (IsReport (kind_in request))) outcome
 
 -- Words that are no command's are refused, in whatever words. Else what fulfils their request is right.
 pub data IsRight (words : List (List ℕ)) (held : List ℕ → Option (List ℕ)) (outcome : Outcome) : Type 0 where

@@ -5,14 +5,14 @@ ghost use Rattle.dcv_automaton_text.specs.Rules.{AreNames, most_states, most_nod
 ghost use Rattle.dcv_dfa.specs.Auto.{count_of_nodes};
 ghost use Rattle.dcv_build.specs.Budget.{IsAutomatonOf};
 ghost use Rattle.dcv_print.specs.Printed.{texts_of};
-ghost use Rattle.dcv_command.specs.Seen.{asked_by};
-ghost use Rattle.dcv_cli.specs.Judged.{CanBePrinted, kind_of, Reports};
+ghost use Rattle.dcv_cli.specs.Judged.{CanBePrinted, Reports};
 
-use dcv_command::Request;
 use dcv_dfa::Auto;
 use dcv_dfa::laws::tables_accept_the_same;
 use dcv_language::laws::verdict_of_same_behaviours;
-use dcv_print::laws::{automaton_of_same_behaviours, printed_is_automaton};
+use dcv_print::laws::{
+    automaton_of_same_behaviours, printed_is_automaton, printed_observers_observe,
+};
 use dcv_print::{Kind, Report};
 use dcv_syntax::Name;
 use std::alloc::{AllocError, Global};
@@ -24,31 +24,22 @@ pub struct Judged {
     pub names: Vec<Name>,
 }
 
-/// What the request asks for.
+/// What is asked for.
 pub(crate) fn report_on<'a>(
     alloc: Global,
-    request: Request,
+    kind: Kind,
     judged: &'a Judged,
 ) -> Result<Report<'a>, AllocError>
     requires { CanBePrinted judged.now }
     ensures { (k : ℕ) (L : Language) → IsAutomatonOf k L judged.now.auto
-        → IfOk result (Reports (asked_by request.entry) k L (texts_of judged.now.names.items)) }
+        → IfOk result (Reports kind k L (texts_of judged.now.names.items)) }
 {
     tables_accept_the_same();
     verdict_of_same_behaviours();
     printed_is_automaton();
     automaton_of_same_behaviours();
+    printed_observers_observe();
     // for the prover: what is true of every canonical automaton.
     let _ = judged.auto.states();
-    Report::make(alloc, &judged.auto, &judged.names, kind_of(request))
-}
-
-// The kind of report that the request asks for.
-fn kind_of(request: Request) -> Kind
-    ensures { result ≡ kind_of (asked_by request.entry) }
-{
-    match request {
-        Request::Check { .. } => Kind::Check,
-        Request::Automaton { .. } => Kind::Automaton,
-    }
+    Report::make(alloc, &judged.auto, &judged.names, kind)
 }

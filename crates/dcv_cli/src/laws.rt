@@ -4,7 +4,7 @@ ghost use Rattle.dcv_cli.specs.Laws.{OneOutcome, SomeOutcome, EqualMeanings, Nam
 use dcv_build::laws::one_step_is_over;
 use dcv_command::laws::taken_words_ask;
 use dcv_language::laws::{one_verdict, verdict_of_same_behaviours};
-use dcv_print::laws::{automaton_of_same_behaviours, one_automaton};
+use dcv_print::laws::{automaton_of_same_behaviours, one_automaton, one_file, printed_observers_observe};
 use dcv_reader::laws::{one_fault, one_tree, some_reading};
 
 /// One outcome at most is right for the words and the texts that are held. So each status, report and message that
@@ -17,6 +17,7 @@ pub fn one_outcome()
     one_verdict();
     one_step_is_over();
     one_automaton();
+    one_file();
 }
 
 /// Some outcome is right for all words, where the files that they name are held, unless the text is that of a formula file. So no words
@@ -28,8 +29,8 @@ pub fn some_outcome()
     taken_words_ask();
 }
 
-/// Formula files with the same variables and the same models have the same answer: the same verdict, and the same automaton but for its
-/// suffixes.
+/// Formula files with the same variables and the same models have the same answer: the same verdict, the same observers, and the same
+/// automaton but for its suffixes.
 pub fn equal_meanings()
     ensures { EqualMeanings }
 {
@@ -38,6 +39,8 @@ pub fn equal_meanings()
     verdict_of_same_behaviours();
     one_automaton();
     automaton_of_same_behaviours();
+    one_file();
+    printed_observers_observe();
 }
 
 /// The names of a text occur in the order of their offsets. So the first fault of names, which counts, is the one at the least

@@ -5,7 +5,7 @@ ghost use Rattle.dcv_io.specs.Asked.{Asks};
 ghost use Rattle.dcv_io.specs.Disk.{held_of};
 ghost use Rattle.dcv_io.specs.Faults.{RisesIf};
 ghost use Rattle.dcv_io.specs.Written.{Appends};
-ghost use Rattle.dcv_command.specs.Request.{file_in, limits_in, AreInRange};
+ghost use Rattle.dcv_command.specs.Request.{file_in, kind_in, limits_in, AreInRange};
 ghost use Rattle.dcv_command.specs.Seen.{asked_by};
 ghost use Rattle.dcv_cli.specs.Ending.{EndsBy, IsExplained, AddsFront, StopsWithin};
 ghost use Rattle.dcv_cli.specs.FormulaFile.{OnText};
@@ -56,7 +56,7 @@ pub fn perform<F: Files, O: Sink>(
 {
     let text = read_all(alloc, files, request.file(), MOST_BYTES)?;
     let judged = judge(alloc, &text, request)?;
-    let report = report_on(alloc, request, &judged)?;
+    let report = report_on(alloc, request.kind(), &judged)?;
     report.send(out)?;
     Ok(Status::of(report.verdict()))
 }
@@ -66,7 +66,7 @@ fn judge(alloc: Global, text: &[u8], request: Request) -> Result<Judged, Refusal
     requires short { length text.now ≤ most_bytes }
     requires limits { AreInRange (limits_in (asked_by request)) }
     ensures judged { IfOk result (IsJudged text.now (limits_in (asked_by request.entry))) }
-    ensures refused { IfErr result (IsExplained (OnText text.now Only (IsBudgeted (limits_in (asked_by request.entry)) (IsReport (asked_by request.entry))))) }
+    ensures refused { IfErr result (IsExplained (OnText text.now Only (IsBudgeted (limits_in (asked_by request.entry)) (IsReport (kind_in (asked_by request.entry)))))) }
     ensures own { IfErr result (λ refusal. IsTrue (is_of_text refusal)) }
 {
     names_are_short();

@@ -112,6 +112,10 @@ pub check_is_one : IsSubcommand (codes "check")
 unfolding clap_on_literals
 check_is_one = record { met = refl; no_fault = refl; faults = λ rest. refl; passes = refl; takes = λ rest. refl; found = λ rest. refl }
 
+pub lustre_is_one : IsSubcommand (codes "lustre")
+unfolding clap_on_literals
+lustre_is_one = record { met = refl; no_fault = refl; faults = λ rest. refl; passes = refl; takes = λ rest. refl; found = λ rest. refl }
+
 pub automaton_is_one : IsSubcommand (codes "automaton")
 unfolding clap_on_literals
 automaton_is_one = record { met = refl; no_fault = refl; faults = λ rest. refl; passes = refl; takes = λ rest. refl; found = λ rest. refl }

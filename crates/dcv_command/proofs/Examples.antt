@@ -3,7 +3,8 @@ use Rattle.std.proofs.Common.{◌≡◌, refl, true, List, ℕ, [], ◌∷◌, S
 use Rattle.clap.specs.Words.{is_simple, fault_of}
 use Rattle.clap.proofs.OnLiterals.{clap_on_literals}
 use Rattle.dcv_command.specs.Program.{program}
-use Rattle.dcv_command.specs.Request.{Check, Automaton, request_of}
+use Rattle.dcv_print.specs.declared.report.Kind.TheVariants.{Check, Automaton}
+use Rattle.dcv_command.specs.Request.{Report, request_of}
 
 program_is_simple : is_simple program ≡ true
 program_is_simple = refl
@@ -15,13 +16,13 @@ taken : fault_of program check_it ≡ []
 unfolding clap_on_literals
 taken = refl
 
-defaults : request_of check_it ≡ Some (Check (codes "door.dc") (record { states = 30000; nodes = 1000000 }))
+defaults : request_of check_it ≡ Some (Report Check (codes "door.dc") (record { states = 30000; nodes = 1000000 }))
 unfolding clap_on_literals
 defaults = refl
 
 abbrev limited : List (List ℕ)
 limited = codes "automaton" ∷ codes "door.dc" ∷ codes "--states" ∷ codes "10" ∷ []
 
-limits : request_of limited ≡ Some (Automaton (codes "door.dc") (record { states = 10; nodes = 1000000 }))
+limits : request_of limited ≡ Some (Report Automaton (codes "door.dc") (record { states = 10; nodes = 1000000 }))
 unfolding clap_on_literals
 limits = refl

@@ -8,8 +8,9 @@ use Rattle.clap.specs.ValueTests.{is_unsigned_in}
 use Rattle.clap.specs.declared.builder.value_parser.ValueParser.TheVariants.{Unsigned}
 use Rattle.clap.proofs.ValueTestLemmas.{accepts-Accepts}
 use Rattle.dcv_explore.specs.declared.explorer.Limits.{Limits}
+use Rattle.dcv_print.specs.declared.report.Kind.{Kind}
 use Rattle.dcv_command.specs.Program.{most_states, most_nodes}
-use Rattle.dcv_command.specs.Request.{AreInRange, Request, Check, Automaton, command_of, limits_among, limits_in, limits_of, number_in, number_of, request_of_subcommand}
+use Rattle.dcv_command.specs.Request.{AreInRange, Request, Report, command_of, limits_among, limits_in, limits_of, kind_named, number_in, number_of, request_of_subcommand}
 
 number_is_in_range : (most : ℕ) (text : Option Text) (number : ℕ) → option_and_then (number_of most) text ≡ Some number → (1 ≤ number) × (number ≤ most)
 number_is_in_range most None number is = let wrong : None ≡ Some number = is in cc
@@ -39,11 +40,10 @@ limits_are_in_range rows limits is =
     both_are_in_range (number_in most_states (codes "states") rows) (number_in most_nodes (codes "nodes") rows) limits
     (number_is_in_range most_states (one_of (codes "states") rows)) (number_is_in_range most_nodes (one_of (codes "nodes") rows)) is
 
-command_is_in_range : (check automaton : Bool) (file : Text) (limits : Limits) (request : Request) → AreInRange limits
-    → (if check then Some (Check file limits) else (if automaton then Some (Automaton file limits) else None)) ≡ Some request → AreInRange (limits_in request)
-command_is_in_range true automaton file limits request within is = let same : Check file limits ≡ request = cc in subst (λ one. AreInRange (limits_in one)) same within
-command_is_in_range false true file limits request within is = let same : Automaton file limits ≡ request = cc in subst (λ one. AreInRange (limits_in one)) same within
-command_is_in_range false false file limits request within is = let wrong : None ≡ Some request = is in cc
+command_is_in_range : (kind : Option Kind) (file : Text) (limits : Limits) (request : Request) → AreInRange limits
+    → option_map (λ kind. Report kind file limits) kind ≡ Some request → AreInRange (limits_in request)
+command_is_in_range None file limits request within is = let wrong : None ≡ Some request = is in cc
+command_is_in_range (Some kind) file limits request within is = let same : Report kind file limits ≡ request = cc in subst (λ one. AreInRange (limits_in one)) same within
 
 pub request_is_in_range : (subcommand : Option (Text × List Row)) (request : Request) → request_of_subcommand subcommand ≡ Some request → AreInRange (limits_in request)
 request_is_in_range None request is = let wrong : None ≡ Some request = is in cc
@@ -54,4 +54,4 @@ request_is_in_range (Some (name, rows)) request is = by (first_of (codes "file")
     by None limits found is = let wrong : None ≡ Some request = is in cc
     by (Some file) None found is = let wrong : None ≡ Some request = is in cc
     by (Some file) (Some limits) found is =
-        command_is_in_range (bytes_eq name (codes "check")) (bytes_eq name (codes "automaton")) file limits request (limits_are_in_range rows limits found) is
+        command_is_in_range (kind_named name) file limits request (limits_are_in_range rows limits found) is

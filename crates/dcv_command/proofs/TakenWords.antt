@@ -1,6 +1,6 @@
 -- Words in which no fault is found name a subcommand, and each subcommand asks for something.
 use Rattle.std.proofs.Common.{◌≡◌, ℕ, Bool, true, false, List, [], ◌∷◌, Option, None, Some, refl, sym, subst, codes, ap, ◌∙◌}
-use Rattle.std.specs.Prelude.{IsSome, is_some, ◌||◌, option_and_then, option_map, fold, not, ◌&&◌, if◌then◌else◌}
+use Rattle.std.specs.Prelude.{IsSome, is_some, find, ◌||◌, option_and_then, option_map, fold, not, ◌&&◌, if◌then◌else◌}
 use Rattle.std.specs.Option.{option_map_or}
 use Rattle.std.specs.Str.{bytes_eq}
 use Rattle.std.specs.List.{list_any}
@@ -142,15 +142,29 @@ automaton_asks : (words : List Text) → Asks (leaf (codes "automaton")) words
 unfolding clap_on_literals
 automaton_asks words = leaf_asks (codes "automaton") words (λ file limits. refl)
 
-found_asks : (one two three : Shape) (rest : List Text) (first second third : Bool) → Asks one rest → Asks two rest → third ≡ false
-    → option_map_or (λ shape. level_fault shape [] nothing_held rest false []) (if first then Some one else (if second then Some two else (if third then Some three else None))) [] ≡ []
-    → IsSome (option_map (λ s. rows_at s rest) (if first then Some one else (if second then Some two else (if third then Some three else None))))
-    → IsSome (option_and_then (λ found. request_in found.0 found.1)
-    (option_map (λ s. rows_at s rest) (if first then Some one else (if second then Some two else (if third then Some three else None)))))
-found_asks one two three rest true second third check automaton none no_fault e = check no_fault
-found_asks one two three rest false true third check automaton none no_fault e = automaton no_fault
-found_asks one two three rest false false true check automaton none no_fault e = absurd (true≢false none)
-found_asks one two three rest false false false check automaton none no_fault e = e
+lustre_asks : (words : List Text) → Asks (leaf (codes "lustre")) words
+unfolding clap_on_literals
+lustre_asks words = leaf_asks (codes "lustre") words (λ file limits. refl)
+
+-- each of some subcommands that the name names asks for something
+abbrev EachAsks : Text → List Text → List Shape → Type 0
+EachAsks name rest [] = Unit {0}
+EachAsks name rest (shape ∷ shapes) = (answers_to name (label_of shape) ≡ true → Asks shape rest) × EachAsks name rest shapes
+
+-- the subcommand that is found, if there is one, asks for something where it has no fault
+abbrev AsksSomething : List Text → Option Shape → Type 0
+AsksSomething rest found =
+    option_map_or (λ shape. level_fault shape [] nothing_held rest false []) found [] ≡ [] → IsSome (option_map (λ s. rows_at s rest) found)
+    → IsSome (option_and_then (λ found. request_in found.0 found.1) (option_map (λ s. rows_at s rest) found))
+
+found_asks : (name : Text) (rest : List Text) (shapes : List Shape) → EachAsks name rest shapes → AsksSomething rest (find (λ s. answers_to name (label_of s)) shapes)
+found_asks name rest [] asks = λ no_fault e. e
+found_asks name rest (shape ∷ shapes) (one, others) = by (answers_to name (label_of shape)) refl (found_asks name rest shapes others)
+  where
+    by : (named : Bool) → answers_to name (label_of shape) ≡ named → AsksSomething rest (find (λ s. answers_to name (label_of s)) shapes)
+        → AsksSomething rest (if named then Some shape else find (λ s. answers_to name (label_of s)) shapes)
+    by true is others = λ no_fault e. one is no_fault
+    by false is others = others
 
 help_names_none : (name : Text) → IsNoHelp name → bytes_eq (codes "help") name ≡ false
 help_names_none name differs =
@@ -162,9 +176,12 @@ stop_asks : (stop : Option (Text × List Text)) → StopsNotAtHelp stop → ente
 unfolding clap_on_literals
 stop_asks None before no_fault e = e
 stop_asks (Some p) before no_fault e =
-    found_asks (leaf (codes "check")) (leaf (codes "automaton")) (built_leaf help_shape) p.1 (answers_to p.0 (label_of (leaf (codes "check"))))
-    (answers_to p.0 (label_of (leaf (codes "automaton")))) (answers_to p.0 (label_of (built_leaf help_shape))) (check_asks p.1) (automaton_asks p.1)
-    (ap (λ (b : Bool). b || false) (help_names_none p.0 before)) no_fault e
+    found_asks p.0 p.1 (built program).subs
+    (
+      (λ _. check_asks p.1),
+      ((λ _. automaton_asks p.1), ((λ _. lustre_asks p.1), ((λ named. absurd (true≢false (sym named ∙ ap (λ (b : Bool). b || false) (help_names_none p.0 before)))), tt))),
+    )
+    no_fault e
 
 pub taken_words_ask : TakenWordsAsk
 taken_words_ask words taken =

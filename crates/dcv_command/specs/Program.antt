@@ -32,7 +32,7 @@ over_a_formula name = record (new_shape name) {
 }
 
 abbrev pub subcommands : List Shape
-subcommands = over_a_formula (codes "check") ∷ over_a_formula (codes "automaton") ∷ []
+subcommands = over_a_formula (codes "check") ∷ over_a_formula (codes "automaton") ∷ over_a_formula (codes "lustre") ∷ []
 
 abbrev pub program : App
 program = record {

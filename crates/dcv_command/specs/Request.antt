@@ -5,6 +5,8 @@
 --     limits_among rows       the values of both options
 --     request_of words        what the words ask for
 --     IsTaken words           `clap` finds no fault in the words
+--     kind_named name         what the subcommand of this name reports
+--     kind_in request         what it reports
 --     file_in request         the name of the file that it reads
 --     limits_in request       its limits
 use Rattle.std.specs.Prelude.{◌≡◌, ℕ, ◌≤◌, List, [], Option, None, Some, codes, if◌then◌else◌, option_map, option_and_then}
@@ -13,13 +15,13 @@ use Rattle.std.specs.Str.Parse.{digits_value, without_leading_plus}
 use Rattle.clap.specs.Words.{Row, Text, first_of, one_of, subcommand_of, fault_of}
 use Rattle.clap.specs.ValueTests.{is_unsigned_in}
 use Rattle.dcv_explore.specs.declared.explorer.Limits.{Limits}
+use Rattle.dcv_print.specs.declared.report.Kind.{Kind}
+use Rattle.dcv_print.specs.declared.report.Kind.TheVariants.{Check, Automaton, Lustre}
 use Rattle.dcv_command.specs.Program.{program, most_states, most_nodes}
 
 pub data Request : Type 0 where
-  -- the verdict of the formula in the file with this name
-  Check : (name : List ℕ) → (limits : Limits) → Request
-  -- its minimal automaton
-  Automaton : (name : List ℕ) → (limits : Limits) → Request
+  -- a report on the formula in the file with this name
+  Report : (kind : Kind) → (name : List ℕ) → (limits : Limits) → Request
 
 -- ---- the values of a subcommand's options
 
@@ -44,10 +46,14 @@ pub record AreInRange (limits : Limits) : Type 0 where
 
 -- ---- what is asked for
 
+abbrev pub kind_named : Text → Option Kind
+kind_named name =
+    if bytes_eq name (codes "check") then Some Check
+    else (if bytes_eq name (codes "automaton") then Some Automaton
+    else (if bytes_eq name (codes "lustre") then Some Lustre else None))
+
 abbrev pub command_of : Text → Text → Limits → Option Request
-command_of name file limits =
-    if bytes_eq name (codes "check") then Some (Check file limits)
-    else (if bytes_eq name (codes "automaton") then Some (Automaton file limits) else None)
+command_of name file limits = option_map (λ kind. Report kind file limits) (kind_named name)
 
 abbrev pub request_in : Text → List Row → Option Request
 request_in name rows = option_and_then (λ file. option_and_then (command_of name file) (limits_among rows)) (first_of (codes "file") rows)
@@ -64,10 +70,11 @@ IsTaken words = fault_of program words ≡ []
 
 -- ---- its parts
 
+abbrev pub kind_in : Request → Kind
+kind_in (Report kind name limits) = kind
+
 abbrev pub file_in : Request → List ℕ
-file_in (Check name limits) = name
-file_in (Automaton name limits) = name
+file_in (Report kind name limits) = name
 
 abbrev pub limits_in : Request → Limits
-limits_in (Check name limits) = limits
-limits_in (Automaton name limits) = limits
+limits_in (Report kind name limits) = limits

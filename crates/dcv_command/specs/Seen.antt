@@ -3,14 +3,13 @@
 --     IsUsageOnlyWhere P fault    the words are refused as no command's only where P holds
 use Rattle.std.specs.Prelude.{}
 use Rattle.dcv_command.specs.declared.words.Request.{Request as CodeRequest}
-use Rattle.dcv_command.specs.declared.words.Request.TheVariants.{Check as CodeCheck, Automaton as CodeAutomaton}
+use Rattle.dcv_command.specs.declared.words.Request.TheVariants.{Report as CodeReport}
 use Rattle.dcv_command.specs.declared.words.WordsFault.{WordsFault}
 use Rattle.dcv_command.specs.declared.words.WordsFault.TheVariants.{Usage, Memory}
-use Rattle.dcv_command.specs.Request.{Request, Check, Automaton}
+use Rattle.dcv_command.specs.Request.{Request, Report}
 
 abbrev pub asked_by : CodeRequest → Request
-asked_by (CodeCheck file limits) = Check file.now limits
-asked_by (CodeAutomaton file limits) = Automaton file.now limits
+asked_by (CodeReport kind file limits) = Report kind file.now limits
 
 abbrev pub IsUsageOnlyWhere : Type 0 → WordsFault → Type 0
 IsUsageOnlyWhere P (Usage text) = P

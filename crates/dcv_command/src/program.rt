@@ -1,6 +1,6 @@
 // What `clap` is given: the subcommands with their operands and options, and the texts of their help.
 ghost use Rattle.std.specs.Prelude.{◌≡◌, [], false, codes, IfOk};
-ghost use Rattle.clap.specs.Words.{rule_of, app_of, new_app};
+ghost use Rattle.clap.specs.Words.{rule_of, app_of, new_app, with_subcommand};
 ghost use Rattle.clap.specs.declared.builder.Command.TheViews.{out-Command as fields_of};
 ghost use Rattle.dcv_command.specs.Program.{file_operand as file_rule, limit_option, over_a_formula as formula_shape, program as the_program};
 
@@ -10,7 +10,7 @@ use std::alloc::{AllocError, Global};
 
 const ABOUT: &str =
     "Decides whether a requirement about stretches of time, a formula of Quantified Discrete-time Duration Calculus, always holds. \
-Shows a shortest behaviour that breaks it, or the minimal automaton of the behaviours that satisfy it.";
+Shows a shortest behaviour that breaks it, or the minimal automaton of the behaviours that satisfy it, or an observer of these.";
 
 const EXAMPLE_AND_STATUS: &str =
     "Example, with `var door_closed; infer [[door_closed]];` in the file door.dc:
@@ -37,23 +37,41 @@ pub(crate) const MOST_NODES: u32 = 1_000_000;
 pub(crate) fn program<'a>(alloc: Global) -> Result<Command<'a>, AllocError>
     ensures { IfOk result (λ command. app_of command ≡ the_program) }
 {
-    let check = over_a_formula(
-        alloc,
-        "check",
-        "Writes the verdict, with a shortest counterexample and a shortest example",
-    )?;
-    let automaton = over_a_formula(
-        alloc,
-        "automaton",
-        "Writes the minimal automaton, with words that show that it is minimal",
-    )?;
-    named(alloc)?
+    let command = named(alloc)?
         .about(ABOUT)
         .after_help(EXAMPLE_AND_STATUS)
         .no_binary_name(true)
-        .subcommand_required(true)
-        .subcommand(check)?
-        .subcommand(automaton)
+        .subcommand_required(true);
+    let command = with_report(
+        alloc,
+        command,
+        "check",
+        "Writes the verdict, with a shortest counterexample and a shortest example",
+    )?;
+    let command = with_report(
+        alloc,
+        command,
+        "automaton",
+        "Writes the minimal automaton, with words that show that it is minimal",
+    )?;
+    with_report(
+        alloc,
+        command,
+        "lustre",
+        "Writes an observer in a flat subset of Lustre, which tells at each instant whether the behaviour so far satisfies the formula",
+    )
+}
+
+// The command with a subcommand more, which reports on a formula file.
+fn with_report<'a>(
+    alloc: Global,
+    command: Command<'a>,
+    name: &'a str,
+    about: &'a str,
+) -> Result<Command<'a>, AllocError>
+    ensures app { IfOk result (λ more. app_of more ≡ with_subcommand (app_of command.entry) (formula_shape name.entry.now)) }
+{
+    command.subcommand(over_a_formula(alloc, name, about)?)
 }
 
 // A command with no words yet, which usage calls by its name.

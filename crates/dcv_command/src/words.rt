@@ -2,7 +2,7 @@
 ghost use Rattle.std.specs.Prelude.{◌≡◌, ◌≢◌, true, [], map, option_map, IfOk, IfErr, Some};
 ghost use Rattle.clap.specs.Words.{fault_of, found_of, rows_of, subcommand_of, subcommand_rows_of, takes};
 ghost use Rattle.dcv_command.specs.Program.{program as the_program};
-ghost use Rattle.dcv_command.specs.Request.{AreInRange, IsTaken, file_in, limits_in, request_of, request_of_subcommand};
+ghost use Rattle.dcv_command.specs.Request.{AreInRange, IsTaken, file_in, kind_in, kind_named, limits_in, request_of, request_of_subcommand};
 ghost use Rattle.dcv_command.specs.Request.{limits_among as limits_among_rows, number_in as number_in_rows};
 ghost use Rattle.dcv_command.specs.declared.words.WordsFault.TheVariants.{Memory};
 ghost use Rattle.dcv_command.specs.Seen.{asked_by, IsUsageOnlyWhere};
@@ -11,6 +11,7 @@ use crate::program::{MOST_NODES, MOST_STATES, program};
 use clap::ArgMatches;
 use clap::error::ErrorKind;
 use dcv_explore::Limits;
+use dcv_print::Kind;
 use std::alloc::{AllocError, Global};
 use std::convert::AsStr;
 use std::fmt::Display;
@@ -18,19 +19,30 @@ use std::fmt::Display;
 /// What the program is asked for.
 #[derive(Clone, Copy, Debug)]
 pub enum Request<'a> {
-    /// The verdict of the formula in the file of this name.
-    Check { file: &'a str, limits: Limits },
-    /// Its minimal automaton.
-    Automaton { file: &'a str, limits: Limits },
+    /// A report on the formula in the file of this name, of which no step exceeds the limits.
+    Report {
+        kind: Kind,
+        file: &'a str,
+        limits: Limits,
+    },
 }
 
 impl<'a> Request<'a> {
+    /// What is reported.
+    pub fn kind(self) -> Kind
+        ensures { result ≡ kind_in (asked_by self.entry) }
+    {
+        match self {
+            Request::Report { kind, .. } => kind,
+        }
+    }
+
     /// The name of the file that it reads.
     pub fn file(self) -> &'a str
         ensures { result.now ≡ file_in (asked_by self.entry) }
     {
         match self {
-            Request::Check { file, .. } | Request::Automaton { file, .. } => file,
+            Request::Report { file, .. } => file,
         }
     }
 
@@ -39,7 +51,7 @@ impl<'a> Request<'a> {
         ensures { result ≡ limits_in (asked_by self.entry) }
     {
         match self {
-            Request::Check { limits, .. } | Request::Automaton { limits, .. } => limits,
+            Request::Report { limits, .. } => limits,
         }
     }
 }
@@ -98,9 +110,18 @@ fn request_in<'a>(matches: &ArgMatches<'a>) -> Option<Request<'a>>
     let (name, matches) = matches.subcommand()?;
     let file = matches.get_str("file")?;
     let limits = limits_among(matches)?;
+    let kind = kind_named(name)?;
+    Some(Request::Report { kind, file, limits })
+}
+
+// What the subcommand of this name reports.
+fn kind_named(name: &str) -> Option<Kind>
+    ensures { result ≡ kind_named name.now }
+{
     match name {
-        "check" => Some(Request::Check { file, limits }),
-        "automaton" => Some(Request::Automaton { file, limits }),
+        "check" => Some(Kind::Check),
+        "automaton" => Some(Kind::Automaton),
+        "lustre" => Some(Kind::Lustre),
         _ => None,
     }
 }

@@ -1,6 +1,7 @@
 mod FileArenas
 mod FileNumbers
 mod LeastWords
+mod Observers
 mod OneAutomaton
 mod PrintedAutomata
 mod PrintedFiles

@@ -18,7 +18,10 @@ use Rattle.dcv_language.specs.declared.certificate.Access.{Access}
 use Rattle.dcv_language.specs.declared.certificate.Suffix.{Suffix}
 use Rattle.dcv_certificate.specs.Proof.{AreSpelled, suffix_words, IsProof}
 use Rattle.dcv_automaton_file.specs.Laws.{HasFile}
+use Rattle.dcv_lustre.specs.Layout as lustre
+use Rattle.dcv_lustre.specs.Observer.{observer_of as node_of}
 use Rattle.dcv_print.specs.Automaton.{IsAutomatonOf, AreSameButForSuffixes}
+use Rattle.dcv_print.specs.Observers.{IsFileOf, SaysNode}
 use Rattle.dcv_print.specs.Printed.{printed_file}
 
 abbrev pub IsPrintable : RawValue → List (List ℕ) → Type 0
@@ -74,3 +77,16 @@ AutomatonOfSameBehaviours = (k : ℕ) (L M : Language) (names : List (List ℕ))
 abbrev pub AutomatonHasFewestStates : Type 0
 AutomatonHasFewestStates = (k : ℕ) (L : Language) (names : List (List ℕ)) (file : AutomatonFile) (table : Table)
     → IsAutomatonOf k L names file → IsTable k table → AcceptsExactly k table L → file.states ≤ length table
+
+-- ---- what observers are
+
+-- a set has one file without words
+abbrev pub OneFile : Type 0
+OneFile = (k : ℕ) (L : Language) (names : List (List ℕ)) (one other : AutomatonFile) → IsFileOf k L names one → IsFileOf k L names other → one ≡ other
+
+abbrev pub FileOfSameBehaviours : Type 0
+FileOfSameBehaviours = (k : ℕ) (L M : Language) (names : List (List ℕ)) (file : AutomatonFile) → HaveSameBehaviours k L M → IsFileOf k L names file → IsFileOf k M names file
+
+-- its observer is what a text has to be that says an observer of the set
+abbrev pub FileSaysNode : Type 0
+FileSaysNode = (k : ℕ) (L : Language) (names : List (List ℕ)) (file : AutomatonFile) → IsFileOf k L names file → SaysNode k L names (lustre.text_of (node_of file))

@@ -5,4 +5,5 @@ pub mod Pushed
 pub mod Listed
 pub mod Report
 pub mod Automaton
+pub mod Observers
 pub mod Laws

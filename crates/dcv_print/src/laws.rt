@@ -1,10 +1,12 @@
 //! Laws of the text that is printed of an automaton. Each function here does nothing: its contract is the law.
 ghost use Rattle.dcv_print.specs.Laws.{PrintedIsSpellable, PrintedIsGood, PrintedTable, PrintedAccess, PrintedSuffixes};
+ghost use Rattle.dcv_print.specs.Laws.{OneFile, FileOfSameBehaviours, FileSaysNode};
 ghost use Rattle.dcv_print.specs.Laws.{PrintedIsReadBack, PrintedIsAutomaton, OneAutomaton, AutomatonOfSameBehaviours, AutomatonHasFewestStates};
 
 use dcv_automaton_read::laws::good_texts_are_read;
 use dcv_automaton_text::laws::words_show_fewest_states;
 use dcv_dfa::laws::lines_are_of_tables;
+use dcv_lustre::laws::{observers_accept_the_same, texts_spell_nodes};
 use dcv_language::laws::{
     canonical_for_same_behaviours, no_table_has_fewer_states, one_canonical_table,
 };
@@ -59,4 +61,22 @@ pub fn automaton_has_fewest_states()
     ensures { AutomatonHasFewestStates }
 {
     words_show_fewest_states();
+}
+
+/// The file of a set's canonical automaton is determined, but for its words, and is that of each set with the same behaviours.
+pub fn one_file()
+    ensures one { OneFile }
+    ensures same { FileOfSameBehaviours }
+{
+    one_canonical_table();
+    canonical_for_same_behaviours();
+    lines_are_of_tables();
+}
+
+/// The text of the observer of this file is read as the observer, which accepts the behaviours of the set.
+pub fn printed_observers_observe()
+    ensures node { FileSaysNode }
+{
+    observers_accept_the_same();
+    texts_spell_nodes();
 }

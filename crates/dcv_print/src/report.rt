@@ -1,12 +1,14 @@
 // A report on the words of an automaton. It holds words, lists and references, and no text: that is written in pieces.
-ghost use Rattle.std.specs.Prelude.{◌≡◌, true, length, is_err, IfOk, OnOk, OnErr};
+ghost use Rattle.std.specs.Prelude.{◌≡◌, ◌≤◌, true, length, is_err, IfOk, OnOk, OnErr};
 ghost use Rattle.dcv_io.specs.Faults.{raised, RisesIf};
 ghost use Rattle.dcv_io.specs.Putting.{Puts};
 ghost use Rattle.dcv_io.specs.Written.{Appends, AppendsStrictPrefix};
 ghost use Rattle.dcv_language.specs.Verdict.{IsVerdict};
+ghost use Rattle.dcv_dfa.specs.Auto.{count_of_nodes};
 ghost use Rattle.dcv_dfa.specs.Raw.{raw_accepts};
+ghost use Rattle.dcv_automaton_text.specs.Rules.{AreNames, most_states, most_nodes};
 ghost use Rattle.dcv_print.specs.Printed.{texts_of};
-ghost use Rattle.dcv_print.specs.Report.{Says, seen_report, IsSomeListed};
+ghost use Rattle.dcv_print.specs.Report.{Says, seen_report, IsContent};
 ghost use Rattle.dcv_print.specs.Verdict.{seen_verdict};
 ghost use Rattle.dcv_print.specs.declared.verdict_lines.Verdict.{Verdict as CodeVerdict};
 
@@ -15,6 +17,7 @@ use crate::verdict_lines::Verdict;
 use crate::verdicts::verdict;
 use dcv_dfa::Auto;
 use dcv_io::{Block, Failed, Sink, Target};
+use dcv_lustre::{Node, of_auto};
 use dcv_syntax::Name;
 use std::alloc::{AllocError, Global};
 use std::marker::Model;
@@ -26,6 +29,16 @@ pub enum Kind {
     Check,
     /// Its own text, with words that show that it has the fewest states.
     Automaton,
+    /// An observer of it in a flat subset of Lustre.
+    Lustre,
+}
+
+// What is written beside a verdict, or in its place.
+#[derive(Drop)]
+pub(crate) enum Content<'a> {
+    Verdict,
+    Automaton(Listed<'a>),
+    Lustre(Node),
 }
 
 /// A report on the words that an automaton accepts, before it is written.
@@ -34,17 +47,17 @@ pub enum Kind {
 #[derive(Drop)]
 pub struct Report<'a> {
     verdict: Verdict,
-    listed: Option<Listed<'a>>,
+    content: Content<'a>,
 }
 
 impl<'a> Model for Report<'a> {
-    ghost use Rattle.dcv_print.specs.Report.{ReportValue, seen_report, IsSomeListed};
+    ghost use Rattle.dcv_print.specs.Report.{ReportValue, seen_report, IsContent};
 
     ghost Value = { ReportValue };
 
-    ghost view = { λ report. seen_report report.verdict report.listed };
+    ghost view = { λ report. seen_report report.verdict report.content };
 
-    ghost invariant = { λ report. IsSomeListed report.listed };
+    ghost invariant = { λ report. IsContent report.content };
 }
 
 impl<'a> Report<'a> {
@@ -55,13 +68,16 @@ impl<'a> Report<'a> {
         names: &'a [Name],
         kind: Kind,
     ) -> Result<Report<'a>, AllocError>
-        requires { length names.now ≡ auto.now.arena.slots }
+        requires names { AreNames (texts_of names.now) }
+        requires slots { length names.now ≡ auto.now.arena.slots }
+        requires states { length auto.now.rows ≤ most_states }
+        requires nodes { count_of_nodes auto.now ≤ most_nodes }
         ensures verdict { IfOk result (λ report. IsVerdict auto.now.arena.slots (raw_accepts auto.now) report.verdict) }
         ensures says { IfOk result (Says kind auto.now (texts_of names.now)) }
     {
         let verdict = verdict(alloc, auto)?;
-        let listed = listed(alloc, auto, names, kind)?;
-        Ok(Report { verdict, listed })
+        let content = content_of(alloc, auto, names, kind)?;
+        Ok(Report { verdict, content })
     }
 
     /// The verdict, of whatever kind the report is.
@@ -90,26 +106,31 @@ impl<'a> Report<'a> {
     fn put<T: Target>(&self, target: &mut T)
         ensures { Puts (T.standing target.old) (T.standing target.new) self.now.text }
     {
-        match &self.listed {
-            None => self.verdict.put(target),
-            Some(listed) => listed.put(target),
+        match &self.content {
+            Content::Verdict => self.verdict.put(target),
+            Content::Automaton(listed) => listed.put(target),
+            Content::Lustre(node) => dcv_lustre::put(node, target),
         }
     }
 }
 
-// The automaton with its lines, where the kind asks for them.
-fn listed<'a>(
+// What the kind asks for.
+fn content_of<'a>(
     alloc: Global,
     auto: &'a Auto,
     names: &'a [Name],
     kind: Kind,
-) -> Result<Option<Listed<'a>>, AllocError>
-    requires { length names.now ≡ auto.now.arena.slots }
-    ensures says { IfOk result (λ listed. (verdict : CodeVerdict) → Says kind auto.now (texts_of names.now) (seen_report verdict listed)) }
-    ensures listed { IfOk result IsSomeListed }
+) -> Result<Content<'a>, AllocError>
+    requires names { AreNames (texts_of names.now) }
+    requires slots { length names.now ≡ auto.now.arena.slots }
+    requires states { length auto.now.rows ≤ most_states }
+    requires nodes { count_of_nodes auto.now ≤ most_nodes }
+    ensures says { IfOk result (λ content. (verdict : CodeVerdict) → Says kind auto.now (texts_of names.now) (seen_report verdict content)) }
+    ensures content { IfOk result IsContent }
 {
     match kind {
-        Kind::Check => Ok(None),
-        Kind::Automaton => Ok(Some(Listed::new(alloc, auto, names)?)),
+        Kind::Check => Ok(Content::Verdict),
+        Kind::Automaton => Ok(Content::Automaton(Listed::new(alloc, auto, names)?)),
+        Kind::Lustre => Ok(Content::Lustre(of_auto(alloc, auto, names)?)),
     }
 }

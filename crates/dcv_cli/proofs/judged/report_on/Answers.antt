@@ -3,7 +3,6 @@ use Rattle.std.proofs.Common.{List, subst, ◌∙◌}
 use Rattle.std.specs.Prelude.{IfOk}
 use Rattle.std.proofs.lemmas.List.{length-map}
 use Rattle.dcv_syntax.specs.declared.names.Name.{Name}
-use Rattle.dcv_command.specs.Seen.{asked_by}
 use Rattle.dcv_print.specs.Printed.{texts_of}
 use Rattle.dcv_print.specs.Report.{Says}
 use Rattle.dcv_cli.proofs.Automata.{report_answers}
@@ -12,7 +11,7 @@ use Rattle.dcv_cli.proofs.judged.report_on.Goals as goal
 pub returns : goal.returns
 returns c k L of =
     let judged = c.args.judged.now in
-    report_answers c.printed_is_automaton.ensures c.automaton_of_same_behaviours.ensures c.verdict_of_same_behaviours.ensures
+    report_answers c.printed_is_automaton.ensures c.printed_observers_observe.ensures.node c.automaton_of_same_behaviours.ensures c.verdict_of_same_behaviours.ensures
     c.tables_accept_the_same.ensures.accepts judged.auto (texts_of judged.names.items)
     (record {
       is_raw = c.states.ensures.raw;
@@ -22,5 +21,5 @@ returns c k L of =
       states = c.requires.states;
       nodes = c.requires.nodes;
     })
-    k L of (asked_by c.args.request) c.kind_of.result c.make.result c.kind_of.ensures c.make.ensures.verdict
-    (subst (λ (names : List Name). IfOk c.make.result (Says c.kind_of.result judged.auto (texts_of names))) c.deref.ensures.value c.make.ensures.says)
+    k L of c.args.kind c.make.result c.make.ensures.verdict
+    (subst (λ (names : List Name). IfOk c.make.result (Says c.args.kind judged.auto (texts_of names))) c.deref.ensures.value c.make.ensures.says)

@@ -3,4 +3,6 @@ use Rattle.dcv_cli.proofs.OneOutcome.{one_outcome}
 use Rattle.dcv_cli.proofs.laws.one_outcome.Goals as goal
 
 pub returns : goal.returns
-returns c = one_outcome c.one_tree.ensures c.one_fault.ensures c.one_verdict.ensures c.one_step_is_over.ensures.one c.one_step_is_over.ensures.within c.one_automaton.ensures
+returns c =
+    one_outcome c.one_tree.ensures c.one_fault.ensures c.one_verdict.ensures c.one_step_is_over.ensures.one c.one_step_is_over.ensures.within c.one_automaton.ensures
+    c.one_file.ensures.one

@@ -1,7 +1,7 @@
 -- What the reader, the builder and the text of the verdict say is what is right for the text.
 use Rattle.std.proofs.lemmas.Result.{err_from_is_err_and}
 use Rattle.dcv_syntax.specs.Views.{plain_file}
-use Rattle.dcv_command.specs.Request.{limits_in}
+use Rattle.dcv_command.specs.Request.{limits_in, kind_in}
 use Rattle.dcv_command.specs.Seen.{asked_by}
 use Rattle.dcv_cli.specs.Budget.{steps_of_file, NamesFirstOver}
 use Rattle.std.proofs.Common.{List, Vec, Global, length, sym, subst, ap, ◌∙◌}
@@ -24,13 +24,13 @@ pub returns-in_err-file-clause-refused : goal.returns-in_err-file-clause-refused
 returns-in_err-file-clause-refused c =
     let request = asked_by c.args.request in
     let p = err_from_is_err_and c.from_residual.result c.from_residual.ensures.1 in
-    rw (p.1, p.2) (explains_reading (limits_in request) (IsReport request) c.args.text.now c.in_err-file.field-0.0 c.requires.short c.in_err-file.ensures.fault)
+    rw (p.1, p.2) (explains_reading (limits_in request) (IsReport (kind_in request)) c.args.text.now c.in_err-file.field-0.0 c.requires.short c.in_err-file.ensures.fault)
 
 pub returns-in_err-core-clause-refused : goal.returns-in_err-core-clause-refused
 returns-in_err-core-clause-refused c =
     let request = asked_by c.args.request in
     let p = err_from_is_err_and c.from_residual-in_err-core.result c.from_residual-in_err-core.ensures.1 in
-    rw (p.1, p.2) (explains_scope (limits_in request) (IsReport request) c.args.text.now (plain_file c.in_ok-file.file) c.in_err-core.field-0.0
+    rw (p.1, p.2) (explains_scope (limits_in request) (IsReport (kind_in request)) c.args.text.now (plain_file c.in_ok-file.file) c.in_err-core.field-0.0
     (record { fits = c.requires.short; no_fault = c.in_ok-file.ensures.no_fault; spelled = c.in_ok-file.ensures.spelled }) c.in_err-core.ensures.fault)
 
 pub returns-in_err-auto-clause-refused : goal.returns-in_err-auto-clause-refused
@@ -38,7 +38,7 @@ returns-in_err-auto-clause-refused c =
     let request = asked_by c.args.request in
     let file = plain_file c.in_ok-file.file in
     let p = err_from_is_err_and c.from_residual-in_err-auto.result c.from_residual-in_err-auto.ensures.1 in
-    rw (p.1, p.2) (explains_over (limits_in request) (IsReport request) c.args.text.now file c.in_err-auto.field-0.0
+    rw (p.1, p.2) (explains_over (limits_in request) (IsReport (kind_in request)) c.args.text.now file c.in_err-auto.field-0.0
     (record {
       sentence = record { fits = c.requires.short; no_fault = c.in_ok-file.ensures.no_fault; spelled = c.in_ok-file.ensures.spelled };
       has_core = c.in_ok-core.ensures.no_fault;

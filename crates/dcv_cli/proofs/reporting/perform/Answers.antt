@@ -6,7 +6,7 @@ use Rattle.dcv_io.specs.Taking.{IfTooLong}
 use Rattle.std.proofs.lemmas.Result.{err_from_is_err_and}
 use Rattle.dcv_cli.specs.Budget.{IsBudgeted}
 use Rattle.dcv_cli.specs.Report.{IsReport}
-use Rattle.dcv_command.specs.Request.{limits_in}
+use Rattle.dcv_command.specs.Request.{limits_in, kind_in}
 use Rattle.dcv_command.specs.Seen.{asked_by}
 use Rattle.dcv_cli.specs.Judged.{IsJudged}
 use Rattle.dcv_cli.specs.declared.status.Status.{Status}
@@ -31,7 +31,7 @@ returns-in_err-judged-clause-refused g c =
     let there = subst (λ (name : List ℕ). IfSome (held_of (g.F.Files.told c.args.files.now)) (λ held. held name ≡ Some c.in_ok-text.text.items)) c.file.ensures c.in_ok-text.ensures.ok in
     let p = err_from_is_err_and c.from_residual-in_err-judged.result c.from_residual-in_err-judged.ensures.1 in
     rw (p.1, p.2) (explains_text (g.F.Files.told c.args.files.now) request c.in_ok-text.text.items c.in_err-judged.field-0.0 there
-    (subst (λ (text : List ℕ). IsExplained (OnText text Only (IsBudgeted (limits_in request) (IsReport request))) c.in_err-judged.field-0.0) c.deref.ensures.value c.in_err-judged.ensures.refused))
+    (subst (λ (text : List ℕ). IsExplained (OnText text Only (IsBudgeted (limits_in request) (IsReport (kind_in request)))) c.in_err-judged.field-0.0) c.deref.ensures.value c.in_err-judged.ensures.refused))
 
 -- The report, with the status that its verdict has: a failed write comes before that status is asked for.
 pub returns-in_err-send-clause-front : goal.returns-in_err-send-clause-front

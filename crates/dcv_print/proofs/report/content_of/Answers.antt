@@ -1,5 +1,5 @@
 use Rattle.dcv_print.proofs.Reports.{spells}
-use Rattle.dcv_print.proofs.report.listed.Goals as goal
+use Rattle.dcv_print.proofs.report.content_of.Goals as goal
 
 pub returns-in_ok-new-in-Automaton-clause-says : goal.returns-in_ok-new-in-Automaton-clause-says
 returns-in_ok-new-in-Automaton-clause-says c verdict =
