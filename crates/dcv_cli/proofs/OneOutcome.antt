@@ -30,7 +30,7 @@ use Rattle.dcv_cli.specs.declared.status.Status.TheVariants.{Valid, NotValid, Us
 use Rattle.dcv_cli.specs.Budget.{steps_of_file, kind_of, limit_of, IsFirstOver, IsBudgeted, OverBudget, WithinBudget}
 use Rattle.dcv_print.specs.Automaton.{DifferInSuffixes}
 use Rattle.dcv_print.specs.Laws.{OneAutomaton, OneFile}
-use Rattle.dcv_print.specs.declared.report.Kind.{Kind}
+use Rattle.dcv_print.specs.declared.report.Kind.{Kind as ReportKind}
 use Rattle.dcv_cli.specs.Report.{IsReport}
 use Rattle.dcv_cli.proofs.Texts.{one_text}
 use Rattle.dcv_cli.specs.FormulaFile.{IsRefused, TooLong, Faulty, HasNoCore, IsSentence, IsFormulaFile, OnText, Refused, Read}
@@ -234,7 +234,7 @@ module _ (one_tree : SpellsOne) (one_fault : FaultIsUnique) (one_verdict : OneVe
     message = λ taken within. absurd (within (ap (λ (o : Outcome). o.status) e));
   }
 
-  one_report : (kind : Kind) (file : PlainFile) (a b : Outcome) → IsReport kind file a → IsReport kind file b → Agrees a b
+  one_report : (kind : ReportKind) (file : PlainFile) (a b : Outcome) → IsReport kind file a → IsReport kind file b → Agrees a b
   one_report kind file a b r s =
       let same : r.verdict ≡ s.verdict = one_verdict (length file.variables) (models file) r.verdict s.verdict r.is_verdict s.is_verdict in
       record {

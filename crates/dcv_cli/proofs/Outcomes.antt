@@ -40,6 +40,7 @@ use Rattle.dcv_cli.specs.Refusal.{most_bytes, Only, is_of_text, refusal_of_takin
 use Rattle.dcv_cli.specs.Request.{AsksFor}
 use Rattle.std.specs.Prelude.{String}
 use Rattle.std.specs.String.{string_bytes}
+use Rattle.dcv_print.specs.declared.report.Kind.{Kind as ReportKind}
 use Rattle.dcv_command.specs.Request.{Request, IsTaken, request_of, file_in, limits_in, kind_in}
 use Rattle.dcv_print.specs.Printed.{texts_of}
 use Rattle.dcv_cli.specs.Right.{Fulfilled, FulfilsOver, IsRightOver}
@@ -84,6 +85,11 @@ pub over_is_of_text : (steps : List PlainStep) (limits : Limits) (refusal : Refu
 over_is_of_text steps limits (Budget over) is = refl
 over_is_of_text steps limits Memory is = refl
 over_is_of_text steps limits _ is = absurd is
+
+pub reports_kind : (judged : Judged) (report : ReportValue) (one other : ReportKind) → one ≡ other
+    → ((k : ℕ) (L : Language) → IsAutomatonOf k L judged.auto → Reports one k L (texts_of judged.names.items) report)
+    → (k : ℕ) (L : Language) → IsAutomatonOf k L judged.auto → Reports other k L (texts_of judged.names.items) report
+reports_kind judged report one other same reports k L of = subst (λ (kind : ReportKind). Reports kind k L (texts_of judged.names.items) report) same (reports k L of)
 
 -- what was judged, and the report on it
 pub answers_report : (request : Request) (text : List ℕ) (judged : Judged) (report : ReportValue) (status : Status) → IsJudged text (limits_in request) judged

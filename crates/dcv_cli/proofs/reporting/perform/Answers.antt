@@ -14,7 +14,7 @@ use Rattle.dcv_cli.specs.Status.{is_answer, status_of_verdict}
 use Rattle.dcv_cli.specs.Ending.{IsExplained}
 use Rattle.dcv_cli.specs.FormulaFile.{OnText}
 use Rattle.dcv_cli.specs.Refusal.{most_bytes, Only}
-use Rattle.dcv_cli.proofs.Outcomes.{explains_taking, explains_text, on_true, answers_report, answer_of_verdict, whole_ends, whole_front, part_front, part_stops}
+use Rattle.dcv_cli.proofs.Outcomes.{explains_taking, explains_text, on_true, answers_report, reports_kind, answer_of_verdict, whole_ends, whole_front, part_front, part_stops}
 use Rattle.dcv_cli.proofs.reporting.perform.Goals as goal
 
 pub returns-in_err-text-clause-refused : goal.returns-in_err-text-clause-refused
@@ -44,7 +44,7 @@ returns-in_err-send-clause-front g c =
     (g.O.Sink.written c.args.out.now) (g.O.Sink.written c.send.new.sink) there
     (answers_report request c.in_ok-text.text.items c.in_ok-judged.judged c.in_ok-report.report _
     (subst (λ (text : List ℕ). IsJudged text (limits_in request) c.in_ok-judged.judged) c.deref.ensures.value c.in_ok-judged.ensures.judged)
-    c.in_ok-report.ensures refl)
+    (reports_kind c.in_ok-judged.judged c.in_ok-report.report c.kind.result (kind_in request) c.kind.ensures c.in_ok-report.ensures) refl)
     c.in_err-send.ensures.failed
 
 pub returns-in_err-send-clause-stops : goal.returns-in_err-send-clause-stops
@@ -58,7 +58,7 @@ returns-in_err-send-clause-stops g c =
     (g.O.Sink.written c.args.out.now) (g.O.Sink.written c.send.new.sink) there
     (answers_report request c.in_ok-text.text.items c.in_ok-judged.judged c.in_ok-report.report _
     (subst (λ (text : List ℕ). IsJudged text (limits_in request) c.in_ok-judged.judged) c.deref.ensures.value c.in_ok-judged.ensures.judged)
-    c.in_ok-report.ensures refl)
+    (reports_kind c.in_ok-judged.judged c.in_ok-report.report c.kind.result (kind_in request) c.kind.ensures c.in_ok-report.ensures) refl)
     c.in_err-send.ensures.failed)
 
 pub returns-clause-ok : goal.returns-clause-ok
@@ -71,7 +71,7 @@ returns-clause-ok g c =
     (g.O.Sink.written c.args.out.now) (g.O.Sink.written c.send.new.sink) there
     (answers_report request c.in_ok-text.text.items c.in_ok-judged.judged c.in_ok-report.report _
     (subst (λ (text : List ℕ). IsJudged text (limits_in request) c.in_ok-judged.judged) c.deref.ensures.value c.in_ok-judged.ensures.judged)
-    c.in_ok-report.ensures (c.of.ensures ∙ ap status_of_verdict c.verdict.ensures))
+    (reports_kind c.in_ok-judged.judged c.in_ok-report.report c.kind.result (kind_in request) c.kind.ensures c.in_ok-report.ensures) (c.of.ensures ∙ ap status_of_verdict c.verdict.ensures))
     c.in_ok-send.ensures.ok
 
 pub returns-clause-answer : goal.returns-clause-answer
@@ -89,7 +89,7 @@ returns-clause-front g c =
     (g.O.Sink.written c.args.out.now) (g.O.Sink.written c.send.new.sink) there
     (answers_report request c.in_ok-text.text.items c.in_ok-judged.judged c.in_ok-report.report _
     (subst (λ (text : List ℕ). IsJudged text (limits_in request) c.in_ok-judged.judged) c.deref.ensures.value c.in_ok-judged.ensures.judged)
-    c.in_ok-report.ensures refl)
+    (reports_kind c.in_ok-judged.judged c.in_ok-report.report c.kind.result (kind_in request) c.kind.ensures c.in_ok-report.ensures) refl)
     c.in_ok-send.ensures.ok
 
 pub report_on-requires : goal.report_on-requires
