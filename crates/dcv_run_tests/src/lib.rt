@@ -8,6 +8,8 @@ mod automata;
 #[cfg(test)]
 mod goals;
 #[cfg(test)]
+mod observers;
+#[cfg(test)]
 mod recipes;
 #[cfg(test)]
 mod runs;
