@@ -6,3 +6,9 @@ pub mod LeftOver
 pub mod OneUnit
 pub mod EachTree
 pub mod JudgedWords
+pub mod UnitPieces
+pub mod LaidOut
+pub mod Spelt
+pub mod Derived
+pub mod DerivedUnits
+pub mod Readings
