@@ -12,3 +12,11 @@ pub mod Spelt
 pub mod Derived
 pub mod DerivedUnits
 pub mod Readings
+pub mod GoodNames
+pub mod ObservedFiles
+pub mod ObserverNames
+pub mod ObserverRules
+pub mod ObserverForms
+pub mod ObserverRuns
+pub mod ObserverAccepts
+pub mod ObserverLaws
