@@ -20,3 +20,6 @@ pub mod ObserverForms
 pub mod ObserverRuns
 pub mod ObserverAccepts
 pub mod ObserverLaws
+pub mod Places
+pub mod Rows
+pub mod OfAuto

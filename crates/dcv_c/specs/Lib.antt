@@ -11,3 +11,5 @@ pub mod Observer
 pub mod Faults
 pub mod Laws
 pub mod Form
+pub mod Seen
+pub mod Building

@@ -1,6 +1,11 @@
 //! A flat subset of C: units with a store of numbers, one function that sets it and one that makes a step. The observer of an automaton is such
 //! a unit, whose step says whether the automaton accepts the word so far.
 //!
+//! ```text
+//! let unit = of_auto(alloc, &auto, &names)?;  // the observer, a tree
+//! text(alloc, &unit)?                         // its text
+//! ```
+//!
 //! Of the behaviours over one variable that is true throughout, the text is
 //!
 //! ```text
@@ -31,3 +36,11 @@
 #![tactic(auto)]
 
 pub mod laws;
+mod layout;
+mod observer;
+mod unit;
+
+pub use dcv_observer::{Condition, ObsFault, Test};
+pub use layout::text;
+pub use observer::of_auto;
+pub use unit::{Assignment, CUnit, Item, Reset, Returned, Right, Statement, Step};

@@ -1,0 +1,8 @@
+use Rattle.std.proofs.Common.{◌≡◌, ◌++◌, take}
+use Rattle.std.specs.List.{flat_map}
+use Rattle.dcv_c.specs.Layout.{static_line}
+use Rattle.dcv_c.proofs.layout.push_statics.Given as goal
+
+-- the lines of the statics so far are written
+abbrev pub invariant-loop-name : goal.invariant-loop-name
+invariant-loop-name l = l.text.items ≡ l.initial.text.items ++ flat_map static_line (take l.name-index l.statics)
