@@ -13,3 +13,13 @@ pub joined_seen : {X Y : Type 0} (f : Y → List ℕ) (between : List ℕ) (see 
     → f (see first) ++ flat_map (λ x. between ++ f (see x)) (take n others) ≡ join_by f between (map see all)
 joined_seen f between see first others all n is whole =
     ap (λ text. f (see first) ++ text) (all_seen (λ y. between ++ f y) see others n whole) ∙ ap (λ xs. join_by f between (map see xs)) (sym is)
+
+-- the same of a word for such lists, which stands for the joined text where there is one
+pub joined_all : {X : Type 0} (f : X → List ℕ) (between : List ℕ) (text : List X → List ℕ)
+    → ((first : X) (others : List X) → join_by f between (first ∷ others) ≡ text (first ∷ others))
+    → (one first : X) (others all : List X) (n : ℕ) → one ≡ first → all ≡ first ∷ others → length others ≤ n
+    → f one ++ flat_map (λ x. between ++ f x) (take n others) ≡ text all
+joined_all f between text is one first others all n same split whole =
+    ap (λ start. f start ++ flat_map (λ x. between ++ f x) (take n others)) same
+    ∙ ap (λ more. f first ++ flat_map (λ x. between ++ f x) more) (take_all n others whole)
+    ∙ is first others ∙ ap text (sym split)

@@ -1,0 +1,289 @@
+-- The statements of a unit that are laid out have derivations that stand for them.
+use Rattle.std.proofs.Common.{◌≡◌, ℕ, ◌+◌, ◌*◌, ◌<◌, ◌^◌, true, false, cond, List, [], ◌∷◌, Option, Some, None, length, map, fold, refl, sym, ap}
+use Rattle.std.proofs.Common.{subst, ◌∙◌, arith, codes, decimal}
+use Rattle.std.specs.List.{AllByRecursion, flat_map, list_all}
+use Rattle.std.specs.Char.{is_ascii_alphabetic, is_ascii_digit, digit_value}
+use Rattle.std.specs.Str.Parse.{AllDigits, digits_value_after}
+use Rattle.std.proofs.lemmas.Bool.{and_parts, and_from, and_left, false_from_ne_true, eqb-true, le-leb}
+use Rattle.std.proofs.lemmas.Fmt.{decimal_nonempty, decimal_is_IsNumeral}
+use Rattle.std.proofs.lemmas.Str.{digit_value_digit}
+use Rattle.std.proofs.lemmas.Str.Parse.{digit_from_value}
+use Rattle.dcv_grammar.specs.declared.grammar.Symbol.TheVariants.{Rule}
+use Rattle.dcv_lexer.specs.Lexicon.{is_word_byte, is_word, is_number}
+use Rattle.dcv_lexer.specs.Cuts.{Token}
+use Rattle.dcv_lexer.specs.Decimal.{with_digit, value_of}
+use Rattle.dcv_lexer.proofs.FirstBytes.{letter_above, digit_within}
+use Rattle.dcv_automaton_text.proofs.Words.{digits_are}
+use Rattle.dcv_observer.specs.Classes.{name as plain_name, number, is_short_word, is_small_number, class_of}
+use Rattle.dcv_observer.proofs.Limits.{small_number}
+use Rattle.dcv_observer.specs.Pieces.{Piece, Blank, Text, bytes_of, tokens_at}
+use Rattle.dcv_c.specs.Classes.{lexicon}
+use Rattle.dcv_c.specs.Tree.{Item, Constant, Named, Condition, Holds, Equals, Test, Right, Plain, Chosen, Statement, Assign, When, Returned, Fixed, Tested}
+use Rattle.dcv_c.specs.Placed.{item_at, condition_of, test_of, right_of, statement_of, returned_of, PlacedRight, PlacedPlain, PlacedChosen}
+use Rattle.dcv_c.specs.Placed.{PlacedStatement, PlacedAssign, PlacedWhen, PlacedReturned, PlacedFixed, PlacedTested, PlacedTest}
+use Rattle.dcv_c.specs.Language as rules
+use Rattle.dcv_c.specs.Language.{language}
+use Rattle.dcv_c.specs.Actions.{AToken, ARight, Compared, AStatement, Statements, AReturned, Tests}
+use Rattle.dcv_c.specs.Form.{IsName, IsNumber, IsItem, IsCondition, IsRight, IsStatement, IsTest, IsReturned}
+use Rattle.dcv_c.specs.Layout.{item_text}
+use Rattle.dcv_c.proofs.UnitPieces.{condition_pieces, right_pieces, statement_pieces, test_pieces, returned_pieces}
+use Rattle.dcv_c.proofs.Spelt.{Spelt, none, by_token, by_rule, then, tokens_append}
+
+abbrev at : ℕ → List ℕ → Token
+at start bytes = record { bytes = bytes; start = start }
+
+-- ---- words and numbers
+
+pub name_class : (name : List ℕ) → IsName name → class_of lexicon name ≡ plain_name
+name_class name is = eqb-true (class_of lexicon name) plain_name (and_parts (is_short_word name) _ is).1
+
+-- the value of digits
+value_is : (value : ℕ) (digits : List ℕ) → AllDigits 10 digits → fold with_digit value digits ≡ digits_value_after 10 value digits
+value_is value [] d = refl
+value_is value (c ∷ digits) d =
+    let k = digit_from_value c d.0 in
+    let same : with_digit value c ≡ value * 10 + digit_value c = omega (arith, digit_value_digit c k) in
+    ap (λ v. fold with_digit v digits) same ∙ value_is (value * 10 + digit_value c) digits d.1
+
+pub value_of_decimal : (n : ℕ) → n < 2 ^ 64 → value_of (decimal n) ≡ n
+value_of_decimal n small = let is = decimal_is_IsNumeral n small in value_is 0 (decimal n) is.0.1 ∙ is.1
+
+digits_are_no_word : (bytes : List ℕ) → 0 < length bytes → list_all is_ascii_digit bytes ≡ true → (is_word bytes ≡ false) × (is_number bytes ≡ true)
+digits_are_no_word [] some digits = absurd (omega arith)
+digits_are_no_word (b ∷ bytes) some digits =
+    let digit = (and_parts (is_ascii_digit b) (list_all is_ascii_digit bytes) digits).0 in
+    let no_letter : is_ascii_alphabetic b ≡ false = false_from_ne_true (is_ascii_alphabetic b) (λ letter. omega (arith, letter_above b letter, digit_within b digit)) in
+    (and_left (is_ascii_alphabetic b) (list_all is_word_byte bytes) no_letter, digits)
+
+decimal_is : (n : ℕ) → IsNumber n → (is_word (decimal n) ≡ false) × (is_number (decimal n) ≡ true)
+decimal_is n small = digits_are_no_word (decimal n) (decimal_nonempty n (omega arith)) (digits_are n (omega arith))
+
+pub number_class : (n : ℕ) → IsNumber n → class_of lexicon (decimal n) ≡ number
+unfolding lexicon
+number_class n small =
+    let kind = decimal_is n small in
+    let within : is_small_number (decimal n) ≡ true =
+    and_from (is_number (decimal n)) _ kind.1 (le-leb (value_of (decimal n)) 32767 (omega (arith, value_of_decimal n (omega arith), small))) in
+    small_number lexicon (decimal n) kind.0 within
+
+-- ---- items
+
+word_is_no_number : (bytes : List ℕ) → is_word bytes ≡ true → is_number bytes ≡ false
+word_is_no_number [] word = refl
+word_is_no_number (b ∷ bytes) word =
+    let letter = (and_parts (is_ascii_alphabetic b) (list_all is_word_byte bytes) word).0 in
+    and_left (is_ascii_digit b) (list_all is_ascii_digit bytes) (false_from_ne_true (is_ascii_digit b) (λ digit. omega (arith, letter_above b letter, digit_within b digit)))
+
+pub record ItemSpelt (start : ℕ) (item : Item) : Type 0 where
+  pub spelt : Spelt (Rule rules.item ∷ []) (at start (item_text item) ∷ []) (AToken (at start (item_text item)) ∷ [])
+  pub item_is : item_at (at start (item_text item)) ≡ item
+
+item_spelt : (start : ℕ) (item : Item) → IsItem item → ItemSpelt start item
+unfolding language
+item_spelt start (Constant n) is =
+    record {
+      spelt = by_rule rules.item (1, omega arith, refl) (by_token (at start (decimal n)) (number_class n is) none);
+      item_is =
+          ap (λ d. cond d (Constant (value_of (decimal n))) (Named (decimal n))) (decimal_is n is).1
+          ∙ ap Constant (value_of_decimal n (omega arith));
+    }
+item_spelt start (Named name) is =
+    record {
+      spelt = by_rule rules.item (0, omega arith, refl) (by_token (at start name) (name_class name is) none);
+      item_is =
+          ap (λ d. cond d (Constant (value_of name)) (Named name))
+          (word_is_no_number name (and_parts _ _ (and_parts (is_short_word name) _ is).0).0);
+    }
+
+-- ---- conditions
+
+pub record ConditionSpelt (start : ℕ) (condition : Condition) : Type 0 where
+  pub name : Token
+  pub number : Option Token
+  pub condition_is : condition_of name.bytes number ≡ condition
+  pub spelt : Spelt (Rule rules.condition ∷ []) (tokens_at start (condition_pieces condition)) (Compared name number ∷ [])
+
+condition_spelt : (start : ℕ) (condition : Condition) → IsCondition condition → ConditionSpelt start condition
+unfolding language lexicon
+condition_spelt start (Holds name) is =
+    record {
+      name = at start name;
+      number = None;
+      condition_is = refl;
+      spelt = by_rule rules.condition (0, omega arith, refl) (by_token (at start name) (name_class name is) (by_rule rules.compared (0, omega arith, refl) none));
+    }
+condition_spelt start (Equals name n) is =
+    record {
+      name = at start name;
+      number = Some (at _ (decimal n));
+      condition_is = ap (Equals name) (value_of_decimal n (omega (arith, is.1)));
+      spelt = by_rule rules.condition (0, omega arith, refl) (by_token (at start name) (name_class name is.0)
+          (by_rule rules.compared (1, omega arith, refl) (by_token _ refl (by_token _ (number_class n is.1) none))));
+    }
+
+-- ---- right sides
+
+pub record RightSpelt (start : ℕ) (right : Right) : Type 0 where
+  pub placed : PlacedRight
+  pub right_is : right_of placed ≡ right
+  pub spelt : Spelt (Rule rules.right ∷ []) (tokens_at start (right_pieces right)) (ARight placed ∷ [])
+
+right_spelt : (start : ℕ) (right : Right) → IsRight right → RightSpelt start right
+unfolding language lexicon
+right_spelt start (Plain (Constant n)) is =
+    record {
+      placed = PlacedPlain (at start (decimal n));
+      right_is = ap Plain (item_spelt start (Constant n) is).item_is;
+      spelt = by_rule rules.right (1, omega arith, refl) (by_token (at start (decimal n)) (number_class n is) none);
+    }
+right_spelt start (Plain (Named name)) is =
+    record {
+      placed = PlacedPlain (at start name);
+      right_is = ap Plain (item_spelt start (Named name) is).item_is;
+      spelt = by_rule rules.right (0, omega arith, refl) (by_token (at start name) (name_class name is) (by_rule rules.choice (0, omega arith, refl) none));
+    }
+right_spelt start (Chosen (Holds name) item otherwise) is =
+    let first = start + length name + 1 + 1 + 1 in
+    let second = first + length (item_text item) + 1 + 1 + 1 in
+    let i = item_spelt first item is.1 in
+    let j = item_spelt second otherwise is.2 in
+    record {
+      placed = PlacedChosen (at start name) (record { number = None; item = at first (item_text item); otherwise = at second (item_text otherwise) });
+      right_is = λ k. Chosen (Holds name) (i.item_is k) (j.item_is k);
+      spelt = by_rule rules.right (0, omega arith, refl) (by_token (at start name) (name_class name is.0)
+          (by_rule rules.choice (1, omega arith, refl) (by_token _ refl (then i.spelt (by_token _ refl j.spelt)))));
+    }
+right_spelt start (Chosen (Equals name n) item otherwise) is =
+    let number = start + length name + 1 + 2 + 1 in
+    let first = number + length (decimal n) + 1 + 1 + 1 in
+    let second = first + length (item_text item) + 1 + 1 + 1 in
+    let i = item_spelt first item is.1 in
+    let j = item_spelt second otherwise is.2 in
+    let same = value_of_decimal n (omega (arith, is.0.1)) in
+    record {
+      placed = PlacedChosen (at start name)
+          (record { number = Some (at number (decimal n)); item = at first (item_text item); otherwise = at second (item_text otherwise) });
+      right_is = λ k. Chosen (Equals name (same k)) (i.item_is k) (j.item_is k);
+      spelt = by_rule rules.right (0, omega arith, refl) (by_token (at start name) (name_class name is.0.0)
+          (by_rule rules.choice (2, omega arith, refl) (by_token _ refl (by_token (at number (decimal n)) (number_class n is.0.1)
+          (by_token _ refl (then i.spelt (by_token _ refl j.spelt)))))));
+    }
+
+-- ---- statements
+
+pub record StatementSpelt (start : ℕ) (statement : Statement) : Type 0 where
+  pub placed : PlacedStatement
+  pub statement_is : statement_of placed ≡ statement
+  pub spelt : Spelt (Rule rules.statement ∷ []) (tokens_at start (statement_pieces statement)) (AStatement placed ∷ [])
+
+statement_spelt : (start : ℕ) (statement : Statement) → IsStatement statement → StatementSpelt start statement
+unfolding language lexicon
+statement_spelt start (Assign left right) is =
+    let name = at (start + 1 + 1) left in
+    let equals = at (start + 1 + 1 + length left + 1) (codes "=") in
+    let from = start + 1 + 1 + length left + 1 + 1 + 1 in
+    let r = right_spelt from right is.1 in
+    record {
+      placed = PlacedAssign name r.placed;
+      statement_is = ap (Assign left) r.right_is;
+      spelt =
+          subst (λ tokens. Spelt (Rule rules.statement ∷ []) (name ∷ equals ∷ tokens) (AStatement (PlacedAssign name r.placed) ∷ []))
+          (sym (tokens_append (right_pieces right) _ from))
+          (by_rule rules.statement (0, omega arith, refl) (by_token name (name_class left is.0) (by_token equals refl
+          (then r.spelt (by_token _ refl none)))));
+    }
+statement_spelt start (When condition left item) is =
+    let if_word = at (start + 1 + 1) (codes "if") in
+    let opening = at (start + 1 + 1 + 2 + 1) (codes "(") in
+    let from = start + 1 + 1 + 2 + 1 + 1 in
+    let c = condition_spelt from condition is.0 in
+    let behind = from + length (bytes_of (condition_pieces condition)) in
+    let name = at (behind + 1 + 1) left in
+    let last = behind + 1 + 1 + length left + 1 + 1 + 1 in
+    let i = item_spelt last item is.2 in
+    record {
+      placed = PlacedWhen c.name c.number name (at last (item_text item));
+      statement_is = λ k. When (c.condition_is k) left (i.item_is k);
+      spelt =
+          subst (λ tokens. Spelt (Rule rules.statement ∷ []) (if_word ∷ opening ∷ tokens)
+          (AStatement (PlacedWhen c.name c.number name (at last (item_text item))) ∷ []))
+          (sym (tokens_append (condition_pieces condition) _ from))
+          (by_rule rules.statement (1, omega arith, refl) (by_token if_word refl (by_token opening refl (then c.spelt (by_token _ refl
+          (by_token name (name_class left is.1) (by_token _ refl (then i.spelt (by_token _ refl none)))))))));
+    }
+
+pub record StatementsSpelt (start : ℕ) (statements : List Statement) : Type 0 where
+  pub placed : List PlacedStatement
+  pub statements_are : map statement_of placed ≡ statements
+  pub spelt : Spelt (Rule rules.statements ∷ []) (tokens_at start (flat_map statement_pieces statements)) (Statements placed ∷ [])
+
+pub statements_spelt : (statements : List Statement) (start : ℕ) → AllByRecursion IsStatement statements → StatementsSpelt start statements
+unfolding language
+statements_spelt [] start is = record { placed = []; statements_are = refl; spelt = by_rule rules.statements (0, omega arith, refl) none }
+statements_spelt (statement ∷ statements) start is =
+    let s = statement_spelt start statement is.0 in
+    let more = statements_spelt statements (start + length (bytes_of (statement_pieces statement))) is.1 in
+    record {
+      placed = s.placed ∷ more.placed;
+      statements_are = λ i. s.statement_is i ∷ more.statements_are i;
+      spelt =
+          subst (λ tokens. Spelt (Rule rules.statements ∷ []) tokens (Statements (s.placed ∷ more.placed) ∷ []))
+          (sym (tokens_append (statement_pieces statement) (flat_map statement_pieces statements) start))
+          (by_rule rules.statements (1, omega arith, refl) (then s.spelt more.spelt));
+    }
+
+-- ---- what is returned
+
+abbrev or_test : Test → List Piece
+or_test test = Blank 32 ∷ Text (codes "||") ∷ Blank 32 ∷ test_pieces test
+
+pub record TestsSpelt (start : ℕ) (tests : List Test) : Type 0 where
+  pub placed : List PlacedTest
+  pub tests_are : map test_of placed ≡ tests
+  pub spelt : Spelt (Rule rules.more_tests ∷ []) (tokens_at start (flat_map or_test tests)) (Tests placed ∷ [])
+
+more_tests_spelt : (tests : List Test) (start : ℕ) → AllByRecursion IsTest tests → TestsSpelt start tests
+unfolding language lexicon
+more_tests_spelt [] start are = record { placed = []; tests_are = refl; spelt = by_rule rules.more_tests (0, omega arith, refl) none }
+more_tests_spelt (test ∷ tests) start are =
+    let first = start + 1 + 2 + 1 in
+    let last = first + length test.name + 1 + 2 + 1 in
+    let name = at first test.name in
+    let number = at last (decimal test.number) in
+    let more = more_tests_spelt tests (last + length (decimal test.number)) are.1 in
+    let same = value_of_decimal test.number (omega (arith, are.0.number)) in
+    record {
+      placed = record { name = name; number = number } ∷ more.placed;
+      tests_are = λ i. record { name = test.name; number = same i } ∷ more.tests_are i;
+      spelt = by_rule rules.more_tests (1, omega arith, refl) (by_token (at (start + 1) (codes "||")) refl
+          (then (by_rule rules.test (0, omega arith, refl) (by_token name (name_class test.name are.0.name) (by_token (at (first + length test.name + 1) (codes "==")) refl
+          (by_token number (number_class test.number are.0.number) none)))) more.spelt));
+    }
+
+pub record ReturnedSpelt (start : ℕ) (returned : Returned) : Type 0 where
+  pub placed : PlacedReturned
+  pub returned_is : returned_of placed ≡ returned
+  pub spelt : Spelt (Rule rules.returned ∷ []) (tokens_at start (returned_pieces returned)) (AReturned placed ∷ [])
+
+pub returned_spelt : (start : ℕ) (returned : Returned) → IsReturned returned → ReturnedSpelt start returned
+unfolding language lexicon
+returned_spelt start (Fixed n) is =
+    record {
+      placed = PlacedFixed (at start (decimal n));
+      returned_is = ap Fixed (value_of_decimal n (omega arith));
+      spelt = by_rule rules.returned (1, omega arith, refl) (by_token (at start (decimal n)) (number_class n is) none);
+    }
+returned_spelt start (Tested []) is = absurd (omega (arith, is.0))
+returned_spelt start (Tested (test ∷ tests)) is =
+    let last = start + length test.name + 1 + 2 + 1 in
+    let name = at start test.name in
+    let number = at last (decimal test.number) in
+    let more = more_tests_spelt tests (last + length (decimal test.number)) is.1.1 in
+    let same = value_of_decimal test.number (omega (arith, is.1.0.number)) in
+    record {
+      placed = PlacedTested (record { name = name; number = number } ∷ more.placed);
+      returned_is = λ i. Tested (record { name = test.name; number = same i } ∷ more.tests_are i);
+      spelt = by_rule rules.returned (0, omega arith, refl) (by_token name (name_class test.name is.1.0.name)
+          (by_rule rules.tests (0, omega arith, refl) (by_token (at (start + length test.name + 1) (codes "==")) refl
+          (by_token number (number_class test.number is.1.0.number) more.spelt))));
+    }

@@ -1,0 +1,377 @@
+-- The text of a unit spells it.
+use Rattle.std.proofs.Common.{◌≡◌, ℕ, ◌+◌, ◌<◌, List, [], ◌∷◌, ◌++◌, length, map, refl, sym, ap, subst, ◌∙◌, arith, append-nil, codes, decimal}
+use Rattle.std.specs.List.{AllByRecursion, flat_map}
+use Rattle.dcv_grammar.specs.declared.grammar.Symbol.TheVariants.{Class, Rule}
+use Rattle.dcv_lexer.specs.Cuts.{Token}
+use Rattle.dcv_observer.specs.Items.{HasItems}
+use Rattle.dcv_observer.specs.Classes.{name as plain_name}
+use Rattle.dcv_observer.specs.Pieces.{Piece, Blank, Text, bytes_of, tokens_at}
+use Rattle.dcv_observer.proofs.LaidOut.{laid_out}
+use Rattle.dcv_c.specs.Classes.{lexicon, open_parenthesis, close_parenthesis, open_brace, close_brace, semicolon, word_int, word_return}
+use Rattle.dcv_c.specs.Tree.{Assignment, CUnit}
+use Rattle.dcv_c.specs.Placed.{assignment_of, statement_of, returned_of, bytes_of as token_bytes, unit_of, PlacedUnit, PlacedAssignment, PlacedStatement}
+use Rattle.dcv_c.specs.Placed.{PlacedReturned}
+use Rattle.dcv_c.specs.Language as rules
+use Rattle.dcv_c.specs.Language.{language}
+use Rattle.dcv_c.specs.Actions.{AToken, Tokens, Assignments, AReset, AReturned, AStep, AUnit, Spells}
+use Rattle.dcv_c.specs.Form.{IsName, IsAssignment, IsSpellable}
+use Rattle.dcv_c.specs.Layout.{text_of}
+use Rattle.dcv_c.proofs.UnitPieces.{static_pieces, assignment_pieces, parameter_pieces, parameters_pieces, local_pieces, local_line_pieces}
+use Rattle.dcv_c.proofs.UnitPieces.{statement_pieces, returned_pieces, reset_pieces, head_pieces, end_pieces, step_pieces, pieces_of, text_in_pieces}
+use Rattle.dcv_c.proofs.Spelt.{Spelt, none, by_token, by_rule, then, tokens_append}
+use Rattle.dcv_c.proofs.Derived.{name_class, number_class, value_of_decimal, statements_spelt, returned_spelt}
+use Rattle.dcv_c.proofs.LaidOut.{orderly, unit_laid}
+
+abbrev at : ℕ → List ℕ → Token
+at start bytes = record { bytes = bytes; start = start }
+
+-- ---- statics
+
+static_at : ℕ → List ℕ → Token
+static_at start name = at (start + 6 + 1 + 3 + 1) name
+
+static_spelt : (start : ℕ) (name : List ℕ) → IsName name → Spelt (Rule rules.static ∷ []) (tokens_at start (static_pieces name)) (AToken (static_at start name) ∷ [])
+unfolding language lexicon static_at
+static_spelt start name is =
+    by_rule rules.static (0, omega arith, refl) (by_token _ refl (by_token _ refl (by_token (static_at start name) (name_class name is) (by_token _ refl none))))
+
+pub record StaticsSpelt (start : ℕ) (names : List (List ℕ)) : Type 0 where
+  pub placed : List Token
+  pub names_are : token_bytes placed ≡ names
+  pub spelt : Spelt (Rule rules.more_statics ∷ []) (tokens_at start (flat_map static_pieces names)) (Tokens placed ∷ [])
+
+more_statics_spelt : (names : List (List ℕ)) (start : ℕ) → AllByRecursion IsName names → StaticsSpelt start names
+unfolding language static_at
+more_statics_spelt [] start is = record { placed = []; names_are = refl; spelt = by_rule rules.more_statics (0, omega arith, refl) none }
+more_statics_spelt (name ∷ names) start is =
+    let more = more_statics_spelt names (start + length (bytes_of (static_pieces name))) is.1 in
+    record {
+      placed = static_at start name ∷ more.placed;
+      names_are = λ i. name ∷ more.names_are i;
+      spelt =
+          subst (λ tokens. Spelt (Rule rules.more_statics ∷ []) tokens (Tokens (static_at start name ∷ more.placed) ∷ []))
+          (sym (tokens_append (static_pieces name) (flat_map static_pieces names) start))
+          (by_rule rules.more_statics (1, omega arith, refl) (then (static_spelt start name is.0) more.spelt));
+    }
+
+-- ---- reset
+
+pub record AssignmentsSpelt (start : ℕ) (assignments : List Assignment) : Type 0 where
+  pub placed : List PlacedAssignment
+  pub assignments_are : map assignment_of placed ≡ assignments
+  pub spelt : Spelt (Rule rules.assignments ∷ []) (tokens_at start (flat_map assignment_pieces assignments)) (Assignments placed ∷ [])
+
+assignments_spelt : (assignments : List Assignment) (start : ℕ) → AllByRecursion IsAssignment assignments → AssignmentsSpelt start assignments
+unfolding language lexicon
+assignments_spelt [] start is = record { placed = []; assignments_are = refl; spelt = by_rule rules.assignments (0, omega arith, refl) none }
+assignments_spelt (assignment ∷ assignments) start is =
+    let name = at (start + 1 + 1) assignment.name in
+    let last = start + 1 + 1 + length assignment.name + 1 + 1 + 1 in
+    let number = at last (decimal assignment.number) in
+    let more = assignments_spelt assignments (last + length (decimal assignment.number) + 1 + 1) is.1 in
+    let same = value_of_decimal assignment.number (omega (arith, is.0.number)) in
+    record {
+      placed = record { name = name; number = number } ∷ more.placed;
+      assignments_are = λ i. record { name = assignment.name; number = same i } ∷ more.assignments_are i;
+      spelt = by_rule rules.assignments (1, omega arith, refl) (then
+          (by_rule rules.assignment (0, omega arith, refl) (by_token name (name_class assignment.name is.0.name) (by_token (at (start + 1 + 1 + length assignment.name + 1) (codes "=")) refl
+          (by_token number (number_class assignment.number is.0.number) (by_token (at (last + length (decimal assignment.number)) (codes ";")) refl none))))) more.spelt);
+    }
+
+record ResetSpelt (start : ℕ) (of : CUnit) : Type 0 where
+  name : Token
+  placed : List PlacedAssignment
+  end : Token
+  name_is : name.bytes ≡ of.reset
+  assignments_are : map assignment_of placed ≡ of.assignments
+  spelt : Spelt (Rule rules.reset ∷ []) (tokens_at start (reset_pieces of)) (AReset name placed end ∷ [])
+
+reset_spelt : (start : ℕ) (of : CUnit) → IsSpellable of → ResetSpelt start of
+unfolding language lexicon
+reset_spelt start of is =
+    let void = at (start + 1) (codes "void") in
+    let name = at (start + 1 + 4 + 1) of.reset in
+    let behind = start + 1 + 4 + 1 + length of.reset in
+    let from = behind + 1 + 4 + 1 + 1 + 1 + 1 in
+    let a = assignments_spelt of.assignments from is.assignments in
+    let end = at (from + length (bytes_of (flat_map assignment_pieces of.assignments))) (codes "}") in
+    record {
+      name = name;
+      placed = a.placed;
+      end = end;
+      name_is = refl;
+      assignments_are = a.assignments_are;
+      spelt =
+          subst (λ tokens. Spelt (Rule rules.reset ∷ []) (void ∷ name ∷ at behind (codes "(") ∷ at (behind + 1) (codes "void") ∷ at (behind + 1 + 4) (codes ")")
+          ∷ at (behind + 1 + 4 + 1 + 1) (codes "{") ∷ tokens) (AReset name a.placed end ∷ []))
+          (sym (tokens_append (flat_map assignment_pieces of.assignments) _ from))
+          (by_rule rules.reset (0, omega arith, refl) (by_token void refl (by_token name (name_class of.reset is.reset)
+          (by_token (at behind (codes "(")) refl (by_token (at (behind + 1) (codes "void")) refl (by_token (at (behind + 1 + 4) (codes ")")) refl
+          (by_token (at (behind + 1 + 4 + 1 + 1) (codes "{")) refl (then a.spelt (by_token end refl none)))))))));
+    }
+
+-- ---- parameters
+
+abbrev next_parameter : List ℕ → List Piece
+next_parameter name = Text (codes ",") ∷ Blank 32 ∷ parameter_pieces name
+
+parameter_spelt : (start : ℕ) (name : List ℕ) → IsName name
+    → Spelt (Rule rules.parameter ∷ []) (at start (codes "int") ∷ at (start + 3 + 1) name ∷ []) (AToken (at (start + 3 + 1) name) ∷ [])
+unfolding language lexicon
+parameter_spelt start name is = by_rule rules.parameter (0, omega arith, refl) (by_token _ refl (by_token (at (start + 3 + 1) name) (name_class name is) none))
+
+pub record MoreSpelt (start : ℕ) (names : List (List ℕ)) : Type 0 where
+  pub placed : List Token
+  pub names_are : token_bytes placed ≡ names
+  pub spelt : Spelt (Rule rules.more_parameters ∷ []) (tokens_at start (flat_map next_parameter names)) (Tokens placed ∷ [])
+
+more_parameters_spelt : (names : List (List ℕ)) (start : ℕ) → AllByRecursion IsName names → MoreSpelt start names
+unfolding language lexicon
+more_parameters_spelt [] start is = record { placed = []; names_are = refl; spelt = by_rule rules.more_parameters (0, omega arith, refl) none }
+more_parameters_spelt (name ∷ names) start is =
+    let from = start + 1 + 1 in
+    let more = more_parameters_spelt names (from + 3 + 1 + length name) is.1 in
+    record {
+      placed = at (from + 3 + 1) name ∷ more.placed;
+      names_are = λ i. name ∷ more.names_are i;
+      spelt = by_rule rules.more_parameters (1, omega arith, refl) (by_token (at start (codes ",")) refl (then (parameter_spelt from name is.0) more.spelt));
+    }
+
+pub record ParametersSpelt (start : ℕ) (names : List (List ℕ)) : Type 0 where
+  pub placed : List Token
+  pub names_are : token_bytes placed ≡ names
+  pub spelt : Spelt (Rule rules.parameters ∷ []) (tokens_at start (parameters_pieces names)) (Tokens placed ∷ [])
+
+parameters_spelt : (names : List (List ℕ)) (start : ℕ) → AllByRecursion IsName names → ParametersSpelt start names
+unfolding language lexicon
+parameters_spelt [] start is = record { placed = []; names_are = refl; spelt = by_rule rules.parameters (1, omega arith, refl) (by_token (at start (codes "void")) refl none) }
+parameters_spelt (name ∷ names) start is =
+    let more = more_parameters_spelt names (start + 3 + 1 + length name) is.1 in
+    record {
+      placed = at (start + 3 + 1) name ∷ more.placed;
+      names_are = λ i. name ∷ more.names_are i;
+      spelt = by_rule rules.parameters (0, omega arith, refl) (then (parameter_spelt start name is.0) more.spelt);
+    }
+
+-- ---- locals
+
+local_spelt : (start : ℕ) (name : List ℕ) → IsName name
+    → Spelt (Rule rules.local ∷ []) (tokens_at start (local_pieces name)) (AToken (at (start + 1 + 1 + 3 + 1) name) ∷ [])
+unfolding language lexicon
+local_spelt start name is = by_rule rules.local (0, omega arith, refl) (by_token _ refl (by_token (at (start + 1 + 1 + 3 + 1) name) (name_class name is) (by_token _ refl none)))
+
+pub record LocalsSpelt (start : ℕ) (names : List (List ℕ)) (pieces : List Piece) : Type 0 where
+  pub placed : List Token
+  pub names_are : token_bytes placed ≡ names
+  pub spelt : Spelt (Rule rules.locals ∷ []) (tokens_at start pieces) (Tokens placed ∷ [])
+
+locals_spelt : (names : List (List ℕ)) (start : ℕ) → AllByRecursion IsName names → LocalsSpelt start names (flat_map local_pieces names)
+unfolding language
+locals_spelt [] start is = record { placed = []; names_are = refl; spelt = by_rule rules.locals (0, omega arith, refl) none }
+locals_spelt (name ∷ names) start is =
+    let here = at (start + 1 + 1 + 3 + 1) name in
+    let more = locals_spelt names (start + length (bytes_of (local_pieces name))) is.1 in
+    record {
+      placed = here ∷ more.placed;
+      names_are = λ i. name ∷ more.names_are i;
+      spelt =
+          subst (λ tokens. Spelt (Rule rules.locals ∷ []) tokens (Tokens (here ∷ more.placed) ∷ []))
+          (sym (tokens_append (local_pieces name) (flat_map local_pieces names) start))
+          (by_rule rules.locals (1, omega arith, refl) (then (local_spelt start name is.0) more.spelt));
+    }
+
+local_lines_spelt : (names : List (List ℕ)) (start : ℕ) → AllByRecursion IsName names → LocalsSpelt start names (local_line_pieces names)
+local_lines_spelt [] start is = locals_spelt [] start is
+local_lines_spelt (name ∷ names) start is =
+    let l = locals_spelt (name ∷ names) start is in
+    record {
+      placed = l.placed;
+      names_are = l.names_are;
+      spelt =
+          subst (λ tokens. Spelt (Rule rules.locals ∷ []) tokens (Tokens l.placed ∷ []))
+          (sym (tokens_append (flat_map local_pieces (name ∷ names)) (Blank 10 ∷ []) start ∙ append-nil (tokens_at start (flat_map local_pieces (name ∷ names)))))
+          l.spelt;
+    }
+
+-- ---- the step
+
+record HeadSpelt (start : ℕ) (of : CUnit) : Type 0 where
+  int : Token
+  name : Token
+  opening : Token
+  placed : List Token
+  closing : Token
+  brace : Token
+  name_is : name.bytes ≡ of.step
+  names_are : token_bytes placed ≡ of.parameters
+  spelt : Spelt (Class word_int ∷ Class plain_name ∷ Class open_parenthesis ∷ Rule rules.parameters ∷ Class close_parenthesis ∷ Class open_brace ∷ [])
+      (tokens_at start (head_pieces of)) (AToken int ∷ AToken name ∷ AToken opening ∷ Tokens placed ∷ AToken closing ∷ AToken brace ∷ [])
+
+head_spelt : (start : ℕ) (of : CUnit) → IsSpellable of → HeadSpelt start of
+unfolding lexicon
+head_spelt start of is =
+    let int = at (start + 1) (codes "int") in
+    let name = at (start + 1 + 3 + 1) of.step in
+    let opening = at (start + 1 + 3 + 1 + length of.step) (codes "(") in
+    let from = start + 1 + 3 + 1 + length of.step + 1 in
+    let p = parameters_spelt of.parameters from is.parameters in
+    let behind = from + length (bytes_of (parameters_pieces of.parameters)) in
+    let closing = at behind (codes ")") in
+    let brace = at (behind + 1 + 1) (codes "{") in
+    record {
+      int = int;
+      name = name;
+      opening = opening;
+      placed = p.placed;
+      closing = closing;
+      brace = brace;
+      name_is = refl;
+      names_are = p.names_are;
+      spelt =
+          subst (λ tokens. Spelt (Class word_int ∷ Class plain_name ∷ Class open_parenthesis ∷ Rule rules.parameters ∷ Class close_parenthesis ∷ Class open_brace ∷ [])
+          (int ∷ name ∷ opening ∷ tokens) (AToken int ∷ AToken name ∷ AToken opening ∷ Tokens p.placed ∷ AToken closing ∷ AToken brace ∷ []))
+          (sym (tokens_append (parameters_pieces of.parameters) _ from))
+          (by_token int refl (by_token name (name_class of.step is.step) (by_token opening refl (then p.spelt (by_token closing refl (by_token brace refl none))))));
+    }
+
+record EndSpelt (start : ℕ) (of : CUnit) : Type 0 where
+  return_word : Token
+  placed : PlacedReturned
+  last : Token
+  end : Token
+  returned_is : returned_of placed ≡ of.returned
+  spelt : Spelt (Class word_return ∷ Rule rules.returned ∷ Class semicolon ∷ Class close_brace ∷ []) (tokens_at start (end_pieces of))
+      (AToken return_word ∷ AReturned placed ∷ AToken last ∷ AToken end ∷ [])
+
+end_spelt : (start : ℕ) (of : CUnit) → IsSpellable of → EndSpelt start of
+unfolding lexicon
+end_spelt start of is =
+    let return_word = at (start + 1 + 1) (codes "return") in
+    let from = start + 1 + 1 + 6 + 1 in
+    let r = returned_spelt from of.returned is.returned in
+    let behind = from + length (bytes_of (returned_pieces of.returned)) in
+    let last = at behind (codes ";") in
+    let end = at (behind + 1 + 1) (codes "}") in
+    record {
+      return_word = return_word;
+      placed = r.placed;
+      last = last;
+      end = end;
+      returned_is = r.returned_is;
+      spelt =
+          subst (λ tokens. Spelt (Class word_return ∷ Rule rules.returned ∷ Class semicolon ∷ Class close_brace ∷ []) (return_word ∷ tokens)
+          (AToken return_word ∷ AReturned r.placed ∷ AToken last ∷ AToken end ∷ []))
+          (sym (tokens_append (returned_pieces of.returned) _ from))
+          (by_token return_word refl (then r.spelt (by_token last refl (by_token end refl none))));
+    }
+
+record StepSpelt (start : ℕ) (of : CUnit) : Type 0 where
+  name : Token
+  parameters : List Token
+  locals : List Token
+  statements : List PlacedStatement
+  returned : PlacedReturned
+  name_is : name.bytes ≡ of.step
+  parameters_are : token_bytes parameters ≡ of.parameters
+  locals_are : token_bytes locals ≡ of.locals
+  statements_are : map statement_of statements ≡ of.statements
+  returned_is : returned_of returned ≡ of.returned
+  spelt : Spelt (Rule rules.step ∷ []) (tokens_at start (step_pieces of)) (AStep name parameters locals statements returned ∷ [])
+
+step_spelt : (start : ℕ) (of : CUnit) → IsSpellable of → StepSpelt start of
+unfolding language
+step_spelt start of is =
+    let statements = flat_map statement_pieces of.statements in
+    let second = start + length (bytes_of (head_pieces of)) in
+    let third = second + length (bytes_of (local_line_pieces of.locals)) in
+    let fourth = third + length (bytes_of statements) in
+    let head = head_spelt start of is in
+    let l = local_lines_spelt of.locals second is.locals in
+    let s = statements_spelt of.statements third is.statements in
+    let end = end_spelt fourth of is in
+    let split : tokens_at start (step_pieces of)
+    ≡ tokens_at start (head_pieces of) ++ (tokens_at second (local_line_pieces of.locals) ++ (tokens_at third statements ++ tokens_at fourth (end_pieces of))) =
+    tokens_append (head_pieces of) (local_line_pieces of.locals ++ (statements ++ end_pieces of)) start
+    ∙ ap (λ tokens. tokens_at start (head_pieces of) ++ tokens)
+    (tokens_append (local_line_pieces of.locals) (statements ++ end_pieces of) second
+    ∙ ap (λ tokens. tokens_at second (local_line_pieces of.locals) ++ tokens) (tokens_append statements (end_pieces of) third)) in
+    record {
+      name = head.name;
+      parameters = head.placed;
+      locals = l.placed;
+      statements = s.placed;
+      returned = end.placed;
+      name_is = head.name_is;
+      parameters_are = head.names_are;
+      locals_are = l.names_are;
+      statements_are = s.statements_are;
+      returned_is = end.returned_is;
+      spelt =
+          subst (λ tokens. Spelt (Rule rules.step ∷ []) tokens (AStep head.name head.placed l.placed s.placed end.placed ∷ [])) (sym split)
+          (by_rule rules.step (0, omega arith, refl) (then head.spelt (then l.spelt (then s.spelt end.spelt))));
+    }
+
+-- ---- units
+
+module _ (of : CUnit) (is : IsSpellable of) where
+  abbrev pieces_from : List (List ℕ) → List Piece
+  pieces_from statics = flat_map static_pieces statics ++ (reset_pieces of ++ step_pieces of)
+
+  unit_by_statics : (names : List (List ℕ)) → of.statics ≡ names → AllByRecursion IsName names → 0 < length names
+      → (placed : PlacedUnit) × (unit_of placed ≡ of) × Spelt (Rule rules.unit ∷ []) (tokens_at 0 (pieces_from names)) (AUnit placed ∷ [])
+  unfolding language static_at
+  unit_by_statics [] same are some = absurd (omega (arith, some))
+  unit_by_statics (name ∷ names) same are some =
+      let first = 0 + length (bytes_of (static_pieces name)) in
+      let second = first + length (bytes_of (flat_map static_pieces names)) in
+      let third = second + length (bytes_of (reset_pieces of)) in
+      let more = more_statics_spelt names first are.1 in
+      let r = reset_spelt second of is in
+      let s = step_spelt third of is in
+      let placed : PlacedUnit =
+      record {
+        statics = static_at 0 name ∷ more.placed;
+        reset = r.name;
+        assignments = r.placed;
+        reset_end = r.end;
+        step = s.name;
+        parameters = s.parameters;
+        locals = s.locals;
+        statements = s.statements;
+        returned = s.returned;
+      } in
+      let behind = reset_pieces of ++ step_pieces of in
+      let split : tokens_at 0 (pieces_from (name ∷ names))
+      ≡ tokens_at 0 (static_pieces name) ++ (tokens_at first (flat_map static_pieces names) ++ (tokens_at second (reset_pieces of) ++ tokens_at third (step_pieces of))) =
+      tokens_append (static_pieces name) (flat_map static_pieces names ++ behind) 0
+      ∙ ap (λ tokens. tokens_at 0 (static_pieces name) ++ tokens)
+      (tokens_append (flat_map static_pieces names) behind first
+      ∙ ap (λ tokens. tokens_at first (flat_map static_pieces names) ++ tokens) (tokens_append (reset_pieces of) (step_pieces of) second)) in (
+        placed,
+        (λ i. record {
+          statics = (ap (λ ns. name ∷ ns) more.names_are ∙ sym same) i;
+          reset = r.name_is i;
+          assignments = r.assignments_are i;
+          step = s.name_is i;
+          parameters = s.parameters_are i;
+          locals = s.locals_are i;
+          statements = s.statements_are i;
+          returned = s.returned_is i;
+        }),
+        subst (λ tokens. Spelt (Rule rules.unit ∷ []) tokens (AUnit placed ∷ [])) (sym split)
+            (by_rule rules.unit (0, omega arith, refl) (then (static_spelt 0 name are.0) (then more.spelt (then r.spelt s.spelt)))),
+      )
+
+  -- the text spells the unit, with each word where it stands
+  pub text_spells : (placed : PlacedUnit) × Spells (text_of of) placed × (unit_of placed ≡ of)
+  unfolding pieces_of language
+  text_spells =
+      let (placed, same, spelt) = unit_by_statics of.statics refl is.statics is.some_static in (
+        placed,
+        (
+          tokens_at 0 (pieces_of of),
+          subst (λ (text : List ℕ). HasItems lexicon text (tokens_at 0 (pieces_of of))) (text_in_pieces of) (laid_out lexicon orderly (pieces_of of) 10 (unit_laid of 10 is)),
+          (spelt.nodes, record { derived = spelt.are; whole = spelt.whole }, spelt.is),
+        ),
+        same,
+      )

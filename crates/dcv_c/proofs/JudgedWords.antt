@@ -1,0 +1,114 @@
+-- Each word that a rule of names judges has its judgement, so no judgement is lost. And where there is no first that is broken, all keep.
+use Rattle.std.proofs.Common.{◌≡◌, ℕ, ◌+◌, Bool, true, false, not, find, List, [], ◌∷◌, ◌++◌, length, map, Option, Some, None, refl, sym, ap, ◌∙◌, arith}
+use Rattle.std.proofs.Common.{length-append}
+use Rattle.std.specs.Prelude.{option_map}
+use Rattle.std.specs.List.{list_all, flat_map, zip}
+use Rattle.std.proofs.lemmas.List.{length-map}
+use Rattle.std.proofs.lemmas.Bool.{false≢true}
+use Rattle.dcv_lexer.specs.Cuts.{Token}
+use Rattle.dcv_c.specs.Tree.{Test, CUnit}
+use Rattle.dcv_c.specs.Placed.{PlacedAssignment, PlacedStatement, PlacedAssign, PlacedWhen, PlacedRight, PlacedPlain, PlacedChosen, PlacedReturned}
+use Rattle.dcv_c.specs.Placed.{PlacedFixed, PlacedTested, PlacedTest, PlacedUnit, test_of, right_of, statement_of, returned_of, assignment_of, bytes_of, unit_of}
+use Rattle.dcv_c.specs.Meaning.{is_among}
+use Rattle.dcv_c.specs.Rules.{keeps_new, keeps_apart, keeps_parameters, keeps_assignments, has_all_assignments, keeps_right, keeps_statement}
+use Rattle.dcv_c.specs.Rules.{keeps_statements, keeps_returned, known_after, before_step, before_parameters, before_locals, judged}
+use Rattle.dcv_c.specs.Rules.{words_of_right, words_of_statement, words_of_returned, words_of, first_broken, IsWellNamed}
+
+-- ---- as many
+
+apart_words : (earlier : List (List ℕ)) (tokens : List Token) → length (keeps_apart earlier (bytes_of tokens)) ≡ length tokens
+apart_words earlier [] = refl
+apart_words earlier (token ∷ tokens) = omega (arith, apart_words (earlier ++ token.bytes ∷ []) tokens)
+
+parameter_words : (earlier : List (List ℕ)) (place : ℕ) (tokens : List Token) → length (keeps_parameters earlier place (bytes_of tokens)) ≡ length tokens
+parameter_words earlier place [] = refl
+parameter_words earlier place (token ∷ tokens) = omega (arith, parameter_words (earlier ++ token.bytes ∷ []) (place + 1) tokens)
+
+assignment_words : (statics earlier : List (List ℕ)) (assignments : List PlacedAssignment)
+    → length (keeps_assignments statics earlier (map assignment_of assignments)) ≡ length assignments
+assignment_words statics earlier [] = refl
+assignment_words statics earlier (assignment ∷ assignments) = omega (arith, assignment_words statics (assignment.name.bytes ∷ earlier) assignments)
+
+right_words : (known : List (List ℕ)) (right : PlacedRight) → length (keeps_right known (right_of right)) ≡ length (words_of_right right)
+right_words known (PlacedPlain item) = refl
+right_words known (PlacedChosen name choice) = refl
+
+returned_words : (known : List (List ℕ)) (returned : PlacedReturned) → length (keeps_returned known (returned_of returned)) ≡ length (words_of_returned returned)
+returned_words known (PlacedFixed number) = refl
+returned_words known (PlacedTested tests) =
+    length-map (map test_of tests) (λ (test : Test). is_among known test.name) ∙ length-map tests test_of ∙ sym (length-map tests (λ (test : PlacedTest). test.name))
+
+module _ (unit : CUnit) where
+  statement_words : (known : List (List ℕ)) (statement : PlacedStatement)
+      → length (keeps_statement unit known (statement_of statement)) ≡ length (words_of_statement statement)
+  statement_words known (PlacedAssign left right) = omega (arith, right_words known right)
+  statement_words known (PlacedWhen name number left item) = refl
+
+  statements_words : (returned : PlacedReturned) → unit.returned ≡ returned_of returned → (known : List (List ℕ)) (statements : List PlacedStatement)
+      → length (keeps_statements unit known (map statement_of statements)) ≡ length (flat_map words_of_statement statements) + length (words_of_returned returned)
+  statements_words returned same known [] =
+      let one = ap (λ returned. length (keeps_returned known returned)) same in omega (arith, one, returned_words known returned)
+  statements_words returned same known (statement ∷ statements) =
+      let one = statement_words known statement in
+      let more = statements_words returned same (known_after known (statement_of statement)) statements in
+      length-append (keeps_statement unit known (statement_of statement)) (keeps_statements unit (known_after known (statement_of statement)) (map statement_of statements))
+      ∙ omega (arith, one, more, length-append (words_of_statement statement) (flat_map words_of_statement statements))
+
+pub as_many : (placed : PlacedUnit) → length (words_of placed) ≡ length (judged (unit_of placed))
+unfolding words_of judged
+as_many placed =
+    let unit = unit_of placed in
+    let first = keeps_apart [] unit.statics in
+    let assigned = keeps_assignments unit.statics [] unit.assignments in
+    let parameters = keeps_parameters (before_parameters unit) 0 unit.parameters in
+    let locals = keeps_apart (before_locals unit) unit.locals in
+    let statements = keeps_statements unit (unit.statics ++ unit.parameters) unit.statements in
+    let last = flat_map words_of_statement placed.statements ++ words_of_returned placed.returned in
+    let from_parameters = placed.parameters ++ (placed.locals ++ last) in
+    let assignment_names = map (λ (assignment : PlacedAssignment). assignment.name) placed.assignments in
+    omega (
+      arith,
+      length-append placed.statics (placed.reset ∷ assignment_names ++ (placed.reset_end ∷ placed.step ∷ from_parameters)),
+      length-append assignment_names (placed.reset_end ∷ placed.step ∷ from_parameters),
+      length-append placed.parameters (placed.locals ++ last),
+      length-append placed.locals last,
+      length-append (flat_map words_of_statement placed.statements) (words_of_returned placed.returned),
+      length-map placed.assignments (λ (assignment : PlacedAssignment). assignment.name),
+      length-append first (keeps_new unit.statics unit.reset ∷ assigned
+          ++ (has_all_assignments unit ∷ keeps_new (before_step unit) unit.step ∷ parameters ++ (locals ++ statements))),
+      length-append assigned (has_all_assignments unit ∷ keeps_new (before_step unit) unit.step ∷ parameters ++ (locals ++ statements)),
+      length-append parameters (locals ++ statements),
+      length-append locals statements,
+      apart_words [] placed.statics,
+      assignment_words unit.statics [] placed.assignments,
+      parameter_words (before_parameters unit) 0 placed.parameters,
+      apart_words (before_locals unit) placed.locals,
+      statements_words unit placed.returned refl (unit.statics ++ unit.parameters) placed.statements,
+    )
+
+-- ---- none is broken
+
+all_keep : (words : List Token) (keeps : List Bool) → length words ≡ length keeps → find (λ judged. not judged.1) (zip words keeps) ≡ None
+    → list_all (λ keeps. keeps) keeps ≡ true
+all_keep [] [] same none = refl
+all_keep [] (keep ∷ keeps) same none = absurd (omega arith)
+all_keep (word ∷ words) [] same none = refl
+all_keep (word ∷ words) (true ∷ keeps) same none = all_keep words keeps (omega arith) none
+all_keep (word ∷ words) (false ∷ keeps) same none = absurd (let never : Some (word, false) ≡ None = none in cc)
+
+none_found : (words : List Token) (keeps : List Bool) → list_all (λ keeps. keeps) keeps ≡ true → find (λ judged. not judged.1) (zip words keeps) ≡ None
+none_found [] keeps all = refl
+none_found (word ∷ words) [] all = refl
+none_found (word ∷ words) (true ∷ keeps) all = none_found words keeps all
+none_found (word ∷ words) (false ∷ keeps) all = absurd (false≢true all)
+
+no_offset : (found : Option (Token × Bool)) → option_map (λ judged. judged.0.start) found ≡ None → found ≡ None
+no_offset None none = refl
+no_offset (Some judged) none = absurd (let never : Some judged.0.start ≡ None = none in cc)
+
+pub well_named_if_unbroken : (placed : PlacedUnit) → first_broken (words_of placed) (judged (unit_of placed)) ≡ None → IsWellNamed (unit_of placed)
+well_named_if_unbroken placed none =
+    all_keep (words_of placed) (judged (unit_of placed)) (as_many placed) (no_offset (find (λ judged. not judged.1) (zip (words_of placed) (judged (unit_of placed)))) none)
+
+pub unbroken_if_well_named : (placed : PlacedUnit) → IsWellNamed (unit_of placed) → first_broken (words_of placed) (judged (unit_of placed)) ≡ None
+unbroken_if_well_named placed well = ap (option_map (λ judged. judged.0.start)) (none_found (words_of placed) (judged (unit_of placed)) well)

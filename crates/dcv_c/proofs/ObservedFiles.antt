@@ -1,0 +1,212 @@
+-- What a file has to be for its observer: its lines stand at their numbers, and what they name is there. So are the file of an automaton,
+-- and each file that keeps the table rules.
+--     IsBelow states nodes target      a state, or a node, that is one of so many
+--     GoodLines, GoodRows              the lines of nodes and of states
+--     no_row                           the line of a state that is none
+--     IsObservable file                what is needed of a file
+use Rattle.std.proofs.Common.{◌≡◌, ℕ, zero, suc, ◌+◌, ◌<◌, ◌≤◌, Bool, true, false, not, List, [], ◌∷◌, length, map, take, get_or, refl, sym, ap}
+use Rattle.std.proofs.Common.{subst, ◌∙◌, arith}
+use Rattle.std.specs.Prelude.{bytes_eq, nat_lt, nat_le}
+use Rattle.std.specs.List.{enumerate_from}
+use Rattle.std.proofs.lemmas.Bool.{and_parts, ltb-true, leb-true, both_ways}
+use Rattle.std.proofs.lemmas.List.{length-map, length-take-le, get_or-take}
+use Rattle.std.proofs.lemmas.List.Folds.{list_any_at}
+use Rattle.std.proofs.lemmas.List.FromFn.{length-enumerate_from}
+use Rattle.std.proofs.lemmas.Option.{slice_get-get_or}
+use Rattle.dcv_dfa.specs.declared.node_lines.Child.{Child}
+use Rattle.dcv_dfa.specs.declared.node_lines.Child.TheVariants.{State, Node as NodeAt}
+use Rattle.dcv_dfa.specs.declared.node_lines.NodeLine.{NodeLine as CodeNodeLine}
+use Rattle.dcv_dfa.specs.NodeLines.{node_lines_of, numbered, IsBelow as IsChildBelow, IsLine}
+use Rattle.dcv_dfa.specs.Raw.{RawValue}
+use Rattle.dcv_dfa.proofs.Reduced.{has_node_lines}
+use Rattle.dcv_automaton_text.specs.File.{Target, ToState, ToNode, NodeLine, StateLine, AccessLine, SuffixLine, AutomatonFile}
+use Rattle.dcv_automaton_text.specs.Rules.{IsPlainName, AreNames, IsGood, most_names, is_listed, keeps_child, keeps_row}
+use Rattle.dcv_automaton_text.proofs.GoodFiles.{IsGoodNode, IsGoodState, IsGoodFile, good_file}
+use Rattle.dcv_automaton_file.specs.File.{target_of, node_line, state_line, file_of}
+use Rattle.dcv_automaton_file.specs.Laws.{HasFile}
+use Rattle.dcv_c.specs.Meaning.{is_among}
+use Rattle.dcv_c.proofs.GoodNames.{name_kept}
+use Rattle.dcv_c.proofs.Names.{is_itself}
+
+abbrev pub IsBelow : ℕ → ℕ → Target → Type 0
+IsBelow states nodes (ToState number) = number < states
+IsBelow states nodes (ToNode number) = number < nodes
+
+-- the line of the node with this number
+pub record GoodLine (names : List (List ℕ)) (states number : ℕ) (line : NodeLine) : Type 0 where
+  pub number_is : line.number ≡ number
+  pub listed : is_among names line.name ≡ true
+  pub hi : IsBelow states number line.hi
+  pub lo : IsBelow states number line.lo
+
+-- from this number on
+abbrev pub GoodLines : List (List ℕ) → ℕ → ℕ → List NodeLine → Type 0
+GoodLines names states number [] = Unit {0}
+GoodLines names states number (line ∷ lines) = GoodLine names states number line × GoodLines names states (number + 1) lines
+
+-- the line of the state with this number
+pub record GoodRow (states nodes number : ℕ) (line : StateLine) : Type 0 where
+  pub number_is : line.number ≡ number
+  pub row : IsBelow states nodes line.row
+
+abbrev pub GoodRows : ℕ → ℕ → ℕ → List StateLine → Type 0
+GoodRows states nodes number [] = Unit {0}
+GoodRows states nodes number (line ∷ lines) = GoodRow states nodes number line × GoodRows states nodes (number + 1) lines
+
+-- of a state that is none
+abbrev pub no_row : StateLine
+no_row = record { number = 0; accepting = false; row = ToState 0 }
+
+pub record IsObservable (file : AutomatonFile) : Type 0 where
+  pub names : AreNames file.names
+  pub lines : GoodLines file.names (length file.state_lines) 0 file.node_lines
+  pub few_lines : length file.node_lines ≤ 1000000
+  pub rows : GoodRows (length file.state_lines) (length file.node_lines) 0 file.state_lines
+  pub some_rows : 0 < length file.state_lines
+  pub few_rows : length file.state_lines ≤ 32000
+
+-- ---- files that keep the table rules
+
+lines_from : (names : List (List ℕ)) (states : ℕ) (lines : List NodeLine) (number : ℕ)
+    → ((k : ℕ) (d : NodeLine) → k < length lines → GoodLine names states (number + k) (get_or lines k d)) → GoodLines names states number lines
+lines_from names states [] number each = tt
+lines_from names states (line ∷ lines) number each = (
+  subst (λ n. GoodLine names states n line) (let here : number + 0 ≡ number = omega arith in here) (each 0 line (omega arith)),
+  lines_from names states lines (number + 1) (λ k d within.
+      subst (λ n. GoodLine names states n (get_or lines k d)) (let same : number + suc k ≡ number + 1 + k = omega arith in same) (each (suc k) d (omega arith))),
+)
+
+rows_from : (states nodes : ℕ) (lines : List StateLine) (number : ℕ)
+    → ((k : ℕ) (d : StateLine) → k < length lines → GoodRow states nodes (number + k) (get_or lines k d)) → GoodRows states nodes number lines
+rows_from states nodes [] number each = tt
+rows_from states nodes (line ∷ lines) number each = (
+  subst (λ n. GoodRow states nodes n line) (let here : number + 0 ≡ number = omega arith in here) (each 0 line (omega arith)),
+  rows_from states nodes lines (number + 1) (λ k d within.
+      subst (λ n. GoodRow states nodes n (get_or lines k d)) (let same : number + suc k ≡ number + 1 + k = omega arith in same) (each (suc k) d (omega arith))),
+)
+
+module _ (file : AutomatonFile) (is : IsGoodFile file) where
+  child_below : (place : ℕ) (target : Target) → keeps_child file place target ≡ true → IsBelow (length file.state_lines) place target
+  child_below place (ToState number) kept = let below = ltb-true number file.states kept in omega (arith, is.states)
+  child_below place (ToNode number) kept = ltb-true number place (and_parts (nat_lt number place) _ kept).0
+
+  row_below : (target : Target) → keeps_row file target ≡ true → IsBelow (length file.state_lines) (length file.node_lines) target
+  row_below (ToState number) kept = let below = ltb-true number file.states kept in omega (arith, is.states)
+  row_below (ToNode number) kept = ltb-true number (length file.node_lines) kept
+
+  good_line : (k : ℕ) (line : NodeLine) → IsGoodNode file k line → GoodLine file.names (length file.state_lines) k line
+  good_line k line good =
+      record { number_is = good.number; listed = good.listed; hi = child_below k line.hi good.hi; lo = child_below k line.lo good.lo }
+
+  good_row : (k : ℕ) (line : StateLine) → IsGoodState file k line → GoodRow (length file.state_lines) (length file.node_lines) k line
+  good_row k line good = record { number_is = good.number; row = row_below line.row good.row }
+
+  names_are : IsGood file → AreNames file.names
+  names_are good =
+      record {
+        count = is.names;
+        each = λ k d within.
+            let default : get_or file.names k [] ≡ get_or file.names k d = same k d within in
+            subst IsPlainName default (plain k within);
+        differ = λ i j d before within same_name.
+            let there : get_or file.names i [] ≡ get_or file.names j [] = same i d (omega arith) ∙ same_name ∙ sym (same j d within) in
+            let parts = and_parts _ (not (is_listed (take j file.names) (get_or file.names j []))) (name_kept file good j within) in
+            let size = length-take-le j file.names (omega arith) in
+            let again = list_any_at (bytes_eq (get_or file.names j [])) (take j file.names) i [] (omega (arith, size, before))
+            (ap (bytes_eq (get_or file.names j [])) (get_or-take j file.names i [] before ∙ there) ∙ is_itself (get_or file.names j [])) in
+            not_both (is_listed (take j file.names) (get_or file.names j [])) parts.1 again;
+      }
+    where
+      same : (k : ℕ) (d : List ℕ) → k < length file.names → get_or file.names k [] ≡ get_or file.names k d
+      same k d within = default_free file.names k within
+        where
+          default_free : (names : List (List ℕ)) (k : ℕ) → k < length names → get_or names k [] ≡ get_or names k d
+          default_free [] k within = absurd (omega arith)
+          default_free (name ∷ names) zero within = refl
+          default_free (name ∷ names) (suc k) within = default_free names k (omega arith)
+
+      not_both : (b : Bool) → not b ≡ true → b ≡ true → ⊥
+      not_both true h k = both_ways true (sym h) refl
+      not_both false h k = both_ways true (sym k) refl
+
+      plain : (k : ℕ) → k < length file.names → IsPlainName (get_or file.names k [])
+      plain k within =
+          let name = get_or file.names k [] in
+          let one = and_parts _ (not (is_listed (take k file.names) name)) (name_kept file good k within) in
+          let two = and_parts _ (nat_le (length name) 24) one.0 in
+          let three = and_parts (nat_lt k most_names) _ two.0 in
+          record { form = three.1; short = leb-true (length name) 24 two.1 }
+
+pub good_is_observable : (file : AutomatonFile) → IsGood file → IsObservable file
+good_is_observable file good =
+    let is = good_file file good in
+    record {
+      names = names_are file is good;
+      lines = lines_from file.names (length file.state_lines) file.node_lines 0 (λ k d within.
+          subst (λ n. GoodLine file.names (length file.state_lines) n (get_or file.node_lines k d)) (let here : k ≡ 0 + k = omega arith in here)
+          (good_line file is k (get_or file.node_lines k d) (is.node k d within)));
+      few_lines = is.nodes;
+      rows = rows_from (length file.state_lines) (length file.node_lines) file.state_lines 0 (λ k d within.
+          subst (λ n. GoodRow (length file.state_lines) (length file.node_lines) n (get_or file.state_lines k d)) (let here : k ≡ 0 + k = omega arith in here)
+          (good_row file is k (get_or file.state_lines k d) (is.state k d within)));
+      some_rows = omega (arith, is.some, is.states);
+      few_rows = omega (arith, is.few, is.states);
+    }
+
+-- ---- files of automata
+
+target_below : (states nodes : ℕ) (child : Child) → IsChildBelow states nodes child → IsBelow states nodes (target_of child)
+target_below states nodes (State state) below = below
+target_below states nodes (NodeAt number) below = below
+
+lines_of_nodes : (names : List (List ℕ)) (states : ℕ) (all lines : List CodeNodeLine) (number : ℕ)
+    → ((k : ℕ) (d : CodeNodeLine) → k < length lines → IsLine (length names) states all (number + k) (get_or lines k d))
+    → GoodLines names states number (map (node_line names) (enumerate_from number lines))
+lines_of_nodes names states all [] number is = tt
+lines_of_nodes names states all (line ∷ lines) number is =
+    let here : number + 0 ≡ number = omega arith in
+    let first = subst (λ n. IsLine (length names) states all n line) here (is 0 line (omega arith)) in
+    let name = get_or names line.slot [] in (
+      record {
+        number_is = refl;
+        listed = list_any_at (bytes_eq name) names line.slot [] first.slot (is_itself name);
+        hi = target_below states number line.hi first.hi_below;
+        lo = target_below states number line.lo first.lo_below;
+      },
+      lines_of_nodes names states all lines (number + 1) (λ k d within.
+          subst (λ n. IsLine (length names) states all n (get_or lines k d)) (let same : number + suc k ≡ number + 1 + k = omega arith in same) (is (suc k) d (omega arith))),
+    )
+
+rows_of_states : (raw : RawValue) (states nodes : ℕ) (rows : List Child) (number : ℕ)
+    → ((k : ℕ) (d : Child) → k < length rows → IsChildBelow states nodes (get_or rows k d))
+    → GoodRows states nodes number (map (state_line raw) (enumerate_from number rows))
+rows_of_states raw states nodes [] number below = tt
+rows_of_states raw states nodes (row ∷ rows) number below = (
+  record { number_is = refl; row = target_below states nodes row (below 0 row (omega arith)) },
+  rows_of_states raw states nodes rows (number + 1) (λ k d within. below (suc k) d (omega arith)),
+)
+
+pub automaton_is_observable : (raw : RawValue) (names : List (List ℕ)) (access : List AccessLine) (suffixes : List SuffixLine)
+    → HasFile raw names → IsObservable (file_of raw names access suffixes)
+unfolding file_of
+automaton_is_observable raw names access suffixes is =
+    let all = node_lines_of raw in
+    let facts = has_node_lines raw is.is_raw is.auto.nodes (numbered raw.arena raw.rows) refl in
+    let reduced = facts.reduced in
+    let lines = map (node_line names) (enumerate_from 0 all.lines) in
+    let rows = map (state_line raw) (enumerate_from 0 all.rows) in
+    let count : length lines ≡ length all.lines = length-map (enumerate_from 0 all.lines) (node_line names) ∙ length-enumerate_from 0 all.lines in
+    let states : length rows ≡ length raw.rows = length-map (enumerate_from 0 all.rows) (state_line raw) ∙ length-enumerate_from 0 all.rows ∙ reduced.count in
+    let good_lines = lines_of_nodes names (length raw.rows) all.lines all.lines 0 (λ k d within.
+    let line = get_or all.lines k d in
+    subst (λ n. IsLine (length names) (length raw.rows) all.lines n line) (let here : k ≡ 0 + k = omega arith in here)
+    (subst (λ n. IsLine n (length raw.rows) all.lines k line) (sym is.slots) (reduced.lines k line (slice_get-get_or all.lines k d within)))) in
+    let good_rows = rows_of_states raw (length raw.rows) (length all.lines) all.rows 0 (λ k d within. reduced.rows k d within) in
+    record {
+      names = is.are_names;
+      lines = subst (λ n. GoodLines names n 0 lines) (sym states) good_lines;
+      few_lines = omega (arith, count, facts.count, is.nodes);
+      rows = subst (λ n. GoodRows n (length lines) 0 rows) (sym states) (subst (λ n. GoodRows (length raw.rows) n 0 rows) (sym count) good_rows);
+      some_rows = omega (arith, states, is.is_raw.start);
+      few_rows = omega (arith, states, is.states);
+    }

@@ -1,0 +1,13 @@
+use Rattle.dcv_c.proofs.DerivedUnits.{text_spells}
+use Rattle.dcv_c.proofs.OneUnit.{one_unit}
+use Rattle.dcv_c.proofs.Readings.{text_is_read_back}
+use Rattle.dcv_c.proofs.laws.texts_spell_units.Goals as goal
+
+pub returns-clause-text : goal.returns-clause-text
+returns-clause-text c = text_spells
+
+pub returns-clause-one : goal.returns-clause-one
+returns-clause-one c = one_unit
+
+pub returns-clause-back : goal.returns-clause-back
+returns-clause-back c = text_is_read_back

@@ -1,0 +1,49 @@
+use Rattle.std.proofs.Common.{◌≡◌, ℕ, ◌<◌, true, false, cond, List, [], ◌∷◌, ◌++◌, length, map, take, get_or, sym, ap, ◌∙◌, arith, append-nil}
+use Rattle.std.proofs.lemmas.List.{map_push, take_all, nil_from_length, length-map}
+use Rattle.dcv_dfa.specs.declared.node_lines.Child.{Child}
+use Rattle.dcv_c.specs.Tree.{Tested}
+use Rattle.dcv_c.specs.Seen.{seen_test}
+use Rattle.dcv_c.specs.Observer.{next_name, accepting_tests, returned_for}
+use Rattle.dcv_c.specs.Building.{observer_names, state_lines}
+use Rattle.dcv_c.proofs.Rows.{flags_more, returned_of}
+use Rattle.dcv_c.proofs.observer.returned_by.Goals as goal
+use Rattle.dcv_c.proofs.observer.returned_by.Goals.{then-accepting+in_ok-push, else-accepting}
+
+pub loop-state-preserved : goal.loop-state-preserved
+loop-state-preserved c = λ (names : List (List ℕ)) (nodes : ℕ) (rows : List Child) count size.
+    let raw = c.args.auto.now in
+    let k = c.loop-state.state in
+    let all = observer_names names nodes in
+    let within : k < length rows = omega (arith, c.loop-state-test.true, size, c.states-state-end.ensures.states) in
+    let before = c.loop-state.invariant names nodes rows count size in
+    elim c.if-accepting.branch [
+      | then-accepting+in_ok-push w ↦
+          let flag : get_or raw.accepting k false ≡ true = sym c.accepting.ensures ∙ w.if-accepting.true in
+          let items = ap (λ tests. tests.items) w.tests-is ∙ w.in_ok-push.ensures.items in
+          let one = w.next_is.ensures names nodes count in
+          ap (map (seen_test all)) items ∙ map_push (seen_test all) c.loop-state.tests.items _
+          ∙ (λ i. before i ++ one i ∷ [])
+          ∙ sym (flags_more raw rows k within ∙ ap (λ b. accepting_tests (state_lines raw (take k rows)) ++ cond b (record { name = next_name; number = k } ∷ []) []) flag)
+      | else-accepting w ↦
+          let flag : get_or raw.accepting k false ≡ false = sym c.accepting.ensures ∙ w.if-accepting.false in
+          ap (λ tests. map (seen_test all) tests.items) w.tests-is ∙ before
+          ∙ sym (flags_more raw rows k within ∙ ap (λ b. accepting_tests (state_lines raw (take k rows)) ++ cond b (record { name = next_name; number = k } ∷ []) []) flag
+          ∙ append-nil (accepting_tests (state_lines raw (take k rows))))
+    ]
+
+pub returns-then-is_empty : goal.returns-then-is_empty
+returns-then-is_empty c = λ (names : List (List ℕ)) (nodes : ℕ) (rows : List Child) count size.
+    let tests = c.loop-state.invariant names nodes rows count size
+    ∙ ap (λ rows. accepting_tests (state_lines c.args.auto.now rows)) (take_all c.loop-state.state rows (omega (arith, c.loop-state-test.false, size, c.states-state-end.ensures.states))) in
+    let none : length c.loop-state.tests.items ≡ 0 = grind (arith, c.if-is_empty.true, c.is_empty.ensures) in
+    let nil = nil_from_length c.loop-state.tests.items none in
+    ap returned_for (ap (map (seen_test (observer_names names nodes))) (sym nil) ∙ tests)
+
+pub returns : goal.returns
+returns c = λ (names : List (List ℕ)) (nodes : ℕ) (rows : List Child) count size.
+    let raw = c.args.auto.now in
+    let tests = c.loop-state.invariant names nodes rows count size
+    ∙ ap (λ rows. accepting_tests (state_lines raw rows)) (take_all c.loop-state.state rows (omega (arith, c.loop-state-test.false, size, c.states-state-end.ensures.states))) in
+    let some : 0 < length c.loop-state.tests.items = grind (arith, c.if-is_empty.false, c.is_empty.ensures) in
+    let length_is = sym (length-map c.loop-state.tests.items (seen_test (observer_names names nodes))) ∙ ap length tests in
+    ap Tested tests ∙ sym (returned_of (accepting_tests (state_lines raw rows)) (omega (arith, some, length_is)))

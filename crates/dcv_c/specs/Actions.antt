@@ -1,0 +1,205 @@
+-- What each rule of the grammar stands for, by what its body's symbols stand for: an equation for each body.
+--     Part                  what a symbol stands for
+--     RULE_part parts       what a rule stands for, by the parts of its body
+--     parts_of trees        what derivation trees stand for
+use Rattle.std.specs.Prelude.{◌≡◌, ℕ, List, [], ◌∷◌, Option, Some, None, slice_index_or}
+use Rattle.dcv_lexer.specs.Cuts.{Token}
+use Rattle.dcv_grammar.specs.Trees.{Nodes, done, leaf, node, IsTree}
+use Rattle.dcv_observer.specs.Items.{HasItems, token_class}
+use Rattle.dcv_c.specs.Classes.{lexicon}
+use Rattle.dcv_c.specs.Language.{language}
+use Rattle.dcv_c.specs.Placed.{PlacedUnit, PlacedAssignment, PlacedStatement, PlacedAssign, PlacedWhen, PlacedRight, PlacedPlain, PlacedChosen}
+use Rattle.dcv_c.specs.Placed.{PlacedChoice, PlacedReturned, PlacedFixed, PlacedTested, PlacedTest}
+
+-- what a symbol stands for
+pub data Part : Type 0 where
+  AToken : Token → Part
+  Tokens : List Token → Part
+  AnAssignment : PlacedAssignment → Part
+  Assignments : List PlacedAssignment → Part
+  -- the function that sets the statics: its name, its assignments and the brace behind them
+  AReset : Token → List PlacedAssignment → Token → Part
+  AStatement : PlacedStatement → Part
+  Statements : List PlacedStatement → Part
+  ARight : PlacedRight → Part
+  -- what may stand behind a name on a right side
+  Choice : Option PlacedChoice → Part
+  -- the number of a condition, which may not be there
+  Maybe : Option Token → Part
+  -- a condition
+  Compared : Token → Option Token → Part
+  AReturned : PlacedReturned → Part
+  ATest : PlacedTest → Part
+  Tests : List PlacedTest → Part
+  -- a number, and tests
+  Behind : Token → List PlacedTest → Part
+  -- the function that makes a step: its name, its parameters, its locals, its statements and what it returns
+  AStep : Token → List Token → List Token → List PlacedStatement → PlacedReturned → Part
+  AUnit : PlacedUnit → Part
+  -- the parts are those of no body
+  Nothing : Part
+
+-- unit = static more_statics reset step
+abbrev pub unit_part : List Part → Part
+unit_part (AToken static ∷ Tokens statics ∷ AReset reset assignments reset_end ∷ AStep step parameters locals statements returned ∷ []) =
+    AUnit (record {
+      statics = static ∷ statics;
+      reset = reset;
+      assignments = assignments;
+      reset_end = reset_end;
+      step = step;
+      parameters = parameters;
+      locals = locals;
+      statements = statements;
+      returned = returned;
+    })
+unit_part _ = Nothing
+
+-- static = "static" "int" name ";"
+abbrev pub static_part : List Part → Part
+static_part (AToken static_word ∷ AToken int ∷ AToken name ∷ AToken semicolon ∷ []) = AToken name
+static_part _ = Nothing
+
+-- more_statics = {static}, locals = {local}
+abbrev pub tokens_part : List Part → Part
+tokens_part [] = Tokens []
+tokens_part (AToken name ∷ Tokens names ∷ []) = Tokens (name ∷ names)
+tokens_part _ = Nothing
+
+-- reset = "void" name "(" "void" ")" "{" assignments "}"
+abbrev pub reset_part : List Part → Part
+reset_part (AToken void ∷ AToken name ∷ AToken opening ∷ AToken none ∷ AToken closing ∷ AToken brace ∷ Assignments assignments ∷ AToken reset_end ∷ []) =
+    AReset name assignments reset_end
+reset_part _ = Nothing
+
+-- assignments = {assignment}
+abbrev pub assignments_part : List Part → Part
+assignments_part [] = Assignments []
+assignments_part (AnAssignment assignment ∷ Assignments assignments ∷ []) = Assignments (assignment ∷ assignments)
+assignments_part _ = Nothing
+
+-- assignment = name "=" number ";"
+abbrev pub assignment_part : List Part → Part
+assignment_part (AToken name ∷ AToken equals ∷ AToken number ∷ AToken semicolon ∷ []) = AnAssignment (record { name = name; number = number })
+assignment_part _ = Nothing
+
+-- step = "int" name "(" parameters ")" "{" locals statements "return" returned ";" "}"
+abbrev pub step_part : List Part → Part
+step_part (AToken int ∷ AToken name ∷ AToken opening ∷ Tokens parameters ∷ AToken closing ∷ AToken brace
+    ∷ Tokens locals ∷ Statements statements ∷ AToken return_word ∷ AReturned returned ∷ AToken semicolon ∷ AToken end ∷ []) =
+    AStep name parameters locals statements returned
+step_part _ = Nothing
+
+-- parameters = "void" | parameter more_parameters
+abbrev pub parameters_part : List Part → Part
+parameters_part (AToken void ∷ []) = Tokens []
+parameters_part (AToken name ∷ Tokens names ∷ []) = Tokens (name ∷ names)
+parameters_part _ = Nothing
+
+-- more_parameters = {"," parameter}
+abbrev pub more_parameters_part : List Part → Part
+more_parameters_part [] = Tokens []
+more_parameters_part (AToken comma ∷ AToken name ∷ Tokens names ∷ []) = Tokens (name ∷ names)
+more_parameters_part _ = Nothing
+
+-- parameter = "int" name
+abbrev pub parameter_part : List Part → Part
+parameter_part (AToken int ∷ AToken name ∷ []) = AToken name
+parameter_part _ = Nothing
+
+-- local = "int" name ";"
+abbrev pub local_part : List Part → Part
+local_part (AToken int ∷ AToken name ∷ AToken semicolon ∷ []) = AToken name
+local_part _ = Nothing
+
+-- statements = {statement}
+abbrev pub statements_part : List Part → Part
+statements_part [] = Statements []
+statements_part (AStatement statement ∷ Statements statements ∷ []) = Statements (statement ∷ statements)
+statements_part _ = Nothing
+
+-- statement = "if" "(" condition ")" name "=" item ";" | name "=" right ";"
+abbrev pub statement_part : List Part → Part
+statement_part (AToken if_word ∷ AToken opening ∷ Compared name number ∷ AToken closing ∷ AToken left ∷ AToken equals ∷ AToken item ∷ AToken semicolon ∷ []) =
+    AStatement (PlacedWhen name number left item)
+statement_part (AToken left ∷ AToken equals ∷ ARight right ∷ AToken semicolon ∷ []) = AStatement (PlacedAssign left right)
+statement_part _ = Nothing
+
+-- right = number | name choice
+abbrev pub right_part : List Part → Part
+right_part (AToken number ∷ []) = ARight (PlacedPlain number)
+right_part (AToken name ∷ Choice None ∷ []) = ARight (PlacedPlain name)
+right_part (AToken name ∷ Choice (Some choice) ∷ []) = ARight (PlacedChosen name choice)
+right_part _ = Nothing
+
+-- choice = ["?" item ":" item | "==" number "?" item ":" item]
+abbrev pub choice_part : List Part → Part
+choice_part [] = Choice None
+choice_part (AToken question ∷ AToken item ∷ AToken colon ∷ AToken otherwise ∷ []) =
+    Choice (Some (record { number = None; item = item; otherwise = otherwise }))
+choice_part (AToken equals ∷ AToken number ∷ AToken question ∷ AToken item ∷ AToken colon ∷ AToken otherwise ∷ []) =
+    Choice (Some (record { number = Some number; item = item; otherwise = otherwise }))
+choice_part _ = Nothing
+
+-- condition = name compared
+abbrev pub condition_part : List Part → Part
+condition_part (AToken name ∷ Maybe number ∷ []) = Compared name number
+condition_part _ = Nothing
+
+-- compared = ["==" number]
+abbrev pub compared_part : List Part → Part
+compared_part [] = Maybe None
+compared_part (AToken equals ∷ AToken number ∷ []) = Maybe (Some number)
+compared_part _ = Nothing
+
+-- item = number | name
+abbrev pub item_part : List Part → Part
+item_part (AToken item ∷ []) = AToken item
+item_part _ = Nothing
+
+-- returned = number | name tests
+abbrev pub returned_part : List Part → Part
+returned_part (AToken number ∷ []) = AReturned (PlacedFixed number)
+returned_part (AToken name ∷ Behind number tests ∷ []) = AReturned (PlacedTested (record { name = name; number = number } ∷ tests))
+returned_part _ = Nothing
+
+-- tests = "==" number more_tests
+abbrev pub tests_part : List Part → Part
+tests_part (AToken equals ∷ AToken number ∷ Tests tests ∷ []) = Behind number tests
+tests_part _ = Nothing
+
+-- more_tests = {"||" test}
+abbrev pub more_tests_part : List Part → Part
+more_tests_part [] = Tests []
+more_tests_part (AToken bar ∷ ATest test ∷ Tests tests ∷ []) = Tests (test ∷ tests)
+more_tests_part _ = Nothing
+
+-- test = name "==" number
+abbrev pub test_part : List Part → Part
+test_part (AToken name ∷ AToken equals ∷ AToken number ∷ []) = ATest (record { name = name; number = number })
+test_part _ = Nothing
+
+-- of each rule, in the order of their numbers
+abbrev pub actions : List (List Part → Part)
+actions =
+    unit_part ∷ static_part ∷ tokens_part ∷ reset_part ∷ assignments_part ∷ assignment_part ∷ step_part ∷ parameters_part
+    ∷ more_parameters_part ∷ parameter_part ∷ tokens_part ∷ local_part ∷ statements_part ∷ statement_part ∷ right_part ∷ choice_part
+    ∷ condition_part ∷ compared_part ∷ item_part ∷ returned_part ∷ tests_part ∷ more_tests_part ∷ test_part ∷ []
+
+-- what a rule stands for
+abbrev pub action : ℕ → List Part → Part
+action rule parts = (slice_index_or actions rule (λ parts. Nothing)) parts
+
+-- what derivation trees stand for, from left to right
+abbrev pub parts_of : Nodes Token → List Part
+parts_of done = []
+parts_of (leaf token next) = AToken token ∷ parts_of next
+parts_of (node rule inner next) = action rule (parts_of inner) ∷ parts_of next
+
+-- the tokens have a derivation that stands for the unit
+abbrev pub SpellsUnit : List Token → PlacedUnit → Type 0
+SpellsUnit tokens placed = (tree : Nodes Token) × IsTree language (token_class lexicon) tokens tree × (parts_of tree ≡ AUnit placed ∷ [])
+
+-- the text is cut into such tokens
+abbrev pub Spells : List ℕ → PlacedUnit → Type 0
+Spells text placed = (items : List Token) × HasItems lexicon text items × SpellsUnit items placed
