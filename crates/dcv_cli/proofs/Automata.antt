@@ -9,18 +9,18 @@ use Rattle.dcv_dfa.specs.Laws.{TableAcceptsAsTheStates}
 use Rattle.dcv_dfa.specs.Raw.{RawValue, raw_accepts}
 use Rattle.dcv_build.specs.Budget.{IsAutomatonOf}
 use Rattle.dcv_print.specs.Automaton.{IsAutomatonOf as IsPrintedOf}
-use Rattle.dcv_print.specs.Laws.{IsPrintable, PrintedIsAutomaton, FileSaysNode, AutomatonOfSameBehaviours}
+use Rattle.dcv_print.specs.Laws.{IsPrintable, PrintedIsAutomaton, FileSaysNode, FileSaysUnit, AutomatonOfSameBehaviours}
 use Rattle.dcv_print.specs.Printed.{printed_file}
-use Rattle.dcv_print.specs.Report.{ReportValue, SpellsAutomaton, IsLustreObserver, Says as SaysOf}
+use Rattle.dcv_print.specs.Report.{ReportValue, SpellsAutomaton, IsLustreObserver, IsCObserver, Says as SaysOf}
 use Rattle.dcv_print.specs.declared.report.Kind.{Kind}
-use Rattle.dcv_print.specs.declared.report.Kind.TheVariants.{Check, Automaton, Lustre}
-use Rattle.dcv_print.specs.Observers.{SaysNode}
+use Rattle.dcv_print.specs.declared.report.Kind.TheVariants.{Check, Automaton, Lustre, C, All}
+use Rattle.dcv_print.specs.Observers.{IsFileOf, SaysNode, SaysUnit}
 use Rattle.dcv_cli.specs.Automaton.{SaysAutomaton}
 use Rattle.dcv_cli.specs.Judged.{Reports}
 use Rattle.dcv_cli.specs.Report.{Says}
 use Rattle.dcv_cli.proofs.Budgets.{same_as_set}
 
-module _ (printed : PrintedIsAutomaton) (say_node : FileSaysNode) (move : AutomatonOfSameBehaviours) (move_verdict : VerdictOfSameBehaviours) (accept : TableAcceptsAsTheStates)
+module _ (printed : PrintedIsAutomaton) (say_node : FileSaysNode) (say_unit : FileSaysUnit) (move : AutomatonOfSameBehaviours) (move_verdict : VerdictOfSameBehaviours) (accept : TableAcceptsAsTheStates)
     (raw : RawValue) (names : List (List ℕ)) (printable : IsPrintable raw names) (k : ℕ) (L : Language) (of : IsAutomatonOf k L raw) where
   says_automaton : (text : List ℕ) → SpellsAutomaton raw names text → SaysAutomaton k L names text
   says_automaton text spells =
@@ -33,23 +33,36 @@ module _ (printed : PrintedIsAutomaton) (say_node : FileSaysNode) (move : Automa
         says = spells.says;
       }
 
+  own_file : IsFileOf k L names (file_of raw names [] [])
+  own_file = record {
+    automaton = raw;
+    has_file = printable;
+    slots = of.slots;
+    accepts = same_as_set accept raw printable.is_raw printable.auto k L of;
+    is = refl;
+  }
+
   says_node : (text : List ℕ) → IsLustreObserver raw names text → SaysNode k L names text
-  says_node text is =
-      let file = file_of raw names [] [] in
-      subst (SaysNode k L names) (sym (is [] []))
-      (say_node k L names file (record {
-        automaton = raw;
-        has_file = printable;
-        slots = of.slots;
-        accepts = same_as_set accept raw printable.is_raw printable.auto k L of;
-        is = refl;
-      }))
+  says_node text is = subst (SaysNode k L names) (sym (is [] [])) (say_node k L names (file_of raw names [] []) own_file)
+
+  says_unit : (text : List ℕ) → IsCObserver raw names text → SaysUnit k L names text
+  says_unit text is = subst (SaysUnit k L names) (sym (is [] [])) (say_unit k L names (file_of raw names [] []) own_file)
 
   says_kind : (kind : Kind) (report : ReportValue) → SaysOf kind raw names report → Says kind k L names report.verdict report.text
-  unfolding says_automaton says_node
+  unfolding says_automaton says_node says_unit
   says_kind Check report says = says
   says_kind Automaton report says = says_automaton report.text says
   says_kind Lustre report says = says_node report.text says
+  says_kind C report says = says_unit report.text says
+  says_kind All report says = record {
+    automaton = says.automaton;
+    node = says.node;
+    unit = says.unit;
+    says_automaton = says_automaton says.automaton says.spells_automaton;
+    says_node = says_node says.node says.is_node;
+    says_unit = says_unit says.unit says.is_unit;
+    says = says.says;
+  }
 
   verdict_of_set : (verdict : Verdict) → IsVerdict raw.arena.slots (raw_accepts raw) verdict → IsVerdict k L verdict
   verdict_of_set verdict is =

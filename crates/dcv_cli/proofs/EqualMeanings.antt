@@ -7,7 +7,7 @@ use Rattle.dcv_language.specs.Language.{Language}
 use Rattle.dcv_language.specs.Laws.{OneVerdict, VerdictOfSameBehaviours}
 use Rattle.dcv_language.specs.Verdict.{Verdict, IsVerdict}
 use Rattle.dcv_logic.specs.Models.{models}
-use Rattle.dcv_print.specs.Laws.{OneAutomaton, AutomatonOfSameBehaviours, OneFile, FileOfSameBehaviours, FileSaysNode}
+use Rattle.dcv_print.specs.Laws.{OneAutomaton, AutomatonOfSameBehaviours, OneFile, FileOfSameBehaviours, FileSaysNode, FileSaysUnit}
 use Rattle.dcv_print.specs.declared.report.Kind.{Kind}
 use Rattle.dcv_print.specs.Printed.{texts_of}
 use Rattle.dcv_reader.specs.Spelling.{SpellsOne}
@@ -56,7 +56,7 @@ module _ (one_tree : SpellsOne) where
       (subst (λ (text : Option (List ℕ)). IsSomeAnd text (λ bytes. OnText bytes Only (IsBudgeted (limits_in request) (IsReport (kind_in request))) outcome)) is.there is.right)
 
 module _ (one_tree : SpellsOne) (one_verdict : OneVerdict) (move_verdict : VerdictOfSameBehaviours) (one_automaton : OneAutomaton) (move : AutomatonOfSameBehaviours)
-    (one_file : OneFile) (move_file : FileOfSameBehaviours) (say_node : FileSaysNode) where
+    (one_file : OneFile) (move_file : FileOfSameBehaviours) (say_node : FileSaysNode) (say_unit : FileSaysUnit) where
   pub equal_meanings : EqualMeanings
   equal_meanings request other held other_held file other_file one another ask mean answer other_answer =
       let r = report_of one_tree request held file one answer in
@@ -68,7 +68,7 @@ module _ (one_tree : SpellsOne) (one_verdict : OneVerdict) (move_verdict : Verdi
       one_verdict (length file.variables) (models other_file) r.verdict s.verdict moved (subst (λ k. IsVerdict k (models other_file) s.verdict) count s.is_verdict) in
       let kind = kind_in request in
       let says =
-      says_of_same move move_file say_node (length file.variables) (models file) (models other_file) (texts_of file.variables) r.verdict one.out kind mean.same_models r.says in
+      says_of_same move move_file say_node say_unit (length file.variables) (models file) (models other_file) (texts_of file.variables) mean.same_models r.verdict one.out kind r.says in
       let other_says =
       subst (λ (kind : Kind). Says kind (length file.variables) (models other_file) (texts_of file.variables) s.verdict another.out) (sym ask)
       (subst (λ (names : List (List ℕ)). Says (kind_in other) (length file.variables) (models other_file) names s.verdict another.out) (sym mean.same_names)

@@ -1,36 +1,108 @@
 -- What a text says of a set: no two texts say the same, but for the suffixes of an automaton, and it is said of each set with the same
 -- behaviours.
-use Rattle.std.proofs.Common.{◌≡◌, ◌⊎◌, ℕ, List, inl, inr, sym, ap, ◌∙◌, subst}
+use Rattle.std.proofs.Common.{◌≡◌, ◌⊎◌, ℕ, List, [], ◌∷◌, ◌++◌, inl, inr, sym, ap, ◌∙◌, subst, codes, append_assoc}
+use Rattle.std.proofs.lemmas.List.{append-nil}
 use Rattle.dcv_language.specs.Language.{Language, HaveSameBehaviours}
 use Rattle.dcv_language.specs.Verdict.{Verdict}
 use Rattle.dcv_language.specs.VerdictText.{verdict_text}
 use Rattle.dcv_automaton_text.specs.File.{AutomatonFile}
+use Rattle.dcv_automaton_text.specs.Spelled.{spelled}
+use Rattle.dcv_c.specs.Layout as c
+use Rattle.dcv_c.specs.Observer.{observer_of as unit_of}
 use Rattle.dcv_lustre.specs.Layout as lustre
 use Rattle.dcv_lustre.specs.Observer.{observer_of as node_of}
 use Rattle.dcv_print.specs.Automaton.{DifferInSuffixes}
-use Rattle.dcv_print.specs.Laws.{OneAutomaton, AutomatonOfSameBehaviours, OneFile, FileOfSameBehaviours, FileSaysNode}
-use Rattle.dcv_print.specs.Observers.{SaysNode}
+use Rattle.dcv_print.specs.Laws.{OneAutomaton, AutomatonOfSameBehaviours, OneFile, FileOfSameBehaviours, FileSaysNode, FileSaysUnit}
+use Rattle.dcv_print.specs.Observers.{SaysNode, SaysUnit}
+use Rattle.dcv_print.specs.Sections.{all_text}
 use Rattle.dcv_print.specs.declared.report.Kind.{Kind}
-use Rattle.dcv_print.specs.declared.report.Kind.TheVariants.{Check, Automaton, Lustre}
-use Rattle.dcv_cli.specs.Report.{Says}
+use Rattle.dcv_print.specs.declared.report.Kind.TheVariants.{Check, Automaton, Lustre, C, All}
+use Rattle.dcv_cli.specs.Automaton.{SaysAutomaton}
+use Rattle.dcv_cli.specs.Report.{Says, SaysAll}
 
-module _ (one_automaton : OneAutomaton) (one_file : OneFile) (k : ℕ) (L : Language) (names : List (List ℕ)) (v u : Verdict) (one other : List ℕ) where
-  pub one_text : (kind : Kind) → v ≡ u → Says kind k L names v one → Says kind k L names u other → (one ≡ other) ⊎ DifferInSuffixes one other
-  one_text Check same says says' = inl (says ∙ ap verdict_text same ∙ sym says')
-  one_text Automaton same says says' = inr (record {
+-- ---- all in one
+
+-- what stands before the automaton, and behind it
+abbrev before_automaton : List ℕ → List ℕ
+before_automaton verdict = codes "--- verdict\n" ++ (verdict ++ codes "--- automaton\n")
+
+abbrev behind_automaton : List ℕ → List ℕ → List ℕ
+behind_automaton node unit = codes "--- lustre\n" ++ (node ++ (codes "--- c\n" ++ unit))
+
+around_automaton : (verdict automaton node unit : List ℕ) → all_text verdict automaton node unit ≡ before_automaton verdict ++ (automaton ++ behind_automaton node unit)
+around_automaton verdict automaton node unit =
+    ap (λ text. codes "--- verdict\n" ++ text) (sym (append_assoc verdict (codes "--- automaton\n") (automaton ++ behind_automaton node unit)))
+
+-- ---- one text
+
+module _ (one_automaton : OneAutomaton) (one_file : OneFile) (k : ℕ) (L : Language) (names : List (List ℕ)) where
+  one_node : (one other : List ℕ) → SaysNode k L names one → SaysNode k L names other → one ≡ other
+  one_node one other says says' =
+      says.says ∙ ap (λ (file : AutomatonFile). lustre.text_of (node_of file)) (one_file k L names says.file says'.file says.of says'.of) ∙ sym says'.says
+
+  one_unit : (one other : List ℕ) → SaysUnit k L names one → SaysUnit k L names other → one ≡ other
+  one_unit one other says says' =
+      says.says ∙ ap (λ (file : AutomatonFile). c.text_of (unit_of file)) (one_file k L names says.file says'.file says.of says'.of) ∙ sym says'.says
+
+  all_but_suffixes : (v u : Verdict) (one other : List ℕ) → v ≡ u → SaysAll k L names v one → SaysAll k L names u other → DifferInSuffixes one other
+  all_but_suffixes v u one other same says says' =
+      let first = says.says_automaton in
+      let second = says'.says_automaton in
+      let around = around_automaton (verdict_text v) says.automaton says.node says.unit in
+      let its_around = around_automaton (verdict_text u) says'.automaton says'.node says'.unit in
+      let verdicts = ap before_automaton (ap verdict_text (sym same)) in
+      let behind : behind_automaton says'.node says'.unit ≡ behind_automaton says.node says.unit =
+      λ i. behind_automaton (one_node says'.node says.node says'.says_node says.says_node i) (one_unit says'.unit says.unit says'.says_unit says.says_unit i) in
+      record {
+        before = before_automaton (verdict_text v);
+        behind = behind_automaton says.node says.unit;
+        one_file = first.automaton;
+        other_file = second.automaton;
+        one_is = says.says ∙ around ∙ ap (λ text. before_automaton (verdict_text v) ++ (text ++ behind_automaton says.node says.unit)) first.says;
+        other_is = says'.says ∙ its_around ∙ (λ i. verdicts i ++ (second.says i ++ behind i));
+        same = one_automaton k L names first.automaton second.automaton first.is second.is;
+      }
+
+  pub one_text : (v u : Verdict) (one other : List ℕ) (kind : Kind) → v ≡ u → Says kind k L names v one → Says kind k L names u other
+      → (one ≡ other) ⊎ DifferInSuffixes one other
+  one_text v u one other Check same says says' = inl (says ∙ ap verdict_text same ∙ sym says')
+  one_text v u one other Automaton same says says' = inr (record {
+    before = [];
+    behind = [];
     one_file = says.automaton;
     other_file = says'.automaton;
-    one_is = says.says;
-    other_is = says'.says;
+    one_is = says.says ∙ sym (append-nil (spelled says.automaton));
+    other_is = says'.says ∙ sym (append-nil (spelled says'.automaton));
     same = one_automaton k L names says.automaton says'.automaton says.is says'.is;
   })
-  one_text Lustre same says says' =
-      inl (says.says ∙ ap (λ (file : AutomatonFile). lustre.text_of (node_of file)) (one_file k L names says.file says'.file says.of says'.of) ∙ sym says'.says)
+  one_text v u one other Lustre same says says' = inl (one_node one other says says')
+  one_text v u one other C same says says' = inl (one_unit one other says says')
+  one_text v u one other All same says says' = inr (all_but_suffixes v u one other same says says')
 
-module _ (move : AutomatonOfSameBehaviours) (move_file : FileOfSameBehaviours) (say_node : FileSaysNode) (k : ℕ) (L M : Language) (names : List (List ℕ)) (v : Verdict)
-    (text : List ℕ) where
-  pub says_of_same : (kind : Kind) → HaveSameBehaviours k L M → Says kind k L names v text → Says kind k M names v text
-  says_of_same Check same says = says
-  says_of_same Automaton same says = record { automaton = says.automaton; is = move k L M names says.automaton same says.is; says = says.says }
-  says_of_same Lustre same says =
-      subst (SaysNode k M names) (sym says.says) (say_node k M names says.file (move_file k L M names says.file same says.of))
+-- ---- sets with the same behaviours
+
+module _ (move : AutomatonOfSameBehaviours) (move_file : FileOfSameBehaviours) (say_node : FileSaysNode) (say_unit : FileSaysUnit)
+    (k : ℕ) (L M : Language) (names : List (List ℕ)) (same : HaveSameBehaviours k L M) where
+  automaton_of_same : (text : List ℕ) → SaysAutomaton k L names text → SaysAutomaton k M names text
+  automaton_of_same text says = record { automaton = says.automaton; is = move k L M names says.automaton same says.is; says = says.says }
+
+  node_of_same : (text : List ℕ) → SaysNode k L names text → SaysNode k M names text
+  node_of_same text says = subst (SaysNode k M names) (sym says.says) (say_node k M names says.file (move_file k L M names says.file same says.of))
+
+  unit_of_same : (text : List ℕ) → SaysUnit k L names text → SaysUnit k M names text
+  unit_of_same text says = subst (SaysUnit k M names) (sym says.says) (say_unit k M names says.file (move_file k L M names says.file same says.of))
+
+  pub says_of_same : (v : Verdict) (text : List ℕ) (kind : Kind) → Says kind k L names v text → Says kind k M names v text
+  says_of_same v text Check says = says
+  says_of_same v text Automaton says = automaton_of_same text says
+  says_of_same v text Lustre says = node_of_same text says
+  says_of_same v text C says = unit_of_same text says
+  says_of_same v text All says = record {
+    automaton = says.automaton;
+    node = says.node;
+    unit = says.unit;
+    says_automaton = automaton_of_same says.automaton says.says_automaton;
+    says_node = node_of_same says.node says.says_node;
+    says_unit = unit_of_same says.unit says.says_unit;
+    says = says.says;
+  }

@@ -116,6 +116,14 @@ pub lustre_is_one : IsSubcommand (codes "lustre")
 unfolding clap_on_literals
 lustre_is_one = record { met = refl; no_fault = refl; faults = λ rest. refl; passes = refl; takes = λ rest. refl; found = λ rest. refl }
 
+pub c_is_one : IsSubcommand (codes "c")
+unfolding clap_on_literals
+c_is_one = record { met = refl; no_fault = refl; faults = λ rest. refl; passes = refl; takes = λ rest. refl; found = λ rest. refl }
+
+pub all_is_one : IsSubcommand (codes "all")
+unfolding clap_on_literals
+all_is_one = record { met = refl; no_fault = refl; faults = λ rest. refl; passes = refl; takes = λ rest. refl; found = λ rest. refl }
+
 pub automaton_is_one : IsSubcommand (codes "automaton")
 unfolding clap_on_literals
 automaton_is_one = record { met = refl; no_fault = refl; faults = λ rest. refl; passes = refl; takes = λ rest. refl; found = λ rest. refl }

@@ -21,9 +21,9 @@ use Rattle.clap.proofs.OnLiterals.{clap_on_literals}
 use Rattle.dcv_command.specs.Program.{most_states, most_nodes}
 use Rattle.dcv_command.specs.Laws.{ListedWordsAreTaken}
 use Rattle.dcv_command.specs.Listed.{AreAllowed, AskFor, IsAllowed, IsFileName, Options, Neither, States, Nodes, StatesThenNodes, NodesThenStates, limits_given, option_words}
-use Rattle.dcv_print.specs.declared.report.Kind.TheVariants.{Check, Automaton, Lustre}
+use Rattle.dcv_print.specs.declared.report.Kind.TheVariants.{Check, Automaton, Lustre, C, All}
 use Rattle.dcv_command.specs.Request.{Report, Request, command_of, limits_among, limits_of, request_in, request_of, request_of_subcommand}
-use Rattle.dcv_command.proofs.Commands.{IsSubcommand, check_is_one, automaton_is_one, lustre_is_one, faults_below, found_below, takes_below, leaf}
+use Rattle.dcv_command.proofs.Commands.{IsSubcommand, check_is_one, automaton_is_one, lustre_is_one, c_is_one, all_is_one, faults_below, found_below, takes_below, leaf}
 use Rattle.dcv_command.proofs.Plain.{HasNoDash, after_plain, going, turn_plain, turn_plain_passes, walked_plain}
 
 abbrev rules : List Rule
@@ -262,4 +262,6 @@ listed_words_are_taken name options is allowed = (
   each_list (codes "check") name (Report Check name) check_is_one (λ limits. refl) (has_no_dash name is) options allowed,
   each_list (codes "automaton") name (Report Automaton name) automaton_is_one (λ limits. refl) (has_no_dash name is) options allowed,
   each_list (codes "lustre") name (Report Lustre name) lustre_is_one (λ limits. refl) (has_no_dash name is) options allowed,
+  each_list (codes "c") name (Report C name) c_is_one (λ limits. refl) (has_no_dash name is) options allowed,
+  each_list (codes "all") name (Report All name) all_is_one (λ limits. refl) (has_no_dash name is) options allowed,
 )

@@ -146,6 +146,14 @@ lustre_asks : (words : List Text) → Asks (leaf (codes "lustre")) words
 unfolding clap_on_literals
 lustre_asks words = leaf_asks (codes "lustre") words (λ file limits. refl)
 
+c_asks : (words : List Text) → Asks (leaf (codes "c")) words
+unfolding clap_on_literals
+c_asks words = leaf_asks (codes "c") words (λ file limits. refl)
+
+all_asks : (words : List Text) → Asks (leaf (codes "all")) words
+unfolding clap_on_literals
+all_asks words = leaf_asks (codes "all") words (λ file limits. refl)
+
 -- each of some subcommands that the name names asks for something
 abbrev EachAsks : Text → List Text → List Shape → Type 0
 EachAsks name rest [] = Unit {0}
@@ -179,9 +187,13 @@ stop_asks (Some p) before no_fault e =
     found_asks p.0 p.1 (built program).subs
     (
       (λ _. check_asks p.1),
-      ((λ _. automaton_asks p.1), ((λ _. lustre_asks p.1), ((λ named. absurd (true≢false (sym named ∙ ap (λ (b : Bool). b || false) (help_names_none p.0 before)))), tt))),
+      ((λ _. automaton_asks p.1), ((λ _. lustre_asks p.1), ((λ _. c_asks p.1), ((λ _. all_asks p.1), (no_help, tt))))),
     )
     no_fault e
+  where
+    no_help : answers_to p.0 (label_of (built_leaf help_shape)) ≡ true → Asks (built_leaf help_shape) p.1
+    unfolding clap_on_literals
+    no_help named = absurd (true≢false (sym named ∙ ap (λ (b : Bool). b || false) (help_names_none p.0 before)))
 
 pub taken_words_ask : TakenWordsAsk
 taken_words_ask words taken =

@@ -32,7 +32,9 @@ over_a_formula name = record (new_shape name) {
 }
 
 abbrev pub subcommands : List Shape
-subcommands = over_a_formula (codes "check") ∷ over_a_formula (codes "automaton") ∷ over_a_formula (codes "lustre") ∷ []
+subcommands =
+    over_a_formula (codes "check") ∷ over_a_formula (codes "automaton") ∷ over_a_formula (codes "lustre") ∷ over_a_formula (codes "c")
+    ∷ over_a_formula (codes "all") ∷ []
 
 abbrev pub program : App
 program = record {

@@ -16,7 +16,7 @@ use Rattle.clap.specs.Words.{Row, Text, first_of, one_of, subcommand_of, fault_o
 use Rattle.clap.specs.ValueTests.{is_unsigned_in}
 use Rattle.dcv_explore.specs.declared.explorer.Limits.{Limits}
 use Rattle.dcv_print.specs.declared.report.Kind.{Kind}
-use Rattle.dcv_print.specs.declared.report.Kind.TheVariants.{Check, Automaton, Lustre}
+use Rattle.dcv_print.specs.declared.report.Kind.TheVariants.{Check, Automaton, Lustre, C, All}
 use Rattle.dcv_command.specs.Program.{program, most_states, most_nodes}
 
 pub data Request : Type 0 where
@@ -50,7 +50,9 @@ abbrev pub kind_named : Text → Option Kind
 kind_named name =
     if bytes_eq name (codes "check") then Some Check
     else (if bytes_eq name (codes "automaton") then Some Automaton
-    else (if bytes_eq name (codes "lustre") then Some Lustre else None))
+    else (if bytes_eq name (codes "lustre") then Some Lustre
+    else (if bytes_eq name (codes "c") then Some C
+    else (if bytes_eq name (codes "all") then Some All else None))))
 
 abbrev pub command_of : Text → Text → Limits → Option Request
 command_of name file limits = option_map (λ kind. Report kind file limits) (kind_named name)

@@ -54,11 +54,23 @@ pub(crate) fn program<'a>(alloc: Global) -> Result<Command<'a>, AllocError>
         "automaton",
         "Writes the minimal automaton, with words that show that it is minimal",
     )?;
-    with_report(
+    let command = with_report(
         alloc,
         command,
         "lustre",
         "Writes an observer in a flat subset of Lustre, which tells at each instant whether the behaviour so far satisfies the formula",
+    )?;
+    let command = with_report(
+        alloc,
+        command,
+        "c",
+        "Writes such an observer in a flat subset of C",
+    )?;
+    with_report(
+        alloc,
+        command,
+        "all",
+        "Writes the verdict, the automaton and both observers, each behind a line that names it",
     )
 }
 

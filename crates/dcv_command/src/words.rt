@@ -122,6 +122,8 @@ fn kind_named(name: &str) -> Option<Kind>
         "check" => Some(Kind::Check),
         "automaton" => Some(Kind::Automaton),
         "lustre" => Some(Kind::Lustre),
+        "c" => Some(Kind::C),
+        "all" => Some(Kind::All),
         _ => None,
     }
 }

@@ -16,9 +16,11 @@ use Rattle.dcv_dfa.specs.Laws.{OneTableHasOneListOfLines}
 use Rattle.dcv_dfa.specs.NodeLines.{NodeLinesValue, node_lines_of}
 use Rattle.dcv_dfa.specs.Raw.{RawValue, IsRaw, is_accepting, raw_accepts}
 use Rattle.dcv_dfa.proofs.States.{table_has_the_states, state-at}
-use Rattle.dcv_lustre.specs.Laws.{ObserverOfAutomaton, Observes, TextIsReadBack}
+use Rattle.dcv_c.specs.Laws.{ObserverOfAutomaton as UnitOfAutomaton, Observes as ObservesByUnit, TextIsReadBack as UnitIsReadBack}
+use Rattle.dcv_c.specs.Observer.{observer_of as unit_of}
+use Rattle.dcv_lustre.specs.Laws.{ObserverOfAutomaton as NodeOfAutomaton, Observes as ObservesByNode, TextIsReadBack as NodeIsReadBack}
 use Rattle.dcv_lustre.specs.Observer.{observer_of as node_of}
-use Rattle.dcv_print.specs.Laws.{OneFile, FileOfSameBehaviours, FileSaysNode}
+use Rattle.dcv_print.specs.Laws.{OneFile, FileOfSameBehaviours, FileSaysNode, FileSaysUnit}
 use Rattle.dcv_print.specs.Observers.{IsFileOf}
 
 -- ---- one file
@@ -91,10 +93,10 @@ file_of_same_behaviours k L M names file same of = record {
 
 -- ---- observers
 
-pub file_says_node : ObserverOfAutomaton → TextIsReadBack → FileSaysNode
+pub file_says_node : NodeOfAutomaton → NodeIsReadBack → FileSaysNode
 file_says_node observe back k L names file of =
-    let own : Observes of.automaton.arena.slots (node_of file) (raw_accepts of.automaton) =
-    subst (λ (file : AutomatonFile). Observes of.automaton.arena.slots (node_of file) (raw_accepts of.automaton)) (sym of.is) (observe of.automaton names [] [] of.has_file) in
+    let own : ObservesByNode of.automaton.arena.slots (node_of file) (raw_accepts of.automaton) =
+    subst (λ (file : AutomatonFile). ObservesByNode of.automaton.arena.slots (node_of file) (raw_accepts of.automaton)) (sym of.is) (observe of.automaton names [] [] of.has_file) in
     record {
       file = file;
       of = of;
@@ -108,5 +110,23 @@ file_says_node observe back k L names file of =
             let there = own.accepts word (subst (λ k. IsBehaviour k word) (sym of.slots) behaves) in
             let same = of.accepts word behaves in
             (λ accepts. subst IsTrue same (there.0 accepts), λ accepted. there.1 (subst IsTrue (sym same) accepted));
+      };
+    }
+
+pub file_says_unit : UnitOfAutomaton → UnitIsReadBack → FileSaysUnit
+file_says_unit observe back k L names file of =
+    let own : ObservesByUnit of.automaton.arena.slots (unit_of file) (raw_accepts of.automaton) =
+    subst (λ (file : AutomatonFile). ObservesByUnit of.automaton.arena.slots (unit_of file) (raw_accepts of.automaton)) (sym of.is) (observe of.automaton names [] [] of.has_file) in
+    record {
+      file = file;
+      of = of;
+      says = refl;
+      read = back (unit_of file) own.spellable own.well_named;
+      observes = record {
+        well_named = own.well_named;
+        spellable = own.spellable;
+        width = own.width ∙ of.slots;
+        accepts = λ word behaves.
+            own.accepts word (subst (λ k. IsBehaviour k word) (sym of.slots) behaves) ∙ of.accepts word behaves;
       };
     }

@@ -2,8 +2,8 @@
 -- automaton for the set has fewer states.
 --     IsAutomatonOf k L names file       the file says the canonical automaton of the set over k variables, which have these names
 --     AreSameButForSuffixes one other    two files have the same lines, but for those of suffixes
---     DifferInSuffixes one other         two texts are spelled by such files, so they differ in the lines of suffixes alone
-use Rattle.std.specs.Prelude.{◌≡◌, ℕ, List}
+--     DifferInSuffixes one other         two texts are spelled by such files, with the same around them, so they differ in lines of suffixes alone
+use Rattle.std.specs.Prelude.{◌≡◌, ℕ, List, ◌++◌}
 use Rattle.dcv_language.specs.Language.{Language}
 use Rattle.dcv_language.specs.Canonical.{IsCanonical}
 use Rattle.dcv_language.specs.Certificate.{IsCertificate}
@@ -32,8 +32,10 @@ pub record AreSameButForSuffixes (one other : AutomatonFile) : Type 0 where
   pub access_lines : one.access_lines ≡ other.access_lines
 
 pub record DifferInSuffixes (one other : List ℕ) : Type 0 where
+  pub before : List ℕ
+  pub behind : List ℕ
   pub one_file : AutomatonFile
   pub other_file : AutomatonFile
-  pub one_is : one ≡ spelled one_file
-  pub other_is : other ≡ spelled other_file
+  pub one_is : one ≡ before ++ (spelled one_file ++ behind)
+  pub other_is : other ≡ before ++ (spelled other_file ++ behind)
   pub same : AreSameButForSuffixes one_file other_file

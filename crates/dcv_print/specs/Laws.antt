@@ -18,10 +18,12 @@ use Rattle.dcv_language.specs.declared.certificate.Access.{Access}
 use Rattle.dcv_language.specs.declared.certificate.Suffix.{Suffix}
 use Rattle.dcv_certificate.specs.Proof.{AreSpelled, suffix_words, IsProof}
 use Rattle.dcv_automaton_file.specs.Laws.{HasFile}
+use Rattle.dcv_c.specs.Layout as c
+use Rattle.dcv_c.specs.Observer.{observer_of as unit_of}
 use Rattle.dcv_lustre.specs.Layout as lustre
 use Rattle.dcv_lustre.specs.Observer.{observer_of as node_of}
 use Rattle.dcv_print.specs.Automaton.{IsAutomatonOf, AreSameButForSuffixes}
-use Rattle.dcv_print.specs.Observers.{IsFileOf, SaysNode}
+use Rattle.dcv_print.specs.Observers.{IsFileOf, SaysNode, SaysUnit}
 use Rattle.dcv_print.specs.Printed.{printed_file}
 
 abbrev pub IsPrintable : RawValue → List (List ℕ) → Type 0
@@ -90,3 +92,6 @@ FileOfSameBehaviours = (k : ℕ) (L M : Language) (names : List (List ℕ)) (fil
 -- its observer is what a text has to be that says an observer of the set
 abbrev pub FileSaysNode : Type 0
 FileSaysNode = (k : ℕ) (L : Language) (names : List (List ℕ)) (file : AutomatonFile) → IsFileOf k L names file → SaysNode k L names (lustre.text_of (node_of file))
+
+abbrev pub FileSaysUnit : Type 0
+FileSaysUnit = (k : ℕ) (L : Language) (names : List (List ℕ)) (file : AutomatonFile) → IsFileOf k L names file → SaysUnit k L names (c.text_of (unit_of file))

@@ -6,4 +6,5 @@ pub mod Listed
 pub mod Report
 pub mod Automaton
 pub mod Observers
+pub mod Sections
 pub mod Laws

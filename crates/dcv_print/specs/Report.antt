@@ -11,16 +11,20 @@ use Rattle.dcv_automaton_text.specs.Spelled.{spelled}
 use Rattle.dcv_automaton_file.specs.File.{file_of}
 use Rattle.dcv_certificate.specs.Proof.{IsProof}
 use Rattle.dcv_dfa.specs.Raw.{RawValue}
+use Rattle.dcv_c.specs.Layout as c
+use Rattle.dcv_c.specs.Observer.{observer_of as unit_of}
 use Rattle.dcv_lustre.specs.Layout as lustre
 use Rattle.dcv_lustre.specs.Observer.{observer_of as node_of}
 use Rattle.dcv_print.specs.Listed.{listed_file, IsListed}
 use Rattle.dcv_print.specs.Printed.{printed_file}
+use Rattle.dcv_print.specs.Sections.{all_text}
 use Rattle.dcv_print.specs.Verdict.{seen_verdict}
 use Rattle.dcv_print.specs.declared.automaton_lines.Listed.{Listed}
 use Rattle.dcv_print.specs.declared.report.Kind.{Kind}
-use Rattle.dcv_print.specs.declared.report.Kind.TheVariants.{Check, Automaton, Lustre}
+use Rattle.dcv_print.specs.declared.report.Kind.TheVariants.{Check, Automaton, Lustre, C, All}
 use Rattle.dcv_print.specs.declared.report.Content.{Content}
-use Rattle.dcv_print.specs.declared.report.Content.TheVariants.{Verdict as TheVerdict, Automaton as TheAutomaton, Lustre as TheNode}
+use Rattle.dcv_print.specs.declared.report.Sections.{Sections}
+use Rattle.dcv_print.specs.declared.report.Content.TheVariants.{Verdict as TheVerdict, Automaton as TheAutomaton, Lustre as TheNode, C as TheUnit, All as TheSections}
 use Rattle.dcv_print.specs.declared.verdict_lines.Verdict.{Verdict as CodeVerdict}
 
 pub record ReportValue : Type 0 where
@@ -39,17 +43,38 @@ abbrev pub IsLustreObserver : RawValue → List (List ℕ) → List ℕ → Type
 IsLustreObserver raw names text =
     (access : List AccessLine) (suffixes : List SuffixLine) → text ≡ lustre.text_of (node_of (file_of raw names access suffixes))
 
+abbrev pub IsCObserver : RawValue → List (List ℕ) → List ℕ → Type 0
+IsCObserver raw names text =
+    (access : List AccessLine) (suffixes : List SuffixLine) → text ≡ c.text_of (unit_of (file_of raw names access suffixes))
+
+-- the verdict, the automaton and both observers, each behind its line
+pub record SpellsAll (raw : RawValue) (names : List (List ℕ)) (verdict text : List ℕ) : Type 0 where
+  pub automaton : List ℕ
+  pub node : List ℕ
+  pub unit : List ℕ
+  pub spells_automaton : SpellsAutomaton raw names automaton
+  pub is_node : IsLustreObserver raw names node
+  pub is_unit : IsCObserver raw names unit
+  pub says : text ≡ all_text verdict automaton node unit
+
 abbrev pub Says : Kind → RawValue → List (List ℕ) → ReportValue → Type 0
 Says Check raw names report = report.text ≡ verdict_text report.verdict
 Says Automaton raw names report = SpellsAutomaton raw names report.text
 Says Lustre raw names report = IsLustreObserver raw names report.text
+Says C raw names report = IsCObserver raw names report.text
+Says All raw names report = SpellsAll raw names (verdict_text report.verdict) report.text
 
 -- ---- how a report of the code is seen
+
+abbrev pub text_of_sections : List ℕ → Sections → List ℕ
+text_of_sections verdict sections = all_text verdict (spelled (listed_file sections.listed)) (lustre.text_of sections.node) (c.text_of sections.unit)
 
 abbrev pub text_of : CodeVerdict → Content → List ℕ
 text_of verdict TheVerdict = verdict_text (seen_verdict verdict)
 text_of verdict (TheAutomaton listed) = spelled (listed_file listed)
 text_of verdict (TheNode node) = lustre.text_of node
+text_of verdict (TheUnit unit) = c.text_of unit
+text_of verdict (TheSections sections) = text_of_sections (verdict_text (seen_verdict verdict)) sections
 
 abbrev pub seen_report : CodeVerdict → Content → ReportValue
 seen_report verdict content = record { verdict = seen_verdict verdict; text = text_of verdict content }
@@ -58,3 +83,5 @@ abbrev pub IsContent : Content → Type 0
 IsContent TheVerdict = Unit {0}
 IsContent (TheAutomaton listed) = IsListed listed
 IsContent (TheNode node) = Unit {0}
+IsContent (TheUnit unit) = Unit {0}
+IsContent (TheSections sections) = IsListed sections.listed

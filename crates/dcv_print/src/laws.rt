@@ -1,12 +1,11 @@
 //! Laws of the text that is printed of an automaton. Each function here does nothing: its contract is the law.
 ghost use Rattle.dcv_print.specs.Laws.{PrintedIsSpellable, PrintedIsGood, PrintedTable, PrintedAccess, PrintedSuffixes};
-ghost use Rattle.dcv_print.specs.Laws.{OneFile, FileOfSameBehaviours, FileSaysNode};
+ghost use Rattle.dcv_print.specs.Laws.{OneFile, FileOfSameBehaviours, FileSaysNode, FileSaysUnit};
 ghost use Rattle.dcv_print.specs.Laws.{PrintedIsReadBack, PrintedIsAutomaton, OneAutomaton, AutomatonOfSameBehaviours, AutomatonHasFewestStates};
 
 use dcv_automaton_read::laws::good_texts_are_read;
 use dcv_automaton_text::laws::words_show_fewest_states;
 use dcv_dfa::laws::lines_are_of_tables;
-use dcv_lustre::laws::{observers_accept_the_same, texts_spell_nodes};
 use dcv_language::laws::{
     canonical_for_same_behaviours, no_table_has_fewer_states, one_canonical_table,
 };
@@ -73,10 +72,13 @@ pub fn one_file()
     lines_are_of_tables();
 }
 
-/// The text of the observer of this file is read as the observer, which accepts the behaviours of the set.
+/// The texts of the observers of this file are read as these, and both accept the behaviours of the set.
 pub fn printed_observers_observe()
     ensures node { FileSaysNode }
+    ensures unit { FileSaysUnit }
 {
-    observers_accept_the_same();
-    texts_spell_nodes();
+    dcv_lustre::laws::observers_accept_the_same();
+    dcv_lustre::laws::texts_spell_nodes();
+    dcv_c::laws::observers_accept_the_same();
+    dcv_c::laws::texts_spell_units();
 }

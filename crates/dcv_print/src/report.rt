@@ -8,7 +8,12 @@ ghost use Rattle.dcv_dfa.specs.Auto.{count_of_nodes};
 ghost use Rattle.dcv_dfa.specs.Raw.{raw_accepts};
 ghost use Rattle.dcv_automaton_text.specs.Rules.{AreNames, most_states, most_nodes};
 ghost use Rattle.dcv_print.specs.Printed.{texts_of};
-ghost use Rattle.dcv_print.specs.Report.{Says, seen_report, IsContent};
+ghost use Rattle.dcv_language.specs.VerdictText.{verdict_text};
+ghost use Rattle.dcv_automaton_text.specs.Spelled.{spelled};
+ghost use Rattle.dcv_lustre.specs.Layout as lustre;
+ghost use Rattle.dcv_c.specs.Layout as c;
+ghost use Rattle.dcv_print.specs.Listed.{listed_file, IsListed};
+ghost use Rattle.dcv_print.specs.Report.{Says, SpellsAutomaton, IsLustreObserver, IsCObserver, text_of_sections, seen_report, IsContent};
 ghost use Rattle.dcv_print.specs.Verdict.{seen_verdict};
 ghost use Rattle.dcv_print.specs.declared.verdict_lines.Verdict.{Verdict as CodeVerdict};
 
@@ -16,8 +21,9 @@ use crate::automaton_lines::Listed;
 use crate::verdict_lines::Verdict;
 use crate::verdicts::verdict;
 use dcv_dfa::Auto;
+use dcv_c::CUnit;
 use dcv_io::{Block, Failed, Sink, Target};
-use dcv_lustre::{Node, of_auto};
+use dcv_lustre::Node;
 use dcv_syntax::Name;
 use std::alloc::{AllocError, Global};
 use std::marker::Model;
@@ -31,6 +37,10 @@ pub enum Kind {
     Automaton,
     /// An observer of it in a flat subset of Lustre.
     Lustre,
+    /// An observer of it in a flat subset of C.
+    C,
+    /// All four, each behind a line that names it.
+    All,
 }
 
 // What is written beside a verdict, or in its place.
@@ -39,6 +49,50 @@ pub(crate) enum Content<'a> {
     Verdict,
     Automaton(Listed<'a>),
     Lustre(Node),
+    C(CUnit),
+    All(Sections<'a>),
+}
+
+// What stands behind a verdict where all is written.
+#[derive(Drop)]
+pub(crate) struct Sections<'a> {
+    pub(crate) listed: Listed<'a>,
+    pub(crate) node: Node,
+    pub(crate) unit: CUnit,
+}
+
+impl<'a> Sections<'a> {
+    // All that is said of an automaton over variables with these names.
+    fn new(alloc: Global, auto: &'a Auto, names: &'a [Name]) -> Result<Sections<'a>, AllocError>
+        requires names { AreNames (texts_of names.now) }
+        requires slots { length names.now ≡ auto.now.arena.slots }
+        requires states { length auto.now.rows ≤ most_states }
+        requires nodes { count_of_nodes auto.now ≤ most_nodes }
+        ensures automaton { IfOk result (λ sections. SpellsAutomaton auto.now (texts_of names.now) (spelled (listed_file sections.listed))) }
+        ensures node { IfOk result (λ sections. IsLustreObserver auto.now (texts_of names.now) (lustre.text_of sections.node)) }
+        ensures unit { IfOk result (λ sections. IsCObserver auto.now (texts_of names.now) (c.text_of sections.unit)) }
+        ensures listed { IfOk result (λ sections. IsListed sections.listed) }
+    {
+        let listed = Listed::new(alloc, auto, names)?;
+        let node = dcv_lustre::of_auto(alloc, auto, names)?;
+        let unit = dcv_c::of_auto(alloc, auto, names)?;
+        Ok(Sections { listed, node, unit })
+    }
+
+    // Puts the four texts.
+    fn put<T: Target>(&self, verdict: &Verdict, target: &mut T)
+        requires { IsListed self.now.listed }
+        ensures { Puts (T.standing target.old) (T.standing target.new) (text_of_sections (verdict_text (seen_verdict verdict.now)) self.now) }
+    {
+        target.put(b"--- verdict\n");
+        verdict.put(target);
+        target.put(b"--- automaton\n");
+        self.listed.put(target);
+        target.put(b"--- lustre\n");
+        dcv_lustre::put(&self.node, target);
+        target.put(b"--- c\n");
+        dcv_c::put(&self.unit, target);
+    }
 }
 
 /// A report on the words that an automaton accepts, before it is written.
@@ -110,6 +164,8 @@ impl<'a> Report<'a> {
             Content::Verdict => self.verdict.put(target),
             Content::Automaton(listed) => listed.put(target),
             Content::Lustre(node) => dcv_lustre::put(node, target),
+            Content::C(unit) => dcv_c::put(unit, target),
+            Content::All(sections) => sections.put(&self.verdict, target),
         }
     }
 }
@@ -131,6 +187,8 @@ fn content_of<'a>(
     match kind {
         Kind::Check => Ok(Content::Verdict),
         Kind::Automaton => Ok(Content::Automaton(Listed::new(alloc, auto, names)?)),
-        Kind::Lustre => Ok(Content::Lustre(of_auto(alloc, auto, names)?)),
+        Kind::Lustre => Ok(Content::Lustre(dcv_lustre::of_auto(alloc, auto, names)?)),
+        Kind::C => Ok(Content::C(dcv_c::of_auto(alloc, auto, names)?)),
+        Kind::All => Ok(Content::All(Sections::new(alloc, auto, names)?)),
     }
 }

@@ -11,7 +11,7 @@ use Rattle.dcv_cli.proofs.judged.report_on.Goals as goal
 pub returns : goal.returns
 returns c k L of =
     let judged = c.args.judged.now in
-    report_answers c.printed_is_automaton.ensures c.printed_observers_observe.ensures.node c.automaton_of_same_behaviours.ensures c.verdict_of_same_behaviours.ensures
+    report_answers c.printed_is_automaton.ensures c.printed_observers_observe.ensures.node c.printed_observers_observe.ensures.unit c.automaton_of_same_behaviours.ensures c.verdict_of_same_behaviours.ensures
     c.tables_accept_the_same.ensures.accepts judged.auto (texts_of judged.names.items)
     (record {
       is_raw = c.states.ensures.raw;
