@@ -25,7 +25,7 @@ use std::alloc::{AllocError, Global};
 
 /// The block of each state: two states have one block exactly where they go on to accept the same words.
 ///
-/// Once no more than half of the states move, the time is that of the nodes above and below the states that move. A state moves only with a
+/// Once few states move, the time is that of the nodes above and below the states that move. A state moves only with a
 /// part that is no more than half of its block, so it moves as often as the logarithm of their number at most.
 pub(crate) fn refine(alloc: Global, raw: &Raw) -> Result<Vec<u32>, AllocError>
     ensures { IfOk result (λ blocks. IsPartition raw.now blocks.items) }
@@ -94,19 +94,21 @@ impl Refining {
         ensures refining { OnOk result (IsRefining raw.now self.new.partition.blocks.items self.new.partition.witness.items (list_of self.new.members) self.new.moved.items) }
     {
         let states = raw.states();
-        'rounds: while self.moves_many(states) {
+        'rounds: while self.moves_many(raw) {
             self.found.looked = every_state(alloc, states)?;
             self.round(alloc, raw)?;
         }
         Ok(())
     }
 
-    // Whether another round may find something, in which nearly all of so many states are looked at: the blocks are only those by flags yet, or
-    // more than half of the states moved.
-    fn moves_many(&self, states: u32) -> bool
+    // Whether another round may find something, in which all states are to be looked at: the blocks are only those by flags yet, or many states
+    // moved. That is more than half, or a quarter where the rows have more nodes than there are states, since the way up goes by nodes.
+    fn moves_many(&self, raw: &Raw) -> bool
         ensures { result ≡ true → 0 < length self.now.moved.items }
     {
-        let many = self.partition.witness.len() <= 2 || self.moved.len() > states as usize / 2;
+        let states = raw.states();
+        let parts = if raw.arena().len() > states { 4 } else { 2 };
+        let many = self.partition.witness.len() <= 2 || self.moved.len() > states as usize / parts;
         many && self.goes_on(states)
     }
 
