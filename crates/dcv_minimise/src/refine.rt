@@ -101,14 +101,17 @@ impl Refining {
         Ok(())
     }
 
-    // Whether another round may find something, in which all states are to be looked at: the blocks are only those by flags yet, or many states
-    // moved. That is more than half, or a quarter where the rows have more nodes than there are states, since the way up goes by nodes.
+    // Whether another round may find something, in which all states are to be looked at, since many moved: more than half of them. Where the rows
+    // have more nodes than there are states, a quarter is many, and so is a block by flags, since the way up goes by nodes.
     fn moves_many(&self, raw: &Raw) -> bool
         ensures { result ≡ true → 0 < length self.now.moved.items }
     {
-        let states = raw.states();
-        let parts = if raw.arena().len() > states { 4 } else { 2 };
-        let many = self.partition.witness.len() <= 2 || self.moved.len() > states as usize / parts;
+        let (states, moved) = (raw.states(), self.moved.len());
+        let many = if raw.arena().len() > states {
+            self.partition.witness.len() <= 2 || moved > states as usize / 4
+        } else {
+            moved > states as usize / 2
+        };
         many && self.goes_on(states)
     }
 
