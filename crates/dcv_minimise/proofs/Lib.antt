@@ -25,5 +25,6 @@ pub mod Numberings
 pub mod RowFacts
 pub mod BlockNumbers
 pub mod Quotients
-pub mod Fewest
+pub mod Falling
+mod Fewest
 pub mod Ends

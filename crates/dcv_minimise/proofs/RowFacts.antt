@@ -1,19 +1,17 @@
 -- Rows with new numbers, one after another; and that two are one ref exactly where the functions are one.
-use Rattle.std.proofs.Common.{◌≡◌, ℕ, suc, ◌<◌, ◌≤◌, Bool, List, [], ◌∷◌, ◌++◌, length, get_or, drop, Option, None, Some, ◌⊎◌, inl, inr, ap, sym, ◌∙◌, subst, arith}
+use Rattle.std.proofs.Common.{◌≡◌, ℕ, suc, ◌<◌, ◌≤◌, Bool, List, [], ◌∷◌, ◌++◌, length, get_or, drop, ◌⊎◌, inl, inr, ap, sym, ◌∙◌, subst, arith}
 use Rattle.std.proofs.lemmas.Bool.{cases_lt}
-use Rattle.std.proofs.lemmas.List.{length_push, length-take, length-drop, get_or-take, get_or_append_left, get_or_push, get_or_default}
+use Rattle.std.proofs.lemmas.List.{length_push, get_or_append_left, get_or_push}
+use Rattle.std.specs.List.{All}
 use Rattle.std.proofs.lemmas.List.Elements.{All-nil, All-push, All-weaker}
 use Rattle.dcv_arena.specs.Arena.{ArenaValue, IsArena, IsRef, value_of, KeepsRefs, AddsOnlyNodesOf}
 use Rattle.dcv_arena.specs.declared.nodes.Ref.{Ref}
 use Rattle.dcv_arena.specs.declared.nodes.Ref.TheVariants.{Leaf}
-use Rattle.dcv_arena.proofs.Refs.{same_ref}
 use Rattle.dcv_arena.proofs.Roots.{no_nodes, one_more}
 use Rattle.dcv_renumber.specs.Renumbered.{renumbered}
 use Rattle.dcv_dfa.specs.Raw.{RawValue, IsRaw, row_of, next_in}
 use Rattle.dcv_dfa.proofs.States.{leads_below}
-use Rattle.dcv_minimise.specs.Classes.{HaveSameRow, IsFirstLike}
-use Rattle.dcv_minimise.specs.Folded.{HasRows, IsFirstOf}
-use Rattle.dcv_minimise.proofs.Moving.{behind_first}
+use Rattle.dcv_minimise.specs.Folded.{HasRows}
 
 module _ (raw : RawValue) (states numbers : List ℕ) where
   pub no_rows : (arena : ArenaValue) (rows : List Ref) → IsArena arena → arena.slots ≡ raw.arena.slots → arena.nodes ≡ [] → rows ≡ [] → HasRows raw states numbers arena rows
@@ -67,50 +65,8 @@ leads_inside raw is numbers given_numbers from state root is_numbers is_from is_
     let value : value_of from root letter ≡ value_of raw.arena (row_of raw state) letter = (λ i. value_of (is_from i) (sym is_root i) letter) in
     omega (arith, leads, value, many, ap length is_numbers)
 
--- ---- equal rows
+-- ---- the states behind the start
 
-module _ (raw : RawValue) (blocks : List ℕ) (start : ℕ) (firsts : List ℕ) (arena : ArenaValue) (rows : List Ref) (has : HasRows raw (start ∷ firsts) blocks arena rows)
-    (count : length rows ≡ suc (length firsts)) where
-  abbrev pub row : ℕ → Ref
-  row place = get_or rows place (Leaf 0)
-
-  -- equal refs are equal functions
-  same_row : (class : ℕ) → class < length firsts → row (suc class) ≡ row 0 → HaveSameRow raw blocks start (get_or firsts class 0)
-  same_row class within same letter size =
-      sym (has.values 0 letter (omega arith) size) ∙ ap (λ r. value_of arena r letter) (sym same) ∙ has.values (suc class) letter (omega arith) size
-
-  same_refs : (class : ℕ) → class < length firsts → HaveSameRow raw blocks start (get_or firsts class 0) → row (suc class) ≡ row 0
-  same_refs class within same =
-      same_ref arena has.arena_is.reduced (row (suc class)) (row 0) (has.refs (suc class) (Leaf 0) (omega arith)) (has.refs 0 (Leaf 0) (omega arith))
-      (λ letter size. let width : length letter ≡ raw.arena.slots = size ∙ has.slots in
-      has.values (suc class) letter (omega arith) width ∙ sym (same letter width) ∙ sym (has.values 0 letter (omega arith) width))
-
-  -- the first ref that is the start's own is of the first class that has the start's row
-  later_row : (class : ℕ) (d : Ref) → class < length firsts → get_or (drop 1 rows) class d ≡ row (suc class)
-  later_row class d within = behind_first rows class d ∙ get_or_default rows (suc class) d (Leaf 0) (omega arith)
-
-  pub like_first : (place : Option ℕ) → IsFirstOf (row 0) (drop 1 rows) place → IsFirstLike raw blocks start firsts place
-  like_first None others = λ class d within same.
-      others class (Leaf 0) (omega (arith, length-drop 1 rows))
-      (later_row class (Leaf 0) within ∙ same_refs class within (subst (HaveSameRow raw blocks start) (get_or_default firsts class d 0 within) same))
-  like_first (Some place) at =
-      let within : place < length firsts = omega (arith, at.within, length-drop 1 rows) in
-      record {
-        within = within;
-        same = same_row place within (sym (later_row place (Leaf 0) within) ∙ at.same);
-        earlier = λ class d early same.
-            let less : class < place = omega (arith, length-take place firsts) in
-            let inside : class < length firsts = omega arith in
-            at.earlier class (Leaf 0) (omega (arith, length-take place (drop 1 rows), length-drop 1 rows))
-            (get_or-take place (drop 1 rows) class (Leaf 0) less ∙ later_row class (Leaf 0) inside
-            ∙ same_refs class inside (subst (HaveSameRow raw blocks start) (get_or-take place firsts class d less ∙ get_or_default firsts class d 0 inside) same));
-      }
-
--- the same of a list of states with the start in front
-pub like_front : (raw : RawValue) (blocks states : List ℕ) (arena : ArenaValue) (rows : List Ref) → HasRows raw states blocks arena rows → length rows ≡ length states → 0 < length states
-    → (own : Ref) (others : List Ref) (place : Option ℕ) → own ≡ get_or rows 0 own → others ≡ drop 1 rows → IsFirstOf own others place → IsFirstLike raw blocks (get_or states 0 0) (drop 1 states) place
-like_front raw blocks [] arena rows has count some own others place is_own are_others first = absurd (omega arith)
-like_front raw blocks (start ∷ firsts) arena rows has count some own others place is_own are_others first =
-    let is : own ≡ get_or rows 0 (Leaf 0) = is_own ∙ get_or_default rows 0 own (Leaf 0) (omega (arith, count)) in
-    like_first raw blocks start firsts arena rows has count place
-    (subst (λ r. IsFirstOf r (drop 1 rows) place) is (subst (λ list. IsFirstOf own list place) are_others first))
+pub behind : (P : ℕ → Type 0) (states : List ℕ) → All P states → All P (drop 1 states)
+behind P [] all = all
+behind P (start ∷ firsts) all = λ place d within. all (suc place) d (omega (arith, within))

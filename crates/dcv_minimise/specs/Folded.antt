@@ -2,8 +2,7 @@
 --     HasRows raw states numbers arena rows      the first of these states have these rows, with new numbers
 --     flags_of raw kept alone                    the flags of the kept states; a start that stands alone rejects
 --     IsFolded raw kept numbers alone new        the raw automaton that starts in state 0 and has these rows and flags
---     IsFirstOf own others place                 the first place of this ref among others, if it is there
-use Rattle.std.specs.Prelude.{◌≡◌, ◌≢◌, ℕ, ◌<◌, Bool, false, if◌then◌else◌, List, length, map, take, slice_set, slice_index_or, Option, None, Some}
+use Rattle.std.specs.Prelude.{◌≡◌, ℕ, ◌<◌, Bool, false, if◌then◌else◌, List, length, map, slice_set, slice_index_or}
 use Rattle.std.specs.List.{All}
 use Rattle.dcv_arena.specs.Arena.{ArenaValue, IsArena, IsRef, value_of, HasOnlyNodesOf}
 use Rattle.dcv_arena.specs.declared.nodes.Ref.{Ref}
@@ -27,15 +26,3 @@ pub record IsFolded (raw : RawValue) (kept numbers : List ℕ) (alone : Bool) (n
   pub count : length new.rows ≡ length kept
   pub rows : HasRows raw kept numbers new.arena new.rows
   pub flags : new.accepting ≡ flags_of raw kept alone
-
--- ---- the first of some refs that is this one
-
-pub record IsFirstAt (own : Ref) (others : List Ref) (place : ℕ) : Type 0 where
-  pub within : place < length others
-  pub same : slice_index_or others place (Leaf 0) ≡ own
-  pub earlier : All (λ other. other ≢ own) (take place others)
-
--- its place, or none where it is not among them
-abbrev pub IsFirstOf : Ref → List Ref → Option ℕ → Type 0
-IsFirstOf own others None = All (λ other. other ≢ own) others
-IsFirstOf own others (Some place) = IsFirstAt own others place

@@ -3,17 +3,19 @@
 // no block has its row: whether it accepts does not matter, since no word is empty.
 ghost use Rattle.std.specs.Prelude.{◌≡◌, ◌≢◌, ◌<◌, ◌^◌, length, drop, slice_index_or, IfOk};
 ghost use Rattle.std.specs.List.{All, AllPairs};
-ghost use Rattle.dcv_dfa.specs.Raw.{IsRaw, automaton_of};
+ghost use Rattle.dcv_dfa.specs.Raw.{IsRaw, automaton_of, next_in};
 ghost use Rattle.dcv_reach.specs.Reached.{IsReached, states_of};
 ghost use Rattle.dcv_minimise.specs.Minimal.{IsMinimalOf};
 ghost use Rattle.dcv_minimise.specs.Partition.{IsPartition, block_of};
 ghost use Rattle.dcv_minimise.specs.Classes.{HasFirsts, IsFirstLike, AreKept, IsKeptList, AreBlockNumbers, AreNumbers};
-ghost use Rattle.dcv_minimise.specs.Folded.{HasRows, flags_of, IsFirstOf};
+ghost use Rattle.dcv_minimise.specs.Folded.{HasRows, flags_of};
 
+use crate::refine::keys::Keys;
 use dcv_arena::{Arena, Ref};
 use dcv_dfa::{Auto, Raw};
 use dcv_reach::{Found, Reached};
-use dcv_renumber::Remapping;
+use dcv_renumber::{Places, Remapping};
+use dcv_word::Letter;
 use std::alloc::{AllocError, Global};
 
 // The states that are kept: with their rows and flags they are the states 0, 1, 2, .. of the new automaton.
@@ -102,7 +104,8 @@ fn first_states(
     Ok(states)
 }
 
-// The place, behind the start, of the first of these states that has the start's row: whose letters lead to the same blocks.
+// The place, behind the start, of the first of these states that has the start's row: whose letters lead to the same blocks. Most differ from
+// the start at the letter that is false alone, and their rows are not gone through.
 fn like_start(
     alloc: Global,
     raw: &Raw,
@@ -114,8 +117,22 @@ fn like_start(
     requires blocks { length blocks.now ≡ length raw.now.rows }
     ensures { IfOk result (IsFirstLike raw.now blocks.now (slice_index_or states.now 0 0) (drop 1 states.now)) }
 {
-    let through = rows_of(alloc, raw, states, blocks)?;
-    Ok(first_place(through.rows[0], &through.rows[1..]))
+    // for the prover: of an automaton that was asked it is known what is true of every one.
+    let letter = Letter::new(raw.slots(), 0);
+    let mut keys = Keys::new(alloc, Places::new(alloc), raw, blocks);
+    let start = states[0];
+    let own = keys.of(raw, start)?;
+    let block = block_after(raw, blocks, start, &letter);
+    for (place, state) in states[1..].iter().enumerate() {
+        if block_after(raw, blocks, *state, &letter) != block {
+            continue;
+        }
+        let key = keys.of(raw, *state)?;
+        if key == own {
+            return Ok(Some(place));
+        }
+    }
+    Ok(None)
 }
 
 // The rows of these states, with new numbers in place of the states to which they lead. Functions are equal exactly where their
@@ -141,11 +158,14 @@ fn rows_of(alloc: Global, raw: &Raw, states: &[u32], numbers: &[u32]) -> Result<
     Ok(Rows { arena, rows })
 }
 
-// The first place of a ref among others.
-fn first_place(own: Ref, others: &[Ref]) -> Option<usize>
-    ensures { IsFirstOf own others.now result }
+// The block to which a letter leads from a state.
+fn block_after(raw: &Raw, blocks: &[u32], state: u32, letter: &Letter) -> u32
+    requires state { state < length raw.now.rows }
+    requires letter { length letter.now ≡ raw.now.arena.slots }
+    ensures { result ≡ block_of blocks.now (next_in raw.now state letter.now) }
 {
-    others.iter().position(|other| *other == own)
+    let next = raw.arena().eval(raw.row(state), letter);
+    blocks.get(next as usize).copied().unwrap_or(0)
 }
 
 // For each state the number of the kept state in its block, and 0 where none is in it.

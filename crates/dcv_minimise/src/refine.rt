@@ -3,13 +3,13 @@
 ghost use Rattle.std.specs.Prelude.{◌≡◌, ◌≤◌, ◌<◌, ◌⊎◌, ℕ, true, false, length, IfOk, OnOk, Contains};
 ghost use Rattle.std.specs.List.{All};
 ghost use Rattle.dcv_minimise.specs.Partition.{IsPartition};
-ghost use Rattle.dcv_index.specs.Leads.{index_of};
+ghost use Rattle.dcv_minimise.specs.Rounds.{IsState, LeadTo};
 ghost use Rattle.dcv_members.specs.Members.{list_of};
 ghost use Rattle.dcv_minimise.specs.Refining.{IsRefining};
 
 mod counts;
 mod division;
-mod keys;
+pub(crate) mod keys;
 mod listing;
 mod partition;
 mod votes;
@@ -25,16 +25,21 @@ use std::alloc::{AllocError, Global};
 
 /// The block of each state: two states have one block exactly where they go on to accept the same words.
 ///
-/// The time is that of the nodes above and below the states that move. A state moves only with a part that is no more than
-/// half of its block, so it moves as often as the logarithm of their number at most.
+/// Once few states move, the time is that of the nodes above and below the states that move. A state moves only with a
+/// part that is no more than half of its block, so it moves as often as the logarithm of their number at most.
 pub(crate) fn refine(alloc: Global, raw: &Raw) -> Result<Vec<u32>, AllocError>
     ensures { IfOk result (λ blocks. IsPartition raw.now blocks.items) }
 {
-    let index = Index::new(alloc, raw.arena(), raw.rows())?;
     let mut refining = Refining::new(alloc, raw)?;
+    refining.divide_all(alloc, raw)?;
     let states = raw.states();
+    if !refining.goes_on(states) {
+        return Ok(refining.partition.into_blocks());
+    }
+    let index = Index::new(alloc, raw.arena(), raw.rows())?;
     'rounds: while refining.goes_on(states) {
-        refining.round(alloc, raw, &index)?;
+        index.above(&refining.moved, &mut refining.found)?;
+        refining.round(alloc, raw)?;
     }
     Ok(refining.partition.into_blocks())
 }
@@ -83,15 +88,42 @@ impl Refining {
         !self.moved.is_empty() && self.partition.witness.len() < states as usize
     }
 
-    // One round.
-    fn round(&mut self, alloc: Global, raw: &Raw, index: &Index<'_>) -> Result<(), AllocError>
-        requires index { index.now ≡ index_of raw.now.arena raw.now.rows }
+    // The first rounds, while many states move. What leads to these is nearly every state, so all are looked at, with no way up and no index.
+    fn divide_all(&mut self, alloc: Global, raw: &Raw) -> Result<(), AllocError>
+        requires refining { IsRefining raw.now self.old.partition.blocks.items self.old.partition.witness.items (list_of self.old.members) self.old.moved.items }
+        ensures refining { OnOk result (IsRefining raw.now self.new.partition.blocks.items self.new.partition.witness.items (list_of self.new.members) self.new.moved.items) }
+    {
+        let states = raw.states();
+        'rounds: while self.moves_many(raw) {
+            self.found.looked = every_state(alloc, states)?;
+            self.round(alloc, raw)?;
+        }
+        Ok(())
+    }
+
+    // Whether another round may find something, in which all states are to be looked at, since many moved: more than half of them. Where the rows
+    // have more nodes than there are states, a quarter is many, and so is a block by flags, since the way up goes by nodes.
+    fn moves_many(&self, raw: &Raw) -> bool
+        ensures { result ≡ true → 0 < length self.now.moved.items }
+    {
+        let (states, moved) = (raw.states(), self.moved.len());
+        let many = if raw.arena().len() > states {
+            self.partition.witness.len() <= 2 || moved > states as usize / 4
+        } else {
+            moved > states as usize / 2
+        };
+        many && self.goes_on(states)
+    }
+
+    // One round, in which the states that lead to one that moved are looked at.
+    fn round(&mut self, alloc: Global, raw: &Raw) -> Result<(), AllocError>
+        requires looked { LeadTo raw.now self.old.moved.items self.old.found.looked.items }
+        requires states { All (IsState raw.now) self.old.found.looked.items }
         requires refining { IsRefining raw.now self.old.partition.blocks.items self.old.partition.witness.items (list_of self.old.members) self.old.moved.items }
         ensures refining { OnOk result (IsRefining raw.now self.new.partition.blocks.items self.new.partition.witness.items (list_of self.new.members) self.new.moved.items) }
         ensures more { OnOk result (0 < length self.new.moved.items → length self.old.partition.witness.items < length self.new.partition.witness.items) }
         ensures no_fewer { OnOk result (length self.old.partition.witness.items ≤ length self.new.partition.witness.items) }
     {
-        index.above(&self.moved, &mut self.found)?;
         self.counts
             .count(&self.partition.blocks, &self.found.looked)?;
         self.listed.fill(

@@ -2,22 +2,21 @@
 ghost use Rattle.std.specs.Prelude.{◌<◌, length};
 ghost use Rattle.std.specs.List.{All};
 
-use dcv_members::SparseSet;
 use std::alloc::{AllocError, Global};
 
-// The blocks that have some, and how many each of them has, at its place among them. One is kept for all rounds.
+// How many each block has, by its number, and the blocks that have some. One is kept for all rounds.
 #[derive(Debug, Drop)]
 pub(crate) struct Counts {
-    blocks: SparseSet,
-    counts: Vec<usize>,
+    counts: Vec<u32>,
+    blocks: Vec<u32>,
 }
 
 impl Counts {
     // No block has any.
     pub(crate) fn new(alloc: Global) -> Counts {
         Counts {
-            blocks: SparseSet::new(alloc),
             counts: Vec::new(alloc),
+            blocks: Vec::new(alloc),
         }
     }
 
@@ -25,22 +24,36 @@ impl Counts {
     pub(crate) fn count(&mut self, blocks: &[u32], looked: &[u32]) -> Result<(), AllocError>
         requires { All (λ state. state < length blocks.now) looked.now }
     {
-        self.blocks.clear();
-        self.counts.clear();
+        self.forget();
         for state in looked {
             self.add(blocks[*state as usize])?;
         }
         Ok(())
     }
 
+    // No block has any again, in the time of those that had some.
+    fn forget(&mut self) {
+        for block in &self.blocks {
+            match self.counts.get_mut(*block as usize) {
+                Some(count) => *count = 0,
+                None => {}
+            }
+        }
+        self.blocks.clear();
+    }
+
     // Counts a state of this block.
     fn add(&mut self, block: u32) -> Result<(), AllocError> {
-        let place = self.blocks.insert(block)?;
-        if place >= self.counts.len() {
-            self.counts.push(0)?;
+        if block as usize >= self.counts.len() {
+            self.counts.resize(block as usize + 1, 0)?;
         }
-        match self.counts.get_mut(place) {
-            Some(count) => *count = count.saturating_add(1),
+        match self.counts.get_mut(block as usize) {
+            Some(count) => {
+                if *count == 0 {
+                    self.blocks.push(block)?;
+                }
+                *count = count.saturating_add(1);
+            }
             None => {}
         }
         Ok(())
@@ -48,9 +61,7 @@ impl Counts {
 
     // Whether more than half of a block with so many members is looked at.
     pub(crate) fn is_many(&self, block: u32, members: usize) -> bool {
-        let Some(place) = self.blocks.place_of(block) else {
-            return false;
-        };
-        self.counts.get(place).copied().unwrap_or(0) > members / 2
+        let count = self.counts.get(block as usize).copied().unwrap_or(0);
+        count as usize > members / 2
     }
 }

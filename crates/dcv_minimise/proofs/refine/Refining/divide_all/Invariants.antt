@@ -1,0 +1,11 @@
+use Rattle.std.proofs.Common.{◌+◌, ◌-◌, min, length}
+use Rattle.dcv_members.specs.Members.{list_of}
+use Rattle.dcv_minimise.specs.Refining.{IsRefining}
+use Rattle.dcv_minimise.proofs.refine.Refining.divide_all.Given as goal
+
+abbrev pub invariant-rounds : goal.invariant-rounds
+invariant-rounds l = IsRefining l.raw l.self.partition.blocks.items l.self.partition.witness.items (list_of l.self.members) l.self.moved.items
+
+-- each round but the last makes a block more, and there are at most as many as states
+abbrev pub decreases-rounds : goal.decreases-rounds
+decreases-rounds l = (length l.raw.rows - length l.self.partition.witness.items) + min 1 (length l.self.moved.items)
