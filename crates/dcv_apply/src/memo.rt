@@ -21,9 +21,8 @@ use std::num::NonZeroUsize;
 const FIRST_ROOM: usize = 72;
 
 /// The capacity of a memo where its caller asks for no other. An exploration takes such a memo, and so does a proposition whose operands are
-/// joined. It is a bound alone: a memo grows with its entries, of which there are about as many as nodes. So it is large, since what a memo
-/// forgets is gone through again.
-pub const USUAL_CAPACITY: usize = 1_048_576;
+/// joined. It is a bound alone: a memo grows with its entries.
+pub const USUAL_CAPACITY: usize = 65_536;
 
 // Makes room for the first entries of a map that will have so many at most, unless memory runs out.
 fn make_first_room(pairs: &mut IndexMap<Pair, Ref>, most: usize)

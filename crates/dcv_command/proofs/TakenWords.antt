@@ -192,7 +192,6 @@ stop_asks (Some p) before no_fault e =
     no_fault e
   where
     no_help : answers_to p.0 (label_of (built_leaf help_shape)) ≡ true → Asks (built_leaf help_shape) p.1
-    unfolding clap_on_literals
     no_help named = absurd (true≢false (sym named ∙ ap (λ (b : Bool). b || false) (help_names_none p.0 before)))
 
 pub taken_words_ask : TakenWordsAsk
