@@ -1,0 +1,4 @@
+//! Nodes of the flat subset of Lustre, read from their texts.
+#![tactic(auto)]
+
+mod placed;
