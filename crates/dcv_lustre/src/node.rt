@@ -86,8 +86,8 @@ impl Node {
     ghost use Rattle.dcv_lustre.specs.Rules.{IsWellNamed};
     ghost use Rattle.dcv_lustre.specs.Form.{IsSpellable};
 
-    /// A node of these parts.
-    pub(crate) fn new(
+    /// A node of these parts, which keep the rules of names and have a text.
+    pub fn new(
         name: Text,
         inputs: Vec<Text>,
         locals: Vec<Local>,

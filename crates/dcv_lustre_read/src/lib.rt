@@ -1,4 +1,6 @@
 //! Nodes of the flat subset of Lustre, read from their texts.
 #![tactic(auto)]
 
+mod constants;
 mod placed;
+mod scope;

@@ -1,0 +1,3 @@
+pub mod Judging
+pub mod Declaring
+pub mod Found

@@ -1,0 +1,24 @@
+-- What an answer to words of a node tells of the rules of names. A fault is that of the first word that breaks one.
+--     Keeps at keeps Next result     one word, which begins at this offset and keeps its rule or breaks it
+--     Leads whole Next result        words of a node whose first broken word begins at an offset, if there is one
+--     IsLeft whole words keeps       the words that are not judged yet: the first of them that is broken is the first of all
+use Rattle.std.specs.Prelude.{◌≡◌, ℕ, Bool, true, false, List, Option, Some, Result, Ok, Err}
+use Rattle.dcv_lexer.specs.Cuts.{Token}
+use Rattle.dcv_observer.specs.declared.fault.ObsFault.{ObsFault}
+use Rattle.dcv_observer.specs.declared.fault.ObsFault.TheVariants.{Syntax, Names, Memory}
+use Rattle.dcv_lustre.specs.Rules.{first_broken}
+
+abbrev pub Keeps : {A : Type 0} → ℕ → Bool → (A → Type 0) → Result A ObsFault → Type 0
+Keeps at keeps Next (Ok x) = (keeps ≡ true) × Next x
+Keeps at keeps Next (Err (Syntax place)) = ⊥
+Keeps at keeps Next (Err (Names place)) = (keeps ≡ false) × (place ≡ at)
+Keeps at keeps Next (Err Memory) = Unit {0}
+
+abbrev pub Leads : {A : Type 0} → Option ℕ → (A → Type 0) → Result A ObsFault → Type 0
+Leads whole Next (Ok x) = Next x
+Leads whole Next (Err (Syntax place)) = ⊥
+Leads whole Next (Err (Names place)) = whole ≡ Some place
+Leads whole Next (Err Memory) = Unit {0}
+
+pub record IsLeft (whole : Option ℕ) (words : List Token) (keeps : List Bool) : Type 0 where
+  pub first : first_broken words keeps ≡ whole
