@@ -1,7 +1,9 @@
 -- What is left to judge behind a word that keeps its rule, and the fault at one that does not.
-use Rattle.std.proofs.Common.{◌≡◌, ℕ, Bool, true, false, List, [], ◌∷◌, Option, Some, sym, subst}
+use Rattle.std.proofs.Common.{◌≡◌, ℕ, Bool, true, false, List, [], ◌∷◌, Option, Some, refl, sym, ap, subst, ◌∙◌}
 use Rattle.dcv_lexer.specs.Cuts.{Token}
-use Rattle.dcv_lustre_read.specs.Judged.{IsLeft}
+use Rattle.dcv_observer.specs.declared.fault.ObsFault.{ObsFault}
+use Rattle.dcv_observer.specs.declared.fault.ObsFault.TheVariants.{Syntax, Names as Fault, Memory}
+use Rattle.dcv_lustre_read.specs.Judged.{IsLeft, IsBroken, IsFaultOf}
 
 pub kept : {whole : Option ℕ} {word : Token} {words : List Token} {keep : Bool} {keeps : List Bool}
     → keep ≡ true → IsLeft whole (word ∷ words) (keep ∷ keeps) → IsLeft whole words keeps
@@ -12,3 +14,14 @@ pub broken : {whole : Option ℕ} {word : Token} {words : List Token} {keep : Bo
     → keep ≡ false → IsLeft whole (word ∷ words) (keep ∷ keeps) → whole ≡ Some word.start
 broken {whole = whole} {word = word} {words = words} {keeps = keeps} is left =
     sym (subst (λ (k : Bool). IsLeft whole (word ∷ words) (k ∷ keeps)) is left).first
+
+-- the answer at a word that is broken
+pub broken_word : {fault : ObsFault} {at : ℕ} {keeps : Bool} → fault ≡ Fault at → keeps ≡ false → IsBroken at keeps fault
+broken_word {at = at} {keeps = keeps} is not = subst (IsBroken at keeps) (sym is) (not, refl)
+
+-- and of the whole node
+pub first_fault : (fault : ObsFault) {whole : Option ℕ} {word : Token} {words : List Token} {keep : Bool} {keeps : List Bool}
+    → IsBroken word.start keep fault → IsLeft whole (word ∷ words) (keep ∷ keeps) → IsFaultOf whole fault
+first_fault (Syntax place) is left = is
+first_fault (Fault place) is left = broken is.0 left ∙ ap Some (sym is.1)
+first_fault Memory is left = tt

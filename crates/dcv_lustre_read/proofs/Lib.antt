@@ -1,3 +1,4 @@
 pub mod Judging
 pub mod Declaring
 pub mod Found
+pub mod NameKinds

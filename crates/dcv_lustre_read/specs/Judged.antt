@@ -8,17 +8,25 @@ use Rattle.dcv_observer.specs.declared.fault.ObsFault.{ObsFault}
 use Rattle.dcv_observer.specs.declared.fault.ObsFault.TheVariants.{Syntax, Names, Memory}
 use Rattle.dcv_lustre.specs.Rules.{first_broken}
 
+-- why a word is refused that begins at this offset
+abbrev pub IsBroken : ℕ → Bool → ObsFault → Type 0
+IsBroken at keeps (Syntax place) = ⊥
+IsBroken at keeps (Names place) = (keeps ≡ false) × (place ≡ at)
+IsBroken at keeps Memory = Unit {0}
+
 abbrev pub Keeps : {A : Type 0} → ℕ → Bool → (A → Type 0) → Result A ObsFault → Type 0
 Keeps at keeps Next (Ok x) = (keeps ≡ true) × Next x
-Keeps at keeps Next (Err (Syntax place)) = ⊥
-Keeps at keeps Next (Err (Names place)) = (keeps ≡ false) × (place ≡ at)
-Keeps at keeps Next (Err Memory) = Unit {0}
+Keeps at keeps Next (Err fault) = IsBroken at keeps fault
+
+-- why a node is refused
+abbrev pub IsFaultOf : Option ℕ → ObsFault → Type 0
+IsFaultOf whole (Syntax place) = ⊥
+IsFaultOf whole (Names place) = whole ≡ Some place
+IsFaultOf whole Memory = Unit {0}
 
 abbrev pub Leads : {A : Type 0} → Option ℕ → (A → Type 0) → Result A ObsFault → Type 0
 Leads whole Next (Ok x) = Next x
-Leads whole Next (Err (Syntax place)) = ⊥
-Leads whole Next (Err (Names place)) = whole ≡ Some place
-Leads whole Next (Err Memory) = Unit {0}
+Leads whole Next (Err fault) = IsFaultOf whole fault
 
 pub record IsLeft (whole : Option ℕ) (words : List Token) (keeps : List Bool) : Type 0 where
   pub first : first_broken words keeps ≡ whole

@@ -3,4 +3,5 @@
 
 mod constants;
 mod placed;
+mod rights;
 mod scope;

@@ -6,7 +6,8 @@ ghost use Rattle.dcv_lustre.specs.Seen.{seen_kind};
 ghost use Rattle.dcv_lustre.specs.Tree.{Kind as PlainKind, Node as PlainNode};
 ghost use Rattle.dcv_lustre.specs.Meaning.{names_of};
 ghost use Rattle.dcv_lustre.specs.Rules.{is_among, is_same_kind, names_of_kind, keeps_name};
-ghost use Rattle.dcv_lustre_read.specs.Judged.{Keeps, Leads, IsLeft};
+ghost use Rattle.dcv_lustre_read.specs.Judged.{Leads};
+ghost use Rattle.dcv_observer.specs.declared.fault.ObsFault.TheVariants.{Names};
 
 use dcv_lustre::{Kind, ObsFault};
 use dcv_observer::{Declared, Item};
@@ -25,7 +26,13 @@ impl Declaration {
     pub(crate) fn reads_as(&self, kind: Kind) -> bool
         ensures { result ≡ self.now.known && is_same_kind (seen_kind kind) (seen_kind self.now.kind) }
     {
-        self.known && self.kind == kind
+        self.known && self.is_of(kind)
+    }
+
+    pub(crate) fn is_of(&self, kind: Kind) -> bool
+        ensures { result ≡ is_same_kind (seen_kind kind) (seen_kind self.now.kind) }
+    {
+        self.kind == kind
     }
 }
 
@@ -46,16 +53,12 @@ pub(crate) fn push<T: Drop>(items: &mut Vec<T>, item: T) -> Result<(), AllocErro
     Ok(())
 }
 
-// One word, which keeps its rule or breaks it.
-pub(crate) fn judged(word: &Item<'_>, keeps: bool) -> Result<(), ObsFault>
-    ensures { Keeps word.now.start keeps (λ _. Unit {0}) result }
+// The fault at a word that breaks its rule.
+pub(crate) fn broken(word: &Item<'_>) -> ObsFault
+    ensures { result ≡ Names word.now.start }
 {
-    if keeps {
-        Ok(())
-    } else {
-        Err(ObsFault::Names {
-            at: word.start,
-        })
+    ObsFault::Names {
+        at: word.start,
     }
 }
 
