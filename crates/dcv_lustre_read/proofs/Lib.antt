@@ -2,3 +2,4 @@ pub mod Judging
 pub mod Declaring
 pub mod Found
 pub mod NameKinds
+pub mod RightSides

@@ -2,11 +2,14 @@
 --     Keeps at keeps Next result     one word, which begins at this offset and keeps its rule or breaks it
 --     Leads whole Next result        words of a node whose first broken word begins at an offset, if there is one
 --     IsLeft whole words keeps       the words that are not judged yet: the first of them that is broken is the first of all
-use Rattle.std.specs.Prelude.{◌≡◌, ℕ, Bool, true, false, List, Option, Some, Result, Ok, Err}
+use Rattle.std.specs.Prelude.{◌≡◌, ℕ, Bool, true, false, List, [], ◌∷◌, map, Option, Some, Result, Ok, Err}
 use Rattle.dcv_lexer.specs.Cuts.{Token}
 use Rattle.dcv_observer.specs.declared.fault.ObsFault.{ObsFault}
 use Rattle.dcv_observer.specs.declared.fault.ObsFault.TheVariants.{Syntax, Names, Memory}
-use Rattle.dcv_lustre.specs.Rules.{first_broken}
+use Rattle.std.specs.List.{flat_map}
+use Rattle.dcv_lustre.specs.Tree.{OfNumber, Test, Node}
+use Rattle.dcv_lustre.specs.Placed.{PlacedArm, PlacedTest}
+use Rattle.dcv_lustre.specs.Rules.{first_broken, keeps_name}
 
 -- why a word is refused that begins at this offset
 abbrev pub IsBroken : ℕ → Bool → ObsFault → Type 0
@@ -30,3 +33,14 @@ Leads whole Next (Err fault) = IsFaultOf whole fault
 
 pub record IsLeft (whole : Option ℕ) (words : List Token) (keeps : List Bool) : Type 0 where
   pub first : first_broken words keeps ≡ whole
+
+-- ---- the words of a right side
+
+abbrev pub words_of_arms : List PlacedArm → List Token
+words_of_arms arms = flat_map (λ (arm : PlacedArm). arm.name ∷ arm.item ∷ []) arms
+
+abbrev pub words_of_tests : List PlacedTest → List Token
+words_of_tests tests = map (λ (test : PlacedTest). test.name) tests
+
+abbrev pub keeps_tests : Node → List (List ℕ) → List Test → List Bool
+keeps_tests node known tests = map (λ (test : Test). keeps_name node known OfNumber test.name) tests

@@ -13,7 +13,7 @@ ghost use Rattle.dcv_lustre.specs.Rules.{is_among, names_of_kind, keeps_name, ke
 ghost use Rattle.dcv_lustre.specs.Rules.{words_of_right};
 ghost use Rattle.dcv_lustre_read.specs.Seen.{seen_arm, seen_test, seen_right};
 ghost use Rattle.dcv_lustre_read.specs.Scope.{seen_row, Knows};
-ghost use Rattle.dcv_lustre_read.specs.Judged.{Keeps, Leads, IsLeft};
+ghost use Rattle.dcv_lustre_read.specs.Judged.{Keeps, Leads, IsLeft, words_of_arms, words_of_tests, keeps_tests};
 
 use crate::constants::{is_constant, is_of_kind, number_at, value_at};
 use crate::placed::{PlacedArm, PlacedRight, PlacedTest};
@@ -116,5 +116,74 @@ impl<'a> Scope<'a> {
             name,
             number: number_at(&test.number),
         })
+    }
+
+    // The arms of a choice. Behind them other words are to be judged.
+    fn arms(
+        &self,
+        alloc: Global,
+        arms: &[PlacedArm<'_>],
+        kind: Kind,
+    ) -> Result<Vec<Arm>, ObsFault>
+        requires { AllByRecursion AreWordsOfArm (map seen_arm arms.now) }
+        ensures { (node : PlainNode) (earlier : PlainNames) → Knows node earlier self.now.declared (map seen_row self.now.names.items)
+            → (whole : Option ℕ) (words : List Token) (keeps : List Bool)
+            → IsLeft whole (words_of_arms (map seen_arm arms.now) ++ words)
+                (flat_map (keeps_arm node (node.inputs ++ earlier) (seen_kind kind)) (map arm_of (map seen_arm arms.now)) ++ keeps)
+            → Leads whole (λ seen. (map (arm_seen (names_of node)) seen.items ≡ map arm_of (map seen_arm arms.now)) × IsLeft whole words keeps) result }
+    {
+        let mut all = Vec::new(alloc);
+        for arm in arms {
+            push(&mut all, self.arm(arm, kind)?)?;
+        }
+        Ok(all)
+    }
+
+    fn tests(
+        &self,
+        alloc: Global,
+        tests: &[PlacedTest<'_>],
+    ) -> Result<Vec<Test>, ObsFault>
+        requires { AllByRecursion AreWordsOfTest (map seen_test tests.now) }
+        ensures { (node : PlainNode) (earlier : PlainNames) → Knows node earlier self.now.declared (map seen_row self.now.names.items)
+            → (whole : Option ℕ) (words : List Token) (keeps : List Bool)
+            → IsLeft whole (words_of_tests (map seen_test tests.now) ++ words)
+                (keeps_tests node (node.inputs ++ earlier) (map test_of (map seen_test tests.now)) ++ keeps)
+            → Leads whole (λ seen. (map (test_seen (names_of node)) seen.items ≡ map test_of (map seen_test tests.now)) × IsLeft whole words keeps) result }
+    {
+        let mut all = Vec::new(alloc);
+        for test in tests {
+            push(&mut all, self.test(test)?)?;
+        }
+        Ok(all)
+    }
+
+    pub(crate) fn right(
+        &self,
+        alloc: Global,
+        right: &PlacedRight<'_>,
+        kind: Kind,
+    ) -> Result<Right, ObsFault>
+        requires { AreWordsOfRight (seen_right right.now) }
+        ensures { (node : PlainNode) (earlier : PlainNames) → Knows node earlier self.now.declared (map seen_row self.now.names.items)
+            → (whole : Option ℕ) (words : List Token) (keeps : List Bool)
+            → IsLeft whole (words_of_right (seen_right right.now) ++ words)
+                (keeps_right node (node.inputs ++ earlier) (seen_kind kind) (right_of (seen_right right.now)) ++ keeps)
+            → Leads whole (λ seen. (right_seen (names_of node) seen ≡ right_of (seen_right right.now)) × IsLeft whole words keeps) result }
+    {
+        match right {
+            PlacedRight::Delayed(first, source) => {
+                let value = value_at(first);
+                if !is_of_kind(kind, value) {
+                    return Err(broken(first));
+                }
+                Ok(Right::Delayed(value, self.delayed(source, kind)?))
+            }
+            PlacedRight::Chosen(arms, otherwise) => {
+                let arms = self.arms(alloc, arms, kind)?;
+                Ok(Right::Chosen(arms, self.item(otherwise, kind)?))
+            }
+            PlacedRight::Tested(tests) => Ok(Right::Tested(self.tests(alloc, tests)?)),
+        }
     }
 }
