@@ -1,20 +1,25 @@
 -- One more test of a right side, and one more arm.
-use Rattle.std.proofs.Common.{◌≡◌, ℕ, ◌+◌, ◌≤◌, Bool, true, List, [], ◌∷◌, ◌++◌, length, map, drop, Option, refl, sym, ap, subst, ◌∙◌, arith, append_assoc}
+use Rattle.std.proofs.Common.{◌≡◌, ℕ, ◌+◌, ◌≤◌, Bool, true, List, [], ◌∷◌, ◌++◌, length, map, drop, Option, refl, sym, ap, subst, ◌∙◌, arith, append_assoc, Vec, Global}
 use Rattle.std.specs.List.{flat_map}
 use Rattle.std.proofs.lemmas.List.{at_drop_all, map_push, append-nil}
 use Rattle.dcv_lexer.specs.Cuts.{Token}
-use Rattle.dcv_observer.specs.Conditions.{seen_test as test_seen}
+use Rattle.dcv_observer.specs.Conditions.{Names, seen_test as test_seen}
 use Rattle.dcv_observer.specs.declared.conditions.Test.{Test as CodeTest}
 use Rattle.dcv_observer.specs.declared.fault.ObsFault.{ObsFault}
 use Rattle.dcv_lustre.specs.declared.node.Arm.{Arm as CodeArm}
-use Rattle.dcv_lustre.specs.Tree.{Kind, OfNumber, Arm, Test, Node}
+use Rattle.dcv_lustre.specs.Tree.{Kind, OfNumber, Arm, Test, Node, Chosen}
 use Rattle.dcv_lustre.specs.Meaning.{names_of}
-use Rattle.dcv_lustre.specs.Placed.{test_of, arm_of}
-use Rattle.dcv_lustre.specs.Rules.{keeps_name, keeps_arm}
-use Rattle.dcv_lustre.specs.Seen.{seen_arm as arm_seen}
+use Rattle.dcv_lustre.specs.Placed.{test_of, arm_of, right_of, item_at}
+use Rattle.dcv_lustre.specs.Rules.{keeps_name, keeps_arm, keeps_item, keeps_right, words_of_right}
+use Rattle.dcv_lustre.specs.Seen.{seen_item, seen_arm as arm_seen}
+use Rattle.dcv_lustre.specs.declared.node.Item.{Item as LastItem}
+use Rattle.dcv_observer.specs.declared.items.Item.{Item as CodeItem}
+use Rattle.dcv_observer.specs.Left.{seen}
 use Rattle.dcv_lustre_read.specs.declared.placed.PlacedArm.{PlacedArm}
 use Rattle.dcv_lustre_read.specs.declared.placed.PlacedTest.{PlacedTest}
-use Rattle.dcv_lustre_read.specs.Seen.{seen_test, seen_arm}
+use Rattle.dcv_lustre_read.specs.declared.placed.PlacedRight.{PlacedRight}
+use Rattle.dcv_lustre_read.specs.declared.placed.PlacedRight.TheVariants.{Chosen as CodeChosen}
+use Rattle.dcv_lustre_read.specs.Seen.{seen_test, seen_arm, seen_right}
 use Rattle.dcv_lustre_read.specs.Judged.{IsLeft, IsBroken, IsFaultOf, words_of_tests, words_of_arms, keeps_tests}
 use Rattle.dcv_lustre_read.proofs.Judging.{kept, first_fault}
 
@@ -83,3 +88,23 @@ module _ (node : Node) (known : List (List ℕ)) (kind : Kind) (whole : Option �
   arms_whole items i all made done sofar =
       let none : drop i items ≡ [] = at_drop_all (λ (later : List PlacedArm). later) items i done in
       let there = subst (AreArmsSoFar all made) none sofar in (sym (append-nil (map (arm_seen (names_of node)) made)) ∙ there.0, there.1)
+
+module _ (node : Node) (known : List (List ℕ)) (kind : Kind) (whole : Option ℕ) (words : List Token) (keeps : List Bool) where
+  pub chosen_left : (right : PlacedRight) (arms : Vec PlacedArm Global) (otherwise : CodeItem) (items : List PlacedArm) → right ≡ CodeChosen arms otherwise → items ≡ arms.items
+      → IsLeft whole (words_of_right (seen_right right) ++ words) (keeps_right node known kind (right_of (seen_right right)) ++ keeps)
+      → ArmsLeft node known kind whole (seen otherwise ∷ words) (keeps_item node known kind (item_at (seen otherwise)) ∷ keeps) items
+  chosen_left right arms otherwise items is are left =
+      let there = subst (λ (r : PlacedRight). IsLeft whole (words_of_right (seen_right r) ++ words) (keeps_right node known kind (right_of (seen_right r)) ++ keeps)) is left in
+      let front = words_of_arms (map seen_arm arms.items) in
+      let front_keeps = flat_map (keeps_arm node known kind) (map arm_of (map seen_arm arms.items)) in
+      let last = keeps_item node known kind (item_at (seen otherwise)) in
+      subst (ArmsLeft node known kind whole (seen otherwise ∷ words) (last ∷ keeps)) (sym are)
+      (subst (λ (ws : List Token). IsLeft whole ws (front_keeps ++ (last ∷ keeps))) (append_assoc front (seen otherwise ∷ []) words)
+      (subst (λ (ks : List Bool). IsLeft whole ((front ++ seen otherwise ∷ []) ++ words) ks) (append_assoc front_keeps (last ∷ []) keeps) there))
+
+pub chosen_is : (names : Names) (right : PlacedRight) (arms : Vec PlacedArm Global) (otherwise : CodeItem) (items : List PlacedArm) → right ≡ CodeChosen arms otherwise → items ≡ arms.items
+    → (made : List CodeArm) (last : LastItem) → map (arm_seen names) made ≡ map arm_of (map seen_arm items) → seen_item names last ≡ item_at (seen otherwise)
+    → Chosen (map (arm_seen names) made) (seen_item names last) ≡ right_of (seen_right right)
+chosen_is names right arms otherwise items is are made last made_is last_is =
+    (λ i. Chosen ((made_is ∙ ap (λ (xs : List PlacedArm). map arm_of (map seen_arm xs)) are) i) (last_is i))
+    ∙ sym (ap (λ (r : PlacedRight). right_of (seen_right r)) is)

@@ -8,8 +8,8 @@ use Rattle.dcv_observer.specs.declared.fault.ObsFault.{ObsFault}
 use Rattle.dcv_observer.specs.declared.fault.ObsFault.TheVariants.{Syntax, Names, Memory}
 use Rattle.std.specs.List.{flat_map}
 use Rattle.dcv_lustre.specs.Tree.{OfNumber, Test, Node}
-use Rattle.dcv_lustre.specs.Placed.{PlacedArm, PlacedTest}
-use Rattle.dcv_lustre.specs.Rules.{first_broken, keeps_name}
+use Rattle.dcv_lustre.specs.Placed.{PlacedArm, PlacedTest, PlacedEquation}
+use Rattle.dcv_lustre.specs.Rules.{first_broken, keeps_name, words_of_right}
 
 -- why a word is refused that begins at this offset
 abbrev pub IsBroken : ℕ → Bool → ObsFault → Type 0
@@ -44,3 +44,6 @@ words_of_tests tests = map (λ (test : PlacedTest). test.name) tests
 
 abbrev pub keeps_tests : Node → List (List ℕ) → List Test → List Bool
 keeps_tests node known tests = map (λ (test : Test). keeps_name node known OfNumber test.name) tests
+
+abbrev pub words_of_equations : List PlacedEquation → List Token
+words_of_equations equations = flat_map (λ (equation : PlacedEquation). equation.left ∷ words_of_right equation.right) equations

@@ -1,15 +1,15 @@
 -- What is known of the names of a node at a place in its text.
 --     IsDeclaring node whole ..     while names are declared: those so far, and those that come
 --     Knows node earlier ..         once all are: with the names on the left of earlier equations
-use Rattle.std.specs.Prelude.{◌≡◌, ℕ, ◌+◌, ◌<◌, Bool, true, false, ◌||◌, nat_le, nat_lt, List, [], ◌∷◌, ◌++◌, Option, Some, None, length, map, slice_get}
+use Rattle.std.specs.Prelude.{◌≡◌, ℕ, zero, suc, ◌+◌, ◌<◌, Bool, true, false, ◌||◌, nat_le, nat_lt, List, [], ◌∷◌, ◌++◌, Option, Some, None, length, map, slice_get}
 use Rattle.std.specs.List.{enumerate_from}
 use Rattle.dcv_lexer.specs.Cuts.{Token}
 use Rattle.dcv_observer.specs.Conditions.{Names, name_at}
 use Rattle.dcv_lustre.specs.declared.node.Kind.{Kind as CodeKind}
 use Rattle.dcv_lustre.specs.Seen.{seen_kind}
-use Rattle.dcv_lustre.specs.Tree.{Kind, OfTruth, Local, Node}
+use Rattle.dcv_lustre.specs.Tree.{Kind, OfTruth, Right, Delayed, Chosen, Tested, Equation, Local, Node}
 use Rattle.dcv_lustre.specs.Meaning.{names_of}
-use Rattle.dcv_lustre.specs.Rules.{most_inputs, is_among, declared, keeps_declared, kind_of}
+use Rattle.dcv_lustre.specs.Rules.{most_inputs, is_among, is_same_kind, lefts_of, declared, keeps_declared, kind_of}
 use Rattle.dcv_lustre_read.specs.declared.scope.Declaration.{Declaration}
 use Rattle.dcv_lustre_read.specs.Judged.{IsLeft}
 
@@ -89,3 +89,21 @@ pub record IsFoundAs (node : Node) (earlier : Names) (name : List ℕ) (row : Ro
 abbrev pub IsFound : Node → Names → List ℕ → Option Declaration → Type 0
 IsFound node earlier name None = is_among (names_of node) name ≡ false
 IsFound node earlier name (Some found) = IsFoundAs node earlier name (seen_row found)
+
+-- whether a name of a kind may stand on the left of an equation
+abbrev pub fits_form : Kind → Right → Bool
+fits_form kind (Delayed first source) = true
+fits_form kind (Chosen arms otherwise) = true
+fits_form kind (Tested tests) = is_same_kind OfTruth kind
+
+-- the name at a place is known from now on
+abbrev pub marked : ℕ → List Row → List Row
+marked place [] = []
+marked zero (row ∷ rows) = record { place = row.place; kind = row.kind; is_known = true } ∷ rows
+marked (suc place) (row ∷ rows) = row ∷ marked place rows
+
+-- behind all equations
+pub record KnowsAll (node : Node) (equations : List Equation) (names : Names) (rows : List Row) : Type 0 where
+  pub earlier : Names
+  pub knows : Knows node earlier names rows
+  pub are_lefts : (name : List ℕ) → is_among earlier name ≡ is_among (lefts_of equations) name

@@ -2,6 +2,7 @@
 #![tactic(auto)]
 
 mod constants;
+mod equations;
 mod placed;
 mod rights;
 mod scope;
