@@ -65,6 +65,7 @@ module _ (node : Node) (earlier names : Names) (items : List Declaration) (name 
       let same : name ≡ get_or (names_of node) k [] = one_name name _ facts.1 in
       subst (IsFound node earlier name) (sym here.is)
       (record {
+        within = omega (arith, here.row.is_at, within);
         is = ap (λ n. get_or (names_of node) n []) (here.row.is_at ∙ (let e : 0 + k ≡ k = omega arith in e)) ∙ sym same;
         among = among_at (names_of node) name k within facts.1;
         kind = subst (λ (n : List ℕ). (seen_row here.declaration).kind ≡ kind_of node n) (sym same) here.row.kind;

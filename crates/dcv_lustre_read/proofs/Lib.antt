@@ -3,3 +3,4 @@ pub mod Declaring
 pub mod Found
 pub mod NameKinds
 pub mod RightSides
+pub mod Lefts

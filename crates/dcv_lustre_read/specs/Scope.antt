@@ -81,6 +81,7 @@ pub record Knows (node : Node) (earlier : Names) (names : Names) (rows : List Ro
 
 -- the row of a name
 pub record IsFoundAs (node : Node) (earlier : Names) (name : List ℕ) (row : Row) : Type 0 where
+  pub within : row.place < length (names_of node)
   pub is : name_at (names_of node) row.place ≡ name
   pub among : is_among (names_of node) name ≡ true
   pub kind : row.kind ≡ kind_of node name
