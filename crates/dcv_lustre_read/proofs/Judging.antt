@@ -32,3 +32,6 @@ pub leads_on : {A : Type 0} (whole : Option ℕ) (Next : A → Type 0) (result :
     → IsErrAnd result (λ e. e ≡ fault) → IsFaultOf whole fault → Leads whole Next result
 leads_on whole Next (Ok x) fault is told = absurd is
 leads_on whole Next (Err e) fault is told = subst (IsFaultOf whole) (sym is) told
+
+pub fault_is : {fault : ObsFault} {whole : Option ℕ} {at : ℕ} → fault ≡ Fault at → whole ≡ Some at → IsFaultOf whole fault
+fault_is {whole = whole} is told = subst (IsFaultOf whole) (sym is) told

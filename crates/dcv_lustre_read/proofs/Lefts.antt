@@ -18,7 +18,7 @@ use Rattle.dcv_lustre_read.specs.declared.placed.PlacedEquation.{PlacedEquation}
 use Rattle.dcv_lustre_read.specs.Seen.{seen_equation}
 use Rattle.dcv_lustre_read.specs.Scope.{Row, seen_row, AreDistinct, AreRows, IsRow, Knows, KnowsAll, IsFoundAs, marked, fits_form}
 use Rattle.dcv_lustre_read.specs.Judged.{IsLeft, words_of_equations}
-use Rattle.dcv_lustre_read.proofs.NameKinds.{names_distinct, delayed_as}
+use Rattle.dcv_lustre_read.proofs.NameKinds.{names_distinct, delayed_as, no_input}
 use Rattle.dcv_lustre_read.proofs.RightSides.{one_more}
 
 -- ---- left sides
@@ -129,7 +129,7 @@ module _ (node : Node) (earlier : Names) (left : List ℕ) where
       among_at (n ∷ names) zero within = or_left _ _ (is_itself n)
       among_at (n ∷ names) (suc k) within = or_right (bytes_eq (get_or names k []) n) _ (among_at names k (omega arith))
 
-  pub marked_knows : (names : Names) (rows : List Row) (row : Row) → Knows node earlier names rows → IsFoundAs node earlier left row
+  marked_knows : (names : Names) (rows : List Row) (row : Row) → Knows node earlier names rows → IsFoundAs node earlier left row
       → Knows node (left ∷ earlier) names (marked row.place rows)
   marked_knows names rows row knows found =
       record {
@@ -137,3 +137,113 @@ module _ (node : Node) (earlier : Names) (left : List ℕ) where
         distinct = knows.distinct;
         are_rows = mark_rows 0 (names_of node) rows row.place (names_distinct node earlier names rows knows) knows.are_rows found.within found.is;
       }
+
+  pub marked_then : (names : Names) (rows : List Row) (row : Row) {names_then : Names} {rows_then : List Row} → Knows node earlier names rows → IsFoundAs node earlier left row
+      → names_then ≡ names → rows_then ≡ marked row.place rows → Knows node (left ∷ earlier) names_then rows_then
+  marked_then names rows row {names_then = names_then} {rows_then = rows_then} knows found same marks =
+      subst (λ (ns : Names). Knows node (left ∷ earlier) ns rows_then) (sym same)
+      (subst (λ (rs : List Row). Knows node (left ∷ earlier) names rs) (sym marks) (marked_knows names rows row knows found))
+
+-- ---- one more equation
+
+or_turned : (e b l : Bool) → (e || (b || l)) ≡ ((b || e) || l)
+or_turned true true l = refl
+or_turned true false l = refl
+or_turned false true l = refl
+or_turned false false l = refl
+
+no_or : (b : Bool) → (b || false) ≡ b
+no_or true = refl
+no_or false = refl
+
+-- the equations so far, of all, and what is left
+pub record AreEquationsSoFar (node : Node) (whole : Option ℕ) (words : List Token) (keeps : List Bool) (all : List PlacedEquation)
+    (made : List CodeEquation) (later : List PlacedEquation) (names : Names) (rows : List Row) : Type 0 where
+  pub earlier : Names
+  pub knows : Knows node earlier names rows
+  pub are_made : map (equation_seen (names_of node)) made ++ map equation_of (map seen_equation later) ≡ map equation_of (map seen_equation all)
+  pub are_lefts : (name : List ℕ) → (is_among earlier name || is_among (lefts_of (map equation_of (map seen_equation later))) name) ≡ is_among (lefts_of (map equation_of (map seen_equation all))) name
+  pub left : IsLeft whole (words_of_equations (map seen_equation later) ++ words) (keeps_equations node earlier (map equation_of (map seen_equation later)) ++ keeps)
+
+module _ (node : Node) (whole : Option ℕ) (words : List Token) (keeps : List Bool) (all : List PlacedEquation) where
+  pub equations_begin : (names : Names) (rows : List Row) → Knows node [] names rows
+      → IsLeft whole (words_of_equations (map seen_equation all) ++ words) (keeps_equations node [] (map equation_of (map seen_equation all)) ++ keeps)
+      → AreEquationsSoFar node whole words keeps all [] all names rows
+  equations_begin names rows knows left = record { earlier = []; knows = knows; are_made = refl; are_lefts = λ name. refl; left = left }
+
+  module _ (made : List CodeEquation) (equation : PlacedEquation) (later : List PlacedEquation) (names : Names) (rows : List Row)
+      (sofar : AreEquationsSoFar node whole words keeps all made (equation ∷ later) names rows) where
+    -- the words of the next one, and those behind it
+    pub equation_left : IsLeft whole ((seen_equation equation).left ∷ (words_of_right (seen_equation equation).right ++ (words_of_equations (map seen_equation later) ++ words)))
+        (keeps_equation node sofar.earlier (equation_of (seen_equation equation))
+        ++ (keeps_equations node ((seen_equation equation).left.bytes ∷ sofar.earlier) (map equation_of (map seen_equation later)) ++ keeps))
+    equation_left =
+        let here = words_of_right (seen_equation equation).right in
+        let there = words_of_equations (map seen_equation later) in
+        let kept_here = keeps_equation node sofar.earlier (equation_of (seen_equation equation)) in
+        let kept_there = keeps_equations node ((seen_equation equation).left.bytes ∷ sofar.earlier) (map equation_of (map seen_equation later)) in
+        subst (λ (ws : List Token). IsLeft whole ((seen_equation equation).left ∷ ws) (kept_here ++ (kept_there ++ keeps))) (append_assoc here there words)
+        (subst (λ (ks : List Bool). IsLeft whole ((seen_equation equation).left ∷ ((here ++ there) ++ words)) ks) (append_assoc kept_here kept_there keeps) sofar.left)
+
+    pub equations_more : (more : List CodeEquation) (x : CodeEquation) (names_then : Names) (rows_then : List Row) → more ≡ made ++ x ∷ []
+        → (equation_seen (names_of node) x ≡ equation_of (seen_equation equation)) × Knows node ((seen_equation equation).left.bytes ∷ sofar.earlier) names_then rows_then
+        × IsLeft whole (words_of_equations (map seen_equation later) ++ words)
+        (keeps_equations node ((seen_equation equation).left.bytes ∷ sofar.earlier) (map equation_of (map seen_equation later)) ++ keeps)
+        → AreEquationsSoFar node whole words keeps all more later names_then rows_then
+    equations_more more x names_then rows_then pushed this =
+        record {
+          earlier = (seen_equation equation).left.bytes ∷ sofar.earlier;
+          knows = this.1;
+          are_made = one_more (equation_seen (names_of node)) equation_of made more x (seen_equation equation) (map seen_equation later) (map equation_of (map seen_equation all)) pushed this.0 sofar.are_made;
+          are_lefts = λ name.
+              sym (or_turned (is_among sofar.earlier name) (bytes_eq name (seen_equation equation).left.bytes) (is_among (lefts_of (map equation_of (map seen_equation later))) name))
+              ∙ sofar.are_lefts name;
+          left = this.2;
+        }
+
+  pub equations_end : (made : List CodeEquation) (names : Names) (rows : List Row) → AreEquationsSoFar node whole words keeps all made [] names rows
+      → (map (equation_seen (names_of node)) made ≡ map equation_of (map seen_equation all)) × KnowsAll node (map equation_of (map seen_equation all)) names rows × IsLeft whole words keeps
+  equations_end made names rows sofar = (
+    sym (append-nil (map (equation_seen (names_of node)) made)) ∙ sofar.are_made,
+    record { earlier = sofar.earlier; knows = sofar.knows; are_lefts = λ name. sym (no_or (is_among sofar.earlier name)) ∙ sofar.are_lefts name },
+    sofar.left,
+  )
+
+-- ---- whether all have one
+
+rows_known : (node : Node) (earlier : Names) (place : ℕ) (names : Names) (rows : List Row) → AreRows node earlier place names rows
+    → list_all (λ row. row.is_known) rows ≡ list_all (is_among (node.inputs ++ earlier)) names
+rows_known node earlier place [] [] are = refl
+rows_known node earlier place [] (row ∷ rows) are = absurd are
+rows_known node earlier place (name ∷ names) [] are = absurd are
+rows_known node earlier place (name ∷ names) (row ∷ rows) are =
+    let more = rows_known node earlier (place + 1) names rows are.1 in
+    λ i. are.0.is_known i && more i
+
+inputs_known : (inputs more earlier others : Names) → ((name : List ℕ) → is_among others name ≡ true → is_among inputs name ≡ true)
+    → list_all (is_among (inputs ++ earlier)) (others ++ more) ≡ list_all (is_among (inputs ++ earlier)) more
+inputs_known inputs more earlier [] among = refl
+inputs_known inputs more earlier (name ∷ others) among =
+    ap (λ (b : Bool). b && list_all (is_among (inputs ++ earlier)) (others ++ more)) (among_append_left inputs earlier name (among name (or_left _ _ (is_itself name))))
+    ∙ inputs_known inputs more earlier others (λ n h. among n (or_right (bytes_eq n name) _ h))
+
+others_known : (inputs earlier lefts names : Names) → ((name : List ℕ) → is_among names name ≡ true → is_among inputs name ≡ false)
+    → ((name : List ℕ) → is_among earlier name ≡ is_among lefts name) → list_all (is_among (inputs ++ earlier)) names ≡ list_all (is_among lefts) names
+others_known inputs earlier lefts [] apart same = refl
+others_known inputs earlier lefts (name ∷ names) apart same =
+    let head = no_input inputs earlier name (apart name (or_left _ _ (is_itself name))) ∙ same name in
+    let tail = others_known inputs earlier lefts names (λ n h. apart n (or_right (bytes_eq n name) _ h)) same in
+    λ i. head i && tail i
+
+pub all_known : (node : Node) (names : Names) (items : List Declaration) → KnowsAll node node.equations names (map seen_row items)
+    → list_all (λ (name : Declaration). name.known) items ≡ has_all_equations node
+all_known node names items k =
+    let distinct = names_distinct node k.earlier names (map seen_row items) k.knows in
+    sym (all_mapped items)
+    ∙ rows_known node k.earlier 0 (names_of node) (map seen_row items) k.knows.are_rows
+    ∙ inputs_known node.inputs (ok ∷ local_names node) k.earlier node.inputs (λ name h. h)
+    ∙ others_known node.inputs k.earlier (lefts_of node.equations) (ok ∷ local_names node) (λ name h. distinct_apart node.inputs (ok ∷ local_names node) distinct name h) k.are_lefts
+  where
+    all_mapped : (items : List Declaration) → list_all (λ row. row.is_known) (map seen_row items) ≡ list_all (λ (name : Declaration). name.known) items
+    all_mapped [] = refl
+    all_mapped (item ∷ items) = ap (λ (b : Bool). item.known && b) (all_mapped items)

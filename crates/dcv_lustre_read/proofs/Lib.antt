@@ -4,3 +4,4 @@ pub mod Found
 pub mod NameKinds
 pub mod RightSides
 pub mod Lefts
+pub mod Inputs

@@ -81,7 +81,7 @@ distinct_behind : (names more : Names) → AreDistinct (names ++ more) → AreDi
 distinct_behind [] more distinct = distinct
 distinct_behind (n ∷ names) more distinct = distinct_behind names more distinct.1
 
-no_input : (inputs more : Names) (name : List ℕ) → is_among inputs name ≡ false → is_among (inputs ++ more) name ≡ is_among more name
+pub no_input : (inputs more : Names) (name : List ℕ) → is_among inputs name ≡ false → is_among (inputs ++ more) name ≡ is_among more name
 no_input [] more name none = refl
 no_input (i ∷ inputs) more name none =
     let both = or_parts (bytes_eq name i) (is_among inputs name) none in

@@ -7,8 +7,8 @@ use Rattle.dcv_lexer.specs.Cuts.{Token}
 use Rattle.dcv_observer.specs.declared.fault.ObsFault.{ObsFault}
 use Rattle.dcv_observer.specs.declared.fault.ObsFault.TheVariants.{Syntax, Names, Memory}
 use Rattle.std.specs.List.{flat_map}
-use Rattle.dcv_lustre.specs.Tree.{OfNumber, Test, Node}
-use Rattle.dcv_lustre.specs.Placed.{PlacedArm, PlacedTest, PlacedEquation}
+use Rattle.dcv_lustre.specs.Tree.{OfNumber, Test, Local, Node}
+use Rattle.dcv_lustre.specs.Placed.{PlacedArm, PlacedTest, PlacedEquation, PlacedLocal, local_of}
 use Rattle.dcv_lustre.specs.Rules.{first_broken, keeps_name, words_of_right}
 
 -- why a word is refused that begins at this offset
@@ -47,3 +47,9 @@ keeps_tests node known tests = map (λ (test : Test). keeps_name node known OfNu
 
 abbrev pub words_of_equations : List PlacedEquation → List Token
 words_of_equations equations = flat_map (λ (equation : PlacedEquation). equation.left ∷ words_of_right equation.right) equations
+
+abbrev pub words_of_locals : List PlacedLocal → List Token
+words_of_locals locals = map (λ (local : PlacedLocal). local.name) locals
+
+abbrev pub names_of_locals : List PlacedLocal → List (List ℕ)
+names_of_locals locals = map (λ (local : Local). local.name) (map local_of locals)

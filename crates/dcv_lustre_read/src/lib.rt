@@ -3,6 +3,7 @@
 
 mod constants;
 mod equations;
+mod names;
 mod placed;
 mod rights;
 mod scope;

@@ -1,5 +1,5 @@
 // The names of a node, each with its place, its kind, and whether it is known.
-ghost use Rattle.std.specs.Prelude.{◌≡◌, ◌&&◌, ◌∷◌, ◌++◌, ℕ, Bool, Option, List, [], true, false, map, length, slice_get, OnOk};
+ghost use Rattle.std.specs.Prelude.{◌≡◌, ◌+◌, ◌&&◌, ◌∷◌, ◌++◌, ℕ, Bool, Option, List, [], true, false, map, length, slice_get, OnOk};
 ghost use Rattle.dcv_lexer.specs.Cuts.{Token};
 ghost use Rattle.dcv_observer.specs.Conditions.{Names as PlainNames, name_at};
 ghost use Rattle.dcv_lustre.specs.Seen.{seen_kind};
@@ -84,7 +84,8 @@ impl<'a> Scope<'a> {
             → IsDeclaring node whole others others_keep self.old.declared (map seen_row self.old.names.items)
                 (record { bytes = name.now; start = at } ∷ words) (name.now ∷ later) ((seen_kind kind, known) ∷ told)
             → is_within node (length self.old.declared) ≡ true
-            → Leads whole (λ _. IsDeclaring node whole others others_keep self.new.declared (map seen_row self.new.names.items) words later told) result }
+            → Leads whole (λ _. IsDeclaring node whole others others_keep self.new.declared (map seen_row self.new.names.items) words later told
+                × (length self.new.declared ≡ length self.old.declared + 1)) result }
     {
         let place = self.names.len();
         if place > u32::MAX as usize {
