@@ -29,9 +29,9 @@ with_true : (b : Bool) → (b && true) ≡ b
 with_true true = refl
 with_true false = refl
 
-module _ (node : Node) (whole : Option ℕ) (others : List Token) (others_keep : List Bool) (names : Names) (rows : List Row) (name : List ℕ) (at : ℕ)
+module _ (node : Node) (whole : Option ℕ) (others : List Token) (others_keep : List Bool) (names : Names) (rows : List Row) (name word : List ℕ) (at : ℕ)
     (kind : Kind) (known : Bool) (words : List Token) (later : Names) (told : List Told)
-    (d : IsDeclaring node whole others others_keep names rows (record { bytes = name; start = at } ∷ words) (name ∷ later) ((kind, known) ∷ told)) where
+    (d : IsDeclaring node whole others others_keep names rows (record { bytes = word; start = at } ∷ words) (name ∷ later) ((kind, known) ∷ told)) where
   keeps_is : keeps_declared node (length names) name ≡ (not (is_among names name) && is_within node (length names))
   keeps_is =
       let front : take (length names) (declared node) ≡ names = ap (λ (all : Names). take (length names) all) (sym d.all) ∙ take_at names (name ∷ later) (length names) refl in

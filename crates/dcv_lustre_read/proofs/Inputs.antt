@@ -51,7 +51,7 @@ told_here {node = node} {whole = whole} {others = others} {others_keep = others_
     subst (λ (k : Kind). IsDeclaring node whole others others_keep names rows words later ((k, false) ∷ told)) is d
 
 pub locals_made : {node : Node} {whole : Option ℕ} {others : List Token} {others_keep : List Bool} {all : List PlacedLocal} {made : List CodeLocal} {local : PlacedLocal} {later : List PlacedLocal}
-    {names : Names} {rows : List Row} {more : List CodeLocal} {x : CodeLocal} → AreLocalsSoFar node whole others others_keep all made (local ∷ later) names rows → more ≡ made ++ x ∷ []
+    {names : Names} {rows : List Row} {more : List CodeLocal} (x : CodeLocal) → AreLocalsSoFar node whole others others_keep all made (local ∷ later) names rows → more ≡ made ++ x ∷ []
     → local_seen x ≡ local_of (seen_local local) → map local_seen more ++ map local_of (map seen_local later) ≡ map local_of (map seen_local all)
-locals_made {all = all} {made = made} {local = local} {later = later} {more = more} {x = x} sofar pushed same =
+locals_made {all = all} {made = made} {local = local} {later = later} {more = more} x sofar pushed same =
     one_more local_seen local_of made more x (seen_local local) (map seen_local later) (map local_of (map seen_local all)) pushed same sofar.are_made

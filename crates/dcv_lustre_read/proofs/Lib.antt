@@ -5,3 +5,6 @@ pub mod NameKinds
 pub mod RightSides
 pub mod Lefts
 pub mod Inputs
+pub mod Declared
+pub mod Spellable
+pub mod Named

@@ -17,7 +17,7 @@ abbrev pub named : List Local → Names
 named locals = map (λ (local : Local). local.name) locals
 
 -- of locals, with this kind of the first
-abbrev with_first : Kind → Kind → Local → List Local → Names
+abbrev pub with_first : Kind → Kind → Local → List Local → Names
 with_first asked kind local locals =
     let others = filter (λ (local : Local). is_same_kind asked local.kind) locals in
     map (λ (local : Local). local.name) (cond (is_same_kind asked kind) (local ∷ others) others)
@@ -43,7 +43,7 @@ of_kind_among kind (local ∷ locals) name h = by_kind (of_kind_among kind local
         subst in_front other h in
         or_right (bytes_eq name local.name) _ (also behind)
 
-none_of_kind : (kind : Kind) (locals : List Local) (name : List ℕ) → is_among (named locals) name ≡ false → is_among (of_kind kind locals) name ≡ false
+pub none_of_kind : (kind : Kind) (locals : List Local) (name : List ℕ) → is_among (named locals) name ≡ false → is_among (of_kind kind locals) name ≡ false
 none_of_kind kind locals name none = false_from_ne_true (is_among (of_kind kind locals) name) (λ some. both_ways (is_among (named locals) name) none (of_kind_among kind locals name some))
 
 -- a local is a number where it is no truth
@@ -77,7 +77,7 @@ numbers_are (local ∷ locals) name distinct among = by_kind (numbers_are locals
 
 -- ---- a node's names
 
-distinct_behind : (names more : Names) → AreDistinct (names ++ more) → AreDistinct more
+pub distinct_behind : (names more : Names) → AreDistinct (names ++ more) → AreDistinct more
 distinct_behind [] more distinct = distinct
 distinct_behind (n ∷ names) more distinct = distinct_behind names more distinct.1
 

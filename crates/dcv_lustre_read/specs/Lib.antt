@@ -1,3 +1,4 @@
 pub mod Seen
 pub mod Judged
 pub mod Scope
+pub mod Parts

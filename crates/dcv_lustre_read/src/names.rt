@@ -18,7 +18,7 @@ ghost use Rattle.dcv_lustre_read.specs.Judged.{Leads, words_of_locals, names_of_
 use crate::constants::kind_at;
 use crate::placed::{PlacedLocal, PlacedNode};
 use crate::scope::{Scope, broken, push};
-use dcv_lustre::{Kind, Local, Node, ObsFault};
+use dcv_lustre::{Equation, Kind, Local, Node, ObsFault};
 use dcv_observer::{Declared, Item};
 use dcv_syntax::Text;
 use std::alloc::Global;
@@ -26,7 +26,17 @@ use std::alloc::Global;
 /// How many inputs a node may have.
 const MOST_INPUTS: usize = 16;
 
+/// What is in a node, its names by places.
+#[derive(Drop)]
+struct Parts {
+    inputs: Vec<Text>,
+    locals: Vec<Local>,
+    equations: Vec<Equation>,
+}
+
 impl<'a> Scope<'a> {
+    ghost use Rattle.dcv_lustre_read.specs.Parts.{first_fault_of, ArePartsOf};
+
     // The name of the node is declared, and no other.
     fn of_node(alloc: Global, name: &Item<'a>) -> Result<Scope<'a>, ObsFault>
         ensures declared { IfOk result (λ scope. scope.declared ≡ (seen name.now).bytes ∷ []) }
@@ -67,7 +77,7 @@ impl<'a> Scope<'a> {
         ensures { (node : PlainNode) (whole : Option ℕ) (others : List Token) (others_keep : List Bool)
             (words : List Token) (later : PlainNames) (told : List Told)
             → IsDeclaring node whole others others_keep self.old.declared (map seen_row self.old.names.items)
-                (record { bytes = ok; start = output.now.start } ∷ words) (ok ∷ later) ((OfTruth, false) ∷ told)
+                (seen output.now ∷ words) (ok ∷ later) ((OfTruth, false) ∷ told)
             → is_within node (length self.old.declared) ≡ true
             → Leads whole (λ _. IsDeclaring node whole others others_keep self.new.declared (map seen_row self.new.names.items) words later told
                 × (length self.new.declared ≡ length self.old.declared + 1)) result }
@@ -100,6 +110,27 @@ impl<'a> Scope<'a> {
         }
         Ok(all)
     }
+
+    // All that is in the node, whose own name is declared.
+    fn parts(&mut self, alloc: Global, placed: &PlacedNode<'a>) -> Result<Parts, ObsFault>
+        requires words { AreWords (seen_node placed.now) }
+        requires declared { self.old.declared ≡ (seen_node placed.now).name.bytes ∷ [] }
+        requires names { self.old.names.items ≡ [] }
+        ensures { Leads (first_fault_of (seen_node placed.now)) (λ parts. ArePartsOf (seen_node placed.now) parts) result }
+    {
+        let inputs = self.inputs(alloc, &placed.inputs)?;
+        self.output(&placed.output)?;
+        let locals = self.locals(alloc, &placed.locals)?;
+        let equations = self.equations(alloc, &placed.equations)?;
+        if !self.has_all_equations() {
+            return Err(broken(&placed.tel));
+        }
+        Ok(Parts {
+            inputs,
+            locals,
+            equations,
+        })
+    }
 }
 
 /// The node of the tree of a node in a text, and at the first of its words that breaks a rule of names the fault.
@@ -111,12 +142,12 @@ pub(crate) fn named(alloc: Global, placed: &PlacedNode<'_>) -> Result<Node, ObsF
 {
     let name = Text::copy_of(alloc, placed.name.bytes)?;
     let mut scope = Scope::of_node(alloc, &placed.name)?;
-    let inputs = scope.inputs(alloc, &placed.inputs)?;
-    scope.output(&placed.output)?;
-    let locals = scope.locals(alloc, &placed.locals)?;
-    let equations = scope.equations(alloc, &placed.equations)?;
-    if !scope.has_all_equations() {
-        return Err(broken(&placed.tel));
-    }
+    let parts = scope.parts(alloc, placed);
+    drop(scope);
+    let Parts {
+        inputs,
+        locals,
+        equations,
+    } = parts?;
     Ok(Node::new(name, inputs, locals, equations))
 }

@@ -80,9 +80,9 @@ impl<'a> Scope<'a> {
         known: bool,
     ) -> Result<(), ObsFault>
         ensures { (node : PlainNode) (whole : Option ℕ) (others : List Token) (others_keep : List Bool)
-            (words : List Token) (later : PlainNames) (told : List Told)
+            (word : List ℕ) (words : List Token) (later : PlainNames) (told : List Told)
             → IsDeclaring node whole others others_keep self.old.declared (map seen_row self.old.names.items)
-                (record { bytes = name.now; start = at } ∷ words) (name.now ∷ later) ((seen_kind kind, known) ∷ told)
+                (record { bytes = word; start = at } ∷ words) (name.now ∷ later) ((seen_kind kind, known) ∷ told)
             → is_within node (length self.old.declared) ≡ true
             → Leads whole (λ _. IsDeclaring node whole others others_keep self.new.declared (map seen_row self.new.names.items) words later told
                 × (length self.new.declared ≡ length self.old.declared + 1)) result }

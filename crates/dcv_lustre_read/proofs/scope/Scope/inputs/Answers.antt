@@ -28,7 +28,7 @@ returns-then-place-ge-MOST_INPUTS c = λ (node : Node) (whole : Option ℕ) (oth
     (c.loop-place.invariant node whole others others_keep words later told d one count) in
     let size : length node.inputs ≡ length items = ap length count ∙ length-map (map seen items) (λ (token : Token). token.bytes) ∙ length-map items seen in
     fault_is c.broken.ensures
-    (declared_beyond node whole others others_keep names rows _ _ _ _ _ _ _ sofar.declaring
+    (declared_beyond node whole others others_keep names rows _ _ _ _ _ _ _ _ sofar.declaring
     (beyond_inputs node (length names) (omega (arith, sofar.count, c.if-place-ge-MOST_INPUTS.true)) (omega (arith, sofar.count, size, c.loop-place-test.true))))
 
 pub returns-in_err-declare : goal.returns-in_err-declare
@@ -40,7 +40,7 @@ returns-in_err-declare c = λ (node : Node) (whole : Option ℕ) (others : List 
     let sofar = subst (λ (rest : List Item). AreInputsSoFar node whole others others_keep words later told items c.loop-place.texts.items i rest names rows) (drop_more items i _ c.loop-place-test.true)
     (c.loop-place.invariant node whole others others_keep words later told d one count) in
     leads_on whole _ c.from_residual.result c.in_err-declare.field-0.0 c.from_residual.ensures.1
-    (c.in_err-declare.ensures node whole others others_keep _ _ _ sofar.declaring (within_inputs node (length names) (omega (arith, sofar.count, c.if-place-ge-MOST_INPUTS.false))))
+    (c.in_err-declare.ensures node whole others others_keep _ _ _ _ sofar.declaring (within_inputs node (length names) (omega (arith, sofar.count, c.if-place-ge-MOST_INPUTS.false))))
 
 pub loop-place-preserved : goal.loop-place-preserved
 loop-place-preserved c = λ (node : Node) (whole : Option ℕ) (others : List Token) (others_keep : List Bool) (words : List Token) (later : Names) (told : List Told) d one count.
@@ -50,7 +50,7 @@ loop-place-preserved c = λ (node : Node) (whole : Option ℕ) (others : List To
     let rows = map seen_row c.loop-place.self.names.items in
     let sofar = subst (λ (rest : List Item). AreInputsSoFar node whole others others_keep words later told items c.loop-place.texts.items i rest names rows) (drop_more items i _ c.loop-place-test.true)
     (c.loop-place.invariant node whole others others_keep words later told d one count) in
-    let then = c.in_ok-declare.ensures node whole others others_keep _ _ _ sofar.declaring (within_inputs node (length names) (omega (arith, sofar.count, c.if-place-ge-MOST_INPUTS.false))) in
+    let then = c.in_ok-declare.ensures node whole others others_keep _ _ _ _ sofar.declaring (within_inputs node (length names) (omega (arith, sofar.count, c.if-place-ge-MOST_INPUTS.false))) in
     record {
       texts_are = text_more (bytes_of (map seen items)) c.loop-place.texts.items c.push.new.items.items _ c.in_ok-copy_of.field-0 (bytes_of (map seen (drop (i + 1) items))) sofar.texts_are c.in_ok-copy_of.ensures c.in_ok-push.ensures;
       count = then.1 ∙ ap (λ n. n + 1) sofar.count;
