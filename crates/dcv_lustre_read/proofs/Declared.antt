@@ -1,17 +1,16 @@
 -- Once all names are declared, their rows tell what the rules ask.
-use Rattle.std.proofs.Common.{◌≡◌, ℕ, zero, suc, ◌+◌, ◌<◌, Bool, true, false, cond, ◌||◌, ◌⊎◌, List, [], ◌∷◌, ◌++◌, length, map, get_or, Option, Some, None, refl, sym, ap, subst, ◌∙◌, arith, append_assoc}
+use Rattle.std.proofs.Common.{◌≡◌, ℕ, zero, suc, ◌+◌, ◌<◌, Bool, true, false, cond, ◌||◌, List, [], ◌∷◌, ◌++◌, length, map, get_or, Option, refl, sym, ap, subst, ◌∙◌, arith, append_assoc}
 use Rattle.std.specs.Prelude.{bytes_eq}
-use Rattle.std.specs.List.{filter, enumerate_from}
 use Rattle.std.proofs.lemmas.List.{append-nil, length-map}
-use Rattle.std.proofs.lemmas.Bool.{or_left, or_right, both_ways, false_from_ne_true}
+use Rattle.std.proofs.lemmas.Bool.{or_left, or_right, both_ways}
 use Rattle.dcv_lexer.specs.Cuts.{Token}
 use Rattle.dcv_observer.specs.Conditions.{Names}
 use Rattle.dcv_lustre.specs.Tree.{Kind, OfTruth, OfNumber, Local, Node}
 use Rattle.dcv_lustre.specs.Meaning.{ok, local_names, names_of}
-use Rattle.dcv_lustre.specs.Placed.{PlacedNode, PlacedLocal, local_of, equation_of, node_of, bytes_of}
-use Rattle.dcv_lustre.specs.Rules.{is_among, is_same_kind, kind_of, declared, keeps_equations, has_all_equations, words_of, judged, first_broken}
+use Rattle.dcv_lustre.specs.Placed.{PlacedNode, local_of, equation_of, node_of, bytes_of}
+use Rattle.dcv_lustre.specs.Rules.{is_among, is_same_kind, kind_of, keeps_equations, has_all_equations, words_of, judged, first_broken}
 use Rattle.dcv_lustre.proofs.Lookups.{is_itself, differs, among_append_left, among_append_right, distinct_apart}
-use Rattle.dcv_lustre_read.specs.Scope.{AreDistinct, Told, Row, told_inputs, told_locals, told_of, rows_from, keeps_from, IsDeclaring, AreRows, IsRow, Knows, KnowsAll, seen_row}
+use Rattle.dcv_lustre_read.specs.Scope.{AreDistinct, Told, Row, told_inputs, told_locals, told_of, rows_from, keeps_from, IsDeclaring, AreRows, Knows, KnowsAll, seen_row}
 use Rattle.dcv_lustre_read.specs.Judged.{IsLeft, words_of_equations, words_of_locals, names_of_locals}
 use Rattle.dcv_lustre_read.specs.Parts.{first_fault_of}
 use Rattle.dcv_lustre_read.specs.declared.placed.PlacedNode.{PlacedNode as CodeNode}

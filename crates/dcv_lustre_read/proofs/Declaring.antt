@@ -1,14 +1,14 @@
 -- One more name is declared.
-use Rattle.std.proofs.Common.{◌≡◌, ℕ, ◌+◌, Bool, true, false, not, cond, ◌&&◌, List, [], ◌∷◌, ◌++◌, length, map, take, Option, Some, refl, sym, ap, subst, ◌∙◌, arith}
+use Rattle.std.proofs.Common.{◌≡◌, ℕ, ◌+◌, Bool, true, false, not, cond, ◌&&◌, List, [], ◌∷◌, ◌++◌, length, take, Option, Some, refl, sym, ap, subst, ◌∙◌, arith}
 use Rattle.std.proofs.Common.{append_assoc, length-append}
 use Rattle.std.specs.Prelude.{bytes_eq}
 use Rattle.std.proofs.lemmas.List.{take_at}
-use Rattle.std.proofs.lemmas.Bool.{or_from, or_parts, or_left, or_right, and_from, false_from_ne_true, both_ways, false≢true, not-true}
+use Rattle.std.proofs.lemmas.Bool.{or_from, or_parts, false≢true, not-true}
 use Rattle.dcv_lexer.specs.Cuts.{Token}
 use Rattle.dcv_observer.specs.Conditions.{Names}
 use Rattle.dcv_lustre.specs.Tree.{Kind, Node}
 use Rattle.dcv_lustre.specs.Rules.{is_among, declared, keeps_declared}
-use Rattle.dcv_lustre.proofs.Lookups.{differs_back, among_append_left, is_itself}
+use Rattle.dcv_lustre.proofs.Lookups.{differs_back}
 use Rattle.dcv_lustre_read.specs.Scope.{AreDistinct, Told, Row, rows_from, is_within, keeps_from, IsDeclaring}
 use Rattle.dcv_lustre_read.specs.Judged.{IsLeft}
 use Rattle.dcv_lustre_read.proofs.Judging.{kept, broken}

@@ -1,6 +1,5 @@
 -- The inputs, and the locals, that are declared so far.
-use Rattle.std.proofs.Common.{◌≡◌, ℕ, ◌+◌, ◌<◌, ◌≤◌, Bool, true, false, ◌||◌, nat_le, nat_lt, List, [], ◌∷◌, ◌++◌, length, map, drop, Option, Some, refl, sym, ap, subst, ◌∙◌, arith, append_assoc}
-use Rattle.std.proofs.lemmas.List.{length-map, append-nil, map_push}
+use Rattle.std.proofs.Common.{◌≡◌, ℕ, ◌+◌, ◌<◌, ◌≤◌, Bool, true, false, nat_le, nat_lt, List, [], ◌∷◌, ◌++◌, length, map, Option, ap, subst, ◌∙◌, arith, append_assoc}
 use Rattle.std.proofs.lemmas.Bool.{or_from, or_left, or_right, le-leb, lt-ltb}
 use Rattle.std.proofs.lemmas.Bool.Decides.{nat_tests}
 use Rattle.dcv_lexer.specs.Cuts.{Token}
@@ -8,7 +7,7 @@ use Rattle.dcv_observer.specs.Conditions.{Names}
 use Rattle.dcv_observer.specs.Left.{seen}
 use Rattle.dcv_observer.specs.declared.items.Item.{Item}
 use Rattle.dcv_lustre.specs.declared.node.Local.{Local as CodeLocal}
-use Rattle.dcv_lustre.specs.Tree.{Kind, OfTruth, Local, Node}
+use Rattle.dcv_lustre.specs.Tree.{Kind, Node}
 use Rattle.dcv_lustre.specs.Placed.{bytes_of, local_of}
 use Rattle.dcv_lustre.specs.Seen.{seen_local as local_seen}
 use Rattle.dcv_lustre_read.specs.declared.placed.PlacedLocal.{PlacedLocal}

@@ -1,13 +1,13 @@
 -- What the rules ask of a name, by its row.
-use Rattle.std.proofs.Common.{◌≡◌, ℕ, zero, suc, ◌<◌, Bool, true, false, not, cond, ◌&&◌, ◌||◌, ◌⊎◌, List, [], ◌∷◌, ◌++◌, length, map, get_or, Option, Some, None, refl, sym, ap, subst, ◌∙◌, arith, inl, inr}
+use Rattle.std.proofs.Common.{◌≡◌, ℕ, Bool, true, false, not, cond, ◌&&◌, ◌||◌, List, [], ◌∷◌, ◌++◌, map, refl, sym, ap, subst, ◌∙◌, inl, inr}
 use Rattle.std.specs.Prelude.{bytes_eq}
 use Rattle.std.specs.List.{filter}
-use Rattle.std.proofs.lemmas.Bool.{cases_Bool, or_from, or_parts, or_left, or_right, or_cases, both_ways, false≢true, false_from_ne_true}
+use Rattle.std.proofs.lemmas.Bool.{cases_Bool, or_parts, or_left, or_right, or_cases, both_ways, false≢true, false_from_ne_true}
 use Rattle.dcv_observer.specs.Conditions.{Names}
 use Rattle.dcv_lustre.specs.Tree.{Kind, OfTruth, OfNumber, Local, Node}
 use Rattle.dcv_lustre.specs.Meaning.{ok, local_names, names_of}
-use Rattle.dcv_lustre.specs.Rules.{is_among, is_same_kind, locals_of_kind, names_of_kind, kind_of, keeps_name}
-use Rattle.dcv_lustre.proofs.Lookups.{one_name, is_itself, among_append_left, among_append_right, among_append_cases, distinct_apart}
+use Rattle.dcv_lustre.specs.Rules.{is_among, is_same_kind, names_of_kind, kind_of, keeps_name}
+use Rattle.dcv_lustre.proofs.Lookups.{one_name, among_append_left, among_append_right, among_append_cases, distinct_apart}
 use Rattle.dcv_lustre_read.specs.Scope.{Row, AreDistinct, Knows, IsFoundAs}
 
 abbrev pub of_kind : Kind → List Local → Names
@@ -30,6 +30,7 @@ of_kind_among kind (local ∷ locals) name h = by_kind (of_kind_among kind local
   where
     in_front : Bool → Type 0
     in_front b = let others = filter (λ (local : Local). is_same_kind kind local.kind) locals in is_among (map (λ (local : Local). local.name) (cond b (local ∷ others) others)) name ≡ true
+
     by_kind : (is_among (of_kind kind locals) name ≡ true → is_among (named locals) name ≡ true) → (b : Bool) → is_same_kind kind local.kind ≡ b → is_among (named (local ∷ locals)) name ≡ true
     by_kind also true same =
         let here : is_among (local.name ∷ of_kind kind locals) name ≡ true =
@@ -57,6 +58,7 @@ numbers_are (local ∷ locals) name distinct among = by_kind (numbers_are locals
       | inl is ↦ absurd (both_ways (bytes_eq name local.name) other is)
       | inr more ↦ more
     ]
+
     no_more : bytes_eq name local.name ≡ true → is_among (named locals) name ≡ false
     no_more is = ap (is_among (named locals)) (one_name name local.name is) ∙ distinct.0
 

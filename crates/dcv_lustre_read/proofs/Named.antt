@@ -1,5 +1,5 @@
 -- The parts make up a node that keeps the rules, and no other fault is told than that of the first broken word.
-use Rattle.std.proofs.Common.{◌≡◌, ℕ, List, [], ◌∷◌, ◌++◌, map, length, Option, Some, None, Result, Ok, Err, refl, sym, ap, subst, ◌∙◌}
+use Rattle.std.proofs.Common.{◌≡◌, ℕ, List, ◌∷◌, ◌++◌, map, None, Result, Ok, Err, sym, ap, subst, ◌∙◌}
 use Rattle.std.specs.Prelude.{IfErr}
 use Rattle.std.specs.Result.{IsErrAnd}
 use Rattle.dcv_observer.specs.declared.fault.ObsFault.{ObsFault}
@@ -7,7 +7,7 @@ use Rattle.dcv_observer.specs.declared.fault.ObsFault.TheVariants.{Syntax, Names
 use Rattle.dcv_lustre.specs.declared.node.Local.{Local as CodeLocal}
 use Rattle.dcv_lustre.specs.declared.node.Equation.{Equation as CodeEquation}
 use Rattle.dcv_observer.specs.Conditions.{Names}
-use Rattle.dcv_lustre.specs.Tree.{Local, Equation, Node}
+use Rattle.dcv_lustre.specs.Tree.{Local}
 use Rattle.dcv_lustre.specs.Meaning.{ok, names_of}
 use Rattle.dcv_lustre.specs.Seen.{seen_local, seen_equation, seen_node, IsNode}
 use Rattle.dcv_lustre.specs.Placed.{PlacedNode, node_of}
@@ -15,9 +15,8 @@ use Rattle.dcv_lustre.specs.Rules.{IsNamesFault, IsWellNamed}
 use Rattle.dcv_lustre.specs.Form.{IsSpellable}
 use Rattle.dcv_lustre.specs.Words.{AreWords}
 use Rattle.dcv_lustre.proofs.JudgedWords.{well_named_if_unbroken}
-use Rattle.dcv_lustre_read.specs.declared.names.Parts.{Parts}
 use Rattle.dcv_lustre_read.specs.Judged.{IsFaultOf}
-use Rattle.dcv_lustre_read.specs.Parts.{first_fault_of, ArePartsOf}
+use Rattle.dcv_lustre_read.specs.Parts.{first_fault_of}
 use Rattle.dcv_lustre_read.proofs.Spellable.{words_are_spellable}
 
 module _ (placed : PlacedNode) (name : List ℕ) (inputs : Names) (locals : List CodeLocal) (equations : List CodeEquation) where

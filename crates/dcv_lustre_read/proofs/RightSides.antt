@@ -1,5 +1,5 @@
 -- One more test of a right side, and one more arm.
-use Rattle.std.proofs.Common.{◌≡◌, ℕ, ◌+◌, ◌≤◌, Bool, true, List, [], ◌∷◌, ◌++◌, length, map, drop, Option, refl, sym, ap, subst, ◌∙◌, arith, append_assoc, Vec, Global}
+use Rattle.std.proofs.Common.{◌≡◌, ℕ, ◌≤◌, Bool, true, List, [], ◌∷◌, ◌++◌, length, map, drop, Option, sym, ap, subst, ◌∙◌, append_assoc, Vec, Global}
 use Rattle.std.specs.List.{flat_map}
 use Rattle.std.proofs.lemmas.List.{at_drop_all, map_push, append-nil}
 use Rattle.dcv_lexer.specs.Cuts.{Token}

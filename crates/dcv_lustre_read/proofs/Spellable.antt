@@ -1,5 +1,5 @@
 -- A node of such words is spellable.
-use Rattle.std.proofs.Common.{◌≡◌, ℕ, ◌<◌, ◌≤◌, true, List, [], ◌∷◌, length, map, Option, Some, None, arith}
+use Rattle.std.proofs.Common.{◌≡◌, ℕ, ◌≤◌, true, List, [], ◌∷◌, map, Option, Some, None, arith}
 use Rattle.std.specs.Prelude.{nat_le}
 use Rattle.std.specs.List.{AllByRecursion}
 use Rattle.std.proofs.lemmas.List.{length-map}
@@ -8,7 +8,7 @@ use Rattle.std.proofs.lemmas.Bool.Decides.{nat_tests}
 use Rattle.dcv_lexer.specs.Cuts.{Token}
 use Rattle.dcv_lexer.specs.Lexicon.{is_number}
 use Rattle.dcv_lexer.specs.Decimal.{value_of}
-use Rattle.dcv_lustre.specs.Tree.{Local, Node}
+use Rattle.dcv_lustre.specs.Tree.{Local}
 use Rattle.dcv_lustre.specs.Placed.{PlacedNode, PlacedLocal, PlacedEquation, PlacedRight, PlacedDelayed, PlacedChosen, PlacedTested, PlacedArm, PlacedTest}
 use Rattle.dcv_lustre.specs.Placed.{node_of, local_of, equation_of, right_of, arm_of, test_of, condition_of, bytes_of}
 use Rattle.dcv_lustre.specs.Form.{IsName, IsNumber, IsCondition, IsArm, IsTest, IsRight, IsEquation, IsSpellable}

@@ -1,11 +1,10 @@
 -- What is known of the names of a node at a place in its text.
 --     IsDeclaring node whole ..     while names are declared: those so far, and those that come
 --     Knows node earlier ..         once all are: with the names on the left of earlier equations
-use Rattle.std.specs.Prelude.{◌≡◌, ℕ, zero, suc, ◌+◌, ◌<◌, Bool, true, false, ◌||◌, nat_le, nat_lt, List, [], ◌∷◌, ◌++◌, Option, Some, None, length, map, slice_get}
+use Rattle.std.specs.Prelude.{◌≡◌, ℕ, zero, suc, ◌+◌, ◌<◌, Bool, true, false, ◌||◌, nat_le, nat_lt, List, [], ◌∷◌, ◌++◌, Option, Some, None, length, map}
 use Rattle.std.specs.List.{enumerate_from}
 use Rattle.dcv_lexer.specs.Cuts.{Token}
 use Rattle.dcv_observer.specs.Conditions.{Names, name_at}
-use Rattle.dcv_lustre.specs.declared.node.Kind.{Kind as CodeKind}
 use Rattle.dcv_lustre.specs.Seen.{seen_kind}
 use Rattle.dcv_lustre.specs.Tree.{Kind, OfTruth, Right, Delayed, Chosen, Tested, Equation, Local, Node}
 use Rattle.dcv_lustre.specs.Meaning.{names_of}

@@ -47,7 +47,7 @@ impl<'a> Scope<'a> {
     fn left(&self, equation: &PlacedEquation<'_>) -> Result<Declaration, ObsFault>
         ensures { (node : PlainNode) (earlier : PlainNames) → Knows node earlier self.now.declared (map seen_row self.now.names.items)
             → Keeps equation.now.left.start (keeps_left node earlier (equation_of (seen_equation equation.now)))
-                (λ found. IsFoundAs node earlier (seen_equation equation.now).left.bytes (seen_row found)) result }
+            (λ found. IsFoundAs node earlier (seen_equation equation.now).left.bytes (seen_row found)) result }
     {
         let Some(name) = self.find(equation.left.bytes) else {
             return Err(broken(&equation.left));
@@ -71,10 +71,10 @@ impl<'a> Scope<'a> {
         ensures { (node : PlainNode) (earlier : PlainNames) → Knows node earlier self.old.declared (map seen_row self.old.names.items)
             → (whole : Option ℕ) (words : List Token) (keeps : List Bool)
             → IsLeft whole ((seen_equation equation.now).left ∷ (words_of_right (seen_equation equation.now).right ++ words))
-                (keeps_equation node earlier (equation_of (seen_equation equation.now)) ++ keeps)
+            (keeps_equation node earlier (equation_of (seen_equation equation.now)) ++ keeps)
             → Leads whole (λ seen. (equation_seen (names_of node) seen ≡ equation_of (seen_equation equation.now))
-                × Knows node ((seen_equation equation.now).left.bytes ∷ earlier) self.new.declared (map seen_row self.new.names.items)
-                × IsLeft whole words keeps) result }
+            × Knows node ((seen_equation equation.now).left.bytes ∷ earlier) self.new.declared (map seen_row self.new.names.items)
+            × IsLeft whole words keeps) result }
     {
         let left = self.left(equation)?;
         let right = self.right(alloc, &equation.right, left.kind)?;
@@ -95,10 +95,10 @@ impl<'a> Scope<'a> {
         ensures { (node : PlainNode) → Knows node [] self.old.declared (map seen_row self.old.names.items)
             → (whole : Option ℕ) (words : List Token) (keeps : List Bool)
             → IsLeft whole (words_of_equations (map seen_equation equations.now) ++ words)
-                (keeps_equations node [] (map equation_of (map seen_equation equations.now)) ++ keeps)
+            (keeps_equations node [] (map equation_of (map seen_equation equations.now)) ++ keeps)
             → Leads whole (λ seen. (map (equation_seen (names_of node)) seen.items ≡ map equation_of (map seen_equation equations.now))
-                × KnowsAll node (map equation_of (map seen_equation equations.now)) self.new.declared (map seen_row self.new.names.items)
-                × IsLeft whole words keeps) result }
+            × KnowsAll node (map equation_of (map seen_equation equations.now)) self.new.declared (map seen_row self.new.names.items)
+            × IsLeft whole words keeps) result }
     {
         let mut all = Vec::new(alloc);
         for equation in equations {

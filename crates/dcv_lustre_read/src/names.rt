@@ -56,11 +56,11 @@ impl<'a> Scope<'a> {
         ensures { (node : PlainNode) (whole : Option ℕ) (others : List Token) (others_keep : List Bool)
             (words : List Token) (later : PlainNames) (told : List Told)
             → IsDeclaring node whole others others_keep self.old.declared (map seen_row self.old.names.items)
-                (map seen inputs.now ++ words) (bytes_of (map seen inputs.now) ++ later) (told_inputs (bytes_of (map seen inputs.now)) ++ told)
+            (map seen inputs.now ++ words) (bytes_of (map seen inputs.now) ++ later) (told_inputs (bytes_of (map seen inputs.now)) ++ told)
             → length self.old.declared ≡ 1 → node.inputs ≡ bytes_of (map seen inputs.now)
             → Leads whole (λ texts. (texts.items ≡ bytes_of (map seen inputs.now))
-                × IsDeclaring node whole others others_keep self.new.declared (map seen_row self.new.names.items) words later told
-                × (length self.new.declared ≡ length inputs.now + 1)) result }
+            × IsDeclaring node whole others others_keep self.new.declared (map seen_row self.new.names.items) words later told
+            × (length self.new.declared ≡ length inputs.now + 1)) result }
     {
         let mut texts = Vec::new(alloc);
         for (place, input) in inputs.iter().enumerate() {
@@ -77,36 +77,29 @@ impl<'a> Scope<'a> {
         ensures { (node : PlainNode) (whole : Option ℕ) (others : List Token) (others_keep : List Bool)
             (words : List Token) (later : PlainNames) (told : List Told)
             → IsDeclaring node whole others others_keep self.old.declared (map seen_row self.old.names.items)
-                (seen output.now ∷ words) (ok ∷ later) ((OfTruth, false) ∷ told)
+            (seen output.now ∷ words) (ok ∷ later) ((OfTruth, false) ∷ told)
             → is_within node (length self.old.declared) ≡ true
             → Leads whole (λ _. IsDeclaring node whole others others_keep self.new.declared (map seen_row self.new.names.items) words later told
-                × (length self.new.declared ≡ length self.old.declared + 1)) result }
+            × (length self.new.declared ≡ length self.old.declared + 1)) result }
     {
         self.declare(b"ok", output.start, Kind::OfTruth, false)
     }
 
     // Declares the locals, behind the inputs and the output.
-    fn locals(
-        &mut self,
-        alloc: Global,
-        locals: &[PlacedLocal<'a>],
-    ) -> Result<Vec<Local>, ObsFault>
+    fn locals(&mut self, alloc: Global, locals: &[PlacedLocal<'a>]) -> Result<Vec<Local>, ObsFault>
         ensures { (node : PlainNode) (whole : Option ℕ) (others : List Token) (others_keep : List Bool)
             → IsDeclaring node whole others others_keep self.old.declared (map seen_row self.old.names.items)
-                (words_of_locals (map seen_local locals.now)) (names_of_locals (map seen_local locals.now)) (told_locals (map local_of (map seen_local locals.now)))
+            (words_of_locals (map seen_local locals.now)) (names_of_locals (map seen_local locals.now)) (told_locals (map local_of (map seen_local locals.now)))
             → length node.inputs < length self.old.declared
             → Leads whole (λ made. (map local_seen made.items ≡ map local_of (map seen_local locals.now))
-                × IsDeclaring node whole others others_keep self.new.declared (map seen_row self.new.names.items) [] [] []) result }
+            × IsDeclaring node whole others others_keep self.new.declared (map seen_row self.new.names.items) [] [] []) result }
     {
         let mut all = Vec::new(alloc);
         for local in locals {
             let kind = kind_at(&local.kind);
             self.declare(local.name.bytes, local.name.start, kind, false)?;
             let name = Text::copy_of(alloc, local.name.bytes)?;
-            push(&mut all, Local {
-                name,
-                kind,
-            })?;
+            push(&mut all, Local { name, kind })?;
         }
         Ok(all)
     }

@@ -27,7 +27,7 @@ impl<'a> Scope<'a> {
     fn name(&self, word: &Word<'_>, kind: Kind) -> Result<u32, ObsFault>
         ensures { (node : PlainNode) (earlier : PlainNames) → Knows node earlier self.now.declared (map seen_row self.now.names.items)
             → Keeps word.now.start (keeps_name node (node.inputs ++ earlier) (seen_kind kind) (seen word.now).bytes)
-                (λ place. name_at (names_of node) place ≡ (seen word.now).bytes) result }
+            (λ place. name_at (names_of node) place ≡ (seen word.now).bytes) result }
     {
         let Some(name) = self.find(word.bytes) else {
             return Err(broken(word));
@@ -42,7 +42,7 @@ impl<'a> Scope<'a> {
     fn delayed(&self, word: &Word<'_>, kind: Kind) -> Result<u32, ObsFault>
         ensures { (node : PlainNode) (earlier : PlainNames) → Knows node earlier self.now.declared (map seen_row self.now.names.items)
             → Keeps word.now.start (is_among (names_of_kind (seen_kind kind) node) (seen word.now).bytes)
-                (λ place. name_at (names_of node) place ≡ (seen word.now).bytes) result }
+            (λ place. name_at (names_of node) place ≡ (seen word.now).bytes) result }
     {
         let Some(name) = self.find(word.bytes) else {
             return Err(broken(word));
@@ -57,7 +57,7 @@ impl<'a> Scope<'a> {
         requires { IsItemWord (seen word.now) }
         ensures { (node : PlainNode) (earlier : PlainNames) → Knows node earlier self.now.declared (map seen_row self.now.names.items)
             → Keeps word.now.start (keeps_item node (node.inputs ++ earlier) (seen_kind kind) (item_at (seen word.now)))
-                (λ item. seen_item (names_of node) item ≡ item_at (seen word.now)) result }
+            (λ item. seen_item (names_of node) item ≡ item_at (seen word.now)) result }
     {
         if is_constant(word) {
             let value = value_at(word);
@@ -70,15 +70,11 @@ impl<'a> Scope<'a> {
         }
     }
 
-    fn condition(
-        &self,
-        name: &Word<'_>,
-        number: &Option<Word<'_>>,
-    ) -> Result<Condition, ObsFault>
+    fn condition(&self, name: &Word<'_>, number: &Option<Word<'_>>) -> Result<Condition, ObsFault>
         requires { IsNumberOrNone (option_map seen number.now) }
         ensures { (node : PlainNode) (earlier : PlainNames) → Knows node earlier self.now.declared (map seen_row self.now.names.items)
             → Keeps name.now.start (keeps_condition node (node.inputs ++ earlier) (condition_of (seen name.now).bytes (option_map seen number.now)))
-                (λ condition. seen_condition (names_of node) condition ≡ condition_of (seen name.now).bytes (option_map seen number.now)) result }
+            (λ condition. seen_condition (names_of node) condition ≡ condition_of (seen name.now).bytes (option_map seen number.now)) result }
     {
         match number {
             None => Ok(Condition::Holds(self.name(name, Kind::OfTruth)?)),
@@ -94,22 +90,19 @@ impl<'a> Scope<'a> {
         ensures { (node : PlainNode) (earlier : PlainNames) → Knows node earlier self.now.declared (map seen_row self.now.names.items)
             → (whole : Option ℕ) (words : List Token) (keeps : List Bool)
             → IsLeft whole ((seen_arm arm.now).name ∷ (seen_arm arm.now).item ∷ words)
-                (keeps_arm node (node.inputs ++ earlier) (seen_kind kind) (arm_of (seen_arm arm.now)) ++ keeps)
+            (keeps_arm node (node.inputs ++ earlier) (seen_kind kind) (arm_of (seen_arm arm.now)) ++ keeps)
             → Leads whole (λ seen. (arm_seen (names_of node) seen ≡ arm_of (seen_arm arm.now)) × IsLeft whole words keeps) result }
     {
         let condition = self.condition(&arm.name, &arm.number)?;
         let item = self.item(&arm.item, kind)?;
-        Ok(Arm {
-            condition,
-            item,
-        })
+        Ok(Arm { condition, item })
     }
 
     fn test(&self, test: &PlacedTest<'_>) -> Result<Test, ObsFault>
         requires { AreWordsOfTest (seen_test test.now) }
         ensures { (node : PlainNode) (earlier : PlainNames) → Knows node earlier self.now.declared (map seen_row self.now.names.items)
             → Keeps test.now.name.start (keeps_name node (node.inputs ++ earlier) OfNumber (seen_test test.now).name.bytes)
-                (λ seen. test_seen (names_of node) seen ≡ test_of (seen_test test.now)) result }
+            (λ seen. test_seen (names_of node) seen ≡ test_of (seen_test test.now)) result }
     {
         let name = self.name(&test.name, Kind::OfNumber)?;
         Ok(Test {
@@ -119,17 +112,12 @@ impl<'a> Scope<'a> {
     }
 
     // The arms of a choice. Behind them other words are to be judged.
-    fn arms(
-        &self,
-        alloc: Global,
-        arms: &[PlacedArm<'_>],
-        kind: Kind,
-    ) -> Result<Vec<Arm>, ObsFault>
+    fn arms(&self, alloc: Global, arms: &[PlacedArm<'_>], kind: Kind) -> Result<Vec<Arm>, ObsFault>
         requires { AllByRecursion AreWordsOfArm (map seen_arm arms.now) }
         ensures { (node : PlainNode) (earlier : PlainNames) → Knows node earlier self.now.declared (map seen_row self.now.names.items)
             → (whole : Option ℕ) (words : List Token) (keeps : List Bool)
             → IsLeft whole (words_of_arms (map seen_arm arms.now) ++ words)
-                (flat_map (keeps_arm node (node.inputs ++ earlier) (seen_kind kind)) (map arm_of (map seen_arm arms.now)) ++ keeps)
+            (flat_map (keeps_arm node (node.inputs ++ earlier) (seen_kind kind)) (map arm_of (map seen_arm arms.now)) ++ keeps)
             → Leads whole (λ seen. (map (arm_seen (names_of node)) seen.items ≡ map arm_of (map seen_arm arms.now)) × IsLeft whole words keeps) result }
     {
         let mut all = Vec::new(alloc);
@@ -139,16 +127,12 @@ impl<'a> Scope<'a> {
         Ok(all)
     }
 
-    fn tests(
-        &self,
-        alloc: Global,
-        tests: &[PlacedTest<'_>],
-    ) -> Result<Vec<Test>, ObsFault>
+    fn tests(&self, alloc: Global, tests: &[PlacedTest<'_>]) -> Result<Vec<Test>, ObsFault>
         requires { AllByRecursion AreWordsOfTest (map seen_test tests.now) }
         ensures { (node : PlainNode) (earlier : PlainNames) → Knows node earlier self.now.declared (map seen_row self.now.names.items)
             → (whole : Option ℕ) (words : List Token) (keeps : List Bool)
             → IsLeft whole (words_of_tests (map seen_test tests.now) ++ words)
-                (keeps_tests node (node.inputs ++ earlier) (map test_of (map seen_test tests.now)) ++ keeps)
+            (keeps_tests node (node.inputs ++ earlier) (map test_of (map seen_test tests.now)) ++ keeps)
             → Leads whole (λ seen. (map (test_seen (names_of node)) seen.items ≡ map test_of (map seen_test tests.now)) × IsLeft whole words keeps) result }
     {
         let mut all = Vec::new(alloc);
@@ -168,7 +152,7 @@ impl<'a> Scope<'a> {
         ensures { (node : PlainNode) (earlier : PlainNames) → Knows node earlier self.now.declared (map seen_row self.now.names.items)
             → (whole : Option ℕ) (words : List Token) (keeps : List Bool)
             → IsLeft whole (words_of_right (seen_right right.now) ++ words)
-                (keeps_right node (node.inputs ++ earlier) (seen_kind kind) (right_of (seen_right right.now)) ++ keeps)
+            (keeps_right node (node.inputs ++ earlier) (seen_kind kind) (right_of (seen_right right.now)) ++ keeps)
             → Leads whole (λ seen. (right_seen (names_of node) seen ≡ right_of (seen_right right.now)) × IsLeft whole words keeps) result }
     {
         match right {

@@ -57,9 +57,7 @@ pub(crate) fn push<T: Drop>(items: &mut Vec<T>, item: T) -> Result<(), AllocErro
 pub(crate) fn broken(word: &Item<'_>) -> ObsFault
     ensures { result ≡ Names word.now.start }
 {
-    ObsFault::Names {
-        at: word.start,
-    }
+    ObsFault::Names { at: word.start }
 }
 
 fn declaration_at(names: &[Declaration], place: usize) -> Option<Declaration>
@@ -82,19 +80,17 @@ impl<'a> Scope<'a> {
         ensures { (node : PlainNode) (whole : Option ℕ) (others : List Token) (others_keep : List Bool)
             (word : List ℕ) (words : List Token) (later : PlainNames) (told : List Told)
             → IsDeclaring node whole others others_keep self.old.declared (map seen_row self.old.names.items)
-                (record { bytes = word; start = at } ∷ words) (name.now ∷ later) ((seen_kind kind, known) ∷ told)
+            (record { bytes = word; start = at } ∷ words) (name.now ∷ later) ((seen_kind kind, known) ∷ told)
             → is_within node (length self.old.declared) ≡ true
             → Leads whole (λ _. IsDeclaring node whole others others_keep self.new.declared (map seen_row self.new.names.items) words later told
-                × (length self.new.declared ≡ length self.old.declared + 1)) result }
+            × (length self.new.declared ≡ length self.old.declared + 1)) result }
     {
         let place = self.names.len();
         if place > u32::MAX as usize {
             return Err(ObsFault::Memory);
         }
         if !self.declared.declare(name)? {
-            return Err(ObsFault::Names {
-                at,
-            });
+            return Err(ObsFault::Names { at });
         }
         let declaration = Declaration {
             place: place as u32,

@@ -1,4 +1,4 @@
-use Rattle.std.proofs.Common.{◌≡◌, ◌∙◌}
+use Rattle.std.proofs.Common.{◌∙◌}
 use Rattle.dcv_lustre_read.specs.Seen.{seen_node}
 use Rattle.dcv_lustre_read.proofs.Named.{node_is, is_node, told_fault}
 use Rattle.dcv_lustre_read.proofs.names.named.Goals as goal

@@ -1,19 +1,15 @@
-use Rattle.std.proofs.Common.{◌≡◌, ℕ, List, Bool, Option, Some, map, drop, get_or, ◌++◌, ◌∷◌, [], ◌+◌, ap, sym, subst, ◌∙◌, length, append_assoc, arith, true}
-use Rattle.std.specs.List.{AllByRecursion, flat_map}
-use Rattle.std.proofs.lemmas.List.{drop_more, at_drop_all, map_push, append-nil}
+use Rattle.std.proofs.Common.{ℕ, List, Bool, Option, map, drop, ◌++◌, ◌+◌, subst}
+use Rattle.std.specs.List.{AllByRecursion}
+use Rattle.std.proofs.lemmas.List.{drop_more}
 use Rattle.dcv_lexer.specs.Cuts.{Token}
-use Rattle.dcv_lustre.specs.Placed.{test_of, arm_of}
-use Rattle.dcv_lustre.specs.Words.{AreWordsOfTest, AreWordsOfArm}
-use Rattle.dcv_observer.specs.Conditions.{Names, seen_test as test_seen}
-use Rattle.dcv_lustre.specs.Seen.{seen_kind, seen_arm as arm_seen}
+use Rattle.dcv_lustre.specs.Placed.{arm_of}
+use Rattle.dcv_lustre.specs.Words.{AreWordsOfArm}
+use Rattle.dcv_observer.specs.Conditions.{Names}
+use Rattle.dcv_lustre.specs.Seen.{seen_kind}
 use Rattle.dcv_lustre.specs.Tree.{Node}
-use Rattle.dcv_lustre.specs.Meaning.{names_of}
-use Rattle.dcv_lustre.specs.Rules.{keeps_arm}
-use Rattle.dcv_lustre_read.specs.Seen.{seen_test, seen_arm}
-use Rattle.dcv_lustre_read.specs.Scope.{seen_row, Knows}
-use Rattle.dcv_lustre_read.specs.Judged.{IsLeft, words_of_tests, words_of_arms, keeps_tests, IsFaultOf}
+use Rattle.dcv_lustre_read.specs.Seen.{seen_arm}
 use Rattle.dcv_lustre_read.specs.declared.placed.PlacedArm.{PlacedArm as CodeArm}
-use Rattle.dcv_lustre_read.proofs.Judging.{kept, first_fault, leads_on}
+use Rattle.dcv_lustre_read.proofs.Judging.{leads_on}
 use Rattle.dcv_lustre_read.proofs.RightSides.{arm_left, arms_more, arms_whole}
 use Rattle.dcv_lustre_read.proofs.scope.Scope.arms.Goals as goal
 
@@ -34,7 +30,7 @@ loop-arm-preserved c =
       (subst (λ (later : List CodeArm). AllByRecursion AreWordsOfArm (map seen_arm later)) split c.loop-arm.invariant.0).1,
       λ (node : Node) (earlier : Names) knows (whole : Option ℕ) (words : List Token) (keeps : List Bool) left.
           arms_more node (node.inputs ++ earlier) (seen_kind c.args.kind) whole words keeps (drop i items) _ (drop (i + 1) items) (map arm_of (map seen_arm items)) c.loop-arm.all.items c.push.new.items.items c.in_ok-arm.field-0 split
-          c.in_ok-push.ensures (c.loop-arm.invariant.1 node earlier knows whole words keeps left) 
+          c.in_ok-push.ensures (c.loop-arm.invariant.1 node earlier knows whole words keeps left)
           (c.in_ok-arm.ensures node earlier knows whole _ _
           (arm_left node (node.inputs ++ earlier) (seen_kind c.args.kind) whole words keeps (drop i items) _ (drop (i + 1) items) split (c.loop-arm.invariant.1 node earlier knows whole words keeps left).1)),
     )

@@ -1,4 +1,4 @@
-use Rattle.std.proofs.Common.{◌≡◌, ℕ, map, sym, ap, ◌∙◌}
+use Rattle.std.proofs.Common.{map, sym, ◌∙◌}
 use Rattle.dcv_observer.specs.Conditions.{Names as PlainNames}
 use Rattle.dcv_lustre.specs.Tree.{Node as PlainNode}
 use Rattle.dcv_lustre.specs.Seen.{seen_kind}

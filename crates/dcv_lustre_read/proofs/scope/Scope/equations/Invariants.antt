@@ -1,4 +1,4 @@
-use Rattle.std.proofs.Common.{◌≡◌, ℕ, List, Bool, Option, map, drop, ◌++◌, []}
+use Rattle.std.proofs.Common.{ℕ, List, Bool, Option, map, drop, ◌++◌, []}
 use Rattle.std.specs.List.{AllByRecursion}
 use Rattle.dcv_lexer.specs.Cuts.{Token}
 use Rattle.dcv_lustre.specs.Placed.{equation_of}

@@ -1,4 +1,4 @@
-use Rattle.std.proofs.Common.{◌≡◌, ℕ, List, ap, subst, sym, ◌∙◌, ◌-◌}
+use Rattle.std.proofs.Common.{List, ap, subst, sym, ◌∙◌, ◌-◌}
 use Rattle.std.specs.Prelude.{slice_get}
 use Rattle.dcv_lustre_read.specs.declared.scope.Declaration.{Declaration}
 use Rattle.dcv_observer.specs.Conditions.{Names as PlainNames}

@@ -1,21 +1,15 @@
-use Rattle.std.proofs.Common.{◌≡◌, ◌<◌, ◌≤◌, ℕ, List, Bool, Option, map, drop, length, ◌++◌, ◌∷◌, [], ◌+◌, ap, sym, subst, ◌∙◌, arith}
+use Rattle.std.proofs.Common.{◌≡◌, ℕ, List, Bool, Option, map, drop, length, [], ◌+◌, ap, sym, subst, ◌∙◌, arith}
 use Rattle.std.proofs.lemmas.List.{drop_more, at_drop_all, length-map, append-nil}
 use Rattle.dcv_lexer.specs.Cuts.{Token}
 use Rattle.dcv_observer.specs.Conditions.{Names}
 use Rattle.dcv_observer.specs.Left.{seen}
 use Rattle.dcv_observer.specs.declared.items.Item.{Item}
-use Rattle.dcv_observer.specs.declared.fault.ObsFault.{ObsFault}
-use Rattle.dcv_lustre.specs.Placed.{bytes_of, local_of}
+use Rattle.dcv_lustre.specs.Placed.{bytes_of}
 use Rattle.dcv_lustre.specs.Tree.{Node}
-use Rattle.dcv_lustre.specs.Seen.{seen_kind, seen_local as local_seen}
-use Rattle.dcv_lustre_read.specs.declared.placed.PlacedLocal.{PlacedLocal as CodeLocal}
-use Rattle.dcv_lustre_read.specs.Seen.{seen_local}
-use Rattle.dcv_lustre_read.specs.Scope.{Told, told_inputs, told_locals, seen_row, IsDeclaring}
-use Rattle.dcv_lustre_read.specs.Judged.{IsFaultOf, words_of_locals, names_of_locals}
+use Rattle.dcv_lustre_read.specs.Scope.{Told, seen_row}
 use Rattle.dcv_lustre_read.proofs.Judging.{leads_on, fault_is}
 use Rattle.dcv_lustre_read.proofs.Declaring.{declared_beyond}
-use Rattle.dcv_lustre_read.proofs.Inputs.{AreInputsSoFar, AreLocalsSoFar, within_inputs, behind_inputs, beyond_inputs, text_more, told_here}
-use Rattle.dcv_lustre_read.proofs.RightSides.{one_more}
+use Rattle.dcv_lustre_read.proofs.Inputs.{AreInputsSoFar, within_inputs, beyond_inputs, text_more}
 use Rattle.dcv_lustre_read.proofs.scope.Scope.inputs.Goals as goal
 
 pub returns-then-place-ge-MOST_INPUTS : goal.returns-then-place-ge-MOST_INPUTS

@@ -1,4 +1,4 @@
-use Rattle.std.proofs.Common.{◌≡◌, ℕ, List, Bool, Option, map, drop, length, ◌++◌, []}
+use Rattle.std.proofs.Common.{◌≡◌, ℕ, List, Bool, Option, map, drop, length, ◌++◌}
 use Rattle.dcv_lexer.specs.Cuts.{Token}
 use Rattle.dcv_observer.specs.Conditions.{Names}
 use Rattle.dcv_observer.specs.Left.{seen}

@@ -1,4 +1,4 @@
-use Rattle.std.proofs.Common.{◌≡◌, ℕ, List, map, sym, ◌∙◌}
+use Rattle.std.proofs.Common.{map, sym, ◌∙◌}
 use Rattle.dcv_observer.specs.Conditions.{Names}
 use Rattle.dcv_lustre.specs.Placed.{equation_of}
 use Rattle.dcv_lustre.specs.Tree.{Node}

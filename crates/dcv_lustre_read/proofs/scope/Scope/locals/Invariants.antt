@@ -1,4 +1,4 @@
-use Rattle.std.proofs.Common.{◌≡◌, ◌<◌, ℕ, List, Bool, Option, map, drop, length, ◌++◌, []}
+use Rattle.std.proofs.Common.{◌<◌, ℕ, List, Bool, Option, map, drop, length}
 use Rattle.dcv_lexer.specs.Cuts.{Token}
 use Rattle.dcv_lustre.specs.Placed.{local_of}
 use Rattle.dcv_lustre.specs.Tree.{Node}

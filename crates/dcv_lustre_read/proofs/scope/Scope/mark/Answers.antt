@@ -1,4 +1,4 @@
-use Rattle.std.proofs.Common.{◌≡◌, ◌<◌, ◌≤◌, length, map, sym, ◌∙◌, arith}
+use Rattle.std.proofs.Common.{map, arith}
 use Rattle.std.proofs.lemmas.List.{length-map}
 use Rattle.dcv_lustre_read.specs.Scope.{seen_row}
 use Rattle.dcv_lustre_read.proofs.Lefts.{set_known, none_marked}

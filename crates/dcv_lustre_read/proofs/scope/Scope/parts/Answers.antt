@@ -1,10 +1,8 @@
-use Rattle.std.proofs.Common.{◌≡◌, ◌<◌, ℕ, length, map, ◌++◌, ◌∷◌, [], ap, sym, subst, ◌∙◌, arith}
-use Rattle.dcv_lustre.specs.Placed.{local_of, equation_of, bytes_of}
-use Rattle.dcv_lustre.specs.Seen.{seen_equation as equation_seen}
-use Rattle.dcv_lustre.specs.Meaning.{names_of}
+use Rattle.std.proofs.Common.{◌<◌, length, map, ◌∷◌, [], ap, sym, ◌∙◌, arith}
+use Rattle.dcv_lustre.specs.Placed.{local_of, equation_of}
 use Rattle.dcv_lustre.specs.Rules.{has_all_equations}
 use Rattle.dcv_observer.specs.Left.{seen}
-use Rattle.dcv_lustre_read.specs.Seen.{seen_node, seen_local, seen_equation}
+use Rattle.dcv_lustre_read.specs.Seen.{seen_local, seen_equation}
 use Rattle.dcv_lustre_read.proofs.Judging.{kept, broken, leads_on, fault_is}
 use Rattle.dcv_lustre_read.proofs.Inputs.{behind_inputs}
 use Rattle.dcv_lustre_read.proofs.Declared.{node_at, whole_at, others_at, others_keep_at, output_words, output_names, output_told, at_inputs, inputs_are, inputs_size, at_locals, at_equations, at_tel, declared_knows}

@@ -1,4 +1,4 @@
-use Rattle.std.proofs.Common.{◌≡◌, ℕ, List, Bool, Option, ◌++◌, ◌∷◌}
+use Rattle.std.proofs.Common.{ℕ, List, Bool, Option, ◌++◌}
 use Rattle.dcv_lexer.specs.Cuts.{Token}
 use Rattle.dcv_observer.specs.Conditions.{Names}
 use Rattle.dcv_lustre.specs.Seen.{seen_kind}
@@ -25,6 +25,8 @@ pub returns-in_ok-item-in-Chosen : goal.returns-in_ok-item-in-Chosen
 returns-in_ok-item-in-Chosen c = λ (node : Node) (earlier : Names) knows (whole : Option ℕ) (words : List Token) (keeps : List Bool) left.
     let behind = c.in_ok-arms-in-Chosen.ensures node earlier knows whole _ _
     (chosen_left node (node.inputs ++ earlier) (seen_kind c.args.kind) whole words keeps c.args.right.now c.in-Chosen.arms c.in-Chosen.otherwise c.deref.result.now c.in-Chosen.is c.deref.ensures.value left) in
-    let item = c.in_ok-item-in-Chosen.ensures node earlier knows in
-    (chosen_is (names_of node) c.args.right.now c.in-Chosen.arms c.in-Chosen.otherwise c.deref.result.now c.in-Chosen.is c.deref.ensures.value
-    c.in_ok-arms-in-Chosen.arms.items c.in_ok-item-in-Chosen.field-0 behind.0 item.1, kept item.0 behind.1)
+    let item = c.in_ok-item-in-Chosen.ensures node earlier knows in (
+      chosen_is (names_of node) c.args.right.now c.in-Chosen.arms c.in-Chosen.otherwise c.deref.result.now c.in-Chosen.is c.deref.ensures.value
+          c.in_ok-arms-in-Chosen.arms.items c.in_ok-item-in-Chosen.field-0 behind.0 item.1,
+      kept item.0 behind.1,
+    )

@@ -1,20 +1,15 @@
-use Rattle.std.proofs.Common.{◌≡◌, ℕ, List, Bool, Option, Some, map, drop, get_or, ◌++◌, ◌∷◌, [], ◌+◌, ap, sym, subst, ◌∙◌, length, append_assoc, arith, true}
-use Rattle.std.specs.List.{AllByRecursion, flat_map}
-use Rattle.std.proofs.lemmas.List.{drop_more, at_drop_all, map_push, append-nil}
+use Rattle.std.proofs.Common.{ℕ, List, Bool, Option, map, drop, ◌++◌, ◌+◌, subst}
+use Rattle.std.specs.List.{AllByRecursion}
+use Rattle.std.proofs.lemmas.List.{drop_more}
 use Rattle.dcv_lexer.specs.Cuts.{Token}
-use Rattle.dcv_lustre.specs.Placed.{test_of, arm_of}
-use Rattle.dcv_lustre.specs.Words.{AreWordsOfTest, AreWordsOfArm}
-use Rattle.dcv_observer.specs.Conditions.{Names, seen_test as test_seen}
-use Rattle.dcv_lustre.specs.Seen.{seen_kind, seen_arm as arm_seen}
+use Rattle.dcv_lustre.specs.Placed.{test_of}
+use Rattle.dcv_lustre.specs.Words.{AreWordsOfTest}
+use Rattle.dcv_observer.specs.Conditions.{Names}
 use Rattle.dcv_lustre.specs.Tree.{Node}
-use Rattle.dcv_lustre.specs.Meaning.{names_of}
-use Rattle.dcv_lustre.specs.Rules.{keeps_arm}
-use Rattle.dcv_lustre_read.specs.Seen.{seen_test, seen_arm}
-use Rattle.dcv_lustre_read.specs.Scope.{seen_row, Knows}
-use Rattle.dcv_lustre_read.specs.Judged.{IsLeft, words_of_tests, words_of_arms, keeps_tests, IsFaultOf}
+use Rattle.dcv_lustre_read.specs.Seen.{seen_test}
 use Rattle.dcv_lustre_read.specs.declared.placed.PlacedTest.{PlacedTest as CodeTest}
-use Rattle.dcv_lustre_read.proofs.Judging.{kept, first_fault, leads_on}
-use Rattle.dcv_lustre_read.proofs.RightSides.{AreTestsSoFar, tests_more, tests_fault, tests_whole}
+use Rattle.dcv_lustre_read.proofs.Judging.{leads_on}
+use Rattle.dcv_lustre_read.proofs.RightSides.{tests_more, tests_fault, tests_whole}
 use Rattle.dcv_lustre_read.proofs.scope.Scope.tests.Goals as goal
 
 pub returns-in_err-test : goal.returns-in_err-test
