@@ -6,6 +6,7 @@ ghost use Rattle.dcv_observer.specs.Conditions.{Names as PlainNames};
 ghost use Rattle.dcv_observer.specs.Left.{seen};
 ghost use Rattle.dcv_observer.specs.declared.fault.ObsFault.TheVariants.{Names, Memory};
 ghost use Rattle.dcv_lustre.specs.Placed.{bytes_of, local_of, node_of};
+ghost use Rattle.dcv_lustre.specs.Actions.{Spells};
 ghost use Rattle.dcv_lustre.specs.Words.{AreWords};
 ghost use Rattle.dcv_lustre.specs.Seen.{seen_local as local_seen};
 ghost use Rattle.dcv_lustre.specs.Tree.{Node as PlainNode, OfTruth};
@@ -128,7 +129,7 @@ impl<'a> Scope<'a> {
 
 /// The node of the tree of a node in a text, and at the first of its words that breaks a rule of names the fault.
 pub(crate) fn named(alloc: Global, placed: &PlacedNode<'_>) -> Result<Node, ObsFault>
-    requires words { AreWords (seen_node placed.now) }
+    requires spelled { (text : List ℕ) × Spells text (seen_node placed.now) }
     ensures named { IfOk result (λ node. node ≡ node_of (seen_node placed.now)) }
     ensures fault { IfErr result (λ fault. fault ≢ Memory
         → (at : ℕ) × (fault ≡ Names at) × IsNamesFault (seen_node placed.now) at) }

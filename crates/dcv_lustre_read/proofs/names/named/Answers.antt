@@ -1,4 +1,5 @@
 use Rattle.std.proofs.Common.{◌∙◌}
+use Rattle.dcv_lustre.proofs.EachTree.{words_spelled}
 use Rattle.dcv_lustre_read.specs.Seen.{seen_node}
 use Rattle.dcv_lustre_read.proofs.Named.{node_is, is_node, told_fault}
 use Rattle.dcv_lustre_read.proofs.names.named.Goals as goal
@@ -12,7 +13,7 @@ new-requires c =
     let placed = seen_node c.args.placed.now in
     let parts = c.in_ok-inputs.field-0 in
     let are = c.in_ok-inputs.ensures in
-    is_node placed c.in_ok-name.name parts.inputs.items parts.locals.items parts.equations.items c.requires.words are.unbroken
+    is_node placed c.in_ok-name.name parts.inputs.items parts.locals.items parts.equations.items (words_spelled c.requires.0 placed c.requires.1) are.unbroken
     (node_is placed c.in_ok-name.name parts.inputs.items parts.locals.items parts.equations.items c.in_ok-name.ensures are.inputs are.locals are.equations)
 
 pub returns-clause-named : goal.returns-clause-named
