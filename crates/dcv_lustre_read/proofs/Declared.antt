@@ -12,7 +12,7 @@ use Rattle.dcv_lustre.specs.Rules.{is_among, is_same_kind, kind_of, keeps_equati
 use Rattle.dcv_lustre.proofs.Lookups.{is_itself, differs, among_append_left, among_append_right, distinct_apart}
 use Rattle.dcv_lustre_read.specs.Scope.{AreDistinct, Told, Row, told_inputs, told_locals, told_of, rows_from, keeps_from, IsDeclaring, AreRows, Knows, KnowsAll, seen_row}
 use Rattle.dcv_lustre_read.specs.Judged.{IsLeft, words_of_equations, words_of_locals, names_of_locals}
-use Rattle.dcv_lustre_read.specs.Parts.{first_fault_of}
+use Rattle.dcv_lustre_read.specs.Contents.{first_fault_of}
 use Rattle.dcv_lustre_read.specs.declared.placed.PlacedNode.{PlacedNode as CodeNode}
 use Rattle.dcv_lustre_read.specs.declared.placed.PlacedLocal.{PlacedLocal as CodeLocal}
 use Rattle.dcv_lustre_read.specs.declared.placed.PlacedEquation.{PlacedEquation as CodeEquation}

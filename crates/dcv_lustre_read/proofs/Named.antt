@@ -16,7 +16,7 @@ use Rattle.dcv_lustre.specs.Form.{IsSpellable}
 use Rattle.dcv_lustre.specs.Words.{AreWords}
 use Rattle.dcv_lustre.proofs.JudgedWords.{well_named_if_unbroken}
 use Rattle.dcv_lustre_read.specs.Judged.{IsFaultOf}
-use Rattle.dcv_lustre_read.specs.Parts.{first_fault_of}
+use Rattle.dcv_lustre_read.specs.Contents.{first_fault_of}
 use Rattle.dcv_lustre_read.proofs.Spellable.{words_are_spellable}
 
 module _ (placed : PlacedNode) (name : List ℕ) (inputs : Names) (locals : List CodeLocal) (equations : List CodeEquation) where

@@ -29,14 +29,14 @@ const MOST_INPUTS: usize = 16;
 
 /// What is in a node, its names by places.
 #[derive(Drop)]
-struct Parts {
+struct Contents {
     inputs: Vec<Text>,
     locals: Vec<Local>,
     equations: Vec<Equation>,
 }
 
 impl<'a> Scope<'a> {
-    ghost use Rattle.dcv_lustre_read.specs.Parts.{first_fault_of, ArePartsOf};
+    ghost use Rattle.dcv_lustre_read.specs.Contents.{first_fault_of, AreContentsOf};
 
     // The name of the node is declared, and no other.
     fn of_node(alloc: Global, name: &Item<'a>) -> Result<Scope<'a>, ObsFault>
@@ -106,11 +106,11 @@ impl<'a> Scope<'a> {
     }
 
     // All that is in the node, whose own name is declared.
-    fn parts(&mut self, alloc: Global, placed: &PlacedNode<'a>) -> Result<Parts, ObsFault>
+    fn contents(&mut self, alloc: Global, placed: &PlacedNode<'a>) -> Result<Contents, ObsFault>
         requires words { AreWords (seen_node placed.now) }
         requires declared { self.old.declared ≡ (seen_node placed.now).name.bytes ∷ [] }
         requires names { self.old.names.items ≡ [] }
-        ensures { Leads (first_fault_of (seen_node placed.now)) (λ parts. ArePartsOf (seen_node placed.now) parts) result }
+        ensures { Leads (first_fault_of (seen_node placed.now)) (AreContentsOf (seen_node placed.now)) result }
     {
         let inputs = self.inputs(alloc, &placed.inputs)?;
         self.output(&placed.output)?;
@@ -119,7 +119,7 @@ impl<'a> Scope<'a> {
         if !self.has_all_equations() {
             return Err(broken(&placed.tel));
         }
-        Ok(Parts {
+        Ok(Contents {
             inputs,
             locals,
             equations,
@@ -136,12 +136,12 @@ pub(crate) fn named(alloc: Global, placed: &PlacedNode<'_>) -> Result<Node, ObsF
 {
     let name = Text::copy_of(alloc, placed.name.bytes)?;
     let mut scope = Scope::of_node(alloc, &placed.name)?;
-    let parts = scope.parts(alloc, placed);
+    let contents = scope.contents(alloc, placed);
     drop(scope);
-    let Parts {
+    let Contents {
         inputs,
         locals,
         equations,
-    } = parts?;
+    } = contents?;
     Ok(Node::new(name, inputs, locals, equations))
 }

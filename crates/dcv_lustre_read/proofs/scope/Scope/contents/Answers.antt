@@ -6,7 +6,7 @@ use Rattle.dcv_lustre_read.specs.Seen.{seen_local, seen_equation}
 use Rattle.dcv_lustre_read.proofs.Judging.{kept, broken, leads_on, fault_is}
 use Rattle.dcv_lustre_read.proofs.Inputs.{behind_inputs}
 use Rattle.dcv_lustre_read.proofs.Declared.{node_at, whole_at, others_at, others_keep_at, output_words, output_names, output_told, at_inputs, inputs_are, inputs_size, at_locals, at_equations, at_tel, declared_knows}
-use Rattle.dcv_lustre_read.proofs.scope.Scope.parts.Goals as goal
+use Rattle.dcv_lustre_read.proofs.scope.Scope.contents.Goals as goal
 
 pub returns-in_err-inputs : goal.returns-in_err-inputs
 returns-in_err-inputs c =
