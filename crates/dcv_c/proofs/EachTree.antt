@@ -152,7 +152,73 @@ right_of_name name (Some choice) = tt
 -- the body that a rule takes otherwise stands first
 rules_agree : Agree language.productions actions sorts
 unfolding language
-rules_agree = ((λ v. tt, tt), ((λ v. tt, tt), ((λ v. tt, (λ v. tt, tt)), ((λ v. tt, tt), ((λ v. tt, (λ v. tt, tt)), ((λ v. tt, tt), ((λ v. tt, tt), ((λ v. tt, (λ v. tt, tt)), ((λ v. tt, (λ v. tt, tt)), ((λ v. tt, tt), ((λ v. tt, (λ v. tt, tt)), ((λ v. tt, tt), ((λ v. tt, (λ v. tt, tt)), ((λ v. tt, (λ v. tt, tt)), ((λ v. right_of_name v.0 v.1.0, (λ v. tt, tt)), ((λ v. tt, (λ v. tt, (λ v. tt, tt))), ((λ v. tt, tt), ((λ v. tt, (λ v. tt, tt)), ((λ v. tt, (λ v. tt, tt)), ((λ v. tt, (λ v. tt, tt)), ((λ v. tt, tt), ((λ v. tt, (λ v. tt, tt)), ((λ v. tt, tt), tt)))))))))))))))))))))))
+rules_agree = (
+  (λ v. tt, tt),  -- unit
+  (
+    (λ v. tt, tt),  -- static
+    (
+      (λ v. tt, (λ v. tt, tt)),  -- more_statics
+      (
+        (λ v. tt, tt),  -- reset
+        (
+          (λ v. tt, (λ v. tt, tt)),  -- assignments
+          (
+            (λ v. tt, tt),  -- assignment
+            (
+              (λ v. tt, tt),  -- step
+              (
+                (λ v. tt, (λ v. tt, tt)),  -- parameters
+                (
+                  (λ v. tt, (λ v. tt, tt)),  -- more_parameters
+                  (
+                    (λ v. tt, tt),  -- parameter
+                    (
+                      (λ v. tt, (λ v. tt, tt)),  -- locals
+                      (
+                        (λ v. tt, tt),  -- local
+                        (
+                          (λ v. tt, (λ v. tt, tt)),  -- statements
+                          (
+                            (λ v. tt, (λ v. tt, tt)),  -- statement
+                            (
+                              (λ v. right_of_name v.0 v.1.0, (λ v. tt, tt)),  -- right
+                              (
+                                (λ v. tt, (λ v. tt, (λ v. tt, tt))),  -- choice
+                                (
+                                  (λ v. tt, tt),  -- condition
+                                  (
+                                    (λ v. tt, (λ v. tt, tt)),  -- compared
+                                    (
+                                      (λ v. tt, (λ v. tt, tt)),  -- item
+                                      (
+                                        (λ v. tt, (λ v. tt, tt)),  -- returned
+                                        (
+                                          (λ v. tt, tt),  -- tests
+                                          (
+                                            (λ v. tt, (λ v. tt, tt)),  -- more_tests
+                                            ((λ v. tt, tt), tt),
+                                          ),
+                                        ),
+                                      ),
+                                    ),
+                                  ),
+                                ),
+                              ),
+                            ),
+                          ),
+                        ),
+                      ),
+                    ),
+                  ),
+                ),
+              ),
+            ),
+          ),
+        ),
+      ),
+    ),
+  ),
+)  -- test
 
 body_agrees : (P : List Symbol → Type 0) (all : List (List Symbol)) (body : List Symbol) → AllByRecursion P all → Contains all body → P body
 body_agrees P all body each contains = subst P contains.2 (All-from_recursion P all each contains.0 body contains.1)

@@ -142,9 +142,9 @@ no_count = refl
 abbrev token : ℕ → List ℕ → Token
 token start bytes = record { bytes = bytes; start = start }
 
--- `static int s; void r(void) { ASSIGNMENTS } int f(int a) { int x; x = ITEM; return 0; }`
-abbrev placed_with : List PlacedAssignment → ℕ → List ℕ → PlacedUnit
-placed_with assignments brace item =
+-- `static int s; void r(void) { ASSIGNMENTS } int f(int a) { int LOCAL; LEFT = ITEM; return 0; }`
+abbrev placed_with : List PlacedAssignment → ℕ → List ℕ → List ℕ → List ℕ → PlacedUnit
+placed_with assignments brace local left item =
     record {
       statics = token 11 (codes "s") ∷ [];
       reset = token 19 (codes "r");
@@ -152,39 +152,53 @@ placed_with assignments brace item =
       reset_end = token brace (codes "}");
       step = token 60 (codes "f");
       parameters = token 66 (codes "a") ∷ [];
-      locals = token 75 (codes "x") ∷ [];
-      statements = PlacedAssign (token 78 (codes "x")) (PlacedPlain (token 82 item)) ∷ [];
+      locals = token 75 local ∷ [];
+      statements = PlacedAssign (token 78 left) (PlacedPlain (token 82 item)) ∷ [];
       returned = PlacedFixed (token 92 (codes "0"));
     }
 
 abbrev sets : ℕ → List ℕ → PlacedAssignment
 sets start name = record { name = token start name; number = token (start + 4) (codes "0") }
 
-copies : IsWellNamed (unit_of (placed_with (sets 29 (codes "s") ∷ []) 36 (codes "a")))
+-- where the static is set once
+abbrev placed_so : List ℕ → List ℕ → List ℕ → PlacedUnit
+placed_so local left item = placed_with (sets 29 (codes "s") ∷ []) 36 local left item
+
+copies : IsWellNamed (unit_of (placed_so (codes "x") (codes "x") (codes "a")))
 unfolding judged
 copies = refl
 
 -- a static that is not set: at the brace
-not_set : IsNamesFault (placed_with [] 29 (codes "a")) 29
+not_set : IsNamesFault (placed_with [] 29 (codes "x") (codes "x") (codes "a")) 29
 unfolding judged words_of
 not_set = refl
 
 -- a static that is set twice: at the second
-set_twice : IsNamesFault (placed_with (sets 29 (codes "s") ∷ sets 36 (codes "s") ∷ []) 43 (codes "a")) 36
+set_twice : IsNamesFault (placed_with (sets 29 (codes "s") ∷ sets 36 (codes "s") ∷ []) 43 (codes "x") (codes "x") (codes "a")) 36
 unfolding judged words_of
 set_twice = refl
 
 -- what is set is no static
-sets_another : IsNamesFault (placed_with (sets 29 (codes "a") ∷ []) 36 (codes "a")) 29
+sets_another : IsNamesFault (placed_with (sets 29 (codes "a") ∷ []) 36 (codes "x") (codes "x") (codes "a")) 29
 unfolding judged words_of
 sets_another = refl
 
+-- a local with the name of a function
+declared_twice : IsNamesFault (placed_so (codes "r") (codes "r") (codes "a")) 75
+unfolding judged words_of
+declared_twice = refl
+
+-- what is assigned is no static and no local
+assigns_a_parameter : IsNamesFault (placed_so (codes "x") (codes "a") (codes "s")) 78
+unfolding judged words_of
+assigns_a_parameter = refl
+
 -- a local that is read before it is assigned
-reads_itself : IsNamesFault (placed_with (sets 29 (codes "s") ∷ []) 36 (codes "x")) 82
+reads_itself : IsNamesFault (placed_so (codes "x") (codes "x") (codes "x")) 82
 unfolding judged words_of
 reads_itself = refl
 
 -- the name of a function is no number
-reads_a_function : IsNamesFault (placed_with (sets 29 (codes "s") ∷ []) 36 (codes "f")) 82
+reads_a_function : IsNamesFault (placed_so (codes "x") (codes "x") (codes "f")) 82
 unfolding judged words_of
 reads_a_function = refl

@@ -30,7 +30,8 @@ use Rattle.dcv_c.proofs.ObserverRuns.{assigned_there, assigned_elsewhere, Stands
 
 -- a state for each line
 states_count : (names : List (List ℕ)) (letter : List Bool) (lines : List NodeLine) (states : List ℕ)
-    → length (fold (λ states (line : NodeLine). states ++ state_at states (cond (get_or letter (slot_of names line.name) false) line.hi line.lo) ∷ []) states lines) ≡ length states + length lines
+    → length (fold (λ states (line : NodeLine). states ++ state_at states (cond (get_or letter (slot_of names line.name) false) line.hi line.lo) ∷ []) states lines)
+    ≡ length states + length lines
 states_count names letter [] states = omega arith
 states_count names letter (line ∷ lines) states =
     let next = state_at states (cond (get_or letter (slot_of names line.name) false) line.hi line.lo) in

@@ -95,11 +95,12 @@ module _ (names : List Name) (letter : List Bool) (state : ℕ) where
       ap (λ n. not (nat_eq n 0)) (stands.parameters line.name good.0.listed) ∙ truth_stands side in
       let hi = subst (λ n. IsBelow most n line.hi) at good.0.hi in
       let lo = subst (λ n. IsBelow most n line.lo) at good.0.lo in
-      let value : cond (not (nat_eq (now (parameter_name line.name)) 0)) (item_number now (item_of line.hi)) (item_number now (item_of line.lo)) ≡ next =
+      let chosen = cond (not (nat_eq (now (parameter_name line.name)) 0)) (item_number now (item_of line.hi)) (item_number now (item_of line.lo)) in
+      let value : chosen ≡ next =
       ap (λ b. cond b (item_number now (item_of line.hi)) (item_number now (item_of line.lo))) holds ∙ choice_stands now states most side line.hi line.lo stands hi lo in
       let left : length states ≡ line.number = sym (good.0.number_is ∙ at) in
       let more : Stands (executed now (node_statement line)) (states ++ next ∷ []) =
-      subst (λ n. Stands (assigned now (node_name n) (cond (not (nat_eq (now (parameter_name line.name)) 0)) (item_number now (item_of line.hi)) (item_number now (item_of line.lo)))) (states ++ next ∷ [])) left
+      subst (λ n. Stands (assigned now (node_name n) chosen) (states ++ next ∷ [])) left
       (subst (λ v. Stands (assigned now (node_name (length states)) v) (states ++ next ∷ [])) (sym value)
       (stands_with_node now states next (omega (arith, at, few)) stands)) in
       nodes_stand most lines (states ++ next ∷ []) (number + 1) (executed now (node_statement line))

@@ -82,7 +82,8 @@ tests_more (first ∷ lines) line = by first.accepting (tests_more lines line)
   where
     by : (b : Bool) → accepting_tests (lines ++ line ∷ []) ≡ accepting_tests lines ++ cond line.accepting (state_test line ∷ []) []
         → map state_test (cond b (first ∷ filter (λ (line : StateLine). line.accepting) (lines ++ line ∷ [])) (filter (λ (line : StateLine). line.accepting) (lines ++ line ∷ [])))
-        ≡ map state_test (cond b (first ∷ filter (λ (line : StateLine). line.accepting) lines) (filter (λ (line : StateLine). line.accepting) lines)) ++ cond line.accepting (state_test line ∷ []) []
+        ≡ map state_test (cond b (first ∷ filter (λ (line : StateLine). line.accepting) lines) (filter (λ (line : StateLine). line.accepting) lines))
+        ++ cond line.accepting (state_test line ∷ []) []
     by true more = ap (λ tests. state_test first ∷ tests) more
     by false more = more
 
