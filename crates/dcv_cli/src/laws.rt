@@ -4,7 +4,9 @@ ghost use Rattle.dcv_cli.specs.Laws.{OneOutcome, SomeOutcome, EqualMeanings, Nam
 use dcv_build::laws::one_step_is_over;
 use dcv_command::laws::taken_words_ask;
 use dcv_language::laws::{one_verdict, verdict_of_same_behaviours};
-use dcv_print::laws::{automaton_of_same_behaviours, one_automaton, one_file, printed_observers_observe};
+use dcv_print::laws::{
+    automaton_of_same_behaviours, one_automaton, one_file, printed_observers_observe,
+};
 use dcv_reader::laws::{one_fault, one_tree, some_reading};
 
 /// One outcome at most is right for the words and the texts that are held. So each status, report and message that

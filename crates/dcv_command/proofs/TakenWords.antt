@@ -184,8 +184,7 @@ stop_asks : (stop : Option (Text × List Text)) → StopsNotAtHelp stop → ente
 unfolding clap_on_literals
 stop_asks None before no_fault e = e
 stop_asks (Some p) before no_fault e =
-    found_asks p.0 p.1 (built program).subs
-    (
+    found_asks p.0 p.1 (built program).subs (
       (λ _. check_asks p.1),
       ((λ _. automaton_asks p.1), ((λ _. lustre_asks p.1), ((λ _. c_asks p.1), ((λ _. all_asks p.1), (no_help, tt))))),
     )

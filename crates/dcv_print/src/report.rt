@@ -20,8 +20,8 @@ ghost use Rattle.dcv_print.specs.declared.verdict_lines.Verdict.{Verdict as Code
 use crate::automaton_lines::Listed;
 use crate::verdict_lines::Verdict;
 use crate::verdicts::verdict;
-use dcv_dfa::Auto;
 use dcv_c::CUnit;
+use dcv_dfa::Auto;
 use dcv_io::{Block, Failed, Sink, Target};
 use dcv_lustre::Node;
 use dcv_syntax::Name;
