@@ -160,4 +160,5 @@ def main():
             print(f"{heading} {len(word)}", *word, sep="\n")
 
 
-main()
+if __name__ == "__main__":
+    main()
