@@ -1,1 +1,4 @@
 pub mod Seen
+pub mod Judged
+pub mod Scope
+pub mod Contents
