@@ -129,15 +129,19 @@ IsOf OfNode (ANode placed) = AreWords placed
 IsOf sort part = ⊥
 
 nothing_of : (sort : Sort) → IsOf sort Nothing → ⊥
-nothing_of OfToken is = is
-nothing_of OfTokens is = is
+nothing_of OfWord is = is
+nothing_of OfName is = is
+nothing_of OfNames is = is
+nothing_of OfLiteral is = is
+nothing_of OfItem is = is
 nothing_of OfLocal is = is
 nothing_of OfLocals is = is
 nothing_of OfEquation is = is
 nothing_of OfEquations is = is
 nothing_of OfRight is = is
-nothing_of OfMaybe is = is
+nothing_of OfDelay is = is
 nothing_of OfCompared is = is
+nothing_of OfCondition is = is
 nothing_of OfChoice is = is
 nothing_of OfTest is = is
 nothing_of OfTests is = is
