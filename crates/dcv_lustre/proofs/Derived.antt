@@ -111,7 +111,7 @@ word_is_no_number (b ∷ bytes) word =
     and_left (is_ascii_digit b) (list_all is_ascii_digit bytes) (false_from_ne_true (is_ascii_digit b) (λ digit. omega (arith, letter_above b letter, digit_within b digit)))
 
 -- a name is no constant
-name_is_no_constant : (name : List ℕ) → IsName name → is_constant name ≡ false
+pub name_is_no_constant : (name : List ℕ) → IsName name → is_constant name ≡ false
 unfolding lexicon
 name_is_no_constant name is =
     or_from (is_number name || is_true_word name) (bytes_eq name (codes "false"))

@@ -19,6 +19,7 @@ pub mod Derived
 pub mod DerivedNodes
 pub mod Places
 pub mod OneNode
+pub mod TokenClasses
 pub mod EachTree
 pub mod JudgedWords
 pub mod Readings

@@ -17,6 +17,7 @@ use Rattle.dcv_lustre.specs.Rules.{IsWellNamed}
 use Rattle.dcv_lustre.specs.Placed.{PlacedNode, node_of}
 use Rattle.dcv_lustre.specs.Actions.{Spells}
 use Rattle.dcv_lustre.specs.Form.{IsSpellable}
+use Rattle.dcv_lustre.specs.Words.{AreWords}
 use Rattle.dcv_lustre.specs.Faults.{HasFault, IsReadAs}
 use Rattle.dcv_observer.specs.declared.fault.ObsFault.{ObsFault}
 use Rattle.dcv_lustre.specs.Layout.{text_of}
@@ -68,6 +69,10 @@ TextIsReadBack = (node : Node) → IsSpellable node → IsWellNamed node → IsR
 -- a text spells one node at most
 abbrev pub SpellsOne : Type 0
 SpellsOne = (text : List ℕ) (placed other : PlacedNode) → Spells text placed → Spells text other → placed ≡ other
+
+-- and its words are what the grammar asks
+abbrev pub SpelledWords : Type 0
+SpelledWords = (text : List ℕ) (placed : PlacedNode) → Spells text placed → AreWords placed
 
 -- ---- faults
 

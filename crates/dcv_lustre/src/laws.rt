@@ -1,7 +1,7 @@
 //! Laws of nodes. Each function here does nothing: its contract is the law.
 ghost use Rattle.dcv_lustre.specs.Laws.{TraceExists, TraceIsOne, TraceOfBeginning};
 ghost use Rattle.dcv_lustre.specs.Laws.{ObserverOfFile, ObserverOfAutomaton};
-ghost use Rattle.dcv_lustre.specs.Laws.{TextSpellsNode, TextIsReadBack, SpellsOne};
+ghost use Rattle.dcv_lustre.specs.Laws.{TextSpellsNode, TextIsReadBack, SpellsOne, SpelledWords};
 ghost use Rattle.dcv_lustre.specs.Laws.{OneFault, SomeReading, NoFaultWhereRead};
 
 use dcv_automaton_file::laws::files_stand_for_automata;
@@ -30,11 +30,13 @@ pub fn observers_accept_the_same()
     tables_accept_the_same();
 }
 
-/// The text of a node spells it, and no text spells two. So it is read back as the node.
+/// The text of a node spells it, and no text spells two. So it is read back as the node. The words of what a text spells are those of the
+/// grammar.
 pub fn texts_spell_nodes()
     ensures text { TextSpellsNode }
     ensures back { TextIsReadBack }
     ensures one { SpellsOne }
+    ensures words { SpelledWords }
 {}
 
 /// Each text has one fault, or is read as a node.

@@ -86,13 +86,8 @@ impl Node {
     ghost use Rattle.dcv_lustre.specs.Rules.{IsWellNamed};
     ghost use Rattle.dcv_lustre.specs.Form.{IsSpellable};
 
-    /// A node of these parts.
-    pub(crate) fn new(
-        name: Text,
-        inputs: Vec<Text>,
-        locals: Vec<Local>,
-        equations: Vec<Equation>,
-    ) -> Node
+    /// A node of these parts, which keep the rules of names and have a text.
+    pub fn new(name: Text, inputs: Vec<Text>, locals: Vec<Local>, equations: Vec<Equation>) -> Node
         requires { IsNode name inputs.items locals.items equations.items }
         ensures { result ≡ seen_node name inputs.items locals.items equations.items }
     {

@@ -1,1 +1,12 @@
+pub mod Judging
+pub mod Declaring
+pub mod Found
+pub mod NameKinds
+pub mod RightSides
+pub mod Lefts
+pub mod Inputs
+pub mod Declared
+pub mod Spellable
+pub mod Named
 pub mod Bodies
+pub mod Translated

@@ -30,7 +30,7 @@ body_is_meant rule parts of =
 -- what a text stands for is a node that it spells
 pub node_spelled : (text : List ℕ) (part : Part) → StandsFor scheme text part → (placed : PlacedNode) × (part ≡ ANode placed) × Spells text placed
 node_spelled text part stands =
-    let (placed, is) = tree_stands stands.tree stands.is.derived in
+    let (placed, is, words) = tree_stands stands.tree stands.is.derived in
     let same : part ∷ [] ≡ ANode placed ∷ [] = sym stands.stands ∙ same_parts stands.tree ∙ is in
     let one : part ≡ ANode placed = cc in
     (placed, one, (stands.items, stands.has, (stands.tree, stands.is, is)))

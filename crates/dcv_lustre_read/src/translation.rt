@@ -3,6 +3,8 @@ ghost use Rattle.std.specs.Prelude.{◌≡◌, map, IfOk};
 ghost use Rattle.dcv_lustre.specs.Actions.{action};
 ghost use Rattle.dcv_lustre_read.specs.Symbols.{seen_part, IsMeant};
 
+use crate::choices;
+use crate::nodes;
 use crate::parts::Part;
 use crate::rules;
 use crate::tables;
@@ -57,7 +59,7 @@ fn act<'a>(alloc: Global, rule: u8, parts: Vec<Part<'a>>) -> Result<Part<'a>, Al
     ensures { IfOk result (λ part. seen_part part ≡ action rule (map seen_part parts.entry.items)) }
 {
     match rule {
-        tables::NODE => rules::node(alloc, parts),
+        tables::NODE => nodes::node(parts),
         tables::MORE_INPUTS => rules::more_inputs(alloc, parts),
         tables::INPUT => Ok(rules::input(parts)),
         tables::VARIABLES => rules::variables(alloc, parts),
@@ -65,9 +67,9 @@ fn act<'a>(alloc: Global, rule: u8, parts: Vec<Part<'a>>) -> Result<Part<'a>, Al
         tables::LOCAL => Ok(rules::local(parts)),
         tables::EQUATIONS => rules::equations(alloc, parts),
         tables::EQUATION => Ok(rules::equation(parts)),
-        tables::RIGHT => rules::right(alloc, parts),
+        tables::RIGHT => choices::right(alloc, parts),
         tables::DELAY => Ok(rules::delay(parts)),
-        tables::CHOICE => rules::choice(alloc, parts),
+        tables::CHOICE => choices::choice(alloc, parts),
         tables::CONDITION => Ok(rules::condition(parts)),
         tables::COMPARED => Ok(rules::compared(parts)),
         tables::TEST => Ok(rules::test(parts)),

@@ -1,0 +1,91 @@
+-- One more name is declared.
+use Rattle.std.proofs.Common.{◌≡◌, ℕ, ◌+◌, Bool, true, false, not, cond, ◌&&◌, List, [], ◌∷◌, ◌++◌, length, take, Option, Some, refl, sym, ap, subst, ◌∙◌, arith}
+use Rattle.std.proofs.Common.{append_assoc, length-append}
+use Rattle.std.specs.Prelude.{bytes_eq}
+use Rattle.std.proofs.lemmas.List.{take_at}
+use Rattle.std.proofs.lemmas.Bool.{or_from, or_parts, false≢true, not-true}
+use Rattle.dcv_lexer.specs.Cuts.{Token}
+use Rattle.dcv_observer.specs.Conditions.{Names}
+use Rattle.dcv_lustre.specs.Tree.{Kind, Node}
+use Rattle.dcv_lustre.specs.Rules.{is_among, declared, keeps_declared}
+use Rattle.dcv_lustre.proofs.Lookups.{differs_back}
+use Rattle.dcv_lustre_read.specs.Scope.{AreDistinct, Told, Row, rows_from, is_within, keeps_from, IsDeclaring}
+use Rattle.dcv_lustre_read.specs.Judged.{IsLeft}
+use Rattle.dcv_lustre_read.proofs.Judging.{kept, broken}
+
+not_among_push : (names : Names) (last name : List ℕ) → is_among names name ≡ false → bytes_eq name last ≡ false → is_among (names ++ last ∷ []) name ≡ false
+not_among_push [] last name none other = or_from (bytes_eq name last) false other refl
+not_among_push (n ∷ names) last name none other =
+    let both = or_parts (bytes_eq name n) (is_among names name) none in
+    or_from (bytes_eq name n) _ both.0 (not_among_push names last name both.1 other)
+
+distinct_push : (names : Names) (last : List ℕ) → AreDistinct names → is_among names last ≡ false → AreDistinct (names ++ last ∷ [])
+distinct_push [] last distinct none = (refl, tt)
+distinct_push (n ∷ names) last distinct none =
+    let both = or_parts (bytes_eq last n) (is_among names last) none in
+    (not_among_push names last n distinct.0 (differs_back last n both.0), distinct_push names last distinct.1 both.1)
+
+with_true : (b : Bool) → (b && true) ≡ b
+with_true true = refl
+with_true false = refl
+
+module _ (node : Node) (whole : Option ℕ) (others : List Token) (others_keep : List Bool) (names : Names) (rows : List Row) (name word : List ℕ) (at : ℕ)
+    (kind : Kind) (known : Bool) (words : List Token) (later : Names) (told : List Told)
+    (d : IsDeclaring node whole others others_keep names rows (record { bytes = word; start = at } ∷ words) (name ∷ later) ((kind, known) ∷ told)) where
+  keeps_is : keeps_declared node (length names) name ≡ (not (is_among names name) && is_within node (length names))
+  keeps_is =
+      let front : take (length names) (declared node) ≡ names = ap (λ (all : Names). take (length names) all) (sym d.all) ∙ take_at names (name ∷ later) (length names) refl in
+      ap (λ (front : Names). not (is_among front name) && is_within node (length names)) front
+
+  -- there are too many inputs
+  pub declared_beyond : is_within node (length names) ≡ false → whole ≡ Some at
+  declared_beyond beyond = broken (keeps_is ∙ both (not (is_among names name))) d.left
+    where
+      both : (b : Bool) → (b && is_within node (length names)) ≡ false
+      both true = beyond
+      both false = refl
+
+  module _ (within : is_within node (length names) ≡ true) where
+    keeps_new : keeps_declared node (length names) name ≡ not (is_among names name)
+    keeps_new = keeps_is ∙ ap (λ (w : Bool). not (is_among names name) && w) within ∙ with_true (not (is_among names name))
+
+    pub declared_again : is_among names name ≡ true → whole ≡ Some at
+    declared_again again = broken (keeps_new ∙ ap not again) d.left
+
+    declared_more : is_among names name ≡ false
+        → IsDeclaring node whole others others_keep (names ++ name ∷ []) (rows ++ record { place = length rows; kind = kind; is_known = known } ∷ []) words later told
+    declared_more new =
+        let row : Row = record { place = length rows; kind = kind; is_known = known } in
+        let size : length (names ++ name ∷ []) ≡ length names + 1 = omega (arith, length-append names (name ∷ [])) in
+        let count : length (rows ++ row ∷ []) ≡ length rows + 1 = omega (arith, length-append rows (row ∷ [])) in
+        record {
+          all = append_assoc names (name ∷ []) later ∙ d.all;
+          distinct = distinct_push names name d.distinct new;
+          told_all = append_assoc rows (row ∷ []) _ ∙ ap (λ n. rows ++ row ∷ rows_from n told) count ∙ d.told_all;
+          numbered = omega (arith, d.numbered, size, count);
+          left = subst (λ n. first_is n) (sym size) (kept (keeps_new ∙ ap not new) d.left);
+        }
+      where
+        first_is : ℕ → Type 0
+        first_is n = IsLeft whole (words ++ others) (keeps_from node n later ++ others_keep)
+
+    -- what the code has then
+    pub declared_then : {more : Names} {more_rows : List Row} → is_among names name ≡ false
+        → more ≡ names ++ name ∷ [] → more_rows ≡ rows ++ record { place = length rows; kind = kind; is_known = known } ∷ []
+        → IsDeclaring node whole others others_keep more more_rows words later told
+    declared_then {more = more} {more_rows = more_rows} new is rows_are =
+        subst (λ (ns : Names). IsDeclaring node whole others others_keep ns more_rows words later told) (sym is)
+        (subst (λ (rs : List Row). IsDeclaring node whole others others_keep (names ++ name ∷ []) rs words later told) (sym rows_are) (declared_more new))
+
+-- whether a name was new, and what is declared then
+pub was_new : (b : Bool) (names more : Names) (name : List ℕ) → b ≡ true → b ≡ not (is_among names name) → more ≡ cond b (names ++ name ∷ []) names
+    → (is_among names name ≡ false) × (more ≡ names ++ name ∷ [])
+was_new b names more name new is then =
+    (not-true (is_among names name) (sym is ∙ new), then ∙ ap (λ (d : Bool). cond d (names ++ name ∷ []) names) new)
+
+pub was_there : (b : Bool) (names : Names) (name : List ℕ) → b ≡ false → b ≡ not (is_among names name) → is_among names name ≡ true
+was_there b names name old is = among (is_among names name) (sym is ∙ old)
+  where
+    among : (there : Bool) → not there ≡ false → there ≡ true
+    among true h = refl
+    among false h = absurd (false≢true (sym h))

@@ -1,0 +1,249 @@
+-- The left side of an equation, and what is known behind the equation.
+use Rattle.std.proofs.Common.{◌≡◌, ℕ, zero, suc, ◌+◌, ◌<◌, ◌≤◌, Bool, true, false, not, ◌&&◌, ◌||◌, List, [], ◌∷◌, ◌++◌, length, map, get_or, Option, refl, sym, ap, subst, ◌∙◌, arith, inl, inr, append_assoc}
+use Rattle.std.specs.Prelude.{bytes_eq, slice_set}
+use Rattle.std.specs.List.{list_all}
+use Rattle.std.proofs.lemmas.List.{append-nil}
+use Rattle.std.proofs.lemmas.Bool.{or_parts, or_left, or_right, and_from, both_ways, false_from_ne_true}
+use Rattle.dcv_lexer.specs.Cuts.{Token}
+use Rattle.dcv_observer.specs.Conditions.{Names}
+use Rattle.dcv_lustre.specs.declared.node.Equation.{Equation as CodeEquation}
+use Rattle.dcv_lustre.specs.Tree.{OfTruth, Right, Delayed, Chosen, Tested, Equation, Node}
+use Rattle.dcv_lustre.specs.Meaning.{ok, local_names, names_of}
+use Rattle.dcv_lustre.specs.Placed.{equation_of}
+use Rattle.dcv_lustre.specs.Seen.{seen_equation as equation_seen}
+use Rattle.dcv_lustre.specs.Rules.{is_among, keeps_left, keeps_form, keeps_equation, keeps_equations, lefts_of, words_of_right, has_all_equations}
+use Rattle.dcv_lustre.proofs.Lookups.{is_itself, differs, among_append_left, among_append_right, among_append_cases, distinct_apart}
+use Rattle.dcv_lustre_read.specs.declared.scope.Declaration.{Declaration}
+use Rattle.dcv_lustre_read.specs.declared.placed.PlacedEquation.{PlacedEquation}
+use Rattle.dcv_lustre_read.specs.Seen.{seen_equation}
+use Rattle.dcv_lustre_read.specs.Scope.{Row, seen_row, AreDistinct, AreRows, Knows, KnowsAll, IsFoundAs, marked, fits_form}
+use Rattle.dcv_lustre_read.specs.Judged.{IsLeft, words_of_equations}
+use Rattle.dcv_lustre_read.proofs.NameKinds.{names_distinct, delayed_as, no_input}
+use Rattle.dcv_lustre_read.proofs.RightSides.{one_more}
+
+-- ---- left sides
+
+lost_first : (a e f : Bool) → a ≡ false → ((a && not e) && f) ≡ false
+lost_first a e f is = ap (λ (b : Bool). (b && not e) && f) is
+
+lost_second : (a e f : Bool) → e ≡ true → ((a && not e) && f) ≡ false
+lost_second true e f is = ap (λ (b : Bool). not b && f) is
+lost_second false e f is = refl
+
+lost_third : (b f : Bool) → f ≡ false → (b && f) ≡ false
+lost_third true f is = is
+lost_third false f is = refl
+
+all_three : (a e f : Bool) → a ≡ true → e ≡ false → f ≡ true → ((a && not e) && f) ≡ true
+all_three a e f first second third = and_from (a && not e) f (and_from a (not e) first (ap not second)) third
+
+module _ (node : Node) (earlier names : Names) (rows : List Row) (knows : Knows node earlier names rows) (equation : Equation) where
+  distinct : AreDistinct (names_of node)
+  distinct = names_distinct node earlier names rows knows
+
+  no_left : is_among (ok ∷ local_names node) equation.left ≡ false → keeps_left node earlier equation ≡ false
+  no_left none = lost_first (is_among (ok ∷ local_names node) equation.left) (is_among earlier equation.left) (keeps_form node equation.left equation.right) none
+
+  pub unknown_left : is_among (names_of node) equation.left ≡ false → keeps_left node earlier equation ≡ false
+  unknown_left none =
+      no_left (false_from_ne_true (is_among (ok ∷ local_names node) equation.left) (λ some.
+      both_ways (is_among (names_of node) equation.left) none (among_append_right node.inputs (ok ∷ local_names node) equation.left some)))
+
+  module _ (row : Row) (found : IsFoundAs node earlier equation.left row) where
+    pub known_left : row.is_known ≡ true → keeps_left node earlier equation ≡ false
+    known_left known =
+        elim (among_append_cases node.inputs earlier equation.left (sym found.is_known ∙ known)) [
+          | inl input ↦
+              no_left (false_from_ne_true (is_among (ok ∷ local_names node) equation.left) (λ some.
+              both_ways (is_among node.inputs equation.left) (distinct_apart node.inputs (ok ∷ local_names node) distinct equation.left some) input))
+          | inr before ↦ lost_second (is_among (ok ∷ local_names node) equation.left) (is_among earlier equation.left) (keeps_form node equation.left equation.right) before
+        ]
+
+    form_is : (right : Right) → keeps_form node equation.left right ≡ fits_form row.kind right
+    form_is (Delayed first source) = refl
+    form_is (Chosen arms otherwise) = refl
+    form_is (Tested tests) = delayed_as node earlier names rows knows equation.left OfTruth row found
+
+    pub unfit_left : fits_form row.kind equation.right ≡ false → keeps_left node earlier equation ≡ false
+    unfit_left unfit = lost_third (is_among (ok ∷ local_names node) equation.left && not (is_among earlier equation.left)) _ (form_is equation.right ∙ unfit)
+
+    pub kept_left : row.is_known ≡ false → fits_form row.kind equation.right ≡ true → keeps_left node earlier equation ≡ true
+    kept_left new fits =
+        let unknown : is_among (node.inputs ++ earlier) equation.left ≡ false = sym found.is_known ∙ new in
+        all_three (is_among (ok ∷ local_names node) equation.left) (is_among earlier equation.left) (keeps_form node equation.left equation.right)
+        (elim (among_append_cases node.inputs (ok ∷ local_names node) equation.left found.among) [
+          | inl input ↦ absurd (both_ways (is_among (node.inputs ++ earlier) equation.left) unknown (among_append_left node.inputs earlier equation.left input))
+          | inr later ↦ later
+        ])
+        (false_from_ne_true (is_among earlier equation.left) (λ before.
+        both_ways (is_among (node.inputs ++ earlier) equation.left) unknown (among_append_right node.inputs earlier equation.left before)))
+        (form_is equation.right ∙ fits)
+
+-- ---- a name that is known from now on
+
+pub set_known : (items : List Declaration) (place : ℕ) (at kind_at : Declaration) → at ≡ get_or items place kind_at → place < length items
+    → map seen_row (slice_set items place (record at { known = true })) ≡ marked place (map seen_row items)
+set_known [] place at d is within = absurd (omega arith)
+set_known (item ∷ items) zero at d is within = ap (λ (x : Declaration). seen_row (record x { known = true }) ∷ map seen_row items) is
+set_known (item ∷ items) (suc place) at d is within = ap (λ (rows : List Row). seen_row item ∷ rows) (set_known items place at d is (omega arith))
+
+pub none_marked : (place : ℕ) (rows : List Row) → length rows ≤ place → rows ≡ marked place rows
+none_marked place [] beyond = refl
+none_marked zero (row ∷ rows) beyond = absurd (omega arith)
+none_marked (suc place) (row ∷ rows) beyond = ap (λ (more : List Row). row ∷ more) (none_marked place rows (omega arith))
+
+module _ (node : Node) (earlier : Names) (left : List ℕ) where
+  other_known : (inputs : Names) (name : List ℕ) → bytes_eq name left ≡ false → is_among (inputs ++ earlier) name ≡ is_among (inputs ++ (left ∷ earlier)) name
+  other_known [] name other = ap (λ (b : Bool). b || is_among earlier name) (sym other)
+  other_known (i ∷ inputs) name other = ap (λ (b : Bool). bytes_eq name i || b) (other_known inputs name other)
+
+  other_rows : (place : ℕ) (names : Names) (rows : List Row) → is_among names left ≡ false → AreRows node earlier place names rows → AreRows node (left ∷ earlier) place names rows
+  other_rows place [] [] none are = tt
+  other_rows place [] (row ∷ rows) none are = absurd are
+  other_rows place (name ∷ names) [] none are = absurd are
+  other_rows place (name ∷ names) (row ∷ rows) none are =
+      let both = or_parts (bytes_eq left name) (is_among names left) none in
+      let other : bytes_eq name left ≡ false = differs name left (λ same. both_ways (bytes_eq left name) both.0 (subst (λ (n : List ℕ). bytes_eq left n ≡ true) (sym same) (is_itself left))) in
+      (record { is_at = are.0.is_at; kind = are.0.kind; is_known = are.0.is_known ∙ other_known node.inputs name other }, other_rows (place + 1) names rows both.1 are.1)
+
+  mark_rows : (place : ℕ) (names : Names) (rows : List Row) (k : ℕ) → AreDistinct names → AreRows node earlier place names rows → k < length names
+      → get_or names k [] ≡ left → AreRows node (left ∷ earlier) place names (marked k rows)
+  mark_rows place [] rows k distinct are within is = absurd (omega arith)
+  mark_rows place (name ∷ names) [] k distinct are within is = absurd are
+  mark_rows place (name ∷ names) (row ∷ rows) zero distinct are within is = (
+    record {
+      is_at = are.0.is_at;
+      kind = are.0.kind;
+      is_known = sym (among_append_right node.inputs (left ∷ earlier) name (or_left _ _ (subst (λ (l : List ℕ). bytes_eq name l ≡ true) is (is_itself name))));
+    },
+    other_rows (place + 1) names rows (subst (λ (l : List ℕ). is_among names l ≡ false) is distinct.0) are.1,
+  )
+  mark_rows place (name ∷ names) (row ∷ rows) (suc k) distinct are within is =
+      let other : bytes_eq name left ≡ false =
+      differs name left (λ same.
+      both_ways (is_among names name) distinct.0 (subst (λ (n : List ℕ). is_among names n ≡ true) (is ∙ sym same) (among_at names k (omega arith)))) in
+      (record { is_at = are.0.is_at; kind = are.0.kind; is_known = are.0.is_known ∙ other_known node.inputs name other }, mark_rows (place + 1) names rows k distinct.1 are.1 (omega arith) is)
+    where
+      among_at : (names : Names) (k : ℕ) → k < length names → is_among names (get_or names k []) ≡ true
+      among_at [] k within = absurd (omega arith)
+      among_at (n ∷ names) zero within = or_left _ _ (is_itself n)
+      among_at (n ∷ names) (suc k) within = or_right (bytes_eq (get_or names k []) n) _ (among_at names k (omega arith))
+
+  marked_knows : (names : Names) (rows : List Row) (row : Row) → Knows node earlier names rows → IsFoundAs node earlier left row
+      → Knows node (left ∷ earlier) names (marked row.place rows)
+  marked_knows names rows row knows found =
+      record {
+        all = knows.all;
+        distinct = knows.distinct;
+        are_rows = mark_rows 0 (names_of node) rows row.place (names_distinct node earlier names rows knows) knows.are_rows found.within found.is;
+      }
+
+  pub marked_then : (names : Names) (rows : List Row) (row : Row) {names_then : Names} {rows_then : List Row} → Knows node earlier names rows → IsFoundAs node earlier left row
+      → names_then ≡ names → rows_then ≡ marked row.place rows → Knows node (left ∷ earlier) names_then rows_then
+  marked_then names rows row {names_then = names_then} {rows_then = rows_then} knows found same marks =
+      subst (λ (ns : Names). Knows node (left ∷ earlier) ns rows_then) (sym same)
+      (subst (λ (rs : List Row). Knows node (left ∷ earlier) names rs) (sym marks) (marked_knows names rows row knows found))
+
+-- ---- one more equation
+
+or_turned : (e b l : Bool) → (e || (b || l)) ≡ ((b || e) || l)
+or_turned true true l = refl
+or_turned true false l = refl
+or_turned false true l = refl
+or_turned false false l = refl
+
+no_or : (b : Bool) → (b || false) ≡ b
+no_or true = refl
+no_or false = refl
+
+-- the equations so far, of all, and what is left
+pub record AreEquationsSoFar (node : Node) (whole : Option ℕ) (words : List Token) (keeps : List Bool) (all : List PlacedEquation)
+    (made : List CodeEquation) (later : List PlacedEquation) (names : Names) (rows : List Row) : Type 0 where
+  pub earlier : Names
+  pub knows : Knows node earlier names rows
+  pub are_made : map (equation_seen (names_of node)) made ++ map equation_of (map seen_equation later) ≡ map equation_of (map seen_equation all)
+  pub are_lefts : (name : List ℕ) → (is_among earlier name || is_among (lefts_of (map equation_of (map seen_equation later))) name) ≡ is_among (lefts_of (map equation_of (map seen_equation all))) name
+  pub left : IsLeft whole (words_of_equations (map seen_equation later) ++ words) (keeps_equations node earlier (map equation_of (map seen_equation later)) ++ keeps)
+
+module _ (node : Node) (whole : Option ℕ) (words : List Token) (keeps : List Bool) (all : List PlacedEquation) where
+  pub equations_begin : (names : Names) (rows : List Row) → Knows node [] names rows
+      → IsLeft whole (words_of_equations (map seen_equation all) ++ words) (keeps_equations node [] (map equation_of (map seen_equation all)) ++ keeps)
+      → AreEquationsSoFar node whole words keeps all [] all names rows
+  equations_begin names rows knows left = record { earlier = []; knows = knows; are_made = refl; are_lefts = λ name. refl; left = left }
+
+  module _ (made : List CodeEquation) (equation : PlacedEquation) (later : List PlacedEquation) (names : Names) (rows : List Row)
+      (sofar : AreEquationsSoFar node whole words keeps all made (equation ∷ later) names rows) where
+    -- the words of the next one, and those behind it
+    pub equation_left : IsLeft whole ((seen_equation equation).left ∷ (words_of_right (seen_equation equation).right ++ (words_of_equations (map seen_equation later) ++ words)))
+        (keeps_equation node sofar.earlier (equation_of (seen_equation equation))
+        ++ (keeps_equations node ((seen_equation equation).left.bytes ∷ sofar.earlier) (map equation_of (map seen_equation later)) ++ keeps))
+    equation_left =
+        let here = words_of_right (seen_equation equation).right in
+        let there = words_of_equations (map seen_equation later) in
+        let kept_here = keeps_equation node sofar.earlier (equation_of (seen_equation equation)) in
+        let kept_there = keeps_equations node ((seen_equation equation).left.bytes ∷ sofar.earlier) (map equation_of (map seen_equation later)) in
+        subst (λ (ws : List Token). IsLeft whole ((seen_equation equation).left ∷ ws) (kept_here ++ (kept_there ++ keeps))) (append_assoc here there words)
+        (subst (λ (ks : List Bool). IsLeft whole ((seen_equation equation).left ∷ ((here ++ there) ++ words)) ks) (append_assoc kept_here kept_there keeps) sofar.left)
+
+    pub equations_more : (more : List CodeEquation) (x : CodeEquation) (names_then : Names) (rows_then : List Row) → more ≡ made ++ x ∷ []
+        → (equation_seen (names_of node) x ≡ equation_of (seen_equation equation)) × Knows node ((seen_equation equation).left.bytes ∷ sofar.earlier) names_then rows_then
+        × IsLeft whole (words_of_equations (map seen_equation later) ++ words)
+        (keeps_equations node ((seen_equation equation).left.bytes ∷ sofar.earlier) (map equation_of (map seen_equation later)) ++ keeps)
+        → AreEquationsSoFar node whole words keeps all more later names_then rows_then
+    equations_more more x names_then rows_then pushed this =
+        record {
+          earlier = (seen_equation equation).left.bytes ∷ sofar.earlier;
+          knows = this.1;
+          are_made = one_more (equation_seen (names_of node)) equation_of made more x (seen_equation equation) (map seen_equation later) (map equation_of (map seen_equation all)) pushed this.0 sofar.are_made;
+          are_lefts = λ name.
+              sym (or_turned (is_among sofar.earlier name) (bytes_eq name (seen_equation equation).left.bytes) (is_among (lefts_of (map equation_of (map seen_equation later))) name))
+              ∙ sofar.are_lefts name;
+          left = this.2;
+        }
+
+  pub equations_end : (made : List CodeEquation) (names : Names) (rows : List Row) → AreEquationsSoFar node whole words keeps all made [] names rows
+      → (map (equation_seen (names_of node)) made ≡ map equation_of (map seen_equation all)) × KnowsAll node (map equation_of (map seen_equation all)) names rows × IsLeft whole words keeps
+  equations_end made names rows sofar = (
+    sym (append-nil (map (equation_seen (names_of node)) made)) ∙ sofar.are_made,
+    record { earlier = sofar.earlier; knows = sofar.knows; are_lefts = λ name. sym (no_or (is_among sofar.earlier name)) ∙ sofar.are_lefts name },
+    sofar.left,
+  )
+
+-- ---- whether all have one
+
+rows_known : (node : Node) (earlier : Names) (place : ℕ) (names : Names) (rows : List Row) → AreRows node earlier place names rows
+    → list_all (λ row. row.is_known) rows ≡ list_all (is_among (node.inputs ++ earlier)) names
+rows_known node earlier place [] [] are = refl
+rows_known node earlier place [] (row ∷ rows) are = absurd are
+rows_known node earlier place (name ∷ names) [] are = absurd are
+rows_known node earlier place (name ∷ names) (row ∷ rows) are =
+    let more = rows_known node earlier (place + 1) names rows are.1 in
+    λ i. are.0.is_known i && more i
+
+inputs_known : (inputs more earlier others : Names) → ((name : List ℕ) → is_among others name ≡ true → is_among inputs name ≡ true)
+    → list_all (is_among (inputs ++ earlier)) (others ++ more) ≡ list_all (is_among (inputs ++ earlier)) more
+inputs_known inputs more earlier [] among = refl
+inputs_known inputs more earlier (name ∷ others) among =
+    ap (λ (b : Bool). b && list_all (is_among (inputs ++ earlier)) (others ++ more)) (among_append_left inputs earlier name (among name (or_left _ _ (is_itself name))))
+    ∙ inputs_known inputs more earlier others (λ n h. among n (or_right (bytes_eq n name) _ h))
+
+others_known : (inputs earlier lefts names : Names) → ((name : List ℕ) → is_among names name ≡ true → is_among inputs name ≡ false)
+    → ((name : List ℕ) → is_among earlier name ≡ is_among lefts name) → list_all (is_among (inputs ++ earlier)) names ≡ list_all (is_among lefts) names
+others_known inputs earlier lefts [] apart same = refl
+others_known inputs earlier lefts (name ∷ names) apart same =
+    let head = no_input inputs earlier name (apart name (or_left _ _ (is_itself name))) ∙ same name in
+    let tail = others_known inputs earlier lefts names (λ n h. apart n (or_right (bytes_eq n name) _ h)) same in
+    λ i. head i && tail i
+
+pub all_known : (node : Node) (names : Names) (items : List Declaration) → KnowsAll node node.equations names (map seen_row items)
+    → list_all (λ (name : Declaration). name.known) items ≡ has_all_equations node
+all_known node names items k =
+    let distinct = names_distinct node k.earlier names (map seen_row items) k.knows in
+    sym (all_mapped items)
+    ∙ rows_known node k.earlier 0 (names_of node) (map seen_row items) k.knows.are_rows
+    ∙ inputs_known node.inputs (ok ∷ local_names node) k.earlier node.inputs (λ name h. h)
+    ∙ others_known node.inputs k.earlier (lefts_of node.equations) (ok ∷ local_names node) (λ name h. distinct_apart node.inputs (ok ∷ local_names node) distinct name h) k.are_lefts
+  where
+    all_mapped : (items : List Declaration) → list_all (λ row. row.is_known) (map seen_row items) ≡ list_all (λ (name : Declaration). name.known) items
+    all_mapped [] = refl
+    all_mapped (item ∷ items) = ap (λ (b : Bool). item.known && b) (all_mapped items)

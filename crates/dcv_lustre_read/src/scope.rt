@@ -1,0 +1,117 @@
+// The names of a node, each with its place, its kind, and whether it is known.
+ghost use Rattle.std.specs.Prelude.{◌≡◌, ◌+◌, ◌&&◌, ◌∷◌, ◌++◌, ℕ, Bool, Option, List, [], true, false, map, length, slice_get, OnOk};
+ghost use Rattle.dcv_lexer.specs.Cuts.{Token};
+ghost use Rattle.dcv_observer.specs.Conditions.{Names as PlainNames, name_at};
+ghost use Rattle.dcv_lustre.specs.Seen.{seen_kind};
+ghost use Rattle.dcv_lustre.specs.Tree.{Kind as PlainKind, Node as PlainNode};
+ghost use Rattle.dcv_lustre.specs.Meaning.{names_of};
+ghost use Rattle.dcv_lustre.specs.Rules.{is_among, is_same_kind, names_of_kind, keeps_name};
+ghost use Rattle.dcv_lustre_read.specs.Judged.{Leads};
+ghost use Rattle.dcv_observer.specs.declared.fault.ObsFault.TheVariants.{Names};
+
+use dcv_lustre::{Kind, ObsFault};
+use dcv_observer::{Declared, Item};
+use std::alloc::AllocError;
+
+/// What is told of a name where it is declared, and whether it is known: an input, or on the left of an earlier equation.
+#[derive(Clone, Copy, Debug)]
+pub(crate) struct Declaration {
+    pub(crate) place: u32,
+    pub(crate) kind: Kind,
+    pub(crate) known: bool,
+}
+
+impl Declaration {
+    // Whether an equation may read it, as a value of a kind.
+    pub(crate) fn reads_as(&self, kind: Kind) -> bool
+        ensures { result ≡ self.now.known && is_same_kind (seen_kind kind) (seen_kind self.now.kind) }
+    {
+        self.known && self.is_of(kind)
+    }
+
+    pub(crate) fn is_of(&self, kind: Kind) -> bool
+        ensures { result ≡ is_same_kind (seen_kind kind) (seen_kind self.now.kind) }
+    {
+        self.kind == kind
+    }
+}
+
+/// The names that are declared.
+#[derive(Drop)]
+pub(crate) struct Scope<'a> {
+    // that of the node, its inputs, its output and its locals
+    pub(crate) declared: Declared<'a>,
+    // of each but that of the node
+    pub(crate) names: Vec<Declaration>,
+}
+
+// One more at the end.
+pub(crate) fn push<T: Drop>(items: &mut Vec<T>, item: T) -> Result<(), AllocError>
+    ensures { OnOk result (items.new.items ≡ items.old.items ++ item ∷ []) }
+{
+    items.push(item)?;
+    Ok(())
+}
+
+// The fault at a word that breaks its rule.
+pub(crate) fn broken(word: &Item<'_>) -> ObsFault
+    ensures { result ≡ Names word.now.start }
+{
+    ObsFault::Names { at: word.start }
+}
+
+fn declaration_at(names: &[Declaration], place: usize) -> Option<Declaration>
+    ensures { result ≡ slice_get names.now place }
+{
+    names.get(place).copied()
+}
+
+impl<'a> Scope<'a> {
+    ghost use Rattle.dcv_lustre_read.specs.Scope.{seen_row, Row, Told, IsDeclaring, is_within, Knows, IsFound};
+
+    // Adds a name.
+    pub(crate) fn declare(
+        &mut self,
+        name: &'a [u8],
+        at: u32,
+        kind: Kind,
+        known: bool,
+    ) -> Result<(), ObsFault>
+        ensures { (node : PlainNode) (whole : Option ℕ) (others : List Token) (others_keep : List Bool)
+            (word : List ℕ) (words : List Token) (later : PlainNames) (told : List Told)
+            → IsDeclaring node whole others others_keep self.old.declared (map seen_row self.old.names.items)
+            (record { bytes = word; start = at } ∷ words) (name.now ∷ later) ((seen_kind kind, known) ∷ told)
+            → is_within node (length self.old.declared) ≡ true
+            → Leads whole (λ _. IsDeclaring node whole others others_keep self.new.declared (map seen_row self.new.names.items) words later told
+            × (length self.new.declared ≡ length self.old.declared + 1)) result }
+    {
+        let place = self.names.len();
+        if place > u32::MAX as usize {
+            return Err(ObsFault::Memory);
+        }
+        if !self.declared.declare(name)? {
+            return Err(ObsFault::Names { at });
+        }
+        let declaration = Declaration {
+            place: place as u32,
+            kind,
+            known,
+        };
+        push(&mut self.names, declaration)?;
+        Ok(())
+    }
+
+    // What is told of a name.
+    pub(crate) fn find(&self, name: &[u8]) -> Option<Declaration>
+        ensures { (node : PlainNode) (earlier : PlainNames) → Knows node earlier self.now.declared (map seen_row self.now.names.items)
+            → IsFound node earlier name.now result }
+    {
+        let Some(place) = self.declared.place_of(name) else {
+            return None;
+        };
+        if place == 0 {
+            return None;
+        }
+        declaration_at(&self.names, place - 1)
+    }
+}
