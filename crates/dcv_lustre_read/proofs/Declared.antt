@@ -136,7 +136,8 @@ declaring_begins placed =
       numbered = refl;
       left =
           record {
-            first = ap (λ (words : List Token). first_broken words (keeps_from node 1 (names_of node) ++ others_keep)) (append_assoc placed.inputs (placed.output ∷ words_of_locals placed.locals) others);
+            first = ap (λ (words : List Token). first_broken words (keeps_from node 1 (names_of node) ++ others_keep))
+                (append_assoc placed.inputs (placed.output ∷ words_of_locals placed.locals) others);
           };
     }
 

@@ -1,5 +1,6 @@
 -- The left side of an equation, and what is known behind the equation.
-use Rattle.std.proofs.Common.{◌≡◌, ℕ, zero, suc, ◌+◌, ◌<◌, ◌≤◌, Bool, true, false, not, ◌&&◌, ◌||◌, List, [], ◌∷◌, ◌++◌, length, map, get_or, Option, refl, sym, ap, subst, ◌∙◌, arith, inl, inr, append_assoc}
+use Rattle.std.proofs.Common.{◌≡◌, ℕ, zero, suc, ◌+◌, ◌<◌, ◌≤◌, Bool, true, false, not, ◌&&◌, ◌||◌, List, []}
+use Rattle.std.proofs.Common.{◌∷◌, ◌++◌, length, map, get_or, Option, refl, sym, ap, subst, ◌∙◌, arith, inl, inr, append_assoc}
 use Rattle.std.specs.Prelude.{bytes_eq, slice_set}
 use Rattle.std.specs.List.{list_all}
 use Rattle.std.proofs.lemmas.List.{append-nil}
@@ -162,7 +163,8 @@ pub record AreEquationsSoFar (node : Node) (whole : Option ℕ) (words : List To
   pub earlier : Names
   pub knows : Knows node earlier names rows
   pub are_made : map (equation_seen (names_of node)) made ++ map equation_of (map seen_equation later) ≡ map equation_of (map seen_equation all)
-  pub are_lefts : (name : List ℕ) → (is_among earlier name || is_among (lefts_of (map equation_of (map seen_equation later))) name) ≡ is_among (lefts_of (map equation_of (map seen_equation all))) name
+  pub are_lefts : (name : List ℕ) → (is_among earlier name || is_among (lefts_of (map equation_of (map seen_equation later))) name)
+      ≡ is_among (lefts_of (map equation_of (map seen_equation all))) name
   pub left : IsLeft whole (words_of_equations (map seen_equation later) ++ words) (keeps_equations node earlier (map equation_of (map seen_equation later)) ++ keeps)
 
 module _ (node : Node) (whole : Option ℕ) (words : List Token) (keeps : List Bool) (all : List PlacedEquation) where
@@ -194,7 +196,8 @@ module _ (node : Node) (whole : Option ℕ) (words : List Token) (keeps : List B
         record {
           earlier = (seen_equation equation).left.bytes ∷ sofar.earlier;
           knows = this.1;
-          are_made = one_more (equation_seen (names_of node)) equation_of made more x (seen_equation equation) (map seen_equation later) (map equation_of (map seen_equation all)) pushed this.0 sofar.are_made;
+          are_made = one_more (equation_seen (names_of node)) equation_of made more x (seen_equation equation) (map seen_equation later)
+              (map equation_of (map seen_equation all)) pushed this.0 sofar.are_made;
           are_lefts = λ name.
               sym (or_turned (is_among sofar.earlier name) (bytes_eq name (seen_equation equation).left.bytes) (is_among (lefts_of (map equation_of (map seen_equation later))) name))
               ∙ sofar.are_lefts name;

@@ -62,7 +62,8 @@ numbers_are (local ∷ locals) name distinct among = by_kind (numbers_are locals
     no_more : bytes_eq name local.name ≡ true → is_among (named locals) name ≡ false
     no_more is = ap (is_among (named locals)) (one_name name local.name is) ∙ distinct.0
 
-    at_kind : (is_among (named locals) name ≡ true → is_among (of_kind OfNumber locals) name ≡ not (is_among (of_kind OfTruth locals) name)) → (kind : Kind) → is_among (with_first OfNumber kind local locals) name ≡ not (is_among (with_first OfTruth kind local locals) name)
+    at_kind : (is_among (named locals) name ≡ true → is_among (of_kind OfNumber locals) name ≡ not (is_among (of_kind OfTruth locals) name))
+        → (kind : Kind) → is_among (with_first OfNumber kind local locals) name ≡ not (is_among (with_first OfTruth kind local locals) name)
     at_kind also OfTruth =
         elim (cases_Bool (bytes_eq name local.name)) [
           | inl is ↦ none_of_kind OfNumber locals name (no_more is) ∙ ap (λ (b : Bool). not (b || is_among (of_kind OfTruth locals) name)) (sym is)
@@ -74,7 +75,8 @@ numbers_are (local ∷ locals) name distinct among = by_kind (numbers_are locals
           | inr other ↦ ap (λ (b : Bool). b || is_among (of_kind OfNumber locals) name) other ∙ also (later other)
         ]
 
-    by_kind : (is_among (named locals) name ≡ true → is_among (of_kind OfNumber locals) name ≡ not (is_among (of_kind OfTruth locals) name)) → (kind : Kind) → kind ≡ local.kind → is_among (of_kind OfNumber (local ∷ locals)) name ≡ not (is_among (of_kind OfTruth (local ∷ locals)) name)
+    by_kind : (is_among (named locals) name ≡ true → is_among (of_kind OfNumber locals) name ≡ not (is_among (of_kind OfTruth locals) name))
+        → (kind : Kind) → kind ≡ local.kind → is_among (of_kind OfNumber (local ∷ locals)) name ≡ not (is_among (of_kind OfTruth (local ∷ locals)) name)
     by_kind also kind is = subst (λ (k : Kind). is_among (with_first OfNumber k local locals) name ≡ not (is_among (with_first OfTruth k local locals) name)) is (at_kind also kind)
 
 -- ---- a node's names

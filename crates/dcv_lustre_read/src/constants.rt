@@ -6,11 +6,10 @@ ghost use Rattle.dcv_lexer.specs.Lexicon.{is_number};
 ghost use Rattle.dcv_lexer.specs.Decimal.{value_of};
 ghost use Rattle.dcv_observer.specs.Classes.{is_small_number};
 ghost use Rattle.dcv_observer.specs.Left.{seen};
-ghost use Rattle.dcv_lustre.specs.Tree.{Value as PlainValue};
-ghost use Rattle.dcv_lustre.specs.Placed.{is_true_word, is_constant, value_at, kind_at};
+ghost use Rattle.dcv_lustre.specs.Placed.{is_constant, value_at, kind_at};
 ghost use Rattle.dcv_lustre.specs.Form.{IsValue};
 ghost use Rattle.dcv_lustre.specs.Seen.{seen_value, seen_kind};
-ghost use Rattle.dcv_lustre.specs.Rules.{is_of_kind, is_same_kind};
+ghost use Rattle.dcv_lustre.specs.Rules.{is_of_kind};
 
 use dcv_lexer::value_up_to;
 use dcv_lustre::{Kind, Value};

@@ -1,6 +1,6 @@
-// Equations, judged and resolved one after another.
+// The equations of a node, one after another. Behind each its left side is known.
 ghost use Rattle.std.specs.Prelude.{◌≡◌, ◌++◌, ◌∷◌, [], ℕ, Bool, List, Option, map};
-ghost use Rattle.std.specs.List.{flat_map, list_all, AllByRecursion};
+ghost use Rattle.std.specs.List.{list_all, AllByRecursion};
 ghost use Rattle.dcv_lexer.specs.Cuts.{Token};
 ghost use Rattle.dcv_observer.specs.Conditions.{Names as PlainNames};
 ghost use Rattle.dcv_lustre.specs.Placed.{right_of, equation_of};

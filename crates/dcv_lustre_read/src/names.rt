@@ -1,6 +1,5 @@
-// A node of the tree, of one that stands in a text: its names are judged in the order of the text, and become places.
+// The names of a node that stands in a text: each is judged, in the order of the text, and becomes a place. So the node becomes a tree.
 ghost use Rattle.std.specs.Prelude.{◌≡◌, ◌≢◌, ◌<◌, ◌+◌, ◌++◌, ◌∷◌, [], ℕ, Bool, List, Option, map, true, false, length, IfOk, IfErr};
-ghost use Rattle.std.specs.List.{AllByRecursion};
 ghost use Rattle.dcv_lexer.specs.Cuts.{Token};
 ghost use Rattle.dcv_observer.specs.Conditions.{Names as PlainNames};
 ghost use Rattle.dcv_observer.specs.Left.{seen};
@@ -10,7 +9,7 @@ ghost use Rattle.dcv_lustre.specs.Actions.{Spells};
 ghost use Rattle.dcv_lustre.specs.Words.{AreWords};
 ghost use Rattle.dcv_lustre.specs.Seen.{seen_local as local_seen};
 ghost use Rattle.dcv_lustre.specs.Tree.{Node as PlainNode, OfTruth};
-ghost use Rattle.dcv_lustre.specs.Meaning.{ok, local_names};
+ghost use Rattle.dcv_lustre.specs.Meaning.{ok};
 ghost use Rattle.dcv_lustre.specs.Rules.{IsNamesFault};
 ghost use Rattle.dcv_lustre_read.specs.Seen.{seen_local, seen_node};
 ghost use Rattle.dcv_lustre_read.specs.Scope.{seen_row, Told, told_inputs, told_locals, IsDeclaring, is_within};

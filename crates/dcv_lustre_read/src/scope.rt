@@ -1,11 +1,10 @@
 // The names of a node, each with its place, its kind, and whether it is known.
-ghost use Rattle.std.specs.Prelude.{◌≡◌, ◌+◌, ◌&&◌, ◌∷◌, ◌++◌, ℕ, Bool, Option, List, [], true, false, map, length, slice_get, OnOk};
+ghost use Rattle.std.specs.Prelude.{◌≡◌, ◌+◌, ◌&&◌, ◌∷◌, ◌++◌, ℕ, Bool, Option, List, [], true, map, length, slice_get, OnOk};
 ghost use Rattle.dcv_lexer.specs.Cuts.{Token};
-ghost use Rattle.dcv_observer.specs.Conditions.{Names as PlainNames, name_at};
+ghost use Rattle.dcv_observer.specs.Conditions.{Names as PlainNames};
 ghost use Rattle.dcv_lustre.specs.Seen.{seen_kind};
-ghost use Rattle.dcv_lustre.specs.Tree.{Kind as PlainKind, Node as PlainNode};
-ghost use Rattle.dcv_lustre.specs.Meaning.{names_of};
-ghost use Rattle.dcv_lustre.specs.Rules.{is_among, is_same_kind, names_of_kind, keeps_name};
+ghost use Rattle.dcv_lustre.specs.Tree.{Node as PlainNode};
+ghost use Rattle.dcv_lustre.specs.Rules.{is_same_kind};
 ghost use Rattle.dcv_lustre_read.specs.Judged.{Leads};
 ghost use Rattle.dcv_observer.specs.declared.fault.ObsFault.TheVariants.{Names};
 
@@ -67,7 +66,7 @@ fn declaration_at(names: &[Declaration], place: usize) -> Option<Declaration>
 }
 
 impl<'a> Scope<'a> {
-    ghost use Rattle.dcv_lustre_read.specs.Scope.{seen_row, Row, Told, IsDeclaring, is_within, Knows, IsFound};
+    ghost use Rattle.dcv_lustre_read.specs.Scope.{seen_row, Told, IsDeclaring, is_within, Knows, IsFound};
 
     // Adds a name.
     pub(crate) fn declare(

@@ -29,10 +29,12 @@ loop-arm-preserved c =
     let split = drop_more items i _ c.loop-arm-test.true in (
       (subst (λ (later : List CodeArm). AllByRecursion AreWordsOfArm (map seen_arm later)) split c.loop-arm.invariant.0).1,
       λ (node : Node) (earlier : Names) knows (whole : Option ℕ) (words : List Token) (keeps : List Bool) left.
-          arms_more node (node.inputs ++ earlier) (seen_kind c.args.kind) whole words keeps (drop i items) _ (drop (i + 1) items) (map arm_of (map seen_arm items)) c.loop-arm.all.items c.push.new.items.items c.in_ok-arm.field-0 split
+          arms_more node (node.inputs ++ earlier) (seen_kind c.args.kind) whole words keeps (drop i items) _ (drop (i + 1) items)
+          (map arm_of (map seen_arm items)) c.loop-arm.all.items c.push.new.items.items c.in_ok-arm.field-0 split
           c.in_ok-push.ensures (c.loop-arm.invariant.1 node earlier knows whole words keeps left)
           (c.in_ok-arm.ensures node earlier knows whole _ _
-          (arm_left node (node.inputs ++ earlier) (seen_kind c.args.kind) whole words keeps (drop i items) _ (drop (i + 1) items) split (c.loop-arm.invariant.1 node earlier knows whole words keeps left).1)),
+          (arm_left node (node.inputs ++ earlier) (seen_kind c.args.kind) whole words keeps (drop i items) _ (drop (i + 1) items) split
+          (c.loop-arm.invariant.1 node earlier knows whole words keeps left).1)),
     )
 
 pub returns : goal.returns

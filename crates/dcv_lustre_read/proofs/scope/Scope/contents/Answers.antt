@@ -5,7 +5,8 @@ use Rattle.dcv_observer.specs.Left.{seen}
 use Rattle.dcv_lustre_read.specs.Seen.{seen_local, seen_equation}
 use Rattle.dcv_lustre_read.proofs.Judging.{kept, broken, leads_on, fault_is}
 use Rattle.dcv_lustre_read.proofs.Inputs.{behind_inputs}
-use Rattle.dcv_lustre_read.proofs.Declared.{node_at, whole_at, others_at, others_keep_at, output_words, output_names, output_told, at_inputs, inputs_are, inputs_size, at_locals, at_equations, at_tel, declared_knows}
+use Rattle.dcv_lustre_read.proofs.Declared.{node_at, whole_at, others_at, others_keep_at, output_words, output_names, output_told}
+use Rattle.dcv_lustre_read.proofs.Declared.{at_inputs, inputs_are, inputs_size, at_locals, at_equations, at_tel, declared_knows}
 use Rattle.dcv_lustre_read.proofs.scope.Scope.contents.Goals as goal
 
 pub returns-in_err-inputs : goal.returns-in_err-inputs
@@ -15,7 +16,9 @@ returns-in_err-inputs c =
     let whole = whole_at placed in
     let others = others_at placed in
     let others_keep = others_keep_at placed in
-    leads_on whole _ c.from_residual.result c.in_err-inputs.field-0.0 c.from_residual.ensures.1 (c.in_err-inputs.ensures node whole others others_keep (output_words placed) (output_names placed) (output_told placed) (at_inputs placed c.deref.ensures.value c.requires.declared c.requires.names) (ap length c.requires.declared) (inputs_are placed c.deref.ensures.value))
+    leads_on whole _ c.from_residual.result c.in_err-inputs.field-0.0 c.from_residual.ensures.1
+    (c.in_err-inputs.ensures node whole others others_keep (output_words placed) (output_names placed) (output_told placed)
+    (at_inputs placed c.deref.ensures.value c.requires.declared c.requires.names) (ap length c.requires.declared) (inputs_are placed c.deref.ensures.value))
 
 pub returns-in_err-output : goal.returns-in_err-output
 returns-in_err-output c =
@@ -25,9 +28,11 @@ returns-in_err-output c =
     let others = others_at placed in
     let others_keep = others_keep_at placed in
     let size = inputs_size placed c.deref.ensures.value in
-    let inputs = c.in_ok-inputs.ensures node whole others others_keep (output_words placed) (output_names placed) (output_told placed) (at_inputs placed c.deref.ensures.value c.requires.declared c.requires.names) (ap length c.requires.declared) (inputs_are placed c.deref.ensures.value) in
+    let inputs = c.in_ok-inputs.ensures node whole others others_keep (output_words placed) (output_names placed) (output_told placed)
+    (at_inputs placed c.deref.ensures.value c.requires.declared c.requires.names) (ap length c.requires.declared) (inputs_are placed c.deref.ensures.value) in
     let behind : length node.inputs < length c.inputs.new.self.declared = omega (arith, inputs.2, size) in
-    leads_on whole _ c.from_residual-in_err-output.result c.in_err-output.field-0.0 c.from_residual-in_err-output.ensures.1 (c.in_err-output.ensures node whole others others_keep _ _ _ inputs.1 (behind_inputs node (length c.inputs.new.self.declared) behind))
+    leads_on whole _ c.from_residual-in_err-output.result c.in_err-output.field-0.0 c.from_residual-in_err-output.ensures.1
+    (c.in_err-output.ensures node whole others others_keep _ _ _ inputs.1 (behind_inputs node (length c.inputs.new.self.declared) behind))
 
 pub returns-in_err-locals : goal.returns-in_err-locals
 returns-in_err-locals c =
@@ -37,11 +42,13 @@ returns-in_err-locals c =
     let others = others_at placed in
     let others_keep = others_keep_at placed in
     let size = inputs_size placed c.deref.ensures.value in
-    let inputs = c.in_ok-inputs.ensures node whole others others_keep (output_words placed) (output_names placed) (output_told placed) (at_inputs placed c.deref.ensures.value c.requires.declared c.requires.names) (ap length c.requires.declared) (inputs_are placed c.deref.ensures.value) in
+    let inputs = c.in_ok-inputs.ensures node whole others others_keep (output_words placed) (output_names placed) (output_told placed)
+    (at_inputs placed c.deref.ensures.value c.requires.declared c.requires.names) (ap length c.requires.declared) (inputs_are placed c.deref.ensures.value) in
     let behind : length node.inputs < length c.inputs.new.self.declared = omega (arith, inputs.2, size) in
     let output = c.in_ok-output.ensures node whole others others_keep _ _ _ inputs.1 (behind_inputs node (length c.inputs.new.self.declared) behind) in
     let later : length node.inputs < length c.output.new.self.declared = omega (arith, output.1, behind) in
-    leads_on whole _ c.from_residual-in_err-locals.result c.in_err-locals.field-0.0 c.from_residual-in_err-locals.ensures.1 (c.in_err-locals.ensures node whole others others_keep (at_locals placed c.deref-2.ensures.value output.0) later)
+    leads_on whole _ c.from_residual-in_err-locals.result c.in_err-locals.field-0.0 c.from_residual-in_err-locals.ensures.1
+    (c.in_err-locals.ensures node whole others others_keep (at_locals placed c.deref-2.ensures.value output.0) later)
 
 pub returns-in_err-equations : goal.returns-in_err-equations
 returns-in_err-equations c =
@@ -51,13 +58,15 @@ returns-in_err-equations c =
     let others = others_at placed in
     let others_keep = others_keep_at placed in
     let size = inputs_size placed c.deref.ensures.value in
-    let inputs = c.in_ok-inputs.ensures node whole others others_keep (output_words placed) (output_names placed) (output_told placed) (at_inputs placed c.deref.ensures.value c.requires.declared c.requires.names) (ap length c.requires.declared) (inputs_are placed c.deref.ensures.value) in
+    let inputs = c.in_ok-inputs.ensures node whole others others_keep (output_words placed) (output_names placed) (output_told placed)
+    (at_inputs placed c.deref.ensures.value c.requires.declared c.requires.names) (ap length c.requires.declared) (inputs_are placed c.deref.ensures.value) in
     let behind : length node.inputs < length c.inputs.new.self.declared = omega (arith, inputs.2, size) in
     let output = c.in_ok-output.ensures node whole others others_keep _ _ _ inputs.1 (behind_inputs node (length c.inputs.new.self.declared) behind) in
     let later : length node.inputs < length c.output.new.self.declared = omega (arith, output.1, behind) in
     let locals = c.in_ok-locals.ensures node whole others others_keep (at_locals placed c.deref-2.ensures.value output.0) later in
     let knows = declared_knows locals.1 in
-    leads_on whole _ c.from_residual-in_err-equations.result c.in_err-equations.field-0.0 c.from_residual-in_err-equations.ensures.1 (c.in_err-equations.ensures node knows.0 whole (seen placed.tel ∷ []) (has_all_equations node ∷ []) (at_equations placed c.deref-3.ensures.value knows.1))
+    leads_on whole _ c.from_residual-in_err-equations.result c.in_err-equations.field-0.0 c.from_residual-in_err-equations.ensures.1
+    (c.in_err-equations.ensures node knows.0 whole (seen placed.tel ∷ []) (has_all_equations node ∷ []) (at_equations placed c.deref-3.ensures.value knows.1))
 
 pub returns-then-not-has_all_equations : goal.returns-then-not-has_all_equations
 returns-then-not-has_all_equations c =
@@ -67,7 +76,8 @@ returns-then-not-has_all_equations c =
     let others = others_at placed in
     let others_keep = others_keep_at placed in
     let size = inputs_size placed c.deref.ensures.value in
-    let inputs = c.in_ok-inputs.ensures node whole others others_keep (output_words placed) (output_names placed) (output_told placed) (at_inputs placed c.deref.ensures.value c.requires.declared c.requires.names) (ap length c.requires.declared) (inputs_are placed c.deref.ensures.value) in
+    let inputs = c.in_ok-inputs.ensures node whole others others_keep (output_words placed) (output_names placed) (output_told placed)
+    (at_inputs placed c.deref.ensures.value c.requires.declared c.requires.names) (ap length c.requires.declared) (inputs_are placed c.deref.ensures.value) in
     let behind : length node.inputs < length c.inputs.new.self.declared = omega (arith, inputs.2, size) in
     let output = c.in_ok-output.ensures node whole others others_keep _ _ _ inputs.1 (behind_inputs node (length c.inputs.new.self.declared) behind) in
     let later : length node.inputs < length c.output.new.self.declared = omega (arith, output.1, behind) in
@@ -85,7 +95,8 @@ returns c =
     let others = others_at placed in
     let others_keep = others_keep_at placed in
     let size = inputs_size placed c.deref.ensures.value in
-    let inputs = c.in_ok-inputs.ensures node whole others others_keep (output_words placed) (output_names placed) (output_told placed) (at_inputs placed c.deref.ensures.value c.requires.declared c.requires.names) (ap length c.requires.declared) (inputs_are placed c.deref.ensures.value) in
+    let inputs = c.in_ok-inputs.ensures node whole others others_keep (output_words placed) (output_names placed) (output_told placed)
+    (at_inputs placed c.deref.ensures.value c.requires.declared c.requires.names) (ap length c.requires.declared) (inputs_are placed c.deref.ensures.value) in
     let behind : length node.inputs < length c.inputs.new.self.declared = omega (arith, inputs.2, size) in
     let output = c.in_ok-output.ensures node whole others others_keep _ _ _ inputs.1 (behind_inputs node (length c.inputs.new.self.declared) behind) in
     let later : length node.inputs < length c.output.new.self.declared = omega (arith, output.1, behind) in

@@ -9,12 +9,18 @@ use Rattle.dcv_lustre_read.proofs.scope.Scope.delayed.Goals as goal
 
 pub returns-in_default : goal.returns-in_default
 returns-in_default c = λ (node : PlainNode) (earlier : PlainNames) knows.
-    broken_word c.broken.ensures (unknown_delayed node earlier c.args.self.now.declared (map seen_row c.args.self.now.names.items) knows c.args.word.now.bytes.now (seen_kind c.args.kind) (c.in_default.ensures node earlier knows))
+    broken_word c.broken.ensures (unknown_delayed node earlier c.args.self.now.declared (map seen_row c.args.self.now.names.items) knows c.args.word.now.bytes.now
+    (seen_kind c.args.kind) (c.in_default.ensures node earlier knows))
 
 pub returns-then-not-is_of : goal.returns-then-not-is_of
 returns-then-not-is_of c = λ (node : PlainNode) (earlier : PlainNames) knows.
-    broken_word c.broken-then-not-is_of.ensures (delayed_as node earlier c.args.self.now.declared (map seen_row c.args.self.now.names.items) knows c.args.word.now.bytes.now (seen_kind c.args.kind) _ (c.in-Some.ensures node earlier knows) ∙ sym c.is_of.ensures ∙ c.if-not-is_of.true)
+    broken_word c.broken-then-not-is_of.ensures
+    (delayed_as node earlier c.args.self.now.declared (map seen_row c.args.self.now.names.items) knows c.args.word.now.bytes.now (seen_kind c.args.kind) _
+    (c.in-Some.ensures node earlier knows) ∙ sym c.is_of.ensures ∙ c.if-not-is_of.true)
 
 pub returns : goal.returns
-returns c = λ (node : PlainNode) (earlier : PlainNames) knows.
-    (delayed_as node earlier c.args.self.now.declared (map seen_row c.args.self.now.names.items) knows c.args.word.now.bytes.now (seen_kind c.args.kind) _ (c.in-Some.ensures node earlier knows) ∙ sym c.is_of.ensures ∙ c.if-not-is_of.false, (c.in-Some.ensures node earlier knows).is)
+returns c = λ (node : PlainNode) (earlier : PlainNames) knows. (
+  delayed_as node earlier c.args.self.now.declared (map seen_row c.args.self.now.names.items) knows c.args.word.now.bytes.now (seen_kind c.args.kind) _
+      (c.in-Some.ensures node earlier knows) ∙ sym c.is_of.ensures ∙ c.if-not-is_of.false,
+  (c.in-Some.ensures node earlier knows).is,
+)

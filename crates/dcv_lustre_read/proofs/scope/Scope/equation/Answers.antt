@@ -24,8 +24,10 @@ returns c = λ (node : Node) (earlier : Names) knows (whole : Option ℕ) (words
     let placed = seen_equation c.args.equation.now in
     let first = c.in_ok-left.ensures node earlier knows in
     let behind = c.in_ok-right.ensures node earlier knows whole words keeps
-    (subst (λ (k : Kind). IsLeft whole (words_of_right placed.right ++ words) (keeps_right node (node.inputs ++ earlier) k (right_of placed.right) ++ keeps)) (sym first.1.kind) (kept first.0 left)) in (
+    (subst (λ (k : Kind). IsLeft whole (words_of_right placed.right ++ words) (keeps_right node (node.inputs ++ earlier) k (right_of placed.right) ++ keeps))
+    (sym first.1.kind) (kept first.0 left)) in (
       λ i. record { left = first.1.is i; right = behind.0 i },
-      marked_then node earlier placed.left.bytes c.args.self.now.declared (map seen_row c.args.self.now.names.items) (seen_row c.in_ok-left.left) knows first.1 c.mark.ensures.declared c.mark.ensures.names,
+      marked_then node earlier placed.left.bytes c.args.self.now.declared (map seen_row c.args.self.now.names.items)
+          (seen_row c.in_ok-left.left) knows first.1 c.mark.ensures.declared c.mark.ensures.names,
       behind.1,
     )

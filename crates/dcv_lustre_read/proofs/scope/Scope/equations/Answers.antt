@@ -47,4 +47,5 @@ returns c = λ (node : Node) knows (whole : Option ℕ) (words : List Token) (ke
     let rows = map seen_row c.loop-equation.self.names.items in
     let none : drop c.loop-equation.equation-index items ≡ [] = at_drop_all (λ (later : List CodeEquation). later) items c.loop-equation.equation-index c.loop-equation-test.false in
     equations_end node whole words keeps items c.loop-equation.all.items names rows
-    (subst (λ (later : List CodeEquation). AreEquationsSoFar node whole words keeps items c.loop-equation.all.items later names rows) none (c.loop-equation.invariant.1 node knows whole words keeps left))
+    (subst (λ (later : List CodeEquation). AreEquationsSoFar node whole words keeps items c.loop-equation.all.items later names rows) none
+    (c.loop-equation.invariant.1 node knows whole words keeps left))

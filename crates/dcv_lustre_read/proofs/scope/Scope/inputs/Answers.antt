@@ -18,7 +18,8 @@ returns-then-place-ge-MOST_INPUTS c = λ (node : Node) (whole : Option ℕ) (oth
     let i = c.loop-place.place in
     let names = c.loop-place.self.declared in
     let rows = map seen_row c.loop-place.self.names.items in
-    let sofar = subst (λ (rest : List Item). AreInputsSoFar node whole others others_keep words later told items c.loop-place.texts.items i rest names rows) (drop_more items i _ c.loop-place-test.true)
+    let sofar = subst (λ (rest : List Item). AreInputsSoFar node whole others others_keep words later told items c.loop-place.texts.items i rest names rows)
+    (drop_more items i _ c.loop-place-test.true)
     (c.loop-place.invariant node whole others others_keep words later told d one count) in
     let size : length node.inputs ≡ length items = ap length count ∙ length-map (map seen items) (λ (token : Token). token.bytes) ∙ length-map items seen in
     fault_is c.broken.ensures
@@ -31,7 +32,8 @@ returns-in_err-declare c = λ (node : Node) (whole : Option ℕ) (others : List 
     let i = c.loop-place.place in
     let names = c.loop-place.self.declared in
     let rows = map seen_row c.loop-place.self.names.items in
-    let sofar = subst (λ (rest : List Item). AreInputsSoFar node whole others others_keep words later told items c.loop-place.texts.items i rest names rows) (drop_more items i _ c.loop-place-test.true)
+    let sofar = subst (λ (rest : List Item). AreInputsSoFar node whole others others_keep words later told items c.loop-place.texts.items i rest names rows)
+    (drop_more items i _ c.loop-place-test.true)
     (c.loop-place.invariant node whole others others_keep words later told d one count) in
     leads_on whole _ c.from_residual.result c.in_err-declare.field-0.0 c.from_residual.ensures.1
     (c.in_err-declare.ensures node whole others others_keep _ _ _ _ sofar.declaring (within_inputs node (length names) (omega (arith, sofar.count, c.if-place-ge-MOST_INPUTS.false))))
@@ -42,11 +44,13 @@ loop-place-preserved c = λ (node : Node) (whole : Option ℕ) (others : List To
     let i = c.loop-place.place in
     let names = c.loop-place.self.declared in
     let rows = map seen_row c.loop-place.self.names.items in
-    let sofar = subst (λ (rest : List Item). AreInputsSoFar node whole others others_keep words later told items c.loop-place.texts.items i rest names rows) (drop_more items i _ c.loop-place-test.true)
+    let sofar = subst (λ (rest : List Item). AreInputsSoFar node whole others others_keep words later told items c.loop-place.texts.items i rest names rows)
+    (drop_more items i _ c.loop-place-test.true)
     (c.loop-place.invariant node whole others others_keep words later told d one count) in
     let then = c.in_ok-declare.ensures node whole others others_keep _ _ _ _ sofar.declaring (within_inputs node (length names) (omega (arith, sofar.count, c.if-place-ge-MOST_INPUTS.false))) in
     record {
-      texts_are = text_more (bytes_of (map seen items)) c.loop-place.texts.items c.push.new.items.items _ c.in_ok-copy_of.field-0 (bytes_of (map seen (drop (i + 1) items))) sofar.texts_are c.in_ok-copy_of.ensures c.in_ok-push.ensures;
+      texts_are = text_more (bytes_of (map seen items)) c.loop-place.texts.items c.push.new.items.items _ c.in_ok-copy_of.field-0
+          (bytes_of (map seen (drop (i + 1) items))) sofar.texts_are c.in_ok-copy_of.ensures c.in_ok-push.ensures;
       count = then.1 ∙ ap (λ n. n + 1) sofar.count;
       declaring = then.0;
     }
@@ -56,7 +60,8 @@ returns c = λ (node : Node) (whole : Option ℕ) (others : List Token) (others_
     let items = c.args.inputs.now in
     let none : drop c.loop-place.place items ≡ [] = at_drop_all (λ (rest : List Item). rest) items c.loop-place.place c.loop-place-test.false in
     let sofar = subst
-    (λ (rest : List Item). AreInputsSoFar node whole others others_keep words later told items c.loop-place.texts.items c.loop-place.place rest c.loop-place.self.declared (map seen_row c.loop-place.self.names.items)) none
+    (λ (rest : List Item). AreInputsSoFar node whole others others_keep words later told items c.loop-place.texts.items c.loop-place.place rest c.loop-place.self.declared
+    (map seen_row c.loop-place.self.names.items)) none
     (c.loop-place.invariant node whole others others_keep words later told d one count) in
     let all : c.loop-place.place ≡ length items = omega arith in
     (sym (append-nil c.loop-place.texts.items) ∙ sofar.texts_are, sofar.declaring, sofar.count ∙ ap (λ n. n + 1) all)

@@ -11,7 +11,8 @@ use Rattle.dcv_lustre_read.proofs.scope.Scope.locals.Given as goal
 abbrev pub invariant-loop-local : goal.invariant-loop-local
 invariant-loop-local l =
     (node : Node) (whole : Option ℕ) (others : List Token) (others_keep : List Bool)
-    → IsDeclaring node whole others others_keep l.initial.self.declared (map seen_row l.initial.self.names.items) (words_of_locals (map seen_local l.locals)) (names_of_locals (map seen_local l.locals))
+    → IsDeclaring node whole others others_keep l.initial.self.declared (map seen_row l.initial.self.names.items) (words_of_locals (map seen_local l.locals))
+    (names_of_locals (map seen_local l.locals))
     (told_locals (map local_of (map seen_local l.locals)))
     → length node.inputs < length l.initial.self.declared
     → AreLocalsSoFar node whole others others_keep l.locals l.all.items (drop l.local-index l.locals) l.self.declared (map seen_row l.self.names.items)

@@ -27,7 +27,8 @@ loop-test-preserved c =
     let split = drop_more items i _ c.loop-test-test.true in (
       (subst (λ (later : List CodeTest). AllByRecursion AreWordsOfTest (map seen_test later)) split c.loop-test.invariant.0).1,
       λ (node : Node) (earlier : Names) knows (whole : Option ℕ) (words : List Token) (keeps : List Bool) left.
-          tests_more node (node.inputs ++ earlier) whole words keeps (drop i items) _ (drop (i + 1) items) (map test_of (map seen_test items)) c.loop-test.all.items c.push.new.items.items c.in_ok-test.field-0 split
+          tests_more node (node.inputs ++ earlier) whole words keeps (drop i items) _ (drop (i + 1) items)
+          (map test_of (map seen_test items)) c.loop-test.all.items c.push.new.items.items c.in_ok-test.field-0 split
           c.in_ok-push.ensures (c.loop-test.invariant.1 node earlier knows whole words keeps left) (c.in_ok-test.ensures node earlier knows),
     )
 
