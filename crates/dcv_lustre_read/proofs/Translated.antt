@@ -1,5 +1,5 @@
 -- What trees stand for, by the parts of the code.
-use Rattle.std.proofs.Common.{◌≡◌, ℕ, zero, suc, ◌≤◌, List, [], ◌∷◌, length, map, refl, sym, ap, ◌∙◌, subst, arith}
+use Rattle.std.proofs.Common.{◌≡◌, ℕ, zero, suc, ◌≤◌, List, [], ◌∷◌, length, refl, sym, ap, ◌∙◌, subst, arith}
 use Rattle.std.specs.Prelude.{slice_index_or}
 use Rattle.dcv_grammar.specs.Trees.{Nodes, done, leaf, node}
 use Rattle.dcv_lexer.specs.Cuts.{Token}
@@ -8,7 +8,10 @@ use Rattle.dcv_lustre.specs.Actions.{Part, AToken, ANode, Nothing, action, actio
 use Rattle.dcv_lustre.proofs.EachTree.{rule_stands, tree_stands}
 use Rattle.dcv_translation.specs.Scheme.{Scheme, IsOfBody, StandsFor}
 use Rattle.dcv_translation.specs.Scheme as translation
-use Rattle.dcv_lustre_read.specs.Symbols.{IsMeant}
+use Rattle.dcv_lustre_read.specs.declared.placed.PlacedNode.{PlacedNode as CodeNode}
+use Rattle.dcv_lustre_read.specs.declared.parts.Part.{Part as CodePart}
+use Rattle.dcv_lustre_read.specs.declared.parts.Part.TheVariants.{Node}
+use Rattle.dcv_lustre_read.specs.Symbols.{seen_part, IsMeant}
 use Rattle.dcv_lustre_read.specs.Translated.{scheme}
 
 -- the scheme has the actions of the subset
@@ -43,3 +46,8 @@ far (x ∷ list) (suc rule) parts there = far list rule parts (omega (arith, the
 
 pub no_rule : (rule : ℕ) (parts : List Part) → 20 ≤ rule → IsMeant (action rule parts) → ⊥
 no_rule rule parts there is = subst IsMeant (far actions rule parts there) is
+
+-- the part of a node is the code's
+pub node_in : (part : CodePart) (placed : PlacedNode) → seen_part part ≡ ANode placed → ((found : CodeNode) → part ≡ Node found → ⊥) → ⊥
+node_in (Node found) placed is none = none found refl
+node_in _ placed is none = cc

@@ -5,7 +5,7 @@ use Rattle.dcv_lexer.specs.Cuts.{Token}
 use Rattle.dcv_lustre.specs.Classes.{lexicon}
 use Rattle.dcv_lustre.specs.Language.{language}
 use Rattle.dcv_lustre.specs.Placed.{PlacedArm, PlacedLocal, PlacedChosen}
-use Rattle.dcv_lustre.specs.Actions.{Part, AToken, Tokens, Locals, Equations, ARight, Compared, Choice, ATest, ANode, Nothing, action, arm}
+use Rattle.dcv_lustre.specs.Actions.{Part, AToken, Tokens, Locals, Equations, ARight, Choice, ATest, ANode, Nothing, action, arm}
 use Rattle.dcv_translation.specs.Scheme.{Scheme}
 
 abbrev pub scheme : Scheme Part

@@ -43,10 +43,7 @@ fn inputs<'a>(name: Item<'a>, mut parts: IntoIter<Part<'a>>) -> Result<Part<'a>,
 }
 
 // An input before others, from the last to the first.
-fn with_input<'a>(
-    input: Item<'a>,
-    mut inputs: Vec<Item<'a>>,
-) -> Result<Vec<Item<'a>>, AllocError>
+fn with_input<'a>(input: Item<'a>, mut inputs: Vec<Item<'a>>) -> Result<Vec<Item<'a>>, AllocError>
     ensures { IfOk result (λ all. reverse (map seen all.items) ≡ seen input.entry ∷ reverse (map seen inputs.entry.items)) }
 {
     inputs.push(input)?;
@@ -80,7 +77,7 @@ fn body<'a>(
         (map seen_part (into_iter_items parts))) }
     ensures { seen_part result
         ≡ body_part (seen name.entry) (reverse (map seen inputs.entry.items)) (seen output.entry) (reverse (map seen_local locals.entry.items))
-            (map seen_part (into_iter_items parts.entry)) }
+        (map seen_part (into_iter_items parts.entry)) }
 {
     match (parts.next(), parts.next()) {
         (Some(Part::Equations(mut equations)), Some(Part::Token(tel))) => {

@@ -9,13 +9,31 @@ ghost use Rattle.dcv_lustre.specs.Actions.{Spells};
 ghost use Rattle.dcv_lustre.specs.Faults.{HasFault, IsReadAs};
 ghost use Rattle.dcv_lustre_read.specs.Seen.{seen_node};
 
+use crate::names::named;
 use crate::parts::Part;
 use crate::placed::PlacedNode;
 use crate::tables;
 use crate::translation::NodeTranslation;
-use dcv_observer::{ObsFault, syntax_fault};
+use dcv_lustre::laws::texts_are_nodes_or_at_fault;
+use dcv_lustre::{Node, ObsFault};
+use dcv_observer::syntax_fault;
 use dcv_translation::translate;
 use std::alloc::Global;
+
+/// The node of a text, or the one fault of it. Only want of memory is no fault of the text.
+pub fn read(alloc: Global, bytes: &[u8]) -> Result<Node, ObsFault>
+    requires { length bytes.now < 2 ^ 32 }
+    ensures read { IfOk result (IsReadAs bytes.now) }
+    ensures no_fault { OnOk result ((fault : Fault) → HasFault bytes.now fault → ⊥) }
+    ensures fault { IfErr result (λ fault. fault ≢ Memory → HasFault bytes.now fault) }
+{
+    texts_are_nodes_or_at_fault();
+    let placed = placed_node(alloc, bytes)?;
+    let node = named(alloc, &placed)?;
+    // for the prover: what is true of every node.
+    node.keeps_the_rules();
+    Ok(node)
+}
 
 // The node that stands in a text.
 pub(crate) fn placed_node<'a>(alloc: Global, text: &'a [u8]) -> Result<PlacedNode<'a>, ObsFault>

@@ -148,7 +148,9 @@ pub(crate) fn delay<'a>(parts: Vec<Part<'a>>) -> Part<'a>
     let mut parts = parts.into_iter();
     match (parts.next(), parts.next(), parts.next()) {
         (None, _, _) => Part::Maybe(None),
-        (Some(Part::Token(_)), Some(Part::Token(_)), Some(Part::Token(source))) => Part::Maybe(Some(source)),
+        (Some(Part::Token(_)), Some(Part::Token(_)), Some(Part::Token(source))) => Part::Maybe(Some(
+            source,
+        )),
         _ => unreachable!(),
     }
 }

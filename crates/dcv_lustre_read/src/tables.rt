@@ -216,7 +216,12 @@ const RULES: [Production<'static>; 20] = [
     // equations = {equation}
     by_name!(Rule(EQUATION), Rule(EQUATIONS)),
     // equation = name "=" right ";"
-    always!(Rule(NAME_RULE), Class(EQUALS), Rule(RIGHT), Class(SEMICOLON)),
+    always!(
+        Rule(NAME_RULE),
+        Class(EQUALS),
+        Rule(RIGHT),
+        Class(SEMICOLON)
+    ),
     // right = literal delay | "if" condition "then" item "else" choice | test more_tests | name
     Production {
         alternatives: &[
@@ -224,7 +229,14 @@ const RULES: [Production<'static>; 20] = [
                 classes: &[NUMBER, WORD_TRUE, WORD_FALSE],
                 body: &[Rule(LITERAL), Rule(DELAY)],
             },
-            after!(WORD_IF, Rule(CONDITION), Class(WORD_THEN), Rule(ITEM), Class(WORD_ELSE), Rule(CHOICE)),
+            after!(
+                WORD_IF,
+                Rule(CONDITION),
+                Class(WORD_THEN),
+                Rule(ITEM),
+                Class(WORD_ELSE),
+                Rule(CHOICE)
+            ),
             Alternative {
                 classes: &[OPEN_PARENTHESIS],
                 body: &[Rule(TEST), Rule(MORE_TESTS)],

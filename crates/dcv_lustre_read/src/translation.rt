@@ -3,11 +3,8 @@ ghost use Rattle.std.specs.Prelude.{◌≡◌, map, IfOk};
 ghost use Rattle.dcv_lustre.specs.Actions.{action};
 ghost use Rattle.dcv_lustre_read.specs.Symbols.{seen_part, IsMeant};
 
-use crate::choices;
-use crate::nodes;
 use crate::parts::Part;
-use crate::rules;
-use crate::tables;
+use crate::{choices, nodes, rules, tables};
 use dcv_grammar::grammar::ContextFree;
 use dcv_lexer::Lexicon;
 use dcv_observer::Item;
@@ -75,7 +72,9 @@ fn act<'a>(alloc: Global, rule: u8, parts: Vec<Part<'a>>) -> Result<Part<'a>, Al
         tables::TEST => Ok(rules::test(parts)),
         tables::MORE_TESTS => rules::more_tests(alloc, parts),
         tables::OUTPUT => Ok(rules::output(parts)),
-        tables::KIND | tables::ITEM | tables::LITERAL | tables::NAME_RULE => Ok(rules::token(parts)),
+        tables::KIND | tables::ITEM | tables::LITERAL | tables::NAME_RULE => Ok(rules::token(
+            parts,
+        )),
         _ => unreachable!(),
     }
 }
