@@ -128,6 +128,25 @@ IsOf OfTests (Tests tests) = AllByRecursion AreWordsOfTest tests
 IsOf OfNode (ANode placed) = AreWords placed
 IsOf sort part = ⊥
 
+nothing_of : (sort : Sort) → IsOf sort Nothing → ⊥
+nothing_of OfWord is = is
+nothing_of OfName is = is
+nothing_of OfNames is = is
+nothing_of OfLiteral is = is
+nothing_of OfItem is = is
+nothing_of OfLocal is = is
+nothing_of OfLocals is = is
+nothing_of OfEquation is = is
+nothing_of OfEquations is = is
+nothing_of OfRight is = is
+nothing_of OfDelay is = is
+nothing_of OfCompared is = is
+nothing_of OfCondition is = is
+nothing_of OfChoice is = is
+nothing_of OfTest is = is
+nothing_of OfTests is = is
+nothing_of OfNode is = is
+
 value_in : (sort : Sort) (part : Part) → IsOf sort part → (value : ValueOf sort) × (part ≡ part_of sort value)
 value_in OfWord (AToken value) is = (value, refl)
 value_in OfName (AToken value) is = ((value, is), refl)
@@ -316,6 +335,14 @@ trees_stand (Rule number ∷ symbols) (node rule inner next) h =
           ∙ ap (λ (part : Part). part ∷ parts_of next) is
           ∙ ap (λ (parts : List Part). part_of (sort_of number) value ∷ parts) behind_is,
     )
+
+-- what is inside a node of a rule stands for a part
+pub rule_stands : (number : ℕ) (body : List Symbol) (inner : Nodes Token) → IsBody language number body → AreTrees language (token_class lexicon) body inner
+    → action number (parts_of inner) ≡ Nothing → ⊥
+rule_stands number body inner is are none =
+    let (values, stand) = trees_stand body inner are in
+    nothing_of (sort_of number)
+    (subst (IsOf (sort_of number)) (ap (action number) (sym stand) ∙ none) (body_stands number body values is))
 
 pub tree_stands : (tree : Nodes Token) → AreTrees language (token_class lexicon) (Rule language.start ∷ []) tree
     → (placed : PlacedNode) × (parts_of tree ≡ ANode placed ∷ []) × AreWords placed

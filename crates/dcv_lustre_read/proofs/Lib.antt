@@ -8,3 +8,5 @@ pub mod Inputs
 pub mod Declared
 pub mod Spellable
 pub mod Named
+pub mod Bodies
+pub mod Translated

@@ -1,9 +1,25 @@
 //! Nodes of the flat subset of Lustre, read from their texts.
+//!
+//! ```text
+//! let node = read(alloc, bytes)?;  // the tree, whose names stand for places; or the one fault of the text
+//! ```
+//!
+//! The syntax is judged first, over the whole text. Then the rules of the grammar are translated into a node with a token at each place,
+//! and last its names are judged in the order of the text.
 #![tactic(auto)]
 
+mod choices;
 mod constants;
 mod equations;
 mod names;
+mod nodes;
+mod parts;
 mod placed;
+mod reading;
 mod rights;
+mod rules;
 mod scope;
+mod tables;
+mod translation;
+
+pub use reading::read;

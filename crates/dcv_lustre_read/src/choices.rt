@@ -1,0 +1,116 @@
+// What the rules of right sides stand for, by the parts of one of their bodies.
+ghost use Rattle.std.specs.Prelude.{◌≡◌, ◌∷◌, [], map, reverse, option_map, IfOk};
+ghost use Rattle.std.specs.Vec.Iter.{into_iter_items};
+ghost use Rattle.dcv_observer.specs.Left.{seen};
+ghost use Rattle.dcv_lustre.specs.Actions.{AToken, ARight, Maybe, Choice, right_part, choice_part};
+ghost use Rattle.dcv_lustre_read.specs.Seen.{seen_arm, seen_test, seen_right};
+ghost use Rattle.dcv_lustre_read.specs.Symbols.{seen_part, IsMeant};
+ghost use Rattle.dcv_lustre_read.specs.Translated.{behind_condition, otherwise_part};
+
+use crate::parts::Part;
+use crate::placed::{PlacedArm, PlacedRight, PlacedTest};
+use dcv_observer::Item;
+use std::alloc::{AllocError, Global};
+use std::vec::IntoIter;
+
+// choice = {"if" condition "then" item "else"} item
+#[tactic(auto, using(crate::proofs::Bodies::choice_in_steps))]
+pub(crate) fn choice<'a>(alloc: Global, parts: Vec<Part<'a>>) -> Result<Part<'a>, AllocError>
+    requires { IsMeant (choice_part (map seen_part parts.items)) }
+    ensures { IfOk result (λ part. seen_part part ≡ choice_part (map seen_part parts.entry.items)) }
+{
+    let mut parts = parts.into_iter();
+    match (parts.next(), parts.next()) {
+        (Some(Part::Token(item)), None) => Ok(Part::Choice(Vec::new(alloc), item)),
+        (Some(Part::Token(_)), Some(Part::Compared(name, number))) => {
+            let (arms, otherwise) = longer_choice(name, number, parts)?;
+            Ok(Part::Choice(arms, otherwise))
+        }
+        _ => unreachable!(),
+    }
+}
+
+// What stands behind a condition: the arms, from the last to the first, and the last item.
+fn longer_choice<'a>(
+    name: Item<'a>,
+    number: Option<Item<'a>>,
+    mut parts: IntoIter<Part<'a>>,
+) -> Result<(Vec<PlacedArm<'a>>, Item<'a>), AllocError>
+    requires { IsMeant (behind_condition (seen name) (option_map seen number) (map seen_part (into_iter_items parts))) }
+    ensures { IfOk result (λ made. Choice (reverse (map seen_arm made.0.items)) (seen made.1)
+        ≡ behind_condition (seen name.entry) (option_map seen number.entry) (map seen_part (into_iter_items parts.entry))) }
+{
+    match (parts.next(), parts.next()) {
+        (Some(Part::Token(_)), Some(Part::Token(item))) => {
+            other_arms(PlacedArm { name, number, item }, parts)
+        }
+        _ => unreachable!(),
+    }
+}
+
+// What stands behind the first arm.
+fn other_arms<'a>(
+    arm: PlacedArm<'a>,
+    mut parts: IntoIter<Part<'a>>,
+) -> Result<(Vec<PlacedArm<'a>>, Item<'a>), AllocError>
+    requires { IsMeant (otherwise_part (seen_arm arm) (map seen_part (into_iter_items parts))) }
+    ensures { IfOk result (λ made. Choice (reverse (map seen_arm made.0.items)) (seen made.1)
+        ≡ otherwise_part (seen_arm arm.entry) (map seen_part (into_iter_items parts.entry))) }
+{
+    match (parts.next(), parts.next()) {
+        (Some(Part::Token(_)), Some(Part::Choice(mut arms, otherwise))) => {
+            arms.push(arm)?;
+            Ok((arms, otherwise))
+        }
+        _ => unreachable!(),
+    }
+}
+
+// right = literal delay | "if" condition "then" item "else" choice | test more_tests | name
+#[tactic(auto, using(crate::proofs::Bodies::right_in_steps, crate::proofs::Bodies::forwards))]
+pub(crate) fn right<'a>(alloc: Global, parts: Vec<Part<'a>>) -> Result<Part<'a>, AllocError>
+    requires { IsMeant (right_part (map seen_part parts.items)) }
+    ensures { IfOk result (λ part. seen_part part ≡ right_part (map seen_part parts.entry.items)) }
+{
+    let mut parts = parts.into_iter();
+    match (parts.next(), parts.next()) {
+        (Some(Part::Token(name)), None) => {
+            Ok(Part::Right(PlacedRight::Chosen(Vec::new(alloc), name)))
+        }
+        (Some(Part::Token(literal)), Some(Part::Maybe(source))) => {
+            Ok(Part::Right(of_literal(alloc, literal, source)))
+        }
+        (Some(Part::Token(_)), Some(Part::Compared(name, number))) => {
+            let (mut arms, otherwise) = longer_choice(name, number, parts)?;
+            arms.reverse();
+            Ok(Part::Right(PlacedRight::Chosen(arms, otherwise)))
+        }
+        (Some(Part::Test(test)), Some(Part::Tests(tests))) => {
+            let mut tests = with_test(test, tests)?;
+            tests.reverse();
+            Ok(Part::Right(PlacedRight::Tested(tests)))
+        }
+        _ => unreachable!(),
+    }
+}
+
+// literal delay
+fn of_literal<'a>(alloc: Global, literal: Item<'a>, source: Option<Item<'a>>) -> PlacedRight<'a>
+    ensures { ARight (seen_right result) ≡ right_part (AToken (seen literal.entry) ∷ Maybe (option_map seen source.entry) ∷ []) }
+{
+    match source {
+        Some(source) => PlacedRight::Delayed(literal, source),
+        None => PlacedRight::Chosen(Vec::new(alloc), literal),
+    }
+}
+
+// A test before others, from the last to the first.
+fn with_test<'a>(
+    test: PlacedTest<'a>,
+    mut tests: Vec<PlacedTest<'a>>,
+) -> Result<Vec<PlacedTest<'a>>, AllocError>
+    ensures { IfOk result (λ all. reverse (map seen_test all.items) ≡ seen_test test.entry ∷ reverse (map seen_test tests.entry.items)) }
+{
+    tests.push(test)?;
+    Ok(tests)
+}

@@ -1,0 +1,23 @@
+// What the symbols of the grammar stand for, in code.
+use crate::placed::{PlacedArm, PlacedEquation, PlacedLocal, PlacedNode, PlacedRight, PlacedTest};
+use dcv_observer::Item;
+
+// What a symbol stands for. A list is kept from its last element to its first, since its last action is that of the first one.
+#[derive(Debug, Drop)]
+pub(crate) enum Part<'a> {
+    Token(Item<'a>),
+    Tokens(Vec<Item<'a>>),
+    Local(PlacedLocal<'a>),
+    Locals(Vec<PlacedLocal<'a>>),
+    Equation(PlacedEquation<'a>),
+    Equations(Vec<PlacedEquation<'a>>),
+    Right(PlacedRight<'a>),
+    // A token that may not be there: the source of a delay, or the number of a condition.
+    Maybe(Option<Item<'a>>),
+    // A condition.
+    Compared(Item<'a>, Option<Item<'a>>),
+    Choice(Vec<PlacedArm<'a>>, Item<'a>),
+    Test(PlacedTest<'a>),
+    Tests(Vec<PlacedTest<'a>>),
+    Node(PlacedNode<'a>),
+}

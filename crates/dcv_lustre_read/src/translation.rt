@@ -1,0 +1,80 @@
+// The translation of nodes: what each token and each rule of the grammar stands for.
+ghost use Rattle.std.specs.Prelude.{◌≡◌, map, IfOk};
+ghost use Rattle.dcv_lustre.specs.Actions.{action};
+ghost use Rattle.dcv_lustre_read.specs.Symbols.{seen_part, IsMeant};
+
+use crate::parts::Part;
+use crate::{choices, nodes, rules, tables};
+use dcv_grammar::grammar::ContextFree;
+use dcv_lexer::Lexicon;
+use dcv_observer::Item;
+use dcv_translation::Translation;
+use std::alloc::{AllocError, Global};
+
+// From texts to nodes.
+#[derive(Drop)]
+pub(crate) struct NodeTranslation {
+    pub(crate) alloc: Global,
+}
+
+impl<'a> Translation<'a> for NodeTranslation {
+    ghost use Rattle.dcv_lustre.specs.Actions.{Part as PlainPart};
+    ghost use Rattle.dcv_translation.specs.Scheme.{IsOfBody};
+    ghost use Rattle.dcv_lustre_read.specs.Translated.{scheme};
+
+    type Part = Part<'a>;
+
+    ghost Meaning = { PlainPart };
+
+    ghost scheme = { scheme };
+
+    ghost meaning = { seen_part };
+
+    fn lexicon(&self) -> &'a Lexicon<'a> {
+        tables::lexicon()
+    }
+
+    fn grammar(&self) -> &'a ContextFree<'a> {
+        tables::grammar()
+    }
+
+    fn token(&self, item: Item<'a>) -> Part<'a> {
+        Part::Token(item)
+    }
+
+    fn rule(&self, rule: u8, parts: Vec<Part<'a>>) -> Result<Part<'a>, AllocError>
+        requires { IsOfBody scheme rule (map seen_part parts.items) }
+        ensures { IfOk result (λ part. seen_part part ≡ action rule (map seen_part parts.entry.items)) }
+    {
+        act(self.alloc, rule, parts)
+    }
+}
+
+// The action of a rule.
+fn act<'a>(alloc: Global, rule: u8, parts: Vec<Part<'a>>) -> Result<Part<'a>, AllocError>
+    requires { IsMeant (action rule (map seen_part parts.items)) }
+    ensures { IfOk result (λ part. seen_part part ≡ action rule (map seen_part parts.entry.items)) }
+{
+    match rule {
+        tables::NODE => nodes::node(parts),
+        tables::MORE_INPUTS => rules::more_inputs(alloc, parts),
+        tables::INPUT => Ok(rules::input(parts)),
+        tables::VARIABLES => rules::variables(alloc, parts),
+        tables::LOCALS => rules::locals(alloc, parts),
+        tables::LOCAL => Ok(rules::local(parts)),
+        tables::EQUATIONS => rules::equations(alloc, parts),
+        tables::EQUATION => Ok(rules::equation(parts)),
+        tables::RIGHT => choices::right(alloc, parts),
+        tables::DELAY => Ok(rules::delay(parts)),
+        tables::CHOICE => choices::choice(alloc, parts),
+        tables::CONDITION => Ok(rules::condition(parts)),
+        tables::COMPARED => Ok(rules::compared(parts)),
+        tables::TEST => Ok(rules::test(parts)),
+        tables::MORE_TESTS => rules::more_tests(alloc, parts),
+        tables::OUTPUT => Ok(rules::output(parts)),
+        tables::KIND | tables::ITEM | tables::LITERAL | tables::NAME_RULE => Ok(rules::token(
+            parts,
+        )),
+        _ => unreachable!(),
+    }
+}

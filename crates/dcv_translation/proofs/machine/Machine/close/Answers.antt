@@ -1,0 +1,26 @@
+use Rattle.std.proofs.Common.{◌≡◌, ◌++◌, ◌∷◌, [], map, take, drop, refl, sym, ap, ◌∙◌, subst}
+use Rattle.std.proofs.lemmas.List.{map-append, drop-map, take-map}
+use Rattle.dcv_translation.specs.Scheme.{IsOfBody}
+use Rattle.dcv_translation.proofs.machine.Machine.close.Goals as goal
+
+pub rule-requires : goal.rule-requires
+rule-requires g c κs =
+    let meaning = g.T.Translation.meaning in
+    let old = c.args.self.now.parts.items in
+    let own : drop c.args.first (map meaning old) ≡ map meaning c.in_ok-parts.parts.items =
+    drop-map meaning c.args.first old ∙ ap (map meaning) (sym c.in_ok-parts.ensures.tail) in
+    ((refl, tt), subst (IsOfBody g.T.Translation.scheme c.args.rule) own c.requires.body)
+
+pub returns-clause-parts : goal.returns-clause-parts
+returns-clause-parts g c =
+    let meaning = g.T.Translation.meaning in
+    let action = g.T.Translation.scheme.action c.args.rule in
+    let old = c.args.self.now.parts.items in
+    let first = c.args.first in
+    let own : map meaning c.in_ok-parts.parts.items ≡ drop first (map meaning old) =
+    ap (map meaning) c.in_ok-parts.ensures.tail ∙ sym (drop-map meaning first old) in
+    let before : map meaning c.split_off.new.self.items ≡ take first (map meaning old) =
+    ap (map meaning) c.in_ok-parts.ensures.items ∙ sym (take-map meaning first old) in
+    ap (map meaning) c.in_ok-push.ensures.items
+    ∙ map-append meaning c.split_off.new.self.items (c.in_ok-part.part ∷ [])
+    ∙ (λ i. before i ++ (c.in_ok-part.ensures ∙ ap action own) i ∷ [])

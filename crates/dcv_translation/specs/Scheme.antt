@@ -1,0 +1,41 @@
+-- Translation schemes: what the derivation trees of a language stand for.
+--     Scheme                        a language, what a token stands for, and the action of each rule
+--     parts_of scheme trees         what trees stand for
+--     IsOfBody scheme rule parts    the trees of a body of the rule stand for the parts
+--     StandsFor scheme text part    the text is a sentence, whose tree stands for the part
+use Rattle.std.specs.Prelude.{◌≡◌, ℕ, List, [], ◌∷◌}
+use Rattle.dcv_grammar.specs.declared.grammar.Symbol.{Symbol}
+use Rattle.dcv_grammar.specs.Grammar.{ContextFree, IsBody}
+use Rattle.dcv_grammar.specs.Trees.{Nodes, done, leaf, node, AreTrees, IsTree}
+use Rattle.dcv_lexer.specs.Lexicon.{Lexicon}
+use Rattle.dcv_lexer.specs.Cuts.{Token}
+use Rattle.dcv_observer.specs.Items.{HasItems, token_class}
+
+pub record Scheme (Part : Type 0) : Type 0 where
+  pub lexicon : Lexicon
+  pub grammar : ContextFree
+  pub of_token : Token → Part
+  -- of the rule with a number, by what the symbols of its body stand for
+  pub action : ℕ → List Part → Part
+
+-- what derivation trees stand for, from left to right
+abbrev pub parts_of : {Part : Type 0} → Scheme Part → Nodes Token → List Part
+parts_of scheme done = []
+parts_of scheme (leaf token next) = scheme.of_token token ∷ parts_of scheme next
+parts_of scheme (node rule inner next) = scheme.action rule (parts_of scheme inner) ∷ parts_of scheme next
+
+-- the parts of what one of the bodies of a rule derives
+pub record IsOfBody {Part : Type 0} (scheme : Scheme Part) (rule : ℕ) (parts : List Part) : Type 0 where
+  pub body : List Symbol
+  pub is_body : IsBody scheme.grammar rule body
+  pub trees : Nodes Token
+  pub derived : AreTrees scheme.grammar (token_class scheme.lexicon) body trees
+  pub stand : parts_of scheme trees ≡ parts
+
+-- the tokens have a derivation that stands for the part
+pub record StandsFor {Part : Type 0} (scheme : Scheme Part) (text : List ℕ) (part : Part) : Type 0 where
+  pub items : List Token
+  pub has : HasItems scheme.lexicon text items
+  pub tree : Nodes Token
+  pub is : IsTree scheme.grammar (token_class scheme.lexicon) items tree
+  pub stands : parts_of scheme tree ≡ part ∷ []

@@ -1,0 +1,178 @@
+// The machine: a reader's stack that also has the ends of the bodies that are open, and the parts that were made.
+ghost use Rattle.std.specs.Prelude.{◌≡◌, ◌^◌, ◌<◌, ◌≤◌, ◌++◌, ◌∷◌, [], List, ℕ, Some, None, length, map, take, drop, reverse, slice_get, IfOk, OnOk};
+ghost use Rattle.dcv_grammar.specs.Grammar.{grammar_of, Production};
+ghost use Rattle.dcv_grammar.specs.Picked.{body_for};
+ghost use Rattle.dcv_grammar.specs.Predictive.{IsPredictive};
+ghost use Rattle.dcv_observer.specs.Items.{IsSentenceText, token_class};
+ghost use Rattle.dcv_observer.specs.Left.{seen};
+ghost use Rattle.dcv_lexer.specs.Cuts.{Token};
+ghost use Rattle.dcv_translation.specs.Scheme.{IsOfBody, StandsFor};
+ghost use Rattle.dcv_translation.specs.UnderWay.{step_of, IsUnderWay, IsSomewhere, GoesOn, with_class};
+ghost use Rattle.dcv_translation.specs.declared.machine.Step.TheVariants.{Rule as RuleStep, Close as CloseStep};
+
+use crate::translation::Translation;
+use dcv_grammar::grammar::{ContextFree, Symbol};
+use dcv_observer::{Item, Items};
+use std::alloc::{AllocError, Global};
+
+// What is still to be done.
+#[derive(Clone, Copy, Debug)]
+pub(crate) enum Step {
+    // A token of this class is to come.
+    Class(u8),
+    // What the rule of this number derives is to come.
+    Rule(u8),
+    // A body of the rule ends, and the parts from the first one on are its own.
+    Close { rule: u8, first: usize },
+}
+
+// The last step is the next, and the last part was made last.
+#[derive(Drop)]
+pub(crate) struct Machine<'a, 't, T: Translation<'a>> {
+    translation: &'t T,
+    grammar: ContextFree<'a>,
+    steps: Vec<Step>,
+    parts: Vec<T::Part>,
+}
+
+/// What the text stands for: the part of its one derivation tree. It goes through the text once.
+pub fn translate<'a, T: Translation<'a>>(
+    alloc: Global,
+    translation: &T,
+    text: &'a [u8],
+) -> Result<T::Part, AllocError>
+    requires in_range { length text.now < 2 ^ 32 }
+    requires sentence { IsSentenceText T.scheme.lexicon T.scheme.grammar text.now }
+    ensures { IfOk result (λ part. StandsFor T.scheme text.now (T.meaning part)) }
+{
+    let mut machine = Machine::new(alloc, translation)?;
+    let mut items = Items::new(translation.lexicon(), text);
+    while let Some(item) = items.next() {
+        machine.take(item)?;
+    }
+    machine.finish()
+}
+
+impl<'a, 't, T: Translation<'a>> Machine<'a, 't, T> {
+    // The start is to come.
+    fn new(alloc: Global, translation: &'t T) -> Result<Self, AllocError>
+        ensures grammar { IfOk result (λ machine. grammar_of machine.grammar ≡ T.scheme.grammar) }
+        ensures predictive { OnOk result (IsPredictive T.scheme.grammar) }
+        ensures steps { IfOk result (λ machine. machine.steps.items ≡ RuleStep T.scheme.grammar.start ∷ []) }
+        ensures parts { IfOk result (λ machine. machine.parts.items ≡ []) }
+    {
+        let grammar = *translation.grammar();
+        let mut steps = Vec::new(alloc);
+        steps.push(Step::Rule(grammar.start))?;
+        Ok(Machine {
+            translation,
+            grammar,
+            steps,
+            parts: Vec::new(alloc),
+        })
+    }
+
+    // The next token.
+    fn take(&mut self, item: Item<'a>) -> Result<(), AllocError>
+        requires grammar { grammar_of self.old.grammar ≡ T.scheme.grammar }
+        requires predictive { IsPredictive T.scheme.grammar }
+        requires class { item.class ≡ token_class T.scheme.lexicon (seen item) }
+        requires some { (left : List Token) × (all : List T.Meaning)
+            × IsUnderWay T.scheme (reverse self.old.steps.items) (map T.meaning self.old.parts.items) (seen item ∷ left) all }
+        ensures grammar { self.new.grammar ≡ self.old.grammar }
+        ensures taken { OnOk result ((left : List Token) (all : List T.Meaning)
+            → IsUnderWay T.scheme (reverse self.old.steps.items) (map T.meaning self.old.parts.items) (seen item.entry ∷ left) all
+            → IsUnderWay T.scheme (reverse self.new.steps.items) (map T.meaning self.new.parts.items) left all) }
+    {
+        self.advance(Some(item.class))?;
+        self.parts.push(self.translation.token(item))?;
+        Ok(())
+    }
+
+    // The part of the whole, behind the last token.
+    fn finish(mut self) -> Result<T::Part, AllocError>
+        requires grammar { grammar_of self.grammar ≡ T.scheme.grammar }
+        requires predictive { IsPredictive T.scheme.grammar }
+        requires some { (whole : T.Meaning) × IsUnderWay T.scheme (reverse self.steps.items) (map T.meaning self.parts.items) [] (whole ∷ []) }
+        ensures { IfOk result (λ part. (whole : T.Meaning)
+            → IsUnderWay T.scheme (reverse self.entry.steps.items) (map T.meaning self.entry.parts.items) [] (whole ∷ []) → T.meaning part ≡ whole) }
+    {
+        self.advance(None)?;
+        let Some(part) = self.parts.pop() else {
+            unreachable!()
+        };
+        Ok(part)
+    }
+
+    // Takes steps until a class comes, which is taken off, or until there is none.
+    fn advance(&mut self, next: Option<u8>) -> Result<Option<u8>, AllocError>
+        requires grammar { grammar_of self.old.grammar ≡ T.scheme.grammar }
+        requires predictive { IsPredictive T.scheme.grammar }
+        requires some { IsSomewhere T.scheme next (reverse self.old.steps.items) (map T.meaning self.old.parts.items) }
+        ensures grammar { self.new.grammar ≡ self.old.grammar }
+        ensures goes { IfOk result (λ wanted. GoesOn T.scheme next (reverse self.old.steps.items) (map T.meaning self.old.parts.items)
+            (with_class wanted (reverse self.new.steps.items)) (map T.meaning self.new.parts.items)) }
+    {
+        while let Some(step) = self.steps.pop() {
+            match step {
+                Step::Class(class) => return Ok(Some(class)),
+                Step::Rule(number) => self.open(number, next)?,
+                Step::Close { rule, first } => self.close(rule, first)?,
+            }
+        }
+        Ok(None)
+    }
+
+    // The body of a rule that the next class picks is to come, and then its end.
+    fn open(&mut self, number: u8, next: Option<u8>) -> Result<(), AllocError>
+        requires { number < length (grammar_of self.old.grammar).productions }
+        ensures grammar { self.new.grammar ≡ self.old.grammar }
+        ensures parts { self.new.parts ≡ self.old.parts }
+        ensures steps { OnOk result ((rule : Production) → slice_get (grammar_of self.old.grammar).productions number ≡ Some rule
+            → reverse self.new.steps.items ≡ map step_of (body_for rule next)
+            ++ CloseStep number (length self.old.parts.items) ∷ reverse self.old.steps.items) }
+    {
+        self.steps.push(Step::Close {
+            rule: number,
+            first: self.parts.len(),
+        })?;
+        push_steps(&mut self.steps, self.grammar.rule(number).body_for(next))?;
+        Ok(())
+    }
+
+    // The parts from the first one on become one.
+    fn close(&mut self, rule: u8, first: usize) -> Result<(), AllocError>
+        requires first { first ≤ length self.old.parts.items }
+        requires body { IsOfBody T.scheme rule (drop first (map T.meaning self.old.parts.items)) }
+        ensures grammar { self.new.grammar ≡ self.old.grammar }
+        ensures steps { self.new.steps ≡ self.old.steps }
+        ensures parts { OnOk result (map T.meaning self.new.parts.items
+            ≡ take first (map T.meaning self.old.parts.items)
+            ++ T.scheme.action rule (drop first (map T.meaning self.old.parts.items)) ∷ []) }
+    {
+        let parts = self.parts.split_off(first)?;
+        let part = self.translation.rule(rule, parts)?;
+        self.parts.push(part)?;
+        Ok(())
+    }
+}
+
+// Pushes the steps of symbols, that of the first one last.
+fn push_steps(steps: &mut Vec<Step>, symbols: &[Symbol]) -> Result<(), AllocError>
+    ensures { OnOk result (steps.new.items ≡ steps.old.items ++ map step_of (reverse symbols.now)) }
+{
+    for symbol in symbols.iter().rev() {
+        steps.push(step_of(*symbol))?;
+    }
+    Ok(())
+}
+
+// A symbol that is to come.
+fn step_of(symbol: Symbol) -> Step
+    ensures { result ≡ step_of symbol }
+{
+    match symbol {
+        Symbol::Class(class) => Step::Class(class),
+        Symbol::Rule(number) => Step::Rule(number),
+    }
+}

@@ -1,0 +1,46 @@
+// What each rule of a grammar stands for.
+ghost use Rattle.std.specs.Prelude.{◌≡◌, map, IsTrue, IfOk};
+ghost use Rattle.dcv_grammar.specs.Grammar.{grammar_of};
+ghost use Rattle.dcv_grammar.specs.Predictive.{IsPredictive};
+ghost use Rattle.dcv_lexer.specs.Lexicon.{lexicon_of, is_orderly};
+ghost use Rattle.dcv_observer.specs.Left.{seen};
+ghost use Rattle.dcv_translation.specs.Scheme.{Scheme, IsOfBody};
+
+use dcv_grammar::grammar::ContextFree;
+use dcv_lexer::Lexicon;
+use dcv_observer::Item;
+use std::alloc::AllocError;
+
+/// A language, and what its derivation trees stand for: `scheme` has what a token stands for, and the action of each rule.
+pub trait Translation<'a> {
+    /// What a symbol stands for, in code.
+    type Part: Drop;
+
+    /// What a part is to definitions.
+    ghost Meaning: { Type 0 };
+
+    /// The language and the actions.
+    ghost scheme: { Scheme Meaning };
+
+    /// The same part, as the definitions have it.
+    ghost meaning: { Self.Part → Meaning };
+
+    /// What the language is written with.
+    fn lexicon(&self) -> &'a Lexicon<'a>
+        ensures lexicon { lexicon_of result.now ≡ scheme.lexicon }
+        ensures orderly { IsTrue (is_orderly scheme.lexicon) };
+
+    /// The grammar of the language.
+    fn grammar(&self) -> &'a ContextFree<'a>
+        ensures grammar { grammar_of result.now ≡ scheme.grammar }
+        ensures predictive { IsPredictive scheme.grammar };
+
+    /// What a token stands for.
+    fn token(&self, item: Item<'a>) -> Self::Part
+        ensures { meaning result ≡ scheme.of_token (seen item.entry) };
+
+    /// What a rule stands for, by the parts of one of its bodies.
+    fn rule(&self, rule: u8, parts: Vec<Self::Part>) -> Result<Self::Part, AllocError>
+        requires { IsOfBody scheme rule (map meaning parts.items) }
+        ensures { IfOk result (λ part. meaning part ≡ scheme.action rule (map meaning parts.items)) };
+}
