@@ -24,6 +24,11 @@ has_fault (Err found) error kinds fails is other =
     let same : found ≡ error = cc in
     some_kind kinds error (subst (HasKind kinds) same fails) other
 
+-- where words are taken there is none
+pub has_none : {T : Type 0} (result : Result T Error) (found : T) (kinds : Kinds) → FailsBy kinds result → result ≡ Ok found → kinds ≡ []
+has_none (Ok one) found kinds fails is = fails
+has_none (Err error) found kinds fails is = let wrong : Err error ≡ Ok found = is in cc
+
 -- ---- of a command that is the program's
 
 module _ (app : App) (same : app ≡ program) (words : List Text) where
@@ -36,3 +41,10 @@ module _ (app : App) (same : app ≡ program) (words : List Text) where
 
   pub not_taken : (error : Error) → (takes app words ≡ true → kind_of error ≡ OutOfMemory) → (kind_of error ≡ OutOfMemory → ⊥) → takes program words ≡ true → ⊥
   not_taken error passes other taken = other (passes (subst (λ one. takes one words ≡ true) (sym same) taken))
+
+  pub no_fault : {T : Type 0} (result : Result T Error) (found : T) → (is_simple_and_free app ≡ true → FailsBy (fault_of app words) result) → result ≡ Ok found
+      → fault_of program words ≡ []
+  no_fault result found kinds is =
+      let there : is_simple_and_free program ≡ true → FailsBy (fault_of program words) result
+      = subst (λ one. is_simple_and_free one ≡ true → FailsBy (fault_of one words) result) same kinds in
+      has_none result found (fault_of program words) (there refl) is

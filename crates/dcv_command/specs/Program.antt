@@ -36,8 +36,15 @@ subcommands =
     over_a_formula (codes "check") ∷ over_a_formula (codes "automaton") ∷ over_a_formula (codes "lustre") ∷ over_a_formula (codes "c")
     ∷ over_a_formula (codes "all") ∷ []
 
+-- without its subcommands, of which one is required
+abbrev pub bare_app : App
+bare_app = record {
+  top = record (new_shape (codes "dcvalid")) { no_binary_name = true; subcommand_required = true };
+  subs = [];
+}
+
 abbrev pub program : App
 program = record {
-  top = record (new_shape (codes "dcvalid")) { is_leaf = false; no_binary_name = true; subcommand_required = true };
+  top = record bare_app.top { is_leaf = false };
   subs = subcommands;
 }

@@ -2,7 +2,7 @@
 ghost use Rattle.std.specs.Prelude.{◌≡◌, [], false, codes, IfOk};
 ghost use Rattle.clap.specs.Words.{rule_of, app_of, new_app, with_subcommand};
 ghost use Rattle.clap.specs.declared.builder.Command.TheViews.{out-Command as fields_of};
-ghost use Rattle.dcv_command.specs.Program.{file_operand as file_rule, limit_option, over_a_formula as formula_shape, program as the_program};
+ghost use Rattle.dcv_command.specs.Program.{file_operand as file_rule, limit_option, over_a_formula as formula_shape, program as the_program, bare_app};
 
 use clap::builder::ValueParser;
 use clap::{Arg, Command};
@@ -37,41 +37,48 @@ pub(crate) const MOST_NODES: u32 = 1_000_000;
 pub(crate) fn program<'a>(alloc: Global) -> Result<Command<'a>, AllocError>
     ensures { IfOk result (λ command. app_of command ≡ the_program) }
 {
-    let command = named(alloc)?
-        .about(ABOUT)
-        .after_help(EXAMPLE_AND_STATUS)
-        .no_binary_name(true)
-        .subcommand_required(true);
-    let command = with_report(
+    let bare = bare_program(alloc)?;
+    let check = with_report(
         alloc,
-        command,
+        bare,
         "check",
         "Writes the verdict, with a shortest counterexample and a shortest example",
     )?;
-    let command = with_report(
+    let automaton = with_report(
         alloc,
-        command,
+        check,
         "automaton",
         "Writes the minimal automaton, with words that show that it is minimal",
     )?;
-    let command = with_report(
+    let lustre = with_report(
         alloc,
-        command,
+        automaton,
         "lustre",
         "Writes an observer in a flat subset of Lustre, which tells at each instant whether the behaviour so far satisfies the formula",
     )?;
-    let command = with_report(
+    let c = with_report(
         alloc,
-        command,
+        lustre,
         "c",
         "Writes such an observer in a flat subset of C",
     )?;
     with_report(
         alloc,
-        command,
+        c,
         "all",
         "Writes the verdict, the automaton and both observers, each behind a line that names it",
     )
+}
+
+// The command without its subcommands, of which one is required.
+fn bare_program<'a>(alloc: Global) -> Result<Command<'a>, AllocError>
+    ensures { IfOk result (λ command. app_of command ≡ bare_app) }
+{
+    Ok(named(alloc)?
+        .about(ABOUT)
+        .after_help(EXAMPLE_AND_STATUS)
+        .no_binary_name(true)
+        .subcommand_required(true))
 }
 
 // The command with a subcommand more, which reports on a formula file.
@@ -81,7 +88,7 @@ fn with_report<'a>(
     name: &'a str,
     about: &'a str,
 ) -> Result<Command<'a>, AllocError>
-    ensures app { IfOk result (λ more. app_of more ≡ with_subcommand (app_of command.entry) (formula_shape name.entry.now)) }
+    ensures { IfOk result (λ more. app_of more ≡ with_subcommand (app_of command.entry) (formula_shape name.entry.now)) }
 {
     command.subcommand(over_a_formula(alloc, name, about)?)
 }
