@@ -74,11 +74,13 @@ pub(crate) fn program<'a>(alloc: Global) -> Result<Command<'a>, AllocError>
 fn bare_program<'a>(alloc: Global) -> Result<Command<'a>, AllocError>
     ensures { IfOk result (λ command. app_of command ≡ bare_app) }
 {
-    Ok(named(alloc)?
-        .about(ABOUT)
-        .after_help(EXAMPLE_AND_STATUS)
-        .no_binary_name(true)
-        .subcommand_required(true))
+    Ok(
+        named(alloc)?
+            .about(ABOUT)
+            .after_help(EXAMPLE_AND_STATUS)
+            .no_binary_name(true)
+            .subcommand_required(true),
+    )
 }
 
 // The command with a subcommand more, which reports on a formula file.
