@@ -44,7 +44,9 @@ const NAMES: [(&[u8], u32); 30] = [
     ),
     // Seventeen inputs.
     (
-        b"node f(i0: bool; i1: bool; i2: bool; i3: bool; i4: bool; i5: bool; i6: bool; i7: bool; i8: bool; i9: bool; i10: bool; i11: bool; i12: bool; i13: bool; i14: bool; i15: bool; i16: bool) returns (ok: bool); let ok = i0; tel",
+        b"node f(i0: bool; i1: bool; i2: bool; i3: bool; i4: bool; i5: bool; i6: bool; i7: bool; \
+        i8: bool; i9: bool; i10: bool; i11: bool; i12: bool; i13: bool; i14: bool; i15: bool; i16: bool) \
+        returns (ok: bool); let ok = i0; tel",
         173,
     ),
     // Left sides.
@@ -178,7 +180,9 @@ const GOOD: [&[u8]; 6] = [
     b"node f(a: bool) returns (ok: bool); var x: int; let x = 00032767; ok = (x = 0) or (x = 007); tel",
     b"node wwwwwwwwwwwwwwwwwwwwwwwwwwwwwwww(a: bool) returns (ok: bool); let ok = a; tel",
     b"node f(a: bool) returns (ok: bool);\r\n\tlet ok=if a then true else if a then a else false;tel",
-    b"node f(i0: bool; i1: bool; i2: bool; i3: bool; i4: bool; i5: bool; i6: bool; i7: bool; i8: bool; i9: bool; i10: bool; i11: bool; i12: bool; i13: bool; i14: bool; i15: bool) returns (ok: bool); let ok = i15; tel",
+    b"node f(i0: bool; i1: bool; i2: bool; i3: bool; i4: bool; i5: bool; i6: bool; i7: bool; \
+        i8: bool; i9: bool; i10: bool; i11: bool; i12: bool; i13: bool; i14: bool; i15: bool) \
+        returns (ok: bool); let ok = i15; tel",
 ];
 
 // For the prover: the bound is what a text of `read` has to meet.
