@@ -23,7 +23,7 @@ chmod +x "$work/bin/rt"
 
 # The tracked files as they are, committed or not.
 mkdir "$work/clone" || exit 1
-(cd "$source" && git ls-files -z | xargs -0 cp --parents -t "$work/clone")
+(cd "$source" && git ls-files -z | xargs -0 cp -d --parents -t "$work/clone")
 clone=$work/clone
 
 # how often the program was built

@@ -1,0 +1,49 @@
+#!/usr/bin/env bash
+# Measures what observers cost, by hand: for each file the least time of so many runs (RUNS, 3 by custom) of `automaton`, `c`, `lustre` and `all`, in
+# milliseconds, start and end of the process included, the most memory that `automaton` and `all` took, in MB, the size of the C observer in kB, and what
+# gcc takes to compile it, in seconds.
+#
+#   bench/observers.sh            files that this script writes: few and many states, and many nodes
+#   bench/observers.sh FILE ..    these
+set -euo pipefail
+here=$(cd "$(dirname "$(readlink -f "${BASH_SOURCE[0]}")")" && pwd)
+program=${PROGRAM:-$here/../crates/dcvalid/out/dcvalid}
+[ -x "$program" ] || { echo "build the program first: ./dcvalid check examples/always.dc" >&2; exit 1; }
+folder=$(mktemp -d)
+trap 'rm -rf "$folder"' EXIT
+
+if [ $# -eq 0 ]; then
+  echo 'var p; infer [[p]];' >"$folder/two_states.dc"
+  echo 'infer slen <= 9999;' >"$folder/10002_states.dc"
+  echo 'var p, q; infer scount p <= 150 && scount q <= 150;' >"$folder/23000_states.dc"
+  python3 "$here/families.py" arbiter 6 4 >"$folder/arbiter_6_4.dc"
+  set -- "$folder"/*.dc
+fi
+
+# Runs a command so often, and leaves the least time (in microseconds) and the most memory (in kB) in `took` and `kept`.
+measure() {
+  took= kept=0
+  for _ in $(seq "${RUNS:-3}"); do
+    local begun=${EPOCHREALTIME/./} now memory
+    /usr/bin/time -o "$folder/.kept" -f %M "$@" >"$folder/.out" 2>/dev/null || true
+    now=$((${EPOCHREALTIME/./} - begun)) memory=$(tail -n 1 "$folder/.kept")
+    [ -n "$took" ] && [ "$took" -le "$now" ] || took=$now
+    [ "$kept" -ge "$memory" ] || kept=$memory
+  done
+}
+
+printf '%-20s %10s %8s %8s %8s   %8s %8s   %8s %8s\n' file automaton c lustre all 'MB' 'of all' 'C kB' 'gcc s'
+for file in "$@"; do
+  measure "$program" automaton "$file"
+  automaton=$took memory=$kept
+  measure "$program" lustre "$file"
+  lustre=$took
+  measure "$program" c "$file"
+  c=$took
+  cp "$folder/.out" "$folder/observer.c"
+  measure "$program" all "$file"
+  all=$took all_memory=$kept
+  RUNS=1 measure gcc -std=c99 -O1 -c -o "$folder/observer.o" "$folder/observer.c"
+  awk -v n="$(basename "$file" .dc)" -v a="$automaton" -v c="$c" -v l="$lustre" -v b="$all" -v m="$memory" -v k="$all_memory" -v s="$(stat -c %s "$folder/observer.c")" -v g="$took" \
+    'BEGIN { printf "%-20s %10.1f %8.1f %8.1f %8.1f   %8.1f %8.1f   %8.1f %8.1f\n", n, a / 1000, c / 1000, l / 1000, b / 1000, m / 1024, k / 1024, s / 1000, g / 1e6 }'
+done
