@@ -7,22 +7,22 @@
 #   bench/families.sh CASE..     these, as `bench/families.sh 'past 12'`
 #
 # What is valid for one must be valid for the other; where MONA's question takes over a minute, no quotient is told.
-# The last figures: 28 November 2026, an Intel Xeon with nothing else to do, the least of five runs.
+# The last figures: 28 November 2026, an Intel Xeon with nothing else to do, the least of seven runs.
 #
 #   case                      ms      MONA  times          MB      MONA  times  answer
-#   arbiter 5 6            186.9     228.8   0.82        17.3      42.0   0.41  not valid
-#   arbiter 6 5            951.1     691.3   1.38        46.9      81.7   0.57  not valid
-#   arbiter 8 3            905.8     479.7   1.89        40.3      82.2   0.49  not valid
-#   chain 700                4.3     354.1   0.01         1.9       5.4   0.35  not valid
-#   count 8                  3.8      30.9   0.12         1.8       5.0   0.36  not valid
-#   handshake 40            12.7      56.7   0.22         3.7       5.8   0.63  valid
-#   layers 120              20.4     133.8   0.15         2.8      12.7   0.22  not valid
-#   mixture 12              97.4      78.0   1.25        11.9      15.8   0.76  not valid
-#   past 12                 28.0      22.2   1.26         5.7       6.4   0.90  not valid
-#   quantified 8             4.0      32.2   0.13         1.8       5.2   0.35  not valid
-#   response 13            110.6     138.2   0.80        14.1      16.9   0.83  not valid
-#   separation 300           5.7     156.5   0.04         2.1       4.7   0.44  not valid
-#   geometric mean of the times: 0.304
+#   arbiter 5 6             95.4     170.4   0.56        14.8      42.1   0.35  not valid
+#   arbiter 6 5            338.3     466.0   0.73        43.2      81.7   0.53  not valid
+#   arbiter 8 3            300.0     347.4   0.86        38.6      82.1   0.47  not valid
+#   chain 700                5.6     352.0   0.02         1.9       5.4   0.36  not valid
+#   count 8                  4.9      32.1   0.15         1.9       5.0   0.37  not valid
+#   handshake 40            12.8      55.5   0.23         3.6       5.8   0.61  valid
+#   layers 120              19.9     130.5   0.15         2.8      12.7   0.22  not valid
+#   mixture 12              59.9      60.0   1.00        11.7      15.7   0.75  not valid
+#   past 12                 27.0      21.6   1.25         5.8       6.3   0.91  not valid
+#   quantified 8             4.9      31.6   0.15         1.9       5.2   0.36  not valid
+#   response 13             85.8      98.1   0.87        14.1      16.9   0.84  not valid
+#   separation 300           6.8     154.9   0.04         2.1       4.7   0.45  not valid
+#   geometric mean of the times: 0.279
 set -euo pipefail
 here=$(cd "$(dirname "$(readlink -f "${BASH_SOURCE[0]}")")" && pwd)
 program=${PROGRAM:-$here/../crates/dcvalid/out/dcvalid}
