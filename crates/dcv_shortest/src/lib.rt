@@ -4,9 +4,10 @@
 //! ```text
 //! let counterexample = shortest(alloc, &auto, false)?; // none where every word is accepted
 //! let example = shortest(alloc, &auto, true)?;
+//! let explored = shortest_in(alloc, &raw, true)?; // of an automaton that is not minimised
 //! ```
 #![tactic(auto)]
 
 mod shortest_word;
 
-pub use shortest_word::shortest;
+pub use shortest_word::{shortest, shortest_in};
