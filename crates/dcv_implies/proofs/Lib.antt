@@ -1,0 +1,5 @@
+mod Answers
+mod FaultFacts
+mod Included
+mod Least
+mod SideBySide
