@@ -1,5 +1,5 @@
 -- Answers are of sets alone, and a pair of sets has one.
-use Rattle.std.proofs.Common.{◌≡◌, ℕ, Bool, not, ◌&&◌, List, sym, subst, ◌∙◌}
+use Rattle.std.proofs.Common.{◌≡◌, ℕ, Bool, List, sym, subst, ◌∙◌}
 use Rattle.std.specs.Prelude.{◌↔◌}
 use Rattle.std.specs.Cmp.{IsTotalOrder}
 use Rattle.std.specs.declared.cmp.Ordering.TheVariants.{Equal}
@@ -13,10 +13,10 @@ use Rattle.dcv_language.proofs.Sameness.{outside_same, intersection_same}
 use Rattle.dcv_dfa.specs.Raw.{RawValue, raw_accepts}
 use Rattle.dcv_dfa.specs.Auto.{IsAuto}
 use Rattle.dcv_explore.specs.declared.explorer.Limits.{Limits}
-use Rattle.dcv_explore.specs.Budget.{Kind, Row, IsWithin}
+use Rattle.dcv_explore.specs.Budget.{Kind, IsWithin}
 use Rattle.dcv_explore.proofs.Budgets.{within_excludes_exceeding}
 use Rattle.dcv_build.specs.Budget.{IsAutomatonOf}
-use Rattle.dcv_implies.specs.Comparison.{difference, AreTablesOf, product, IsProductWithin, IsProductOver, Answer, TooMany, Least, IsAnswer, AreAlike}
+use Rattle.dcv_implies.specs.Comparison.{difference, AreTablesOf, product, IsProductWithin, IsProductOver, TooMany, Least, IsAnswer}
 use Rattle.dcv_implies.specs.Laws.{AnswerOfSameBehaviours, AnswerOfAutomata, OneAnswer}
 use Rattle.dcv_implies.proofs.Least.{least_same, one_least_of}
 

@@ -1,7 +1,6 @@
 -- A set is included in another exactly where no behaviour of it is outside the other.
-use Rattle.std.proofs.Common.{◌≡◌, ℕ, Bool, true, false, not, ◌&&◌, refl, sym, subst}
+use Rattle.std.proofs.Common.{◌≡◌, Bool, true, false, not, ◌&&◌, refl, sym}
 use Rattle.std.specs.Prelude.{IsTrue}
-use Rattle.dcv_language.specs.Language.{Language}
 use Rattle.dcv_implies.specs.Laws.{NoneWhereIncluded, IncludedBothWays}
 
 not_both : (a b : Bool) → IsTrue (not (a && not b)) → IsTrue a → IsTrue b
