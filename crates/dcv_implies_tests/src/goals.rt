@@ -34,10 +34,17 @@ fn core_of_file(alloc: Global, file: &File) -> Result<Core, Fail>
     Ok(expand(alloc, file)?)
 }
 
+// The core of a text.
+fn core_of(alloc: Global, text: &str) -> Result<Core, Fail>
+    ensures { IfOk result IsCore }
+{
+    let file = file_of(alloc, text)?;
+    core_of_file(alloc, &file)
+}
+
 // The automaton of a text.
 fn auto_of(alloc: Global, text: &str) -> Result<Auto, Fail> {
-    let file = file_of(alloc, text)?;
-    let core = core_of_file(alloc, &file)?;
+    let core = core_of(alloc, text)?;
     Ok(build(alloc, &core, LIMITS)?)
 }
 
