@@ -1,0 +1,11 @@
+mod GoodLines
+mod Certificates
+mod Landings
+mod Splits
+mod Alikes
+mod Bits
+mod Numbers
+mod Noughts
+mod Told
+mod Pairs
+mod Examples

@@ -1,0 +1,31 @@
+//! The two parts: where the access words lead, and which states the suffixes tell apart.
+ghost use Rattle.std.specs.Prelude.{IfOk};
+ghost use Rattle.dcv_certify.specs.Certified.{HasGoodWords, HasFewestStates, WhereMinimal, IsCertified};
+
+use crate::alike::first_pair;
+use crate::answer::Answer;
+use crate::laws::minimal_shows_fewest_states;
+use crate::words::first_astray;
+use dcv_automaton_read::AutoFile;
+use std::alloc::{AllocError, Global};
+
+/// Whether the words of a text show by themselves that its table has the fewest states (A. Nerode, 1958).
+///
+/// The access word of a state is followed from state 0 as its line spells it. A suffix tells two states apart where both access words,
+/// continued by it, have a letter at least, and exactly one of them is accepted.
+pub fn certify(alloc: Global, file: &AutoFile) -> Result<Answer, AllocError>
+    ensures answer { IfOk result (IsCertified file.now) }
+    ensures fewest { IfOk result (WhereMinimal (HasFewestStates file.now)) }
+    ensures reached { IfOk result (WhereMinimal (HasGoodWords file.now)) }
+{
+    minimal_shows_fewest_states();
+    // for the prover: the file keeps the table rules.
+    let _states = file.states();
+    if let Some(state) = first_astray(alloc, file)? {
+        return Ok(Answer::Access { state });
+    }
+    match first_pair(alloc, file)? {
+        Some((first, second)) => Ok(Answer::Pair { first, second }),
+        None => Ok(Answer::Minimal),
+    }
+}
