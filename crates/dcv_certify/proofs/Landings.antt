@@ -1,6 +1,6 @@
 -- Where the access words of a file lead, one after another.
 use Rattle.std.proofs.Common.{◌≡◌, ◌≢◌, ◌⊎◌, ◌&&◌, ◌||◌, inl, inr, ⊎_elim, ℕ, zero, suc, ◌+◌, ◌<◌, ◌≤◌, Bool, true, false, List, [], ◌∷◌, ◌++◌, length, map, get_or, set, All, refl, ap, sym, ◌∙◌, subst, arith}
-use Rattle.std.proofs.lemmas.Bool.{cases_lt, ltb-true}
+use Rattle.std.proofs.lemmas.Bool.{cases_lt, ltb-true, false≢true}
 use Rattle.std.proofs.lemmas.List.{length-map, length-append, length-set, get_or-map, get_or_push, get_or_append_left, get_or_default, get_or-set_same, get_or-set_other}
 use Rattle.std.proofs.lemmas.List.Elements.{All-push}
 use Rattle.std.specs.Prelude.{slice_index_or, nat_eq, nat_lt}
@@ -19,6 +19,7 @@ use Rattle.dcv_automaton_text.proofs.Kept.{both, AreKept}
 use Rattle.dcv_language.specs.declared.certificate.Access.{Access as ReadAccess}
 use Rattle.dcv_automaton_read.specs.File.{access_from, accesses_of}
 use Rattle.dcv_certify.specs.Certified.{word_at, landed}
+use Rattle.dcv_certify.specs.Alike.{is_empty_access, has_no_letters}
 use Rattle.dcv_certify.specs.Landing.{followed, GoesOnFrom, AreLanded}
 
 -- state 0's is not there yet
@@ -53,6 +54,24 @@ module _ (file : AutomatonFile) (good : IsGood file) where
       let within : before < file.states = omega (arith, is.is_state, count_of_words file (good_file file good)) in
       ap (λ state. next_in (table_of file) state letter) (known before is.not_start within letter refl)
       ∙ sym (state-append (table_of file) 0 (word_at file before) letter) ∙ sym (ap (leads_to (table_of file)) is.word_is)
+
+  -- the word of the start is empty where it is spelled so
+  pub empty_word : has_no_letters file ≡ true → word_at file 0 ≡ []
+  empty_word e = by (access_at file 0) (spelled_at 0 (good_file file good).some) e
+    where
+      by : (access : Access) → IsWordOf (access_words_of file) access (word_at file 0) → is_empty_access access ≡ true → word_at file 0 ≡ []
+      by EmptyAccess is e = is
+      by (StartAccess letter) is e = absurd (false≢true e)
+      by (AfterAccess before letter) is e = absurd (false≢true e)
+
+  pub no_letters : word_at file 0 ≡ [] → has_no_letters file ≡ true
+  no_letters empty = by (access_at file 0) (spelled_at 0 (good_file file good).some)
+    where
+      by : (access : Access) → IsWordOf (access_words_of file) access (word_at file 0) → is_empty_access access ≡ true
+      by EmptyAccess is = refl
+      by (StartAccess letter) is = absurd (let size = ap length (sym empty ∙ is) in omega arith)
+      by (AfterAccess before letter) is =
+          absurd (let size = ap length (sym empty ∙ is.word_is) in let more = length-append (get_or (access_words_of file) before []) (letter ∷ []) in omega arith)
 
   -- what the rules say of the line of a state
   pub kept_at : (state : ℕ) → state < file.states → AreKept (keeps_how_access file state (access_at file state))

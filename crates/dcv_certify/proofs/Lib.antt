@@ -1,3 +1,5 @@
+mod KeptColumns
+mod Joins
 mod GoodLines
 mod Certificates
 mod Landings
@@ -5,7 +7,6 @@ mod Splits
 mod Alikes
 mod Bits
 mod Numbers
-mod Noughts
 mod Told
 mod Pairs
 mod Examples

@@ -1,78 +1,51 @@
 -- The first two states that no suffix tells apart are the first two that are joined.
-use Rattle.std.proofs.Common.{◌≡◌, ◌≢◌, ◌⊎◌, inl, inr, ⊎_elim, ℕ, zero, suc, ◌<◌, ◌≤◌, Bool, true, false, ◌&&◌, ◌||◌, List, [], ◌∷◌, ◌++◌, length, get_or, refl, ap, sym, ◌∙◌, subst, arith}
+use Rattle.std.proofs.Common.{◌≡◌, ◌≢◌, ◌⊎◌, inl, inr, ⊎_elim, ℕ, zero, suc, ◌<◌, ◌≤◌, Bool, true, false, ◌&&◌, ◌||◌, List, [], ◌∷◌, length, refl, ap, sym, ◌∙◌, subst, arith}
 use Rattle.std.specs.Prelude.{nat_eq, Option, Some, None, IfSome, IfNone}
 use Rattle.std.specs.Cmp.{unsigned_Decides}
-use Rattle.std.proofs.lemmas.Bool.{cases_lt, cases_order, true≢false, false≢true, eq-eqb}
-use Rattle.std.proofs.lemmas.List.{length-append}
-use Rattle.dcv_automaton_text.specs.File.{Access, EmptyAccess, StartAccess, AfterAccess, AutomatonFile}
-use Rattle.dcv_automaton_text.specs.Meaning.{access_words_of}
+use Rattle.std.proofs.lemmas.Bool.{cases_lt, cases_order, true≢false}
+use Rattle.dcv_automaton_text.specs.File.{AutomatonFile}
 use Rattle.dcv_automaton_text.specs.Rules.{IsGood}
-use Rattle.dcv_automaton_text.proofs.AccessLines.{IsWordOf}
-use Rattle.dcv_automaton_text.proofs.GoodFiles.{good_file}
 use Rattle.dcv_automaton_text.proofs.Kept.{both}
-use Rattle.dcv_certify.specs.Certified.{word_at, HasGoodWords, AreTold, HasAllTold, IsPair, IsFirstPair, IsNoLaterPair}
-use Rattle.dcv_certify.specs.Joined.{joined, is_empty_access, has_no_letters, HasNoMate, HasMate, IsFirstJoined, HasNoneJoined}
+use Rattle.dcv_certify.specs.Certified.{HasGoodWords, AreTold, HasAllTold, IsPair, IsFirstPair, IsNoLaterPair}
+use Rattle.dcv_certify.specs.Joined.{joined, HasNoMate, HasMate, IsFirstJoined, HasNoneJoined}
 use Rattle.dcv_certify.specs.Numbers.{AreNumbersOf}
 use Rattle.dcv_certify.specs.Split.{number_at}
-use Rattle.dcv_certify.proofs.Landings.{access_at, spelled_at}
 use Rattle.dcv_certify.proofs.Told.{Joined, joined_not_told, told_by_numbers}
 
 module _ (file : AutomatonFile) (good : IsGood file) (words : HasGoodWords file) (numbers : List ℕ) (are : AreNumbersOf file numbers) where
-  some_states : 0 < file.states
-  some_states = (good_file file good).some
-
-  empty_word : has_no_letters file ≡ true → word_at file 0 ≡ []
-  empty_word e = by (access_at file 0) (spelled_at file good 0 some_states) e
-    where
-      by : (access : Access) → IsWordOf (access_words_of file) access (word_at file 0) → is_empty_access access ≡ true → word_at file 0 ≡ []
-      by EmptyAccess is e = is
-      by (StartAccess letter) is e = absurd (false≢true e)
-      by (AfterAccess before letter) is e = absurd (false≢true e)
-
-  no_letters : word_at file 0 ≡ [] → has_no_letters file ≡ true
-  no_letters empty = by (access_at file 0) (spelled_at file good 0 some_states)
-    where
-      by : (access : Access) → IsWordOf (access_words_of file) access (word_at file 0) → is_empty_access access ≡ true
-      by EmptyAccess is = refl
-      by (StartAccess letter) is = absurd (let size = ap length (sym empty ∙ is) in omega arith)
-      by (AfterAccess before letter) is =
-          absurd (let size = ap length (sym empty ∙ is.word_is) in let more = length-append (get_or (access_words_of file) before []) (letter ∷ []) in omega arith)
-
-  joined_is : (first second : ℕ) → joined numbers file.states (has_no_letters file) first second ≡ true → Joined file good words numbers first second
+  joined_is : (first second : ℕ) → joined numbers file.states first second ≡ true → Joined file good words numbers first second
   joined_is first second e = by (nat_eq (number_at numbers first) (number_at numbers second)) refl e
     where
-      other : (nat_eq first 0 && (has_no_letters file && nat_eq (number_at numbers file.states) (number_at numbers second))) ≡ true → Joined file good words numbers first second
+      other : (nat_eq first 0 && nat_eq (number_at numbers file.states) (number_at numbers second)) ≡ true → Joined file good words numbers first second
       other e =
-          let start = both (nat_eq first 0) (has_no_letters file && nat_eq (number_at numbers file.states) (number_at numbers second)) e in
-          let flag = both (has_no_letters file) (nat_eq (number_at numbers file.states) (number_at numbers second)) start.1 in
-          inr ((unsigned_Decides first 0).0 start.0, empty_word flag.0, (unsigned_Decides (number_at numbers file.states) (number_at numbers second)).0 flag.1)
+          let parts = both (nat_eq first 0) (nat_eq (number_at numbers file.states) (number_at numbers second)) e in
+          inr ((unsigned_Decides first 0).0 parts.0, (unsigned_Decides (number_at numbers file.states) (number_at numbers second)).0 parts.1)
       by : (b : Bool) → nat_eq (number_at numbers first) (number_at numbers second) ≡ b
-          → (b || (nat_eq first 0 && (has_no_letters file && nat_eq (number_at numbers file.states) (number_at numbers second)))) ≡ true → Joined file good words numbers first second
+          → (b || (nat_eq first 0 && nat_eq (number_at numbers file.states) (number_at numbers second))) ≡ true → Joined file good words numbers first second
       by true is e = inl ((unsigned_Decides (number_at numbers first) (number_at numbers second)).0 is)
       by false is e = other e
 
-  is_joined : (first second : ℕ) → Joined file good words numbers first second → joined numbers file.states (has_no_letters file) first second ≡ true
+  is_joined : (first second : ℕ) → Joined file good words numbers first second → joined numbers file.states first second ≡ true
   is_joined first second (inl same) =
       let first_is : nat_eq (number_at numbers first) (number_at numbers second) ≡ true = (unsigned_Decides (number_at numbers first) (number_at numbers second)).1 same in
-      ap (λ b. b || (nat_eq first 0 && (has_no_letters file && nat_eq (number_at numbers file.states) (number_at numbers second)))) first_is
-  is_joined first second (inr (start, empty, same)) =
+      ap (λ b. b || (nat_eq first 0 && nat_eq (number_at numbers file.states) (number_at numbers second))) first_is
+  is_joined first second (inr (start, same)) =
       let a = (unsigned_Decides first 0).1 start in
-      let b = no_letters empty in
       let d = (unsigned_Decides (number_at numbers file.states) (number_at numbers second)).1 same in
-      (λ i. nat_eq (number_at numbers first) (number_at numbers second) || (a i && (b i && d i))) ∙ or_true (nat_eq (number_at numbers first) (number_at numbers second))
+      (λ i. nat_eq (number_at numbers first) (number_at numbers second) || (a i && d i)) ∙ or_true (nat_eq (number_at numbers first) (number_at numbers second))
     where
       or_true : (b : Bool) → (b || true) ≡ true
       or_true true = refl
       or_true false = refl
 
-  told_where_not : (first second : ℕ) → first < second → second < file.states → joined numbers file.states (has_no_letters file) first second ≡ false → AreTold file first second
+  told_where_not : (first second : ℕ) → first < second → second < file.states → joined numbers file.states first second ≡ false → AreTold file first second
   told_where_not first second before within e =
       told_by_numbers file good words numbers are first second before within (λ is. true≢false (sym (is_joined first second is) ∙ e))
 
-  pub all_told : HasNoneJoined numbers file.states (has_no_letters file) → HasAllTold file
+  pub all_told : HasNoneJoined numbers file.states → HasAllTold file
   all_told none first second before within = told_where_not first second before within (none first (omega arith) second before within)
 
-  pub first_pair_is : (first second : ℕ) → IsFirstJoined numbers file.states (has_no_letters file) first second → IsFirstPair file first second
+  pub first_pair_is : (first second : ℕ) → IsFirstJoined numbers file.states first second → IsFirstPair file first second
   first_pair_is first second found = record {
     pair = record {
       in_order = found.mate.behind;
@@ -89,7 +62,7 @@ module _ (file : AutomatonFile) (good : IsGood file) (words : HasGoodWords file)
       by other another pair (inl same) =
           elim (cases_lt another second) [
             | inl earlier ↦ absurd (pair.not_told (told_where_not other another pair.in_order pair.is_state
-                (subst (λ n. joined numbers file.states (has_no_letters file) n another ≡ false) same
+                (subst (λ n. joined numbers file.states n another ≡ false) same
                 (found.mate.none_before another (subst (λ n. n < another) (sym same) pair.in_order) earlier))))
             | inr later ↦ inr (same, later)
           ]

@@ -1,7 +1,7 @@
 -- Classes of entries, split by a column of bits.
-use Rattle.std.proofs.Common.{◌≡◌, ◌≢◌, ◌⊎◌, inl, inr, ⊎_elim, ℕ, zero, suc, ◌+◌, ◌<◌, ◌≤◌, Bool, true, false, List, [], ◌∷◌, ◌++◌, length, get_or, set, Option, None, Some, refl, ap, sym, ◌∙◌, subst, arith}
+use Rattle.std.proofs.Common.{◌≡◌, ◌≢◌, ◌⊎◌, inl, inr, ⊎_elim, ℕ, zero, suc, ◌+◌, ◌<◌, ◌≤◌, Bool, true, false, List, [], ◌∷◌, ◌++◌, length, get_or, set, replicate, Option, None, Some, refl, ap, sym, ◌∙◌, subst, arith}
 use Rattle.std.proofs.lemmas.Bool.{cases_lt, cases_order}
-use Rattle.std.proofs.lemmas.List.{length-append, length-set, get_or_push, get_or_append_left, get_or-set_same, get_or-set_other}
+use Rattle.std.proofs.lemmas.List.{length-append, length-set, length-replicate, get_or_push, get_or_append_left, get_or_past, get_or-replicate, get_or-set_same, get_or-set_other}
 use Rattle.dcv_certify.specs.Split.{number_at, bit_at, AreOwn, IsLeastWith, IsSplit, IsFirstMoved, IsMoved, HasMoved}
 
 -- of three truths two are the same
@@ -101,15 +101,31 @@ pub record SplitSoFar (old : List ℕ) (column : List Bool) (place : ℕ) (new :
   pub each : (entry : ℕ) → entry < place → IsLeastWith old column entry (number_at new entry)
   pub has : HasMoved old column place moved
 
-pub none_moved : (old : List ℕ) (column : List Bool) → (moved : List (Option ℕ)) → length moved ≡ length old → ((class : ℕ) → get_or moved class None ≡ None)
-    → SplitSoFar old column 0 [] moved
-none_moved old column moved count none = record {
+abbrev nothing : Option ℕ
+nothing = None
+
+-- a clone of nothing is nothing
+pub only_none : (P : Option ℕ → Type 0) → ((x : ℕ) → P (Some x) → ⊥) → (y : Option ℕ) → P y → y ≡ None
+only_none P never None is = refl
+only_none P never (Some x) is = absurd (never x is)
+
+get_or-none : (count class : ℕ) → get_or (replicate count nothing) class nothing ≡ nothing
+get_or-none count class =
+    elim (cases_lt class count) [
+      | inl less ↦ get_or-replicate count class nothing nothing less
+      | inr past ↦ get_or_past (replicate count nothing) class nothing (omega (arith, past, length-replicate count nothing))
+    ]
+
+pub none_moved : (old : List ℕ) (column : List Bool) → (moved : List (Option ℕ)) → moved ≡ replicate (length old) nothing → SplitSoFar old column 0 [] moved
+none_moved old column moved is = record {
   count = refl;
   within = omega arith;
   each = λ entry before. absurd (omega arith);
   has = record {
-    count = count;
-    each = λ class within. subst (IsMoved old column 0 class) (sym (none class)) (λ entry before of_class. absurd (omega (arith, before)));
+    count = ap length is ∙ length-replicate (length old) nothing;
+    each = λ class within.
+        subst (IsMoved old column 0 class) (sym (ap (λ (all : List (Option ℕ)). get_or all class None) is ∙ get_or-none (length old) class))
+        (λ entry before of_class. absurd (omega (arith, before)));
   };
 }
 
@@ -136,25 +152,4 @@ pub all_split : (old : List ℕ) (column : List Bool) (place : ℕ) (new : List 
 all_split old column place new moved so_far done = record {
   count = omega (arith, so_far.count, so_far.within);
   each = λ entry within. so_far.each entry (omega arith);
-}
-
--- ---- nothing, so many times
-
-pub record AreNone (all : List (Option ℕ)) (count : ℕ) : Type 0 where
-  pub count_is : length all ≡ count
-  pub none : (place : ℕ) → get_or all place None ≡ None
-
-pub none_at_first : AreNone [] 0
-none_at_first = record { count_is = refl; none = λ place. refl }
-
-none_behind : (all : List (Option ℕ)) → ((place : ℕ) → get_or all place None ≡ None) → (place : ℕ) → get_or (all ++ None ∷ []) place None ≡ None
-none_behind [] are zero = refl
-none_behind [] are (suc place) = refl
-none_behind (one ∷ all) are zero = are 0
-none_behind (one ∷ all) are (suc place) = none_behind all (λ place. are (suc place)) place
-
-pub none_more : (all : List (Option ℕ)) (count : ℕ) → AreNone all count → AreNone (all ++ None ∷ []) (count + 1)
-none_more all count are = record {
-  count_is = omega (arith, length-append all (None ∷ []), are.count_is);
-  none = none_behind all are.none;
 }

@@ -1,9 +1,9 @@
 -- Which states the suffixes tell apart, by the numbers of their entries.
-use Rattle.std.proofs.Common.{◌≡◌, ◌≢◌, ◌⊎◌, inl, inr, ⊎_elim, ℕ, zero, suc, ◌+◌, ◌<◌, ◌≤◌, Bool, true, false, not, List, [], ◌∷◌, ◌++◌, length, take, fold, get_or, All, refl, ap, sym, ◌∙◌, subst, arith}
+use Rattle.std.proofs.Common.{◌≡◌, ◌≢◌, ◌⊎◌, inl, inr, ⊎_elim, ℕ, zero, suc, ◌+◌, ◌<◌, ◌≤◌, Bool, true, false, not, if◌then◌else◌, List, [], ◌∷◌, ◌++◌, length, take, fold, get_or, All, refl, ap, sym, ◌∙◌, subst, arith}
 use Rattle.std.specs.List.{IsAmong}
 use Rattle.std.specs.Cmp.{unsigned_Decides}
 use Rattle.std.proofs.lemmas.Bool.{cases_lt}
-use Rattle.std.proofs.lemmas.List.{length-append, append-nil, take_all, get_or_default}
+use Rattle.std.proofs.lemmas.List.{length-append, take_all, get_or_default, get_or_past}
 use Rattle.std.proofs.lemmas.List.Sums.{fold_more}
 use Rattle.std.proofs.lemmas.List.Elements.{All-push, All-nil}
 use Rattle.dcv_word.specs.Behaviour.{Word, IsBehaviour}
@@ -20,14 +20,13 @@ use Rattle.dcv_automaton_text.proofs.GoodFiles.{good_file}
 use Rattle.dcv_automaton_text.proofs.GoodTables.{table_has_the_files_states}
 use Rattle.dcv_automaton_text.proofs.Kept.{AreKept}
 use Rattle.dcv_certify.specs.Certified.{set_of, word_at, landed, HasGoodWords, AreTold}
-use Rattle.dcv_certify.specs.Alike.{bit, AreAlike, AreLeastAlike}
-use Rattle.dcv_certify.specs.Columns.{GoesOnBehind}
+use Rattle.dcv_certify.specs.Alike.{bit, has_no_letters, AreAlike, AreLeastAlike}
 use Rattle.dcv_certify.specs.Split.{number_at}
 use Rattle.dcv_certify.specs.Numbers.{with_suffix, words_upto, AreNumbersOf}
 use Rattle.dcv_certify.proofs.Alikes.{same_number, alike_by_number}
 use Rattle.dcv_certify.proofs.Bits.{bit_of_state, last_behind, last_empty}
-use Rattle.dcv_certify.proofs.Landings.{access_at, spelled_at, kept_at, earlier, width}
-use Rattle.dcv_certify.proofs.Numbers.{no_line, suffix_at, suffix_goes_on}
+use Rattle.dcv_certify.proofs.Landings.{access_at, spelled_at, kept_at, earlier, width, empty_word, no_letters}
+use Rattle.dcv_certify.proofs.Numbers.{GoesOnFrom, no_line, suffix_at, suffix_goes_on}
 
 from-append : (table : Table) (state : ℕ) (u w : Word) → state_from (automaton_of table) state (u ++ w) ≡ state_from (automaton_of table) (state_from (automaton_of table) state u) w
 from-append table state [] w = refl
@@ -108,7 +107,7 @@ module _ (file : AutomatonFile) (good : IsGood file) where
         ap length more ∙ omega (arith, length-append words (word ∷ []), before.1),
       )
     where
-      by : (suffix : Suffix) → GoesOnBehind file place suffix → All (Widths k) (words_upto file place) → length (words_upto file place) ≡ place → Widths k (suffix_word_of (words_upto file place) suffix)
+      by : (suffix : Suffix) → GoesOnFrom file place suffix → All (Widths k) (words_upto file place) → length (words_upto file place) ≡ place → Widths k (suffix_word_of (words_upto file place) suffix)
       by EmptySuffix goes all count = All-nil (λ (letter : List Bool). length letter ≡ k)
       by (ThenSuffix letter from) goes all count =
           Widths-cons k letter (get_or (words_upto file place) from []) goes.1 (all from [] (omega (arith, goes.0, count)))
@@ -181,20 +180,35 @@ module _ (file : AutomatonFile) (good : IsGood file) where
 
     -- ---- by numbers
 
-    -- the number of a state is that of another, or the start's word is empty and its other flag does as well
+    -- the number of a state is that of another, or that of the start with its other flag is
     abbrev pub Joined : List ℕ → ℕ → ℕ → Type 0
     Joined numbers first second =
         (number_at numbers first ≡ number_at numbers second)
-        ⊎ ((first ≡ 0) × (word_at file 0 ≡ []) × (number_at numbers file.states ≡ number_at numbers second))
+        ⊎ ((first ≡ 0) × (number_at numbers file.states ≡ number_at numbers second))
 
     module _ (numbers : List ℕ) (are : AreNumbersOf file numbers) where
-      alike_of : (one other : ℕ) → one ≤ file.states → other ≤ file.states → number_at numbers one ≡ number_at numbers other → AreAlike (table_of file) (suffix_words_of file) one other
-      alike_of one other within its same =
-          alike_by_number (table_of file) (suffix_words_of file) numbers are.least one other (omega (arith, within, are.count, size_is)) (omega (arith, its, are.count, size_is)) same
+      alike_of : (one other : ℕ) → one < length numbers → other < length numbers → number_at numbers one ≡ number_at numbers other → AreAlike (table_of file) (suffix_words_of file) one other
+      alike_of one other within its same = alike_by_number (table_of file) (suffix_words_of file) numbers are.least one other within its same
 
-      number_of_alike : (one other : ℕ) → one ≤ file.states → other ≤ file.states → AreAlike (table_of file) (suffix_words_of file) one other → number_at numbers one ≡ number_at numbers other
-      number_of_alike one other within its alike =
-          same_number (table_of file) (suffix_words_of file) numbers are.least one other (omega (arith, within, are.count, size_is)) (omega (arith, its, are.count, size_is)) alike
+      number_of_alike : (one other : ℕ) → one < length numbers → other < length numbers → AreAlike (table_of file) (suffix_words_of file) one other → number_at numbers one ≡ number_at numbers other
+      number_of_alike one other within its alike = same_number (table_of file) (suffix_words_of file) numbers are.least one other within its alike
+
+      is_entry : (state : ℕ) → state < file.states → state < length numbers
+      is_entry state within = omega (arith, within, are.count)
+
+      -- the start stands a second time where its word is empty
+      stands_twice : word_at file 0 ≡ [] → file.states < length numbers
+      stands_twice empty =
+          let count : length numbers ≡ file.states + 1 = are.count ∙ ap (λ (b : Bool). file.states + (if b then 1 else 0)) (no_letters file good empty) in
+          omega arith
+
+      -- and else it has its own number there, that of itself
+      stands_once : has_no_letters file ≡ false → number_at numbers file.states ≡ number_at numbers 0
+      stands_once e =
+          let count : length numbers ≡ file.states + 0 = are.count ∙ ap (λ (b : Bool). file.states + (if b then 1 else 0)) e in
+          let first : number_at numbers 0 ≤ 0 = (are.least.each 0 (is_entry 0 (good_file file good).some)).no_later in
+          let past : number_at numbers file.states ≡ 0 = get_or_past numbers file.states 0 (omega arith) in
+          omega arith
 
       -- of a suffix with a letter, the other flag says the same
       other_flag : (suffix : Word) → 0 < length suffix → bit (table_of file) file.states suffix ≡ bit (table_of file) 0 suffix
@@ -202,17 +216,25 @@ module _ (file : AutomatonFile) (good : IsGood file) where
       other_flag (letter ∷ word) some =
           ap (λ n. bit (table_of file) n (letter ∷ word)) (sym size_is) ∙ last_behind (table_of file) letter word (let n = size_is in let some_states = (good_file file good).some in omega arith)
 
+      same_not_told : (first second : ℕ) → first < second → second < file.states → number_at numbers first ≡ number_at numbers second → ¬ AreTold file first second
+      same_not_told first second before within same told =
+          let at = told_at first second (omega arith) within told in
+          at.differ (alike_of first second (is_entry first (omega arith)) (is_entry second within) same at.place [] at.inside)
+
       pub joined_not_told : (first second : ℕ) → first < second → second < file.states → Joined numbers first second → ¬ AreTold file first second
-      joined_not_told first second before within (inl same) told =
-          let at = told_at first second (omega arith) within told in
-          at.differ (alike_of first second (omega arith) (omega arith) same at.place [] at.inside)
-      joined_not_told first second before within (inr (start, empty, same)) told =
-          let at = told_at first second (omega arith) within told in
-          let suffix = get_or (suffix_words_of file) at.place [] in
-          let letters : 0 < length suffix = subst (λ w. 0 < length (w ++ suffix)) (ap (word_at file) start ∙ empty) at.some in
-          at.differ
-          (ap (λ n. bit (table_of file) n suffix) start ∙ sym (other_flag suffix letters)
-          ∙ alike_of file.states second (omega arith) (omega arith) same at.place [] at.inside)
+      joined_not_told first second before within (inl same) = same_not_told first second before within same
+      joined_not_told first second before within (inr (start, same)) = by (has_no_letters file) refl
+        where
+          by : (b : Bool) → has_no_letters file ≡ b → ¬ AreTold file first second
+          by false e = same_not_told first second before within (ap (number_at numbers) start ∙ sym (stands_once e) ∙ same)
+          by true e = λ told.
+              let empty = empty_word file good e in
+              let at = told_at first second (omega arith) within told in
+              let suffix = get_or (suffix_words_of file) at.place [] in
+              let letters : 0 < length suffix = subst (λ w. 0 < length (w ++ suffix)) (ap (word_at file) start ∙ empty) at.some in
+              at.differ
+              (ap (λ n. bit (table_of file) n suffix) start ∙ sym (other_flag suffix letters)
+              ∙ alike_of file.states second (stands_twice empty) (is_entry second within) same at.place [] at.inside)
 
       longer : (state : ℕ) (suffix : Word) → 0 < length (word_at file state) → 0 < length (word_at file state ++ suffix)
       longer state suffix some = omega (arith, some, length-append (word_at file state) suffix)
@@ -279,12 +301,12 @@ module _ (file : AutomatonFile) (good : IsGood file) where
       told_by_numbers first second before within apart = by (word_at file first) refl first refl
         where
           not_alike : ¬ AreAlike (table_of file) (suffix_words_of file) first second
-          not_alike alike = apart (inl (number_of_alike first second (omega arith) (omega arith) alike))
+          not_alike alike = apart (inl (number_of_alike first second (is_entry first (omega arith)) (is_entry second within) alike))
           by : (word : Word) → word_at file first ≡ word → (state : ℕ) → first ≡ state → AreTold file first second
           by (letter ∷ word) e state is = told_where_some first second before within (omega (arith, ap length e)) not_alike
           by [] e zero is =
               subst (λ n. AreTold file n second) (sym is)
               (told_from_start second (omega arith) within
               (subst (λ n. ¬ AreAlike (table_of file) (suffix_words_of file) n second) is not_alike)
-              (λ alike. apart (inr (is, sym (ap (word_at file) is) ∙ e, number_of_alike file.states second (omega arith) (omega arith) alike))))
+              (λ alike. apart (inr (is, number_of_alike file.states second (stands_twice (sym (ap (word_at file) is) ∙ e)) (is_entry second within) alike))))
           by [] e (suc state) is = absurd (omega (arith, ap length e, some_letters first (omega (arith, is)) (omega arith)))

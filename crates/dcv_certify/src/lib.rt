@@ -14,6 +14,7 @@ mod alike;
 mod answer;
 mod certifier;
 mod columns;
+mod joined;
 pub mod laws;
 mod split;
 mod words;

@@ -1,17 +1,17 @@
-// Classes of entries are split by a column of bits. The number of an entry is the least entry of its class.
-ghost use Rattle.std.specs.Prelude.{◌≡◌, ◌+◌, ◌<◌, ◌^◌, length, None, slice_index_or, ℕ, IfOk};
+//! Classes of entries, split by a column of bits. The number of an entry is the least entry of its class.
+ghost use Rattle.std.specs.Prelude.{◌≤◌, ◌+◌, ◌<◌, ◌^◌, length, IfOk};
 ghost use Rattle.dcv_certify.specs.Split.{AreOwn, IsLeastWith, IsSplit, HasMoved};
 
 use std::alloc::{AllocError, Global};
 
-/// The numbers of the entries where those of one class with other bits are apart.
+// The numbers of the entries where those of one class with other bits are apart.
 pub(crate) fn split(alloc: Global, old: &[u32], column: &[bool]) -> Result<Vec<u32>, AllocError>
-    requires count { length column.now ≡ length old.now }
+    requires count { length old.now ≤ length column.now }
     requires own { AreOwn old.now }
     requires few { length old.now < 2 ^ 32 }
     ensures { IfOk result (λ new. IsSplit old.now column.now new.items) }
 {
-    let mut moved = none(alloc, old.len())?;
+    let mut moved = vec![in alloc; None; old.len()]?;
     let mut new = Vec::new(alloc);
     for entry in 0..old.len() {
         let number = number(old, column, &mut moved, entry as u32);
@@ -20,21 +20,9 @@ pub(crate) fn split(alloc: Global, old: &[u32], column: &[bool]) -> Result<Vec<u
     Ok(new)
 }
 
-// Nothing, so many times.
-fn none(alloc: Global, count: usize) -> Result<Vec<Option<u32>>, AllocError>
-    ensures count { IfOk result (λ all. length all.items ≡ count) }
-    ensures none { IfOk result (λ all. (place : ℕ) → slice_index_or all.items place None ≡ None) }
-{
-    let mut all = Vec::new(alloc);
-    for _place in 0..count {
-        all.push(None)?;
-    }
-    Ok(all)
-}
-
 // The number of an entry: that of its class where it has the bit of that, and else the first that has left the class.
 fn number(old: &[u32], column: &[bool], moved: &mut Vec<Option<u32>>, entry: u32) -> u32
-    requires count { length column.now ≡ length old.now }
+    requires count { length old.now ≤ length column.now }
     requires own { AreOwn old.now }
     requires entry { entry < length old.now }
     requires moved { HasMoved old.now column.now entry moved.old.items }

@@ -1,7 +1,7 @@
 use Rattle.std.proofs.Common.{◌≡◌, ◌<◌, ◌∙◌, sym, ap, arith, length}
 use Rattle.dcv_automaton_text.proofs.GoodFiles.{good_file}
 use Rattle.dcv_automaton_read.specs.File.{access_from}
-use Rattle.dcv_certify.specs.Joined.{is_empty_access}
+use Rattle.dcv_certify.specs.Alike.{is_empty_access}
 use Rattle.dcv_certify.proofs.Landings.{read_at, length_read}
 use Rattle.dcv_certify.proofs.alike.starts_with_no_letters.Goals as goal
 

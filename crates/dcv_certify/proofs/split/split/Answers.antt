@@ -1,12 +1,13 @@
 use Rattle.std.proofs.Common.{◌≡◌, ◌+◌, sym, subst, subst₂, length}
 use Rattle.dcv_certify.specs.Split.{HasMoved}
-use Rattle.dcv_certify.proofs.Splits.{SplitSoFar, none_moved, one_more_split, all_split}
+use Rattle.dcv_certify.proofs.Splits.{SplitSoFar, only_none, none_moved, one_more_split, all_split}
 use Rattle.dcv_certify.proofs.split.split.Goals as goal
 
 pub loop-entry-init : goal.loop-entry-init
 loop-entry-init c =
+    let moved = c.in_ok-moved.ensures.items_if_clones_equal (only_none _ (λ x is. is)) in
     subst (λ new. SplitSoFar c.args.old.now c.args.column.now 0 new c.in_ok-moved.moved.items) (sym c.new-new.ensures.items)
-    (none_moved c.args.old.now c.args.column.now c.in_ok-moved.moved.items c.in_ok-moved.ensures.count c.in_ok-moved.ensures.none)
+    (none_moved c.args.old.now c.args.column.now c.in_ok-moved.moved.items moved)
 
 pub loop-entry-preserved : goal.loop-entry-preserved
 loop-entry-preserved c =
