@@ -1,3 +1,6 @@
+mod OwnWords
+mod Building
+mod BuiltSets
 mod KeptColumns
 mod Joins
 mod GoodLines

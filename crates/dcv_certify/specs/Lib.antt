@@ -8,3 +8,4 @@ pub mod Split
 pub mod Columns
 pub mod Numbers
 pub mod Joined
+pub mod Built

@@ -1,10 +1,11 @@
-//! The two parts: where the access words lead, and which states the suffixes tell apart.
+//! The parts: where the access words lead, whether the words are the program's own, and else which states the suffixes tell apart.
 ghost use Rattle.std.specs.Prelude.{IfOk};
 ghost use Rattle.dcv_certify.specs.Certified.{HasGoodWords, HasFewestStates, WhereMinimal, IsCertified};
 
 use crate::alike::first_pair;
 use crate::answer::Answer;
 use crate::laws::minimal_shows_fewest_states;
+use crate::own::lists_own_words;
 use crate::words::first_astray;
 use dcv_automaton_read::AutoFile;
 use std::alloc::{AllocError, Global};
@@ -23,6 +24,9 @@ pub fn certify(alloc: Global, file: &AutoFile) -> Result<Answer, AllocError>
     let _states = file.states();
     if let Some(state) = first_astray(alloc, file)? {
         return Ok(Answer::Access { state });
+    }
+    if lists_own_words(alloc, file)? {
+        return Ok(Answer::Minimal);
     }
     match first_pair(alloc, file)? {
         Some((first, second)) => Ok(Answer::Pair { first, second }),

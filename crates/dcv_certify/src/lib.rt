@@ -12,10 +12,12 @@
 
 mod alike;
 mod answer;
+mod built;
 mod certifier;
 mod columns;
 mod joined;
 pub mod laws;
+mod own;
 mod split;
 mod words;
 
