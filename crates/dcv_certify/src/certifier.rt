@@ -1,6 +1,6 @@
 //! The parts: where the access words lead, whether the words are the program's own, and else which states the suffixes tell apart.
-ghost use Rattle.std.specs.Prelude.{IfOk};
-ghost use Rattle.dcv_certify.specs.Certified.{HasGoodWords, HasFewestStates, WhereMinimal, IsCertified};
+ghost use Rattle.std.specs.Prelude.{IfOk, IfSome, IfNone};
+ghost use Rattle.dcv_certify.specs.Certified.{HasGoodWords, HasAllTold, HasFewestStates, IsFirstPair, WhereMinimal, IsCertified};
 
 use crate::alike::first_pair;
 use crate::answer::Answer;
@@ -25,11 +25,20 @@ pub fn certify(alloc: Global, file: &AutoFile) -> Result<Answer, AllocError>
     if let Some(state) = first_astray(alloc, file)? {
         return Ok(Answer::Access { state });
     }
-    if lists_own_words(alloc, file)? {
-        return Ok(Answer::Minimal);
-    }
-    match first_pair(alloc, file)? {
+    match first_untold(alloc, file)? {
         Some((first, second)) => Ok(Answer::Pair { first, second }),
         None => Ok(Answer::Minimal),
     }
+}
+
+// The first two states that no suffix tells apart. There are none where the words are the program's own.
+fn first_untold(alloc: Global, file: &AutoFile) -> Result<Option<(u32, u32)>, AllocError>
+    requires { HasGoodWords file.now }
+    ensures some { IfOk result (λ found. IfSome found (λ pair. IsFirstPair file.now pair.0 pair.1)) }
+    ensures none { IfOk result (λ found. IfNone found (HasAllTold file.now)) }
+{
+    if lists_own_words(alloc, file)? {
+        return Ok(None);
+    }
+    first_pair(alloc, file)
 }
