@@ -1,12 +1,12 @@
 -- Entries that no suffix so far tells apart.
-use Rattle.std.proofs.Common.{◌≡◌, ◌≢◌, ◌⊎◌, inl, inr, ⊎_elim, ℕ, zero, suc, ◌+◌, ◌<◌, ◌≤◌, Bool, true, false, List, [], ◌∷◌, ◌++◌, length, get_or, All, refl, ap, sym, ◌∙◌, subst, arith}
-use Rattle.std.proofs.lemmas.Bool.{cases_lt, cases_order}
+use Rattle.std.proofs.Common.{◌≡◌, inl, inr, ℕ, ◌<◌, Bool, List, [], ◌∷◌, ◌++◌, length, refl, sym, ◌∙◌, subst, arith}
+use Rattle.std.proofs.lemmas.Bool.{cases_order}
 use Rattle.std.proofs.lemmas.List.{length-append, get_or_push, get_or_append_left}
-use Rattle.std.proofs.lemmas.List.Elements.{All-push, All-nil}
+use Rattle.std.proofs.lemmas.List.Elements.{All-push}
 use Rattle.dcv_word.specs.Behaviour.{Word}
 use Rattle.dcv_language.specs.Table.{Table}
 use Rattle.dcv_certify.specs.Alike.{bit, AreAlike, IsLeastAlike, AreLeastAlike}
-use Rattle.dcv_certify.specs.Split.{number_at, bit_at, AreOwn, IsLeastWith, IsSplit}
+use Rattle.dcv_certify.specs.Split.{number_at, bit_at, AreOwn, IsSplit}
 
 module _ (table : Table) (suffixes : List Word) where
   alike_sym : (one other : ℕ) → AreAlike table suffixes one other → AreAlike table suffixes other one
@@ -53,10 +53,12 @@ split_more table suffixes word old new column bits are split = record { each = �
     front one other alike = λ i d h.
         let here = get_or_append_left suffixes (word ∷ []) d i h in
         subst (λ suffix. bit table one suffix ≡ bit table other suffix) here (alike i d (omega (arith, h, length-append suffixes (word ∷ []))))
+
     last : (one other : ℕ) → AreAlike table (suffixes ++ word ∷ []) one other → bit table one word ≡ bit table other word
     last one other alike =
         subst (λ suffix. bit table one suffix ≡ bit table other suffix) (get_or_push suffixes word [] (length suffixes) refl)
         (alike (length suffixes) [] (omega (arith, length-append suffixes (word ∷ []))))
+
     by : (entry : ℕ) → entry < length old → IsLeastAlike table (suffixes ++ word ∷ []) entry (number_at new entry)
     by entry within =
         let least = split.each entry within in

@@ -1,8 +1,8 @@
 -- The refs of the nodes of a file, one after another.
-use Rattle.std.proofs.Common.{◌≡◌, ◌≢◌, ◌⊎◌, inl, inr, ℕ, zero, suc, ◌+◌, ◌<◌, ◌≤◌, Bool, true, false, if◌then◌else◌, List, [], ◌∷◌, ◌++◌, length, get_or, refl, ap, sym, ◌∙◌, subst, arith}
+use Rattle.std.proofs.Common.{◌≡◌, ◌⊎◌, inl, inr, ℕ, ◌+◌, ◌<◌, ◌≤◌, Bool, true, false, if◌then◌else◌, List, [], ◌∷◌, ◌++◌, length, get_or, refl, ap, sym, ◌∙◌, subst, arith}
 use Rattle.std.proofs.lemmas.Bool.{cases_lt, ltb-true, and_parts}
 use Rattle.std.proofs.lemmas.List.{length-append, length-map, get_or-map, get_or_push, get_or_append_left, get_or_default}
-use Rattle.std.specs.Prelude.{nat_lt, map}
+use Rattle.std.specs.Prelude.{nat_lt}
 use Rattle.dcv_arena.specs.Arena.{ArenaValue, IsArena, IsRef, KeepsRefs, level_of, value_of}
 use Rattle.dcv_arena.specs.declared.nodes.Ref.{Ref}
 use Rattle.dcv_arena.specs.declared.nodes.Ref.TheVariants.{Leaf}
@@ -11,7 +11,7 @@ use Rattle.dcv_automaton_text.specs.Rules.{slot_of, slot_of_node, keeps_child}
 use Rattle.dcv_automaton_text.proofs.GoodFiles.{good_file}
 use Rattle.dcv_automaton_read.specs.File.{IsRead}
 use Rattle.dcv_automaton_read.specs.Seen.{child_of, node_of}
-use Rattle.dcv_automaton_read.specs.Walk.{child_at, leaf_at, leaves_of, IsEarlier, AreOrdered}
+use Rattle.dcv_automaton_read.specs.Walk.{leaf_at, leaves_of, IsEarlier}
 use Rattle.dcv_automaton_read.specs.declared.nodes.Child.{Child}
 use Rattle.dcv_automaton_read.specs.declared.nodes.Child.TheVariants.{State, Node as AtNode}
 use Rattle.dcv_automaton_read.specs.declared.nodes.Node.{Node}
@@ -126,12 +126,14 @@ module _ (width : ℕ) (nodes : List Node) where
         a : (place : ℕ) → place < count + 1 → (place < count) ⊎ (count ≤ place) → IsRef new (at place)
         a place before (inl less) = subst (IsRef new) (front place less) (kept.refs (get_or refs place (Leaf 0)) (so_far.refs_are place less))
         a place before (inr more) = let same : count ≡ place = omega arith in subst (λ n. IsRef new (at n)) same (subst (IsRef new) last is_ref)
+
         b : (place : ℕ) → place < count + 1 → (place < count) ⊎ (count ≤ place) → slot_at nodes place ≤ level_of new (at place)
         b place before (inl less) =
             subst (λ ref. slot_at nodes place ≤ level_of new ref) (front place less)
             (subst (λ level. slot_at nodes place ≤ level) (sym (kept.levels (get_or refs place (Leaf 0)) (so_far.refs_are place less))) (so_far.levels place less))
         b place before (inr more) =
             let same : count ≡ place = omega arith in subst (λ n. slot_at nodes n ≤ level_of new (at n)) same (subst (λ ref. slot_at nodes count ≤ level_of new ref) last level)
+
         c : (place : ℕ) (letter : List Bool) → place < count + 1 → (place < count) ⊎ (count ≤ place) → value_of new (at place) letter ≡ leaf_at (leaves_of letter nodes) (AtNode place)
         c place letter before (inl less) =
             ap (λ ref. value_of new ref letter) (sym (front place less)) ∙ kept.values (get_or refs place (Leaf 0)) letter (so_far.refs_are place less) ∙ so_far.values place letter less

@@ -1,24 +1,24 @@
 -- The automaton that is made of a file accepts what the table of the file accepts.
-use Rattle.std.proofs.Common.{◌≡◌, ◌≢◌, ℕ, zero, suc, ◌+◌, ◌<◌, ◌≤◌, Bool, false, List, [], ◌∷◌, length, map, get_or, All, refl, ap, sym, ◌∙◌, subst, arith}
+use Rattle.std.proofs.Common.{◌≡◌, ℕ, suc, ◌<◌, Bool, false, List, [], ◌∷◌, length, map, get_or, All, refl, ap, sym, ◌∙◌, subst, arith}
 use Rattle.std.specs.List.{enumerate_from}
 use Rattle.std.proofs.lemmas.List.{length-map, get_or-map}
 use Rattle.std.proofs.lemmas.List.FromFn.{length-enumerate_from}
-use Rattle.dcv_word.specs.Behaviour.{Word, IsBehaviour}
+use Rattle.dcv_word.specs.Behaviour.{Word}
 use Rattle.dcv_word.specs.Laws.{LetterStandsAtItsBits}
 use Rattle.dcv_arena.specs.Arena.{ArenaValue, IsRef}
 use Rattle.dcv_arena.specs.declared.nodes.Ref.{Ref}
 use Rattle.dcv_arena.specs.declared.nodes.Ref.TheVariants.{Leaf}
-use Rattle.dcv_language.specs.Automaton.{state_from, accepts_from}
+use Rattle.dcv_language.specs.Automaton.{state_from}
 use Rattle.dcv_language.specs.Language.{HaveSameBehaviours}
-use Rattle.dcv_language.specs.Table.{Table, TableState, IsTable, automaton_of, is_accepting, next_in}
+use Rattle.dcv_language.specs.Table.{TableState, IsTable, automaton_of, is_accepting, next_in}
 use Rattle.dcv_language.proofs.Bounds.{next-below}
-use Rattle.dcv_dfa.specs.Raw.{RawValue, raw_value, IsRaw, LeadsBelow, row_of, raw_accepts, automaton_of as raw_automaton, next_in as raw_next, is_accepting as raw_accepting}
+use Rattle.dcv_dfa.specs.Raw.{RawValue, raw_value, IsRaw, raw_accepts, automaton_of as raw_automaton, next_in as raw_next, is_accepting as raw_accepting}
 use Rattle.dcv_automaton_text.specs.File.{AutomatonFile}
 use Rattle.dcv_automaton_text.specs.Meaning.{table_of}
 use Rattle.dcv_automaton_text.proofs.GoodFiles.{good_file}
 use Rattle.dcv_automaton_text.proofs.GoodTables.{length-table_of, table_has_the_files_states}
 use Rattle.dcv_automaton_read.specs.File.{IsRead, state_line}
-use Rattle.dcv_automaton_read.specs.Walk.{leaf_at, leaves_of, IsEarlier}
+use Rattle.dcv_automaton_read.specs.Walk.{IsEarlier}
 use Rattle.dcv_automaton_read.specs.declared.nodes.Child.TheVariants.{State}
 use Rattle.dcv_automaton_read.specs.declared.nodes.Node.{Node}
 use Rattle.dcv_automaton_read.specs.declared.file.Row.{Row}

@@ -1,5 +1,5 @@
 -- What is said of a file is determined, and what it shows.
-use Rattle.std.proofs.Common.{◌≡◌, ◌≢◌, ◌⊎◌, inl, inr, ⊎_elim, ℕ, ◌<◌, ◌≤◌, List, [], ◌∷◌, ◌++◌, length, get_or, refl, ap, sym, ◌∙◌, subst, subst₂, arith}
+use Rattle.std.proofs.Common.{◌≡◌, inl, inr, ℕ, ◌<◌, ◌≤◌, [], ◌++◌, length, refl, ap, sym, ◌∙◌, subst, subst₂, arith}
 use Rattle.std.proofs.lemmas.Bool.{cases_order}
 use Rattle.std.proofs.lemmas.List.{get_or_default}
 use Rattle.dcv_word.specs.Behaviour.{Word}
@@ -12,9 +12,8 @@ use Rattle.dcv_automaton_text.specs.Meaning.{table_of, access_words_of, suffix_w
 use Rattle.dcv_automaton_text.specs.Rules.{IsGood}
 use Rattle.dcv_automaton_text.proofs.GoodFiles.{good_file}
 use Rattle.dcv_certify.proofs.GoodLines.{count_of_words}
-use Rattle.dcv_certify.specs.declared.answer.Answer.{Answer}
 use Rattle.dcv_certify.specs.declared.answer.Answer.TheVariants.{Minimal, Access, Pair}
-use Rattle.dcv_certify.specs.Certified.{set_of, word_at, landed, HasGoodWords, IsFirstAstray, AreTold, IsPair, IsFirstPair, IsNoLaterPair, HasAllTold, IsCertified}
+use Rattle.dcv_certify.specs.Certified.{set_of, word_at, HasGoodWords, IsFirstAstray, AreTold, IsPair, IsNoLaterPair, HasAllTold}
 use Rattle.dcv_certify.specs.Laws.{OneAnswer, MinimalShowsFewestStates, MinimalReachesEachState, PrintedIsCertified}
 
 -- ---- one answer
@@ -60,10 +59,10 @@ minimal_shows_fewest_states bound file good minimal table is_table exact =
     subst (λ n. n ≤ length table) count
     (bound (length file.names) (set_of file) (access_words_of file) table
     (λ i j d before within.
-        let told : AreTold file i j = minimal.1 i j before (omega (arith, count)) in
-        let one = get_or_default (access_words_of file) i [] d (omega arith) in
-        let two = get_or_default (access_words_of file) j [] d within in
-        subst₂ (AreApart (length file.names) (set_of file)) one two (record { suffix = told.suffix; tells = told.tells }))
+    let told : AreTold file i j = minimal.1 i j before (omega (arith, count)) in
+    let one = get_or_default (access_words_of file) i [] d (omega arith) in
+    let two = get_or_default (access_words_of file) j [] d within in
+    subst₂ (AreApart (length file.names) (set_of file)) one two (record { suffix = told.suffix; tells = told.tells }))
     is_table exact)
 
 pub minimal_reaches_each_state : MinimalReachesEachState
@@ -91,9 +90,8 @@ certificate_tells_all file L good same certificate first second before within =
     }
 
 pub printed_is_certified : AccessWordsLead → PrintedIsCertified
-printed_is_certified lead L file good canonical certificate =
-    (
-      λ state within.
-          lead (length file.names) L (table_of file) (access_words_of file) state canonical (omega (arith, count_of_words file (good_file file good), canonical.words)),
-      certificate_tells_all file L good canonical.exact certificate,
-    )
+printed_is_certified lead L file good canonical certificate = (
+  λ state within.
+      lead (length file.names) L (table_of file) (access_words_of file) state canonical (omega (arith, count_of_words file (good_file file good), canonical.words)),
+  certificate_tells_all file L good canonical.exact certificate,
+)

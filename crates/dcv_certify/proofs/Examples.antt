@@ -1,15 +1,9 @@
 -- Worked examples: what is said of small texts, by computing. The first is that of the words of one letter, in which the variable is true.
-use Rattle.std.proofs.Common.{◌≡◌, ◌≢◌, ℕ, zero, suc, ◌<◌, Bool, true, false, List, [], ◌∷◌, ◌++◌, length, refl, ap, sym, ◌∙◌, subst, arith}
-use Rattle.std.proofs.lemmas.Bool.{true≢false, false≢true}
+use Rattle.std.proofs.Common.{◌≡◌, Bool, true, false, List, [], ◌∷◌, refl}
 use Rattle.std.specs.Prelude.{codes}
-use Rattle.std.specs.List.{IsAmong}
-use Rattle.dcv_word.specs.Behaviour.{Word, IsBehaviour}
-use Rattle.dcv_language.specs.Table.{leads_to, table_accepts}
-use Rattle.dcv_language.specs.Apart.{TellsApart}
-use Rattle.dcv_automaton_text.specs.File.{ToState, ToNode, NodeLine, StateLine, Access as AccessWord, EmptyAccess, StartAccess, AfterAccess, AccessLine, Suffix, EmptySuffix, ThenSuffix, SuffixLine, AutomatonFile}
-use Rattle.dcv_automaton_text.specs.Meaning.{states_at, table_of, access_words_of, suffix_words_of}
-use Rattle.dcv_certify.specs.declared.answer.Answer.TheVariants.{Minimal, Access, Pair}
-use Rattle.dcv_certify.specs.Certified.{set_of, word_at, landed, AreTold, IsPair, IsCertified}
+use Rattle.dcv_automaton_text.specs.File.{ToState, ToNode, Access as AccessWord, EmptyAccess, StartAccess, EmptySuffix, ThenSuffix, SuffixLine, AutomatonFile}
+use Rattle.dcv_automaton_text.specs.Meaning.{states_at, table_of, access_words_of}
+use Rattle.dcv_certify.specs.Certified.{set_of, landed}
 
 abbrev O : List Bool
 O = false ∷ []

@@ -1,12 +1,12 @@
 -- The first two states that are joined, by the entries that have the number of another.
-use Rattle.std.proofs.Common.{◌≡◌, ◌≢◌, ◌⊎◌, inl, inr, ⊎_elim, ℕ, zero, suc, ◌<◌, ◌≤◌, Bool, true, false, ◌&&◌, ◌||◌, List, length, take, refl, ap, sym, ◌∙◌, subst, arith, Option, None, Some}
+use Rattle.std.proofs.Common.{◌≡◌, ◌≢◌, ◌⊎◌, inl, inr, ⊎_elim, ℕ, ◌<◌, ◌≤◌, Bool, true, false, ◌&&◌, ◌||◌, List, length, take, refl, ap, sym, ◌∙◌, subst, arith, Option, None, Some}
 use Rattle.std.specs.Prelude.{nat_eq, IfSome, IfNone}
 use Rattle.std.specs.Cmp.{unsigned_Decides}
-use Rattle.std.proofs.lemmas.Bool.{cases_order, true≢false, false≢true}
+use Rattle.std.proofs.lemmas.Bool.{cases_order, true≢false}
 use Rattle.std.proofs.lemmas.List.{length-take, get_or-take}
 use Rattle.dcv_automaton_text.proofs.Kept.{both}
 use Rattle.dcv_certify.specs.Certified.{IsNoLaterPair}
-use Rattle.dcv_certify.specs.Joined.{joined, HasMate, HasNoMate, IsFirstJoined, HasNoneJoined, AreOwnBefore, IsLeastPair, IsLeastOther}
+use Rattle.dcv_certify.specs.Joined.{joined, HasNoMate, IsFirstJoined, HasNoneJoined, AreOwnBefore, IsLeastPair, IsLeastOther}
 use Rattle.dcv_certify.specs.Split.{number_at, AreOwn}
 
 not_true : (b : Bool) → (b ≡ true → ⊥) → b ≡ false
@@ -63,6 +63,7 @@ module _ (numbers : List ℕ) (states : ℕ) (within : states ≤ length numbers
       where
         not_later : number_at numbers second ≤ second
         not_later = own.no_later second (omega (arith, is.is_entry, within))
+
         behind : first < second
         behind = by_order (cases_order first second)
           where
@@ -70,8 +71,10 @@ module _ (numbers : List ℕ) (states : ℕ) (within : states ≤ length numbers
             by_order (inl e) = absurd (is.other e)
             by_order (inr (inl less)) = less
             by_order (inr (inr more)) = absurd (omega (arith, more, not_later, is.number))
+
         same : number_at numbers first ≡ number_at numbers second
         same = ap (number_at numbers) (sym is.number) ∙ own.own second (omega (arith, is.is_entry, within))
+
         later_first : 0 < first
         later_first = by_zero (cases_order 0 first)
           where
@@ -80,12 +83,14 @@ module _ (numbers : List ℕ) (states : ℕ) (within : states ≤ length numbers
                 absurd (true≢false (sym (joined_same numbers states 0 second (ap (number_at numbers) e ∙ same)) ∙ none second (omega (arith, behind)) is.is_entry))
             by_zero (inr (inl less)) = less
             by_zero (inr (inr more)) = absurd (omega (arith, more))
+
         no_earlier : (other : ℕ) → first < other → other < second → number_at numbers first ≡ number_at numbers other → ⊥
         no_earlier other later before e =
             ⊎_elim
             (λ less. omega (arith, less, same, e, is.number))
             (λ rest. omega (arith, rest.1, before))
             (is.least other (omega (arith, before, is.is_entry)) (differs first other later (omega (arith, before, is.is_entry)) e))
+
         none_earlier : (other another : ℕ) → 0 < other → other < first → other < another → another < states → number_at numbers other ≡ number_at numbers another → ⊥
         none_earlier other another later before behind_it inside e =
             let low : number_at numbers other ≤ other = own.no_later other (omega arith) in
@@ -93,6 +98,7 @@ module _ (numbers : List ℕ) (states : ℕ) (within : states ≤ length numbers
             (λ less. omega (arith, less, e, low, before))
             (λ rest. omega (arith, rest.0, e, low, before))
             (is.least another inside (differs other another behind_it inside e))
+
         by : (other : ℕ) → other < first → (another : ℕ) → other < another → another < states → (0 ≡ other) ⊎ ((0 < other) ⊎ (other < 0)) → joined numbers states other another ≡ false
         by other before another behind_it inside (inl start) =
             subst (λ n. joined numbers states n another ≡ false) start (none another (omega (arith, behind_it)) inside)

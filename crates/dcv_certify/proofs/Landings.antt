@@ -1,9 +1,9 @@
 -- Where the access words of a file lead, one after another.
-use Rattle.std.proofs.Common.{◌≡◌, ◌≢◌, ◌⊎◌, ◌&&◌, ◌||◌, inl, inr, ⊎_elim, ℕ, zero, suc, ◌+◌, ◌<◌, ◌≤◌, Bool, true, false, List, [], ◌∷◌, ◌++◌, length, map, get_or, set, All, refl, ap, sym, ◌∙◌, subst, arith}
+use Rattle.std.proofs.Common.{◌≡◌, ◌⊎◌, ◌&&◌, ◌||◌, inl, inr, ⊎_elim, ℕ, zero, suc, ◌+◌, ◌<◌, ◌≤◌, Bool, true, false, List, [], ◌∷◌, ◌++◌, length, map, get_or, set, All, refl, ap, sym, ◌∙◌, subst, arith}
 use Rattle.std.proofs.lemmas.Bool.{cases_lt, ltb-true, false≢true}
-use Rattle.std.proofs.lemmas.List.{length-map, length-append, length-set, get_or-map, get_or_push, get_or_append_left, get_or_default, get_or-set_same, get_or-set_other}
+use Rattle.std.proofs.lemmas.List.{length-map, length-append, length-set, get_or-map, get_or_push, get_or_append_left, get_or-set_same, get_or-set_other}
 use Rattle.std.proofs.lemmas.List.Elements.{All-push}
-use Rattle.std.specs.Prelude.{slice_index_or, nat_eq, nat_lt}
+use Rattle.std.specs.Prelude.{nat_eq, nat_lt}
 use Rattle.std.specs.Cmp.{unsigned_Decides}
 use Rattle.dcv_word.specs.Behaviour.{Word}
 use Rattle.dcv_language.specs.Automaton.{state_from}
@@ -12,9 +12,9 @@ use Rattle.dcv_language.proofs.Bounds.{leads_to-below}
 use Rattle.dcv_automaton_text.specs.File.{Access, EmptyAccess, StartAccess, AfterAccess, AccessLine, AutomatonFile}
 use Rattle.dcv_automaton_text.specs.Meaning.{table_of, access_words_of}
 use Rattle.dcv_automaton_text.specs.Rules.{has_width, goes_before, keeps_how_access, IsGood}
-use Rattle.dcv_automaton_text.proofs.AccessLines.{IsAfter, IsWordOf, lines_spell}
+use Rattle.dcv_automaton_text.proofs.AccessLines.{IsWordOf, lines_spell}
 use Rattle.dcv_certify.proofs.GoodLines.{count_of_words}
-use Rattle.dcv_automaton_text.proofs.GoodFiles.{IsGoodFile, good_file}
+use Rattle.dcv_automaton_text.proofs.GoodFiles.{good_file}
 use Rattle.dcv_automaton_text.proofs.Kept.{both, AreKept}
 use Rattle.dcv_language.specs.declared.certificate.Access.{Access as ReadAccess}
 use Rattle.dcv_automaton_read.specs.File.{access_from, accesses_of}

@@ -1,5 +1,5 @@
 -- The numbers of the entries, one suffix after another.
-use Rattle.std.proofs.Common.{◌≡◌, ◌≢◌, ◌⊎◌, inl, inr, ⊎_elim, ℕ, zero, suc, ◌+◌, ◌<◌, ◌≤◌, Bool, true, false, if◌then◌else◌, List, [], ◌∷◌, ◌++◌, length, map, take, drop, fold, get_or, replicate, Vec, refl, ap, sym, ◌∙◌, subst, arith}
+use Rattle.std.proofs.Common.{◌≡◌, ◌⊎◌, inl, inr, ℕ, ◌+◌, ◌<◌, ◌≤◌, Bool, true, false, if◌then◌else◌, List, [], ◌∷◌, ◌++◌, length, map, take, drop, fold, get_or, replicate, Vec, refl, ap, sym, ◌∙◌, subst, arith}
 use Rattle.std.specs.Prelude.{nat_lt}
 use Rattle.std.specs.Cmp.{unsigned_Decides}
 use Rattle.std.proofs.lemmas.Bool.{cases_lt, ltb-true}
@@ -135,7 +135,7 @@ module _ (file : AutomatonFile) (good : IsGood file) where
         let inside : place < length file.suffix_lines = omega (arith, within, length_read_suffixes read same) in
         let here : suffix_at file place ≡ suffix_from suffix = sym (read_suffix read Empty same place within) ∙ ap suffix_from is in
         let longer : words_upto file (place + 1) ≡ words ++ word ∷ [] =
-            fold_more with_suffix [] file.suffix_lines place no_line inside ∙ ap (λ (one : Suffix). words ++ suffix_word_of words one ∷ []) here in
+        fold_more with_suffix [] file.suffix_lines place no_line inside ∙ ap (λ (one : Suffix). words ++ suffix_word_of words one ∷ []) here in
         record {
           size = ap length longer ∙ omega (arith, length-append words (word ∷ []), so_far.size);
           within = omega arith;
@@ -201,7 +201,7 @@ unfolding suffix_words_of
 alike_by_first file place one other alike k d within =
     let lines = file.suffix_lines in
     let split : fold with_suffix [] lines ≡ fold with_suffix (words_upto file place) (drop place lines) =
-        ap (fold with_suffix []) (sym (take-append-drop place lines)) ∙ fold_in_two (take place lines) (drop place lines) [] in
+    ap (fold with_suffix []) (sym (take-append-drop place lines)) ∙ fold_in_two (take place lines) (drop place lines) [] in
     let there = words_stay (drop place lines) (words_upto file place) k d within in
     let word : get_or (fold with_suffix [] lines) k d ≡ get_or (words_upto file place) k d = ap (λ (words : List Word). get_or words k d) split ∙ there.1 in
     subst (λ suffix. bit (table_of file) one suffix ≡ bit (table_of file) other suffix) word (alike k d (omega (arith, there.0, ap length split)))

@@ -6,7 +6,7 @@ use Rattle.std.specs.Cmp.{unsigned_Decides, booleans_Decides}
 use Rattle.std.specs.Cmp.Lexicographic.{pointwise, pointwise_decides}
 use Rattle.std.proofs.lemmas.Bool.{false≢true}
 use Rattle.dcv_word.specs.Behaviour.{Word}
-use Rattle.dcv_language.specs.Language.{Language, HaveSameBehaviours}
+use Rattle.dcv_language.specs.Language.{HaveSameBehaviours}
 use Rattle.dcv_language.specs.Certificate.{IsCertificate}
 use Rattle.dcv_language.specs.declared.certificate.Access.{Access as CodeAccess}
 use Rattle.dcv_language.specs.declared.certificate.Access.TheVariants.{Empty as NoLetters, Start, After}
@@ -17,7 +17,7 @@ use Rattle.dcv_language.specs.contracts.certificate.SuffixPartialEq.TheImpl.{eq-
 use Rattle.dcv_automaton_text.proofs.Kept.{both}
 use Rattle.dcv_dfa.specs.Raw.{RawValue, raw_accepts}
 use Rattle.dcv_certificate.specs.Proof.{suffix_word, suffix_words, IsSpelled, AreSpelled, IsProof}
-use Rattle.dcv_automaton_text.specs.File.{Access, AccessLine, Suffix, SuffixLine, AutomatonFile}
+use Rattle.dcv_automaton_text.specs.File.{Access, Suffix, SuffixLine, AutomatonFile}
 use Rattle.dcv_automaton_text.specs.Meaning.{access_word_of, access_words_from, access_words_of, suffix_word_of, suffix_words_of}
 use Rattle.dcv_automaton_text.specs.Rules.{IsGood}
 use Rattle.dcv_automaton_read.specs.File.{access_from, suffix_from, accesses_of, suffixes_of}

@@ -1,5 +1,5 @@
 -- The first two states that no suffix tells apart are the first two that are joined.
-use Rattle.std.proofs.Common.{◌≡◌, ◌≢◌, ◌⊎◌, inl, inr, ⊎_elim, ℕ, zero, suc, ◌<◌, ◌≤◌, Bool, true, false, ◌&&◌, ◌||◌, List, [], ◌∷◌, length, refl, ap, sym, ◌∙◌, subst, arith}
+use Rattle.std.proofs.Common.{◌≡◌, ◌⊎◌, inl, inr, ℕ, ◌<◌, Bool, true, false, ◌&&◌, ◌||◌, List, refl, ap, sym, ◌∙◌, subst, arith}
 use Rattle.std.specs.Prelude.{nat_eq, Option, Some, None, IfSome, IfNone}
 use Rattle.std.specs.Cmp.{unsigned_Decides}
 use Rattle.std.proofs.lemmas.Bool.{cases_lt, cases_order, true≢false}
@@ -7,7 +7,7 @@ use Rattle.dcv_automaton_text.specs.File.{AutomatonFile}
 use Rattle.dcv_automaton_text.specs.Rules.{IsGood}
 use Rattle.dcv_automaton_text.proofs.Kept.{both}
 use Rattle.dcv_certify.specs.Certified.{HasGoodWords, AreTold, HasAllTold, IsPair, IsFirstPair, IsNoLaterPair}
-use Rattle.dcv_certify.specs.Joined.{joined, HasNoMate, HasMate, IsFirstJoined, HasNoneJoined}
+use Rattle.dcv_certify.specs.Joined.{joined, IsFirstJoined, HasNoneJoined}
 use Rattle.dcv_certify.specs.Numbers.{AreNumbersOf}
 use Rattle.dcv_certify.specs.Split.{number_at}
 use Rattle.dcv_certify.proofs.Told.{Joined, joined_not_told, told_by_numbers}
@@ -20,6 +20,7 @@ module _ (file : AutomatonFile) (good : IsGood file) (words : HasGoodWords file)
       other e =
           let parts = both (nat_eq first 0) (nat_eq (number_at numbers file.states) (number_at numbers second)) e in
           inr ((unsigned_Decides first 0).0 parts.0, (unsigned_Decides (number_at numbers file.states) (number_at numbers second)).0 parts.1)
+
       by : (b : Bool) → nat_eq (number_at numbers first) (number_at numbers second) ≡ b
           → (b || (nat_eq first 0 && nat_eq (number_at numbers file.states) (number_at numbers second))) ≡ true → Joined file good words numbers first second
       by true is e = inl ((unsigned_Decides (number_at numbers first) (number_at numbers second)).0 is)

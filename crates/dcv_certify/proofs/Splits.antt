@@ -1,5 +1,5 @@
 -- Classes of entries, split by a column of bits.
-use Rattle.std.proofs.Common.{◌≡◌, ◌≢◌, ◌⊎◌, inl, inr, ⊎_elim, ℕ, zero, suc, ◌+◌, ◌<◌, ◌≤◌, Bool, true, false, List, [], ◌∷◌, ◌++◌, length, get_or, set, replicate, Option, None, Some, refl, ap, sym, ◌∙◌, subst, arith}
+use Rattle.std.proofs.Common.{◌≡◌, ◌≢◌, ◌⊎◌, inl, inr, ⊎_elim, ℕ, ◌+◌, ◌<◌, ◌≤◌, Bool, true, false, List, [], ◌∷◌, ◌++◌, length, get_or, set, replicate, Option, None, Some, refl, ap, sym, ◌∙◌, subst, arith}
 use Rattle.std.proofs.lemmas.Bool.{cases_lt, cases_order}
 use Rattle.std.proofs.lemmas.List.{length-append, length-set, length-replicate, get_or_push, get_or_append_left, get_or_past, get_or-replicate, get_or-set_same, get_or-set_other}
 use Rattle.dcv_certify.specs.Split.{number_at, bit_at, AreOwn, IsLeastWith, IsSplit, IsFirstMoved, IsMoved, HasMoved}
@@ -73,16 +73,20 @@ module _ (old : List ℕ) (column : List Bool) (own : AreOwn old) where
     where
       mine_within : number_at old entry < length old
       mine_within = omega (arith, own.no_later entry inside, inside)
+
       none_so_far : IsMoved old column entry (number_at old entry) None
       none_so_far = subst (IsMoved old column entry (number_at old entry)) none (has.each (number_at old entry) mine_within)
+
       first : IsFirstMoved old column (entry + 1) (number_at old entry) entry
       first = record { before = omega arith; of_class = refl; leaves = leaves; none_before = none_so_far }
+
       others : (class : ℕ) → class < length old → class ≢ number_at old entry → (one : Option ℕ) → get_or moved class None ≡ one → IsMoved old column (entry + 1) class one
       others class within other (Some first) e = later entry class first (subst (IsMoved old column entry class) e (has.each class within))
       others class within other None e = λ place before of_class. elim (cases_lt place entry) [
         | inl less ↦ (subst (IsMoved old column entry class) e (has.each class within)) place less of_class
         | inr more ↦ absurd (let same : place ≡ entry = omega arith in other (sym of_class ∙ ap (number_at old) same))
       ]
+
       by : (class : ℕ) → class < length old → (class ≡ number_at old entry) ⊎ ((class < number_at old entry) ⊎ (number_at old entry < class))
           → IsMoved old column (entry + 1) class (get_or (set moved (number_at old entry) (Some entry)) class None)
       by class within (inl same) =

@@ -1,26 +1,23 @@
 -- Which states the suffixes tell apart, by the numbers of their entries.
-use Rattle.std.proofs.Common.{◌≡◌, ◌≢◌, ◌⊎◌, inl, inr, ⊎_elim, ℕ, zero, suc, ◌+◌, ◌<◌, ◌≤◌, Bool, true, false, not, if◌then◌else◌, List, [], ◌∷◌, ◌++◌, length, take, fold, get_or, All, refl, ap, sym, ◌∙◌, subst, arith}
-use Rattle.std.specs.List.{IsAmong}
+use Rattle.std.proofs.Common.{◌≡◌, ◌≢◌, ◌⊎◌, inl, inr, ℕ, zero, suc, ◌+◌, ◌<◌, ◌≤◌, Bool, true, false, not, if◌then◌else◌, List, [], ◌∷◌, ◌++◌, length, take, fold, get_or, All, refl, ap, sym, ◌∙◌, subst, arith}
 use Rattle.std.specs.Cmp.{unsigned_Decides}
-use Rattle.std.proofs.lemmas.Bool.{cases_lt}
 use Rattle.std.proofs.lemmas.List.{length-append, take_all, get_or_default, get_or_past}
 use Rattle.std.proofs.lemmas.List.Sums.{fold_more}
 use Rattle.std.proofs.lemmas.List.Elements.{All-push, All-nil}
 use Rattle.dcv_word.specs.Behaviour.{Word, IsBehaviour}
 use Rattle.dcv_language.specs.Automaton.{state_from, accepts_from}
-use Rattle.dcv_language.specs.Table.{Table, automaton_of, leads_to, table_accepts}
-use Rattle.dcv_language.specs.Certificate.{AreToldBy}
+use Rattle.dcv_language.specs.Table.{Table, automaton_of, table_accepts}
 use Rattle.dcv_language.proofs.Behaviours.{Widths, Widths-append, Widths-cons, one_letter}
 use Rattle.dcv_automaton_text.specs.File.{Access, EmptyAccess, StartAccess, AfterAccess, Suffix, EmptySuffix, ThenSuffix, SuffixLine, AutomatonFile}
 use Rattle.dcv_automaton_text.specs.Meaning.{table_of, access_words_of, suffix_word_of, suffix_words_of}
-use Rattle.dcv_automaton_text.specs.Rules.{has_width, goes_before, keeps_how_access, IsGood}
-use Rattle.dcv_automaton_text.proofs.AccessLines.{IsAfter, IsWordOf}
+use Rattle.dcv_automaton_text.specs.Rules.{keeps_how_access, IsGood}
+use Rattle.dcv_automaton_text.proofs.AccessLines.{IsWordOf}
 use Rattle.dcv_certify.proofs.GoodLines.{count_of_words}
 use Rattle.dcv_automaton_text.proofs.GoodFiles.{good_file}
 use Rattle.dcv_automaton_text.proofs.GoodTables.{table_has_the_files_states}
 use Rattle.dcv_automaton_text.proofs.Kept.{AreKept}
-use Rattle.dcv_certify.specs.Certified.{set_of, word_at, landed, HasGoodWords, AreTold}
-use Rattle.dcv_certify.specs.Alike.{bit, has_no_letters, AreAlike, AreLeastAlike}
+use Rattle.dcv_certify.specs.Certified.{set_of, word_at, HasGoodWords, AreTold}
+use Rattle.dcv_certify.specs.Alike.{bit, has_no_letters, AreAlike}
 use Rattle.dcv_certify.specs.Split.{number_at}
 use Rattle.dcv_certify.specs.Numbers.{with_suffix, words_upto, AreNumbersOf}
 use Rattle.dcv_certify.proofs.Alikes.{same_number, alike_by_number}
@@ -49,12 +46,15 @@ differ_or_alike table (word ∷ suffixes) one other =
   where
     rest : DifferAt table suffixes one other → DifferAt table (word ∷ suffixes) one other
     rest at = record { place = suc at.place; within = omega (arith, at.within); differ = at.differ }
+
     alike : bit table one word ≡ bit table other word → AreAlike table suffixes one other → AreAlike table (word ∷ suffixes) one other
     alike e are zero d h = e
     alike e are (suc i) d h = are i d (omega (arith, h))
+
     same : bit table one word ≡ bit table other word → DifferAt table suffixes one other ⊎ AreAlike table suffixes one other → DifferAt table (word ∷ suffixes) one other ⊎ AreAlike table (word ∷ suffixes) one other
     same e (inl at) = inl (rest at)
     same e (inr are) = inr (alike e are)
+
     by : (a b : Bool) → bit table one word ≡ a → bit table other word ≡ b → DifferAt table suffixes one other ⊎ AreAlike table suffixes one other
         → DifferAt table (word ∷ suffixes) one other ⊎ AreAlike table (word ∷ suffixes) one other
     by true true e f more = same (e ∙ sym f) more
@@ -101,8 +101,7 @@ module _ (file : AutomatonFile) (good : IsGood file) where
       let words = words_upto file place in
       let word = suffix_word_of words (suffix_at file place) in
       let next : place + 1 ≡ suc place = omega arith in
-      let more : words_upto file (suc place) ≡ words ++ word ∷ [] = ap (words_upto file) (sym next) ∙ fold_more with_suffix [] file.suffix_lines place no_line (omega arith) in
-      (
+      let more : words_upto file (suc place) ≡ words ++ word ∷ [] = ap (words_upto file) (sym next) ∙ fold_more with_suffix [] file.suffix_lines place no_line (omega arith) in (
         subst (All (Widths k)) (sym more) (All-push (Widths k) words word before.0 (by (suffix_at file place) (suffix_goes_on file good place (omega arith)) before.0 before.1)),
         ap length more ∙ omega (arith, length-append words (word ∷ []), before.1),
       )
@@ -273,20 +272,25 @@ module _ (file : AutomatonFile) (good : IsGood file) where
           at_letters place inside some differ =
               told_by 0 second place (omega arith) within inside (longer_suffix 0 (get_or (suffix_words_of file) place []) some)
               (longer_suffix second (get_or (suffix_words_of file) place []) some) differ
+
           both_flags : (a b : Bool) → a ≢ b → not a ≢ b → ⊥
           both_flags true true f g = f refl
           both_flags true false f g = g refl
           both_flags false true f g = g refl
           both_flags false false f g = f refl
+
           last_flag : bit (table_of file) file.states [] ≡ not (bit (table_of file) 0 [])
           last_flag = ap (λ n. bit (table_of file) n []) (sym size_is) ∙ last_empty (table_of file) (let n = size_is in omega arith)
+
           second_case : (word : Word) → (0 < length word → AreTold file 0 second) → bit (table_of file) 0 [] ≢ bit (table_of file) second [] → bit (table_of file) file.states word ≢ bit (table_of file) second word → AreTold file 0 second
           second_case [] go one two = absurd (both_flags (bit (table_of file) 0 []) (bit (table_of file) second []) one (λ e. two (last_flag ∙ e)))
           second_case (letter ∷ word) go one two = go (omega arith)
+
           first_case : (word : Word) → (0 < length word → AreTold file 0 second) → bit (table_of file) 0 word ≢ bit (table_of file) second word
               → (bit (table_of file) 0 [] ≢ bit (table_of file) second [] → AreTold file 0 second) → AreTold file 0 second
           first_case [] go one more = more one
           first_case (letter ∷ word) go one more = go (omega arith)
+
           by : DifferAt (table_of file) (suffix_words_of file) 0 second ⊎ AreAlike (table_of file) (suffix_words_of file) 0 second
               → DifferAt (table_of file) (suffix_words_of file) file.states second ⊎ AreAlike (table_of file) (suffix_words_of file) file.states second → AreTold file 0 second
           by (inr alike) other = absurd (apart alike)
@@ -302,6 +306,7 @@ module _ (file : AutomatonFile) (good : IsGood file) where
         where
           not_alike : ¬ AreAlike (table_of file) (suffix_words_of file) first second
           not_alike alike = apart (inl (number_of_alike first second (is_entry first (omega arith)) (is_entry second within) alike))
+
           by : (word : Word) → word_at file first ≡ word → (state : ℕ) → first ≡ state → AreTold file first second
           by (letter ∷ word) e state is = told_where_some first second before within (omega (arith, ap length e)) not_alike
           by [] e zero is =

@@ -10,7 +10,7 @@ use Rattle.std.specs.List.{All}
 use Rattle.dcv_word.specs.Behaviour.{Word}
 use Rattle.dcv_language.specs.Automaton.{accepts_from}
 use Rattle.dcv_language.specs.Table.{Table, is_accepting, automaton_of}
-use Rattle.dcv_automaton_text.specs.File.{Access, EmptyAccess, StartAccess, AfterAccess, AccessLine, AutomatonFile}
+use Rattle.dcv_automaton_text.specs.File.{Access, EmptyAccess, StartAccess, AfterAccess, AutomatonFile}
 
 -- from the start, with its flag turned
 abbrev pub turned_bit : Table → Word → Bool

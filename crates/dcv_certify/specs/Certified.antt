@@ -10,7 +10,7 @@
 --     IsCertified file answer        the answer is that of the file
 --     HasFewestStates file           each table automaton that accepts the same behaviours has as many states or more
 --     WhereMinimal fact answer       a fact that such an answer shows
-use Rattle.std.specs.Prelude.{◌≡◌, ◌≢◌, ◌⊎◌, ℕ, ◌<◌, ◌≤◌, List, length}
+use Rattle.std.specs.Prelude.{◌≡◌, ◌≢◌, ◌⊎◌, ℕ, ◌<◌, ◌≤◌, length}
 use Rattle.dcv_word.specs.Behaviour.{Word}
 use Rattle.dcv_language.specs.Language.{Language}
 use Rattle.dcv_language.specs.Table.{Table, IsTable, leads_to, table_accepts, AcceptsExactly}

@@ -5,7 +5,7 @@
 --     AreAllOwn numbers                           each entry has its own number
 --     IsLeastOther numbers count found            of the first entries with the number of another the one whose number is least, and which is
 --                                                 itself the least of these
-use Rattle.std.specs.Prelude.{◌≡◌, ◌≢◌, ◌⊎◌, ℕ, ◌<◌, ◌≤◌, Bool, true, false, ◌&&◌, ◌||◌, nat_eq, List, length, Option, None, Some, slice_index_or, IsTrue, IsFalse}
+use Rattle.std.specs.Prelude.{◌≡◌, ◌≢◌, ℕ, ◌<◌, Bool, ◌&&◌, ◌||◌, nat_eq, List, length, Option, None, Some, IsTrue, IsFalse}
 use Rattle.dcv_certify.specs.Certified.{IsNoLaterPair}
 use Rattle.dcv_certify.specs.Split.{number_at}
 

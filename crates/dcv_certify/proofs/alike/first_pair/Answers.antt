@@ -1,4 +1,4 @@
-use Rattle.std.proofs.Common.{◌≡◌, ◌≤◌, ◌+◌, ℕ, List, sym, ap, subst, arith, length}
+use Rattle.std.proofs.Common.{ℕ, sym, ap, subst, arith, length}
 use Rattle.dcv_certify.specs.Certified.{IsFirstPair, HasAllTold}
 use Rattle.dcv_certify.specs.Joined.{IsFirstJoined, HasNoneJoined}
 use Rattle.dcv_certify.specs.Numbers.{AreNumbersOf}

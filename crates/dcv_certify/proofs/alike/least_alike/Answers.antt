@@ -1,14 +1,14 @@
-use Rattle.std.proofs.Common.{◌≡◌, ◌<◌, ◌≤◌, ◌+◌, ◌∙◌, ◌∷◌, ◌++◌, [], suc, List, ℕ, sym, ap, subst, subst₂, arith, length, get_or, replicate}
+use Rattle.std.proofs.Common.{◌≡◌, ◌+◌, ◌∙◌, ◌∷◌, ◌++◌, [], List, ℕ, sym, ap, subst, subst₂, arith, length, get_or}
 use Rattle.std.proofs.lemmas.List.{get_or_default}
 use Rattle.dcv_language.specs.declared.certificate.Suffix.TheVariants.{Empty}
 use Rattle.dcv_automaton_text.specs.Meaning.{table_of, suffix_word_of}
 use Rattle.dcv_automaton_text.proofs.GoodTables.{table_has_the_files_states}
 use Rattle.dcv_automaton_read.specs.File.{suffix_from}
 use Rattle.dcv_certify.specs.Split.{AreOwn, IsSplit}
-use Rattle.dcv_certify.specs.Columns.{GoesOnBehind, IsBehindColumn, IsColumn, HasColumns, AreLasts}
+use Rattle.dcv_certify.specs.Columns.{GoesOnBehind, IsBehindColumn, IsColumn, HasColumns}
 use Rattle.dcv_certify.specs.Joined.{AreAllOwn}
 use Rattle.dcv_certify.specs.Numbers.{words_upto}
-use Rattle.dcv_certify.proofs.Numbers.{AlikeSoFar, noughts, read_go_on, length_read_suffixes, first_alike, goes_on_next, behind_next, goes_before, more_alike, own_so_far, entries_few, few_entries, all_numbers, own_numbers}
+use Rattle.dcv_certify.proofs.Numbers.{noughts, read_go_on, length_read_suffixes, first_alike, goes_on_next, behind_next, goes_before, more_alike, own_so_far, entries_few, few_entries, all_numbers, own_numbers}
 use Rattle.dcv_certify.proofs.alike.least_alike.Goals as goal
 use Rattle.dcv_certify.proofs.alike.least_alike.Goals.{After-suffix-item, In_ok-column, After-release}
 
@@ -49,8 +49,15 @@ made c is =
 pub split-requires-clause-count : goal.split-requires-clause-count
 split-requires-clause-count c =
     let column = made (goal.at.split-requires-clause-count c).In_ok-column (here (goal.at.split-requires-clause-count c).After-suffix-item) in
-    omega (arith, column.count, c.loop-suffix.invariant.count, entries_few c.args.file.now, table_has_the_files_states c.args.file.now c.states-states.ensures.good,
-    ap length c.deref-in-loop-suffix-2.ensures.value, ap length c.deref-in-loop-suffix-3.ensures.value)
+    omega (
+      arith,
+      column.count,
+      c.loop-suffix.invariant.count,
+      entries_few c.args.file.now,
+      table_has_the_files_states c.args.file.now c.states-states.ensures.good,
+      ap length c.deref-in-loop-suffix-2.ensures.value,
+      ap length c.deref-in-loop-suffix-3.ensures.value,
+    )
 
 pub split-requires-clause-own : goal.split-requires-clause-own
 split-requires-clause-own c =
@@ -96,11 +103,11 @@ loop-suffix-preserved c =
     let is = here (goal.at.loop-suffix-preserved c).After-suffix-item in
     let column = made (goal.at.loop-suffix-preserved c).In_ok-column is in
     let split : IsSplit c.loop-suffix.numbers.items c.in_ok-column.column.items c.in_ok-numbers-2.numbers.items =
-        subst₂ (λ (old : List ℕ) column. IsSplit old column c.in_ok-numbers-2.numbers.items) c.deref-in-loop-suffix-2.ensures.value c.deref-in-loop-suffix-3.ensures.value c.in_ok-numbers-2.ensures in
+    subst₂ (λ (old : List ℕ) column. IsSplit old column c.in_ok-numbers-2.numbers.items) c.deref-in-loop-suffix-2.ensures.value c.deref-in-loop-suffix-3.ensures.value c.in_ok-numbers-2.ensures in
     let has = subst (λ lasts. HasColumns table lasts words (length words + 1) c.release.new.columns.items) (sym c.deref-in-loop-suffix-5.ensures.value)
-        (released (goal.at.loop-suffix-preserved c).After-release) in
+    (released (goal.at.loop-suffix-preserved c).After-release) in
     let kept = subst (λ lasts. HasColumns table lasts (words ++ word ∷ []) (length words + 1) c.keep.new.columns.items) c.deref-in-loop-suffix-5.ensures.value
-        (c.in_ok-keep.ensures table words word has column) in
+    (c.in_ok-keep.ensures table words word has column) in
     more_alike file c.states-states.ensures.good c.suffixes-suffixes.result.now c.suffixes-suffixes.ensures c.in_ok-lasts.lasts.items c.in_ok-lasts.ensures
     c.loop-suffix.suffix-index c.loop-suffix.columns.items c.keep.new.columns.items c.loop-suffix.numbers.items c.in_ok-numbers-2.numbers.items c.suffix-item.result
     c.in_ok-column.column.items c.loop-suffix-test.true is c.loop-suffix.invariant column split kept

@@ -1,4 +1,4 @@
-use Rattle.std.proofs.Common.{◌≡◌, ◌<◌, ◌∙◌, sym, ap, arith, length}
+use Rattle.std.proofs.Common.{◌∙◌, ap, arith}
 use Rattle.dcv_automaton_text.proofs.GoodFiles.{good_file}
 use Rattle.dcv_automaton_read.specs.File.{access_from}
 use Rattle.dcv_certify.specs.Alike.{is_empty_access}

@@ -1,13 +1,12 @@
 use Rattle.std.specs.Prelude.{slice_index_or}
-use Rattle.std.proofs.Common.{◌≡◌, ◌<◌, ◌≤◌, ◌∙◌, length, map, sym, ap, subst, subst₂, arith}
+use Rattle.std.proofs.Common.{◌≡◌, ◌∙◌, length, map, sym, ap, subst, arith}
 use Rattle.dcv_dfa.specs.Raw.{raw_value, IsRaw, raw_accepts}
 use Rattle.dcv_automaton_text.proofs.GoodFiles.{good_file}
 use Rattle.dcv_automaton_read.specs.Walk.{IsEarlier}
 use Rattle.dcv_automaton_read.specs.declared.file.Row.{Row}
 use Rattle.dcv_certify.specs.Built.{ref_at, AreNodes, StandFor}
-use Rattle.dcv_certify.specs.Certified.{set_of}
 use Rattle.dcv_certify.proofs.Building.{are_nodes}
-use Rattle.dcv_certify.proofs.BuiltSets.{count_of_rows, rows_are_earlier, made, made_rows, made_flags, is_made, accepts_same}
+use Rattle.dcv_certify.proofs.BuiltSets.{count_of_rows, rows_are_earlier, is_made, accepts_same}
 use Rattle.dcv_certify.proofs.built.automaton_of.Goals as goal
 use Rattle.dcv_certify.proofs.built.automaton_of.Goals.{In_ok-flags}
 

@@ -1,4 +1,4 @@
-use Rattle.std.proofs.Common.{◌≡◌, ◌<◌, ◌+◌, ◌∙◌, Bool, false, if◌then◌else◌, List, get_or, sym, ap, subst}
+use Rattle.std.proofs.Common.{◌+◌, ◌∙◌, false, if◌then◌else◌, get_or, sym, ap, subst}
 use Rattle.dcv_arena.specs.Arena.{value_of}
 use Rattle.dcv_certify.specs.Built.{ref_at, some_node, AreRefsOf}
 use Rattle.dcv_certify.proofs.Building.{more_refs}

@@ -1,4 +1,4 @@
-use Rattle.std.proofs.Common.{◌≡◌, ◌<◌, ◌+◌, ◌∙◌, [], ◌∷◌, refl, false, sym, ap, subst, arith, length}
+use Rattle.std.proofs.Common.{◌≡◌, ◌<◌, ◌+◌, ◌∙◌, ◌∷◌, refl, false, sym, subst, arith, length}
 use Rattle.std.proofs.lemmas.List.{get_or_default}
 use Rattle.dcv_language.proofs.Bounds.{next-below}
 use Rattle.dcv_automaton_text.specs.Meaning.{table_of}
@@ -22,7 +22,7 @@ loop-state-preserved c =
     let here = (goal.at.loop-state-preserved c).After-states-state-end in
     let within : c.loop-state.state < length table = omega (arith, c.loop-state-test.true, size here) in
     let below : c.next.result < length table = subst (λ n. n < length table) (sym c.next.ensures)
-        (next-below (length c.args.file.now.names) table (c.good_files_are_tables.ensures.table c.args.file.now c.states-state-end.ensures.good) c.loop-state.state c.args.letter within) in
+    (next-below (length c.args.file.now.names) table (c.good_files_are_tables.ensures.table c.args.file.now c.states-state-end.ensures.good) c.loop-state.state c.args.letter within) in
     subst (λ column. IsBehindSoFar table c.args.letter c.args.from.now column (c.loop-state.state + 1)) (sym c.in_ok-push.ensures.items)
     (behind_more table c.args.letter c.args.from.now c.loop-state.column.items c.loop-state.state c.next.result _ c.loop-state.invariant within below c.next.ensures refl)
 

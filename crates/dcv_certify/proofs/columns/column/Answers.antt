@@ -1,4 +1,4 @@
-use Rattle.std.proofs.Common.{◌≡◌, ◌<◌, ◌∷◌, [], List, Bool, sym, subst}
+use Rattle.std.proofs.Common.{◌∷◌, [], List, sym, subst}
 use Rattle.std.specs.Prelude.{slice_index_or, IfOk}
 use Rattle.dcv_word.specs.Behaviour.{Word}
 use Rattle.dcv_automaton_read.specs.File.{suffix_from}

@@ -1,7 +1,5 @@
 use Rattle.std.proofs.Common.{◌≡◌, ◌<◌, ◌+◌, ◌∙◌, [], sym, ap, not, false, subst, arith, length}
 use Rattle.std.proofs.lemmas.List.{get_or_default}
-use Rattle.dcv_language.specs.Automaton.{accepts_from}
-use Rattle.dcv_language.specs.Table.{automaton_of}
 use Rattle.dcv_automaton_text.specs.Meaning.{table_of}
 use Rattle.dcv_certify.specs.Columns.{IsColumn}
 use Rattle.dcv_certify.proofs.Bits.{IsColumnSoFar, column_first, column_more, flags_done, bit_of_state}

@@ -1,4 +1,4 @@
-use Rattle.std.proofs.Common.{◌≡◌, ◌<◌, ◌∙◌, length, sym, arith}
+use Rattle.std.proofs.Common.{◌∙◌, sym, arith}
 use Rattle.std.proofs.lemmas.List.{get_or_default}
 use Rattle.dcv_language.specs.declared.certificate.Suffix.TheVariants.{Empty}
 use Rattle.dcv_certify.proofs.KeptColumns.{all_lasts}

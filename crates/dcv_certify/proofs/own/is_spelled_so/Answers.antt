@@ -1,4 +1,4 @@
-use Rattle.std.proofs.Common.{◌≡◌, ◌∙◌, map, sym, ap}
+use Rattle.std.proofs.Common.{◌∙◌, map, sym, ap}
 use Rattle.dcv_automaton_read.specs.File.{access_from, suffix_from}
 use Rattle.dcv_certify.proofs.OwnWords.{same_accesses, same_suffixes, not_differ}
 use Rattle.dcv_certify.proofs.own.is_spelled_so.Goals as goal

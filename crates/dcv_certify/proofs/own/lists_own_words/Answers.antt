@@ -1,4 +1,4 @@
-use Rattle.std.proofs.Common.{◌≡◌, ◌∙◌, sym, ap, subst}
+use Rattle.std.proofs.Common.{◌∙◌, sym, subst}
 use Rattle.dcv_word.specs.Behaviour.{IsBehaviour}
 use Rattle.dcv_certify.proofs.OwnWords.{own_words_tell}
 use Rattle.dcv_certify.proofs.own.lists_own_words.Goals as goal

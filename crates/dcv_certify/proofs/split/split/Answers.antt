@@ -1,5 +1,4 @@
-use Rattle.std.proofs.Common.{◌≡◌, ◌+◌, sym, subst, subst₂, length}
-use Rattle.dcv_certify.specs.Split.{HasMoved}
+use Rattle.std.proofs.Common.{◌+◌, sym, subst}
 use Rattle.dcv_certify.proofs.Splits.{SplitSoFar, only_none, none_moved, one_more_split, all_split}
 use Rattle.dcv_certify.proofs.split.split.Goals as goal
 

@@ -1,4 +1,4 @@
-use Rattle.std.proofs.Common.{◌≡◌, ◌∙◌, sym, ap, arith, length}
+use Rattle.std.proofs.Common.{◌∙◌, sym, ap, arith, length}
 use Rattle.dcv_certify.proofs.Landings.{lands_at, one_more}
 use Rattle.dcv_certify.proofs.words.first_astray.Goals as goal
 

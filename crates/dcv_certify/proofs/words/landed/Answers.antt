@@ -1,4 +1,4 @@
-use Rattle.std.proofs.Common.{◌≡◌, ◌<◌, ◌+◌, ◌∷◌, ◌++◌, [], ◌∙◌, sym, ap, subst, subst₂, arith, length}
+use Rattle.std.proofs.Common.{◌≡◌, ◌<◌, ◌+◌, ◌∷◌, ◌++◌, [], ◌∙◌, sym, ap, subst, subst₂, arith}
 use Rattle.dcv_automaton_text.specs.Meaning.{table_of}
 use Rattle.dcv_automaton_text.proofs.GoodFiles.{good_file}
 use Rattle.dcv_automaton_read.specs.File.{access_from}
@@ -33,8 +33,8 @@ loop-place-preserved c =
     let lines = at_place here in
     let same = c.deref.ensures.value in
     let leads : c.follow-state.result ≡ landed file c.loop-place.place =
-        c.follow-state.ensures ∙ (λ i. followed (table_of file) (same i) (sym lines i))
-        ∙ leads_on file good c.loop-place.states.items c.loop-place.place c.loop-place.invariant (is_state here) in
+    c.follow-state.ensures ∙ (λ i. followed (table_of file) (same i) (sym lines i))
+    ∙ leads_on file good c.loop-place.states.items c.loop-place.place c.loop-place.invariant (is_state here) in
     subst (λ items. LandedSoFar file items (c.loop-place.place + 1)) (sym c.in_ok-push-2.ensures.items)
     (landed_more file good c.loop-place.states.items c.loop-place.place c.follow-state.result c.loop-place.invariant leads
     (landed_below file good (c.good_files_are_tables.ensures.table file good) (c.good_files_are_tables.ensures.states file good) c.loop-place.place))
@@ -71,5 +71,5 @@ returns c =
     let lines = at_start here in
     let same = c.deref-2.ensures.value in
     let leads : c.follow.result ≡ landed file 0 =
-        c.follow.ensures ∙ (λ i. followed (table_of file) (same i) (sym lines i)) ∙ leads_last file good c.loop-place.states.items (all_done here) in
+    c.follow.ensures ∙ (λ i. followed (table_of file) (same i) (sym lines i)) ∙ leads_last file good c.loop-place.states.items (all_done here) in
     all_landed file good c.loop-place.states.items c.follow.result (all_done here) leads
