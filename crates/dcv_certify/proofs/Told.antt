@@ -282,7 +282,8 @@ module _ (file : AutomatonFile) (good : IsGood file) where
           last_flag : bit (table_of file) file.states [] ≡ not (bit (table_of file) 0 [])
           last_flag = ap (λ n. bit (table_of file) n []) (sym size_is) ∙ last_empty (table_of file) (let n = size_is in omega arith)
 
-          second_case : (word : Word) → (0 < length word → AreTold file 0 second) → bit (table_of file) 0 [] ≢ bit (table_of file) second [] → bit (table_of file) file.states word ≢ bit (table_of file) second word → AreTold file 0 second
+          second_case : (word : Word) → (0 < length word → AreTold file 0 second) → bit (table_of file) 0 [] ≢ bit (table_of file) second []
+              → bit (table_of file) file.states word ≢ bit (table_of file) second word → AreTold file 0 second
           second_case [] go one two = absurd (both_flags (bit (table_of file) 0 []) (bit (table_of file) second []) one (λ e. two (last_flag ∙ e)))
           second_case (letter ∷ word) go one two = go (omega arith)
 

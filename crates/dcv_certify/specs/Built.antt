@@ -40,7 +40,8 @@ pub record AreRefsOf (width : ℕ) (nodes : List Node) (count : ℕ) (arena : Ar
   pub size : length refs ≡ count
   pub refs_are : (place : ℕ) → place < count → IsRef arena (slice_index_or refs place (Leaf 0))
   pub levels : (place : ℕ) → place < count → slot_at nodes place ≤ level_of arena (slice_index_or refs place (Leaf 0))
-  pub values : (place : ℕ) (letter : List Bool) → place < count → value_of arena (slice_index_or refs place (Leaf 0)) letter ≡ leaf_at (leaves_of letter nodes) (AtNode place)
+  pub values : (place : ℕ) (letter : List Bool) → place < count
+      → value_of arena (slice_index_or refs place (Leaf 0)) letter ≡ leaf_at (leaves_of letter nodes) (AtNode place)
 
 abbrev pub StandFor : ℕ → List Node → ArenaValue → List Ref → Type 0
 StandFor width nodes arena refs = AreRefsOf width nodes (length nodes) arena refs

@@ -74,7 +74,8 @@ IsCertified file (Pair first second) = HasGoodWords file × IsFirstPair file fir
 
 -- whether or not the start of the other table accepts
 abbrev pub HasFewestStates : AutomatonFile → Type 0
-HasFewestStates file = (table : Table) → IsTable (length file.names) table → AcceptsExactly (length file.names) table (set_of file) → file.states ≤ length table
+HasFewestStates file = (table : Table) → IsTable (length file.names) table → AcceptsExactly (length file.names) table (set_of file)
+    → file.states ≤ length table
 
 abbrev pub WhereMinimal : Type 0 → Answer → Type 0
 WhereMinimal fact Minimal = fact

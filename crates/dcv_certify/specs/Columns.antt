@@ -36,7 +36,8 @@ pub record AreLasts (suffixes : List ReadSuffix) (lasts : List ℕ) : Type 0 whe
 
 pub record HasColumns {Z : Type 0} (table : Table) (lasts : List ℕ) (words : List Word) (count : ℕ) (columns : List (Vec Bool Z)) : Type 0 where
   pub size : length columns ≡ length words
-  pub each : (place : ℕ) → place < length words → count ≤ number_at lasts place → IsColumn table (slice_index_or words place []) (column_at columns place)
+  pub each : (place : ℕ) → place < length words → count ≤ number_at lasts place
+      → IsColumn table (slice_index_or words place []) (column_at columns place)
 
 -- ---- from which column the next is made
 

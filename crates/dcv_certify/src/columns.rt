@@ -108,7 +108,8 @@ fn behind(
 ) -> Result<Vec<bool>, AllocError>
     requires count { length from.now ≡ suc (length (table_of file.now)) }
     requires width { length letter ≡ length file.now.names }
-    ensures { IfOk result (λ column. (word : AnyWord) → IsColumn (table_of file.now) word from.now → IsColumn (table_of file.now) (letter ∷ word) column.items) }
+    ensures { IfOk result (λ column. (word : AnyWord) → IsColumn (table_of file.now) word from.now
+        → IsColumn (table_of file.now) (letter ∷ word) column.items) }
 {
     good_files_are_tables();
     let mut column = Vec::new(alloc);

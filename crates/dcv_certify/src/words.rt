@@ -1,4 +1,4 @@
-// Where the access words lead. The word of each state goes on from that of an earlier one, but for that of state 0, which comes last.
+//! Where the access words lead. The word of each state goes on from that of an earlier one, but for that of state 0, which comes last.
 ghost use Rattle.std.specs.Prelude.{◌≡◌, ◌<◌, length, IfOk, IfSome, IfNone, slice_index_or};
 ghost use Rattle.std.specs.List.{All};
 ghost use Rattle.dcv_automaton_text.specs.Meaning.{table_of};
@@ -11,7 +11,7 @@ use dcv_automaton_read::{Access, AutoFile};
 use dcv_automaton_text::laws::good_files_are_tables;
 use std::alloc::{AllocError, Global};
 
-/// The first state whose access word does not lead to it.
+// The first state whose access word does not lead to it.
 pub(crate) fn first_astray(alloc: Global, file: &AutoFile) -> Result<Option<u32>, AllocError>
     ensures some { IfOk result (λ found. IfSome found (IsFirstAstray file.now)) }
     ensures none { IfOk result (λ found. IfNone found (HasGoodWords file.now)) }

@@ -36,4 +36,5 @@ returns c =
     let here = (goal.at.returns c).After-states-state-end in
     let all : c.loop-state.state ≡ length table = omega (arith, c.loop-state-test.false, c.loop-state.auto.state-end, size here) in
     subst (IsColumn table []) (sym c.in_ok-push-2.ensures.items)
-    (flags_done table c.loop-state.column.items _ (some here) (subst (IsColumnSoFar table [] c.loop-state.column.items) all c.loop-state.invariant) (ap not (c.index.ensures ∙ get_or_default c.loop-state.column.items 0 c.index.result.now false (omega (arith, c.loop-state.invariant.count_is, all, some here)))))
+    (flags_done table c.loop-state.column.items _ (some here) (subst (IsColumnSoFar table [] c.loop-state.column.items) all c.loop-state.invariant)
+    (ap not (c.index.ensures ∙ get_or_default c.loop-state.column.items 0 c.index.result.now false (omega (arith, c.loop-state.invariant.count_is, all, some here)))))
