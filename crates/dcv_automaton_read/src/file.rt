@@ -1,9 +1,10 @@
 // The automaton that a text stands for, and how its access words and suffixes are spelled.
 ghost use Rattle.std.specs.Prelude.{◌≡◌, ◌<◌, ◌≤◌, length, map};
+ghost use Rattle.std.specs.List.{enumerate_from};
 ghost use Rattle.dcv_language.specs.Table.{is_accepting, next_in};
 ghost use Rattle.dcv_automaton_text.specs.Meaning.{table_of};
 ghost use Rattle.dcv_automaton_text.specs.Rules.{IsGood};
-ghost use Rattle.dcv_automaton_read.specs.File.{file_from, IsRead, access_from, suffix_from, accesses_of, suffixes_of};
+ghost use Rattle.dcv_automaton_read.specs.File.{file_from, IsRead, state_line, access_from, suffix_from, accesses_of, suffixes_of};
 
 use crate::nodes::{Child, Node};
 use crate::walk::leaf;
@@ -76,6 +77,20 @@ impl AutoFile {
         ensures good { IsGood self.now }
     {
         self.rows.len() as u32
+    }
+
+    /// The nodes of the rows, each behind its children.
+    pub fn nodes(&self) -> &[Node]
+        ensures { IsRead self.now result.now }
+    {
+        self.nodes.as_slice()
+    }
+
+    /// The states in order: whether each accepts, and its row.
+    pub fn rows(&self) -> &[Row]
+        ensures { self.now.state_lines ≡ map state_line (enumerate_from 0 result.now) }
+    {
+        &self.rows
     }
 
     /// Whether a state accepts.

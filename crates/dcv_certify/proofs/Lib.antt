@@ -1,0 +1,15 @@
+mod OwnWords
+mod Building
+mod BuiltSets
+mod KeptColumns
+mod Joins
+mod GoodLines
+mod Certificates
+mod Landings
+mod Splits
+mod Alikes
+mod Bits
+mod Numbers
+mod Told
+mod Pairs
+mod Examples

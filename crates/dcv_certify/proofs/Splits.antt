@@ -1,0 +1,159 @@
+-- Classes of entries, split by a column of bits.
+use Rattle.std.proofs.Common.{◌≡◌, ◌≢◌, ◌⊎◌, inl, inr, ⊎_elim, ℕ, ◌+◌, ◌<◌, ◌≤◌, Bool, true, false, List, [], ◌∷◌, ◌++◌, length, get_or, set, replicate, Option, None, Some, refl, ap, sym, ◌∙◌, subst, arith}
+use Rattle.std.proofs.lemmas.Bool.{cases_lt, cases_order}
+use Rattle.std.proofs.lemmas.List.{length-append, length-set, length-replicate, get_or_push, get_or_append_left, get_or_past, get_or-replicate, get_or-set_same, get_or-set_other}
+use Rattle.dcv_certify.specs.Split.{number_at, bit_at, AreOwn, IsLeastWith, IsSplit, IsFirstMoved, IsMoved, HasMoved}
+
+-- of three truths two are the same
+same_of_others : (a b c : Bool) → a ≢ c → b ≢ c → a ≡ b
+same_of_others true true c f g = refl
+same_of_others true false true f g = absurd (f refl)
+same_of_others true false false f g = absurd (g refl)
+same_of_others false true true f g = absurd (g refl)
+same_of_others false true false f g = absurd (f refl)
+same_of_others false false c f g = refl
+
+module _ (old : List ℕ) (column : List Bool) (own : AreOwn old) where
+  -- the class's own entry, where it has the same bit
+  pub stays : (entry : ℕ) → entry < length old → bit_at column entry ≡ bit_at column (number_at old entry) → IsLeastWith old column entry (number_at old entry)
+  stays entry within same = record {
+    no_later = own.no_later entry within;
+    same_class = own.own entry within;
+    same_bit = sym same;
+    none_before = λ other before is. absurd (let back = own.no_later other (omega (arith, before, within, own.no_later entry within)) in omega (arith, back, is, before));
+  }
+
+  -- the first that left the class, where the entry leaves it too
+  pub follows : (entry first : ℕ) → entry < length old → bit_at column entry ≢ bit_at column (number_at old entry)
+      → IsFirstMoved old column entry (number_at old entry) first → IsLeastWith old column entry first
+  follows entry first within leaves moved = record {
+    no_later = omega (arith, moved.before);
+    same_class = moved.of_class;
+    same_bit = same_of_others (bit_at column first) (bit_at column entry) (bit_at column (number_at old entry)) moved.leaves leaves;
+    none_before = λ other before is same. leaves (sym same ∙ moved.none_before other before is);
+  }
+
+  -- the entry itself, where it is the first
+  pub begins : (entry : ℕ) → entry < length old → bit_at column entry ≢ bit_at column (number_at old entry)
+      → IsMoved old column entry (number_at old entry) None → IsLeastWith old column entry entry
+  begins entry within leaves none = record {
+    no_later = omega arith;
+    same_class = refl;
+    same_bit = refl;
+    none_before = λ other before is same. leaves (sym same ∙ none other before is);
+  }
+
+  -- one entry more
+  later : (place class first : ℕ) → IsFirstMoved old column place class first → IsFirstMoved old column (place + 1) class first
+  later place class first moved = record { before = omega (arith, moved.before); of_class = moved.of_class; leaves = moved.leaves; none_before = moved.none_before }
+
+  -- where the entry at this place stays in its class, or some have left it already
+  pub kept_moved : (entry : ℕ) (moved : List (Option ℕ)) → HasMoved old column entry moved
+      → (get_or moved (number_at old entry) None ≡ None → bit_at column entry ≡ bit_at column (number_at old entry)) → HasMoved old column (entry + 1) moved
+  kept_moved entry moved has stays_there = record { count = has.count; each = λ class within. by class (get_or moved class None) refl (has.each class within) }
+    where
+      by : (class : ℕ) (one : Option ℕ) → get_or moved class None ≡ one → IsMoved old column entry class one → IsMoved old column (entry + 1) class one
+      by class (Some first) e is = later entry class first is
+      by class None e is = λ other before of_class. elim (cases_lt other entry) [
+        | inl less ↦ is other less of_class
+        | inr more ↦
+            let same : other ≡ entry = omega arith in
+            let here : number_at old entry ≡ class = ap (number_at old) (sym same) ∙ of_class in
+            ap (bit_at column) same ∙ stays_there (ap (λ c. get_or moved c None) here ∙ e) ∙ ap (bit_at column) here
+      ]
+
+  -- where it is the first that leaves
+  pub set_moved : (entry : ℕ) (moved : List (Option ℕ)) → entry < length old → HasMoved old column entry moved
+      → get_or moved (number_at old entry) None ≡ None → bit_at column entry ≢ bit_at column (number_at old entry)
+      → HasMoved old column (entry + 1) (set moved (number_at old entry) (Some entry))
+  set_moved entry moved inside has none leaves = record {
+    count = length-set moved (number_at old entry) (Some entry) ∙ has.count;
+    each = λ class within. by class within (cases_order class (number_at old entry));
+  }
+    where
+      mine_within : number_at old entry < length old
+      mine_within = omega (arith, own.no_later entry inside, inside)
+
+      none_so_far : IsMoved old column entry (number_at old entry) None
+      none_so_far = subst (IsMoved old column entry (number_at old entry)) none (has.each (number_at old entry) mine_within)
+
+      first : IsFirstMoved old column (entry + 1) (number_at old entry) entry
+      first = record { before = omega arith; of_class = refl; leaves = leaves; none_before = none_so_far }
+
+      others : (class : ℕ) → class < length old → class ≢ number_at old entry → (one : Option ℕ) → get_or moved class None ≡ one → IsMoved old column (entry + 1) class one
+      others class within other (Some first) e = later entry class first (subst (IsMoved old column entry class) e (has.each class within))
+      others class within other None e = λ place before of_class. elim (cases_lt place entry) [
+        | inl less ↦ (subst (IsMoved old column entry class) e (has.each class within)) place less of_class
+        | inr more ↦ absurd (let same : place ≡ entry = omega arith in other (sym of_class ∙ ap (number_at old) same))
+      ]
+
+      by : (class : ℕ) → class < length old → (class ≡ number_at old entry) ⊎ ((class < number_at old entry) ⊎ (number_at old entry < class))
+          → IsMoved old column (entry + 1) class (get_or (set moved (number_at old entry) (Some entry)) class None)
+      by class within (inl same) =
+          subst (λ c. IsMoved old column (entry + 1) c (get_or (set moved (number_at old entry) (Some entry)) c None)) (sym same)
+          (subst (IsMoved old column (entry + 1) (number_at old entry)) (sym (get_or-set_same moved (number_at old entry) (Some entry) None (omega (arith, has.count, mine_within)))) first)
+      by class within (inr order) =
+          let apart : class ≢ number_at old entry = λ e. ⊎_elim (λ less. omega (arith, e, less)) (λ more. omega (arith, e, more)) order in
+          subst (IsMoved old column (entry + 1) class) (sym (get_or-set_other moved (number_at old entry) class (Some entry) None apart))
+          (others class within apart (get_or moved class None) refl)
+
+-- ---- all entries so far
+
+pub record SplitSoFar (old : List ℕ) (column : List Bool) (place : ℕ) (new : List ℕ) (moved : List (Option ℕ)) : Type 0 where
+  pub count : length new ≡ place
+  pub within : place ≤ length old
+  pub each : (entry : ℕ) → entry < place → IsLeastWith old column entry (number_at new entry)
+  pub has : HasMoved old column place moved
+
+abbrev nothing : Option ℕ
+nothing = None
+
+-- a clone of nothing is nothing
+pub only_none : (P : Option ℕ → Type 0) → ((x : ℕ) → P (Some x) → ⊥) → (y : Option ℕ) → P y → y ≡ None
+only_none P never None is = refl
+only_none P never (Some x) is = absurd (never x is)
+
+get_or-none : (count class : ℕ) → get_or (replicate count nothing) class nothing ≡ nothing
+get_or-none count class =
+    elim (cases_lt class count) [
+      | inl less ↦ get_or-replicate count class nothing nothing less
+      | inr past ↦ get_or_past (replicate count nothing) class nothing (omega (arith, past, length-replicate count nothing))
+    ]
+
+pub none_moved : (old : List ℕ) (column : List Bool) → (moved : List (Option ℕ)) → moved ≡ replicate (length old) nothing → SplitSoFar old column 0 [] moved
+none_moved old column moved is = record {
+  count = refl;
+  within = omega arith;
+  each = λ entry before. absurd (omega arith);
+  has = record {
+    count = ap length is ∙ length-replicate (length old) nothing;
+    each = λ class within.
+        subst (IsMoved old column 0 class) (sym (ap (λ (all : List (Option ℕ)). get_or all class None) is ∙ get_or-none (length old) class))
+        (λ entry before of_class. absurd (omega (arith, before)));
+  };
+}
+
+pub one_more_split : (old : List ℕ) (column : List Bool) (place : ℕ) (new : List ℕ) (moved again : List (Option ℕ)) (number : ℕ)
+    → SplitSoFar old column place new moved → place < length old → IsLeastWith old column place number → HasMoved old column (place + 1) again
+    → SplitSoFar old column (place + 1) (new ++ number ∷ []) again
+one_more_split old column place new moved again number so_far inside least has = record {
+  count = omega (arith, length-append new (number ∷ []), so_far.count);
+  within = omega arith;
+  each = λ entry before. by entry (cases_lt entry place) before;
+  has = has;
+}
+  where
+    by : (entry : ℕ) → (entry < place) ⊎ (place ≤ entry) → entry < place + 1 → IsLeastWith old column entry (get_or (new ++ number ∷ []) entry 0)
+    by entry (inl less) before =
+        subst (IsLeastWith old column entry) (sym (get_or_append_left new (number ∷ []) 0 entry (omega (arith, so_far.count)))) (so_far.each entry less)
+    by entry (inr more) before =
+        let same : place ≡ entry = omega arith in
+        subst (λ n. IsLeastWith old column n (get_or (new ++ number ∷ []) n 0)) same
+        (subst (IsLeastWith old column place) (sym (get_or_push new number 0 place so_far.count)) least)
+
+pub all_split : (old : List ℕ) (column : List Bool) (place : ℕ) (new : List ℕ) (moved : List (Option ℕ)) → SplitSoFar old column place new moved → length old ≤ place
+    → IsSplit old column new
+all_split old column place new moved so_far done = record {
+  count = omega (arith, so_far.count, so_far.within);
+  each = λ entry within. so_far.each entry (omega arith);
+}

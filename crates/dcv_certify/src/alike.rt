@@ -1,0 +1,78 @@
+//! For each entry the least one that no suffix tells from it. The entries are the states, and, where its access word is empty, the start
+//! once more with its other flag: the empty suffix says nothing of an empty word.
+ghost use Rattle.std.specs.Prelude.{◌≡◌, IfOk, IfSome, IfNone};
+ghost use Rattle.dcv_certify.specs.Certified.{HasGoodWords, HasAllTold, IsFirstPair};
+ghost use Rattle.dcv_automaton_read.specs.File.{access_from};
+ghost use Rattle.dcv_certify.specs.Alike.{has_no_letters, is_empty_access, entries_of};
+ghost use Rattle.dcv_certify.specs.Numbers.{AreNumbersOf};
+
+use crate::columns::{column, keep, last_uses, release};
+use crate::joined::{are_own, first_joined};
+use crate::split::split;
+use dcv_automaton_read::{Access, AutoFile};
+use std::alloc::{AllocError, Global};
+
+// The first two states that no suffix tells apart.
+pub(crate) fn first_pair(alloc: Global, file: &AutoFile) -> Result<Option<(u32, u32)>, AllocError>
+    requires { HasGoodWords file.now }
+    ensures some { IfOk result (λ found. IfSome found (λ pair. IsFirstPair file.now pair.0 pair.1)) }
+    ensures none { IfOk result (λ found. IfNone found (HasAllTold file.now)) }
+{
+    // for the prover: the file keeps the table rules.
+    let states = file.states();
+    let numbers = least_alike(alloc, file)?;
+    Ok(first_joined(&numbers, states))
+}
+
+// A column of bits for each suffix in turn splits the entries. Nothing is left to be told apart once each entry is the least alike to it.
+fn least_alike(alloc: Global, file: &AutoFile) -> Result<Vec<u32>, AllocError>
+    ensures { IfOk result (λ numbers. AreNumbersOf file.now numbers.items) }
+{
+    // for the prover: the file keeps the table rules.
+    let _states = file.states();
+    let suffixes = file.suffixes();
+    let lasts = last_uses(alloc, suffixes)?;
+    let mut columns = Vec::new(alloc);
+    let mut numbers = vec![in alloc; 0; entries(file)]?;
+    for suffix in suffixes {
+        if are_own(&numbers) {
+            return Ok(numbers);
+        }
+        let column = column(alloc, file, &columns, *suffix)?;
+        numbers = split(alloc, &numbers, &column)?;
+        release(alloc, &mut columns, &lasts, *suffix);
+        keep(alloc, &mut columns, &lasts, column)?;
+    }
+    Ok(numbers)
+}
+
+// How many entries there are.
+fn entries(file: &AutoFile) -> usize
+    ensures { result ≡ entries_of file.now }
+{
+    let states = file.states() as usize;
+    if starts_with_no_letters(file) {
+        states + 1
+    } else {
+        states
+    }
+}
+
+// Whether the access word of the start is empty.
+fn starts_with_no_letters(file: &AutoFile) -> bool
+    ensures { result ≡ has_no_letters file.now }
+{
+    // for the prover: the file keeps the table rules.
+    let _states = file.states();
+    let access = file.access();
+    is_empty(access[0])
+}
+
+fn is_empty(access: Access) -> bool
+    ensures { result ≡ is_empty_access (access_from access) }
+{
+    match access {
+        Access::Empty => true,
+        Access::Start(_) | Access::After(_, _) => false,
+    }
+}
