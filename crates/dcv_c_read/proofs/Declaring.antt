@@ -1,6 +1,7 @@
 -- One more name is declared.
 use Rattle.std.proofs.Common.{◌≡◌, ℕ, ◌+◌, Bool, true, false, not, cond, ◌&&◌, ◌||◌, List, [], ◌∷◌, ◌++◌, length, map, Option, Some, refl, sym, ap, subst, ◌∙◌, arith, inl, inr}
 use Rattle.std.specs.Prelude.{bytes_eq}
+use Rattle.std.proofs.lemmas.List.{map_push}
 use Rattle.std.proofs.lemmas.Bool.{or_from, or_parts, or_left, or_right, or_cases, both_ways, false≢true, not-true, false_from_ne_true}
 use Rattle.dcv_observer.specs.Conditions.{Names}
 use Rattle.dcv_c.specs.Meaning.{is_among}
@@ -173,6 +174,9 @@ module _ (frame : Frame) (functions declared : Names) (rows : List Row) (knows :
       subst (λ (ns : Names). KnowsNames (with_names sort (name ∷ []) frame) functions ns more_rows) (sym is)
       (subst (λ (rs : List Row). KnowsNames (with_names sort (name ∷ []) frame) functions (declared ++ name ∷ []) rs) (sym rows_are)
       (by_sort (subst (λ (names : Names). is_among names name ≡ false) knows.declared_are no_place) sort))
+
+pub pushed_map : {X Y : Type 0} (f : X → Y) (items more : List X) (x : X) → more ≡ items ++ x ∷ [] → map f more ≡ map f items ++ f x ∷ []
+pushed_map f items more x is = ap (map f) is ∙ map_push f items x
 
 -- whether a name was new, and what is declared then
 pub was_new : (b : Bool) (names more : Names) (name : List ℕ) → b ≡ true → b ≡ not (is_among names name) → more ≡ cond b (names ++ name ∷ []) names

@@ -3,6 +3,7 @@ use Rattle.std.proofs.Common.{◌≡◌, ℕ, zero, suc, ◌+◌, ◌<◌, Bool,
 use Rattle.std.proofs.Common.{[], ◌∷◌, length, map, get_or, Option, Some, None, refl, sym, ap, subst, ◌∙◌, arith, inl, inr}
 use Rattle.std.specs.Prelude.{bytes_eq, slice_get}
 use Rattle.std.specs.List.{position, position_or_len, list_any}
+use Rattle.std.specs.Option.{is_some}
 use Rattle.std.proofs.lemmas.List.Quantifiers.{position-Some}
 use Rattle.std.proofs.lemmas.Bool.{cases_Bool, or_left, or_right, or_cases, both_ways, false≢true, false_from_ne_true, lt-ltb}
 use Rattle.dcv_observer.specs.Conditions.{Names}
@@ -30,6 +31,18 @@ not_there p xs none =
     let within : ltb place (length xs) ≡ true = lt-ltb place (length xs) (place_within p xs some) in
     let never : Some place ≡ None = sym (ap (λ (b : Bool). cond b (Some place) None) within) ∙ none in
     cc)
+
+any_at : (p : List ℕ → Bool) (xs : Names) (k : ℕ) → k < length xs → p (get_or xs k []) ≡ true → list_any p xs ≡ true
+any_at p [] k within is = absurd (omega arith)
+any_at p (x ∷ xs) zero within is = or_left _ _ is
+any_at p (x ∷ xs) (suc k) within is = or_right (p x) _ (any_at p xs k (omega arith) is)
+
+pub place_any : (p : List ℕ → Bool) (xs : Names) → is_some (position p xs) ≡ list_any p xs
+place_any p xs = by (position p xs) refl
+  where
+    by : (found : Option ℕ) → position p xs ≡ found → is_some found ≡ list_any p xs
+    by None none = sym (not_there p xs none)
+    by (Some k) is = let facts = position-Some p xs k [] is in sym (any_at p xs k facts.0 facts.1)
 
 -- a name that is there
 pub among_at : (names : Names) (k : ℕ) → k < length names → is_among names (get_or names k []) ≡ true

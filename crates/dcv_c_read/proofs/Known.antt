@@ -3,7 +3,7 @@ use Rattle.std.proofs.Common.{◌≡◌, ℕ, zero, suc, ◌+◌, ◌<◌, ◌�
 use Rattle.std.proofs.Common.{◌∷◌, length, map, get_or, refl, sym, ap, subst, ◌∙◌, arith, inl, inr, Vec, Global}
 use Rattle.std.specs.Prelude.{bytes_eq, slice_set}
 use Rattle.std.specs.List.{list_all}
-use Rattle.std.proofs.lemmas.Bool.{or_parts, or_left, or_right, or_cases, and_from, both_ways, false_from_ne_true}
+use Rattle.std.proofs.lemmas.Bool.{or_parts, or_left, or_right, or_cases, and_from, both_ways, false≢true, false_from_ne_true}
 use Rattle.dcv_observer.specs.Conditions.{Names}
 use Rattle.dcv_c.specs.Meaning.{is_among}
 use Rattle.dcv_c.specs.Rules.{keeps_new}
@@ -119,6 +119,10 @@ pub all_are_known : (frame : Frame) (functions declared : Names) (items : List D
 all_are_known frame functions declared items knows = rows_known frame.lefts frame.known 0 frame.placed items knows.are_rows
 
 -- ---- what the rules ask of a name, by its row
+
+pub is_true : (b : Bool) → not b ≡ false → b ≡ true
+is_true true h = refl
+is_true false h = absurd (false≢true (sym h))
 
 not_both : (a b : Bool) → b ≡ false → (a && b) ≡ false
 not_both true b is = is

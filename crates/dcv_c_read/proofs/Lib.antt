@@ -9,3 +9,4 @@ pub mod Loops
 pub mod Spellable
 pub mod Named
 pub mod Whole
+pub mod Forms

@@ -104,53 +104,50 @@ module _ (frame : Frame) (whole : Option ℕ) (others : List Token) (keeps : Lis
             known = sym (append-nil frame.known) i;
           }
 
-  pub variables_begin : (scope : Scope) → Knows frame scope → IsLeft whole (map seen all ++ others) (keeps_apart frame.earlier (bytes_of (map seen all)) ++ keeps)
-      → AreDeclaredSoFar frame whole others keeps all [] all scope
-  variables_begin scope knows left =
-      record {
+  pub variables_begin : {texts : Names} (scope : Scope) → texts ≡ [] → Knows frame scope
+      → IsLeft whole (map seen all ++ others) (keeps_apart frame.earlier (bytes_of (map seen all)) ++ keeps) → AreDeclaredSoFar frame whole others keeps all texts all scope
+  variables_begin scope none knows left =
+      subst (λ (ts : Names). AreDeclaredSoFar frame whole others keeps all ts all scope) (sym none)
+      (record {
         knows = subst (λ (f : Frame). Knows f scope) no_variables knows;
         texts_are = refl;
         left = subst (λ (names : Names). IsLeft whole (map seen all ++ others) (keeps_apart names (bytes_of (map seen all)) ++ keeps)) (sym (append-nil frame.earlier)) left;
-      }
+      })
 
-  pub parameters_begin : (scope : Scope) → Knows frame scope → IsLeft whole (map seen all ++ others) (keeps_parameters frame.earlier 0 (bytes_of (map seen all)) ++ keeps)
-      → AreParametersSoFar frame whole others keeps all 0 [] all scope
-  parameters_begin scope knows left =
-      record {
+  pub parameters_begin : {texts : Names} (scope : Scope) → texts ≡ [] → Knows frame scope
+      → IsLeft whole (map seen all ++ others) (keeps_parameters frame.earlier 0 (bytes_of (map seen all)) ++ keeps) → AreParametersSoFar frame whole others keeps all 0 texts all scope
+  parameters_begin scope none knows left =
+      subst (λ (ts : Names). AreParametersSoFar frame whole others keeps all 0 ts all scope) (sym none)
+      (record {
         knows = subst (λ (f : Frame). Knows f scope) no_parameters knows;
         texts_are = refl;
         left = subst (λ (names : Names). IsLeft whole (map seen all ++ others) (keeps_parameters names 0 (bytes_of (map seen all)) ++ keeps)) (sym (append-nil frame.earlier)) left;
-      }
+      })
 
   module _ (texts : Names) (item : Item) (later : List Item) where
-    behind_variable : Names → List Bool
-    behind_variable texts = keeps_apart ((frame.earlier ++ texts) ++ (seen item).bytes ∷ []) (bytes_of (map seen later)) ++ keeps
-
-    pub variables_more : (more : Names) (text : List ℕ) (scope : Scope) → more ≡ texts ++ text ∷ [] → text ≡ (seen item).bytes
-        → texts ++ bytes_of (map seen (item ∷ later)) ≡ bytes_of (map seen all)
-        → Knows (with_variables ((seen item).bytes ∷ []) (with_variables texts frame)) scope
+    pub variables_more : (scope : Scope) (sofar : AreDeclaredSoFar frame whole others keeps all texts (item ∷ later) scope) (more : Names) (text : List ℕ) (next : Scope)
+        → Knows (with_variables ((seen item).bytes ∷ []) (with_variables texts frame)) next
         × IsLeft whole (map seen later ++ others) (keeps_apart ((frame.earlier ++ texts) ++ (seen item).bytes ∷ []) (bytes_of (map seen later)) ++ keeps)
-        → AreDeclaredSoFar frame whole others keeps all more later scope
-    variables_more more text scope pushed is whole_is then =
+        → more ≡ texts ++ text ∷ [] → text ≡ (seen item).bytes → AreDeclaredSoFar frame whole others keeps all more later next
+    variables_more scope sofar more text next then pushed is =
         let here = pushed_name texts more (seen item).bytes text is pushed in
         record {
-          knows = subst (λ (f : Frame). Knows f scope) (variables_are texts more (seen item).bytes here) then.0;
-          texts_are = text_more (bytes_of (map seen all)) texts more (seen item).bytes text (bytes_of (map seen later)) whole_is is pushed;
+          knows = subst (λ (f : Frame). Knows f next) (variables_are texts more (seen item).bytes here) then.0;
+          texts_are = text_more (bytes_of (map seen all)) texts more (seen item).bytes text (bytes_of (map seen later)) sofar.texts_are is pushed;
           left =
               subst (λ (names : Names). IsLeft whole (map seen later ++ others) (keeps_apart names (bytes_of (map seen later)) ++ keeps))
               (append_assoc frame.earlier texts ((seen item).bytes ∷ []) ∙ ap (λ (ts : Names). frame.earlier ++ ts) here) then.1;
         }
 
-    pub parameters_more : (place : ℕ) (more : Names) (text : List ℕ) (scope : Scope) → more ≡ texts ++ text ∷ [] → text ≡ (seen item).bytes
-        → texts ++ bytes_of (map seen (item ∷ later)) ≡ bytes_of (map seen all)
-        → Knows (with_parameters ((seen item).bytes ∷ []) (with_parameters texts frame)) scope
+    pub parameters_more : (place : ℕ) (scope : Scope) (sofar : AreParametersSoFar frame whole others keeps all place texts (item ∷ later) scope)
+        (more : Names) (text : List ℕ) (next : Scope) → Knows (with_parameters ((seen item).bytes ∷ []) (with_parameters texts frame)) next
         × IsLeft whole (map seen later ++ others) (keeps_parameters ((frame.earlier ++ texts) ++ (seen item).bytes ∷ []) (place + 1) (bytes_of (map seen later)) ++ keeps)
-        → AreParametersSoFar frame whole others keeps all (place + 1) more later scope
-    parameters_more place more text scope pushed is whole_is then =
+        → more ≡ texts ++ text ∷ [] → text ≡ (seen item).bytes → AreParametersSoFar frame whole others keeps all (place + 1) more later next
+    parameters_more place scope sofar more text next then pushed is =
         let here = pushed_name texts more (seen item).bytes text is pushed in
         record {
-          knows = subst (λ (f : Frame). Knows f scope) (parameters_are texts more (seen item).bytes here) then.0;
-          texts_are = text_more (bytes_of (map seen all)) texts more (seen item).bytes text (bytes_of (map seen later)) whole_is is pushed;
+          knows = subst (λ (f : Frame). Knows f next) (parameters_are texts more (seen item).bytes here) then.0;
+          texts_are = text_more (bytes_of (map seen all)) texts more (seen item).bytes text (bytes_of (map seen later)) sofar.texts_are is pushed;
           left =
               subst (λ (names : Names). IsLeft whole (map seen later ++ others) (keeps_parameters names (place + 1) (bytes_of (map seen later)) ++ keeps))
               (append_assoc frame.earlier texts ((seen item).bytes ∷ []) ∙ ap (λ (ts : Names). frame.earlier ++ ts) here) then.1;

@@ -75,8 +75,8 @@ module _ (placed : CodeUnit) where
       subst (λ (xs : List Item). IsLeft whole_at (map seen xs ++ words_behind_statics) (keeps_apart [] (bytes_of (map seen xs)) ++ keeps_behind_statics)) (sym is)
       (unit_begins (seen_unit placed))
 
-  pub knows_statics : {items : List Item} {scope : Scope} → items ≡ placed.statics.items → Knows (of_statics (bytes_of (map seen items))) scope → Knows (of_statics unit_at.statics) scope
-  knows_statics {scope = scope} is knows = subst (λ (xs : List Item). Knows (of_statics (bytes_of (map seen xs))) scope) is knows
+  pub knows_statics : {items : List Item} (scope : Scope) → items ≡ placed.statics.items → Knows (of_statics (bytes_of (map seen items))) scope → Knows (of_statics unit_at.statics) scope
+  knows_statics scope is knows = subst (λ (xs : List Item). Knows (of_statics (bytes_of (map seen xs))) scope) is knows
 
   -- ---- its step
 
@@ -112,6 +112,6 @@ module _ (placed : CodeUnit) where
     pub at_statements : {items : List PlacedStatement} → items ≡ placed.step.statements.items → StatementsLeft placed.step.statements.items → StatementsLeft items
     at_statements is left = subst StatementsLeft (sym is) left
 
-  pub knows_with : (with_names : Names → Frame) {items others : List Item} {scope : Scope} → items ≡ others → Knows (with_names (bytes_of (map seen items))) scope
+  pub knows_with : (with_names : Names → Frame) {items others : List Item} (scope : Scope) → items ≡ others → Knows (with_names (bytes_of (map seen items))) scope
       → Knows (with_names (bytes_of (map seen others))) scope
-  knows_with with_names {scope = scope} is knows = subst (λ (xs : List Item). Knows (with_names (bytes_of (map seen xs))) scope) is knows
+  knows_with with_names scope is knows = subst (λ (xs : List Item). Knows (with_names (bytes_of (map seen xs))) scope) is knows

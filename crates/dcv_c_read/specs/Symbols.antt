@@ -30,7 +30,8 @@ seen_part (CodeTest test) = ATest (seen_test test)
 seen_part (CodeTests tests) = Tests (reverse (map seen_test tests.items))
 seen_part (CodeBehind number tests) = Behind (seen number) (reverse (map seen_test tests.items))
 seen_part (CodeStep step) =
-    AStep (seen step.name) (map seen step.parameters.items) (map seen step.locals.items) (map seen_statement step.statements.items) (seen_returned step.returned)
+    AStep (seen step.name) (map seen step.parameters.items) (map seen step.locals.items) (map seen_statement step.statements.items)
+    (seen_returned step.returned)
 seen_part (CodeUnit placed) = AUnit (seen_unit placed)
 
 abbrev pub IsMeant : Part → Type 0

@@ -83,7 +83,7 @@ fn declaration_at(names: &[Declaration], place: usize) -> Option<Declaration>
 }
 
 fn contains(names: &[&[u8]], name: &[u8]) -> bool
-    ensures { result ≡ list_any (bytes_eq name.now) (map (λ name. name.now) names.now) }
+    ensures { result ≡ list_any (λ other. bytes_eq name.now other.now) names.now }
 {
     names.iter().any(|other| name == *other)
 }
@@ -109,6 +109,12 @@ impl<'a> Scope<'a> {
         }
     }
 
+    fn has_place(&self, name: &[u8]) -> bool
+        ensures { result ≡ list_any (bytes_eq name.now) self.now.declared }
+    {
+        self.declared.place_of(name).is_some()
+    }
+
     /// Adds the name of a function.
     pub(crate) fn function(&mut self, word: &Item<'a>) -> Result<(), ObsFault>
         ensures { (frame : Frame) → Knows frame self.old
@@ -119,7 +125,7 @@ impl<'a> Scope<'a> {
         if contains(&self.functions, word.bytes) {
             return Err(broken(word));
         }
-        if self.declared.place_of(word.bytes).is_some() {
+        if self.has_place(word.bytes) {
             return Err(broken(word));
         }
         push(&mut self.functions, word.bytes)?;
@@ -164,7 +170,7 @@ impl<'a> Scope<'a> {
 
     /// From now on the name at a place is known.
     pub(crate) fn mark(&mut self, place: u32)
-        ensures functions { self.new.functions ≡ self.old.functions }
+        ensures functions { map (λ name. name.now) self.new.functions.items ≡ map (λ name. name.now) self.old.functions.items }
         ensures declared { self.new.declared ≡ self.old.declared }
         ensures names { map seen_row self.new.names.items ≡ marked place (map seen_row self.old.names.items) }
     {

@@ -13,7 +13,7 @@ pub returns : goal.returns
 returns c = λ (frame : Frame) knows (whole : Option ℕ) (words : List Token) (keeps : List Bool) left.
     let name = (seen_assignment c.args.assignment.now).name.bytes in
     let found = c.in_ok-name.ensures frame knows in (
-      λ (more : Names) i. record { name = named_with frame.placed more name c.in_ok-name.field-0 found.1 i; number = c.number_at.ensures i },
-      marked_then frame _ _ _ knows name c.in_ok-name.field-0 found.1 c.mark.ensures.functions c.mark.ensures.declared c.mark.ensures.names,
+      λ (more : Names) i. record { name = named_with frame.placed more name c.in_ok-name.name found.1 i; number = c.number_at.ensures i },
+      marked_then frame _ _ _ knows name c.in_ok-name.name found.1 c.mark.ensures.functions c.mark.ensures.declared c.mark.ensures.names,
       kept found.0 left,
     )

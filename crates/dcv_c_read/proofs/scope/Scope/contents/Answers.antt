@@ -25,7 +25,7 @@ returns-in_err-reset c =
     let whole = whole_at placed in
     let statics = at_statics placed c.deref.ensures.value in
     let first = c.in_ok-statics.ensures no_names c.requires.none whole (words_behind_statics placed) (keeps_behind_statics placed) statics in
-    let knows = knows_statics placed c.deref.ensures.value first.1 in
+    let knows = knows_statics placed c.variables.new.self c.deref.ensures.value first.1 in
     leads_on whole _ c.from_residual-in_err-reset.result c.in_err-reset.field-0.0 c.from_residual-in_err-reset.ensures.1
     (c.in_err-reset.ensures unit.statics knows whole (words_of_step (seen_unit placed)) (keeps_step unit) first.2)
 
@@ -36,7 +36,7 @@ returns-in_err-step c =
     let whole = whole_at placed in
     let statics = at_statics placed c.deref.ensures.value in
     let first = c.in_ok-statics.ensures no_names c.requires.none whole (words_behind_statics placed) (keeps_behind_statics placed) statics in
-    let knows = knows_statics placed c.deref.ensures.value first.1 in
+    let knows = knows_statics placed c.variables.new.self c.deref.ensures.value first.1 in
     let second = c.in_ok-reset.ensures unit.statics knows whole (words_of_step (seen_unit placed)) (keeps_step unit) first.2 in
     leads_on whole _ c.from_residual-in_err-step.result c.in_err-step.field-0.0 c.from_residual-in_err-step.ensures.1
     (c.in_err-step.ensures second.2 whole second.3)
@@ -48,7 +48,7 @@ returns c =
     let whole = whole_at placed in
     let statics = at_statics placed c.deref.ensures.value in
     let first = c.in_ok-statics.ensures no_names c.requires.none whole (words_behind_statics placed) (keeps_behind_statics placed) statics in
-    let knows = knows_statics placed c.deref.ensures.value first.1 in
+    let knows = knows_statics placed c.variables.new.self c.deref.ensures.value first.1 in
     let second = c.in_ok-reset.ensures unit.statics knows whole (words_of_step (seen_unit placed)) (keeps_step unit) first.2 in
     let third = c.in_ok-step.ensures second.2 whole second.3 in
     record {

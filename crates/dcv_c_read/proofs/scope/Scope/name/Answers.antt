@@ -1,6 +1,7 @@
 use Rattle.std.proofs.Common.{map, sym, ◌∙◌}
+use Rattle.std.proofs.lemmas.Bool.{not-true}
 use Rattle.dcv_c_read.specs.Scope.{Frame, seen_row}
-use Rattle.dcv_c_read.proofs.Known.{not_known}
+use Rattle.dcv_c_read.proofs.Known.{not_known, is_true}
 use Rattle.dcv_c_read.proofs.Judging.{broken_word}
 use Rattle.dcv_c_read.proofs.scope.Scope.name.Goals as goal
 
@@ -10,9 +11,9 @@ returns-in_default c = λ (frame : Frame) knows.
 
 pub returns-then-not-name : goal.returns-then-not-name
 returns-then-not-name c = λ (frame : Frame) knows.
-    broken_word c.broken-then-not-name.ensures (sym (c.in-Some.ensures frame knows).is_known ∙ c.if-not-name.true)
+    broken_word c.broken-then-not-name.ensures (sym (c.in-Some.ensures frame knows).is_known ∙ not-true c.in-Some.name.known c.if-not-name.true)
 
 pub returns : goal.returns
 returns c = λ (frame : Frame) knows.
     let found = c.in-Some.ensures frame knows in
-    (sym found.is_known ∙ c.if-not-name.false, found.named.is)
+    (sym found.is_known ∙ is_true c.in-Some.name.known c.if-not-name.false, found.named.is)

@@ -12,24 +12,24 @@ use Rattle.dcv_c_read.proofs.scope.Scope.parameters.Goals as goal
 
 pub loop-place-init : goal.loop-place-init
 loop-place-init c = λ (frame : Frame) knows (whole : Option ℕ) (others : List Token) (keeps : List Bool) left.
-    parameters_begin frame whole others keeps c.args.words.now _ knows left
+    parameters_begin frame whole others keeps c.args.words.now c.args.self.now c.new-texts.ensures.items knows left
 
 pub returns-then-place-ge-MOST_PARAMETERS : goal.returns-then-place-ge-MOST_PARAMETERS
 returns-then-place-ge-MOST_PARAMETERS c = λ (frame : Frame) knows (whole : Option ℕ) (others : List Token) (keeps : List Bool) left.
     let items = c.args.words.now in
     let i = c.loop-place.place in
+    let large : nat_lt i 16 ≡ false = grind (arith, nat_tests, c.if-place-ge-MOST_PARAMETERS.true) in
     let sofar = subst (λ (rest : List Item). AreParametersSoFar frame whole others keeps items i c.loop-place.texts.items rest c.loop-place.self) (drop_more items i _ c.loop-place-test.true)
     (c.loop-place.invariant frame knows whole others keeps left) in
-    let large : nat_lt i 16 ≡ false = grind (arith, nat_tests, c.if-place-ge-MOST_PARAMETERS.true) in
     fault_is c.broken.ensures (broken (beyond _ i large) sofar.left)
 
 pub returns-in_err-declare : goal.returns-in_err-declare
 returns-in_err-declare c = λ (frame : Frame) knows (whole : Option ℕ) (others : List Token) (keeps : List Bool) left.
     let items = c.args.words.now in
     let i = c.loop-place.place in
+    let small : nat_lt i 16 ≡ true = grind (arith, nat_tests, c.if-place-ge-MOST_PARAMETERS.false) in
     let sofar = subst (λ (rest : List Item). AreParametersSoFar frame whole others keeps items i c.loop-place.texts.items rest c.loop-place.self) (drop_more items i _ c.loop-place-test.true)
     (c.loop-place.invariant frame knows whole others keeps left) in
-    let small : nat_lt i 16 ≡ true = grind (arith, nat_tests, c.if-place-ge-MOST_PARAMETERS.false) in
     leads_on whole _ c.from_residual.result c.in_err-declare.field-0.0 c.from_residual.ensures.1
     (c.in_err-declare.ensures _ sofar.knows whole _ _ (parameter_left frame whole others keeps items c.loop-place.texts.items _ (drop (i + 1) items) i c.loop-place.self small sofar))
 
@@ -37,11 +37,11 @@ pub loop-place-preserved : goal.loop-place-preserved
 loop-place-preserved c = λ (frame : Frame) knows (whole : Option ℕ) (others : List Token) (keeps : List Bool) left.
     let items = c.args.words.now in
     let i = c.loop-place.place in
+    let small : nat_lt i 16 ≡ true = grind (arith, nat_tests, c.if-place-ge-MOST_PARAMETERS.false) in
     let sofar = subst (λ (rest : List Item). AreParametersSoFar frame whole others keeps items i c.loop-place.texts.items rest c.loop-place.self) (drop_more items i _ c.loop-place-test.true)
     (c.loop-place.invariant frame knows whole others keeps left) in
-    let small : nat_lt i 16 ≡ true = grind (arith, nat_tests, c.if-place-ge-MOST_PARAMETERS.false) in
-    parameters_more frame whole others keeps items c.loop-place.texts.items _ (drop (i + 1) items) i c.push.new.items.items c.in_ok-copy_of.field-0 _ c.in_ok-push.ensures c.in_ok-copy_of.ensures sofar.texts_are
-    (c.in_ok-declare.ensures _ sofar.knows whole _ _ (parameter_left frame whole others keeps items c.loop-place.texts.items _ (drop (i + 1) items) i c.loop-place.self small sofar))
+    parameters_more frame whole others keeps items c.loop-place.texts.items _ (drop (i + 1) items) i c.loop-place.self sofar c.push.new.items.items c.in_ok-copy_of.field-0 c.declare.new.self
+    (c.in_ok-declare.ensures _ sofar.knows whole _ _ (parameter_left frame whole others keeps items c.loop-place.texts.items _ (drop (i + 1) items) i c.loop-place.self small sofar)) c.in_ok-push.ensures c.in_ok-copy_of.ensures
 
 pub returns : goal.returns
 returns c = λ (frame : Frame) knows (whole : Option ℕ) (others : List Token) (keeps : List Bool) left.

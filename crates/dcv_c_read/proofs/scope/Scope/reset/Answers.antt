@@ -12,6 +12,10 @@ use Rattle.dcv_c_read.proofs.Judging.{kept, broken, leads_on, fault_is}
 use Rattle.dcv_c_read.proofs.Whole.{assigned, reset_left, reset_end, reset_knows}
 use Rattle.dcv_c_read.proofs.scope.Scope.reset.Goals as goal
 
+pub returns-in_err-function : goal.returns-in_err-function
+returns-in_err-function c = λ (statics : Names) knows (whole : Option ℕ) (words : List Token) (keeps : List Bool) left.
+    leads_on whole _ c.from_residual.result c.in_err-function.field-0.0 c.from_residual.ensures.1 (c.in_err-function.ensures (of_statics statics) knows whole _ _ left)
+
 pub returns-in_err-assignments : goal.returns-in_err-assignments
 returns-in_err-assignments c = λ (statics : Names) knows (whole : Option ℕ) (words : List Token) (keeps : List Bool) left.
     let reset = c.args.reset.now in

@@ -12,6 +12,11 @@ use Rattle.dcv_c_read.proofs.Named.{statements_at, returned_at}
 use Rattle.dcv_c_read.proofs.Whole.{unit_at, at_parameters, at_locals, at_statements, knows_with}
 use Rattle.dcv_c_read.proofs.scope.Scope.step.Goals as goal
 
+pub returns-in_err-function : goal.returns-in_err-function
+returns-in_err-function c = λ knows (whole : Option ℕ) left.
+    leads_on whole _ c.from_residual.result c.in_err-function.field-0.0 c.from_residual.ensures.1
+    (c.in_err-function.ensures (behind_reset (unit_at c.args.placed.now)) knows whole _ _ left)
+
 pub returns-in_err-parameters : goal.returns-in_err-parameters
 returns-in_err-parameters c = λ knows (whole : Option ℕ) left.
     let placed = c.args.placed.now in
@@ -31,7 +36,7 @@ returns-in_err-locals c = λ knows (whole : Option ℕ) left.
     let parameters = at_parameters placed whole c.deref.ensures.value first.1 in
     let second = c.in_ok-parameters.ensures behind_name first.0 whole _ _ parameters in
     let behind_parameters = with_parameters unit.parameters behind_name in
-    let knows_parameters = knows_with placed (λ (names : Names). with_parameters names behind_name) c.deref.ensures.value second.1 in
+    let knows_parameters = knows_with placed (λ (names : Names). with_parameters names behind_name) c.parameters.new.self c.deref.ensures.value second.1 in
     let locals = at_locals placed whole c.deref-2.ensures.value second.2 in
     leads_on whole _ c.from_residual-in_err-locals.result c.in_err-locals.field-0.0 c.from_residual-in_err-locals.ensures.1
     (c.in_err-locals.ensures behind_parameters knows_parameters whole _ _ locals)
@@ -45,10 +50,10 @@ returns-in_err-statements c = λ knows (whole : Option ℕ) left.
     let parameters = at_parameters placed whole c.deref.ensures.value first.1 in
     let second = c.in_ok-parameters.ensures behind_name first.0 whole _ _ parameters in
     let behind_parameters = with_parameters unit.parameters behind_name in
-    let knows_parameters = knows_with placed (λ (names : Names). with_parameters names behind_name) c.deref.ensures.value second.1 in
+    let knows_parameters = knows_with placed (λ (names : Names). with_parameters names behind_name) c.parameters.new.self c.deref.ensures.value second.1 in
     let locals = at_locals placed whole c.deref-2.ensures.value second.2 in
     let third = c.in_ok-locals.ensures behind_parameters knows_parameters whole _ _ locals in
-    let knows_locals = knows_with placed (λ (names : Names). with_variables names behind_parameters) c.deref-2.ensures.value third.1 in
+    let knows_locals = knows_with placed (λ (names : Names). with_variables names behind_parameters) c.variables.new.self c.deref-2.ensures.value third.1 in
     let statements = at_statements placed whole c.deref-3.ensures.value third.2 in
     leads_on whole _ c.from_residual-in_err-statements.result c.in_err-statements.field-0.0 c.from_residual-in_err-statements.ensures.1
     (c.in_err-statements.ensures (behind_locals unit) knows_locals unit refl whole _ statements)
@@ -62,10 +67,10 @@ returns-in_err-returned c = λ knows (whole : Option ℕ) left.
     let parameters = at_parameters placed whole c.deref.ensures.value first.1 in
     let second = c.in_ok-parameters.ensures behind_name first.0 whole _ _ parameters in
     let behind_parameters = with_parameters unit.parameters behind_name in
-    let knows_parameters = knows_with placed (λ (names : Names). with_parameters names behind_name) c.deref.ensures.value second.1 in
+    let knows_parameters = knows_with placed (λ (names : Names). with_parameters names behind_name) c.parameters.new.self c.deref.ensures.value second.1 in
     let locals = at_locals placed whole c.deref-2.ensures.value second.2 in
     let third = c.in_ok-locals.ensures behind_parameters knows_parameters whole _ _ locals in
-    let knows_locals = knows_with placed (λ (names : Names). with_variables names behind_parameters) c.deref-2.ensures.value third.1 in
+    let knows_locals = knows_with placed (λ (names : Names). with_variables names behind_parameters) c.variables.new.self c.deref-2.ensures.value third.1 in
     let statements = at_statements placed whole c.deref-3.ensures.value third.2 in
     let fourth = c.in_ok-statements.ensures (behind_locals unit) knows_locals unit refl whole _ statements in
     let last = with_known fourth.1.known (behind_locals unit) in
@@ -81,10 +86,10 @@ returns c = λ knows (whole : Option ℕ) left.
     let parameters = at_parameters placed whole c.deref.ensures.value first.1 in
     let second = c.in_ok-parameters.ensures behind_name first.0 whole _ _ parameters in
     let behind_parameters = with_parameters unit.parameters behind_name in
-    let knows_parameters = knows_with placed (λ (names : Names). with_parameters names behind_name) c.deref.ensures.value second.1 in
+    let knows_parameters = knows_with placed (λ (names : Names). with_parameters names behind_name) c.parameters.new.self c.deref.ensures.value second.1 in
     let locals = at_locals placed whole c.deref-2.ensures.value second.2 in
     let third = c.in_ok-locals.ensures behind_parameters knows_parameters whole _ _ locals in
-    let knows_locals = knows_with placed (λ (names : Names). with_variables names behind_parameters) c.deref-2.ensures.value third.1 in
+    let knows_locals = knows_with placed (λ (names : Names). with_variables names behind_parameters) c.variables.new.self c.deref-2.ensures.value third.1 in
     let statements = at_statements placed whole c.deref-3.ensures.value third.2 in
     let fourth = c.in_ok-statements.ensures (behind_locals unit) knows_locals unit refl whole _ statements in
     let last = with_known fourth.1.known (behind_locals unit) in
@@ -95,7 +100,7 @@ returns c = λ knows (whole : Option ℕ) left.
         locals = third.0 ∙ ap (λ (items : List Item). bytes_of (map seen items)) c.deref-2.ensures.value;
         statements = statements_at statement_seen c.in_ok-statements.statements.items unit.statements unit.statics unit.parameters unit.locals
             (fourth.0 ∙ ap (λ (items : List PlacedStatement). map statement_of (map seen_statement items)) c.deref-3.ensures.value);
-        returned = returned_at c.in_ok-returned.field-0 unit.statics unit.parameters unit.locals fifth.0;
+        returned = returned_at c.in_ok-returned.returned unit.statics unit.parameters unit.locals fifth.0;
       },
       fifth.1,
     )

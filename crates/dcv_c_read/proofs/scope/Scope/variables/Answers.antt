@@ -9,7 +9,7 @@ use Rattle.dcv_c_read.proofs.scope.Scope.variables.Goals as goal
 
 pub loop-word-init : goal.loop-word-init
 loop-word-init c = λ (frame : Frame) knows (whole : Option ℕ) (others : List Token) (keeps : List Bool) left.
-    variables_begin frame whole others keeps c.args.words.now _ knows left
+    variables_begin frame whole others keeps c.args.words.now c.args.self.now c.new-texts.ensures.items knows left
 
 pub returns-in_err-declare : goal.returns-in_err-declare
 returns-in_err-declare c = λ (frame : Frame) knows (whole : Option ℕ) (others : List Token) (keeps : List Bool) left.
@@ -25,8 +25,8 @@ loop-word-preserved c = λ (frame : Frame) knows (whole : Option ℕ) (others : 
     let i = c.loop-word.word-index in
     let sofar = subst (λ (rest : List Item). AreDeclaredSoFar frame whole others keeps items c.loop-word.texts.items rest c.loop-word.self) (drop_more items i _ c.loop-word-test.true)
     (c.loop-word.invariant frame knows whole others keeps left) in
-    variables_more frame whole others keeps items c.loop-word.texts.items _ (drop (i + 1) items) c.push.new.items.items c.in_ok-copy_of.field-0 _ c.in_ok-push.ensures c.in_ok-copy_of.ensures sofar.texts_are
-    (c.in_ok-declare.ensures _ sofar.knows whole _ _ sofar.left)
+    variables_more frame whole others keeps items c.loop-word.texts.items _ (drop (i + 1) items) c.loop-word.self sofar c.push.new.items.items c.in_ok-copy_of.field-0 c.declare.new.self
+    (c.in_ok-declare.ensures _ sofar.knows whole _ _ sofar.left) c.in_ok-push.ensures c.in_ok-copy_of.ensures
 
 pub returns : goal.returns
 returns c = λ (frame : Frame) knows (whole : Option ℕ) (others : List Token) (keeps : List Bool) left.
