@@ -1,12 +1,12 @@
 -- One more name is declared.
-use Rattle.std.proofs.Common.{◌≡◌, ℕ, ◌+◌, Bool, true, false, not, cond, ◌&&◌, ◌||◌, List, [], ◌∷◌, ◌++◌, length, map, Option, Some, refl, sym, ap, subst, ◌∙◌, arith, inl, inr}
+use Rattle.std.proofs.Common.{◌≡◌, ℕ, ◌+◌, Bool, true, false, not, cond, ◌&&◌, ◌||◌, List, [], ◌∷◌, ◌++◌, length, map, refl, sym, ap, subst, ◌∙◌, arith, inl, inr}
 use Rattle.std.specs.Prelude.{bytes_eq}
 use Rattle.std.proofs.lemmas.List.{map_push}
 use Rattle.std.proofs.lemmas.Bool.{or_from, or_parts, or_left, or_right, or_cases, both_ways, false≢true, not-true, false_from_ne_true}
 use Rattle.dcv_observer.specs.Conditions.{Names}
 use Rattle.dcv_c.specs.Meaning.{is_among}
 use Rattle.dcv_c.specs.Rules.{keeps_new}
-use Rattle.dcv_c.proofs.Names.{is_itself, differs, differs_back, among_append_left, among_append_right, among_append_cases}
+use Rattle.dcv_c.proofs.Names.{is_itself, differs, differs_back, among_append_left, among_append_right}
 use Rattle.dcv_c_read.specs.declared.scope.Sort.{Sort}
 use Rattle.dcv_c_read.specs.declared.scope.Sort.TheVariants.{Variable, Parameter}
 use Rattle.dcv_c_read.specs.Scope.{AreDistinct, Row, Frame, with_function, with_names, is_variable, IsRow, AreRows, KnowsNames}

@@ -1,15 +1,15 @@
 -- Names that are known from now on, and whether all are.
 use Rattle.std.proofs.Common.{◌≡◌, ℕ, zero, suc, ◌+◌, ◌<◌, ◌≤◌, Bool, true, false, not, ◌&&◌, ◌||◌, List, []}
-use Rattle.std.proofs.Common.{◌∷◌, length, map, get_or, refl, sym, ap, subst, ◌∙◌, arith, inl, inr, Vec, Global}
+use Rattle.std.proofs.Common.{◌∷◌, length, map, get_or, refl, sym, ap, subst, ◌∙◌, arith, inl, inr}
 use Rattle.std.specs.Prelude.{bytes_eq, slice_set}
 use Rattle.std.specs.List.{list_all}
-use Rattle.std.proofs.lemmas.Bool.{or_parts, or_left, or_right, or_cases, and_from, both_ways, false≢true, false_from_ne_true}
+use Rattle.std.proofs.lemmas.Bool.{or_parts, or_left, or_cases, and_from, both_ways, false≢true, false_from_ne_true}
 use Rattle.dcv_observer.specs.Conditions.{Names}
 use Rattle.dcv_c.specs.Meaning.{is_among}
 use Rattle.dcv_c.specs.Rules.{keeps_new}
 use Rattle.dcv_c.proofs.Names.{is_itself, one_name, differs}
 use Rattle.dcv_c_read.specs.declared.scope.Declaration.{Declaration}
-use Rattle.dcv_c_read.specs.Scope.{AreDistinct, Row, Frame, with_known, seen_row, IsRow, AreRows, KnowsNames, IsNamed, IsFoundAs, marked}
+use Rattle.dcv_c_read.specs.Scope.{AreDistinct, Row, Frame, with_known, seen_row, AreRows, KnowsNames, IsNamed, marked}
 use Rattle.dcv_c_read.proofs.Found.{among_at, named_among}
 
 -- ---- a name that is known from now on

@@ -1,29 +1,16 @@
 -- What is made of a list so far and what is left of it, one after another.
-use Rattle.std.proofs.Common.{◌≡◌, ℕ, zero, suc, ◌+◌, ◌<◌, ◌≤◌, Bool, true, false, ◌&&◌, ◌||◌, List, [], ◌∷◌, ◌++◌, length, map, drop, get_or, Option, refl, sym, ap, subst, ◌∙◌, arith, append_assoc}
-use Rattle.std.specs.Prelude.{bytes_eq, nat_lt}
-use Rattle.std.specs.List.{flat_map}
-use Rattle.std.proofs.lemmas.List.{at_drop_all, map_push, append-nil}
+use Rattle.std.proofs.Common.{◌≡◌, ℕ, ◌+◌, Bool, true, false, ◌&&◌, List, [], ◌∷◌, ◌++◌, map, Option, refl, sym, ap, subst, ◌∙◌, append_assoc}
+use Rattle.std.specs.Prelude.{nat_lt}
+use Rattle.std.proofs.lemmas.List.{map_push, append-nil}
 use Rattle.dcv_lexer.specs.Cuts.{Token}
-use Rattle.dcv_observer.specs.Conditions.{Names, name_at, seen_test as test_seen}
+use Rattle.dcv_observer.specs.Conditions.{Names}
 use Rattle.dcv_observer.specs.Left.{seen}
 use Rattle.dcv_observer.specs.declared.items.Item.{Item}
-use Rattle.dcv_observer.specs.declared.conditions.Test.{Test as CodeTest}
-use Rattle.dcv_observer.specs.declared.fault.ObsFault.{ObsFault}
-use Rattle.dcv_c.specs.declared.unit.Assignment.{Assignment as CodeAssignment}
-use Rattle.dcv_c.specs.declared.unit.Statement.{Statement as CodeStatement}
-use Rattle.dcv_c.specs.Tree.{Assignment, Test, Statement, CUnit}
-use Rattle.dcv_c.specs.Meaning.{is_among}
-use Rattle.dcv_c.specs.Seen.{seen_assignment as assignment_seen, seen_statement as statement_seen}
-use Rattle.dcv_c.specs.Placed.{bytes_of, assignment_of, statement_of, test_of}
-use Rattle.dcv_c.specs.Rules.{keeps_new, keeps_apart, keeps_parameters, keeps_assignments, keeps_statement, keeps_statements, known_after, words_of_statement}
-use Rattle.dcv_c_read.specs.declared.placed.PlacedAssignment.{PlacedAssignment}
-use Rattle.dcv_c_read.specs.declared.placed.PlacedStatement.{PlacedStatement}
-use Rattle.dcv_c_read.specs.declared.placed.PlacedTest.{PlacedTest}
+use Rattle.dcv_c.specs.Placed.{bytes_of}
+use Rattle.dcv_c.specs.Rules.{keeps_new, keeps_apart, keeps_parameters}
 use Rattle.dcv_c_read.specs.declared.scope.Scope.{Scope}
-use Rattle.dcv_c_read.specs.Seen.{seen_assignment, seen_statement, seen_test}
-use Rattle.dcv_c_read.specs.Scope.{Frame, with_known, with_variables, with_parameters, Knows, KnowsAssigned, KnowsMore}
-use Rattle.dcv_c_read.specs.Judged.{IsLeft, IsBroken, IsFaultOf, words_of_assignments, names_of_assignments, words_of_statements, words_of_tests, keeps_tests}
-use Rattle.dcv_c_read.proofs.Judging.{kept, first_fault}
+use Rattle.dcv_c_read.specs.Scope.{Frame, with_variables, with_parameters, Knows}
+use Rattle.dcv_c_read.specs.Judged.{IsLeft}
 
 -- what is made so far and what is left make up the whole
 pub one_more : {X Y Z : Type 0} (f : X → Y) (g : Z → Y) (made more : List X) (x : X) (z : Z) (later : List Z) (all : List Y) → more ≡ made ++ x ∷ [] → f x ≡ g z
@@ -62,47 +49,47 @@ module _ (frame : Frame) (whole : Option ℕ) (others : List Token) (keeps : Lis
   variables_are texts more name is =
       let joined : (names : Names) → (names ++ texts) ++ name ∷ [] ≡ names ++ more = λ names. append_assoc names texts (name ∷ []) ∙ ap (λ (ts : Names). names ++ ts) is in
       λ i.
-          record {
-            earlier = joined frame.earlier i;
-            functions = frame.functions;
-            placed = joined frame.placed i;
-            lefts = joined frame.lefts i;
-            known = frame.known;
-          }
+      record {
+        earlier = joined frame.earlier i;
+        functions = frame.functions;
+        placed = joined frame.placed i;
+        lefts = joined frame.lefts i;
+        known = frame.known;
+      }
 
   parameters_are : (texts more : Names) (name : List ℕ) → texts ++ name ∷ [] ≡ more → with_parameters (name ∷ []) (with_parameters texts frame) ≡ with_parameters more frame
   parameters_are texts more name is =
       let joined : (names : Names) → (names ++ texts) ++ name ∷ [] ≡ names ++ more = λ names. append_assoc names texts (name ∷ []) ∙ ap (λ (ts : Names). names ++ ts) is in
       λ i.
-          record {
-            earlier = joined frame.earlier i;
-            functions = frame.functions;
-            placed = joined frame.placed i;
-            lefts = frame.lefts;
-            known = joined frame.known i;
-          }
+      record {
+        earlier = joined frame.earlier i;
+        functions = frame.functions;
+        placed = joined frame.placed i;
+        lefts = frame.lefts;
+        known = joined frame.known i;
+      }
 
   no_variables : frame ≡ with_variables [] frame
   no_variables =
       λ i.
-          record {
-            earlier = sym (append-nil frame.earlier) i;
-            functions = frame.functions;
-            placed = sym (append-nil frame.placed) i;
-            lefts = sym (append-nil frame.lefts) i;
-            known = frame.known;
-          }
+      record {
+        earlier = sym (append-nil frame.earlier) i;
+        functions = frame.functions;
+        placed = sym (append-nil frame.placed) i;
+        lefts = sym (append-nil frame.lefts) i;
+        known = frame.known;
+      }
 
   no_parameters : frame ≡ with_parameters [] frame
   no_parameters =
       λ i.
-          record {
-            earlier = sym (append-nil frame.earlier) i;
-            functions = frame.functions;
-            placed = sym (append-nil frame.placed) i;
-            lefts = frame.lefts;
-            known = sym (append-nil frame.known) i;
-          }
+      record {
+        earlier = sym (append-nil frame.earlier) i;
+        functions = frame.functions;
+        placed = sym (append-nil frame.placed) i;
+        lefts = frame.lefts;
+        known = sym (append-nil frame.known) i;
+      }
 
   pub variables_begin : {texts : Names} (scope : Scope) → texts ≡ [] → Knows frame scope
       → IsLeft whole (map seen all ++ others) (keeps_apart frame.earlier (bytes_of (map seen all)) ++ keeps) → AreDeclaredSoFar frame whole others keeps all texts all scope

@@ -1,5 +1,5 @@
 -- One more assignment, one more statement and one more test.
-use Rattle.std.proofs.Common.{◌≡◌, ℕ, zero, suc, ◌<◌, ◌≤◌, Bool, true, false, ◌||◌, List, [], ◌∷◌, ◌++◌, length, map, drop, get_or, Option, refl, sym, ap, subst, ◌∙◌, arith, append_assoc}
+use Rattle.std.proofs.Common.{◌≡◌, ℕ, zero, suc, ◌<◌, ◌≤◌, Bool, true, false, ◌||◌, List, [], ◌∷◌, ◌++◌, length, map, drop, Option, refl, sym, subst, ◌∙◌, arith, append_assoc}
 use Rattle.std.specs.Prelude.{bytes_eq}
 use Rattle.std.proofs.lemmas.List.{at_drop_all, append-nil}
 use Rattle.dcv_lexer.specs.Cuts.{Token}
@@ -12,7 +12,7 @@ use Rattle.dcv_c.specs.Tree.{Test, CUnit}
 use Rattle.dcv_c.specs.Meaning.{is_among}
 use Rattle.dcv_c.specs.Seen.{seen_assignment as assignment_seen, seen_statement as statement_seen}
 use Rattle.dcv_c.specs.Placed.{assignment_of, statement_of, test_of}
-use Rattle.dcv_c.specs.Rules.{keeps_new, keeps_assignments, keeps_statement, keeps_statements, keeps_returned, known_after, words_of_statement}
+use Rattle.dcv_c.specs.Rules.{keeps_assignments, keeps_statement, keeps_statements, known_after, words_of_statement}
 use Rattle.dcv_c_read.specs.declared.placed.PlacedAssignment.{PlacedAssignment}
 use Rattle.dcv_c_read.specs.declared.placed.PlacedStatement.{PlacedStatement}
 use Rattle.dcv_c_read.specs.declared.placed.PlacedTest.{PlacedTest}

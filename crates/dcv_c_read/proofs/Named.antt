@@ -1,18 +1,14 @@
 -- The parts make up a unit that keeps the rules, and no other fault is told than that of the first broken word.
-use Rattle.std.proofs.Common.{◌≡◌, ℕ, Bool, true, false, List, [], ◌∷◌, ◌++◌, map, None, Result, Ok, Err, refl, sym, ap, subst, ◌∙◌, append_assoc, inl, inr, ◌&&◌}
-use Rattle.std.specs.Prelude.{IfErr, bytes_eq, Option}
-use Rattle.std.specs.List.{list_all, flat_map}
+use Rattle.std.proofs.Common.{◌≡◌, ℕ, true, false, List, [], ◌∷◌, ◌++◌, map, Result, Ok, Err, refl, sym, ap, subst, ◌∙◌, append_assoc, inl, inr, ◌&&◌}
+use Rattle.std.specs.Prelude.{IfErr, bytes_eq}
+use Rattle.std.specs.List.{list_all}
 use Rattle.std.specs.Result.{IsErrAnd}
-use Rattle.std.proofs.lemmas.Bool.{cases_Bool, or_left, or_right, or_cases, and_parts, both_ways, false_from_ne_true}
-use Rattle.dcv_lexer.specs.Cuts.{Token}
+use Rattle.std.proofs.lemmas.Bool.{cases_Bool, or_cases, and_parts, both_ways, false_from_ne_true}
 use Rattle.dcv_observer.specs.Conditions.{Names}
 use Rattle.dcv_observer.specs.declared.fault.ObsFault.{ObsFault}
 use Rattle.dcv_observer.specs.declared.fault.ObsFault.TheVariants.{Syntax, Names as Fault, Memory}
-use Rattle.dcv_c.specs.declared.unit.Statement.{Statement as CodeStatement}
 use Rattle.dcv_c.specs.declared.unit.Returned.{Returned as CodeReturned}
-use Rattle.dcv_c.specs.declared.unit.Reset.{Reset}
-use Rattle.dcv_c.specs.declared.unit.Step.{Step}
-use Rattle.dcv_c.specs.Tree.{Returned, CUnit}
+use Rattle.dcv_c.specs.Tree.{Returned}
 use Rattle.dcv_c.specs.Meaning.{is_among}
 use Rattle.dcv_c.specs.Seen.{seen_assignment, seen_statement, seen_returned, seen_unit, all_names, names_of, IsUnit}
 use Rattle.dcv_c.specs.Placed.{PlacedUnit, unit_of}
@@ -23,7 +19,7 @@ use Rattle.dcv_c.proofs.Names.{one_name}
 use Rattle.dcv_c.proofs.JudgedWords.{well_named_if_unbroken}
 use Rattle.dcv_c_read.specs.declared.names.Contents.{Contents}
 use Rattle.dcv_c_read.specs.Judged.{IsLeft, IsFaultOf, words_of_assignments}
-use Rattle.dcv_c_read.specs.Contents.{first_fault_of, words_of_step, keeps_step, IsStepOf, AreContentsOf}
+use Rattle.dcv_c_read.specs.Contents.{first_fault_of, words_of_step, keeps_step, AreContentsOf}
 use Rattle.dcv_c_read.proofs.Spellable.{words_are_spellable}
 
 -- ---- the whole unit
@@ -83,16 +79,16 @@ module _ (placed : PlacedUnit) (contents : Contents) (are : AreContentsOf placed
       let statements = ap (λ (ns : Names). map (seen_statement ns) contents.step.statements.items) names ∙ are.step.statements in
       let returned = ap (λ (ns : Names). seen_returned ns contents.step.returned) names ∙ are.step.returned in
       λ i.
-          record {
-            statics = are.statics i;
-            reset = are.reset i;
-            assignments = assignments i;
-            step = are.step.name i;
-            parameters = are.step.parameters i;
-            locals = are.step.locals i;
-            statements = statements i;
-            returned = returned i;
-          }
+      record {
+        statics = are.statics i;
+        reset = are.reset i;
+        assignments = assignments i;
+        step = are.step.name i;
+        parameters = are.step.parameters i;
+        locals = are.step.locals i;
+        statements = statements i;
+        returned = returned i;
+      }
 
   pub is_unit : AreWords placed → IsUnit contents.statics.items contents.reset contents.step
   is_unit words =

@@ -1,5 +1,5 @@
 -- The functions of a unit, one step of the judging after another.
-use Rattle.std.proofs.Common.{◌≡◌, ℕ, Bool, true, false, List, [], ◌∷◌, ◌++◌, map, Option, Some, refl, sym, ap, subst, ◌∙◌}
+use Rattle.std.proofs.Common.{◌≡◌, ℕ, Bool, true, List, [], ◌∷◌, ◌++◌, map, Option, sym, ap, subst, ◌∙◌}
 use Rattle.std.specs.List.{list_all}
 use Rattle.dcv_lexer.specs.Cuts.{Token}
 use Rattle.dcv_observer.specs.Conditions.{Names}
@@ -7,18 +7,17 @@ use Rattle.dcv_observer.specs.Left.{seen}
 use Rattle.dcv_observer.specs.declared.items.Item.{Item}
 use Rattle.dcv_c.specs.Tree.{CUnit}
 use Rattle.dcv_c.specs.Meaning.{is_among}
-use Rattle.dcv_c.specs.Placed.{unit_of, bytes_of, assignment_of, statement_of, returned_of}
-use Rattle.dcv_c.specs.Rules.{keeps_new, keeps_apart, keeps_parameters, keeps_assignments, keeps_statements, keeps_returned, before_locals, before_parameters, words_of_returned, has_all_assignments}
+use Rattle.dcv_c.specs.Placed.{unit_of, bytes_of, assignment_of, statement_of}
+use Rattle.dcv_c.specs.Rules.{keeps_new, keeps_apart, keeps_parameters, keeps_assignments, keeps_statements, before_locals, before_parameters, words_of_returned, has_all_assignments}
 use Rattle.dcv_c_read.specs.declared.placed.PlacedUnit.{PlacedUnit as CodeUnit}
 use Rattle.dcv_c_read.specs.declared.placed.PlacedReset.{PlacedReset}
 use Rattle.dcv_c_read.specs.declared.placed.PlacedAssignment.{PlacedAssignment}
 use Rattle.dcv_c_read.specs.declared.placed.PlacedStatement.{PlacedStatement}
 use Rattle.dcv_c_read.specs.declared.scope.Scope.{Scope}
 use Rattle.dcv_c_read.specs.Seen.{seen_unit, seen_assignment, seen_statement, seen_returned}
-use Rattle.dcv_c_read.specs.Scope.{Frame, no_names, with_function, with_known, of_statics, behind_reset, Knows, KnowsAssigned}
+use Rattle.dcv_c_read.specs.Scope.{Frame, with_known, of_statics, Knows, KnowsAssigned}
 use Rattle.dcv_c_read.specs.Judged.{IsLeft, words_of_assignments, names_of_assignments, words_of_statements}
 use Rattle.dcv_c_read.specs.Contents.{first_fault_of, words_of_step, keeps_step}
-use Rattle.dcv_c_read.proofs.Judging.{kept, broken}
 use Rattle.dcv_c_read.proofs.Known.{known_as}
 use Rattle.dcv_c_read.proofs.Named.{unit_begins, all_assigned, all_as}
 

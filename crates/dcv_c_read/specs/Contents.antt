@@ -5,7 +5,6 @@
 use Rattle.std.specs.Prelude.{◌≡◌, ℕ, Bool, List, ◌∷◌, ◌++◌, Option, None, map}
 use Rattle.std.specs.List.{flat_map}
 use Rattle.dcv_lexer.specs.Cuts.{Token}
-use Rattle.dcv_observer.specs.Conditions.{Names}
 use Rattle.dcv_c.specs.declared.unit.Step.{Step}
 use Rattle.dcv_c.specs.Tree.{CUnit}
 use Rattle.dcv_c.specs.Seen.{seen_assignment, seen_statement, seen_returned, names_of}

@@ -2,14 +2,14 @@
 --     Keeps at keeps Next result     one word, which begins at this offset and keeps its rule or breaks it
 --     Leads whole Next result        words of a unit whose first broken word begins at an offset, if there is one
 --     IsLeft whole words keeps       the words that are not judged yet: the first of them that is broken is the first of all
-use Rattle.std.specs.Prelude.{◌≡◌, ℕ, Bool, true, false, List, [], ◌∷◌, map, Option, Some, Result, Ok, Err}
+use Rattle.std.specs.Prelude.{◌≡◌, ℕ, Bool, true, false, List, map, Option, Some, Result, Ok, Err}
 use Rattle.std.specs.List.{flat_map}
 use Rattle.dcv_lexer.specs.Cuts.{Token}
 use Rattle.dcv_observer.specs.Conditions.{Names}
 use Rattle.dcv_observer.specs.declared.fault.ObsFault.{ObsFault}
 use Rattle.dcv_observer.specs.declared.fault.ObsFault.TheVariants.{Syntax, Names as Fault, Memory}
 use Rattle.dcv_c.specs.Tree.{Assignment, Test}
-use Rattle.dcv_c.specs.Placed.{PlacedAssignment, PlacedStatement, PlacedTest, assignment_of}
+use Rattle.dcv_c.specs.Placed.{PlacedAssignment, PlacedStatement, PlacedTest}
 use Rattle.dcv_c.specs.Meaning.{is_among}
 use Rattle.dcv_c.specs.Rules.{first_broken, words_of_statement}
 

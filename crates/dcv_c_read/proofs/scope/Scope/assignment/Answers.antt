@@ -1,7 +1,6 @@
 use Rattle.std.proofs.Common.{ℕ, List, Bool, Option}
 use Rattle.dcv_lexer.specs.Cuts.{Token}
 use Rattle.dcv_observer.specs.Conditions.{Names}
-use Rattle.dcv_c.specs.Tree.{Assignment}
 use Rattle.dcv_c_read.specs.Seen.{seen_assignment}
 use Rattle.dcv_c_read.specs.Scope.{Frame}
 use Rattle.dcv_c_read.proofs.Judging.{kept}

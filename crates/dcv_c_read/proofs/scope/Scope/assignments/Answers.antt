@@ -1,4 +1,4 @@
-use Rattle.std.proofs.Common.{◌≡◌, ℕ, List, Bool, Option, map, drop, [], ◌∷◌, ◌+◌, subst}
+use Rattle.std.proofs.Common.{◌≡◌, ℕ, List, Bool, Option, map, drop, [], ◌+◌, subst}
 use Rattle.std.specs.List.{AllByRecursion}
 use Rattle.std.proofs.lemmas.List.{drop_more, at_drop_all}
 use Rattle.dcv_lexer.specs.Cuts.{Token}

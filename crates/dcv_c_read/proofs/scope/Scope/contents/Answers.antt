@@ -1,4 +1,4 @@
-use Rattle.std.proofs.Common.{◌≡◌, List, map, ap, sym, ◌++◌, ◌∙◌}
+use Rattle.std.proofs.Common.{List, map, ap, sym, ◌++◌, ◌∙◌}
 use Rattle.dcv_observer.specs.Left.{seen}
 use Rattle.dcv_observer.specs.declared.items.Item.{Item}
 use Rattle.dcv_c.specs.Placed.{bytes_of}

@@ -1,4 +1,4 @@
-use Rattle.std.proofs.Common.{List, ap, subst, sym, ◌∙◌, map}
+use Rattle.std.proofs.Common.{List, ap, subst, sym, ◌∙◌}
 use Rattle.std.specs.Prelude.{slice_get}
 use Rattle.dcv_c_read.specs.declared.scope.Declaration.{Declaration}
 use Rattle.dcv_c_read.specs.Scope.{Frame, IsFound}

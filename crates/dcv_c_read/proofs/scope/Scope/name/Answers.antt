@@ -1,6 +1,6 @@
-use Rattle.std.proofs.Common.{map, sym, ◌∙◌}
+use Rattle.std.proofs.Common.{sym, ◌∙◌}
 use Rattle.std.proofs.lemmas.Bool.{not-true}
-use Rattle.dcv_c_read.specs.Scope.{Frame, seen_row}
+use Rattle.dcv_c_read.specs.Scope.{Frame}
 use Rattle.dcv_c_read.proofs.Known.{not_known, is_true}
 use Rattle.dcv_c_read.proofs.Judging.{broken_word}
 use Rattle.dcv_c_read.proofs.scope.Scope.name.Goals as goal

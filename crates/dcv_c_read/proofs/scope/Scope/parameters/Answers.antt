@@ -1,10 +1,9 @@
-use Rattle.std.proofs.Common.{◌≡◌, ℕ, List, Bool, Option, false, true, drop, [], ◌+◌, ◌++◌, subst, arith}
+use Rattle.std.proofs.Common.{◌≡◌, ℕ, List, Bool, Option, false, true, drop, [], ◌+◌, subst, arith}
 use Rattle.std.specs.Prelude.{nat_lt}
 use Rattle.std.proofs.lemmas.List.{drop_more, at_drop_all}
 use Rattle.std.proofs.lemmas.Bool.Decides.{nat_tests}
 use Rattle.dcv_lexer.specs.Cuts.{Token}
 use Rattle.dcv_observer.specs.declared.items.Item.{Item}
-use Rattle.dcv_c.specs.Rules.{keeps_new}
 use Rattle.dcv_c_read.specs.Scope.{Frame}
 use Rattle.dcv_c_read.proofs.Judging.{broken, leads_on, fault_is}
 use Rattle.dcv_c_read.proofs.Lists.{AreParametersSoFar, parameters_begin, parameters_more, parameters_end, parameter_left, beyond}

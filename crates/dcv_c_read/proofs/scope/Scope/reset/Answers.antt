@@ -1,4 +1,4 @@
-use Rattle.std.proofs.Common.{◌≡◌, ℕ, List, Bool, Option, map, ◌∷◌, ap, sym, refl, ◌∙◌}
+use Rattle.std.proofs.Common.{ℕ, List, Bool, Option, map, ◌∷◌, ap, sym, refl, ◌∙◌}
 use Rattle.std.specs.List.{list_all}
 use Rattle.dcv_lexer.specs.Cuts.{Token}
 use Rattle.dcv_observer.specs.Conditions.{Names}
@@ -42,8 +42,7 @@ returns c = λ (statics : Names) knows (whole : Option ℕ) (words : List Token)
     let first = c.in_ok-function.ensures (of_statics statics) knows whole _ _ left in
     let set = c.in_ok-assignments.ensures frame first.0 whole (seen reset.end ∷ words) (list_all (is_among (assigned reset statics whole words keeps)) statics ∷ keeps)
     (reset_left reset statics whole words keeps c.deref.ensures.value first.1) in
-    let all = reset_end reset statics whole words keeps frame c.assignments.new.self c.all_known.result c.deref.ensures.value refl set.1 c.all_known.ensures in
-    (
+    let all = reset_end reset statics whole words keeps frame c.assignments.new.self c.all_known.result c.deref.ensures.value refl set.1 c.all_known.ensures in (
       c.in_ok-name.ensures,
       λ (more : Names). set.0 more ∙ ap (λ (xs : List PlacedAssignment). map assignment_of (map seen_assignment xs)) c.deref.ensures.value,
       reset_knows reset statics whole words keeps frame c.assignments.new.self refl set.1 (λ (f : Frame) k. sym c.if-not-all_known.false ∙ c.all_known.ensures f k),

@@ -1,4 +1,4 @@
-use Rattle.std.proofs.Common.{◌≡◌, ℕ, Bool, List, Option, ◌++◌}
+use Rattle.std.proofs.Common.{ℕ, Bool, List, Option}
 use Rattle.dcv_lexer.specs.Cuts.{Token}
 use Rattle.dcv_c.specs.Tree.{CUnit}
 use Rattle.dcv_c_read.specs.declared.placed.PlacedStatement.TheVariants.{When}

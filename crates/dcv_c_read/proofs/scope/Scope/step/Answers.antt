@@ -1,4 +1,4 @@
-use Rattle.std.proofs.Common.{◌≡◌, ℕ, List, Option, map, ap, refl, ◌∙◌}
+use Rattle.std.proofs.Common.{ℕ, List, Option, map, ap, refl, ◌∙◌}
 use Rattle.dcv_observer.specs.Conditions.{Names}
 use Rattle.dcv_observer.specs.Left.{seen}
 use Rattle.dcv_observer.specs.declared.items.Item.{Item}

@@ -1,4 +1,4 @@
-use Rattle.std.proofs.Common.{◌≡◌, ℕ, List, Option, map, drop, ◌++◌}
+use Rattle.std.proofs.Common.{◌≡◌, ℕ, Option, map, drop, ◌++◌}
 use Rattle.std.specs.List.{AllByRecursion}
 use Rattle.dcv_c.specs.Placed.{test_of}
 use Rattle.dcv_c.specs.Words.{AreWordsOfTest}
