@@ -58,7 +58,7 @@ fn act<'a>(alloc: Global, rule: u8, parts: Vec<Part<'a>>) -> Result<Part<'a>, Al
     match rule {
         tables::UNIT => functions::unit(parts),
         tables::STATIC => Ok(rules::static_name(parts)),
-        tables::MORE_STATICS | tables::LOCALS => rules::tokens(alloc, parts),
+        tables::MORE_STATICS => rules::tokens(alloc, parts),
         tables::RESET => Ok(functions::reset(parts)),
         tables::ASSIGNMENTS => rules::assignments(alloc, parts),
         tables::ASSIGNMENT => Ok(rules::assignment(parts)),
@@ -66,6 +66,7 @@ fn act<'a>(alloc: Global, rule: u8, parts: Vec<Part<'a>>) -> Result<Part<'a>, Al
         tables::PARAMETERS => rules::parameters(alloc, parts),
         tables::MORE_PARAMETERS => rules::more_parameters(alloc, parts),
         tables::PARAMETER => Ok(rules::parameter(parts)),
+        tables::LOCALS => rules::tokens(alloc, parts),
         tables::LOCAL => Ok(rules::local(parts)),
         tables::STATEMENTS => rules::statements(alloc, parts),
         tables::STATEMENT => Ok(choices::statement(parts)),
