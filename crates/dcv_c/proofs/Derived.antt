@@ -68,7 +68,7 @@ number_class n small =
 
 -- ---- items
 
-word_is_no_number : (bytes : List ℕ) → is_word bytes ≡ true → is_number bytes ≡ false
+pub word_is_no_number : (bytes : List ℕ) → is_word bytes ≡ true → is_number bytes ≡ false
 word_is_no_number [] word = refl
 word_is_no_number (b ∷ bytes) word =
     let letter = (and_parts (is_ascii_alphabetic b) (list_all is_word_byte bytes) word).0 in

@@ -4,6 +4,7 @@ pub mod Names
 pub mod KeptRules
 pub mod LeftOver
 pub mod OneUnit
+pub mod TokenClasses
 pub mod EachTree
 pub mod JudgedWords
 pub mod UnitPieces

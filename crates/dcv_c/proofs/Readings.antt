@@ -77,7 +77,7 @@ some_reading text = let (verdict, is) = some_found lexicon language text predict
     by (Some at) fault = inl (Syntax at, fault)
     by None (items, has, whole) =
         let (tree, are, leaves_are) = trees_derived language (token_class lexicon) whole items refl in
-        let (placed, stands) = tree_stands tree are in
+        let (placed, stands, words) = tree_stands tree are in
         spelled_reading text placed (items, has, (tree, record { derived = are; whole = leaves_are }, stands))
 
 pub no_fault_where_read : NoFaultWhereRead

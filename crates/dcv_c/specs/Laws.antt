@@ -16,6 +16,7 @@ use Rattle.dcv_c.specs.Rules.{IsWellNamed}
 use Rattle.dcv_c.specs.Placed.{PlacedUnit, unit_of}
 use Rattle.dcv_c.specs.Actions.{Spells}
 use Rattle.dcv_c.specs.Form.{IsSpellable}
+use Rattle.dcv_c.specs.Words.{AreWords}
 use Rattle.dcv_c.specs.Faults.{HasFault, IsReadAs}
 use Rattle.dcv_c.specs.Layout.{text_of}
 
@@ -58,6 +59,10 @@ TextIsReadBack = (unit : CUnit) → IsSpellable unit → IsWellNamed unit → Is
 -- a text spells one unit at most
 abbrev pub SpellsOne : Type 0
 SpellsOne = (text : List ℕ) (placed other : PlacedUnit) → Spells text placed → Spells text other → placed ≡ other
+
+-- the words of a unit that a text spells are what the grammar asks
+abbrev pub SpelledWords : Type 0
+SpelledWords = (text : List ℕ) (placed : PlacedUnit) → Spells text placed → AreWords placed
 
 -- ---- faults
 

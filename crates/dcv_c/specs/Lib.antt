@@ -11,5 +11,6 @@ pub mod Observer
 pub mod Faults
 pub mod Laws
 pub mod Form
+pub mod Words
 pub mod Seen
 pub mod Building

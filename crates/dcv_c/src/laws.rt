@@ -1,7 +1,7 @@
 //! Laws of units. Each function here does nothing: its contract is the law.
 ghost use Rattle.dcv_c.specs.Laws.{NoLeftOverIsRead};
 ghost use Rattle.dcv_c.specs.Laws.{ObserverOfFile, ObserverOfAutomaton};
-ghost use Rattle.dcv_c.specs.Laws.{TextSpellsUnit, TextIsReadBack, SpellsOne};
+ghost use Rattle.dcv_c.specs.Laws.{TextSpellsUnit, TextIsReadBack, SpellsOne, SpelledWords};
 ghost use Rattle.dcv_c.specs.Laws.{OneFault, SomeReading, NoFaultWhereRead};
 
 use dcv_automaton_file::laws::files_stand_for_automata;
@@ -27,11 +27,13 @@ pub fn observers_accept_the_same()
     tables_accept_the_same();
 }
 
-/// The text of a unit spells it, and no text spells two. So it is read back as the unit.
+/// The text of a unit spells it, and no text spells two. So it is read back as the unit. The words of what a text spells are those of the
+/// grammar.
 pub fn texts_spell_units()
     ensures text { TextSpellsUnit }
     ensures back { TextIsReadBack }
     ensures one { SpellsOne }
+    ensures words { SpelledWords }
 {}
 
 /// Each text has one fault, or is read as a unit.

@@ -86,8 +86,8 @@ impl CUnit {
     ghost use Rattle.dcv_c.specs.Rules.{IsWellNamed};
     ghost use Rattle.dcv_c.specs.Form.{IsSpellable};
 
-    /// A unit of these parts.
-    pub(crate) fn new(statics: Vec<Text>, reset: Reset, step: Step) -> CUnit
+    /// A unit of these parts, which keep the rules of names and have a text.
+    pub fn new(statics: Vec<Text>, reset: Reset, step: Step) -> CUnit
         requires { IsUnit statics.items reset step }
         ensures { result ≡ seen_unit statics.items reset step }
     {

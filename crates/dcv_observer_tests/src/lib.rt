@@ -2,4 +2,6 @@
 #![tactic(auto)]
 
 #[cfg(test)]
+mod c;
+#[cfg(test)]
 mod lustre;

@@ -1,3 +1,4 @@
+use Rattle.dcv_c.proofs.EachTree.{words_spelled}
 use Rattle.dcv_c.proofs.DerivedUnits.{text_spells}
 use Rattle.dcv_c.proofs.OneUnit.{one_unit}
 use Rattle.dcv_c.proofs.Readings.{text_is_read_back}
@@ -11,3 +12,6 @@ returns-clause-one c = one_unit
 
 pub returns-clause-back : goal.returns-clause-back
 returns-clause-back c = text_is_read_back
+
+pub returns-clause-words : goal.returns-clause-words
+returns-clause-words c = words_spelled

@@ -1,0 +1,192 @@
+-- One more name is declared.
+use Rattle.std.proofs.Common.{◌≡◌, ℕ, ◌+◌, Bool, true, false, not, cond, ◌&&◌, ◌||◌, List, [], ◌∷◌, ◌++◌, length, map, refl, sym, ap, subst, ◌∙◌, arith, inl, inr}
+use Rattle.std.specs.Prelude.{bytes_eq}
+use Rattle.std.proofs.lemmas.List.{map_push}
+use Rattle.std.proofs.lemmas.Bool.{or_from, or_parts, or_left, or_right, or_cases, both_ways, false≢true, not-true, false_from_ne_true}
+use Rattle.dcv_observer.specs.Conditions.{Names}
+use Rattle.dcv_c.specs.Meaning.{is_among}
+use Rattle.dcv_c.specs.Rules.{keeps_new}
+use Rattle.dcv_c.proofs.Names.{is_itself, differs, differs_back, among_append_left, among_append_right}
+use Rattle.dcv_c_read.specs.declared.scope.Sort.{Sort}
+use Rattle.dcv_c_read.specs.declared.scope.Sort.TheVariants.{Variable, Parameter}
+use Rattle.dcv_c_read.specs.Scope.{AreDistinct, Row, Frame, with_function, with_names, is_variable, IsRow, AreRows, KnowsNames}
+
+-- ---- one more name in a list
+
+or_false : (b : Bool) → (b || false) ≡ b
+or_false true = refl
+or_false false = refl
+
+or_assoc : (a b c : Bool) → ((a || b) || c) ≡ (a || (b || c))
+or_assoc true b c = refl
+or_assoc false b c = refl
+
+or_moved : (a b c : Bool) → ((a || b) || c) ≡ ((a || c) || b)
+or_moved true b c = refl
+or_moved false true true = refl
+or_moved false true false = refl
+or_moved false false true = refl
+or_moved false false false = refl
+
+among_push : (names : Names) (last name : List ℕ) → is_among (names ++ last ∷ []) name ≡ (is_among names name || bytes_eq name last)
+among_push [] last name = or_false (bytes_eq name last)
+among_push (n ∷ names) last name = ap (λ (b : Bool). bytes_eq name n || b) (among_push names last name) ∙ sym (or_assoc (bytes_eq name n) (is_among names name) (bytes_eq name last))
+
+not_among_push : (names : Names) (last name : List ℕ) → is_among names name ≡ false → bytes_eq name last ≡ false → is_among (names ++ last ∷ []) name ≡ false
+not_among_push names last name none other = among_push names last name ∙ or_from (is_among names name) (bytes_eq name last) none other
+
+distinct_push : (names : Names) (last : List ℕ) → AreDistinct names → is_among names last ≡ false → AreDistinct (names ++ last ∷ [])
+distinct_push [] last distinct none = (refl, tt)
+distinct_push (n ∷ names) last distinct none =
+    let both = or_parts (bytes_eq last n) (is_among names last) none in
+    (not_among_push names last n distinct.0 (differs_back last n both.0), distinct_push names last distinct.1 both.1)
+
+-- ---- what the rules ask of it
+
+module _ (frame : Frame) (functions declared : Names) (rows : List Row) (knows : KnowsNames frame functions declared rows) (name : List ℕ) where
+  pub again_function : is_among functions name ≡ true → keeps_new frame.earlier name ≡ false
+  again_function among =
+      ap not (knows.all name ∙ or_left (is_among frame.functions name) (is_among frame.placed name) (subst (λ (names : Names). is_among names name ≡ true) knows.functions_are among))
+
+  pub again_placed : is_among declared name ≡ true → keeps_new frame.earlier name ≡ false
+  again_placed among =
+      ap not (knows.all name ∙ or_right (is_among frame.functions name) (is_among frame.placed name) (subst (λ (names : Names). is_among names name ≡ true) knows.declared_are among))
+
+  pub is_new : is_among functions name ≡ false → is_among declared name ≡ false → keeps_new frame.earlier name ≡ true
+  is_new no_function no_place =
+      ap not (knows.all name ∙ or_from (is_among frame.functions name) (is_among frame.placed name) (subst (λ (names : Names). is_among names name ≡ false) knows.functions_are no_function)
+      (subst (λ (names : Names). is_among names name ≡ false) knows.declared_are no_place))
+
+  -- a function has no place
+  pub function_declared : {more : Names} → more ≡ functions ++ name ∷ [] → KnowsNames (with_function name frame) more declared rows
+  function_declared pushed =
+      record {
+        functions_are = pushed ∙ ap (λ (names : Names). names ++ name ∷ []) knows.functions_are;
+        declared_are = knows.declared_are;
+        all = λ n.
+            among_push frame.earlier name n
+            ∙ ap (λ (b : Bool). b || bytes_eq n name) (knows.all n)
+            ∙ or_moved (is_among frame.functions n) (is_among frame.placed n) (bytes_eq n name)
+            ∙ ap (λ (b : Bool). b || is_among frame.placed n) (sym (among_push frame.functions name n));
+        distinct = knows.distinct;
+        lefts_among = knows.lefts_among;
+        known_among = knows.known_among;
+        are_rows = knows.are_rows;
+      }
+
+  -- ---- a name with a place
+
+  module _ (no_place : is_among frame.placed name ≡ false) where
+    other_name : (n : List ℕ) → is_among frame.placed n ≡ true → bytes_eq n name ≡ false
+    other_name n among = differs n name (λ same. both_ways (is_among frame.placed name) no_place (subst (λ (m : List ℕ). is_among frame.placed m ≡ true) same among))
+
+    -- more of the names with places
+    abbrev Grows : Names → Bool → Names → Type 0
+    Grows names new more = (n : List ℕ) → is_among more n ≡ (is_among names n || (new && bytes_eq n name))
+
+    grows : (names : Names) → Grows names true (names ++ name ∷ [])
+    grows names n = among_push names name n
+
+    stays : (names : Names) → Grows names false names
+    stays names n = sym (or_false (is_among names n))
+
+    same_here : (names more : Names) (new : Bool) → Grows names new more → (n : List ℕ) → is_among frame.placed n ≡ true → is_among names n ≡ is_among more n
+    same_here names more new grown n among =
+        sym (grown n ∙ ap (λ (b : Bool). is_among names n || (new && b)) (other_name n among) ∙ ap (λ (b : Bool). is_among names n || b) (never new) ∙ or_false (is_among names n))
+      where
+        never : (b : Bool) → (b && false) ≡ false
+        never true = refl
+        never false = refl
+
+    new_here : (names more : Names) (new : Bool) → Grows names new more → ((n : List ℕ) → is_among names n ≡ true → is_among frame.placed n ≡ true) → new ≡ is_among more name
+    new_here names more new grown within =
+        sym (grown name ∙ ap (λ (b : Bool). b || (new && bytes_eq name name)) none ∙ ap (λ (b : Bool). new && b) (is_itself name) ∙ always new)
+      where
+        none : is_among names name ≡ false
+        none = false_from_ne_true (is_among names name) (λ some. both_ways (is_among frame.placed name) no_place (within name some))
+
+        always : (b : Bool) → (b && true) ≡ b
+        always true = refl
+        always false = refl
+
+    within_push : (names more : Names) (new : Bool) → Grows names new more → ((n : List ℕ) → is_among names n ≡ true → is_among frame.placed n ≡ true)
+        → (n : List ℕ) → is_among more n ≡ true → is_among (frame.placed ++ name ∷ []) n ≡ true
+    within_push names more new grown within n some =
+        elim (or_cases (is_among names n) (new && bytes_eq n name) (sym (grown n) ∙ some)) [
+          | inl before ↦ among_append_left frame.placed (name ∷ []) n (within n before)
+          | inr here ↦ among_append_right frame.placed (name ∷ []) n (or_left (bytes_eq n name) false (second new (bytes_eq n name) here))
+        ]
+      where
+        second : (a b : Bool) → (a && b) ≡ true → b ≡ true
+        second true b both = both
+        second false b both = absurd (false≢true both)
+
+    rows_push : (lefts known : Names) (place : ℕ) (names : Names) (rows : List Row) (row : Row)
+        → ((n : List ℕ) → is_among names n ≡ true → is_among frame.placed n ≡ true)
+        → ((n : List ℕ) → is_among frame.placed n ≡ true → (is_among frame.lefts n ≡ is_among lefts n) × (is_among frame.known n ≡ is_among known n))
+        → AreRows frame.lefts frame.known place names rows → IsRow lefts known (place + length rows) name row
+        → AreRows lefts known place (names ++ name ∷ []) (rows ++ row ∷ [])
+    rows_push lefts known place [] [] row within same are new = (subst (λ p. IsRow lefts known p name row) (let e : place + 0 ≡ place = omega arith in e) new, tt)
+    rows_push lefts known place [] (r ∷ rows) row within same are new = absurd are
+    rows_push lefts known place (n ∷ names) [] row within same are new = absurd are
+    rows_push lefts known place (n ∷ names) (r ∷ rows) row within same are new =
+        let here = same n (within n (or_left _ _ (is_itself n))) in (
+          record { is_at = are.0.is_at; is_left = are.0.is_left ∙ here.0; is_known = are.0.is_known ∙ here.1 },
+          rows_push lefts known (place + 1) names rows row (λ m among. within m (or_right (bytes_eq m n) _ among)) same are.1
+              (subst (λ p. IsRow lefts known p name row) (let e : place + length (r ∷ rows) ≡ place + 1 + length rows = omega arith in e) new),
+        )
+
+    entered : (lefts known : Names) (is_left is_known : Bool) → Grows frame.lefts is_left lefts → Grows frame.known is_known known
+        → KnowsNames (record { earlier = frame.earlier ++ name ∷ []; functions = frame.functions; placed = frame.placed ++ name ∷ []; lefts = lefts; known = known })
+        functions (declared ++ name ∷ []) (rows ++ record { place = length rows; is_left = is_left; is_known = is_known } ∷ [])
+    entered lefts known is_left is_known left_grows known_grows =
+        record {
+          functions_are = knows.functions_are;
+          declared_are = ap (λ (names : Names). names ++ name ∷ []) knows.declared_are;
+          all = λ n.
+              among_push frame.earlier name n
+              ∙ ap (λ (b : Bool). b || bytes_eq n name) (knows.all n)
+              ∙ or_assoc (is_among frame.functions n) (is_among frame.placed n) (bytes_eq n name)
+              ∙ ap (λ (b : Bool). is_among frame.functions n || b) (sym (among_push frame.placed name n));
+          distinct = distinct_push frame.placed name knows.distinct no_place;
+          lefts_among = within_push frame.lefts lefts is_left left_grows knows.lefts_among;
+          known_among = within_push frame.known known is_known known_grows knows.known_among;
+          are_rows =
+              rows_push lefts known 0 frame.placed rows _ (λ n among. among)
+              (λ n among. (same_here frame.lefts lefts is_left left_grows n among, same_here frame.known known is_known known_grows n among)) knows.are_rows
+              (record {
+                is_at = let e : length rows ≡ 0 + length rows = omega arith in e;
+                is_left = new_here frame.lefts lefts is_left left_grows knows.lefts_among;
+                is_known = new_here frame.known known is_known known_grows knows.known_among;
+              });
+        }
+
+    by_sort : (sort : Sort) → KnowsNames (with_names sort (name ∷ []) frame) functions (declared ++ name ∷ [])
+        (rows ++ record { place = length rows; is_left = is_variable sort; is_known = not (is_variable sort) } ∷ [])
+    by_sort Variable = entered (frame.lefts ++ name ∷ []) frame.known true false (grows frame.lefts) (stays frame.known)
+    by_sort Parameter = entered frame.lefts (frame.known ++ name ∷ []) false true (stays frame.lefts) (grows frame.known)
+
+  -- what the code has then
+  pub name_declared : (sort : Sort) {more : Names} {more_rows : List Row} → is_among declared name ≡ false → more ≡ declared ++ name ∷ []
+      → more_rows ≡ rows ++ record { place = length rows; is_left = is_variable sort; is_known = not (is_variable sort) } ∷ []
+      → KnowsNames (with_names sort (name ∷ []) frame) functions more more_rows
+  name_declared sort {more = more} {more_rows = more_rows} no_place is rows_are =
+      subst (λ (ns : Names). KnowsNames (with_names sort (name ∷ []) frame) functions ns more_rows) (sym is)
+      (subst (λ (rs : List Row). KnowsNames (with_names sort (name ∷ []) frame) functions (declared ++ name ∷ []) rs) (sym rows_are)
+      (by_sort (subst (λ (names : Names). is_among names name ≡ false) knows.declared_are no_place) sort))
+
+pub pushed_map : {X Y : Type 0} (f : X → Y) (items more : List X) (x : X) → more ≡ items ++ x ∷ [] → map f more ≡ map f items ++ f x ∷ []
+pushed_map f items more x is = ap (map f) is ∙ map_push f items x
+
+-- whether a name was new, and what is declared then
+pub was_new : (b : Bool) (names more : Names) (name : List ℕ) → b ≡ true → b ≡ not (is_among names name) → more ≡ cond b (names ++ name ∷ []) names
+    → (is_among names name ≡ false) × (more ≡ names ++ name ∷ [])
+was_new b names more name new is then =
+    (not-true (is_among names name) (sym is ∙ new), then ∙ ap (λ (d : Bool). cond d (names ++ name ∷ []) names) new)
+
+pub was_there : (b : Bool) (names : Names) (name : List ℕ) → b ≡ false → b ≡ not (is_among names name) → is_among names name ≡ true
+was_there b names name old is = among (is_among names name) (sym is ∙ old)
+  where
+    among : (there : Bool) → not there ≡ false → there ≡ true
+    among true h = refl
+    among false h = absurd (false≢true (sym h))

@@ -1,0 +1,12 @@
+pub mod Judging
+pub mod Bodies
+pub mod Translated
+pub mod Found
+pub mod Declaring
+pub mod Known
+pub mod Lists
+pub mod Loops
+pub mod Spellable
+pub mod Named
+pub mod Whole
+pub mod Forms

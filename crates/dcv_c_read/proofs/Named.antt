@@ -1,0 +1,105 @@
+-- The parts make up a unit that keeps the rules, and no other fault is told than that of the first broken word.
+use Rattle.std.proofs.Common.{◌≡◌, ℕ, true, false, List, [], ◌∷◌, ◌++◌, map, Result, Ok, Err, refl, sym, ap, subst, ◌∙◌, append_assoc, inl, inr, ◌&&◌}
+use Rattle.std.specs.Prelude.{IfErr, bytes_eq}
+use Rattle.std.specs.List.{list_all}
+use Rattle.std.specs.Result.{IsErrAnd}
+use Rattle.std.proofs.lemmas.Bool.{cases_Bool, or_cases, and_parts, both_ways, false_from_ne_true}
+use Rattle.dcv_observer.specs.Conditions.{Names}
+use Rattle.dcv_observer.specs.declared.fault.ObsFault.{ObsFault}
+use Rattle.dcv_observer.specs.declared.fault.ObsFault.TheVariants.{Syntax, Names as Fault, Memory}
+use Rattle.dcv_c.specs.declared.unit.Returned.{Returned as CodeReturned}
+use Rattle.dcv_c.specs.Tree.{Returned}
+use Rattle.dcv_c.specs.Meaning.{is_among}
+use Rattle.dcv_c.specs.Seen.{seen_assignment, seen_statement, seen_returned, seen_unit, all_names, names_of, IsUnit}
+use Rattle.dcv_c.specs.Placed.{PlacedUnit, unit_of}
+use Rattle.dcv_c.specs.Rules.{IsNamesFault, IsWellNamed, words_of, judged, has_all_assignments, keeps_new, keeps_apart, keeps_assignments}
+use Rattle.dcv_c.specs.Form.{IsSpellable}
+use Rattle.dcv_c.specs.Words.{AreWords}
+use Rattle.dcv_c.proofs.Names.{one_name}
+use Rattle.dcv_c.proofs.JudgedWords.{well_named_if_unbroken}
+use Rattle.dcv_c_read.specs.declared.names.Contents.{Contents}
+use Rattle.dcv_c_read.specs.Judged.{IsLeft, IsFaultOf, words_of_assignments}
+use Rattle.dcv_c_read.specs.Contents.{first_fault_of, words_of_step, keeps_step, AreContentsOf}
+use Rattle.dcv_c_read.proofs.Spellable.{words_are_spellable}
+
+-- ---- the whole unit
+
+pub unit_begins : (placed : PlacedUnit) → IsLeft (first_fault_of placed)
+    (placed.statics ++ (placed.reset ∷ (words_of_assignments placed.assignments ++ (placed.reset_end ∷ words_of_step placed))))
+    (keeps_apart [] (unit_of placed).statics
+    ++ (keeps_new (unit_of placed).statics (unit_of placed).reset
+    ∷ (keeps_assignments (unit_of placed).statics [] (unit_of placed).assignments ++ (has_all_assignments (unit_of placed) ∷ keeps_step (unit_of placed)))))
+unfolding words_of judged
+unit_begins placed = record { first = refl }
+
+-- ---- behind reset
+
+-- where each static is assigned, and nothing else
+pub all_assigned : (statics known : Names) → ((name : List ℕ) → is_among known name ≡ true → is_among statics name ≡ true) → list_all (is_among known) statics ≡ true
+    → (name : List ℕ) → is_among known name ≡ is_among statics name
+all_assigned statics known within all name =
+    elim (cases_Bool (is_among statics name)) [
+      | inl static ↦ each statics all static ∙ sym static
+      | inr other ↦ false_from_ne_true (is_among known name) (λ some. both_ways (is_among statics name) other (within name some)) ∙ sym other
+    ]
+  where
+    each : (names : Names) → list_all (is_among known) names ≡ true → is_among names name ≡ true → is_among known name ≡ true
+    each [] all among = absurd (both_ways false refl among)
+    each (n ∷ names) all among =
+        let both = and_parts (is_among known n) (list_all (is_among known) names) all in
+        elim (or_cases (bytes_eq name n) (is_among names name) among) [
+          | inl here ↦ subst (λ (m : List ℕ). is_among known m ≡ true) (sym (one_name name n here)) both.0
+          | inr later ↦ each names both.1 later
+        ]
+
+pub all_as : (known assigned : Names) (statics : Names) → ((name : List ℕ) → is_among known name ≡ is_among assigned name)
+    → list_all (is_among known) statics ≡ list_all (is_among assigned) statics
+all_as known assigned [] same = refl
+all_as known assigned (n ∷ statics) same = let more = all_as known assigned statics same in λ i. same n i && more i
+
+-- ---- a step
+
+pub statements_at : {A B : Type 0} (f : Names → A → B) (made : List A) (all : List B) (statics parameters locals : Names) → map (f ((statics ++ parameters) ++ locals)) made ≡ all
+    → map (f (all_names statics parameters locals)) made ≡ all
+statements_at f made all statics parameters locals is = ap (λ (names : Names). map (f names) made) (sym (append_assoc statics parameters locals)) ∙ is
+
+pub returned_at : (made : CodeReturned) {returned : Returned} (statics parameters locals : Names) → seen_returned ((statics ++ parameters) ++ locals) made ≡ returned
+    → seen_returned (all_names statics parameters locals) made ≡ returned
+returned_at made statics parameters locals is = ap (λ (names : Names). seen_returned names made) (sym (append_assoc statics parameters locals)) ∙ is
+
+-- ---- the tree
+
+module _ (placed : PlacedUnit) (contents : Contents) (are : AreContentsOf placed contents) where
+  pub unit_is : seen_unit contents.statics.items contents.reset contents.step ≡ unit_of placed
+  unit_is =
+      let unit = unit_of placed in
+      let names : all_names contents.statics.items contents.step.parameters.items contents.step.locals.items ≡ names_of unit =
+      λ i. all_names (are.statics i) (are.step.parameters i) (are.step.locals i) in
+      let assignments = ap (λ (ns : Names). map (seen_assignment ns) contents.reset.assignments.items) names ∙ are.assignments in
+      let statements = ap (λ (ns : Names). map (seen_statement ns) contents.step.statements.items) names ∙ are.step.statements in
+      let returned = ap (λ (ns : Names). seen_returned ns contents.step.returned) names ∙ are.step.returned in
+      λ i.
+      record {
+        statics = are.statics i;
+        reset = are.reset i;
+        assignments = assignments i;
+        step = are.step.name i;
+        parameters = are.step.parameters i;
+        locals = are.step.locals i;
+        statements = statements i;
+        returned = returned i;
+      }
+
+  pub is_unit : AreWords placed → IsUnit contents.statics.items contents.reset contents.step
+  is_unit words =
+      record {
+        well_named = subst IsWellNamed (sym unit_is) (well_named_if_unbroken placed are.unbroken);
+        spellable = subst IsSpellable (sym unit_is) (words_are_spellable placed words);
+      }
+
+pub told_fault : {A : Type 0} (placed : PlacedUnit) (result : Result A ObsFault) (fault : ObsFault) → IsErrAnd result (λ e. e ≡ fault) → IsFaultOf (first_fault_of placed) fault
+    → IfErr result (λ fault. (fault ≡ Memory → ⊥) → (at : ℕ) × (fault ≡ Fault at) × IsNamesFault placed at)
+told_fault placed (Ok x) fault is told = absurd is
+told_fault placed (Err e) (Syntax place) is told = absurd told
+told_fault placed (Err e) (Fault place) is told = λ other. (place, is, told)
+told_fault placed (Err e) Memory is told = λ other. absurd (other is)

@@ -1,0 +1,18 @@
+use Rattle.std.proofs.Common.{sym, ◌∙◌}
+use Rattle.dcv_c_read.specs.Scope.{Frame}
+use Rattle.dcv_c_read.proofs.Known.{no_left}
+use Rattle.dcv_c_read.proofs.Judging.{broken_word}
+use Rattle.dcv_c_read.proofs.scope.Scope.left.Goals as goal
+
+pub returns-in_default : goal.returns-in_default
+returns-in_default c = λ (frame : Frame) knows.
+    broken_word c.broken.ensures (no_left frame _ _ _ knows c.args.word.now.bytes.now (c.in_default.ensures frame knows))
+
+pub returns-then-not-is_left : goal.returns-then-not-is_left
+returns-then-not-is_left c = λ (frame : Frame) knows.
+    broken_word c.broken-then-not-is_left.ensures (sym (c.in-Some.ensures frame knows).is_left ∙ sym c.is_left.ensures ∙ c.if-not-is_left.true)
+
+pub returns : goal.returns
+returns c = λ (frame : Frame) knows.
+    let found = c.in-Some.ensures frame knows in
+    (sym found.is_left ∙ sym c.is_left.ensures ∙ c.if-not-is_left.false, found.named)

@@ -1,0 +1,9 @@
+-- how clauses see a unit that stands in a text
+pub mod Seen
+-- for proofs alone: the parts of the code, and the steps of long bodies
+pub mod Symbols
+pub mod Translated
+-- and how names are judged
+pub mod Judged
+pub mod Scope
+pub mod Contents

@@ -1,0 +1,155 @@
+// What the rules of statements and of results stand for, by the parts of one of their bodies.
+ghost use Rattle.std.specs.Prelude.{◌≡◌, ◌∷◌, map, reverse, option_map, IfOk};
+ghost use Rattle.std.specs.Vec.Iter.{into_iter_items};
+ghost use Rattle.dcv_observer.specs.Left.{seen};
+ghost use Rattle.dcv_c.specs.Actions.{statement_part, right_part, choice_part, returned_part};
+ghost use Rattle.dcv_c_read.specs.Seen.{seen_test};
+ghost use Rattle.dcv_c_read.specs.Symbols.{seen_part, IsMeant};
+ghost use Rattle.dcv_c_read.specs.Translated.{behind_condition, when_item, behind_second};
+
+use crate::parts::Part;
+use crate::placed::{
+    PlacedChoice, PlacedReturned, PlacedRight, PlacedStatement, PlacedTest, PlacedWhen,
+};
+use dcv_observer::Item;
+use std::alloc::AllocError;
+use std::vec::IntoIter;
+
+// statement = "if" "(" condition ")" name "=" item ";" | name "=" right ";"
+#[tactic(auto, using(crate::proofs::Bodies::statement_in_steps))]
+pub(crate) fn statement<'a>(parts: Vec<Part<'a>>) -> Part<'a>
+    requires { IsMeant (statement_part (map seen_part parts.items)) }
+    ensures { seen_part result ≡ statement_part (map seen_part parts.entry.items) }
+{
+    let mut parts = parts.into_iter();
+    match (parts.next(), parts.next(), parts.next()) {
+        (Some(Part::Token(_)), Some(Part::Token(_)), Some(Part::Compared(name, number))) => {
+            when(name, number, parts)
+        }
+        (Some(Part::Token(left)), Some(Part::Token(_)), Some(Part::Right(right))) => {
+            Part::Statement(PlacedStatement::Assign(left, right))
+        }
+        _ => unreachable!(),
+    }
+}
+
+// What stands behind a condition.
+fn when<'a>(name: Item<'a>, number: Option<Item<'a>>, mut parts: IntoIter<Part<'a>>) -> Part<'a>
+    requires { IsMeant (behind_condition (seen name) (option_map seen number) (map seen_part (into_iter_items parts))) }
+    ensures { seen_part result
+        ≡ behind_condition (seen name.entry) (option_map seen number.entry) (map seen_part (into_iter_items parts.entry)) }
+{
+    match (parts.next(), parts.next(), parts.next()) {
+        (Some(Part::Token(_)), Some(Part::Token(left)), Some(Part::Token(_))) => {
+            assigned_item(name, number, left, parts)
+        }
+        _ => unreachable!(),
+    }
+}
+
+// What stands behind the `=`.
+fn assigned_item<'a>(
+    name: Item<'a>,
+    number: Option<Item<'a>>,
+    left: Item<'a>,
+    mut parts: IntoIter<Part<'a>>,
+) -> Part<'a>
+    requires { IsMeant (when_item (seen name) (option_map seen number) (seen left) (map seen_part (into_iter_items parts))) }
+    ensures { seen_part result
+        ≡ when_item (seen name.entry) (option_map seen number.entry) (seen left.entry) (map seen_part (into_iter_items parts.entry)) }
+{
+    match parts.next() {
+        Some(Part::Token(item)) => Part::Statement(PlacedStatement::When(PlacedWhen {
+            name,
+            number,
+            left,
+            item,
+        })),
+        _ => unreachable!(),
+    }
+}
+
+// right = number | name choice
+pub(crate) fn right<'a>(parts: Vec<Part<'a>>) -> Part<'a>
+    requires { IsMeant (right_part (map seen_part parts.items)) }
+    ensures { seen_part result ≡ right_part (map seen_part parts.entry.items) }
+{
+    let mut parts = parts.into_iter();
+    match (parts.next(), parts.next()) {
+        (Some(Part::Token(number)), None) => Part::Right(PlacedRight::Plain(number)),
+        (Some(Part::Token(name)), Some(Part::Choice(None))) => {
+            Part::Right(PlacedRight::Plain(name))
+        }
+        (Some(Part::Token(name)), Some(Part::Choice(Some(choice)))) => {
+            Part::Right(PlacedRight::Chosen(name, choice))
+        }
+        _ => unreachable!(),
+    }
+}
+
+// choice = ["?" item ":" item | "==" number "?" item ":" item]
+#[tactic(auto, using(crate::proofs::Bodies::choice_in_steps))]
+pub(crate) fn choice<'a>(parts: Vec<Part<'a>>) -> Part<'a>
+    requires { IsMeant (choice_part (map seen_part parts.items)) }
+    ensures { seen_part result ≡ choice_part (map seen_part parts.entry.items) }
+{
+    let mut parts = parts.into_iter();
+    match (parts.next(), parts.next(), parts.next()) {
+        (None, _, _) => Part::Choice(None),
+        (Some(Part::Token(_)), Some(Part::Token(second)), Some(Part::Token(_))) => {
+            longer_choice(second, parts)
+        }
+        _ => unreachable!(),
+    }
+}
+
+// What stands behind the `:` of a bare name's choice, or behind the `?` of one that compares.
+fn longer_choice<'a>(second: Item<'a>, mut parts: IntoIter<Part<'a>>) -> Part<'a>
+    requires { IsMeant (behind_second (seen second) (map seen_part (into_iter_items parts))) }
+    ensures { seen_part result ≡ behind_second (seen second.entry) (map seen_part (into_iter_items parts.entry)) }
+{
+    match (parts.next(), parts.next(), parts.next()) {
+        (Some(Part::Token(otherwise)), None, _) => Part::Choice(Some(PlacedChoice {
+            number: None,
+            item: second,
+            otherwise,
+        })),
+        (Some(Part::Token(item)), Some(Part::Token(_)), Some(Part::Token(otherwise))) => {
+            Part::Choice(Some(PlacedChoice {
+                number: Some(second),
+                item,
+                otherwise,
+            }))
+        }
+        _ => unreachable!(),
+    }
+}
+
+// returned = number | name tests
+#[tactic(auto, using(crate::proofs::Bodies::forwards))]
+pub(crate) fn returned<'a>(parts: Vec<Part<'a>>) -> Result<Part<'a>, AllocError>
+    requires { IsMeant (returned_part (map seen_part parts.items)) }
+    ensures { IfOk result (λ part. seen_part part ≡ returned_part (map seen_part parts.entry.items)) }
+{
+    let mut parts = parts.into_iter();
+    match (parts.next(), parts.next()) {
+        (Some(Part::Token(number)), None) => Ok(Part::Returned(PlacedReturned::Fixed(number))),
+        (Some(Part::Token(name)), Some(Part::Behind(number, tests))) => {
+            let mut tests = with_test(PlacedTest { name, number }, tests)?;
+            tests.reverse();
+            Ok(Part::Returned(PlacedReturned::Tested(tests)))
+        }
+        _ => unreachable!(),
+    }
+}
+
+// A test before others, from the last to the first.
+fn with_test<'a>(
+    test: PlacedTest<'a>,
+    mut tests: Vec<PlacedTest<'a>>,
+) -> Result<Vec<PlacedTest<'a>>, AllocError>
+    ensures { IfOk result (λ all. reverse (map seen_test all.items) ≡ seen_test test.entry ∷ reverse (map seen_test tests.entry.items)) }
+{
+    tests.push(test)?;
+    Ok(tests)
+}

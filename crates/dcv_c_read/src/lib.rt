@@ -1,0 +1,25 @@
+//! Units of the flat subset of C, read from their texts.
+//!
+//! ```text
+//! let unit = read(alloc, bytes)?;  // the tree, whose names stand for places; or the one fault of the text
+//! ```
+//!
+//! The syntax is judged first, over the whole text. Then the rules of the grammar are translated into a unit with a token at each place,
+//! and last its names are judged in the order of the text.
+#![tactic(auto)]
+
+mod assignments;
+mod choices;
+mod functions;
+mod names;
+mod numbers;
+mod parts;
+mod placed;
+mod reading;
+mod rules;
+mod scope;
+mod statements;
+mod tables;
+mod translation;
+
+pub use reading::read;

@@ -1,0 +1,32 @@
+// What the symbols of the grammar stand for, in code.
+use crate::placed::{
+    PlacedAssignment, PlacedChoice, PlacedReset, PlacedReturned, PlacedRight, PlacedStatement,
+    PlacedStep, PlacedTest, PlacedUnit,
+};
+use dcv_observer::Item;
+
+// What a symbol stands for. A list is kept from its last element to its first, since its last action is that of the first one.
+#[derive(Debug, Drop)]
+pub(crate) enum Part<'a> {
+    Token(Item<'a>),
+    Tokens(Vec<Item<'a>>),
+    Assignment(PlacedAssignment<'a>),
+    Assignments(Vec<PlacedAssignment<'a>>),
+    Reset(PlacedReset<'a>),
+    Statement(PlacedStatement<'a>),
+    Statements(Vec<PlacedStatement<'a>>),
+    Right(PlacedRight<'a>),
+    // What may stand behind a name on a right side.
+    Choice(Option<PlacedChoice<'a>>),
+    // The number of a condition, which may not be there.
+    Maybe(Option<Item<'a>>),
+    // A condition.
+    Compared(Item<'a>, Option<Item<'a>>),
+    Returned(PlacedReturned<'a>),
+    Test(PlacedTest<'a>),
+    Tests(Vec<PlacedTest<'a>>),
+    // A number, and tests.
+    Behind(Item<'a>, Vec<PlacedTest<'a>>),
+    Step(PlacedStep<'a>),
+    Unit(PlacedUnit<'a>),
+}

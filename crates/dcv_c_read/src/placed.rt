@@ -1,0 +1,86 @@
+// A unit as it stands in a text, with an item of the text for each name and number.
+use dcv_observer::Item;
+
+/// `name == number`.
+#[derive(Clone, Copy, Debug)]
+pub struct PlacedTest<'a> {
+    pub name: Item<'a>,
+    pub number: Item<'a>,
+}
+
+/// What stands behind the name of a condition on a right side: `? item : otherwise`, or `== number ? item : otherwise`.
+#[derive(Clone, Copy, Debug)]
+pub struct PlacedChoice<'a> {
+    /// Where the condition compares.
+    pub number: Option<Item<'a>>,
+    pub item: Item<'a>,
+    pub otherwise: Item<'a>,
+}
+
+/// What stands behind the `=` of an assignment.
+#[derive(Clone, Copy, Debug)]
+pub enum PlacedRight<'a> {
+    Plain(Item<'a>),
+    Chosen(Item<'a>, PlacedChoice<'a>),
+}
+
+/// A statement of a step.
+#[derive(Clone, Copy, Debug)]
+pub enum PlacedStatement<'a> {
+    /// `left = right;`.
+    Assign(Item<'a>, PlacedRight<'a>),
+    /// `if (name) left = item;`, or `if (name == number) left = item;`.
+    When(PlacedWhen<'a>),
+}
+
+/// An assignment behind `if`.
+#[derive(Clone, Copy, Debug)]
+pub struct PlacedWhen<'a> {
+    pub name: Item<'a>,
+    /// Where the condition compares.
+    pub number: Option<Item<'a>>,
+    pub left: Item<'a>,
+    pub item: Item<'a>,
+}
+
+/// What stands behind `return`.
+#[derive(Debug, Drop)]
+pub enum PlacedReturned<'a> {
+    Fixed(Item<'a>),
+    /// One test or more.
+    Tested(Vec<PlacedTest<'a>>),
+}
+
+/// `name = number;`.
+#[derive(Clone, Copy, Debug)]
+pub struct PlacedAssignment<'a> {
+    pub name: Item<'a>,
+    pub number: Item<'a>,
+}
+
+/// The function that sets the statics.
+#[derive(Debug, Drop)]
+pub struct PlacedReset<'a> {
+    pub name: Item<'a>,
+    pub assignments: Vec<PlacedAssignment<'a>>,
+    /// The brace behind the assignments.
+    pub end: Item<'a>,
+}
+
+/// The function that makes a step.
+#[derive(Debug, Drop)]
+pub struct PlacedStep<'a> {
+    pub name: Item<'a>,
+    pub parameters: Vec<Item<'a>>,
+    pub locals: Vec<Item<'a>>,
+    pub statements: Vec<PlacedStatement<'a>>,
+    pub returned: PlacedReturned<'a>,
+}
+
+/// A whole unit.
+#[derive(Debug, Drop)]
+pub struct PlacedUnit<'a> {
+    pub statics: Vec<Item<'a>>,
+    pub reset: PlacedReset<'a>,
+    pub step: PlacedStep<'a>,
+}

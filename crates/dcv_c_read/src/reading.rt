@@ -1,0 +1,51 @@
+// From a text to its unit.
+ghost use Rattle.std.specs.Prelude.{◌≡◌, ◌≢◌, ◌<◌, ◌^◌, ℕ, length, IfOk, IfErr, OnOk};
+ghost use Rattle.dcv_observer.specs.Items.{IsSyntaxFault};
+ghost use Rattle.dcv_observer.specs.declared.fault.ObsFault.{ObsFault as Fault};
+ghost use Rattle.dcv_observer.specs.declared.fault.ObsFault.TheVariants.{Syntax, Memory};
+ghost use Rattle.dcv_c.specs.Classes.{lexicon};
+ghost use Rattle.dcv_c.specs.Language.{language};
+ghost use Rattle.dcv_c.specs.Actions.{Spells};
+ghost use Rattle.dcv_c.specs.Faults.{HasFault, IsReadAs};
+ghost use Rattle.dcv_c_read.specs.Seen.{seen_unit};
+
+use crate::names::named;
+use crate::parts::Part;
+use crate::placed::PlacedUnit;
+use crate::tables;
+use crate::translation::UnitTranslation;
+use dcv_c::laws::texts_are_units_or_at_fault;
+use dcv_c::{CUnit, ObsFault};
+use dcv_observer::syntax_fault;
+use dcv_translation::translate;
+use std::alloc::Global;
+
+/// The unit of a text, or the one fault of it. Only want of memory is no fault of the text.
+pub fn read(alloc: Global, bytes: &[u8]) -> Result<CUnit, ObsFault>
+    requires { length bytes.now < 2 ^ 32 }
+    ensures read { IfOk result (IsReadAs bytes.now) }
+    ensures no_fault { OnOk result ((fault : Fault) → HasFault bytes.now fault → ⊥) }
+    ensures fault { IfErr result (λ fault. fault ≢ Memory → HasFault bytes.now fault) }
+{
+    texts_are_units_or_at_fault();
+    let placed = placed_unit(alloc, bytes)?;
+    let unit = named(alloc, &placed)?;
+    // for the prover: what is true of every unit.
+    unit.keeps_the_rules();
+    Ok(unit)
+}
+
+// The unit that stands in a text.
+pub(crate) fn placed_unit<'a>(alloc: Global, text: &'a [u8]) -> Result<PlacedUnit<'a>, ObsFault>
+    requires { length text.now < 2 ^ 32 }
+    ensures spelled { IfOk result (λ placed. Spells text.now (seen_unit placed)) }
+    ensures fault { IfErr result (λ fault. fault ≢ Memory → (at : ℕ) × (fault ≡ Syntax at) × IsSyntaxFault lexicon language text.now at) }
+{
+    if let Some(at) = syntax_fault(alloc, tables::lexicon(), tables::grammar(), text)? {
+        return Err(ObsFault::Syntax { at });
+    }
+    match translate(alloc, &UnitTranslation { alloc }, text)? {
+        Part::Unit(placed) => Ok(placed),
+        _ => unreachable!(),
+    }
+}

@@ -1,0 +1,189 @@
+// The names that are declared so far in a unit, and what is known of each.
+ghost use Rattle.std.specs.Prelude.{◌≡◌, ◌∷◌, [], ◌++◌, ◌||◌, Bool, ℕ, List, Option, map, true, not, slice_get, OnOk};
+ghost use Rattle.std.specs.List.{list_all, list_any};
+ghost use Rattle.std.specs.Prelude.{bytes_eq};
+ghost use Rattle.dcv_lexer.specs.Cuts.{Token};
+ghost use Rattle.dcv_observer.specs.Left.{seen};
+ghost use Rattle.dcv_observer.specs.declared.fault.ObsFault.TheVariants.{Names};
+ghost use Rattle.dcv_c.specs.Rules.{keeps_new};
+ghost use Rattle.dcv_c_read.specs.Judged.{Leads, IsLeft};
+ghost use Rattle.dcv_c_read.specs.Scope.{is_variable, seen_row, marked};
+
+use dcv_c::ObsFault;
+use dcv_observer::{Declared, Item};
+use std::alloc::{AllocError, Global};
+
+/// What a name with a place stands for.
+#[derive(Clone, Copy, Debug)]
+pub(crate) enum Sort {
+    /// A static or a local, which has a number once it is assigned.
+    Variable,
+    /// It has a number from the start, and none is assigned to it.
+    Parameter,
+}
+
+impl Sort {
+    fn is_variable(self) -> bool
+        ensures { result ≡ is_variable self }
+    {
+        match self {
+            Sort::Variable => true,
+            Sort::Parameter => false,
+        }
+    }
+}
+
+/// What is told of a name where it is declared, and whether it is known: a parameter, or on the left of an earlier assignment.
+#[derive(Clone, Copy, Debug)]
+pub(crate) struct Declaration {
+    pub(crate) place: u32,
+    pub(crate) sort: Sort,
+    pub(crate) known: bool,
+}
+
+impl Declaration {
+    /// Whether a number may be assigned to it.
+    pub(crate) fn is_left(&self) -> bool
+        ensures { result ≡ is_variable self.now.sort }
+    {
+        self.sort.is_variable()
+    }
+}
+
+/// The names that are declared.
+#[derive(Drop)]
+pub(crate) struct Scope<'a> {
+    // those of functions, two at most
+    pub(crate) functions: Vec<&'a [u8]>,
+    // and the others, by their places
+    pub(crate) declared: Declared<'a>,
+    // of each of these
+    pub(crate) names: Vec<Declaration>,
+}
+
+// One more at the end.
+pub(crate) fn push<T: Drop>(items: &mut Vec<T>, item: T) -> Result<(), AllocError>
+    ensures { OnOk result (items.new.items ≡ items.old.items ++ item ∷ []) }
+{
+    items.push(item)?;
+    Ok(())
+}
+
+// The fault at a word that breaks its rule.
+pub(crate) fn broken(word: &Item<'_>) -> ObsFault
+    ensures { result ≡ Names word.now.start }
+{
+    ObsFault::Names { at: word.start }
+}
+
+fn declaration_at(names: &[Declaration], place: usize) -> Option<Declaration>
+    ensures { result ≡ slice_get names.now place }
+{
+    names.get(place).copied()
+}
+
+fn contains(names: &[&[u8]], name: &[u8]) -> bool
+    ensures { result ≡ list_any (λ other. bytes_eq name.now other.now) names.now }
+{
+    names.iter().any(|other| name == *other)
+}
+
+fn are_known(names: &[Declaration]) -> bool
+    ensures { result ≡ list_all (λ name. name.known) names.now }
+{
+    names.iter().all(|name| name.known)
+}
+
+impl<'a> Scope<'a> {
+    ghost use Rattle.dcv_c.specs.Meaning.{is_among};
+    ghost use Rattle.dcv_c_read.specs.Scope.{Frame, no_names, with_function, with_names, Knows, IsFound};
+
+    /// No names.
+    pub(crate) fn new(alloc: Global) -> Scope<'a>
+        ensures { Knows no_names result }
+    {
+        Scope {
+            functions: Vec::new(alloc),
+            declared: Declared::new(alloc),
+            names: Vec::new(alloc),
+        }
+    }
+
+    fn has_place(&self, name: &[u8]) -> bool
+        ensures { result ≡ list_any (bytes_eq name.now) self.now.declared }
+    {
+        self.declared.place_of(name).is_some()
+    }
+
+    /// Adds the name of a function.
+    pub(crate) fn function(&mut self, word: &Item<'a>) -> Result<(), ObsFault>
+        ensures { (frame : Frame) → Knows frame self.old
+            → (whole : Option ℕ) (words : List Token) (keeps : List Bool)
+            → IsLeft whole (seen word.now ∷ words) (keeps_new frame.earlier (seen word.now).bytes ∷ keeps)
+            → Leads whole (λ _. Knows (with_function (seen word.now).bytes frame) self.new × IsLeft whole words keeps) result }
+    {
+        if contains(&self.functions, word.bytes) {
+            return Err(broken(word));
+        }
+        if self.has_place(word.bytes) {
+            return Err(broken(word));
+        }
+        push(&mut self.functions, word.bytes)?;
+        Ok(())
+    }
+
+    /// Adds a name with a place.
+    pub(crate) fn declare(&mut self, word: &Item<'a>, sort: Sort) -> Result<(), ObsFault>
+        ensures { (frame : Frame) → Knows frame self.old
+            → (whole : Option ℕ) (words : List Token) (keeps : List Bool)
+            → IsLeft whole (seen word.now ∷ words) (keeps_new frame.earlier (seen word.now).bytes ∷ keeps)
+            → Leads whole (λ _. Knows (with_names sort ((seen word.now).bytes ∷ []) frame) self.new × IsLeft whole words keeps) result }
+    {
+        let place = self.names.len();
+        if place > u32::MAX as usize {
+            return Err(ObsFault::Memory);
+        }
+        if contains(&self.functions, word.bytes) {
+            return Err(broken(word));
+        }
+        if !self.declared.declare(word.bytes)? {
+            return Err(broken(word));
+        }
+        let declaration = Declaration {
+            place: place as u32,
+            sort,
+            known: !sort.is_variable(),
+        };
+        push(&mut self.names, declaration)?;
+        Ok(())
+    }
+
+    /// What is told of a name.
+    pub(crate) fn find(&self, name: &[u8]) -> Option<Declaration>
+        ensures { (frame : Frame) → Knows frame self.now → IsFound frame name.now result }
+    {
+        let Some(place) = self.declared.place_of(name) else {
+            return None;
+        };
+        declaration_at(&self.names, place)
+    }
+
+    /// From now on the name at a place is known.
+    pub(crate) fn mark(&mut self, place: u32)
+        ensures functions { map (λ name. name.now) self.new.functions.items ≡ map (λ name. name.now) self.old.functions.items }
+        ensures declared { self.new.declared ≡ self.old.declared }
+        ensures names { map seen_row self.new.names.items ≡ marked place (map seen_row self.old.names.items) }
+    {
+        let place = place as usize;
+        if place < self.names.len() {
+            self.names[place].known = true;
+        }
+    }
+
+    /// Whether each name with a place is known.
+    pub(crate) fn all_known(&self) -> bool
+        ensures { (frame : Frame) → Knows frame self.now → result ≡ list_all (is_among frame.known) frame.placed }
+    {
+        are_known(&self.names)
+    }
+}

@@ -1,0 +1,84 @@
+// The translation of units: what each token and each rule of the grammar stands for.
+ghost use Rattle.std.specs.Prelude.{◌≡◌, map, IfOk};
+ghost use Rattle.dcv_c.specs.Actions.{action};
+ghost use Rattle.dcv_c_read.specs.Symbols.{seen_part, IsMeant};
+
+use crate::parts::Part;
+use crate::{choices, functions, rules, tables};
+use dcv_grammar::grammar::ContextFree;
+use dcv_lexer::Lexicon;
+use dcv_observer::Item;
+use dcv_translation::Translation;
+use std::alloc::{AllocError, Global};
+
+// From texts to units.
+#[derive(Drop)]
+pub(crate) struct UnitTranslation {
+    pub(crate) alloc: Global,
+}
+
+impl<'a> Translation<'a> for UnitTranslation {
+    ghost use Rattle.dcv_c.specs.Actions.{Part as PlainPart};
+    ghost use Rattle.dcv_translation.specs.Scheme.{IsOfBody};
+    ghost use Rattle.dcv_c_read.specs.Translated.{scheme};
+
+    type Part = Part<'a>;
+
+    ghost Meaning = { PlainPart };
+
+    ghost scheme = { scheme };
+
+    ghost meaning = { seen_part };
+
+    fn lexicon(&self) -> &'a Lexicon<'a> {
+        tables::lexicon()
+    }
+
+    fn grammar(&self) -> &'a ContextFree<'a> {
+        tables::grammar()
+    }
+
+    fn token(&self, item: Item<'a>) -> Part<'a> {
+        Part::Token(item)
+    }
+
+    fn rule(&self, rule: u8, parts: Vec<Part<'a>>) -> Result<Part<'a>, AllocError>
+        requires { IsOfBody scheme rule (map seen_part parts.items) }
+        ensures { IfOk result (λ part. seen_part part ≡ action rule (map seen_part parts.entry.items)) }
+    {
+        act(self.alloc, rule, parts)
+    }
+}
+
+// The action of a rule.
+fn act<'a>(alloc: Global, rule: u8, parts: Vec<Part<'a>>) -> Result<Part<'a>, AllocError>
+    requires { IsMeant (action rule (map seen_part parts.items)) }
+    ensures { IfOk result (λ part. seen_part part ≡ action rule (map seen_part parts.entry.items)) }
+{
+    match rule {
+        tables::UNIT => functions::unit(parts),
+        tables::STATIC => Ok(rules::static_name(parts)),
+        tables::MORE_STATICS => rules::tokens(alloc, parts),
+        tables::RESET => Ok(functions::reset(parts)),
+        tables::ASSIGNMENTS => rules::assignments(alloc, parts),
+        tables::ASSIGNMENT => Ok(rules::assignment(parts)),
+        tables::STEP => Ok(functions::step(parts)),
+        tables::PARAMETERS => rules::parameters(alloc, parts),
+        tables::MORE_PARAMETERS => rules::more_parameters(alloc, parts),
+        tables::PARAMETER => Ok(rules::parameter(parts)),
+        tables::LOCALS => rules::tokens(alloc, parts),
+        tables::LOCAL => Ok(rules::local(parts)),
+        tables::STATEMENTS => rules::statements(alloc, parts),
+        tables::STATEMENT => Ok(choices::statement(parts)),
+        tables::RIGHT => Ok(choices::right(parts)),
+        tables::CHOICE => Ok(choices::choice(parts)),
+        tables::CONDITION => Ok(rules::condition(parts)),
+        tables::COMPARED => Ok(rules::compared(parts)),
+        tables::ITEM => Ok(rules::item(parts)),
+        tables::RETURNED => choices::returned(parts),
+        tables::TESTS => Ok(rules::tests(parts)),
+        tables::MORE_TESTS => rules::more_tests(alloc, parts),
+        tables::TEST => Ok(rules::test(parts)),
+        _ => unreachable!(),
+    }
+}
