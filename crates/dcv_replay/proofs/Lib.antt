@@ -1,0 +1,6 @@
+mod Texts
+mod LineFacts
+mod Steps
+mod Runs
+mod Endings
+mod OneVerdict
