@@ -10,20 +10,26 @@ use Rattle.dcv_replay.specs.TraceText.{AreLines}
 use Rattle.dcv_replay.specs.Program.{ReplayValue, rest_of}
 use Rattle.dcv_replay.specs.Answers.{answers}
 use Rattle.dcv_replay.specs.Stops.{fault_of}
-use Rattle.dcv_replay.specs.Replayed.{Sends, Answered, HasLines, IsEnding, IsTraceResult, IsResultOf, EndsBy, Ran, Replayed, is_write, IsCut, IfRead, CutShort, ReadsPart}
+use Rattle.dcv_replay.specs.Replayed.{Sends, HasLines, IsTraceResult, is_write, IfRead, CutShort, ReadsPart}
+use Rattle.dcv_replay.specs.Running.{Answered, IsEnding, IsResultOf, EndsBy, Ran, RunsOver, IsCut}
 use Rattle.dcv_replay.specs.declared.fault.ReplayFault.{ReplayFault}
 use Rattle.dcv_replay.specs.declared.fault.ReplayFault.TheVariants as fault
 use Rattle.dcv_replay.specs.declared.fault.Stop.{Stop}
 use Rattle.dcv_replay.specs.declared.fault.Stop.TheVariants.{Read, Line, TooLong, Empty}
+use Rattle.dcv_replay.proofs.Texts.{wide_none}
 use Rattle.dcv_replay.proofs.Steps.{sends_in_turn, answered_nothing}
 
 -- the first lines of a trace, however it ends
 has_lines : (width : ℕ) (text : List ℕ) (letters : Word) (why : Option Stop) → IsEnding width text letters why → HasLines width text letters
-has_lines width text letters None ending = ([], ending.lines)
+has_lines width text letters None ending = record { rest = []; lines = ending.lines; few = ending.few }
 has_lines width text letters (Some Read) ending = ending
-has_lines width text letters (Some (Line line)) ending = (ending.rest, ending.lines)
-has_lines width text letters (Some TooLong) ending = (ending.rest, ending.lines)
-has_lines width text letters (Some Empty) (none, no_letters) = ([], subst (λ (word : Word). AreLines width word text []) (sym no_letters) none)
+has_lines width text letters (Some (Line line)) ending = record { rest = ending.rest; lines = ending.lines; few = omega (arith, ending.few) }
+has_lines width text letters (Some TooLong) ending = record { rest = ending.rest; lines = ending.lines; few = omega (arith, ending.full) }
+has_lines width text letters (Some Empty) (none, no_letters) = record {
+  rest = [];
+  lines = subst (λ (word : Word). AreLines width word text []) (sym no_letters) none;
+  few = omega (arith, ap length no_letters);
+}
 
 result_is : {T : Type 0} (width : ℕ) (text : List ℕ) (letters : Word) (why : Option Stop) (result : Result T ReplayFault) → IsResultOf why result → IsEnding width text letters why → IsTraceResult width text letters result
 result_is width text letters None (Ok done) is ending = ending
@@ -75,23 +81,39 @@ cut_is {T} width name told opened told' letters read (Some why) (Err fault) is o
   of_fault TooLong cut = tt
   of_fault Empty cut = tt
 
+no_write_of : {T : Type 0} (why : Option Stop) (result : Result T ReplayFault) → IsResultOf why result → is_write result ≡ false
+no_write_of None (Ok done) is = refl
+no_write_of None (Err fault) is = absurd is
+no_write_of (Some why) (Ok done) is = absurd is
+no_write_of {T} (Some why) (Err fault) is = subst (λ (one : ReplayFault). is_write {T = T} (Err one) ≡ false) (sym is) (of_fault why) where
+  of_fault : (why : Stop) → is_write {T = T} (Err (fault_of why)) ≡ false
+  of_fault Read = refl
+  of_fault (Line line) = refl
+  of_fault TooLong = refl
+  of_fault Empty = refl
+
 pub replayed_end : {T : Type 0} (name : List ℕ) (told opened told' : Option Disk) (before after : ReplayValue) (written written' written'' : Option (List ℕ)) (first block : List ℕ) (why : Option Stop) (result : Result T ReplayFault)
     → WhereTold (Opens name) told opened → Ran (λ text letters. IsEnding before.program.width text letters why) (IsCut before.program.width why) opened told' before written first after written' block → first ≡ [] → EndsBy why written' written'' block result
-    → Replayed name told told' before written after written'' result
+    → RunsOver name told told' before written after written'' result
 replayed_end name told opened told' before after written written' written'' first block why result opens ran none_yet ends = record {
   letters = ran.letters;
   left = ends.left;
   answered = sent_on (subst (λ (front : List ℕ). Answered before written front ran.letters after written' block) none_yet ran.answered) ends.sends;
+  wide = ran.wide;
+  some = λ wrote. elim ends.is [
+    | inl (is, some) ↦ some
+    | inr (none, is) ↦ absurd (false≢true (sym (no_write_of why result is) ∙ wrote))
+  ];
   whole = λ no_write. elim ends.is [
-    | inl is ↦ absurd (false≢true (sym no_write ∙ ap is_write is))
+    | inl (is, some) ↦ absurd (false≢true (sym no_write ∙ ap is_write is))
     | inr (none, is) ↦ none
   ];
   cut = elim ends.is [
-    | inl is ↦ subst (λ (one : Result _ ReplayFault). IfRead one (CutShort before.program.width name told told' ran.letters)) (sym is) tt
+    | inl (is, some) ↦ subst (λ (one : Result _ ReplayFault). IfRead one (CutShort before.program.width name told told' ran.letters)) (sym is) tt
     | inr (none, is) ↦ cut_is before.program.width name told opened told' ran.letters ran.read why result is opens ran.given ran.cut
   ];
   verdict = elim ends.is [
-    | inl is ↦ subst (λ (one : Result _ ReplayFault). IfSome told (λ disk. IfSome (disk.held name) (λ text. IsTraceResult before.program.width text ran.letters one))) (sym is)
+    | inl (is, some) ↦ subst (λ (one : Result _ ReplayFault). IfSome told (λ disk. IfSome (disk.held name) (λ text. IsTraceResult before.program.width text ran.letters one))) (sym is)
         (opened_holds name told opened (λ text. IsEnding before.program.width text ran.letters why) (λ text. HasLines before.program.width text ran.letters) opens (λ text. has_lines before.program.width text ran.letters why) ran.verdict)
     | inr (none, is) ↦
         opened_holds name told opened (λ text. IsEnding before.program.width text ran.letters why) (λ text. IsTraceResult before.program.width text ran.letters result) opens
@@ -100,10 +122,12 @@ replayed_end name told opened told' before after written written' written'' firs
 }
 
 pub replayed_broken : {T : Type 0} (name : List ℕ) (told opened told' : Option Disk) (before after : ReplayValue) (written written' : Option (List ℕ)) (first left : List ℕ)
-    → WhereTold (Opens name) told opened → Ran (HasLines before.program.width) (λ read letters. Unit {0}) opened told' before written first after written' left → first ≡ []
-    → Replayed {T = T} name told told' before written after written' (Err fault.Write)
-replayed_broken name told opened told' before after written written' first left opens ran none_yet = record {
+    → WhereTold (Opens name) told opened → left ≢ [] → Ran (HasLines before.program.width) (λ read letters. Unit {0}) opened told' before written first after written' left → first ≡ []
+    → RunsOver {T = T} name told told' before written after written' (Err fault.Write)
+replayed_broken name told opened told' before after written written' first left opens some ran none_yet = record {
   letters = ran.letters;
+  wide = ran.wide;
+  some = λ wrote. some;
   left = left;
   answered = subst (λ (front : List ℕ). Answered before written front ran.letters after written' left) none_yet ran.answered;
   whole = λ no_write. absurd (false≢true (sym no_write));
@@ -114,10 +138,12 @@ replayed_broken name told opened told' before after written written' first left 
 abbrev NoLetters : Type 0
 NoLetters = let none : Word = [] in none ≡ []
 
-pub replayed_unopened : {T : Type 0} (name : List ℕ) (told told' : Option Disk) (replay : ReplayValue) (written : Option (List ℕ)) → Replayed {T = T} name told told' replay written replay written (Err fault.Open)
+pub replayed_unopened : {T : Type 0} (name : List ℕ) (told told' : Option Disk) (replay : ReplayValue) (written : Option (List ℕ)) → RunsOver {T = T} name told told' replay written replay written (Err fault.Open)
 replayed_unopened name told told' replay written = record {
   cut = tt;
   letters = [];
+  wide = wide_none replay.program.width;
+  some = λ wrote. absurd (false≢true wrote);
   left = [];
   answered = answered_nothing replay written [];
   whole = λ no_write. refl;

@@ -4,3 +4,4 @@ mod Steps
 mod Runs
 mod Endings
 mod OneVerdict
+mod Following

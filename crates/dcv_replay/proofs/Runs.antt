@@ -8,13 +8,14 @@ use Rattle.dcv_io.specs.Disk.{Disk, WhereTold, Gives, IsAtEnd}
 use Rattle.dcv_io.proofs.Giving.{gives_in_turn}
 use Rattle.dcv_word.specs.Behaviour.{Word}
 use Rattle.dcv_word.specs.TraceLine.{line_feed, trace_line}
-use Rattle.dcv_replay.specs.TraceText.{most_lines, IsLineEnd, BeginsWithLine, AreLines, BeginsWithNoLine, IsTrace, HasBadLine, IsTooLong}
+use Rattle.dcv_replay.specs.TraceText.{AreWide, most_lines, IsLineEnd, BeginsWithLine, AreLines, BeginsWithNoLine, IsTrace, HasBadLine, IsTooLong}
 use Rattle.dcv_replay.specs.Coming.{LinesValue, budget, IsLines, AreEnded, HasCome, IsAtFault, IsBad}
 use Rattle.dcv_replay.specs.Program.{ReplayValue}
-use Rattle.dcv_replay.specs.Replayed.{Going, going, Answered, Passes, StopsAt, Breaks, HasLines, IsEnding, IsCut, IsEndOf, EndsSo, BreaksOff, Ran}
+use Rattle.dcv_replay.specs.Replayed.{HasLines}
+use Rattle.dcv_replay.specs.Running.{Going, going, Answered, Passes, StopsAt, Breaks, IsEnding, IsCut, IsEndOf, EndsSo, BreaksOff, Ran}
 use Rattle.dcv_replay.specs.declared.fault.Stop.{Stop}
 use Rattle.dcv_replay.specs.declared.fault.Stop.TheVariants.{Read, Line, TooLong, Empty}
-use Rattle.dcv_replay.proofs.Texts.{come_lines, lines_in_turn}
+use Rattle.dcv_replay.proofs.Texts.{come_lines, come_wide, wide_append, wide_one, wide_none, lines_in_turn}
 use Rattle.dcv_replay.proofs.Steps.{answered_in_turn, passes_nothing, passes_in_turn, stops_in_turn, breaks_in_turn}
 
 -- ---- what is told of the text
@@ -59,10 +60,15 @@ module _ (replay : ReplayValue) (written : Option (List ℕ)) (block : List ℕ)
   ran_cut {read} {now} told told' passes is given = record {
     cut = (now.lines.line, passes.come, is.feedless);
     letters = passes.letters;
+    wide = come_wide passes.come;
     answered = passes.answered;
     read = read;
     given = given;
-    verdict = told_verdict told told' read (λ text. HasLines replay.program.width text passes.letters) given (λ rest. (now.lines.line ++ rest, come_lines passes.come rest));
+    verdict = told_verdict told told' read (λ text. HasLines replay.program.width text passes.letters) given (λ rest. record {
+        rest = now.lines.line ++ rest;
+        lines = come_lines passes.come rest;
+        few = omega (arith, passes.count, is.few);
+      });
   }
 
   some_left : (line back rest : List ℕ) → back ≢ [] → line ++ (back ++ rest) ≢ []
@@ -110,6 +116,7 @@ module _ (replay : ReplayValue) (written : Option (List ℕ)) (block : List ℕ)
   ran_stop {all} {now} {why} told told' stops given = record {
     cut = no_cut replay.program.width now.lines stops.back why all stops.passes.letters stops.fault_there;
     letters = stops.passes.letters;
+    wide = come_wide stops.passes.come;
     answered = stops.passes.answered;
     read = all;
     given = given;
@@ -119,19 +126,21 @@ module _ (replay : ReplayValue) (written : Option (List ℕ)) (block : List ℕ)
         (come_lines stops.passes.come (stops.back ++ rest))) stops.fault_there);
   }
 
-  pub ran_broken : {all : List ℕ} {replay' : ReplayValue} {lines : LinesValue} {written' : Option (List ℕ)} (told told' : Option Disk) → Breaks (start_of replay written block) all replay' lines written' → WhereTold (Gives all) told told'
-      → (left : List ℕ) × Ran (HasLines replay.program.width) (λ read letters. Unit {0}) told told' replay written block replay' written' left
-  ran_broken {all} {replay'} {lines} {written'} told told' breaks given = (breaks.left, record {
+  pub ran_broken : {all : List ℕ} {replay' : ReplayValue} {lines : LinesValue} {written' : Option (List ℕ)} (told told' : Option Disk) → Breaks (start_of replay written block) all replay' lines written' → IsLines lines
+      → WhereTold (Gives all) told told' → (left : List ℕ) × (left ≢ []) × Ran (HasLines replay.program.width) (λ read letters. Unit {0}) told told' replay written block replay' written' left
+  ran_broken {all} {replay'} {lines} {written'} told told' breaks is given = (breaks.left, breaks.some, record {
     cut = tt;
     letters = breaks.passes.letters;
+    wide = come_wide breaks.passes.come;
     answered = breaks.passes.answered;
     read = all;
     given = given;
-    verdict = told_verdict told told' all (λ text. HasLines replay.program.width text breaks.passes.letters) given (λ rest. (
-      lines.line ++ (breaks.back ++ rest),
-      subst (λ (text : List ℕ). AreLines replay.program.width breaks.passes.letters text (lines.line ++ (breaks.back ++ rest))) (text_parts all breaks.taken breaks.back rest breaks.parts)
-          (come_lines breaks.passes.come (breaks.back ++ rest)),
-    ));
+    verdict = told_verdict told told' all (λ text. HasLines replay.program.width text breaks.passes.letters) given (λ rest. record {
+      rest = lines.line ++ (breaks.back ++ rest);
+      few = omega (arith, breaks.passes.count, is.few);
+      lines = subst (λ (text : List ℕ). AreLines replay.program.width breaks.passes.letters text (lines.line ++ (breaks.back ++ rest))) (text_parts all breaks.taken breaks.back rest breaks.parts)
+          (come_lines breaks.passes.come (breaks.back ++ rest));
+    });
   })
 
   -- ---- the end
@@ -181,11 +190,21 @@ module _ (replay : ReplayValue) (written : Option (List ℕ)) (block : List ℕ)
       let both = nothing_came u lines.line read come (sym count ∙ zero_is) empty in
       (both.0, ap (λ (letters : Word). letters ++ v) both.1 ∙ none)
 
+  end_wide : (lines : LinesValue) (v : Word) (why : Option Stop) → lines.width ≡ replay.program.width → IsEndOf lines v why → AreWide replay.program.width v
+  end_wide lines [] None wide end = wide_none replay.program.width
+  end_wide lines (letter ∷ []) None wide (fits, spelled, few) = wide_one replay.program.width letter (fits ∙ wide)
+  end_wide lines (letter ∷ (other ∷ letters)) None wide end = absurd end
+  end_wide lines v (Some Read) wide end = absurd end
+  end_wide lines v (Some (Line line)) wide (none, number, few, some, bad) = subst (AreWide replay.program.width) (sym none) (wide_none replay.program.width)
+  end_wide lines v (Some TooLong) wide end = absurd end
+  end_wide lines v (Some Empty) wide (none, empty, zero_is) = subst (AreWide replay.program.width) (sym none) (wide_none replay.program.width)
+
   pub ran_end : {read : List ℕ} {before now : Going} {why : Option Stop} (told told' : Option Disk) → Passes (start_of replay written block) read before → IsLines before.lines → EndsSo before now why → WhereTold (Gives read) told told' → IsAtEnd told'
       → Ran (λ text letters. IsEnding replay.program.width text letters why) (IsCut replay.program.width why) told told' replay written block now.replay now.written now.block
   ran_end {read} {before} {now} {why} told told' passes is ends given end = record {
     cut = no_end_cut replay.program.width before.lines ends.letters why read (passes.letters ++ ends.letters) ends.last;
     letters = passes.letters ++ ends.letters;
+    wide = wide_append replay.program.width passes.letters ends.letters (come_wide passes.come) (end_wide before.lines ends.letters why passes.width ends.last);
     answered = answered_in_turn passes.answered ends.answered;
     read = read;
     given = given;
@@ -194,16 +213,21 @@ module _ (replay : ReplayValue) (written : Option (List ℕ)) (block : List ℕ)
   }
 
   pub ran_off : {read : List ℕ} {before : Going} {replay' : ReplayValue} {written' : Option (List ℕ)} (told told' : Option Disk) → Passes (start_of replay written block) read before → BreaksOff before replay' written' → WhereTold (Gives read) told told' → IsAtEnd told'
-      → (left : List ℕ) × Ran (HasLines replay.program.width) (λ read letters. Unit {0}) told told' replay written block replay' written' left
-  ran_off {read} {before} {replay'} {written'} told told' passes breaks given end = (breaks.left, record {
+      → (left : List ℕ) × (left ≢ []) × Ran (HasLines replay.program.width) (λ read letters. Unit {0}) told told' replay written block replay' written' left
+  ran_off {read} {before} {replay'} {written'} told told' passes breaks given end = (breaks.left, breaks.some, record {
     cut = tt;
     letters = passes.letters ++ breaks.letter ∷ [];
+    wide = wide_append replay.program.width passes.letters (breaks.letter ∷ []) (come_wide passes.come) (wide_one replay.program.width breaks.letter (breaks.last.0 ∙ passes.width));
     answered = answered_in_turn passes.answered breaks.answered;
     read = read;
     given = given;
     verdict = told_whole told told' read (λ text. HasLines replay.program.width text (passes.letters ++ breaks.letter ∷ [])) given end
-        ([], lines_in_turn replay.program.width passes.letters (breaks.letter ∷ []) read before.lines.line [] (whole_lines passes)
-            (last_line breaks.letter before.lines.line (breaks.last.0 ∙ passes.width) breaks.last.1));
+        (record {
+          rest = [];
+          lines = lines_in_turn replay.program.width passes.letters (breaks.letter ∷ []) read before.lines.line [] (whole_lines passes)
+              (last_line breaks.letter before.lines.line (breaks.last.0 ∙ passes.width) breaks.last.1);
+          few = omega (arith, length-append passes.letters (breaks.letter ∷ []), passes.count, breaks.last.2);
+        });
   })
 
 -- ---- where a run begins, and each read

@@ -1,7 +1,7 @@
 -- Steps of a replay in turn.
 use Rattle.std.proofs.Common.{◌≡◌, ◌≢◌, ◌⊎◌, ℕ, zero, suc, set, Result, Ok, Err, ◌+◌, ◌<◌, ◌≤◌, Bool, List, [], ◌∷◌, ◌++◌, length, take, drop, get_or, Option, Some, None, inl, inr, refl, sym, ap, subst, ◌∙◌, arith, append_assoc, length-append}
 use Rattle.std.specs.Result.{OnErr}
-use Rattle.std.proofs.lemmas.List.{append-nil, take-append-drop, take_more}
+use Rattle.std.proofs.lemmas.List.{append-nil, take-append-drop, take_more, length-drop}
 use Rattle.dcv_io.specs.Written.{appended, AppendsStrictPrefix}
 use Rattle.dcv_io.proofs.Appending.{appended-appended}
 use Rattle.dcv_word.specs.Behaviour.{Word}
@@ -12,7 +12,8 @@ use Rattle.dcv_replay.specs.Coming.{LinesValue, HasCome, IsAtFault, IsLast}
 use Rattle.dcv_replay.specs.declared.fault.Stop.{Stop}
 use Rattle.dcv_replay.specs.declared.fault.Stop.TheVariants.{Read, Line, TooLong, Empty}
 use Rattle.dcv_replay.specs.Program.{Program, ReplayValue, after_word, after_letter, rest_of, advanced}
-use Rattle.dcv_replay.specs.Replayed.{Sends, Going, going, Answered, Passes, StopsAt, Breaks, IsEndOf, EndsSo, Leads}
+use Rattle.dcv_replay.specs.Replayed.{Sends}
+use Rattle.dcv_replay.specs.Running.{Going, going, Answered, Passes, StopsAt, Breaks, IsEndOf, EndsSo, Leads}
 use Rattle.dcv_replay.proofs.Texts.{come_in_turn}
 
 -- ---- words
@@ -80,14 +81,18 @@ breaks_in_turn {first} {second} {bytes} {more} {replay} {lines} {written} one ot
   back = other.back;
   parts = ap (λ text. bytes ++ text) other.parts ∙ sym (append_assoc bytes other.taken other.back);
   left = other.left;
+  some = other.some;
   passes = passes_in_turn one other.passes;
 }
 
 -- what is written before a failure is some of the front
-pub strict_sends : {old new : Option (List ℕ)} (bytes : List ℕ) → AppendsStrictPrefix old new bytes → (left : List ℕ) × Sends old new bytes left
-strict_sends bytes part = (drop part.0 bytes, record { sent = take part.0 bytes; written = part.2; all = sym (take-append-drop part.0 bytes) })
+some_dropped : (n : ℕ) (bytes : List ℕ) → n < length bytes → drop n bytes ≢ []
+some_dropped n bytes below none = omega (arith, ap length none, length-drop n bytes, below)
 
-pub failed_sends : {T E : Type 0} (result : Result T E) (old new : Option (List ℕ)) (bytes whole : List ℕ) → bytes ≡ whole → OnErr result (AppendsStrictPrefix old new bytes) → OnErr result ((left : List ℕ) × Sends old new whole left)
+pub strict_sends : {old new : Option (List ℕ)} (bytes : List ℕ) → AppendsStrictPrefix old new bytes → (left : List ℕ) × (left ≢ []) × Sends old new bytes left
+strict_sends bytes part = (drop part.0 bytes, some_dropped part.0 bytes part.1, record { sent = take part.0 bytes; written = part.2; all = sym (take-append-drop part.0 bytes) })
+
+pub failed_sends : {T E : Type 0} (result : Result T E) (old new : Option (List ℕ)) (bytes whole : List ℕ) → bytes ≡ whole → OnErr result (AppendsStrictPrefix old new bytes) → OnErr result ((left : List ℕ) × (left ≢ []) × Sends old new whole left)
 failed_sends (Ok done) old new bytes whole same part = tt
 failed_sends (Err fault) old new bytes whole same part = strict_sends whole (subst (AppendsStrictPrefix old new) same part)
 
@@ -159,6 +164,7 @@ breaks_further bytes rest all same breaks = record {
   back = breaks.back ++ rest;
   parts = same ∙ ap (λ text. text ++ rest) breaks.parts ∙ append_assoc breaks.taken breaks.back rest;
   left = breaks.left;
+  some = breaks.some;
   passes = breaks.passes;
 }
 

@@ -1,9 +1,11 @@
 -- Lines of texts: where they end, and lines that come in turn.
 use Rattle.std.proofs.Common.{◌≡◌, ◌≢◌, ◌⊎◌, ℕ, suc, ◌+◌, ◌<◌, ◌≤◌, Bool, true, false, List, [], ◌∷◌, ◌++◌, length, map, inl, inr, refl, sym, ap, subst, ◌∙◌, arith, append_assoc, length-append}
+use Rattle.std.specs.List.{AllByRecursion}
 use Rattle.std.proofs.lemmas.List.{append-nil}
+use Rattle.std.proofs.lemmas.List.Elements.{All-from_recursion, recursion_from_All}
 use Rattle.dcv_word.specs.Behaviour.{Word}
 use Rattle.dcv_word.specs.TraceLine.{line_feed, trace_line, digit_of}
-use Rattle.dcv_replay.specs.TraceText.{carriage_return, IsLineEnd, BeginsWithLine, AreLines, BeginsWithNoLine}
+use Rattle.dcv_replay.specs.TraceText.{AreWide, carriage_return, IsLineEnd, BeginsWithLine, AreLines, BeginsWithNoLine}
 use Rattle.dcv_replay.specs.Coming.{IsEnded, AreEnded, HasCome, HasNoFeed, IsBad}
 
 -- ---- the first line feed
@@ -112,6 +114,30 @@ pub come_lines : {width : ℕ} {read : List ℕ} {letters : Word} {line : List �
 come_lines {width} {read} {letters} {line} come back =
     subst (λ (text : List ℕ). AreLines width letters text (line ++ back)) (sym (ap (λ text. text ++ back) come.whole ∙ append_assoc come.front line back))
     (ended_are_lines width letters come.front (line ++ back) come.ended)
+
+-- each has the width
+ended_wide : (width : ℕ) (letters : Word) (front : List ℕ) → AreEnded width letters front → AllByRecursion (λ (letter : List Bool). length letter ≡ width) letters
+ended_wide width [] front none = tt
+ended_wide width (letter ∷ letters) front (line, after, ended, whole, others) = (ended.fits, ended_wide width letters after others)
+
+pub come_wide : {width : ℕ} {read : List ℕ} {letters : Word} {line : List ℕ} → HasCome width read letters line → AreWide width letters
+come_wide {width} {read} {letters} {line} come = All-from_recursion (λ (letter : List Bool). length letter ≡ width) letters (ended_wide width letters come.front come.ended)
+
+wide_by_recursion : (width : ℕ) (u v : Word) → AllByRecursion (λ (letter : List Bool). length letter ≡ width) u → AllByRecursion (λ (letter : List Bool). length letter ≡ width) v
+    → AllByRecursion (λ (letter : List Bool). length letter ≡ width) (u ++ v)
+wide_by_recursion width [] v first second = second
+wide_by_recursion width (letter ∷ u) v first second = (first.0, wide_by_recursion width u v first.1 second)
+
+pub wide_append : (width : ℕ) (u v : Word) → AreWide width u → AreWide width v → AreWide width (u ++ v)
+wide_append width u v first second =
+    let each : List Bool → Type 0 = λ (letter : List Bool). length letter ≡ width in
+    All-from_recursion each (u ++ v) (wide_by_recursion width u v (recursion_from_All each u first) (recursion_from_All each v second))
+
+pub wide_one : (width : ℕ) (letter : List Bool) → length letter ≡ width → AreWide width (letter ∷ [])
+wide_one width letter fits = All-from_recursion (λ (letter : List Bool). length letter ≡ width) (letter ∷ []) (fits, tt)
+
+pub wide_none : (width : ℕ) → AreWide width []
+wide_none width = All-from_recursion (λ (letter : List Bool). length letter ≡ width) [] tt
 
 -- ---- lines that are none
 

@@ -2,7 +2,9 @@
 pub mod TraceText
 pub mod Answers
 pub mod Program
+pub mod Observer
+pub mod Coming
 pub mod Replayed
 -- what proofs alone need
 pub mod Stops
-pub mod Coming
+pub mod Running

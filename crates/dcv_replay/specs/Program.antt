@@ -8,6 +8,10 @@ use Rattle.dcv_word.specs.Behaviour.{Word}
 use Rattle.dcv_language.specs.Language.{Language}
 use Rattle.dcv_replay.specs.declared.replay.Select.{Select}
 
+-- the slots before it hold the numbers of their own places
+abbrev pub first_name : ℕ
+first_name = 32770
+
 pub record Program : Type 0 where
   pub width : ℕ
   -- the slot of the first variable; the others follow

@@ -6,8 +6,13 @@
 --     IsTrace width text letters          the text is the trace of the word
 --     HasBadLine, IsTooLong               behind the lines of the word stands one that is none, or more than may come
 use Rattle.std.specs.Prelude.{◌≡◌, ◌≢◌, ℕ, ◌+◌, ◌<◌, ◌≤◌, ◌⊎◌, Bool, List, [], ◌∷◌, ◌++◌, length}
+use Rattle.std.specs.List.{All}
 use Rattle.dcv_word.specs.Behaviour.{Word}
 use Rattle.dcv_word.specs.TraceLine.{line_feed, trace_line}
+
+-- each letter has so many variables
+abbrev pub AreWide : ℕ → Word → Type 0
+AreWide width word = All (λ letter. length letter ≡ width) word
 
 -- the byte that may stand before the line feed
 abbrev pub carriage_return : ℕ

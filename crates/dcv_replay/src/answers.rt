@@ -1,5 +1,5 @@
 //! Answers, gathered in a block before they are written.
-ghost use Rattle.std.specs.Prelude.{◌≡◌, ℕ, List, ◌++◌, [], OnOk, OnErr, is_err};
+ghost use Rattle.std.specs.Prelude.{◌≡◌, ◌≢◌, ℕ, List, ◌++◌, [], OnOk, OnErr, is_err};
 ghost use Rattle.dcv_io.specs.Faults.{RisesIf};
 ghost use Rattle.dcv_word.specs.TraceLine.{digit_of};
 ghost use Rattle.dcv_replay.specs.Answers.{answer_line};
@@ -41,7 +41,7 @@ impl Answers {
     // Adds an answer, and writes the block where it is full.
     pub(crate) fn push<S: Sink>(&mut self, sink: &mut S, answer: bool) -> Result<(), Failed>
         ensures ok { OnOk result (Sends (S.written sink.old) (S.written sink.new) (self.old ++ answer_line answer) self.new) }
-        ensures err { OnErr result ((left : List ℕ) × Sends (S.written sink.old) (S.written sink.new) (self.old ++ answer_line answer) left) }
+        ensures err { OnErr result ((left : List ℕ) × (left ≢ []) × Sends (S.written sink.old) (S.written sink.new) (self.old ++ answer_line answer) left) }
         ensures faults { RisesIf (is_err result) (S.faults sink.old) (S.faults sink.new) }
     {
         let length = self.filled;
@@ -58,7 +58,7 @@ impl Answers {
     // Writes those that have not been written.
     pub(crate) fn send<S: Sink>(&mut self, sink: &mut S) -> Result<(), Failed>
         ensures ok { OnOk result (Sends (S.written sink.old) (S.written sink.new) self.old []) }
-        ensures err { OnErr result ((left : List ℕ) × Sends (S.written sink.old) (S.written sink.new) self.old left) }
+        ensures err { OnErr result ((left : List ℕ) × (left ≢ []) × Sends (S.written sink.old) (S.written sink.new) self.old left) }
         ensures faults { RisesIf (is_err result) (S.faults sink.old) (S.faults sink.new) }
     {
         let length = self.filled;

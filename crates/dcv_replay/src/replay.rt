@@ -2,8 +2,10 @@
 //!
 //! The first slots hold the numbers of their own places, so that a constant is read as a name is. Then stand the observer's names, and behind
 //! them what it keeps beside its names.
-ghost use Rattle.std.specs.Prelude.{◌≡◌, ◌+◌, ◌<◌, ◌≤◌, [], ◌∷◌, length, fold};
+ghost use Rattle.std.specs.Prelude.{◌≡◌, ◌↔◌, ◌+◌, ◌≤◌, [], ◌∷◌, ◌++◌, length, fold, IsTrue};
 ghost use Rattle.std.specs.List.{All};
+ghost use Rattle.dcv_word.specs.Behaviour.{Word};
+ghost use Rattle.dcv_replay.specs.Observer.{Observer, Accepts, Follows};
 ghost use Rattle.dcv_replay.specs.Program.{IsReplay, IsWithin, after_select, with_letter, rest_of, advanced};
 
 use dcv_word::Letter;
@@ -83,6 +85,22 @@ impl Replay {
 
     /// Goes on by a letter, and answers whether the observer accepts the letters so far and this one. It takes no memory.
     pub fn step(&mut self, letter: &Letter) -> bool
+        requires { length letter.now ≡ self.old.program.width }
+        ensures after { self.new ≡ advanced self.old (letter.now ∷ []) }
+        ensures program { self.new.program ≡ self.old.program }
+        ensures answer { result ≡ rest_of self.old (letter.now ∷ []) }
+
+        // Whatever the observer, and the word after which its store is the replay's: so it is after the letter too.
+        ensures follows { (observer : Observer) (before : Word) → Follows observer before self.old
+            → Follows observer (before ++ letter.now ∷ []) self.new }
+        ensures accepts { (observer : Observer) (before : Word) → Follows observer before self.old
+            → IsTrue result ↔ Accepts observer (before ++ letter.now ∷ []) }
+    {
+        self.advance(letter)
+    }
+
+    // The same, with what the replay's own program answers.
+    fn advance(&mut self, letter: &Letter) -> bool
         requires { length letter.now ≡ self.old.program.width }
         ensures after { self.new ≡ advanced self.old (letter.now ∷ []) }
         ensures program { self.new.program ≡ self.old.program }

@@ -1,10 +1,13 @@
 //! The run over a trace.
-ghost use Rattle.std.specs.Prelude.{◌≡◌, ℕ, List, ◌+◌, ◌<◌, ◌≤◌, [], ◌∷◌, ◌++◌, length, take, is_err, IfOk, OnOk, OnErr, IfErr, IfSome, IfNone, IsSome, MatchOption, None, Some, Err};
+ghost use Rattle.std.specs.Prelude.{◌≡◌, ◌≢◌, ℕ, List, ◌+◌, ◌<◌, ◌≤◌, [], ◌∷◌, ◌++◌, length, take, is_err, IfOk, OnOk, OnErr, IfErr, IfSome, IfNone, IsSome, MatchOption, None, Some, Err};
 ghost use Rattle.dcv_io.specs.Asked.{Asks};
 ghost use Rattle.dcv_io.specs.Disk.{WhereTold, Gives, IsAtEnd, held_of};
 ghost use Rattle.dcv_io.specs.Faults.{RisesIf};
+ghost use Rattle.dcv_word.specs.Behaviour.{Word};
 ghost use Rattle.dcv_replay.specs.Coming.{IsLines, budget};
-ghost use Rattle.dcv_replay.specs.Replayed.{going, Answered, Leads, Breaks, Ran, HasLines, IsEnding, IsCut, EndsSo, BreaksOff, EndsBy, Replayed, ReadCount, is_open, is_read, is_write};
+ghost use Rattle.dcv_replay.specs.Observer.{Observer, Follows};
+ghost use Rattle.dcv_replay.specs.Replayed.{Replayed, HasLines, ReadCount, is_open, is_write};
+ghost use Rattle.dcv_replay.specs.Running.{going, Answered, Leads, Breaks, Ran, IsEnding, IsCut, EndsSo, BreaksOff, EndsBy, RunsOver, is_read};
 ghost use Rattle.dcv_replay.specs.declared.fault.ReplayFault.TheVariants.{Open, Read};
 
 use crate::answers::Answers;
@@ -17,23 +20,53 @@ use dcv_word::Letter;
 const BLOCK: usize = 4096;
 
 impl Replay {
-    /// Answers each line of a trace, the file of this name, by a line `1` or `0`: whether the observer accepts the letters so far.
-    /// It takes no memory, and reads no further than the first fault.
+    /// Answers each line of a trace, the file of this name, by a line `1` or `0`: whether the observer accepts the letters so far. Lines end by a
+    /// line feed or by a carriage return and a line feed; the last may lack its end.
+    ///
+    /// It takes no memory, reads blocks of 4,096 bytes, and no further than the first fault. Answers are written in blocks of 4,096 bytes, and
+    /// before a fault is told; where that write fails, the answer is `Write`.
     pub fn run<F: Files, S: Sink>(
         &mut self,
         files: &mut F,
         name: &str,
         sink: &mut S,
     ) -> Result<(), ReplayFault>
-        ensures replayed { Replayed name.now (F.told files.old) (F.told files.new) self.old (S.written sink.old)
-            self.new (S.written sink.new) result }
-        ensures held { held_of (F.told files.new) ≡ held_of (F.told files.old) }
-        ensures missing { IfSome (F.told files.old) (λ disk. IfNone (disk.held name.now) (result ≡ Err Open)) }
+        // Which answers are written, and the observer's store: whatever the observer, and the word after which its store is the replay's.
+        ensures replayed { (observer : Observer) (before : Word) → Follows observer before self.old
+            → Replayed observer before name.now (F.told files.old) (F.told files.new) (S.written sink.old) (S.written sink.new) self.new result }
+        ensures program { self.new.program ≡ self.old.program }
+
+        // No fault is passed over, and none is invented. Where a write failed, a read may have failed before it.
+        ensures missing { IfSome (held_of (F.told files.old)) (λ held. IfNone (held name.now) (result ≡ Err Open)) }
         ensures open_faults { RisesIf (is_open result) (F.open_faults files.old) (F.open_faults files.new) }
         ensures read_faults { ReadCount result (F.read_faults files.old) (F.read_faults files.new) }
+        ensures faults { RisesIf (is_write result) (S.faults sink.old) (S.faults sink.new) }
+
+        // Whatever the outcome: one open, and no more reads than a trace can have bytes.
         ensures asked { Asks (name.now ∷ []) (F.asked files.old) (F.asked files.new) }
         ensures calls { F.calls files.new ≤ F.calls files.old + 35000036 }
+        ensures held { held_of (F.told files.new) ≡ held_of (F.told files.old) }
+    {
+        self.run_file(files, name, sink)
+    }
+
+    // The same, with what the replay's own program answers.
+    fn run_file<F: Files, S: Sink>(
+        &mut self,
+        files: &mut F,
+        name: &str,
+        sink: &mut S,
+    ) -> Result<(), ReplayFault>
+        ensures replayed { RunsOver name.now (F.told files.old) (F.told files.new) self.old (S.written sink.old)
+            self.new (S.written sink.new) result }
+        ensures program { self.new.program ≡ self.old.program }
+        ensures missing { IfSome (held_of (F.told files.old)) (λ held. IfNone (held name.now) (result ≡ Err Open)) }
+        ensures open_faults { RisesIf (is_open result) (F.open_faults files.old) (F.open_faults files.new) }
+        ensures read_faults { ReadCount result (F.read_faults files.old) (F.read_faults files.new) }
         ensures faults { RisesIf (is_write result) (S.faults sink.old) (S.faults sink.new) }
+        ensures asked { Asks (name.now ∷ []) (F.asked files.old) (F.asked files.new) }
+        ensures calls { F.calls files.new ≤ F.calls files.old + 35000036 }
+        ensures held { held_of (F.told files.new) ≡ held_of (F.told files.old) }
     {
         if files.open_file(name).is_err() {
             return Err(ReplayFault::Open);
@@ -57,7 +90,7 @@ impl Replay {
             (IsCut self.old.program.width stop)
             (F.told files.old) (F.told files.new) self.old (S.written sink.old) answers.old
             self.new (S.written sink.new) answers.new) }
-        ensures err { OnErr result ((left : List ℕ) × Ran (HasLines self.old.program.width) (λ read letters. Unit {0})
+        ensures err { OnErr result ((left : List ℕ) × (left ≢ []) × Ran (HasLines self.old.program.width) (λ read letters. Unit {0})
             (F.told files.old) (F.told files.new) self.old (S.written sink.old) answers.old
             self.new (S.written sink.new) left) }
         ensures held { held_of (F.told files.new) ≡ held_of (F.told files.old) }
@@ -174,7 +207,7 @@ impl Replay {
         requires { length letter.now ≡ self.old.program.width }
         ensures program { self.new.program ≡ self.old.program }
         ensures ok { OnOk result (Answered self.old (S.written sink.old) answers.old (letter.now ∷ []) self.new (S.written sink.new) answers.new) }
-        ensures err { OnErr result ((left : List ℕ) × Answered self.old (S.written sink.old) answers.old (letter.now ∷ []) self.new (S.written sink.new) left) }
+        ensures err { OnErr result ((left : List ℕ) × (left ≢ []) × Answered self.old (S.written sink.old) answers.old (letter.now ∷ []) self.new (S.written sink.new) left) }
         ensures faults { RisesIf (is_err result) (S.faults sink.old) (S.faults sink.new) }
     {
         let answer = self.step(letter);

@@ -40,7 +40,7 @@ returns-then-count-eq0-clause-err g c =
 
 pub returns-in_err-stop-clause-err : goal.returns-in_err-stop-clause-err
 returns-in_err-stop-clause-err g c =
-    on_err_from c.from_residual.result (ran_broken _ _ _ _ _ (breaks_in_turn c.loop-count.invariant.passed c.in_err-stop.ensures.err)
+    on_err_from c.from_residual.result (ran_broken _ _ _ _ _ (breaks_in_turn c.loop-count.invariant.passed c.in_err-stop.ensures.err) c.take_block.ensures.lines
         (gives_in_turn _ _ _ _ _ c.loop-count.invariant.given c.in-Ok.ensures.gives))
 
 pub returns-in-Some-clause-ok : goal.returns-in-Some-clause-ok

@@ -1,7 +1,7 @@
 use Rattle.std.proofs.Common.{◌≡◌, ℕ, ◌+◌, ◌≤◌, List, [], length}
 use Rattle.dcv_io.specs.Disk.{held_of, WhereTold, Gives}
 use Rattle.dcv_replay.specs.Coming.{IsLines, budget}
-use Rattle.dcv_replay.specs.Replayed.{going, Passes}
+use Rattle.dcv_replay.specs.Running.{going, Passes}
 use Rattle.dcv_replay.proofs.replay.Replay.run_over.Given as goal
 
 -- what was read so far has been taken, nothing else has changed, and nothing has failed

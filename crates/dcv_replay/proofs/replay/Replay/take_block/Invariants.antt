@@ -1,6 +1,6 @@
 use Rattle.std.proofs.Common.{◌≡◌, ◌+◌, ◌≤◌, take}
 use Rattle.dcv_replay.specs.Coming.{IsLines, budget}
-use Rattle.dcv_replay.specs.Replayed.{going, Passes}
+use Rattle.dcv_replay.specs.Running.{going, Passes}
 use Rattle.dcv_replay.proofs.replay.Replay.take_block.Given as goal
 
 -- the bytes so far have been taken
