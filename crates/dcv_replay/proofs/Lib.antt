@@ -5,3 +5,10 @@ mod Runs
 mod Endings
 mod OneVerdict
 mod Following
+mod Mirrors
+mod NamePlaces
+mod Letters
+mod UnitSteps
+mod UnitNames
+mod UnitRuns
+mod UnitReplays

@@ -8,3 +8,5 @@ pub mod Replayed
 -- what proofs alone need
 pub mod Stops
 pub mod Running
+pub mod Selecting
+pub mod OfUnit

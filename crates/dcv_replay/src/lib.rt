@@ -14,6 +14,7 @@ mod of_node;
 mod of_unit;
 mod replay;
 mod running;
+mod selecting;
 
 pub use fault::ReplayFault;
 pub use replay::Replay;
