@@ -12,3 +12,5 @@ mod UnitSteps
 mod UnitNames
 mod UnitRuns
 mod UnitReplays
+mod NodeNames
+mod NodeSteps

@@ -10,3 +10,4 @@ pub mod Stops
 pub mod Running
 pub mod Selecting
 pub mod OfUnit
+pub mod OfNode

@@ -10,7 +10,7 @@ use std::alloc::{AllocError, Global};
 const FIRST_NAME: u32 = 32_770;
 
 // Places below this have slots with another slot behind them.
-const MOST_NAMES: usize = 4_294_934_525;
+pub(crate) const MOST_NAMES: usize = 4_294_934_525;
 
 // The slot of the name at this place.
 pub(crate) fn slot_of(place: u32) -> u32
