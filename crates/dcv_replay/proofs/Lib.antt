@@ -14,3 +14,7 @@ mod UnitRuns
 mod UnitReplays
 mod NodeNames
 mod NodeSteps
+mod NodeCells
+mod NodeRuns
+mod Values
+mod NodeReplays

@@ -86,7 +86,7 @@ module _ (names : List Name) (apart : IsApart names) (values : Values) where
     no_place p q fresh there same = both_ways (known (get_or names q [])) fresh (subst (λ (n : ℕ). known (get_or names n []) ≡ true) same there)
 
   -- a name gets the number of its value
-  value_written : {known : Name → Bool} {store : List ℕ} → Mirrors names known (λ name. value_number (values name)) store → (place number : ℕ) → place < length names
+  pub value_written : {known : Name → Bool} {store : List ℕ} → Mirrors names known (λ name. value_number (values name)) store → (place number : ℕ) → place < length names
       → value_number (values (get_or names place [])) ≡ number
       → Mirrors names (λ name. bytes_eq name (get_or names place []) || known name) (λ name. value_number (values name)) (set store (slot_of place) number)
   value_written {known} {store} mirrors place number below is = record {

@@ -247,10 +247,3 @@ module _ (unit : CUnit) (well : IsWellNamed unit) (form : IsSpellable unit) (law
   pub follows_of_unit : Follows (C unit) [] value
   follows_of_unit = subst (Follows (C unit) []) exact_value
       (new_follows unit well form law set.assignments of.code of.returned set.same of.same of.same_returned set.fresh (subst (λ (n : ℕ). IsFresh n set.fresh) counted set.is))
-
--- of this width
-pub with_width : (P : ReplayValue → Type 0) (width other inputs answer : ℕ) (selects : List Select) (store : List ℕ) → other ≡ width
-    → P (record { program = record { width = width; inputs = inputs; selects = selects; answer = answer }; store = store })
-    → P (record { program = record { width = other; inputs = inputs; selects = selects; answer = answer }; store = store })
-with_width P width other inputs answer selects store same fact =
-    subst (λ (n : ℕ). P (record { program = record { width = n; inputs = inputs; selects = selects; answer = answer }; store = store })) (sym same) fact

@@ -17,9 +17,7 @@ use Rattle.dcv_lustre.specs.declared.node.Arm.{Arm}
 use Rattle.dcv_lustre.specs.declared.node.Right.{Right}
 use Rattle.dcv_lustre.specs.declared.node.Right.TheVariants.{Delayed, Chosen, Tested}
 use Rattle.dcv_lustre.specs.declared.node.Equation.{Equation}
-use Rattle.dcv_lustre.specs.Tree.{Node}
-use Rattle.dcv_lustre.specs.Meaning.{names_of}
-use Rattle.dcv_lustre.specs.Seen.{seen_value, seen_equation}
+use Rattle.dcv_lustre.specs.Seen.{seen_value}
 use Rattle.dcv_replay.specs.declared.replay.Select.{Select}
 use Rattle.dcv_replay.specs.Program.{first_name}
 use Rattle.dcv_replay.specs.Observer.{value_number}
@@ -112,21 +110,8 @@ pub record HasSlots (count : ℕ) (equation : Equation) : Type 0 where
   pub placed : IsPlacedEquation most_names equation
   pub left : equation.left < count
 
--- ---- nodes
-
--- the selections of the node's equations
-pub record AreSelectsOf (node : Node) (count : ℕ) (selects : List Select) : Type 0 where
-  pub equations : List Equation
-  pub same : map (seen_equation (names_of node)) equations ≡ node.equations
-  pub all : selects ≡ node_selects count equations
-
 -- a fresh store once the cells are set
-pub record IsStoreFor (count : ℕ) (equations : List Equation) (store : List ℕ) : Type 0 where
+pub record IsStoreOf (count : ℕ) (equations : List Equation) (store : List ℕ) : Type 0 where
   pub fresh : List ℕ
   pub is : IsFresh (count + count) fresh
   pub set : store ≡ fold (after_cell first_cell count) fresh equations
-
-pub record IsStoreOf (node : Node) (count : ℕ) (store : List ℕ) : Type 0 where
-  pub equations : List Equation
-  pub same : map (seen_equation (names_of node)) equations ≡ node.equations
-  pub set : IsStoreFor count equations store

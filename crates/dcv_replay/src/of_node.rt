@@ -7,7 +7,7 @@ ghost use Rattle.dcv_replay.specs.Program.{first_name};
 ghost use Rattle.dcv_replay.specs.Selecting.{slot_of, most_names};
 ghost use Rattle.dcv_replay.specs.OfNode.{constant_number, item_slot, choosing, arm_select, arms_selects, tests_selects, cell_of, equation_selects};
 ghost use Rattle.dcv_replay.specs.OfNode.{latch_selects, after_cell, first_cell, IsPlacedItem, IsPlacedCondition, IsPlacedArm, ArePlacedTests, HasSlots};
-ghost use Rattle.dcv_replay.specs.OfNode.{AreSelectsOf, IsStoreFor, IsStoreOf};
+ghost use Rattle.dcv_replay.specs.OfNode.{node_selects, IsStoreOf};
 
 use crate::Replay;
 use crate::replay::Select;
@@ -29,8 +29,9 @@ impl Replay {
         let count = count_of_names(node)?;
         let width = width_of(node);
         let answer = slot_of(node.inputs().len() as u32);
-        let selects = selects_of(alloc, node, count)?;
-        let store = store_of(alloc, node, count)?;
+        let equations = node.equations();
+        let selects = selects_of(alloc, count, equations)?;
+        let store = store_of(alloc, count, equations)?;
         Ok(Replay::of(width, slot_of(0), selects, answer, store))
     }
 }
@@ -79,23 +80,10 @@ fn cell_of(count: u32, place: u32) -> u32
 
 // ---- the store before the first instant
 
-fn store_of(alloc: Global, node: &Node, count: u32) -> Result<Vec<u32>, AllocError>
-    requires count { count ≡ length (names_of node.now) }
-    requires within { count + count ≤ most_names }
-    ensures { IfOk result (λ store. IsStoreOf node.now count store.items) }
-{
-    node.keeps_the_rules();
-    store_for(alloc, count, node.equations())
-}
-
-fn store_for(
-    alloc: Global,
-    count: u32,
-    equations: &[Equation],
-) -> Result<Vec<u32>, AllocError>
+fn store_of(alloc: Global, count: u32, equations: &[Equation]) -> Result<Vec<u32>, AllocError>
     requires within { count + count ≤ most_names }
     requires placed { All (HasSlots count) equations.now }
-    ensures { IfOk result (λ store. IsStoreFor count equations.now store.items) }
+    ensures { IfOk result (λ store. IsStoreOf count equations.now store.items) }
 {
     let mut store = new_store(alloc, count + count)?;
     for equation in equations {
@@ -134,13 +122,15 @@ fn constant_number(value: Value) -> u32
 // ---- an instant
 
 // What each equation says, in their order, and then what is kept for the next instant.
-fn selects_of(alloc: Global, node: &Node, count: u32) -> Result<Vec<Select>, AllocError>
-    requires count { count ≡ length (names_of node.now) }
+fn selects_of(
+    alloc: Global,
+    count: u32,
+    equations: &[Equation],
+) -> Result<Vec<Select>, AllocError>
     requires within { count + count ≤ most_names }
-    ensures { IfOk result (λ selects. AreSelectsOf node.now count selects.items) }
+    requires placed { All (HasSlots count) equations.now }
+    ensures { IfOk result (λ selects. selects.items ≡ node_selects count equations.now) }
 {
-    node.keeps_the_rules();
-    let equations = node.equations();
     let mut selects = Vec::new(alloc);
     push_equations(&mut selects, count, equations)?;
     push_latches(&mut selects, count, equations)?;

@@ -2,7 +2,7 @@ use Rattle.std.proofs.Common.{◌≡◌, ◌+◌, ℕ, List, fold, drop, length}
 use Rattle.dcv_replay.specs.Program.{first_name}
 use Rattle.dcv_replay.specs.Selecting.{IsFresh}
 use Rattle.dcv_replay.specs.OfNode.{after_cell, first_cell}
-use Rattle.dcv_replay.proofs.of_node.store_for.Given as goal
+use Rattle.dcv_replay.proofs.of_node.store_of.Given as goal
 
 -- setting the cells that are left sets all
 abbrev pub invariant-loop-equation : goal.invariant-loop-equation
