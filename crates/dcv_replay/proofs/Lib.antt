@@ -18,3 +18,4 @@ mod NodeCells
 mod NodeRuns
 mod Values
 mod NodeReplays
+mod TraceLaws

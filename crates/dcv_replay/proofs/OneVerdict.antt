@@ -55,7 +55,7 @@ begins_once width text a b x y one first second = elim (form_of width text a x f
   ]
 ]
 
-no_line_in_nothing : (width : ℕ) → BeginsWithNoLine width []
+pub no_line_in_nothing : (width : ℕ) → BeginsWithNoLine width []
 no_line_in_nothing width [] after begins = absurd (omega (arith, ap length begins.spelled))
 no_line_in_nothing width (value ∷ letter) after begins = absurd (omega (arith, ap length begins.spelled))
 
@@ -69,7 +69,7 @@ goes_on width (letter ∷ u) (other ∷ v) text rest rest' one (after, begins, l
     let more = goes_on width u v after rest rest' one lines (subst (λ (from : List ℕ). AreLines width v from rest') (sym both.1) others) (omega arith) in
     (more.0, (let head : letter ≡ other = both.0 in let tail : v ≡ u ++ more.0 = more.1 in cc), more.2)
 
-none_more : (width : ℕ) (w : Word) (rest rest' : List ℕ) → AreLines width w rest rest' → BeginsWithNoLine width rest → w ≡ []
+pub none_more : (width : ℕ) (w : Word) (rest rest' : List ℕ) → AreLines width w rest rest' → BeginsWithNoLine width rest → w ≡ []
 none_more width [] rest rest' lines none = refl
 none_more width (letter ∷ w) rest rest' (after, begins, lines) none = absurd (none letter after begins)
 

@@ -11,3 +11,4 @@ pub mod Running
 pub mod Selecting
 pub mod OfUnit
 pub mod OfNode
+pub mod Laws

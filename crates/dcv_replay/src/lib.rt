@@ -9,6 +9,7 @@
 
 mod answers;
 mod fault;
+pub mod laws;
 mod lines;
 mod of_node;
 mod of_unit;
