@@ -1,5 +1,5 @@
 -- How a run ends.
-use Rattle.std.proofs.Common.{◌≡◌, ◌≢◌, ◌⊎◌, ℕ, ◌+◌, ◌<◌, ◌≤◌, Bool, true, false, Result, Ok, Err, List, [], ◌∷◌, ◌++◌, length, Option, Some, None, inl, inr, refl, sym, ap, subst, ◌∙◌, arith, append_assoc}
+use Rattle.std.proofs.Common.{◌≡◌, ◌≢◌, ℕ, false, Result, Ok, Err, List, [], ◌++◌, length, Option, Some, None, inl, inr, refl, sym, ap, subst, ◌∙◌, arith}
 use Rattle.std.specs.Option.{IfSome}
 use Rattle.std.specs.Result.{OnOk, is_err}
 use Rattle.std.proofs.lemmas.Bool.{false≢true}
@@ -152,6 +152,7 @@ replayed_unopened name told told' replay written = record {
   any_text : (held : Option (List ℕ)) → IfSome held (λ text. NoLetters)
   any_text None = tt
   any_text (Some text) = refl
+
   any : (told : Option Disk) → IfSome told (λ disk. IfSome (disk.held name) (λ text. NoLetters))
   any None = tt
   any (Some disk) = any_text (disk.held name)

@@ -2,11 +2,11 @@
 use Rattle.std.proofs.Common.{◌≡◌, ◌↔◌, ℕ, Bool, IsTrue, Result, List, [], ◌∷◌, ◌++◌, length, Option, refl, sym, ap, subst, ◌∙◌, arith, append_assoc, length-append}
 use Rattle.std.specs.Option.{IfSome}
 use Rattle.std.specs.List.{AllByRecursion}
-use Rattle.std.proofs.lemmas.List.Elements.{All-from_recursion, recursion_from_All}
+use Rattle.std.proofs.lemmas.List.Elements.{recursion_from_All}
 use Rattle.dcv_io.specs.Disk.{Disk}
-use Rattle.dcv_word.specs.Behaviour.{Word, IsBehaviour}
+use Rattle.dcv_word.specs.Behaviour.{Word}
 use Rattle.dcv_replay.specs.TraceText.{AreWide}
-use Rattle.dcv_replay.specs.Answers.{answers, answer_line}
+use Rattle.dcv_replay.specs.Answers.{answers}
 use Rattle.dcv_replay.specs.Program.{ReplayValue, is_accepting, rest_of, advanced}
 use Rattle.dcv_replay.specs.Observer.{Observer, width_of, Accepts, HasStore, Follows, AreAnswers}
 use Rattle.dcv_replay.specs.Replayed.{IsTraceResult, IfRead, CutShort, Replayed}

@@ -1,12 +1,12 @@
 -- The end of a line, and of a trace.
-use Rattle.std.proofs.Common.{◌≡◌, ◌≢◌, ◌⊎◌, ℕ, ◌+◌, ◌-◌, ◌*◌, ◌<◌, ◌≤◌, Bool, List, [], ◌∷◌, ◌++◌, length, inl, inr, refl, sym, ap, subst, ◌∙◌, arith, append_assoc, length-append, Result, Ok, Err}
+use Rattle.std.proofs.Common.{◌≡◌, ◌≢◌, ℕ, ◌+◌, ◌-◌, ◌*◌, ◌<◌, ◌≤◌, Bool, List, [], ◌∷◌, ◌++◌, length, inl, inr, refl, sym, ap, subst, ◌∙◌, arith, append_assoc, Result, Ok, Err}
 use Rattle.std.proofs.lemmas.List.{append-nil, append_cancel_right}
 use Rattle.dcv_word.specs.TraceLine.{line_feed, trace_line}
 use Rattle.dcv_replay.specs.TraceText.{carriage_return, most_lines, BeginsWithLine, BeginsWithNoLine}
-use Rattle.dcv_replay.specs.Coming.{LinesValue, IsLines, IsAtFault, IsLast, IsEnded, HasCome, HasNoFeed, IsBad, IsWithoutReturn}
+use Rattle.dcv_replay.specs.Coming.{LinesValue, IsAtFault, IsLast, IsEnded, HasCome, HasNoFeed, IsBad, IsWithoutReturn}
 use Rattle.dcv_replay.specs.declared.fault.Stop.{Stop}
 use Rattle.dcv_replay.specs.declared.fault.Stop.TheVariants.{Line}
-use Rattle.dcv_replay.proofs.Texts.{front_of_line, feedless_has_none, line_no_return, feedless_more}
+use Rattle.dcv_replay.proofs.Texts.{front_of_line, feedless_has_none, line_no_return}
 
 -- a line with its end has come
 pub ended_has_come : (width : ℕ) (letter : List Bool) (line : List ℕ) → IsEnded width letter line → HasCome width line (letter ∷ []) []
@@ -19,11 +19,11 @@ ended_has_come width letter line ended = record {
 pub line_ends : (width : ℕ) (letter : List Bool) (line content : List ℕ) → IsWithoutReturn line content → length letter ≡ width → content ≡ trace_line letter → HasCome width (line ++ line_feed ∷ []) (letter ∷ []) []
 line_ends width letter line content without fits spelled = ended_has_come width letter (line ++ line_feed ∷ []) (elim without [
   | inl return ↦ record {
-      fits = fits;
-      end = carriage_return ∷ line_feed ∷ [];
-      ends = inr refl;
-      spelled = ap (λ text. text ++ line_feed ∷ []) (return ∙ ap (λ text. text ++ carriage_return ∷ []) spelled) ∙ append_assoc (trace_line letter) (carriage_return ∷ []) (line_feed ∷ []);
-    }
+    fits = fits;
+    end = carriage_return ∷ line_feed ∷ [];
+    ends = inr refl;
+    spelled = ap (λ text. text ++ line_feed ∷ []) (return ∙ ap (λ text. text ++ carriage_return ∷ []) spelled) ∙ append_assoc (trace_line letter) (carriage_return ∷ []) (line_feed ∷ []);
+  }
   | inr (same, none) ↦ record { fits = fits; end = line_feed ∷ []; ends = inl refl; spelled = ap (λ text. text ++ line_feed ∷ []) (same ∙ spelled) }
 ])
 
@@ -42,8 +42,8 @@ line_is_bad width line content without free none more letter after begins =
         | inr returned ↦ no_return (trace_line letter) returned
       ]
     ] where
-  same_front : (x y : List ℕ) → x ++ carriage_return ∷ [] ≡ y ++ carriage_return ∷ [] → x ≡ y
-  same_front x y same = append_cancel_right x y (carriage_return ∷ []) same
+      same_front : (x y : List ℕ) → x ++ carriage_return ∷ [] ≡ y ++ carriage_return ∷ [] → x ≡ y
+      same_front x y same = append_cancel_right x y (carriage_return ∷ []) same
 
 -- What is left at the end is none where it is no letter's line.
 pub last_is_bad : (width : ℕ) (line : List ℕ) → HasNoFeed line → ((letter : List Bool) → length letter ≡ width → line ≡ trace_line letter → ⊥) → BeginsWithNoLine width line
@@ -53,7 +53,7 @@ last_is_bad width line free none letter after begins = elim begins.ends [
       feedless_has_none (trace_line letter) after (subst HasNoFeed same free)
   | inr (inl return_feed) ↦
       let same : line ≡ (trace_line letter ++ carriage_return ∷ []) ++ line_feed ∷ after =
-          begins.spelled ∙ ap (λ end. trace_line letter ++ (end ++ after)) return_feed ∙ sym (append_assoc (trace_line letter) (carriage_return ∷ []) (line_feed ∷ after)) in
+      begins.spelled ∙ ap (λ end. trace_line letter ++ (end ++ after)) return_feed ∙ sym (append_assoc (trace_line letter) (carriage_return ∷ []) (line_feed ∷ after)) in
       feedless_has_none (trace_line letter ++ carriage_return ∷ []) after (subst HasNoFeed same free)
   | inr (inr (no_end, nothing)) ↦
       none letter begins.fits (begins.spelled ∙ ap (λ end. trace_line letter ++ (end ++ after)) no_end ∙ ap (λ end. trace_line letter ++ end) nothing ∙ append-nil (trace_line letter))

@@ -1,11 +1,11 @@
 -- A store that mirrors the numbers of names, and what selections do to it.
 --     IsApart names             no two places have one name
 --     Mirrors names known ..    the store has the constants, and the numbers of the names that are known
-use Rattle.std.proofs.Common.{◌≡◌, ◌≢◌, ◌⊎◌, ℕ, zero, suc, ◌+◌, ◌<◌, ◌≤◌, ◌==◌, ◌||◌, Bool, true, false, not, cond, List, [], ◌∷◌, length, map, fold, get_or, set, inl, inr, refl, sym, ap, subst, ◌∙◌, arith}
+use Rattle.std.proofs.Common.{◌≡◌, ◌≢◌, ℕ, ◌+◌, ◌<◌, ◌==◌, ◌||◌, Bool, true, false, cond, List, [], ◌∷◌, length, map, fold, get_or, set, inl, inr, refl, sym, ap, subst, ◌∙◌, arith}
 use Rattle.std.specs.Prelude.{bytes_eq}
 use Rattle.std.specs.List.{list_any, AllByRecursion}
-use Rattle.std.proofs.lemmas.List.{get_or-set_same, get_or-set_other, length-set, set-get_or, set-set}
-use Rattle.std.proofs.lemmas.Bool.{or_cases, or_right, cases_Bool, false≢true, both_ways}
+use Rattle.std.proofs.lemmas.List.{get_or-set_same, get_or-set_other, length-set, set-set}
+use Rattle.std.proofs.lemmas.Bool.{cases_Bool, false≢true, both_ways}
 use Rattle.std.proofs.lemmas.Slice.Eq.{bytes_eq-Decides}
 use Rattle.dcv_observer.specs.declared.conditions.Test.{Test}
 use Rattle.dcv_replay.specs.Program.{first_name, after_select}
@@ -60,14 +60,14 @@ module _ (number : Test → ℕ) (met : Test → Bool) (store : List ℕ) (slot 
   tests_answer [] asked was = refl
   tests_answer (test ∷ tests) ((is, apart), asked) was =
       let tested : (get_or (set store slot was) (slot_of test.name) 0 == number test) ≡ met test =
-          ap (λ (n : ℕ). n == number test) (get_or-set_other store slot (slot_of test.name) was 0 apart) ∙ is in
+      ap (λ (n : ℕ). n == number test) (get_or-set_other store slot (slot_of test.name) was 0 apart) ∙ is in
       let one : get_or (set store slot was) 1 0 ≡ 1 = get_or-set_other store slot 1 was 0 (λ same. omega (arith, same, free.high)) ∙ free.one_is in
       let same : get_or (set store slot was) slot 0 ≡ was = get_or-set_same store slot was 0 free.inside in
       let first : after_select (set store slot was) (test_select slot (slot_of test.name) (number test)) ≡ set store slot (cond (met test) 1 was) =
-          selected (set store slot was) slot (slot_of test.name) (number test) 1 slot
-          ∙ ap (λ (b : Bool). set (set store slot was) slot (cond b (get_or (set store slot was) 1 0) (get_or (set store slot was) slot 0))) tested
-          ∙ ap (λ (n : ℕ). set (set store slot was) slot n) (both_are (met test) one same)
-          ∙ set-set store slot was (cond (met test) 1 was) in
+      selected (set store slot was) slot (slot_of test.name) (number test) 1 slot
+      ∙ ap (λ (b : Bool). set (set store slot was) slot (cond b (get_or (set store slot was) 1 0) (get_or (set store slot was) slot 0))) tested
+      ∙ ap (λ (n : ℕ). set (set store slot was) slot n) (both_are (met test) one same)
+      ∙ set-set store slot was (cond (met test) 1 was) in
       ap (λ (store : List ℕ). fold after_select store (map (λ (test : Test). test_select slot (slot_of test.name) (number test)) tests)) first
       ∙ tests_answer tests asked (cond (met test) 1 was)
       ∙ ap (λ (n : ℕ). set store slot n) (any_more (met test) (list_any met tests) was)

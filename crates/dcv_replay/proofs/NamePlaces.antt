@@ -1,7 +1,7 @@
 -- Where names stand in a list of names that differ.
-use Rattle.std.proofs.Common.{◌≡◌, ℕ, zero, suc, ◌+◌, ◌<◌, Bool, true, false, not, cond, List, [], ◌∷◌, length, get_or, inl, inr, refl, sym, ap, subst, ◌∙◌, arith}
+use Rattle.std.proofs.Common.{◌≡◌, ℕ, zero, suc, ◌+◌, ◌<◌, Bool, true, false, not, cond, List, [], ◌∷◌, length, get_or, refl, sym, ap, subst, ◌∙◌, arith}
 use Rattle.std.specs.Prelude.{bytes_eq}
-use Rattle.std.specs.List.{list_any, position_or_len, AllByRecursion}
+use Rattle.std.specs.List.{list_any, position_or_len}
 use Rattle.std.proofs.lemmas.Bool.{both_ways, or_left, or_right, false_from_ne_true}
 use Rattle.std.proofs.lemmas.Slice.Eq.{bytes_eq-Decides}
 use Rattle.dcv_replay.proofs.Mirrors.{Name, itself, IsApart}
@@ -39,7 +39,7 @@ position_at (name ∷ names) distinct zero below =
     ap (λ (b : Bool). cond (not b) (1 + position_or_len (bytes_eq name) names) 0) (itself name)
 position_at (name ∷ names) distinct (suc place) below =
     let differ : bytes_eq (get_or names place []) name ≡ false = false_from_ne_true (bytes_eq (get_or names place []) name) (λ same.
-        both_ways (among names name) distinct.0 (subst (λ n. among names n ≡ true) (one (get_or names place []) name same) (among_at names place (omega arith)))) in
+    both_ways (among names name) distinct.0 (subst (λ n. among names n ≡ true) (one (get_or names place []) name same) (among_at names place (omega arith)))) in
     ap (λ (b : Bool). cond (not b) (1 + position_or_len (bytes_eq (get_or names place [])) names) 0) differ
     ∙ ap (λ (n : ℕ). 1 + n) (position_at names distinct.1 place (omega arith))
     ∙ (let e : 1 + place ≡ suc place = omega arith in e)

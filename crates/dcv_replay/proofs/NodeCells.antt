@@ -1,11 +1,11 @@
 -- The cells of delayed equations: what an instant keeps for the next one.
 --     Cells before store equations      each cell has what its equation takes from the instant before
-use Rattle.std.proofs.Common.{◌≡◌, ◌≢◌, ◌⊎◌, ℕ, zero, suc, ◌+◌, ◌<◌, ◌≤◌, ◌||◌, Bool, true, false, not, List, [], ◌∷◌, ◌++◌, length, map, fold, reverse, get_or, set, Option, Some, None, refl, sym, ap, subst, ◌∙◌, arith, append_assoc, length-append}
+use Rattle.std.proofs.Common.{◌≡◌, ◌≢◌, ℕ, ◌+◌, ◌<◌, ◌≤◌, ◌||◌, Bool, true, false, not, List, [], ◌∷◌, ◌++◌, length, map, fold, reverse, get_or, set, Option, Some, refl, sym, ap, subst, ◌∙◌, arith, append_assoc, length-append}
 use Rattle.std.specs.Prelude.{bytes_eq}
 use Rattle.std.specs.List.{All, AllByRecursion, flat_map}
 use Rattle.std.proofs.lemmas.List.{get_or-set_other, get_or-set_same, length-set, get_or_append_left, reverse-append}
 use Rattle.std.proofs.lemmas.List.Sums.{fold-append}
-use Rattle.std.proofs.lemmas.Bool.{or_parts, or_left, or_right, both_ways, false≢true}
+use Rattle.std.proofs.lemmas.Bool.{or_parts, or_left, both_ways}
 use Rattle.std.proofs.lemmas.Slice.Eq.{bytes_eq-Decides}
 use Rattle.dcv_lustre.specs.declared.node.Value.{Value as CodeValue}
 use Rattle.dcv_lustre.specs.declared.node.Arm.{Arm}
@@ -16,12 +16,12 @@ use Rattle.dcv_lustre.specs.Tree.{Equation as PlainEquation}
 use Rattle.dcv_lustre.specs.Meaning.{Values, delayed_value, right_value}
 use Rattle.dcv_lustre.specs.Rules.{is_among, lefts_of}
 use Rattle.dcv_lustre.specs.Seen.{seen_value, seen_right, seen_equation}
-use Rattle.dcv_lustre.proofs.Runs.{Reads, reads_also, IsOnNoLeft, IsInOrder}
+use Rattle.dcv_lustre.proofs.Runs.{reads_also, IsOnNoLeft, IsInOrder}
 use Rattle.dcv_replay.specs.declared.replay.Select.{Select}
 use Rattle.dcv_replay.specs.Program.{first_name, after_select}
 use Rattle.dcv_replay.specs.Observer.{value_number}
-use Rattle.dcv_replay.specs.Selecting.{slot_of, copy, most_names}
-use Rattle.dcv_replay.specs.OfNode.{arm_select, arms_selects, cell_of, right_selects, equation_selects, latch_of, latch_selects, with_cell, after_cell, IsPlacedArm, IsPlacedRight, IsPlacedEquation}
+use Rattle.dcv_replay.specs.Selecting.{slot_of, most_names}
+use Rattle.dcv_replay.specs.OfNode.{arm_select, arms_selects, cell_of, equation_selects, latch_of, latch_selects, with_cell, after_cell, IsPlacedArm, IsPlacedRight, IsPlacedEquation}
 use Rattle.dcv_replay.proofs.Mirrors.{Name, copied, IsApart, Mirrors, fewer}
 use Rattle.dcv_replay.proofs.NodeSteps.{CellIs, right_is, value_written}
 
@@ -66,9 +66,10 @@ module _ (names : List Name) (apart : IsApart names) where
   pub cells_kept : (before : Option Values) (store store' : List ℕ) (equations : List Equation) → ((slot : ℕ) → first_name + length names ≤ slot → get_or store' slot 0 ≡ get_or store slot 0)
       → Cells before store equations → Cells before store' equations
   cells_kept before store store' [] same cells = tt
-  cells_kept before store store' (equation ∷ equations) same cells =
-      (cell_kept before store store' (cell_of (length names) equation.left) equation.right (same (cell_of (length names) equation.left) (omega arith)) cells.0,
-      cells_kept before store store' equations same cells.1)
+  cells_kept before store store' (equation ∷ equations) same cells = (
+    cell_kept before store store' (cell_of (length names) equation.left) equation.right (same (cell_of (length names) equation.left) (omega arith)) cells.0,
+    cells_kept before store store' equations same cells.1,
+  )
 
   -- names keep their numbers where a cell is set
   high_written : {known : Name → Bool} {now : Name → ℕ} {store : List ℕ} → Mirrors names known now store → (slot number : ℕ) → first_name + length names ≤ slot
@@ -93,7 +94,7 @@ module _ (names : List Name) (apart : IsApart names) where
   module _ (before : Option Values) (equation : Equation) (equations : List Equation) (free_left : IsOnNoLeft (map (seen_equation names) equations) (get_or names equation.left []))
       (placed : IsPlacedEquation (length names) equation) (store : List ℕ) (room : first_name + (length names + length names) < length store)
       (later : (next : List ℕ) → first_name + (length names + length names) < length next
-          → CellsSet before equations next (fold (after_cell (cell_number names before) (length names)) next equations)) where
+      → CellsSet before equations next (fold (after_cell (cell_number names before) (length names)) next equations)) where
     -- what one equation sets does not stand in the way of the others
     one_more : (next : List ℕ) → length next ≡ length store → ((slot : ℕ) → slot ≢ cell_of (length names) equation.left → get_or next slot 0 ≡ get_or store slot 0)
         → CellIs names before next (cell_of (length names) equation.left) equation.right
@@ -119,10 +120,10 @@ module _ (names : List Name) (apart : IsApart names) where
         subst (λ (next : List ℕ). CellsSet before (equation ∷ equations) store (fold (after_cell (cell_number names before) (length names)) next equations))
         (sym (ap (with_cell (cell_number names before) (cell_of (length names) equation.left) store) is))
         (one_more (set store (cell_of (length names) equation.left) (cell_number names before first source))
-            (length-set store (cell_of (length names) equation.left) (cell_number names before first source))
-            (λ slot apart. get_or-set_other store (cell_of (length names) equation.left) slot (cell_number names before first source) 0 apart)
-            (subst (CellIs names before (set store (cell_of (length names) equation.left) (cell_number names before first source)) (cell_of (length names) equation.left)) (sym is)
-                (get_or-set_same store (cell_of (length names) equation.left) (cell_number names before first source) 0 (omega (arith, room, placed.left)))))
+        (length-set store (cell_of (length names) equation.left) (cell_number names before first source))
+        (λ slot apart. get_or-set_other store (cell_of (length names) equation.left) slot (cell_number names before first source) 0 apart)
+        (subst (CellIs names before (set store (cell_of (length names) equation.left) (cell_number names before first source)) (cell_of (length names) equation.left)) (sym is)
+        (get_or-set_same store (cell_of (length names) equation.left) (cell_number names before first source) 0 (omega (arith, room, placed.left)))))
     by_right (Chosen arms otherwise) is =
         subst (λ (next : List ℕ). CellsSet before (equation ∷ equations) store (fold (after_cell (cell_number names before) (length names)) next equations))
         (sym (ap (with_cell (cell_number names before) (cell_of (length names) equation.left) store) is))
@@ -173,7 +174,7 @@ module _ (names : List Name) (apart : IsApart names) where
         let cell : ℕ = cell_of (length names) equation.left in
         fold-append after_select store (latch_selects (length names) equation) (flat_map (latch_selects (length names)) equations)
         ∙ ap (λ (s : List ℕ). fold after_select s (flat_map (latch_selects (length names)) equations))
-            (latch_is mirrors (cell_of (length names) equation.left) equation.right (source_placed equation.right placed.0.right))
+        (latch_is mirrors (cell_of (length names) equation.left) equation.right (source_placed equation.right placed.0.right))
         ∙ latches_are equations placed.1 (with_cell_mirrors mirrors (cell_of (length names) equation.left) (omega arith) equation.right)
 
     -- ---- the equations of an instant
@@ -195,26 +196,26 @@ module _ (names : List Name) (apart : IsApart names) where
         let left : Name = get_or names equation.left [] in
         let number : ℕ = value_number (right_value before values (seen_right names equation.right)) in
         let fresh : known_but (map (seen_equation names) (equation ∷ equations)) (get_or names equation.left []) ≡ false =
-            ap not (or_left (bytes_eq (get_or names equation.left []) (get_or names equation.left [])) _ ((bytes_eq-Decides (get_or names equation.left []) (get_or names equation.left [])).1 refl)) in
+        ap not (or_left (bytes_eq (get_or names equation.left []) (get_or names equation.left [])) _ ((bytes_eq-Decides (get_or names equation.left []) (get_or names equation.left [])).1 refl)) in
         let reads = reads_also (IsOnNoLeft (map (seen_equation names) (equation ∷ equations))) (λ name. known_but (map (seen_equation names) (equation ∷ equations)) name ≡ true)
-            (λ name free. ap not free) (seen_right names equation.right) order.0.reads in
+        (λ name free. ap not free) (seen_right names equation.right) order.0.reads in
         let set_is : fold after_select store (equation_selects (length names) equation)
-                ≡ set store (slot_of equation.left) (value_number (right_value before values (seen_right names equation.right))) =
-            right_is names apart values (known_but (map (seen_equation names) (equation ∷ equations))) mirrors equation.left placed.0.left fresh before
-            (cell_of (length names) equation.left) equation.right placed.0.right reads cells.0 in
+        ≡ set store (slot_of equation.left) (value_number (right_value before values (seen_right names equation.right))) =
+        right_is names apart values (known_but (map (seen_equation names) (equation ∷ equations))) mirrors equation.left placed.0.left fresh before
+        (cell_of (length names) equation.left) equation.right placed.0.right reads cells.0 in
         let whole : fold after_select store (flat_map (equation_selects (length names)) (equation ∷ equations))
-                ≡ fold after_select (set store (slot_of equation.left) (value_number (right_value before values (seen_right names equation.right)))) (flat_map (equation_selects (length names)) equations) =
-            fold-append after_select store (equation_selects (length names) equation) (flat_map (equation_selects (length names)) equations)
-            ∙ ap (λ (s : List ℕ). fold after_select s (flat_map (equation_selects (length names)) equations)) set_is in
+        ≡ fold after_select (set store (slot_of equation.left) (value_number (right_value before values (seen_right names equation.right)))) (flat_map (equation_selects (length names)) equations) =
+        fold-append after_select store (equation_selects (length names) equation) (flat_map (equation_selects (length names)) equations)
+        ∙ ap (λ (s : List ℕ). fold after_select s (flat_map (equation_selects (length names)) equations)) set_is in
         let same : (slot : ℕ) → first_name + length names ≤ slot
-                → get_or (set store (slot_of equation.left) (value_number (right_value before values (seen_right names equation.right)))) slot 0 ≡ get_or store slot 0 =
-            λ slot there. get_or-set_other store (slot_of equation.left) slot (value_number (right_value before values (seen_right names equation.right))) 0
-                (λ at. omega (arith, at, there, placed.0.left)) in
+        → get_or (set store (slot_of equation.left) (value_number (right_value before values (seen_right names equation.right)))) slot 0 ≡ get_or store slot 0 =
+        λ slot there. get_or-set_other store (slot_of equation.left) slot (value_number (right_value before values (seen_right names equation.right))) 0
+        (λ at. omega (arith, at, there, placed.0.left)) in
         let next = fewer names apart
-            (value_written names apart values mirrors equation.left (value_number (right_value before values (seen_right names equation.right))) placed.0.left (ap value_number hold.0))
-            (λ name there. known_next (bytes_eq name (get_or names equation.left [])) (is_among (lefts_of (map (seen_equation names) equations)) name) there) in
+        (value_written names apart values mirrors equation.left (value_number (right_value before values (seen_right names equation.right))) placed.0.left (ap value_number hold.0))
+        (λ name there. known_next (bytes_eq name (get_or names equation.left [])) (is_among (lefts_of (map (seen_equation names) equations)) name) there) in
         let rest = equations_run before equations order.1 placed.1 hold.1
-            (cells_kept before store (set store (slot_of equation.left) (value_number (right_value before values (seen_right names equation.right)))) equations same cells.1) next in
+        (cells_kept before store (set store (slot_of equation.left) (value_number (right_value before values (seen_right names equation.right)))) equations same cells.1) next in
         record {
           mirrors = subst (λ (end : List ℕ). Mirrors names (known_but []) (λ name. value_number (values name)) end) (sym whole) rest.mirrors;
           high = λ slot there. ap (λ (end : List ℕ). get_or end slot 0) whole ∙ rest.high slot there ∙ same slot there;

@@ -1,8 +1,8 @@
 -- The names of a node that keeps the rules differ, its inputs are few, and each place that an equation names is that of a name.
-use Rattle.std.proofs.Common.{◌≡◌, ◌≢◌, ℕ, zero, suc, ◌+◌, ◌<◌, ◌≤◌, Bool, true, false, not, ◌&&◌, ◌||◌, nat_lt, nat_le, IsTrue, List, [], ◌∷◌, ◌++◌, length, map, get_or, inl, inr, refl, sym, ap, subst, ◌∙◌, arith, length-append}
+use Rattle.std.proofs.Common.{◌≡◌, ℕ, zero, suc, ◌+◌, ◌<◌, ◌≤◌, Bool, true, false, ◌||◌, nat_lt, nat_le, List, [], ◌∷◌, ◌++◌, length, map, get_or, inl, inr, refl, sym, ap, subst, ◌∙◌, arith, length-append}
 use Rattle.std.specs.List.{All, AllByRecursion, list_all, enumerate_from}
 use Rattle.std.proofs.lemmas.List.{get_or_past}
-use Rattle.std.proofs.lemmas.List.Elements.{All-from_recursion, recursion_from_All}
+use Rattle.std.proofs.lemmas.List.Elements.{All-from_recursion}
 use Rattle.std.proofs.lemmas.Bool.{and_parts, cases_lt, ltb-true, false≢true}
 use Rattle.dcv_observer.specs.declared.conditions.Condition.{Condition}
 use Rattle.dcv_observer.specs.declared.conditions.Condition.TheVariants.{Holds, Equals}
@@ -17,12 +17,12 @@ use Rattle.dcv_lustre.specs.declared.node.Right.TheVariants.{Delayed, Chosen, Te
 use Rattle.dcv_lustre.specs.declared.node.Equation.{Equation}
 use Rattle.dcv_lustre.specs.Tree.{Node}
 use Rattle.dcv_lustre.specs.Meaning.{names_of, ok, local_names}
-use Rattle.dcv_lustre.specs.Rules.{declared, keeps_declared, keeps_equations, is_among, judged, IsWellNamed}
+use Rattle.dcv_lustre.specs.Rules.{declared, keeps_declared, judged, IsWellNamed}
 use Rattle.dcv_lustre.specs.Form.{IsName, IsValue, IsItem, IsCondition, IsArm, IsTest, IsRight, IsEquation, IsSpellable}
 use Rattle.dcv_lustre.specs.Seen.{seen_value, seen_item, seen_condition, seen_arm, seen_test, seen_right, seen_equation}
 use Rattle.dcv_lustre.proofs.Lookups as lookups
 use Rattle.dcv_replay.specs.Program.{first_name}
-use Rattle.dcv_replay.specs.OfNode.{constant_number, IsPlacedItem, IsPlacedCondition, IsPlacedArm, ArePlacedTests, IsPlacedRight, IsPlacedEquation, HasSlots}
+use Rattle.dcv_replay.specs.OfNode.{constant_number, IsPlacedItem, IsPlacedCondition, IsPlacedArm, IsPlacedRight, IsPlacedEquation, HasSlots}
 use Rattle.dcv_replay.specs.Selecting.{most_names}
 use Rattle.dcv_replay.proofs.Mirrors.{Name}
 use Rattle.dcv_replay.proofs.NamePlaces.{AreDistinct}

@@ -1,12 +1,12 @@
 -- A replay of a node follows it.
 --     Runs before store      the store has what the equations take from the instant before
-use Rattle.std.proofs.Common.{◌≡◌, ◌↔◌, ◌⊎◌, ℕ, zero, suc, ◌+◌, ◌-◌, ◌<◌, ◌≤◌, ◌==◌, Bool, true, false, not, cond, IsTrue, List, [], ◌∷◌, ◌++◌, length, map, fold, take, drop, get_or, Option, Some, None, inl, inr, refl, sym, ap, subst, ◌∙◌, arith, append_assoc, length-append}
+use Rattle.std.proofs.Common.{◌≡◌, ◌↔◌, ℕ, zero, suc, ◌+◌, ◌-◌, ◌<◌, ◌≤◌, ◌==◌, Bool, true, false, not, cond, IsTrue, List, [], ◌∷◌, length, map, fold, take, drop, get_or, Option, Some, None, inl, inr, refl, sym, ap, subst, ◌∙◌, arith, length-append}
 use Rattle.std.specs.Prelude.{bytes_eq}
-use Rattle.std.specs.List.{All, AllByRecursion, flat_map, position_or_len}
+use Rattle.std.specs.List.{AllByRecursion, flat_map}
 use Rattle.std.proofs.lemmas.List.{get_or_append_left, get_or-append-add, get_or-map, length-map}
 use Rattle.std.proofs.lemmas.List.Sums.{fold-append}
 use Rattle.std.proofs.lemmas.List.Elements.{recursion_from_All}
-use Rattle.std.proofs.lemmas.Bool.{cases_Bool, cases_lt, both_ways, or_left}
+use Rattle.std.proofs.lemmas.Bool.{cases_Bool, cases_lt, both_ways}
 use Rattle.std.proofs.lemmas.Slice.Eq.{bytes_eq-Decides}
 use Rattle.dcv_word.specs.Behaviour.{Word, IsBehaviour}
 use Rattle.dcv_lustre.specs.declared.node.Equation.{Equation}
@@ -19,13 +19,12 @@ use Rattle.dcv_lustre.proofs.Lookups.{distinct_apart}
 use Rattle.dcv_lustre.proofs.Runs.{IsOnNoLeft, IsInOrder}
 use Rattle.dcv_lustre.proofs.OneTrace.{StandsInOrder}
 use Rattle.dcv_lustre.proofs.InOrder.{stands_in_order}
-use Rattle.dcv_replay.specs.TraceText.{AreWide}
 use Rattle.dcv_replay.specs.Program.{Program, first_name, after_select, with_letter, after_letter, after_word, is_accepting, rest_of}
-use Rattle.dcv_replay.specs.Observer.{Lustre, Follows, numbers_of, value_number, AreOfLast}
+use Rattle.dcv_replay.specs.Observer.{Lustre, Follows, value_number, AreOfLast}
 use Rattle.dcv_replay.specs.Selecting.{slot_of}
 use Rattle.dcv_replay.specs.OfNode.{equation_selects, latch_selects, node_selects, after_cell, IsPlacedEquation}
 use Rattle.dcv_replay.proofs.Mirrors.{Name, IsApart, Mirrors}
-use Rattle.dcv_replay.proofs.NamePlaces.{among, AreDistinct, among_at, apart_places, position_at}
+use Rattle.dcv_replay.proofs.NamePlaces.{AreDistinct, among_at, apart_places, position_at}
 use Rattle.dcv_replay.proofs.Letters.{length-with_letter, letter_elsewhere, letter_there}
 use Rattle.dcv_replay.proofs.UnitRuns.{first_numbers}
 use Rattle.dcv_replay.proofs.NodeNames.{distinct_so}
@@ -168,22 +167,22 @@ module _ (node : Node) (well : IsWellNamed node) (exists : TraceExists) (equatio
         let cells = cells_kept (names_of node) apart before store (with_letter (slot_of 0) letter store) equations letter_high runs.cells in
         let ran = equations_run (names_of node) apart (value_in node now) before equations order placed hold cells begins in
         let ran_long : length (fold after_select (with_letter (slot_of 0) letter store) (flat_map (equation_selects (length (names_of node))) equations)) ≡ length store =
-            length-after (flat_map (equation_selects (length (names_of node))) equations) (with_letter (slot_of 0) letter store) ∙ length-with_letter (slot_of 0) letter store in
+        length-after (flat_map (equation_selects (length (names_of node))) equations) (with_letter (slot_of 0) letter store) ∙ length-with_letter (slot_of 0) letter store in
         let set = cells_set (names_of node) apart (Some (value_in node now)) equations order placed
-            (fold after_select (with_letter (slot_of 0) letter store) (flat_map (equation_selects (length (names_of node))) equations)) (omega (arith, ran_long, runs.long)) in
+        (fold after_select (with_letter (slot_of 0) letter store) (flat_map (equation_selects (length (names_of node))) equations)) (omega (arith, ran_long, runs.long)) in
         let end_is : after_letter node_program store letter
-                ≡ fold (after_cell (cell_number (names_of node) (Some (value_in node now))) (length (names_of node)))
-                    (fold after_select (with_letter (slot_of 0) letter store) (flat_map (equation_selects (length (names_of node))) equations)) equations =
-            fold-append after_select (with_letter (slot_of 0) letter store) (flat_map (equation_selects (length (names_of node))) equations) (flat_map (latch_selects (length (names_of node))) equations)
-            ∙ latches_are (names_of node) apart (value_in node now) equations placed ran.mirrors in
+        ≡ fold (after_cell (cell_number (names_of node) (Some (value_in node now))) (length (names_of node)))
+        (fold after_select (with_letter (slot_of 0) letter store) (flat_map (equation_selects (length (names_of node))) equations)) equations =
+        fold-append after_select (with_letter (slot_of 0) letter store) (flat_map (equation_selects (length (names_of node))) equations) (flat_map (latch_selects (length (names_of node))) equations)
+        ∙ latches_are (names_of node) apart (value_in node now) equations placed ran.mirrors in
         let mirrors : Mirrors (names_of node) (known_but []) (λ name. value_number (value_in node now name))
-                (fold (after_cell (cell_number (names_of node) (Some (value_in node now))) (length (names_of node)))
-                    (fold after_select (with_letter (slot_of 0) letter store) (flat_map (equation_selects (length (names_of node))) equations)) equations) =
-            record {
-              long = omega (arith, set.long, ran.mirrors.long);
-              literals = λ number small. set.low number (omega (arith, small)) ∙ ran.mirrors.literals number small;
-              numbers = λ place below there. set.low (slot_of place) (omega (arith, below)) ∙ ran.mirrors.numbers place below there;
-            } in
+        (fold (after_cell (cell_number (names_of node) (Some (value_in node now))) (length (names_of node)))
+        (fold after_select (with_letter (slot_of 0) letter store) (flat_map (equation_selects (length (names_of node))) equations)) equations) =
+        record {
+          long = omega (arith, set.long, ran.mirrors.long);
+          literals = λ number small. set.low number (omega (arith, small)) ∙ ran.mirrors.literals number small;
+          numbers = λ place below there. set.low (slot_of place) (omega (arith, below)) ∙ ran.mirrors.numbers place below there;
+        } in
         subst Stepped (sym end_is) (record {
           next = record {
             long = omega (arith, set.long, ran_long, runs.long);
@@ -261,8 +260,7 @@ module _ (node : Node) (well : IsWellNamed node) (exists : TraceExists) (equatio
     accepted [] behaviour = absurd (omega (arith, behaviour.nonempty))
     accepted (letter ∷ word) behaviour =
         let wide = recursion_from_All (λ (letter : List Bool). length letter ≡ width_of node) (letter ∷ word) behaviour.widths in
-        let some = exists node well (letter ∷ word) behaviour.widths in
-        (
+        let some = exists node well (letter ∷ word) behaviour.widths in (
           (λ (yes : IsTrue _). record { trace = some.0; is = some.1; accepted = subst IsTrue (word_ends letter word None some.0 some.1 wide store runs).answer yes }),
           (λ (accepts : Accepts node (letter ∷ word)). subst IsTrue (sym (word_ends letter word None accepts.trace accepts.is wide store runs).answer) accepts.accepted),
         )

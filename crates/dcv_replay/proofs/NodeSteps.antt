@@ -1,34 +1,31 @@
 -- The selections of an instant give each name the number of its value.
-use Rattle.std.proofs.Common.{◌≡◌, ◌≢◌, ◌⊎◌, ℕ, zero, suc, ◌+◌, ◌<◌, ◌≤◌, ◌==◌, ◌||◌, Bool, true, false, not, cond, nat_eq, List, [], ◌∷◌, ◌++◌, length, map, fold, reverse, get_or, set, Option, Some, None, inl, inr, refl, sym, ap, subst, ◌∙◌, arith}
+use Rattle.std.proofs.Common.{◌≡◌, ◌≢◌, ℕ, ◌+◌, ◌<◌, ◌==◌, ◌||◌, Bool, true, false, cond, nat_eq, List, [], ◌∷◌, ◌++◌, length, map, fold, reverse, get_or, set, Option, inl, inr, refl, sym, ap, subst, ◌∙◌, arith}
 use Rattle.std.specs.Prelude.{bytes_eq}
-use Rattle.std.specs.List.{list_any, AllByRecursion, flat_map}
+use Rattle.std.specs.List.{list_any, AllByRecursion}
 use Rattle.std.proofs.lemmas.List.{get_or-set_other, get_or-set_same, length-set, set-set, reverse-append, map-append}
 use Rattle.std.proofs.lemmas.List.Sums.{fold-append}
 use Rattle.std.proofs.lemmas.List.Elements.{recursion_from_All}
-use Rattle.std.proofs.lemmas.Bool.{cases_Bool, false≢true, both_ways, eq-eqb, eqb-true, eqb-false, or_cases, or_left, or_right, false_from_ne_true}
+use Rattle.std.proofs.lemmas.Bool.{cases_Bool, false≢true, both_ways, eq-eqb, eqb-true, eqb-false, false_from_ne_true}
 use Rattle.std.proofs.lemmas.Slice.Eq.{bytes_eq-Decides}
 use Rattle.dcv_observer.specs.declared.conditions.Condition.{Condition}
 use Rattle.dcv_observer.specs.declared.conditions.Condition.TheVariants.{Holds, Equals}
 use Rattle.dcv_observer.specs.declared.conditions.Test.{Test}
-use Rattle.dcv_lustre.specs.declared.node.Value.{Value as CodeValue}
 use Rattle.dcv_lustre.specs.declared.node.Item.{Item}
 use Rattle.dcv_lustre.specs.declared.node.Item.TheVariants.{Constant, Named}
 use Rattle.dcv_lustre.specs.declared.node.Arm.{Arm}
 use Rattle.dcv_lustre.specs.declared.node.Right.{Right}
 use Rattle.dcv_lustre.specs.declared.node.Right.TheVariants.{Delayed, Chosen, Tested}
-use Rattle.dcv_lustre.specs.declared.node.Equation.{Equation}
-use Rattle.dcv_lustre.specs.Tree.{Value, Truth, Number, Equation as PlainEquation}
+use Rattle.dcv_lustre.specs.Tree.{Value, Truth, Number}
 use Rattle.dcv_lustre.specs.Meaning.{Values, is_true, is_number, item_value, holds, chosen_value, passes, delayed_value, right_value}
-use Rattle.dcv_lustre.specs.Rules.{is_among, lefts_of}
-use Rattle.dcv_lustre.specs.Seen.{seen_value, seen_item, seen_condition, seen_arm, seen_test, seen_right, seen_equation}
-use Rattle.dcv_lustre.proofs.Runs.{ReadsItem, ReadsCondition, ReadsArms, ReadsTests, Reads, reads_also, IsOnNoLeft, IsInOrder}
+use Rattle.dcv_lustre.specs.Seen.{seen_value, seen_item, seen_condition, seen_arm, seen_test, seen_right}
+use Rattle.dcv_lustre.proofs.Runs.{ReadsItem, ReadsCondition, ReadsArms, ReadsTests, Reads}
 use Rattle.dcv_replay.specs.declared.replay.Select.{Select}
-use Rattle.dcv_replay.specs.Program.{first_name, after_select}
+use Rattle.dcv_replay.specs.Program.{after_select}
 use Rattle.dcv_replay.specs.Observer.{value_number}
-use Rattle.dcv_replay.specs.Selecting.{slot_of, copy, select}
-use Rattle.dcv_replay.specs.OfNode.{item_slot, choosing, arm_select, arms_selects, tests_selects, cell_of, right_selects, equation_selects, latch_of, latch_selects}
-use Rattle.dcv_replay.specs.OfNode.{with_cell, after_cell, IsPlacedItem, IsPlacedCondition, IsPlacedArm, IsPlacedRight, IsPlacedEquation}
-use Rattle.dcv_replay.proofs.Mirrors.{Name, both_are, selected, copied, any_test, any_map, IsFree, IsApart, Mirrors, fewer}
+use Rattle.dcv_replay.specs.Selecting.{slot_of, copy}
+use Rattle.dcv_replay.specs.OfNode.{item_slot, choosing, arm_select, arms_selects, tests_selects, right_selects}
+use Rattle.dcv_replay.specs.OfNode.{IsPlacedItem, IsPlacedCondition, IsPlacedArm, IsPlacedRight}
+use Rattle.dcv_replay.proofs.Mirrors.{Name, both_are, selected, copied, any_test, any_map, IsApart, Mirrors}
 
 -- ---- numbers of values
 
@@ -105,6 +102,7 @@ module _ (names : List Name) (apart : IsApart names) (values : Values) where
     was_known : (a b : Bool) → a ≡ false → (a || b) ≡ true → b ≡ true
     was_known true b fails there = absurd (false≢true (sym fails))
     was_known false b fails there = there
+
     differ_at : (p q : ℕ) → bytes_eq (get_or names p []) (get_or names q []) ≡ false → p ≡ q → ⊥
     differ_at p q differ same = both_ways (bytes_eq (get_or names p []) (get_or names q [])) differ
         (subst (λ n. bytes_eq (get_or names p []) (get_or names n []) ≡ true) same ((bytes_eq-Decides (get_or names p []) (get_or names p [])).1 refl))
@@ -126,39 +124,39 @@ module _ (names : List Name) (apart : IsApart names) (values : Values) where
     choice_is {store} mirrors (Holds place) below read target held otherwise =
         selected store target (slot_of place) 1 held otherwise
         ∙ ap (λ (b : Bool). set store target (cond b (get_or store held 0) (get_or store otherwise 0)))
-            (ap (λ (n : ℕ). n == 1) (mirrors.numbers place below read) ∙ truth_is (values (get_or names place [])))
+        (ap (λ (n : ℕ). n == 1) (mirrors.numbers place below read) ∙ truth_is (values (get_or names place [])))
     choice_is {store} mirrors (Equals place number) below read target held otherwise =
         selected store target (slot_of place) (number + 2) held otherwise
         ∙ ap (λ (b : Bool). set store target (cond b (get_or store held 0) (get_or store otherwise 0)))
-            (ap (λ (n : ℕ). n == number + 2) (mirrors.numbers place below read) ∙ number_is (values (get_or names place [])) number)
+        (ap (λ (n : ℕ). n == number + 2) (mirrors.numbers place below read) ∙ number_is (values (get_or names place [])) number)
 
     module _ {store : List ℕ} (mirrors : Mirrors names known (λ name. value_number (values name)) store) (left : ℕ) (below : left < length names)
         (fresh : known (get_or names left []) ≡ false) where
       arms_are : (arms : List Arm) → AllByRecursion (IsPlacedArm (length names)) arms → ReadsArms (λ name. known name ≡ true) (map (seen_arm names) arms)
           → (otherwise : Item) → IsPlacedItem (length names) otherwise → ReadsItem (λ name. known name ≡ true) (seen_item names otherwise)
           → fold after_select store (copy (slot_of left) (item_slot otherwise) ∷ arms_selects (slot_of left) arms)
-              ≡ set store (slot_of left) (value_number (chosen_value values (map (seen_arm names) arms) (seen_item names otherwise)))
+          ≡ set store (slot_of left) (value_number (chosen_value values (map (seen_arm names) arms) (seen_item names otherwise)))
       arms_are [] placed reads otherwise last_placed last_read =
           copied store (slot_of left) (item_slot otherwise) ∙ ap (λ (n : ℕ). set store (slot_of left) n) (item_is mirrors otherwise last_placed last_read)
       arms_are (arm ∷ arms) placed reads otherwise last_placed last_read =
           let rest : ℕ = value_number (chosen_value values (map (seen_arm names) arms) (seen_item names otherwise)) in
           let before : fold after_select store (copy (slot_of left) (item_slot otherwise) ∷ arms_selects (slot_of left) arms)
-                  ≡ set store (slot_of left) (value_number (chosen_value values (map (seen_arm names) arms) (seen_item names otherwise))) =
-              arms_are arms placed.1 reads.1 otherwise last_placed last_read in
+          ≡ set store (slot_of left) (value_number (chosen_value values (map (seen_arm names) arms) (seen_item names otherwise))) =
+          arms_are arms placed.1 reads.1 otherwise last_placed last_read in
           let still = unknown_written mirrors left (value_number (chosen_value values (map (seen_arm names) arms) (seen_item names otherwise))) fresh in
           let selects_are : arms_selects (slot_of left) (arm ∷ arms) ≡ arms_selects (slot_of left) arms ++ arm_select (slot_of left) arm ∷ [] =
-              ap (map (arm_select (slot_of left))) (reverse-append (arm ∷ []) arms) ∙ map-append (arm_select (slot_of left)) (reverse arms) (arm ∷ []) in
+          ap (map (arm_select (slot_of left))) (reverse-append (arm ∷ []) arms) ∙ map-append (arm_select (slot_of left)) (reverse arms) (arm ∷ []) in
           ap (λ selects. fold after_select store (copy (slot_of left) (item_slot otherwise) ∷ selects)) selects_are
           ∙ fold-append after_select store (copy (slot_of left) (item_slot otherwise) ∷ arms_selects (slot_of left) arms) (arm_select (slot_of left) arm ∷ [])
           ∙ ap (λ (s : List ℕ). after_select s (arm_select (slot_of left) arm)) before
           ∙ choice_is still arm.condition placed.0.condition reads.0.condition (slot_of left) (item_slot arm.item) (slot_of left)
           ∙ ap (λ (n : ℕ). set (set store (slot_of left) (value_number (chosen_value values (map (seen_arm names) arms) (seen_item names otherwise)))) (slot_of left) n)
-              (both_are (holds values (seen_condition names arm.condition)) (item_is still arm.item placed.0.item reads.0.item)
-                  (get_or-set_same store (slot_of left) (value_number (chosen_value values (map (seen_arm names) arms) (seen_item names otherwise))) 0 (omega (arith, mirrors.long, below)))
-              ∙ chosen_number (holds values (seen_condition names arm.condition)) (item_value values (seen_item names arm.item))
-                  (chosen_value values (map (seen_arm names) arms) (seen_item names otherwise)))
+          (both_are (holds values (seen_condition names arm.condition)) (item_is still arm.item placed.0.item reads.0.item)
+          (get_or-set_same store (slot_of left) (value_number (chosen_value values (map (seen_arm names) arms) (seen_item names otherwise))) 0 (omega (arith, mirrors.long, below)))
+          ∙ chosen_number (holds values (seen_condition names arm.condition)) (item_value values (seen_item names arm.item))
+          (chosen_value values (map (seen_arm names) arms) (seen_item names otherwise)))
           ∙ set-set store (slot_of left) (value_number (chosen_value values (map (seen_arm names) arms) (seen_item names otherwise)))
-              (value_number (chosen_value values (map (seen_arm names) (arm ∷ arms)) (seen_item names otherwise)))
+          (value_number (chosen_value values (map (seen_arm names) (arm ∷ arms)) (seen_item names otherwise)))
 
       asked : (tests : List Test) → AllByRecursion (λ (test : Test). test.name < length names) tests → ReadsTests (λ name. known name ≡ true) (map (seen_test names) tests)
           → AllByRecursion (λ (test : Test). ((get_or store (slot_of test.name) 0 == test.number + 2) ≡ passes values (seen_test names test)) × (slot_of test.name ≢ slot_of left)) tests
@@ -177,8 +175,8 @@ module _ (names : List Name) (apart : IsApart names) (values : Values) where
           → fold after_select store (tests_selects (slot_of left) tests) ≡ set store (slot_of left) (value_number (Truth (list_any (passes values) (map (seen_test names) tests))))
       tests_are tests placed reads =
           any_test (λ (test : Test). test.number + 2) (λ (test : Test). passes values (seen_test names test)) store (slot_of left)
-              (record { high = omega arith; inside = omega (arith, mirrors.long, below); zero_is = mirrors.literals 0 (omega arith); one_is = mirrors.literals 1 (omega arith) })
-              tests (asked tests placed reads)
+          (record { high = omega arith; inside = omega (arith, mirrors.long, below); zero_is = mirrors.literals 0 (omega arith); one_is = mirrors.literals 1 (omega arith) })
+          tests (asked tests placed reads)
           ∙ ap (λ (b : Bool). set store (slot_of left) (cond b 1 0)) (any_map (passes values) (seen_test names) tests)
 
       pub right_is : (before : Option Values) (cell : ℕ) (right : Right) → IsPlacedRight (length names) right → Reads (λ name. known name ≡ true) (seen_right names right)

@@ -1,5 +1,5 @@
 -- A text has one verdict as a trace, and one word of good lines.
-use Rattle.std.proofs.Common.{◌≡◌, ◌≢◌, ◌⊎◌, ℕ, suc, ◌+◌, ◌<◌, ◌≤◌, Bool, List, [], ◌∷◌, ◌++◌, length, inl, inr, refl, sym, ap, subst, ◌∙◌, arith, append_assoc, length-append}
+use Rattle.std.proofs.Common.{◌≡◌, ◌⊎◌, ℕ, ◌+◌, ◌≤◌, Bool, List, [], ◌∷◌, ◌++◌, length, inl, inr, refl, sym, ap, subst, ◌∙◌, arith, append_assoc, length-append}
 use Rattle.std.proofs.lemmas.Bool.{cases_lt}
 use Rattle.std.proofs.lemmas.List.{append-nil, append_cancel_right, nil_from_length}
 use Rattle.dcv_word.specs.Behaviour.{Word}
@@ -20,11 +20,11 @@ unfolding Form
 form_of width text letter after begins = elim begins.ends [
   | inl feed ↦ inl (trace_line letter, line_no_feed letter, inl refl, begins.spelled ∙ ap (λ end. trace_line letter ++ (end ++ after)) feed)
   | inr (inl return_feed) ↦ inl (
-      trace_line letter ++ carriage_return ∷ [],
-      feedless_more (trace_line letter) (carriage_return ∷ []) (line_no_feed letter) ((λ same. absurd (omega (arith, same))), tt),
-      inr refl,
-      begins.spelled ∙ ap (λ end. trace_line letter ++ (end ++ after)) return_feed ∙ sym (append_assoc (trace_line letter) (carriage_return ∷ []) (line_feed ∷ after)),
-    )
+    trace_line letter ++ carriage_return ∷ [],
+    feedless_more (trace_line letter) (carriage_return ∷ []) (line_no_feed letter) ((λ same. absurd (omega (arith, same))), tt),
+    inr refl,
+    begins.spelled ∙ ap (λ end. trace_line letter ++ (end ++ after)) return_feed ∙ sym (append_assoc (trace_line letter) (carriage_return ∷ []) (line_feed ∷ after)),
+  )
   | inr (inr (none, nothing)) ↦ inr (begins.spelled ∙ ap (λ end. trace_line letter ++ (end ++ after)) none ∙ ap (λ end. trace_line letter ++ end) nothing ∙ append-nil (trace_line letter), nothing)
 ]
 

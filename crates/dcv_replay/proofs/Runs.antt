@@ -1,5 +1,5 @@
 -- The run over an open trace.
-use Rattle.std.proofs.Common.{◌≡◌, ◌≢◌, ◌⊎◌, ℕ, zero, suc, ◌+◌, ◌<◌, ◌≤◌, Bool, Result, Ok, Err, List, [], ◌∷◌, ◌++◌, length, take, Option, Some, None, inl, inr, refl, sym, ap, subst, ◌∙◌, arith, append_assoc, length-append, rules}
+use Rattle.std.proofs.Common.{◌≡◌, ◌≢◌, ℕ, ◌+◌, ◌≤◌, Bool, Result, Ok, Err, List, [], ◌∷◌, ◌++◌, length, take, Option, Some, None, inr, refl, sym, ap, subst, ◌∙◌, arith, append_assoc, length-append, rules}
 use Rattle.std.specs.Option.{IfSome, IsSome}
 use Rattle.std.specs.Result.{IfOk, OnErr}
 use Rattle.std.proofs.lemmas.List.{append-nil, length-take}
@@ -7,16 +7,16 @@ use Rattle.dcv_io.specs.Faults.{raised}
 use Rattle.dcv_io.specs.Disk.{Disk, WhereTold, Gives, IsAtEnd}
 use Rattle.dcv_io.proofs.Giving.{gives_in_turn}
 use Rattle.dcv_word.specs.Behaviour.{Word}
-use Rattle.dcv_word.specs.TraceLine.{line_feed, trace_line}
-use Rattle.dcv_replay.specs.TraceText.{AreWide, most_lines, IsLineEnd, BeginsWithLine, AreLines, BeginsWithNoLine, IsTrace, HasBadLine, IsTooLong}
-use Rattle.dcv_replay.specs.Coming.{LinesValue, budget, IsLines, AreEnded, HasCome, IsAtFault, IsBad}
+use Rattle.dcv_word.specs.TraceLine.{trace_line}
+use Rattle.dcv_replay.specs.TraceText.{AreWide, AreLines, BeginsWithNoLine, IsTrace, HasBadLine}
+use Rattle.dcv_replay.specs.Coming.{LinesValue, budget, IsLines, HasCome, IsAtFault}
 use Rattle.dcv_replay.specs.Program.{ReplayValue}
 use Rattle.dcv_replay.specs.Replayed.{HasLines}
-use Rattle.dcv_replay.specs.Running.{Going, going, Answered, Passes, StopsAt, Breaks, IsEnding, IsCut, IsEndOf, EndsSo, BreaksOff, Ran}
+use Rattle.dcv_replay.specs.Running.{Going, going, Passes, StopsAt, Breaks, IsEnding, IsCut, IsEndOf, EndsSo, BreaksOff, Ran}
 use Rattle.dcv_replay.specs.declared.fault.Stop.{Stop}
 use Rattle.dcv_replay.specs.declared.fault.Stop.TheVariants.{Read, Line, TooLong, Empty}
 use Rattle.dcv_replay.proofs.Texts.{come_lines, come_wide, wide_append, wide_one, wide_none, lines_in_turn}
-use Rattle.dcv_replay.proofs.Steps.{answered_in_turn, passes_nothing, passes_in_turn, stops_in_turn, breaks_in_turn}
+use Rattle.dcv_replay.proofs.Steps.{answered_in_turn, passes_nothing}
 
 -- ---- what is told of the text
 
@@ -65,10 +65,10 @@ module _ (replay : ReplayValue) (written : Option (List ℕ)) (block : List ℕ)
     read = read;
     given = given;
     verdict = told_verdict told told' read (λ text. HasLines replay.program.width text passes.letters) given (λ rest. record {
-        rest = now.lines.line ++ rest;
-        lines = come_lines passes.come rest;
-        few = omega (arith, passes.count, is.few);
-      });
+      rest = now.lines.line ++ rest;
+      lines = come_lines passes.come rest;
+      few = omega (arith, passes.count, is.few);
+    });
   }
 
   some_left : (line back rest : List ℕ) → back ≢ [] → line ++ (back ++ rest) ≢ []
@@ -128,20 +128,24 @@ module _ (replay : ReplayValue) (written : Option (List ℕ)) (block : List ℕ)
 
   pub ran_broken : {all : List ℕ} {replay' : ReplayValue} {lines : LinesValue} {written' : Option (List ℕ)} (told told' : Option Disk) → Breaks (start_of replay written block) all replay' lines written' → IsLines lines
       → WhereTold (Gives all) told told' → (left : List ℕ) × (left ≢ []) × Ran (HasLines replay.program.width) (λ read letters. Unit {0}) told told' replay written block replay' written' left
-  ran_broken {all} {replay'} {lines} {written'} told told' breaks is given = (breaks.left, breaks.some, record {
-    cut = tt;
-    letters = breaks.passes.letters;
-    wide = come_wide breaks.passes.come;
-    answered = breaks.passes.answered;
-    read = all;
-    given = given;
-    verdict = told_verdict told told' all (λ text. HasLines replay.program.width text breaks.passes.letters) given (λ rest. record {
-      rest = lines.line ++ (breaks.back ++ rest);
-      few = omega (arith, breaks.passes.count, is.few);
-      lines = subst (λ (text : List ℕ). AreLines replay.program.width breaks.passes.letters text (lines.line ++ (breaks.back ++ rest))) (text_parts all breaks.taken breaks.back rest breaks.parts)
-          (come_lines breaks.passes.come (breaks.back ++ rest));
-    });
-  })
+  ran_broken {all} {replay'} {lines} {written'} told told' breaks is given = (
+    breaks.left,
+    breaks.some,
+    record {
+      cut = tt;
+      letters = breaks.passes.letters;
+      wide = come_wide breaks.passes.come;
+      answered = breaks.passes.answered;
+      read = all;
+      given = given;
+      verdict = told_verdict told told' all (λ text. HasLines replay.program.width text breaks.passes.letters) given (λ rest. record {
+        rest = lines.line ++ (breaks.back ++ rest);
+        few = omega (arith, breaks.passes.count, is.few);
+        lines = subst (λ (text : List ℕ). AreLines replay.program.width breaks.passes.letters text (lines.line ++ (breaks.back ++ rest))) (text_parts all breaks.taken breaks.back rest breaks.parts)
+            (come_lines breaks.passes.come (breaks.back ++ rest));
+      });
+    },
+  )
 
   -- ---- the end
 
@@ -214,21 +218,25 @@ module _ (replay : ReplayValue) (written : Option (List ℕ)) (block : List ℕ)
 
   pub ran_off : {read : List ℕ} {before : Going} {replay' : ReplayValue} {written' : Option (List ℕ)} (told told' : Option Disk) → Passes (start_of replay written block) read before → BreaksOff before replay' written' → WhereTold (Gives read) told told' → IsAtEnd told'
       → (left : List ℕ) × (left ≢ []) × Ran (HasLines replay.program.width) (λ read letters. Unit {0}) told told' replay written block replay' written' left
-  ran_off {read} {before} {replay'} {written'} told told' passes breaks given end = (breaks.left, breaks.some, record {
-    cut = tt;
-    letters = passes.letters ++ breaks.letter ∷ [];
-    wide = wide_append replay.program.width passes.letters (breaks.letter ∷ []) (come_wide passes.come) (wide_one replay.program.width breaks.letter (breaks.last.0 ∙ passes.width));
-    answered = answered_in_turn passes.answered breaks.answered;
-    read = read;
-    given = given;
-    verdict = told_whole told told' read (λ text. HasLines replay.program.width text (passes.letters ++ breaks.letter ∷ [])) given end
-        (record {
-          rest = [];
-          lines = lines_in_turn replay.program.width passes.letters (breaks.letter ∷ []) read before.lines.line [] (whole_lines passes)
-              (last_line breaks.letter before.lines.line (breaks.last.0 ∙ passes.width) breaks.last.1);
-          few = omega (arith, length-append passes.letters (breaks.letter ∷ []), passes.count, breaks.last.2);
-        });
-  })
+  ran_off {read} {before} {replay'} {written'} told told' passes breaks given end = (
+    breaks.left,
+    breaks.some,
+    record {
+      cut = tt;
+      letters = passes.letters ++ breaks.letter ∷ [];
+      wide = wide_append replay.program.width passes.letters (breaks.letter ∷ []) (come_wide passes.come) (wide_one replay.program.width breaks.letter (breaks.last.0 ∙ passes.width));
+      answered = answered_in_turn passes.answered breaks.answered;
+      read = read;
+      given = given;
+      verdict = told_whole told told' read (λ text. HasLines replay.program.width text (passes.letters ++ breaks.letter ∷ [])) given end
+          (record {
+            rest = [];
+            lines = lines_in_turn replay.program.width passes.letters (breaks.letter ∷ []) read before.lines.line [] (whole_lines passes)
+                (last_line breaks.letter before.lines.line (breaks.last.0 ∙ passes.width) breaks.last.1);
+            few = omega (arith, length-append passes.letters (breaks.letter ∷ []), passes.count, breaks.last.2);
+          });
+    },
+  )
 
 -- ---- where a run begins, and each read
 

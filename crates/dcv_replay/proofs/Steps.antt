@@ -1,11 +1,10 @@
 -- Steps of a replay in turn.
-use Rattle.std.proofs.Common.{◌≡◌, ◌≢◌, ◌⊎◌, ℕ, zero, suc, set, Result, Ok, Err, ◌+◌, ◌<◌, ◌≤◌, Bool, List, [], ◌∷◌, ◌++◌, length, take, drop, get_or, Option, Some, None, inl, inr, refl, sym, ap, subst, ◌∙◌, arith, append_assoc, length-append}
+use Rattle.std.proofs.Common.{◌≡◌, ◌≢◌, ℕ, zero, suc, set, Result, Ok, Err, ◌+◌, ◌<◌, ◌≤◌, List, [], ◌∷◌, ◌++◌, length, take, drop, get_or, Option, Some, None, refl, sym, ap, subst, ◌∙◌, arith, append_assoc, length-append}
 use Rattle.std.specs.Result.{OnErr}
 use Rattle.std.proofs.lemmas.List.{append-nil, take-append-drop, take_more, length-drop}
 use Rattle.dcv_io.specs.Written.{appended, AppendsStrictPrefix}
 use Rattle.dcv_io.proofs.Appending.{appended-appended}
 use Rattle.dcv_word.specs.Behaviour.{Word}
-use Rattle.dcv_language.specs.Language.{Language}
 use Rattle.dcv_replay.specs.Answers.{answers, answer_line, behind}
 use Rattle.dcv_replay.specs.TraceText.{BeginsWithNoLine}
 use Rattle.dcv_replay.specs.Coming.{LinesValue, HasCome, IsAtFault, IsLast}
@@ -48,7 +47,7 @@ answered_in_turn {first} {second} {third} {written} {written'} {written''} {bloc
     let whole : third ≡ advanced first (u ++ v) = other.replay ∙ ap (λ (replay : ReplayValue). advanced replay v) one.replay ∙ sym (advanced-append first u v) in
     let rest : answers (rest_of second) v ≡ answers (rest_of (advanced first u)) v = ap (λ (replay : ReplayValue). answers (rest_of replay) v) one.replay in
     let sent : Sends written written'' ((block ++ answers (rest_of first) u) ++ answers (rest_of (advanced first u)) v) left =
-        sends_in_turn (answers (rest_of (advanced first u)) v) one.sends (subst (λ (bytes : List ℕ). Sends written' written'' (middle ++ bytes) left) rest other.sends) in
+    sends_in_turn (answers (rest_of (advanced first u)) v) one.sends (subst (λ (bytes : List ℕ). Sends written' written'' (middle ++ bytes) left) rest other.sends) in
     record {
       replay = whole;
       sends = subst (λ (bytes : List ℕ). Sends written written'' bytes left)
@@ -143,9 +142,12 @@ some_more (c ∷ back) rest some none = cc
 
 fault_further : (lines : LinesValue) (back rest : List ℕ) (why : Stop) → IsAtFault lines back why → IsAtFault lines (back ++ rest) why
 fault_further lines back rest Read there = there
-fault_further lines back rest (Line line) (number, few, some, bad) =
-    (number, few, some_more back rest some,
-    λ more. subst (BeginsWithNoLine lines.width) (sym (ap (λ text. text ++ more) (sym (append_assoc lines.line back rest)) ∙ append_assoc (lines.line ++ back) rest more)) (bad (rest ++ more)))
+fault_further lines back rest (Line line) (number, few, some, bad) = (
+  number,
+  few,
+  some_more back rest some,
+  λ more. subst (BeginsWithNoLine lines.width) (sym (ap (λ text. text ++ more) (sym (append_assoc lines.line back rest)) ∙ append_assoc (lines.line ++ back) rest more)) (bad (rest ++ more)),
+)
 fault_further lines back rest TooLong (full, some) = (full, some_more back rest some)
 fault_further lines back rest Empty there = there
 

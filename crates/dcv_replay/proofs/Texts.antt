@@ -1,11 +1,11 @@
 -- Lines of texts: where they end, and lines that come in turn.
-use Rattle.std.proofs.Common.{◌≡◌, ◌≢◌, ◌⊎◌, ℕ, suc, ◌+◌, ◌<◌, ◌≤◌, Bool, true, false, List, [], ◌∷◌, ◌++◌, length, map, inl, inr, refl, sym, ap, subst, ◌∙◌, arith, append_assoc, length-append}
+use Rattle.std.proofs.Common.{◌≡◌, ◌≢◌, ◌⊎◌, ℕ, suc, ◌<◌, ◌≤◌, Bool, true, false, List, [], ◌∷◌, ◌++◌, length, map, inl, inr, refl, sym, ap, subst, ◌∙◌, arith, append_assoc, length-append}
 use Rattle.std.specs.List.{AllByRecursion}
 use Rattle.std.proofs.lemmas.List.{append-nil}
 use Rattle.std.proofs.lemmas.List.Elements.{All-from_recursion, recursion_from_All}
 use Rattle.dcv_word.specs.Behaviour.{Word}
 use Rattle.dcv_word.specs.TraceLine.{line_feed, trace_line, digit_of}
-use Rattle.dcv_replay.specs.TraceText.{AreWide, carriage_return, IsLineEnd, BeginsWithLine, AreLines, BeginsWithNoLine}
+use Rattle.dcv_replay.specs.TraceText.{AreWide, carriage_return, BeginsWithLine, AreLines}
 use Rattle.dcv_replay.specs.Coming.{IsEnded, AreEnded, HasCome, HasNoFeed, IsBad}
 
 -- ---- the first line feed
@@ -85,16 +85,17 @@ pub ended_begins : (width : ℕ) (letter : List Bool) (line after : List ℕ) �
 ended_begins width letter line after ended = record {
   fits = ended.fits;
   end = ended.end;
-  ends = elim ended.ends [ | inl feed ↦ inl feed | inr return_feed ↦ inr (inl return_feed) ];
+  ends = elim ended.ends [ inl feed ↦ inl feed | inr return_feed ↦ inr (inl return_feed) ];
   spelled = ap (λ one. one ++ after) ended.spelled ∙ append_assoc (trace_line letter) ended.end after;
 }
 
 pub ended_are_lines : (width : ℕ) (letters : Word) (front rest : List ℕ) → AreEnded width letters front → AreLines width letters (front ++ rest) rest
 ended_are_lines width [] front rest none = ap (λ one. one ++ rest) none
-ended_are_lines width (letter ∷ letters) front rest (line, after, ended, whole, others) =
-    (after ++ rest,
-    subst (λ (text : List ℕ). BeginsWithLine width text letter (after ++ rest)) (sym (ap (λ one. one ++ rest) whole ∙ append_assoc line after rest)) (ended_begins width letter line (after ++ rest) ended),
-    ended_are_lines width letters after rest others)
+ended_are_lines width (letter ∷ letters) front rest (line, after, ended, whole, others) = (
+  after ++ rest,
+  subst (λ (text : List ℕ). BeginsWithLine width text letter (after ++ rest)) (sym (ap (λ one. one ++ rest) whole ∙ append_assoc line after rest)) (ended_begins width letter line (after ++ rest) ended),
+  ended_are_lines width letters after rest others,
+)
 
 pub ended_in_turn : (width : ℕ) (u v : Word) (front more : List ℕ) → AreEnded width u front → AreEnded width v more → AreEnded width (u ++ v) (front ++ more)
 ended_in_turn width [] v front more none others = subst (AreEnded width v) (sym (ap (λ one. one ++ more) none)) others
@@ -151,7 +152,7 @@ long_is_bad width line narrow free long more letter after begins =
           absurd (omega (arith, no_longer line (trace_line letter) more after free same))
       | inr (inl return_feed) ↦
           let same : line ++ more ≡ (trace_line letter ++ carriage_return ∷ []) ++ line_feed ∷ after =
-              begins.spelled ∙ ap (λ end. trace_line letter ++ (end ++ after)) return_feed ∙ sym (append_assoc (trace_line letter) (carriage_return ∷ []) (line_feed ∷ after)) in
+          begins.spelled ∙ ap (λ end. trace_line letter ++ (end ++ after)) return_feed ∙ sym (append_assoc (trace_line letter) (carriage_return ∷ []) (line_feed ∷ after)) in
           absurd (omega (arith, no_longer line (trace_line letter ++ carriage_return ∷ []) more after free same, length-append (trace_line letter) (carriage_return ∷ [])))
       | inr (inr (none, nothing)) ↦
           let same : line ++ more ≡ trace_line letter = begins.spelled ∙ ap (λ end. trace_line letter ++ (end ++ after)) none ∙ ap (λ end. trace_line letter ++ end) nothing ∙ append-nil (trace_line letter) in
@@ -169,7 +170,7 @@ front_of_line width line more letter after free begins =
           inl (one_front line (trace_line letter) more after free spelled_free same).0
       | inr (inl return_feed) ↦
           let same : line ++ line_feed ∷ more ≡ (trace_line letter ++ carriage_return ∷ []) ++ line_feed ∷ after =
-              begins.spelled ∙ ap (λ end. trace_line letter ++ (end ++ after)) return_feed ∙ sym (append_assoc (trace_line letter) (carriage_return ∷ []) (line_feed ∷ after)) in
+          begins.spelled ∙ ap (λ end. trace_line letter ++ (end ++ after)) return_feed ∙ sym (append_assoc (trace_line letter) (carriage_return ∷ []) (line_feed ∷ after)) in
           let return_free : HasNoFeed (carriage_return ∷ []) = ((λ same. absurd (omega (arith, same))), tt) in
           inr (one_front line (trace_line letter ++ carriage_return ∷ []) more after free (feedless_more (trace_line letter) (carriage_return ∷ []) spelled_free return_free) same).0
       | inr (inr (none, nothing)) ↦

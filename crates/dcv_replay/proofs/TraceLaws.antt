@@ -1,11 +1,10 @@
 -- The laws of trace texts.
-use Rattle.std.proofs.Common.{◌≡◌, ◌≢◌, ℕ, ◌+◌, ◌<◌, ◌≤◌, List, [], ◌∷◌, ◌++◌, length, inl, inr, refl, sym, ap, subst, ◌∙◌, arith, length-append}
+use Rattle.std.proofs.Common.{◌≡◌, ℕ, ◌<◌, List, [], ◌∷◌, ◌++◌, length, inl, inr, refl, sym, ap, subst, ◌∙◌, arith, length-append}
 use Rattle.std.proofs.lemmas.Bool.{cases_lt}
 use Rattle.dcv_word.specs.Behaviour.{Word}
 use Rattle.dcv_word.specs.Laws.{LineIsOfOneLetter}
-use Rattle.dcv_replay.specs.TraceText.{most_lines, AreLines, BeginsWithNoLine, IsTrace, HasBadLine, IsTooLong}
-use Rattle.dcv_replay.specs.Replayed.{HasLines}
-use Rattle.dcv_replay.specs.Laws.{Verdict, Good, Bad, Long, Nothing, HasVerdict, good_letters, OneVerdict, NoBadTrace, NoLongTrace, LinesAreFront}
+use Rattle.dcv_replay.specs.TraceText.{AreLines, BeginsWithNoLine, IsTrace, HasBadLine, IsTooLong}
+use Rattle.dcv_replay.specs.Laws.{Good, Bad, Long, Nothing, OneVerdict, NoBadTrace, NoLongTrace, LinesAreFront}
 use Rattle.dcv_replay.proofs.OneVerdict.{no_line_in_nothing, goes_on, none_more, one_trace, no_bad_trace, one_bad_line, too_long_once, one_too_long}
 
 module _ (one : LineIsOfOneLetter) where

@@ -1,5 +1,5 @@
 -- The names of a unit that keeps the rules differ, and each place that a statement names is that of a name.
-use Rattle.std.proofs.Common.{◌≡◌, ◌≢◌, ℕ, zero, suc, ◌+◌, ◌<◌, ◌≤◌, Bool, true, false, not, ◌&&◌, nat_lt, IsTrue, List, [], ◌∷◌, ◌++◌, length, map, get_or, inl, inr, refl, sym, ap, subst, ◌∙◌, arith, length-append}
+use Rattle.std.proofs.Common.{◌≡◌, ℕ, ◌+◌, ◌<◌, ◌≤◌, true, false, ◌&&◌, nat_lt, List, [], ◌∷◌, ◌++◌, length, map, get_or, inl, inr, refl, subst, arith}
 use Rattle.std.specs.List.{AllByRecursion}
 use Rattle.std.proofs.lemmas.List.{get_or_past}
 use Rattle.std.proofs.lemmas.List.Elements.{All-from_recursion}
@@ -19,7 +19,7 @@ use Rattle.dcv_c.specs.declared.unit.Assignment.{Assignment}
 use Rattle.dcv_c.specs.Tree.{CUnit}
 use Rattle.dcv_c.specs.Form.{IsName, IsItem, IsCondition, IsRight, IsStatement, IsTest, IsReturned, IsAssignment}
 use Rattle.dcv_c.specs.Rules.{keeps_new, keeps_apart, keeps_parameters, before_step, before_parameters, before_locals, IsWellNamed}
-use Rattle.dcv_c.specs.Seen.{seen_item, seen_condition, seen_right, seen_statement, seen_test, seen_returned, seen_assignment, names_of}
+use Rattle.dcv_c.specs.Seen.{seen_item, seen_condition, seen_right, seen_statement, seen_test, seen_returned, seen_assignment}
 use Rattle.dcv_c.proofs.KeptRules.{all_kept, kept_rules}
 use Rattle.dcv_c.proofs.LeftOver.{apart_from}
 use Rattle.dcv_c.proofs.Names.{among_here, among_append_left, among_append_right, among_append_cases}
@@ -50,12 +50,13 @@ parameters_few earlier place (name ∷ names) fits kept =
 
 distinct_both : (xs ys : List Name) → AreDistinct xs → AreDistinct ys → ((name : Name) → among xs name ≡ true → among ys name ≡ false) → AreDistinct (xs ++ ys)
 distinct_both [] ys first second apart = second
-distinct_both (x ∷ xs) ys first second apart =
-    (false_from_ne_true (among (xs ++ ys) x) (λ some. elim (among_append_cases xs ys x some) [
-      | inl front ↦ both_ways (among xs x) first.0 front
-      | inr back ↦ both_ways (among ys x) (apart x (among_here xs x)) back
-    ]),
-    distinct_both xs ys first.1 second (λ name there. apart name (later x xs name there)))
+distinct_both (x ∷ xs) ys first second apart = (
+  false_from_ne_true (among (xs ++ ys) x) (λ some. elim (among_append_cases xs ys x some) [
+    | inl front ↦ both_ways (among xs x) first.0 front
+    | inr back ↦ both_ways (among ys x) (apart x (among_here xs x)) back
+  ]),
+  distinct_both xs ys first.1 second (λ name there. apart name (later x xs name there)),
+)
   where
     later : (x : Name) (xs : List Name) (name : Name) → among xs name ≡ true → among (x ∷ xs) name ≡ true
     later x xs name there = among_append_right (x ∷ []) xs name there

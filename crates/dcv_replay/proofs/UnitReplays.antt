@@ -1,5 +1,5 @@
 -- A new replay of a unit follows it.
-use Rattle.std.proofs.Common.{◌≡◌, ℕ, ◌+◌, ◌<◌, ◌≤◌, ◌==◌, List, [], ◌∷◌, ◌++◌, length, map, fold, get_or, set, cond, inl, inr, refl, sym, ap, subst, ◌∙◌, arith, length-append}
+use Rattle.std.proofs.Common.{◌≡◌, ℕ, ◌+◌, ◌<◌, ◌≤◌, ◌==◌, List, [], ◌∷◌, ◌++◌, length, map, fold, get_or, cond, inl, inr, refl, sym, ap, subst, ◌∙◌, arith, length-append}
 use Rattle.std.specs.List.{All, AllByRecursion}
 use Rattle.std.proofs.lemmas.List.{get_or-set_other, get_or_append_left, get_or-map, length-map, length-set}
 use Rattle.std.proofs.lemmas.List.Elements.{All-from_recursion, recursion_from_All, All-append}
@@ -23,17 +23,16 @@ use Rattle.dcv_c.specs.Rules.{IsWellNamed}
 use Rattle.dcv_c.specs.Form.{IsStatement, IsReturned, IsAssignment, IsSpellable}
 use Rattle.dcv_c.specs.Seen.{names_of, seen_statement, seen_returned, seen_assignment}
 use Rattle.dcv_replay.specs.declared.replay.Select.{Select}
-use Rattle.dcv_replay.specs.Program.{Program, ReplayValue, first_name, IsWithin, IsReplay}
+use Rattle.dcv_replay.specs.Program.{ReplayValue, first_name, IsWithin, IsReplay}
 use Rattle.dcv_replay.specs.Observer.{C, Follows}
 use Rattle.dcv_replay.specs.Selecting.{slot_of, copy, IsFresh}
 use Rattle.dcv_replay.specs.OfUnit.{item_slot, choosing, right_select, statement_select, tests_selects, returned_selects, after_assignment}
 use Rattle.dcv_replay.specs.OfUnit.{IsPlacedItem, IsPlacedCondition, IsPlacedRight, IsPlacedStatement, IsPlacedReturned, ArePlacedAssignments}
 use Rattle.dcv_replay.specs.OfUnit.{AreSelectsOf, IsStoreOf, IsResetStore}
 use Rattle.dcv_replay.proofs.Mirrors.{Mirrors}
-use Rattle.dcv_replay.proofs.NamePlaces.{apart_places}
 use Rattle.dcv_replay.proofs.UnitSteps.{everything, assignments_mirror}
 use Rattle.dcv_replay.proofs.UnitNames.{few_parameters, statements_by_recursion, returned_by_form, assignments_by_recursion}
-use Rattle.dcv_replay.proofs.UnitRuns.{Runs, apart, total, follows_unit}
+use Rattle.dcv_replay.proofs.UnitRuns.{Runs, apart, follows_unit}
 
 -- ---- selections are within the store
 
@@ -91,9 +90,10 @@ assignments_keep : (count : ℕ) (assignments : List Assignment) (store : List �
     → (length (fold after_assignment store assignments) ≡ length store) × (get_or (fold after_assignment store assignments) (slot_of count) 0 ≡ get_or store (slot_of count) 0)
 assignments_keep count [] store placed = (refl, refl)
 assignments_keep count (assignment ∷ assignments) store placed =
-    let rest = assignments_keep count assignments (after_assignment store assignment) placed.1 in
-    (rest.0 ∙ length-set store (slot_of assignment.name) assignment.number,
-    rest.1 ∙ get_or-set_other store (slot_of assignment.name) (slot_of count) assignment.number 0 (λ same. omega (arith, same, placed.0)))
+    let rest = assignments_keep count assignments (after_assignment store assignment) placed.1 in (
+      rest.0 ∙ length-set store (slot_of assignment.name) assignment.number,
+      rest.1 ∙ get_or-set_other store (slot_of assignment.name) (slot_of count) assignment.number 0 (λ same. omega (arith, same, placed.0)),
+    )
 
 -- ---- places of names
 
@@ -198,9 +198,9 @@ module _ (unit : CUnit) (well : IsWellNamed unit) (form : IsSpellable unit) (law
       answer = omega (arith, room);
       selects = All-append (IsWithin (length (fold after_assignment fresh assignments))) (map statement_select code) (returned_selects (slot_of (length (names_of unit))) returned)
           (All-from_recursion (IsWithin (length (fold after_assignment fresh assignments))) (map statement_select code)
-              (statements_within (length (names_of unit)) (length (fold after_assignment fresh assignments)) room code placed_code))
+          (statements_within (length (names_of unit)) (length (fold after_assignment fresh assignments)) room code placed_code))
           (returned_within (length (names_of unit)) (length (fold after_assignment fresh assignments)) room (slot_of (length (names_of unit))) (omega (arith, room)) returned
-              placed_returned);
+          placed_returned);
     }
 
 -- ---- whole replays
@@ -220,14 +220,14 @@ module _ (unit : CUnit) (well : IsWellNamed unit) (form : IsSpellable unit) (law
   }
 
   exact_value : record {
-        program = record {
-          width = length unit.parameters;
-          inputs = slot_of (length unit.statics);
-          selects = map statement_select of.code ++ returned_selects (slot_of (length (names_of unit))) of.returned;
-          answer = slot_of (length (names_of unit));
-        };
-        store = fold after_assignment set.fresh set.assignments;
-      } ≡ value
+    program = record {
+      width = length unit.parameters;
+      inputs = slot_of (length unit.statics);
+      selects = map statement_select of.code ++ returned_selects (slot_of (length (names_of unit))) of.returned;
+      answer = slot_of (length (names_of unit));
+    };
+    store = fold after_assignment set.fresh set.assignments;
+  } ≡ value
   exact_value i =
       let answer_at = sym (answer_is ∙ ap slot_of counted) in
       record {

@@ -3,12 +3,12 @@
 use Rattle.std.proofs.Common.{◌≡◌, ◌↔◌, ℕ, ◌+◌, ◌-◌, ◌<◌, ◌≤◌, ◌==◌, Bool, true, false, not, cond, nat_eq, IsTrue, List, [], ◌∷◌, ◌++◌, length, map, fold, take, drop, get_or, set, inl, inr, refl, sym, ap, subst, ◌∙◌, arith, append_assoc, length-append}
 use Rattle.std.specs.Prelude.{bytes_eq}
 use Rattle.std.specs.List.{position_or_len, AllByRecursion}
-use Rattle.std.proofs.lemmas.List.{get_or-set_other, get_or-set_same, length-set, get_or_append_left, get_or-append_right, get_or-append-add, get_or-map, length-map, get_or-take, get_or-drop, length-take, length-drop, ext_get_or}
+use Rattle.std.proofs.lemmas.List.{get_or-set_other, get_or-set_same, length-set, get_or_append_left, get_or-append-add, get_or-map, length-map, get_or-take, get_or-drop, length-take, length-drop, ext_get_or}
 use Rattle.std.proofs.lemmas.List.Sums.{fold-append}
 use Rattle.std.proofs.lemmas.List.Elements.{recursion_from_All}
-use Rattle.std.proofs.lemmas.Bool.{cases_lt, false_from_ne_true}
+use Rattle.std.proofs.lemmas.Bool.{cases_lt}
 use Rattle.dcv_word.specs.Behaviour.{Word, IsBehaviour}
-use Rattle.dcv_language.specs.Automaton.{state_from, accepts_from}
+use Rattle.dcv_language.specs.Automaton.{state_from}
 use Rattle.dcv_c.specs.declared.unit.Statement.{Statement}
 use Rattle.dcv_c.specs.declared.unit.Returned.{Returned}
 use Rattle.dcv_c.specs.Tree.{CUnit}
@@ -17,13 +17,12 @@ use Rattle.dcv_c.specs.Meaning as meaning
 use Rattle.dcv_c.specs.Laws.{NoLeftOverIsRead}
 use Rattle.dcv_c.specs.Rules.{IsWellNamed}
 use Rattle.dcv_c.specs.Seen.{names_of, seen_statement, seen_returned}
-use Rattle.dcv_replay.specs.TraceText.{AreWide}
-use Rattle.dcv_replay.specs.Program.{Program, ReplayValue, first_name, after_select, with_letter, after_letter, after_word, is_accepting, rest_of, advanced}
-use Rattle.dcv_replay.specs.Observer.{C, Follows, numbers_of}
+use Rattle.dcv_replay.specs.Program.{Program, first_name, after_select, with_letter, after_letter, after_word, rest_of}
+use Rattle.dcv_replay.specs.Observer.{C, Follows}
 use Rattle.dcv_replay.specs.Selecting.{slot_of}
 use Rattle.dcv_replay.specs.OfUnit.{statement_select, returned_selects, IsPlacedStatement, IsPlacedReturned}
 use Rattle.dcv_replay.proofs.Mirrors.{Name, IsApart, Mirrors}
-use Rattle.dcv_replay.proofs.NamePlaces.{among, AreDistinct, among_at, apart_places, position_at}
+use Rattle.dcv_replay.proofs.NamePlaces.{AreDistinct, among_at, apart_places, position_at}
 use Rattle.dcv_replay.proofs.Letters.{length-with_letter, letter_elsewhere, letter_there}
 use Rattle.dcv_replay.proofs.UnitSteps.{everything, statements_mirror, returned_is}
 use Rattle.dcv_replay.proofs.UnitNames.{first_apart, first_distinct, all_distinct}
@@ -39,8 +38,8 @@ first_numbers count store numbers size long each =
     ext_get_or 0 (take count (drop first_name store)) numbers
     (omega (arith, length-take count (drop first_name store), length-drop first_name store, size, long))
     (λ place below.
-        let within : place < count = omega (arith, below, length-take count (drop first_name store)) in
-        get_or-take count (drop first_name store) place 0 within ∙ get_or-drop first_name store place 0 ∙ each place within)
+    let within : place < count = omega (arith, below, length-take count (drop first_name store)) in
+    get_or-take count (drop first_name store) place 0 within ∙ get_or-drop first_name store place 0 ∙ each place within)
 
 module _ (unit : CUnit) (well : IsWellNamed unit) (law : NoLeftOverIsRead) (code : List Statement) (returned : Returned)
     (same : map (seen_statement (names_of unit)) code ≡ unit.statements) (same_returned : seen_returned (names_of unit) returned ≡ unit.returned)
@@ -113,14 +112,14 @@ module _ (unit : CUnit) (well : IsWellNamed unit) (law : NoLeftOverIsRead) (code
         → numbers_before unit left at.store letter (get_or (unit.statics ++ unit.parameters) place []) ≡ get_or (at.store ++ map truth_number letter) place 0
     first_number place below =
         ap (λ (b : Bool). cond b (left (get_or (unit.statics ++ unit.parameters) place []))
-            (get_or (at.store ++ map truth_number letter) (position_or_len (bytes_eq (get_or (unit.statics ++ unit.parameters) place [])) (unit.statics ++ unit.parameters)) 0))
-            (first_apart unit well (get_or (unit.statics ++ unit.parameters) place []) (among_at (unit.statics ++ unit.parameters) place below))
+        (get_or (at.store ++ map truth_number letter) (position_or_len (bytes_eq (get_or (unit.statics ++ unit.parameters) place [])) (unit.statics ++ unit.parameters)) 0))
+        (first_apart unit well (get_or (unit.statics ++ unit.parameters) place []) (among_at (unit.statics ++ unit.parameters) place below))
         ∙ ap (λ (n : ℕ). get_or (at.store ++ map truth_number letter) n 0) (position_at (unit.statics ++ unit.parameters) (first_distinct unit well) place below)
 
     local_number : (k : ℕ) → k < length unit.locals → numbers_before unit left at.store letter (get_or unit.locals k []) ≡ left (get_or unit.locals k [])
     local_number k below =
         ap (λ (b : Bool). cond b (left (get_or unit.locals k []))
-            (get_or (at.store ++ map truth_number letter) (position_or_len (bytes_eq (get_or unit.locals k [])) (unit.statics ++ unit.parameters)) 0))
+        (get_or (at.store ++ map truth_number letter) (position_or_len (bytes_eq (get_or unit.locals k [])) (unit.statics ++ unit.parameters)) 0))
         (among_at unit.locals k below)
 
     begins : Mirrors (names_of unit) everything (numbers_before unit left at.store letter) (with_letter (slot_of (length unit.statics)) letter store)
@@ -132,7 +131,7 @@ module _ (unit : CUnit) (well : IsWellNamed unit) (law : NoLeftOverIsRead) (code
         | inl early ↦
             first_ready place early ∙ sym (first_number place early)
             ∙ ap (numbers_before unit left at.store letter) (sym (ap (λ (names : List Name). get_or names place []) whole
-                ∙ get_or_append_left (unit.statics ++ unit.parameters) unit.locals [] place early))
+            ∙ get_or_append_left (unit.statics ++ unit.parameters) unit.locals [] place early))
         | inr late ↦ local_begins place below (place - length (unit.statics ++ unit.parameters)) (omega (arith, late))
       ];
     } where
@@ -140,8 +139,8 @@ module _ (unit : CUnit) (well : IsWellNamed unit) (law : NoLeftOverIsRead) (code
           → get_or (with_letter (slot_of (length unit.statics)) letter store) (slot_of place) 0 ≡ numbers_before unit left at.store letter (get_or (names_of unit) place [])
       local_begins place below k is =
           let name_is : get_or (names_of unit) place [] ≡ get_or unit.locals k [] =
-              ap (λ (names : List Name). get_or names place []) whole ∙ ap (λ (n : ℕ). get_or ((unit.statics ++ unit.parameters) ++ unit.locals) n []) is
-              ∙ get_or-append-add (unit.statics ++ unit.parameters) unit.locals k [] in
+          ap (λ (names : List Name). get_or names place []) whole ∙ ap (λ (n : ℕ). get_or ((unit.statics ++ unit.parameters) ++ unit.locals) n []) is
+          ∙ get_or-append-add (unit.statics ++ unit.parameters) unit.locals k [] in
           let within : k < length unit.locals = omega (arith, is, below, total, length-append unit.statics unit.parameters) in
           ap (λ (n : ℕ). get_or (with_letter (slot_of (length unit.statics)) letter store) (slot_of n) 0) (sym (position_at (names_of unit) distinct place below))
           ∙ ap left name_is ∙ sym (local_number k within) ∙ ap (numbers_before unit left at.store letter) (sym name_is)

@@ -1,8 +1,8 @@
 -- The selections of a unit do what its statements do.
-use Rattle.std.proofs.Common.{◌≡◌, ◌≢◌, ℕ, ◌+◌, ◌<◌, ◌≤◌, ◌==◌, Bool, true, false, not, cond, nat_eq, List, [], ◌∷◌, length, map, fold, get_or, set, refl, sym, ap, subst, ◌∙◌, arith}
+use Rattle.std.proofs.Common.{◌≡◌, ◌≢◌, ℕ, ◌<◌, ◌≤◌, ◌==◌, Bool, true, false, not, cond, nat_eq, List, [], ◌∷◌, length, map, fold, get_or, set, refl, sym, ap, subst, ◌∙◌, arith}
 use Rattle.std.specs.Prelude.{bytes_eq}
 use Rattle.std.specs.List.{list_any, AllByRecursion}
-use Rattle.std.proofs.lemmas.List.{set-get_or, get_or-set_other, get_or-set_same}
+use Rattle.std.proofs.lemmas.List.{set-get_or}
 use Rattle.std.proofs.lemmas.List.Elements.{recursion_from_All}
 use Rattle.std.proofs.lemmas.Bool.{or_right}
 use Rattle.dcv_observer.specs.declared.conditions.Condition.{Condition}
@@ -17,12 +17,11 @@ use Rattle.dcv_c.specs.declared.unit.Statement.TheVariants.{Assign, When}
 use Rattle.dcv_c.specs.declared.unit.Returned.{Returned}
 use Rattle.dcv_c.specs.declared.unit.Returned.TheVariants.{Fixed, Tested}
 use Rattle.dcv_c.specs.declared.unit.Assignment.{Assignment}
-use Rattle.dcv_c.specs.Tree.{Test as PlainTest}
 use Rattle.dcv_c.specs.Meaning.{Numbers, item_number, holds, right_number, assigned, executed, passes, returned_number}
 use Rattle.dcv_c.specs.Seen.{seen_item, seen_condition, seen_right, seen_statement, seen_test, seen_returned, seen_assignment}
 use Rattle.dcv_replay.specs.Program.{first_name, after_select}
-use Rattle.dcv_replay.specs.Selecting.{slot_of, copy}
-use Rattle.dcv_replay.specs.OfUnit.{item_slot, choosing, right_select, statement_select, tests_selects, returned_selects, after_assignment, IsPlacedItem}
+use Rattle.dcv_replay.specs.Selecting.{slot_of}
+use Rattle.dcv_replay.specs.OfUnit.{item_slot, choosing, right_select, statement_select, returned_selects, after_assignment, IsPlacedItem}
 use Rattle.dcv_replay.specs.OfUnit.{IsPlacedCondition, IsPlacedRight, IsPlacedStatement, IsPlacedReturned}
 use Rattle.dcv_replay.proofs.Mirrors.{Name, through, both_are, selected, copied, any_test, any_map, IsFree, IsApart, Mirrors, written, fewer}
 
@@ -76,6 +75,7 @@ module _ (names : List Name) (apart : IsApart names) where
     where
       number : ℕ
       number = item_number now (seen_item names item)
+
       either : (test : Bool) → AllMirrors (cond test (assigned now (get_or names left []) (item_number now (seen_item names item))) now)
           (set store (slot_of left) (cond test (get_or store (item_slot item) 0) (get_or store (slot_of left) 0)))
       either true = subst (λ (n : ℕ). AllMirrors (assigned now (get_or names left []) (item_number now (seen_item names item))) (set store (slot_of left) n))
@@ -108,17 +108,17 @@ module _ (names : List Name) (apart : IsApart names) where
 
   pub returned_is : {now : Numbers} {store : List ℕ} → AllMirrors now store → (returned : Returned) → IsPlacedReturned (length names) returned
       → fold after_select store (returned_selects (slot_of (length names)) returned)
-          ≡ set store (slot_of (length names)) (cond (not (nat_eq (returned_number now (seen_returned names returned)) 0)) 1 0)
+      ≡ set store (slot_of (length names)) (cond (not (nat_eq (returned_number now (seen_returned names returned)) 0)) 1 0)
   returned_is {now} {store} mirrors (Fixed number) placed =
       copied store (slot_of (length names)) (cond (number == 0) 0 1)
       ∙ ap (λ (n : ℕ). set store (slot_of (length names)) n)
-          (through (number == 0) (λ (slot : ℕ). get_or store slot 0) 0 1
-          ∙ both_are (number == 0) (mirrors.literals 0 (omega arith)) (mirrors.literals 1 (omega arith))
-          ∙ turned (number == 0) 1 0)
+      (through (number == 0) (λ (slot : ℕ). get_or store slot 0) 0 1
+      ∙ both_are (number == 0) (mirrors.literals 0 (omega arith)) (mirrors.literals 1 (omega arith))
+      ∙ turned (number == 0) 1 0)
   returned_is {now} {store} mirrors (Tested tests) placed =
       any_test (λ (test : Test). test.number) (λ (test : Test). passes now (seen_test names test)) store (slot_of (length names))
-          (free_slot mirrors (slot_of (length names)) (omega arith) (omega (arith, mirrors.long))) tests.items
-          (asked mirrors tests.items (recursion_from_All (λ (test : Test). test.name < length names) tests.items placed))
+      (free_slot mirrors (slot_of (length names)) (omega arith) (omega (arith, mirrors.long))) tests.items
+      (asked mirrors tests.items (recursion_from_All (λ (test : Test). test.name < length names) tests.items placed))
       ∙ ap (λ (b : Bool). set store (slot_of (length names)) (cond b 1 0)) (any_map (passes now) (seen_test names) tests.items)
       ∙ ap (λ (n : ℕ). set store (slot_of (length names)) n) (truth_of_tests (list_any (passes now) (map (seen_test names) tests.items)))
 

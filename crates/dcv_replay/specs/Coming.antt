@@ -6,7 +6,7 @@ use Rattle.std.specs.Prelude.{◌≡◌, ◌≢◌, ℕ, ◌+◌, ◌-◌, ◌*�
 use Rattle.std.specs.List.{AllByRecursion}
 use Rattle.dcv_word.specs.Behaviour.{Word}
 use Rattle.dcv_word.specs.TraceLine.{line_feed, trace_line}
-use Rattle.dcv_replay.specs.TraceText.{carriage_return, most_lines, BeginsWithLine, BeginsWithNoLine}
+use Rattle.dcv_replay.specs.TraceText.{carriage_return, most_lines, BeginsWithNoLine}
 use Rattle.dcv_replay.specs.declared.fault.Stop.{Stop}
 use Rattle.dcv_replay.specs.declared.fault.Stop.TheVariants.{Read, Line, TooLong, Empty}
 

@@ -5,7 +5,7 @@
 --     after_cell, first_cell            a store once the cell of an equation is set
 --     IsPlaced..                        places are below a bound, and constants have slots
 -- Choices are made from the last arm to the first, each of which leaves what is there or takes its own item.
-use Rattle.std.specs.Prelude.{◌≡◌, ℕ, ◌+◌, ◌<◌, ◌≤◌, List, [], ◌∷◌, ◌++◌, map, fold, reverse, slice_set}
+use Rattle.std.specs.Prelude.{◌≡◌, ℕ, ◌+◌, ◌<◌, List, [], ◌∷◌, ◌++◌, map, fold, reverse, slice_set}
 use Rattle.std.specs.List.{All, flat_map}
 use Rattle.dcv_observer.specs.declared.conditions.Condition.{Condition}
 use Rattle.dcv_observer.specs.declared.conditions.Condition.TheVariants.{Holds, Equals}

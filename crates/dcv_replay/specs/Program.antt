@@ -2,7 +2,7 @@
 --     after_select store select       the store after a selection
 --     after_letter program store ..   after a step: the letter's values are put in, and the selections are made in order
 --     rest_of replay                  the words that are accepted from here on
-use Rattle.std.specs.Prelude.{◌≡◌, ℕ, suc, ◌+◌, ◌<◌, ◌≤◌, ◌==◌, Bool, if◌then◌else◌, List, [], ◌∷◌, length, fold, slice_set, slice_index_or}
+use Rattle.std.specs.Prelude.{ℕ, suc, ◌+◌, ◌<◌, ◌≤◌, ◌==◌, Bool, if◌then◌else◌, List, [], ◌∷◌, length, fold, slice_set, slice_index_or}
 use Rattle.std.specs.List.{All}
 use Rattle.dcv_word.specs.Behaviour.{Word}
 use Rattle.dcv_language.specs.Language.{Language}

@@ -56,8 +56,8 @@ impl Lines {
         ensures width { self.new.width ≡ self.old.width }
         ensures ok { MatchResult result
             (λ found. HasCome self.old.width (self.old.line ++ byte ∷ []) (letters_of found) self.new.line
-                × (self.new.count ≡ self.old.count + length (letters_of found))
-                × (budget self.new + 1 ≤ budget self.old))
+            × (self.new.count ≡ self.old.count + length (letters_of found))
+            × (budget self.new + 1 ≤ budget self.old))
             (λ fault. (self.new ≡ self.old) × IsAtFault self.old (byte ∷ []) fault) }
     {
         if self.count == MOST_LINES {
@@ -98,8 +98,8 @@ impl Lines {
         ensures width { self.new.width ≡ self.old.width }
         ensures ok { MatchResult result
             (λ found. HasCome self.old.width (self.old.line ++ line_feed ∷ []) (letters_of found) self.new.line
-                × (self.new.count ≡ self.old.count + length (letters_of found))
-                × (budget self.new + 1 ≤ budget self.old))
+            × (self.new.count ≡ self.old.count + length (letters_of found))
+            × (budget self.new + 1 ≤ budget self.old))
             (λ fault. (self.new ≡ self.old) × IsAtFault self.old (line_feed ∷ []) fault) }
     {
         let line = without_return(&self.bytes[..self.filled]);

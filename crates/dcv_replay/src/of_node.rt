@@ -122,11 +122,7 @@ fn constant_number(value: Value) -> u32
 // ---- an instant
 
 // What each equation says, in their order, and then what is kept for the next instant.
-fn selects_of(
-    alloc: Global,
-    count: u32,
-    equations: &[Equation],
-) -> Result<Vec<Select>, AllocError>
+fn selects_of(alloc: Global, count: u32, equations: &[Equation]) -> Result<Vec<Select>, AllocError>
     requires within { count + count ≤ most_names }
     requires placed { All (HasSlots count) equations.now }
     ensures { IfOk result (λ selects. selects.items ≡ node_selects count equations.now) }
@@ -249,11 +245,7 @@ fn push_latches(
 }
 
 // What a delayed right side takes at the next instant.
-fn push_latch(
-    selects: &mut Vec<Select>,
-    count: u32,
-    equation: &Equation,
-) -> Result<(), AllocError>
+fn push_latch(selects: &mut Vec<Select>, count: u32, equation: &Equation) -> Result<(), AllocError>
     requires within { count + count ≤ most_names }
     requires placed { HasSlots count equation.now }
     ensures { IfOk result (λ _. selects.new.items ≡ selects.old.items ++ latch_selects count equation.now) }

@@ -9,8 +9,8 @@ ghost use Rattle.dcv_replay.specs.OfUnit.{IsPlacedItem, IsPlacedCondition, IsPla
 ghost use Rattle.dcv_replay.specs.OfUnit.{ArePlacedAssignments};
 
 use crate::Replay;
-use crate::selecting::{copy, count_within, new_store, slot_of, test_select};
 use crate::replay::Select;
+use crate::selecting::{copy, count_within, new_store, slot_of, test_select};
 use dcv_c::laws::nothing_left_over_is_read;
 use dcv_c::{CUnit, Condition, Item, Reset, Returned, Right, Statement, Step, Test};
 use std::alloc::{AllocError, Global};

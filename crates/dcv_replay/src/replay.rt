@@ -58,12 +58,12 @@ impl Replay {
         store: Vec<u32>,
     ) -> Replay
         requires { IsReplay record {
-            program = record { width = width; inputs = inputs; selects = selects.items; answer = answer };
-            store = store.items;
+          program = record { width = width; inputs = inputs; selects = selects.items; answer = answer };
+          store = store.items;
         } }
         ensures { result ≡ record {
-            program = record { width = width; inputs = inputs; selects = selects.items; answer = answer };
-            store = store.items;
+          program = record { width = width; inputs = inputs; selects = selects.items; answer = answer };
+          store = store.items;
         } }
     {
         Replay {

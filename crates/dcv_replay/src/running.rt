@@ -216,11 +216,7 @@ impl Replay {
 }
 
 // Writes the answers that are left, and answers how the run ended.
-fn end<S: Sink>(
-    answers: &mut Answers,
-    sink: &mut S,
-    stop: Option<Stop>,
-) -> Result<(), ReplayFault>
+fn end<S: Sink>(answers: &mut Answers, sink: &mut S, stop: Option<Stop>) -> Result<(), ReplayFault>
     ensures ends { EndsBy stop (S.written sink.old) (S.written sink.new) answers.old result }
     ensures faults { RisesIf (is_write result) (S.faults sink.old) (S.faults sink.new) }
 {

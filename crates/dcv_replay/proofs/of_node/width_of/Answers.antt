@@ -1,4 +1,4 @@
-use Rattle.std.proofs.Common.{◌≡◌, ap, length, arith}
+use Rattle.std.proofs.Common.{ap, length, arith}
 use Rattle.dcv_replay.proofs.NodeNames.{few_inputs}
 use Rattle.dcv_replay.proofs.of_node.width_of.Goals as goal
 

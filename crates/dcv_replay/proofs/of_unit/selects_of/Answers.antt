@@ -1,4 +1,4 @@
-use Rattle.std.proofs.Common.{◌≡◌, ◌∙◌, ◌++◌, map, ap}
+use Rattle.std.proofs.Common.{◌∙◌, ◌++◌, map, ap}
 use Rattle.dcv_replay.specs.Selecting.{most_names}
 use Rattle.dcv_replay.specs.OfUnit.{statement_select, returned_selects}
 use Rattle.dcv_replay.proofs.UnitReplays.{code_placed, returned_placed}
@@ -19,5 +19,5 @@ returns c = record {
   all =
       c.in_ok-push_returned.ensures
       ∙ ap (λ front. front ++ returned_selects c.args.answer c.step-step.result.now.returned)
-          (c.in_ok-push_statements.ensures ∙ ap (λ front. front ++ map statement_select c.step-step.result.now.statements.items) c.new-selects.ensures.items);
+      (c.in_ok-push_statements.ensures ∙ ap (λ front. front ++ map statement_select c.step-step.result.now.statements.items) c.new-selects.ensures.items);
 }

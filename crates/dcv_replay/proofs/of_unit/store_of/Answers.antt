@@ -1,4 +1,4 @@
-use Rattle.std.proofs.Common.{◌≤◌, sym, subst, arith}
+use Rattle.std.proofs.Common.{arith}
 use Rattle.dcv_replay.proofs.Runs.{if_ok_weaker}
 use Rattle.dcv_replay.proofs.UnitReplays.{assignments_placed, store_from_reset}
 use Rattle.dcv_replay.proofs.of_unit.store_of.Goals as goal

@@ -1,4 +1,4 @@
-use Rattle.std.proofs.Common.{◌≡◌, ap, length, arith}
+use Rattle.std.proofs.Common.{ap, length, arith}
 use Rattle.dcv_replay.proofs.UnitNames.{few_parameters}
 use Rattle.dcv_replay.proofs.of_unit.width_of.Goals as goal
 

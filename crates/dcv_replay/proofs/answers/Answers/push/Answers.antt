@@ -1,4 +1,4 @@
-use Rattle.std.proofs.Common.{ap, ◌∙◌, ◌++◌, List, ℕ, ◌∷◌, [], take, arith}
+use Rattle.std.proofs.Common.{ap, ◌∙◌, ◌++◌, List, ℕ, ◌∷◌, [], arith}
 use Rattle.dcv_word.specs.TraceLine.{line_feed}
 use Rattle.dcv_replay.proofs.Steps.{failed_sends, two_more}
 use Rattle.dcv_replay.proofs.answers.Answers.push.Goals as goal

@@ -1,4 +1,4 @@
-use Rattle.std.proofs.Common.{◌≡◌, ◌<◌, ◌∙◌, refl, sym, ap, subst, length, ◌++◌, ◌∷◌, [], arith, Ok}
+use Rattle.std.proofs.Common.{refl, ap, subst, ◌++◌, ◌∷◌, [], arith}
 use Rattle.dcv_word.specs.TraceLine.{line_feed}
 use Rattle.dcv_replay.specs.Coming.{LinesValue, IsBad}
 use Rattle.dcv_replay.proofs.LineFacts.{line_ends, line_is_bad, bad_at, some_bytes, spent, no_letter}

@@ -1,4 +1,4 @@
-use Rattle.std.proofs.Common.{◌≡◌, ◌≢◌, ◌<◌, ◌∙◌, refl, sym, ap, subst, length, take, ◌++◌, ◌∷◌, [], arith, Ok}
+use Rattle.std.proofs.Common.{◌≢◌, ◌<◌, ap, subst, length, [], arith}
 use Rattle.std.proofs.lemmas.List.{length-take}
 use Rattle.dcv_replay.specs.TraceText.{most_lines, BeginsWithNoLine}
 use Rattle.dcv_replay.specs.Coming.{LinesValue}

@@ -1,4 +1,4 @@
-use Rattle.std.proofs.Common.{◌≡◌, ◌<◌, ◌∙◌, sym, ap, subst, length, take, ◌++◌, ◌∷◌, [], arith, length-append}
+use Rattle.std.proofs.Common.{◌<◌, ap, subst, take, ◌++◌, ◌∷◌, [], arith, length-append}
 use Rattle.std.proofs.lemmas.List.{length-take}
 use Rattle.dcv_replay.specs.Coming.{LinesValue, IsBad}
 use Rattle.dcv_replay.proofs.Texts.{long_is_bad, feedless_more}

@@ -1,5 +1,5 @@
 use Rattle.std.proofs.Common.{sym, ◌∙◌}
-use Rattle.dcv_replay.proofs.Endings.{replayed_end, replayed_broken, replayed_unopened, where_ok}
+use Rattle.dcv_replay.proofs.Endings.{replayed_end, replayed_unopened, where_ok}
 use Rattle.dcv_replay.proofs.replay.Replay.run_file.Goals as goal
 
 pub returns-then-is_err-clause-replayed : goal.returns-then-is_err-clause-replayed

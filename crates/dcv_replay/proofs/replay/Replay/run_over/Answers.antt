@@ -1,5 +1,4 @@
-use Rattle.std.proofs.Common.{◌≡◌, ◌∙◌, refl, ap, take, length, [], List, ℕ, arith}
-use Rattle.std.proofs.lemmas.List.{length-take}
+use Rattle.std.proofs.Common.{◌∙◌, refl, ap, [], ℕ, arith}
 use Rattle.dcv_io.proofs.Giving.{gives_in_turn}
 use Rattle.dcv_replay.specs.Coming.{LinesValue}
 use Rattle.dcv_replay.proofs.Steps.{passes_in_turn, stops_in_turn, breaks_in_turn, leads_on, leads_stop, on_err_from}
@@ -29,19 +28,19 @@ returns-in_default-clause-ok g c =
 pub returns-then-count-eq0-clause-ok : goal.returns-then-count-eq0-clause-ok
 returns-then-count-eq0-clause-ok g c =
     if_ok_weaker _ (λ stop ends. ran_end _ _ _ _ _ c.loop-count.invariant.passed c.loop-count.invariant.are ends
-        (read_none _ _ _ _ _ (none_taken _ _ c.if-count-eq0.true) c.loop-count.invariant.given c.in-Ok.ensures.gives)
-        (c.in-Ok.ensures.end c.if-count-eq0.true (omega (arith, c.loop-count.invariant.buffer)))) c.take_end.ensures.ok
+    (read_none _ _ _ _ _ (none_taken _ _ c.if-count-eq0.true) c.loop-count.invariant.given c.in-Ok.ensures.gives)
+    (c.in-Ok.ensures.end c.if-count-eq0.true (omega (arith, c.loop-count.invariant.buffer)))) c.take_end.ensures.ok
 
 pub returns-then-count-eq0-clause-err : goal.returns-then-count-eq0-clause-err
 returns-then-count-eq0-clause-err g c =
     on_err_weaker _ (λ breaks. ran_off _ _ _ _ _ c.loop-count.invariant.passed breaks
-        (read_none _ _ _ _ _ (none_taken _ _ c.if-count-eq0.true) c.loop-count.invariant.given c.in-Ok.ensures.gives)
-        (c.in-Ok.ensures.end c.if-count-eq0.true (omega (arith, c.loop-count.invariant.buffer)))) c.take_end.ensures.err
+    (read_none _ _ _ _ _ (none_taken _ _ c.if-count-eq0.true) c.loop-count.invariant.given c.in-Ok.ensures.gives)
+    (c.in-Ok.ensures.end c.if-count-eq0.true (omega (arith, c.loop-count.invariant.buffer)))) c.take_end.ensures.err
 
 pub returns-in_err-stop-clause-err : goal.returns-in_err-stop-clause-err
 returns-in_err-stop-clause-err g c =
     on_err_from c.from_residual.result (ran_broken _ _ _ _ _ (breaks_in_turn c.loop-count.invariant.passed c.in_err-stop.ensures.err) c.take_block.ensures.lines
-        (gives_in_turn _ _ _ _ _ c.loop-count.invariant.given c.in-Ok.ensures.gives))
+    (gives_in_turn _ _ _ _ _ c.loop-count.invariant.given c.in-Ok.ensures.gives))
 
 pub returns-in-Some-clause-ok : goal.returns-in-Some-clause-ok
 returns-in-Some-clause-ok g c =

@@ -1,5 +1,5 @@
-use Rattle.std.proofs.Common.{◌≡◌, ◌+◌, ◌∙◌, ◌++◌, ◌∷◌, [], sym, ap, subst, take, drop, get_or, arith, refl}
-use Rattle.dcv_replay.proofs.Steps.{passes_nothing, passes_in_turn, stops_in_turn, breaks_in_turn, stops_further, breaks_further, on_err_from, leads_on, leads_stop, parted, passes_one_more, spent_further}
+use Rattle.std.proofs.Common.{◌+◌, ◌∙◌, drop, arith, refl}
+use Rattle.dcv_replay.proofs.Steps.{passes_nothing, stops_in_turn, breaks_in_turn, stops_further, breaks_further, on_err_from, leads_on, leads_stop, parted, passes_one_more, spent_further}
 use Rattle.dcv_replay.proofs.replay.Replay.take_block.Goals as goal
 
 pub loop-byte-init : goal.loop-byte-init
@@ -14,7 +14,7 @@ loop-byte-init g c = record {
 pub returns-in_err-stop-clause-err : goal.returns-in_err-stop-clause-err
 returns-in_err-stop-clause-err g c =
     on_err_from c.from_residual.result (breaks_further _ (drop (c.loop-byte.byte-index + 1) c.args.bytes.now) c.args.bytes.now (parted c.args.bytes.now c.loop-byte.byte-index c.loop-byte-test.true)
-        (breaks_in_turn c.loop-byte.invariant.passed c.in_err-stop.ensures.err))
+    (breaks_in_turn c.loop-byte.invariant.passed c.in_err-stop.ensures.err))
 
 pub returns-in-Some-clause-ok : goal.returns-in-Some-clause-ok
 returns-in-Some-clause-ok g c =
