@@ -31,7 +31,8 @@ has_lines width text letters (Some Empty) (none, no_letters) = record {
   few = omega (arith, ap length no_letters);
 }
 
-result_is : {T : Type 0} (width : ℕ) (text : List ℕ) (letters : Word) (why : Option Stop) (result : Result T ReplayFault) → IsResultOf why result → IsEnding width text letters why → IsTraceResult width text letters result
+result_is : {T : Type 0} (width : ℕ) (text : List ℕ) (letters : Word) (why : Option Stop) (result : Result T ReplayFault) → IsResultOf why result
+    → IsEnding width text letters why → IsTraceResult width text letters result
 result_is width text letters None (Ok done) is ending = ending
 result_is width text letters None (Err fault) is ending = absurd is
 result_is width text letters (Some why) (Ok done) is ending = absurd is
@@ -52,7 +53,8 @@ opened_holds name (Some disk) (Some after) P Q opens weaker fact = if_some_weake
   if_some_weaker None fact = tt
   if_some_weaker (Some text) fact = weaker text fact
 
-sent_on : {before after : ReplayValue} {written written' written'' : Option (List ℕ)} {block left : List ℕ} {letters : Word} → Answered before written [] letters after written' block → Sends written' written'' block left
+sent_on : {before after : ReplayValue} {written written' written'' : Option (List ℕ)} {block left : List ℕ} {letters : Word}
+    → Answered before written [] letters after written' block → Sends written' written'' block left
     → Answered before written [] letters after written'' left
 sent_on {before} {after} {written} {written'} {written''} {block} {left} {letters} answered sends = record {
   replay = answered.replay;
@@ -93,7 +95,9 @@ no_write_of {T} (Some why) (Err fault) is = subst (λ (one : ReplayFault). is_wr
   of_fault Empty = refl
 
 pub replayed_end : {T : Type 0} (name : List ℕ) (told opened told' : Option Disk) (before after : ReplayValue) (written written' written'' : Option (List ℕ)) (first block : List ℕ) (why : Option Stop) (result : Result T ReplayFault)
-    → WhereTold (Opens name) told opened → Ran (λ text letters. IsEnding before.program.width text letters why) (IsCut before.program.width why) opened told' before written first after written' block → first ≡ [] → EndsBy why written' written'' block result
+    → WhereTold (Opens name) told opened
+    → Ran (λ text letters. IsEnding before.program.width text letters why) (IsCut before.program.width why) opened told' before written first after written' block
+    → first ≡ [] → EndsBy why written' written'' block result
     → RunsOver name told told' before written after written'' result
 replayed_end name told opened told' before after written written' written'' first block why result opens ran none_yet ends = record {
   letters = ran.letters;
@@ -138,7 +142,8 @@ replayed_broken name told opened told' before after written written' first left 
 abbrev NoLetters : Type 0
 NoLetters = let none : Word = [] in none ≡ []
 
-pub replayed_unopened : {T : Type 0} (name : List ℕ) (told told' : Option Disk) (replay : ReplayValue) (written : Option (List ℕ)) → RunsOver {T = T} name told told' replay written replay written (Err fault.Open)
+pub replayed_unopened : {T : Type 0} (name : List ℕ) (told told' : Option Disk) (replay : ReplayValue) (written : Option (List ℕ))
+    → RunsOver {T = T} name told told' replay written replay written (Err fault.Open)
 replayed_unopened name told told' replay written = record {
   cut = tt;
   letters = [];

@@ -16,7 +16,8 @@ ended_has_come width letter line ended = record {
   whole = sym (append-nil line);
 }
 
-pub line_ends : (width : ℕ) (letter : List Bool) (line content : List ℕ) → IsWithoutReturn line content → length letter ≡ width → content ≡ trace_line letter → HasCome width (line ++ line_feed ∷ []) (letter ∷ []) []
+pub line_ends : (width : ℕ) (letter : List Bool) (line content : List ℕ) → IsWithoutReturn line content → length letter ≡ width
+    → content ≡ trace_line letter → HasCome width (line ++ line_feed ∷ []) (letter ∷ []) []
 line_ends width letter line content without fits spelled = ended_has_come width letter (line ++ line_feed ∷ []) (elim without [
   | inl return ↦ record {
     fits = fits;
@@ -28,7 +29,8 @@ line_ends width letter line content without fits spelled = ended_has_come width 
 ])
 
 -- A line that is none without its end is none.
-pub line_is_bad : (width : ℕ) (line content : List ℕ) → IsWithoutReturn line content → HasNoFeed line → ((letter : List Bool) → length letter ≡ width → content ≡ trace_line letter → ⊥) → IsBad width (line ++ line_feed ∷ [])
+pub line_is_bad : (width : ℕ) (line content : List ℕ) → IsWithoutReturn line content → HasNoFeed line
+    → ((letter : List Bool) → length letter ≡ width → content ≡ trace_line letter → ⊥) → IsBad width (line ++ line_feed ∷ [])
 line_is_bad width line content without free none more letter after begins =
     let from : (line ++ line_feed ∷ []) ++ more ≡ line ++ line_feed ∷ more = append_assoc line (line_feed ∷ []) more in
     let front = front_of_line width line more letter after free (subst (λ (text : List ℕ). BeginsWithLine width text letter after) from begins) in

@@ -28,7 +28,8 @@ form_of width text letter after begins = elim begins.ends [
   | inr (inr (none, nothing)) ↦ inr (begins.spelled ∙ ap (λ end. trace_line letter ++ (end ++ after)) none ∙ ap (λ end. trace_line letter ++ end) nothing ∙ append-nil (trace_line letter), nothing)
 ]
 
-same_spelling : (a b : List Bool) (x y : List ℕ) → LineIsOfOneLetter → x ≡ y → (x ≡ trace_line a) ⊎ (x ≡ trace_line a ++ carriage_return ∷ []) → (y ≡ trace_line b) ⊎ (y ≡ trace_line b ++ carriage_return ∷ []) → a ≡ b
+same_spelling : (a b : List Bool) (x y : List ℕ) → LineIsOfOneLetter → x ≡ y → (x ≡ trace_line a) ⊎ (x ≡ trace_line a ++ carriage_return ∷ [])
+    → (y ≡ trace_line b) ⊎ (y ≡ trace_line b ++ carriage_return ∷ []) → a ≡ b
 same_spelling a b x y one same first second = elim first [
   | inl plain ↦ elim second [
     | inl other ↦ one a b (sym plain ∙ same ∙ other)
@@ -74,7 +75,8 @@ none_more width [] rest rest' lines none = refl
 none_more width (letter ∷ w) rest rest' (after, begins, lines) none = absurd (none letter after begins)
 
 -- where no line goes on from either, they are one
-pub stuck_once : (width : ℕ) (u v : Word) (text rest rest' : List ℕ) → LineIsOfOneLetter → AreLines width u text rest → AreLines width v text rest' → BeginsWithNoLine width rest → BeginsWithNoLine width rest' → (u ≡ v) × (rest ≡ rest')
+pub stuck_once : (width : ℕ) (u v : Word) (text rest rest' : List ℕ) → LineIsOfOneLetter → AreLines width u text rest → AreLines width v text rest'
+    → BeginsWithNoLine width rest → BeginsWithNoLine width rest' → (u ≡ v) × (rest ≡ rest')
 stuck_once width u v text rest rest' one lines others none none' = elim (cases_lt (length v) (length u)) [
   | inl longer ↦
       let more = goes_on width v u text rest' rest one others lines (omega (arith, longer)) in
@@ -99,7 +101,8 @@ one_bad_line width text u v line line' one first second =
     (both.0, first.number ∙ ap (λ (word : Word). length word + 1) both.0 ∙ sym second.number)
 
 -- a word that ends no later than the lines that may come, with nothing behind it, is not too long
-pub too_long_once : (width : ℕ) (text : List ℕ) (u v : Word) (rest : List ℕ) → LineIsOfOneLetter → IsTooLong width text u → AreLines width v text rest → length v ≤ most_lines → BeginsWithNoLine width rest → (u ≡ v) × (long : (rest ≡ []) → ⊥) × (length v ≡ most_lines)
+pub too_long_once : (width : ℕ) (text : List ℕ) (u v : Word) (rest : List ℕ) → LineIsOfOneLetter → IsTooLong width text u
+    → AreLines width v text rest → length v ≤ most_lines → BeginsWithNoLine width rest → (u ≡ v) × (long : (rest ≡ []) → ⊥) × (length v ≡ most_lines)
 too_long_once width text u v rest one long lines few none =
     let more = goes_on width v u text rest long.rest one lines long.lines (omega (arith, few, long.full)) in
     let nothing = none_more width more.0 rest long.rest more.2 none in

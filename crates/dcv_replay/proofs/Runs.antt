@@ -1,5 +1,6 @@
 -- The run over an open trace.
-use Rattle.std.proofs.Common.{◌≡◌, ◌≢◌, ℕ, ◌+◌, ◌≤◌, Bool, Result, Ok, Err, List, [], ◌∷◌, ◌++◌, length, take, Option, Some, None, inr, refl, sym, ap, subst, ◌∙◌, arith, append_assoc, length-append, rules}
+use Rattle.std.proofs.Common.{◌≡◌, ◌≢◌, ℕ, ◌+◌, ◌≤◌, Bool, Result, Ok, Err, List, [], ◌∷◌, ◌++◌, length}
+use Rattle.std.proofs.Common.{take, Option, Some, None, inr, refl, sym, ap, subst, ◌∙◌, arith, append_assoc, length-append, rules}
 use Rattle.std.specs.Option.{IfSome, IsSome}
 use Rattle.std.specs.Result.{IfOk, OnErr}
 use Rattle.std.proofs.lemmas.List.{append-nil, length-take}
@@ -20,7 +21,8 @@ use Rattle.dcv_replay.proofs.Steps.{answered_in_turn, passes_nothing}
 
 -- ---- what is told of the text
 
-pub told_verdict : (told told' : Option Disk) (read : List ℕ) (P : List ℕ → Type 0) → WhereTold (Gives read) told told' → ((rest : List ℕ) → P (read ++ rest)) → IfSome told (λ disk. IfSome disk.open P)
+pub told_verdict : (told told' : Option Disk) (read : List ℕ) (P : List ℕ → Type 0) → WhereTold (Gives read) told told'
+    → ((rest : List ℕ) → P (read ++ rest)) → IfSome told (λ disk. IfSome disk.open P)
 told_verdict None told' read P given each = tt
 told_verdict (Some disk) None read P given each = absurd given
 told_verdict (Some disk) (Some disk') read P given each = subst (λ (left : Option (List ℕ)). IfSome left P) (sym given.before) (each given.rest)
@@ -52,7 +54,8 @@ module _ (replay : ReplayValue) (written : Option (List ℕ)) (block : List ℕ)
   abbrev width : ℕ
   width = replay.program.width
 
-  lines_so_far : {read : List ℕ} {now : Going} → (passes : Passes (start_of replay written block) read now) → (rest : List ℕ) → AreLines replay.program.width passes.letters (read ++ rest) (now.lines.line ++ rest)
+  lines_so_far : {read : List ℕ} {now : Going} → (passes : Passes (start_of replay written block) read now) → (rest : List ℕ)
+      → AreLines replay.program.width passes.letters (read ++ rest) (now.lines.line ++ rest)
   lines_so_far passes rest = come_lines passes.come rest
 
   pub ran_cut : {read : List ℕ} {now : Going} (told told' : Option Disk) → Passes (start_of replay written block) read now → IsLines now.lines → WhereTold (Gives read) told told'
@@ -76,7 +79,8 @@ module _ (replay : ReplayValue) (written : Option (List ℕ)) (block : List ℕ)
   some_left [] (c ∷ back) rest some none = cc
   some_left (c ∷ line) back rest some none = cc
 
-  stopping : (lines : LinesValue) (letters : Word) (text back rest : List ℕ) (why : Stop) → lines.width ≡ replay.program.width → lines.count ≡ length letters → AreLines replay.program.width letters text (lines.line ++ (back ++ rest))
+  stopping : (lines : LinesValue) (letters : Word) (text back rest : List ℕ) (why : Stop) → lines.width ≡ replay.program.width
+      → lines.count ≡ length letters → AreLines replay.program.width letters text (lines.line ++ (back ++ rest))
       → IsAtFault lines back why → IsEnding replay.program.width text letters (Some why)
   stopping lines letters text back rest Read wide count are there = absurd there
   stopping lines letters text back rest (Line line) wide count are (number, few, some, bad) = record {
@@ -126,7 +130,8 @@ module _ (replay : ReplayValue) (written : Option (List ℕ)) (block : List ℕ)
         (come_lines stops.passes.come (stops.back ++ rest))) stops.fault_there);
   }
 
-  pub ran_broken : {all : List ℕ} {replay' : ReplayValue} {lines : LinesValue} {written' : Option (List ℕ)} (told told' : Option Disk) → Breaks (start_of replay written block) all replay' lines written' → IsLines lines
+  pub ran_broken : {all : List ℕ} {replay' : ReplayValue} {lines : LinesValue} {written' : Option (List ℕ)} (told told' : Option Disk)
+      → Breaks (start_of replay written block) all replay' lines written' → IsLines lines
       → WhereTold (Gives all) told told' → (left : List ℕ) × (left ≢ []) × Ran (HasLines replay.program.width) (λ read letters. Unit {0}) told told' replay written block replay' written' left
   ran_broken {all} {replay'} {lines} {written'} told told' breaks is given = (
     breaks.left,
@@ -165,7 +170,8 @@ module _ (replay : ReplayValue) (written : Option (List ℕ)) (block : List ℕ)
   nothing_came [] line read come none empty = (come.whole ∙ ap (λ front. front ++ line) come.ended ∙ empty, refl)
   nothing_came (letter ∷ letters) line read come none empty = absurd (omega (arith, none))
 
-  ending : (lines : LinesValue) (u v : Word) (read : List ℕ) (why : Option Stop) → IsLines lines → lines.width ≡ replay.program.width → lines.count ≡ length u → HasCome replay.program.width read u lines.line → AreLines replay.program.width u read lines.line
+  ending : (lines : LinesValue) (u v : Word) (read : List ℕ) (why : Option Stop) → IsLines lines → lines.width ≡ replay.program.width
+      → lines.count ≡ length u → HasCome replay.program.width read u lines.line → AreLines replay.program.width u read lines.line
       → IsEndOf lines v why → IsEnding replay.program.width read (u ++ v) why
   ending lines u [] read None is wide count come are (empty, some) =
       subst (λ (letters : Word). IsTrace replay.program.width read letters) (sym (append-nil u)) (record {
@@ -203,7 +209,9 @@ module _ (replay : ReplayValue) (written : Option (List ℕ)) (block : List ℕ)
   end_wide lines v (Some TooLong) wide end = absurd end
   end_wide lines v (Some Empty) wide (none, empty, zero_is) = subst (AreWide replay.program.width) (sym none) (wide_none replay.program.width)
 
-  pub ran_end : {read : List ℕ} {before now : Going} {why : Option Stop} (told told' : Option Disk) → Passes (start_of replay written block) read before → IsLines before.lines → EndsSo before now why → WhereTold (Gives read) told told' → IsAtEnd told'
+  pub ran_end : {read : List ℕ} {before now : Going} {why : Option Stop} (told told' : Option Disk)
+      → Passes (start_of replay written block) read before → IsLines before.lines → EndsSo before now why → WhereTold (Gives read) told told'
+      → IsAtEnd told'
       → Ran (λ text letters. IsEnding replay.program.width text letters why) (IsCut replay.program.width why) told told' replay written block now.replay now.written now.block
   ran_end {read} {before} {now} {why} told told' passes is ends given end = record {
     cut = no_end_cut replay.program.width before.lines ends.letters why read (passes.letters ++ ends.letters) ends.last;
@@ -216,7 +224,8 @@ module _ (replay : ReplayValue) (written : Option (List ℕ)) (block : List ℕ)
         (ending before.lines passes.letters ends.letters read why is passes.width (omega (arith, passes.count)) passes.come (whole_lines passes) ends.last);
   }
 
-  pub ran_off : {read : List ℕ} {before : Going} {replay' : ReplayValue} {written' : Option (List ℕ)} (told told' : Option Disk) → Passes (start_of replay written block) read before → BreaksOff before replay' written' → WhereTold (Gives read) told told' → IsAtEnd told'
+  pub ran_off : {read : List ℕ} {before : Going} {replay' : ReplayValue} {written' : Option (List ℕ)} (told told' : Option Disk)
+      → Passes (start_of replay written block) read before → BreaksOff before replay' written' → WhereTold (Gives read) told told' → IsAtEnd told'
       → (left : List ℕ) × (left ≢ []) × Ran (HasLines replay.program.width) (λ read letters. Unit {0}) told told' replay written block replay' written' left
   ran_off {read} {before} {replay'} {written'} told told' passes breaks given end = (
     breaks.left,
@@ -247,7 +256,9 @@ given_nothing (Some disk) «open» = given_open disk disk.open refl «open» whe
   given_open disk None is none = absurd (search (rules, none))
   given_open disk (Some rest) is some = record { rest = rest; before = is; after = is }
 
-pub passes_start : (replay : ReplayValue) (lines : LinesValue) (written : Option (List ℕ)) (block : List ℕ) → lines ≡ record { width = replay.program.width; line = []; count = 0 } → Passes (start_of replay written block) [] (going replay lines written block)
+pub passes_start : (replay : ReplayValue) (lines : LinesValue) (written : Option (List ℕ)) (block : List ℕ)
+    → lines ≡ record { width = replay.program.width; line = []; count = 0 }
+    → Passes (start_of replay written block) [] (going replay lines written block)
 passes_start replay lines written block is = subst (λ (now : LinesValue). Passes (start_of replay written block) [] (going replay now written block)) (sym is) (passes_nothing (start_of replay written block))
 
 -- a read of nothing gives nothing
@@ -266,5 +277,6 @@ read_failed first second third read stays given = subst (WhereTold (Gives read) 
 pub start_budget : (calls : ℕ) (lines : LinesValue) (width : ℕ) → lines ≡ record { width = width; line = []; count = 0 } → calls + budget lines ≤ calls + 35000034
 start_budget calls lines width is = subst (λ (lines : LinesValue). calls + budget lines ≤ calls + 35000034) (sym is) (omega arith)
 
-pub calls_on : (calls calls' spent spent' count : ℕ) (buffer : List ℕ) (total : ℕ) → calls' ≡ raised calls → spent' + length (take count buffer) ≤ spent → (count ≡ 0 → ⊥) → count ≤ length buffer → calls + spent ≤ total → calls' + spent' ≤ total
+pub calls_on : (calls calls' spent spent' count : ℕ) (buffer : List ℕ) (total : ℕ) → calls' ≡ raised calls
+    → spent' + length (take count buffer) ≤ spent → (count ≡ 0 → ⊥) → count ≤ length buffer → calls + spent ≤ total → calls' + spent' ≤ total
 calls_on calls calls' spent spent' count buffer total is less some fits before = omega (arith, is, less, some, length-take count buffer, fits, before)

@@ -1,5 +1,6 @@
 -- Steps of a replay in turn.
-use Rattle.std.proofs.Common.{◌≡◌, ◌≢◌, ℕ, zero, suc, set, Result, Ok, Err, ◌+◌, ◌<◌, ◌≤◌, List, [], ◌∷◌, ◌++◌, length, take, drop, get_or, Option, Some, None, refl, sym, ap, subst, ◌∙◌, arith, append_assoc, length-append}
+use Rattle.std.proofs.Common.{◌≡◌, ◌≢◌, ℕ, zero, suc, set, Result, Ok, Err, ◌+◌, ◌<◌, ◌≤◌, List, [], ◌∷◌}
+use Rattle.std.proofs.Common.{◌++◌, length, take, drop, get_or, Option, Some, None, refl, sym, ap, subst, ◌∙◌, arith, append_assoc, length-append}
 use Rattle.std.specs.Result.{OnErr}
 use Rattle.std.proofs.lemmas.List.{append-nil, take-append-drop, take_more, length-drop}
 use Rattle.dcv_io.specs.Written.{appended, AppendsStrictPrefix}
@@ -32,7 +33,8 @@ answers-append replay (letter ∷ u) v =
 
 -- ---- what is sent
 
-pub sends_in_turn : {first second third : Option (List ℕ)} {bytes middle left : List ℕ} (more : List ℕ) → Sends first second bytes middle → Sends second third (middle ++ more) left → Sends first third (bytes ++ more) left
+pub sends_in_turn : {first second third : Option (List ℕ)} {bytes middle left : List ℕ} (more : List ℕ) → Sends first second bytes middle
+    → Sends second third (middle ++ more) left → Sends first third (bytes ++ more) left
 sends_in_turn {first} {second} {third} {bytes} {middle} {left} more one other = record {
   sent = one.sent ++ other.sent;
   written = other.written ∙ ap (λ (was : Option (List ℕ)). appended was other.sent) one.written ∙ appended-appended first one.sent other.sent;
@@ -74,7 +76,8 @@ stops_in_turn {first} {second} {third} {bytes} {more} {why} one other = record {
   fault_there = other.fault_there;
 }
 
-pub breaks_in_turn : {first second : Going} {bytes more : List ℕ} {replay : _} {lines : _} {written : _} → Passes first bytes second → Breaks second more replay lines written → Breaks first (bytes ++ more) replay lines written
+pub breaks_in_turn : {first second : Going} {bytes more : List ℕ} {replay : _} {lines : _} {written : _} → Passes first bytes second
+    → Breaks second more replay lines written → Breaks first (bytes ++ more) replay lines written
 breaks_in_turn {first} {second} {bytes} {more} {replay} {lines} {written} one other = record {
   taken = bytes ++ other.taken;
   back = other.back;
@@ -91,7 +94,8 @@ some_dropped n bytes below none = omega (arith, ap length none, length-drop n by
 pub strict_sends : {old new : Option (List ℕ)} (bytes : List ℕ) → AppendsStrictPrefix old new bytes → (left : List ℕ) × (left ≢ []) × Sends old new bytes left
 strict_sends bytes part = (drop part.0 bytes, some_dropped part.0 bytes part.1, record { sent = take part.0 bytes; written = part.2; all = sym (take-append-drop part.0 bytes) })
 
-pub failed_sends : {T E : Type 0} (result : Result T E) (old new : Option (List ℕ)) (bytes whole : List ℕ) → bytes ≡ whole → OnErr result (AppendsStrictPrefix old new bytes) → OnErr result ((left : List ℕ) × (left ≢ []) × Sends old new whole left)
+pub failed_sends : {T E : Type 0} (result : Result T E) (old new : Option (List ℕ)) (bytes whole : List ℕ) → bytes ≡ whole
+    → OnErr result (AppendsStrictPrefix old new bytes) → OnErr result ((left : List ℕ) × (left ≢ []) × Sends old new whole left)
 failed_sends (Ok done) old new bytes whole same part = tt
 failed_sends (Err fault) old new bytes whole same part = strict_sends whole (subst (AppendsStrictPrefix old new) same part)
 
@@ -160,7 +164,8 @@ stops_further {before} {after} {why} bytes rest all same stops = record {
   fault_there = fault_further after.lines stops.back rest why stops.fault_there;
 }
 
-pub breaks_further : {before : Going} {replay : ReplayValue} {lines : LinesValue} {written : Option (List ℕ)} (bytes rest all : List ℕ) → all ≡ bytes ++ rest → Breaks before bytes replay lines written → Breaks before all replay lines written
+pub breaks_further : {before : Going} {replay : ReplayValue} {lines : LinesValue} {written : Option (List ℕ)} (bytes rest all : List ℕ)
+    → all ≡ bytes ++ rest → Breaks before bytes replay lines written → Breaks before all replay lines written
 breaks_further bytes rest all same breaks = record {
   taken = breaks.taken;
   back = breaks.back ++ rest;
@@ -178,10 +183,12 @@ end_of lines (Line line) (number, few, some, bad) = (refl, number, few, some, ba
 end_of lines TooLong last = last
 end_of lines Empty (none, zero_is) = (refl, none, zero_is)
 
-pub ends_faulty : (replay : ReplayValue) (lines : LinesValue) (written : Option (List ℕ)) (block : List ℕ) (why : Stop) → IsLast lines (Err why) → EndsSo (going replay lines written block) (going replay lines written block) (Some why)
+pub ends_faulty : (replay : ReplayValue) (lines : LinesValue) (written : Option (List ℕ)) (block : List ℕ) (why : Stop) → IsLast lines (Err why)
+    → EndsSo (going replay lines written block) (going replay lines written block) (Some why)
 ends_faulty replay lines written block why last = record { letters = []; last = end_of lines why last; answered = answered_nothing replay written block }
 
-pub ends_plain : (replay : ReplayValue) (lines : LinesValue) (written : Option (List ℕ)) (block : List ℕ) → IsLast lines (Ok None) → EndsSo (going replay lines written block) (going replay lines written block) None
+pub ends_plain : (replay : ReplayValue) (lines : LinesValue) (written : Option (List ℕ)) (block : List ℕ) → IsLast lines (Ok None)
+    → EndsSo (going replay lines written block) (going replay lines written block) None
 ends_plain replay lines written block last = record { letters = []; last = last; answered = answered_nothing replay written block }
 
 -- ---- one by one
@@ -195,7 +202,8 @@ leads_stop {before} {after} {bytes} {found} {why} is leads = subst (Leads before
 pub leads_on : {before after : Going} {bytes : List ℕ} {found : Option Stop} → found ≡ None → Leads before bytes after found → Passes before bytes after
 leads_on {before} {after} {bytes} {found} is leads = subst (Leads before bytes after) is leads
 
-pub passes_one_more : {first second third : Going} (bytes : List ℕ) (place : ℕ) → place < length bytes → Passes first (take place bytes) second → Passes second (get_or bytes place 0 ∷ []) third → Passes first (take (place + 1) bytes) third
+pub passes_one_more : {first second third : Going} (bytes : List ℕ) (place : ℕ) → place < length bytes → Passes first (take place bytes) second
+    → Passes second (get_or bytes place 0 ∷ []) third → Passes first (take (place + 1) bytes) third
 passes_one_more {first} {second} {third} bytes place below one other = subst (λ (text : List ℕ). Passes first text third) (sym (take_more bytes place 0 below)) (passes_in_turn one other)
 
 pub spent_further : (a b c place : ℕ) → a + 1 ≤ b → b + place ≤ c → a + (place + 1) ≤ c

@@ -102,7 +102,8 @@ ended_in_turn width [] v front more none others = subst (AreEnded width v) (sym 
 ended_in_turn width (letter ∷ u) v front more (line, after, ended, whole, rest) others =
     (line, after ++ more, ended, ap (λ one. one ++ more) whole ∙ append_assoc line after more, ended_in_turn width u v after more rest others)
 
-pub come_in_turn : {width : ℕ} {read : List ℕ} {u v : Word} {line line' : List ℕ} (more : List ℕ) → HasCome width read u line → HasCome width (line ++ more) v line' → HasCome width (read ++ more) (u ++ v) line'
+pub come_in_turn : {width : ℕ} {read : List ℕ} {u v : Word} {line line' : List ℕ} (more : List ℕ) → HasCome width read u line
+    → HasCome width (line ++ more) v line' → HasCome width (read ++ more) (u ++ v) line'
 come_in_turn {width} {read} {u} {v} {line} {line'} more one other = record {
   front = one.front ++ other.front;
   ended = ended_in_turn width u v one.front other.front one.ended other.ended;

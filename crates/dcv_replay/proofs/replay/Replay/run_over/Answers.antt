@@ -2,7 +2,8 @@ use Rattle.std.proofs.Common.{◌∙◌, refl, ap, [], ℕ, arith}
 use Rattle.dcv_io.proofs.Giving.{gives_in_turn}
 use Rattle.dcv_replay.specs.Coming.{LinesValue}
 use Rattle.dcv_replay.proofs.Steps.{passes_in_turn, stops_in_turn, breaks_in_turn, leads_on, leads_stop, on_err_from}
-use Rattle.dcv_replay.proofs.Runs.{ran_cut, ran_stop, ran_broken, ran_end, ran_off, if_ok_weaker, on_err_weaker, given_nothing, passes_start, read_none, none_taken, read_failed, start_budget, calls_on}
+use Rattle.dcv_replay.proofs.Runs.{ran_cut, ran_stop, ran_broken, ran_end, ran_off, if_ok_weaker, on_err_weaker}
+use Rattle.dcv_replay.proofs.Runs.{given_nothing, passes_start, read_none, none_taken, read_failed, start_budget, calls_on}
 use Rattle.dcv_replay.proofs.replay.Replay.run_over.Goals as goal
 
 pub loop-count-init : goal.loop-count-init
