@@ -1,0 +1,8 @@
+use Rattle.std.proofs.Common.{◌≡◌, ◌++◌, take}
+use Rattle.std.specs.List.{flat_map}
+use Rattle.dcv_replay.specs.OfNode.{latch_selects}
+use Rattle.dcv_replay.proofs.of_node.push_latches.Given as goal
+
+-- the equations so far have their selections
+abbrev pub invariant-loop-equation : goal.invariant-loop-equation
+invariant-loop-equation l = l.selects.items ≡ l.fn.selects.items ++ flat_map (latch_selects l.count) (take l.equation-index l.equations)

@@ -1,0 +1,142 @@
+//! An observer as selections over the numbers of a store.
+//!
+//! The first slots hold the numbers of their own places, so that a constant is read as a name is. Then stand the observer's names, and behind
+//! them what it keeps beside its names.
+ghost use Rattle.std.specs.Prelude.{◌≡◌, ◌↔◌, ◌+◌, ◌≤◌, [], ◌∷◌, ◌++◌, length, fold, IsTrue};
+ghost use Rattle.std.specs.List.{All};
+ghost use Rattle.dcv_word.specs.Behaviour.{Word};
+ghost use Rattle.dcv_replay.specs.Observer.{Observer, Accepts, Follows};
+ghost use Rattle.dcv_replay.specs.Program.{IsReplay, IsWithin, after_select, with_letter, rest_of, advanced};
+
+use dcv_word::Letter;
+use std::marker::Model;
+
+// Puts the number in one of two slots into the slot `target`: that of `when_equal` where the slot `tested` has the number `number`,
+// and else that of `otherwise`.
+#[derive(Clone, Copy, Debug)]
+pub(crate) struct Select {
+    pub(crate) target: u32,
+    pub(crate) tested: u32,
+    pub(crate) number: u32,
+    pub(crate) when_equal: u32,
+    pub(crate) otherwise: u32,
+}
+
+/// An observer, and what it keeps of the letters so far.
+#[derive(Debug, Drop)]
+pub struct Replay {
+    width: u8,
+    inputs: u32,
+    selects: Vec<Select>,
+    answer: u32,
+    store: Vec<u32>,
+}
+
+impl Model for Replay {
+    ghost use Rattle.dcv_replay.specs.Program.{ReplayValue, IsReplay};
+
+    ghost Value = { ReplayValue };
+
+    ghost view = { λ r. record {
+      program = record { width = r.width; inputs = r.inputs; selects = r.selects.items; answer = r.answer };
+      store = r.store.items;
+    } };
+
+    ghost invariant = { λ r. IsReplay record {
+      program = record { width = r.width; inputs = r.inputs; selects = r.selects.items; answer = r.answer };
+      store = r.store.items;
+    } };
+}
+
+impl Replay {
+    // An observer of these selections.
+    pub(crate) fn of(
+        width: u8,
+        inputs: u32,
+        selects: Vec<Select>,
+        answer: u32,
+        store: Vec<u32>,
+    ) -> Replay
+        requires { IsReplay record {
+          program = record { width = width; inputs = inputs; selects = selects.items; answer = answer };
+          store = store.items;
+        } }
+        ensures { result ≡ record {
+          program = record { width = width; inputs = inputs; selects = selects.items; answer = answer };
+          store = store.items;
+        } }
+    {
+        Replay {
+            width,
+            inputs,
+            selects,
+            answer,
+            store,
+        }
+    }
+
+    /// How many variables the observer's letters have, 32 at most.
+    pub fn width(&self) -> u8
+        ensures width { result ≡ self.now.program.width }
+        ensures bound { result ≤ 32 }
+    {
+        self.width
+    }
+
+    /// Goes on by a letter, and answers whether the observer accepts the letters so far and this one. It takes no memory.
+    pub fn step(&mut self, letter: &Letter) -> bool
+        requires { length letter.now ≡ self.old.program.width }
+        ensures after { self.new ≡ advanced self.old (letter.now ∷ []) }
+        ensures program { self.new.program ≡ self.old.program }
+        ensures answer { result ≡ rest_of self.old (letter.now ∷ []) }
+
+        // Whatever the observer, and the word after which its store is the replay's: so it is after the letter too.
+        ensures follows { (observer : Observer) (before : Word) → Follows observer before self.old
+            → Follows observer (before ++ letter.now ∷ []) self.new }
+        ensures accepts { (observer : Observer) (before : Word) → Follows observer before self.old
+            → IsTrue result ↔ Accepts observer (before ++ letter.now ∷ []) }
+    {
+        self.advance(letter)
+    }
+
+    // The same, with what the replay's own program answers.
+    fn advance(&mut self, letter: &Letter) -> bool
+        requires { length letter.now ≡ self.old.program.width }
+        ensures after { self.new ≡ advanced self.old (letter.now ∷ []) }
+        ensures program { self.new.program ≡ self.old.program }
+        ensures answer { result ≡ rest_of self.old (letter.now ∷ []) }
+    {
+        put_letter(&mut self.store, self.inputs, letter);
+        select_all(&mut self.store, &self.selects);
+        self.store[self.answer as usize] == 1
+    }
+}
+
+// Puts the values of a letter into the slots from this one on.
+fn put_letter(store: &mut [u32], inputs: u32, letter: &Letter)
+    requires { inputs + length letter.now ≤ length store.old }
+    ensures store { store.new ≡ with_letter inputs letter.now store.old }
+    ensures length { length store.new ≡ length store.old }
+{
+    let mut place = inputs as usize;
+    for slot in 0..letter.width() {
+        store[place] = if letter.get(slot) { 1 } else { 0 };
+        place += 1;
+    }
+}
+
+// Makes all these selections, in order.
+fn select_all(store: &mut [u32], selects: &[Select])
+    requires { All (IsWithin (length store.old)) selects.now }
+    ensures store { store.new ≡ fold after_select store.old selects.now }
+    ensures length { length store.new ≡ length store.old }
+{
+    for select in selects {
+        let from = if store[select.tested as usize] == select.number {
+            select.when_equal
+        } else {
+            select.otherwise
+        };
+        store[select.target as usize] = store[from as usize];
+    }
+}

@@ -1,0 +1,2 @@
+-- what clauses of the functions that tests build cite
+pub mod Below

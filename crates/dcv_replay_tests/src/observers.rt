@@ -1,0 +1,66 @@
+// Observers of behaviours over `p` that is true throughout, and other nodes by their texts.
+ghost use Rattle.std.specs.Prelude.{◌≡◌, length, IfOk};
+ghost use Rattle.dcv_automaton_text.specs.Rules.{AreNames};
+ghost use Rattle.dcv_automaton_file.specs.File.{texts_of};
+
+use crate::tables::{raw_of, states_of};
+use dcv_c::CUnit;
+use dcv_lustre::Node;
+use dcv_lustre_read::read;
+use dcv_minimise::minimise;
+use dcv_replay::Replay;
+use dcv_syntax::{Name, Span, Text};
+use std::alloc::Global;
+use std::test::Fail;
+
+const ALWAYS: &[u8] =
+    b"node observer(v_p: bool) returns (ok: bool);\nvar\n  st: int;\n  nx: int;\n  n0: int;\nlet\n  \
+    st = 0 -> pre nx;\n  n0 = if v_p then 0 else 1;\n  nx = if st = 0 then n0 else 1;\n  ok = (nx = 0);\ntel\n";
+
+// The replay of a node with this text.
+pub(crate) fn of_text(alloc: Global, text: &[u8]) -> Result<Replay, Fail> {
+    Ok(Replay::lustre(alloc, &node_of(alloc, text)?)?)
+}
+
+// For the prover: the bound is what a text of `read` has to meet.
+fn node_of(alloc: Global, text: &[u8]) -> Result<Node, Fail> {
+    if text.len() >= 1_000_000 {
+        return Err(Fail::new("a long text"));
+    }
+    match read(alloc, text) {
+        Ok(node) => Ok(node),
+        Err(_) => Err(Fail::new("the text is no node")),
+    }
+}
+
+// The observer in Lustre.
+pub(crate) fn lustre(alloc: Global) -> Result<Replay, Fail> {
+    of_text(alloc, ALWAYS)
+}
+
+// The observer in C.
+pub(crate) fn c(alloc: Global) -> Result<Replay, Fail> {
+    Ok(Replay::c(alloc, &unit_of(alloc)?)?)
+}
+
+fn unit_of(alloc: Global) -> Result<CUnit, Fail> {
+    let names = names_of(alloc)?;
+    let states = states_of(alloc, "accept 1 0; reject 1 1")?;
+    let auto = minimise(alloc, raw_of(alloc, 1, &states, 0)?)?;
+    if auto.slots() != 1 || auto.states() > 2 || auto.nodes() > 2 {
+        return Err(Fail::new("another automaton"));
+    }
+    Ok(dcv_c::of_auto(alloc, &auto, &names)?)
+}
+
+// The name `p`.
+fn names_of(alloc: Global) -> Result<Vec<Name>, Fail>
+    ensures names { IfOk result (λ names. AreNames (texts_of names.items)) }
+    ensures length { IfOk result (λ names. length names.items ≡ 1) }
+{
+    let text = Text::copy_of(alloc, b"p")?;
+    let span = Span { start: 0, end: 0 };
+    let mut names = Vec::new(alloc);
+    names.push(Name { text, span })?;
+    Ok(names)
+}
