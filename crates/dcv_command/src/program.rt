@@ -1,8 +1,9 @@
-// What `clap` is given: the subcommands with their operands and options, and the texts of their help.
+//! What `clap` is given: the subcommands with their operands and options, and the texts of their help.
 ghost use Rattle.std.specs.Prelude.{◌≡◌, [], false, codes, IfOk};
 ghost use Rattle.clap.specs.Words.{rule_of, app_of, new_app, with_subcommand};
 ghost use Rattle.clap.specs.declared.builder.Command.TheViews.{out-Command as fields_of};
-ghost use Rattle.dcv_command.specs.Program.{file_operand as file_rule, limit_option, over_a_formula as formula_shape, program as the_program, bare_app};
+ghost use Rattle.dcv_command.specs.Program.{file_operand as file_rule, limit_option, program as the_program, bare_app};
+ghost use Rattle.dcv_command.specs.Program.{over_a_formula as formula_shape, over_an_automaton as automaton_shape};
 
 use clap::builder::ValueParser;
 use clap::{Arg, Command};
@@ -10,22 +11,25 @@ use std::alloc::{AllocError, Global};
 
 const ABOUT: &str =
     "Decides whether a requirement about stretches of time, a formula of Quantified Discrete-time Duration Calculus, always holds. \
-Shows a shortest behaviour that breaks it, or the minimal automaton of the behaviours that satisfy it, or an observer of these.";
+Shows a shortest behaviour that breaks it, or the minimal automaton of the behaviours that satisfy it, or an observer of these. \
+Tells whether an automaton's text shows by its own words that it is minimal.";
 
 const EXAMPLE_AND_STATUS: &str =
     "Example, with `var door_closed; infer [[door_closed]];` in the file door.dc:
   dcvalid check door.dc
-  dcvalid automaton door.dc --states 1000
+  dcvalid automaton door.dc --states 1000 > door.auto
+  dcvalid certify door.auto
 
 Status:
-  0  each behaviour satisfies the formula
-  1  some behaviour does not
+  0  each behaviour satisfies the formula; the automaton is certified
+  1  some behaviour does not; the words of the automaton's text do not show that it is minimal
   2  the words are no command, or ask for help
   3  the file holds no formula, for the fault that is named, at its offset in bytes
   4  a step of the formula has more states or nodes than the limit
   5  the file could not be opened or read
   6  the report could not be written
-  7  memory ran out";
+  7  memory ran out
+ 10  the file holds no automaton's text, for the fault that is named";
 
 /// The most states of a step that may be asked for.
 pub(crate) const MOST_STATES: u32 = 32_000;
@@ -62,12 +66,13 @@ pub(crate) fn program<'a>(alloc: Global) -> Result<Command<'a>, AllocError>
         "c",
         "Writes such an observer in a flat subset of C",
     )?;
-    with_report(
+    let all = with_report(
         alloc,
         c,
         "all",
         "Writes the verdict, the automaton and both observers, each behind a line that names it",
-    )
+    )?;
+    with_certify(alloc, all)
 }
 
 // The command without its subcommands, of which one is required.
@@ -95,6 +100,13 @@ fn with_report<'a>(
     command.subcommand(over_a_formula(alloc, name, about)?)
 }
 
+// The command with the subcommand that certifies an automaton's text.
+fn with_certify<'a>(alloc: Global, command: Command<'a>) -> Result<Command<'a>, AllocError>
+    ensures { IfOk result (λ more. app_of more ≡ with_subcommand (app_of command.entry) automaton_shape) }
+{
+    command.subcommand(over_an_automaton(alloc)?)
+}
+
 // A command with no words yet, which usage calls by its name.
 fn named<'a>(alloc: Global) -> Result<Command<'a>, AllocError>
     ensures app { IfOk result (λ command. app_of command ≡ new_app (codes "dcvalid")) }
@@ -114,7 +126,7 @@ fn over_a_formula<'a>(
 {
     Command::new(alloc, name)
         .about(about)
-        .arg(file_operand(alloc))?
+        .arg(file_operand(alloc, "file", "FILE", "The formula file"))?
         .arg(limit(
             alloc,
             "states",
@@ -131,15 +143,32 @@ fn over_a_formula<'a>(
         ))
 }
 
-// The name of a formula file.
-fn file_operand<'a>(alloc: Global) -> Arg<'a>
-    ensures rule { rule_of result ≡ file_rule }
+// The subcommand over an automaton's text.
+fn over_an_automaton<'a>(alloc: Global) -> Result<Command<'a>, AllocError>
+    ensures app { IfOk result (λ command. app_of command ≡ record { top = automaton_shape; subs = [] }) }
+    ensures local { IfOk result (λ command. (fields_of command).has_globals ≡ false) }
+{
+    Command::new(alloc, "certify")
+        .about(
+            "Tells whether the words in an automaton's text show that it is minimal, and if not, of which state or two states they do not",
+        )
+        .arg(file_operand(
+            alloc,
+            "automaton",
+            "AUTO",
+            "The file with the automaton's text, as the command automaton writes it",
+        ))
+}
+
+// The name of a file.
+fn file_operand<'a>(alloc: Global, id: &'a str, value_name: &'a str, help: &'a str) -> Arg<'a>
+    ensures rule { rule_of result ≡ file_rule id.entry.now }
     ensures local { result.global ≡ false }
 {
-    Arg::new(alloc, "file")
+    Arg::new(alloc, id)
         .required(true)
-        .value_name("FILE")
-        .help("The formula file")
+        .value_name(value_name)
+        .help(help)
 }
 
 // A limit on the steps of a formula.
