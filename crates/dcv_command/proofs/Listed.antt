@@ -1,5 +1,5 @@
 -- The words behind a subcommand's name: files' names, and options with their numbers.
-use Rattle.std.proofs.Common.{◌≡◌, refl, sym, ap, ◌∙◌, subst, true, false, List, ℕ, ◌<◌, ◌^◌, [], ◌∷◌, codes, arith, ne_eqb}
+use Rattle.std.proofs.Common.{◌≡◌, refl, sym, ap, ◌∙◌, subst, true, false, List, ℕ, ◌<◌, ◌^◌, [], ◌∷◌, ◌++◌, Option, codes, arith, ne_eqb}
 use Rattle.std.specs.Prelude.{◌==◌}
 use Rattle.std.specs.Fmt.{decimal}
 use Rattle.std.specs.Str.Parse.{IsNumeral, digits_value, without_leading_plus}
@@ -9,18 +9,20 @@ use Rattle.clap.specs.Words.{Row, Shape, Text}
 use Rattle.clap.specs.declared.builder.value_parser.ValueParser.TheVariants.{Unsigned}
 use Rattle.clap.proofs.ValueTestLemmas.{Accepts-accepts}
 use Rattle.clap.specs.ValueTests.{is_unsigned_in}
-use Rattle.clap.specs.Walk.{Walk, idle, option, nothing_held, walk_from}
+use Rattle.clap.specs.Walk.{Held, Walk, idle, option, nothing_held, walk_from}
 use Rattle.clap.proofs.OnLiterals.{clap_on_literals}
-use Rattle.dcv_command.specs.Program.{most_states, most_nodes, over_a_formula, over_an_automaton}
+use Rattle.dcv_explore.specs.declared.explorer.Limits.{Limits}
+use Rattle.dcv_print.specs.declared.report.Kind.{Kind}
+use Rattle.dcv_print.specs.declared.report.Kind.TheVariants.{Check, Automaton, Lustre, C, All}
+use Rattle.dcv_command.specs.Program.{most_states, most_nodes, over_a_formula, over_an_automaton, over_two_formulas}
 use Rattle.dcv_command.specs.Laws.{ListedWordsAreTaken}
 use Rattle.dcv_command.specs.Listed.{AreAllowed, AskFor, IsAllowed, IsFileName, Options, Neither, States, Nodes, StatesThenNodes, NodesThenStates}
 use Rattle.dcv_command.specs.Listed.{limits_given, option_words, report_name}
-use Rattle.dcv_print.specs.declared.report.Kind.{Kind}
-use Rattle.dcv_print.specs.declared.report.Kind.TheVariants.{Check, Automaton, Lustre, C, All}
-use Rattle.dcv_command.specs.Request.{Certify, Report, limits_of, report_in, request_in}
-use Rattle.dcv_command.proofs.Commands.{IsSubcommand, check_is_one, automaton_is_one, lustre_is_one, c_is_one, all_is_one, certify_is_one, leaf}
+use Rattle.dcv_command.specs.Request.{Certify, Implies, Report, Request, implies_in, limits_of, report_in, request_in}
+use Rattle.dcv_command.proofs.Commands.{IsSubcommand, leaf}
+use Rattle.dcv_command.proofs.Commands.{check_is_one, automaton_is_one, lustre_is_one, c_is_one, all_is_one, certify_is_one, implies_is_one}
 use Rattle.dcv_command.proofs.Plain.{HasNoDash, going}
-use Rattle.dcv_command.proofs.Runs.{Goes, at_end, more, ask_for, holding, plain_goes, row, waiting_for}
+use Rattle.dcv_command.proofs.Runs.{EndsWell, Goes, Runs, at_end, more, ask_for, holding, plain_goes, row, waiting_for}
 
 has_no_dash : (name : Text) → IsFileName name → HasNoDash name
 has_no_dash [] is = absurd is
@@ -56,106 +58,148 @@ decimal_is_one most number few (low, high) =
       value = value;
     }
 
--- ---- over a formula file
+-- ---- with both limits
 
-abbrev formula : Text → Shape
-formula name = leaf (over_a_formula name)
+-- what is computed of a subcommand with both limits: the walk over its operands, then over its options, each with a text that is its number
+record TakesLimits (shape : Shape) (asks : List Row → Option Request) (behind : List Text → List Text) (request : Limits → Request) : Type 0 where
+  place : ℕ
+  held : Held
+  rows : List Row
+  operands : (end : Walk) (words : List Text) → Runs shape end (going held idle place) words → Runs shape end (walk_from nothing_held) (behind words)
+  states_flag : Goes shape (going held idle place) (codes "--states") (going (waiting_for rows (codes "states")) (option (codes "states")) place)
+  nodes_flag : Goes shape (going held idle place) (codes "--nodes") (going (waiting_for rows (codes "nodes")) (option (codes "nodes")) place)
+  states_value : (before : List Row) (text : Text) → HasNoDash text
+      → Goes shape (going (waiting_for before (codes "states")) (option (codes "states")) place) text (going (holding before (codes "states") text) idle place)
+  nodes_value : (before : List Row) (text : Text) → HasNoDash text
+      → Goes shape (going (waiting_for before (codes "nodes")) (option (codes "nodes")) place) text (going (holding before (codes "nodes") text) idle place)
+  nodes_after_states : (text : Text) → is_unsigned_in 1 most_states text ≡ true
+      → Goes shape (going (holding rows (codes "states") text) idle place) (codes "--nodes")
+      (going (waiting_for (rows ++ row (codes "states") text ∷ []) (codes "nodes")) (option (codes "nodes")) place)
+  states_after_nodes : (text : Text) → is_unsigned_in 1 most_nodes text ≡ true
+      → Goes shape (going (holding rows (codes "nodes") text) idle place) (codes "--states")
+      (going (waiting_for (rows ++ row (codes "nodes") text ∷ []) (codes "states")) (option (codes "states")) place)
+  neither : EndsWell shape asks held (request (limits_of 30000 1000000))
+  states : (text : Text) (number : ℕ) → IsNumberText most_states number text
+      → EndsWell shape asks (holding rows (codes "states") text) (request (limits_of number 1000000))
+  nodes : (text : Text) (number : ℕ) → IsNumberText most_nodes number text
+      → EndsWell shape asks (holding rows (codes "nodes") text) (request (limits_of 30000 number))
+  nodes_last : (first last : Text) (some others : ℕ) → IsNumberText most_states some first → IsNumberText most_nodes others last
+      → EndsWell shape asks (holding (rows ++ row (codes "states") first ∷ []) (codes "nodes") last) (request (limits_of some others))
+  states_last : (first last : Text) (others some : ℕ) → IsNumberText most_nodes others first → IsNumberText most_states some last
+      → EndsWell shape asks (holding (rows ++ row (codes "nodes") first ∷ []) (codes "states") last) (request (limits_of some others))
 
-abbrev with_file : Text → List Row
-with_file file = row (codes "file") file ∷ []
+-- then each list of options is taken
+module _ {name : Text} {shape : Shape} {asks : List Row → Option Request} {behind : List Text → List Text} {request : Limits → Request}
+    (is : IsSubcommand name shape) (named : (rows : List Row) → request_in name rows ≡ asks rows) (takes : TakesLimits (leaf shape) asks behind request) where
+  abbrev Asks : List Text → Limits → Type 0
+  Asks words limits = AskFor (name ∷ behind words) (request limits)
 
--- the file's name is read
-abbrev file_held : Text → Walk
-file_held file = going (holding [] (codes "file") file) idle 2
+  states_alone : (text : Text) (number : ℕ) → IsNumberText most_states number text → Asks (codes "--states" ∷ text ∷ []) (limits_of number 1000000)
+  states_alone text number is_one =
+      ask_for is named (takes.operands _ _ (more takes.states_flag (more (takes.states_value takes.rows text is_one.no_dash) at_end)))
+      (takes.states text number is_one)
 
-file_goes : {name file : Text} → HasNoDash file → Goes (formula name) (walk_from nothing_held) file (file_held file)
-unfolding clap_on_literals
-file_goes {name} {file} none = plain_goes (formula name) nothing_held idle 1 file _ none refl refl refl
+  nodes_alone : (text : Text) (number : ℕ) → IsNumberText most_nodes number text → Asks (codes "--nodes" ∷ text ∷ []) (limits_of 30000 number)
+  nodes_alone text number is_one =
+      ask_for is named (takes.operands _ _ (more takes.nodes_flag (more (takes.nodes_value takes.rows text is_one.no_dash) at_end)))
+      (takes.nodes text number is_one)
 
-states_value : {name text : Text} {rows : List Row} → HasNoDash text
-    → Goes (formula name) (going (waiting_for rows (codes "states")) (option (codes "states")) 2) text (going (holding rows (codes "states") text) idle 2)
-unfolding clap_on_literals
-states_value {name} {text} {rows} none = plain_goes (formula name) (waiting_for rows (codes "states")) (option (codes "states")) 2 text _ none refl refl refl
+  states_first : (first last : Text) (some others : ℕ) → IsNumberText most_states some first → IsNumberText most_nodes others last
+      → Asks (codes "--states" ∷ first ∷ codes "--nodes" ∷ last ∷ []) (limits_of some others)
+  states_first first last some others one other =
+      let last_runs = more (takes.nodes_value (takes.rows ++ row (codes "states") first ∷ []) last other.no_dash) at_end in
+      let runs = more (takes.states_value takes.rows first one.no_dash) (more (takes.nodes_after_states first one.fits) last_runs) in
+      ask_for is named (takes.operands _ _ (more takes.states_flag runs)) (takes.nodes_last first last some others one other)
 
-nodes_value : {name text : Text} {rows : List Row} → HasNoDash text
-    → Goes (formula name) (going (waiting_for rows (codes "nodes")) (option (codes "nodes")) 2) text (going (holding rows (codes "nodes") text) idle 2)
-unfolding clap_on_literals
-nodes_value {name} {text} {rows} none = plain_goes (formula name) (waiting_for rows (codes "nodes")) (option (codes "nodes")) 2 text _ none refl refl refl
+  nodes_first : (first last : Text) (others some : ℕ) → IsNumberText most_nodes others first → IsNumberText most_states some last
+      → Asks (codes "--nodes" ∷ first ∷ codes "--states" ∷ last ∷ []) (limits_of some others)
+  nodes_first first last others some one other =
+      let last_runs = more (takes.states_value (takes.rows ++ row (codes "nodes") first ∷ []) last other.no_dash) at_end in
+      let runs = more (takes.nodes_value takes.rows first one.no_dash) (more (takes.states_after_nodes first one.fits) last_runs) in
+      ask_for is named (takes.operands _ _ (more takes.nodes_flag runs)) (takes.states_last first last others some one other)
 
-states_flag : {name file : Text} → Goes (formula name) (file_held file) (codes "--states") (going (waiting_for (with_file file) (codes "states")) (option (codes "states")) 2)
-unfolding clap_on_literals
-states_flag = record { no_fault = refl; passes = refl; goes = refl }
-
-nodes_flag : {name file : Text} → Goes (formula name) (file_held file) (codes "--nodes") (going (waiting_for (with_file file) (codes "nodes")) (option (codes "nodes")) 2)
-unfolding clap_on_literals
-nodes_flag = record { no_fault = refl; passes = refl; goes = refl }
-
-nodes_after_states : {name file text : Text} → is_unsigned_in 1 most_states text ≡ true
-    → Goes (formula name) (going (holding (with_file file) (codes "states") text) idle 2) (codes "--nodes")
-    (going (waiting_for (row (codes "file") file ∷ row (codes "states") text ∷ []) (codes "nodes")) (option (codes "nodes")) 2)
-unfolding clap_on_literals
-nodes_after_states fits = record { no_fault = rw fits refl; passes = rw fits refl; goes = refl }
-
-states_after_nodes : {name file text : Text} → is_unsigned_in 1 most_nodes text ≡ true
-    → Goes (formula name) (going (holding (with_file file) (codes "nodes") text) idle 2) (codes "--states")
-    (going (waiting_for (row (codes "file") file ∷ row (codes "nodes") text ∷ []) (codes "states")) (option (codes "states")) 2)
-unfolding clap_on_literals
-states_after_nodes fits = record { no_fault = rw fits refl; passes = rw fits refl; goes = refl }
-
--- what each list asks for, of the subcommand that reports this
-module _ (name file : Text) (kind : Kind) (is : IsSubcommand name (over_a_formula name)) (named : (rows : List Row) → request_in name rows ≡ report_in kind rows)
-    (plain : HasNoDash file) where
-  abbrev Asks : List Text → ℕ → ℕ → Type 0
-  Asks words states nodes = AskFor (name ∷ file ∷ words) (Report kind file (limits_of states nodes))
-
-  neither : Asks [] 30000 1000000
-  unfolding clap_on_literals
-  neither = ask_for is named (more (file_goes plain) at_end) (record { no_fault = refl; passes = refl; asked = refl })
-
-  states_alone : (text : Text) (states : ℕ) → IsNumberText most_states states text → Asks (codes "--states" ∷ text ∷ []) states 1000000
-  unfolding clap_on_literals
-  states_alone text states number =
-      let runs = more (file_goes plain) (more states_flag (more (states_value number.no_dash) at_end)) in
-      ask_for is named runs (record { no_fault = rw number.fits refl; passes = rw number.fits refl; asked = rw (number.fits, number.value) refl })
-
-  nodes_alone : (text : Text) (nodes : ℕ) → IsNumberText most_nodes nodes text → Asks (codes "--nodes" ∷ text ∷ []) 30000 nodes
-  unfolding clap_on_literals
-  nodes_alone text nodes number =
-      let runs = more (file_goes plain) (more nodes_flag (more (nodes_value number.no_dash) at_end)) in
-      ask_for is named runs (record { no_fault = rw number.fits refl; passes = rw number.fits refl; asked = rw (number.fits, number.value) refl })
-
-  states_first : (first second : Text) (states nodes : ℕ) → IsNumberText most_states states first → IsNumberText most_nodes nodes second
-      → Asks (codes "--states" ∷ first ∷ codes "--nodes" ∷ second ∷ []) states nodes
-  unfolding clap_on_literals
-  states_first first second states nodes one other =
-      let last = more (nodes_after_states one.fits) (more (nodes_value other.no_dash) at_end) in
-      let runs = more (file_goes plain) (more states_flag (more (states_value one.no_dash) last)) in
-      ask_for is named runs (record { no_fault = rw other.fits refl; passes = rw other.fits refl; asked = rw (one.fits, one.value, other.fits, other.value) refl })
-
-  nodes_first : (first second : Text) (nodes states : ℕ) → IsNumberText most_nodes nodes first → IsNumberText most_states states second
-      → Asks (codes "--nodes" ∷ first ∷ codes "--states" ∷ second ∷ []) states nodes
-  unfolding clap_on_literals
-  nodes_first first second nodes states one other =
-      let last = more (states_after_nodes one.fits) (more (states_value other.no_dash) at_end) in
-      let runs = more (file_goes plain) (more nodes_flag (more (nodes_value one.no_dash) last)) in
-      ask_for is named runs (record { no_fault = rw other.fits refl; passes = rw other.fits refl; asked = rw (one.fits, one.value, other.fits, other.value) refl })
-
-  each_list : (options : Options) → AreAllowed options → AskFor (name ∷ file ∷ option_words options) (Report kind file (limits_given options))
-  each_list Neither allowed = neither
+  each_list : (options : Options) → AreAllowed options → Asks (option_words options) (limits_given options)
+  each_list Neither allowed = ask_for is named (takes.operands _ _ at_end) takes.neither
   each_list (States states) allowed = states_alone (decimal states) states (decimal_is_one most_states states (omega arith) allowed)
   each_list (Nodes nodes) allowed = nodes_alone (decimal nodes) nodes (decimal_is_one most_nodes nodes (omega arith) allowed)
   each_list (StatesThenNodes states nodes) (some, others) =
-      states_first (decimal states) (decimal nodes) states nodes (decimal_is_one most_states states (omega arith) some) (decimal_is_one most_nodes nodes (omega arith) others)
+      states_first (decimal states) (decimal nodes) states nodes (decimal_is_one most_states states (omega arith) some)
+      (decimal_is_one most_nodes nodes (omega arith) others)
   each_list (NodesThenStates nodes states) (some, others) =
-      nodes_first (decimal nodes) (decimal states) nodes states (decimal_is_one most_nodes nodes (omega arith) some) (decimal_is_one most_states states (omega arith) others)
+      nodes_first (decimal nodes) (decimal states) nodes states (decimal_is_one most_nodes nodes (omega arith) some)
+      (decimal_is_one most_states states (omega arith) others)
 
-each_report : (kind : Kind) (name : Text) (options : Options) → IsFileName name → AreAllowed options
-    → AskFor (report_name kind ∷ name ∷ option_words options) (Report kind name (limits_given options))
-each_report Check name options is allowed = each_list (codes "check") name Check check_is_one (λ rows. refl) (has_no_dash name is) options allowed
-each_report Automaton name options is allowed = each_list (codes "automaton") name Automaton automaton_is_one (λ rows. refl) (has_no_dash name is) options allowed
-each_report Lustre name options is allowed = each_list (codes "lustre") name Lustre lustre_is_one (λ rows. refl) (has_no_dash name is) options allowed
-each_report C name options is allowed = each_list (codes "c") name C c_is_one (λ rows. refl) (has_no_dash name is) options allowed
-each_report All name options is allowed = each_list (codes "all") name All all_is_one (λ rows. refl) (has_no_dash name is) options allowed
+-- ---- over a formula file
+
+formula_takes_limits : (name file : Text) (kind : Kind) → HasNoDash file
+    → TakesLimits (leaf (over_a_formula name)) (report_in kind) (λ words. file ∷ words) (Report kind file)
+unfolding clap_on_literals
+formula_takes_limits name file kind none =
+    record {
+      place = 2;
+      held = holding [] (codes "file") file;
+      rows = row (codes "file") file ∷ [];
+      operands = λ end words runs. more (plain_goes (leaf (over_a_formula name)) nothing_held idle 1 file _ none refl refl refl) runs;
+      states_flag = record { no_fault = refl; passes = refl; goes = refl };
+      nodes_flag = record { no_fault = refl; passes = refl; goes = refl };
+      states_value = λ before text plain. plain_goes _ (waiting_for before (codes "states")) (option (codes "states")) 2 text _ plain refl refl refl;
+      nodes_value = λ before text plain. plain_goes _ (waiting_for before (codes "nodes")) (option (codes "nodes")) 2 text _ plain refl refl refl;
+      nodes_after_states = λ text fits. record { no_fault = rw fits refl; passes = rw fits refl; goes = refl };
+      states_after_nodes = λ text fits. record { no_fault = rw fits refl; passes = rw fits refl; goes = refl };
+      neither = record { no_fault = refl; passes = refl; asked = refl };
+      states = λ text number is. record { no_fault = rw is.fits refl; passes = rw is.fits refl; asked = rw (is.fits, is.value) refl };
+      nodes = λ text number is. record { no_fault = rw is.fits refl; passes = rw is.fits refl; asked = rw (is.fits, is.value) refl };
+      nodes_last = λ first last some others one other.
+          record { no_fault = rw other.fits refl; passes = rw other.fits refl; asked = rw (one.fits, one.value, other.fits, other.value) refl };
+      states_last = λ first last others some one other.
+          record { no_fault = rw other.fits refl; passes = rw other.fits refl; asked = rw (one.fits, one.value, other.fits, other.value) refl };
+    }
+
+each_report : (kind : Kind) (file : Text) (options : Options) → IsFileName file → AreAllowed options
+    → AskFor (report_name kind ∷ file ∷ option_words options) (Report kind file (limits_given options))
+each_report Check file options is allowed =
+    each_list check_is_one (λ rows. refl) (formula_takes_limits (codes "check") file Check (has_no_dash file is)) options allowed
+each_report Automaton file options is allowed =
+    each_list automaton_is_one (λ rows. refl) (formula_takes_limits (codes "automaton") file Automaton (has_no_dash file is)) options allowed
+each_report Lustre file options is allowed =
+    each_list lustre_is_one (λ rows. refl) (formula_takes_limits (codes "lustre") file Lustre (has_no_dash file is)) options allowed
+each_report C file options is allowed =
+    each_list c_is_one (λ rows. refl) (formula_takes_limits (codes "c") file C (has_no_dash file is)) options allowed
+each_report All file options is allowed =
+    each_list all_is_one (λ rows. refl) (formula_takes_limits (codes "all") file All (has_no_dash file is)) options allowed
+
+-- ---- over two formula files
+
+formulas_take_limits : (first second : Text) → HasNoDash first → HasNoDash second
+    → TakesLimits (leaf over_two_formulas) implies_in (λ words. first ∷ second ∷ words) (Implies first second)
+unfolding clap_on_literals
+formulas_take_limits first second one_plain other_plain =
+    record {
+      place = 3;
+      held = holding (row (codes "first") first ∷ []) (codes "second") second;
+      rows = row (codes "first") first ∷ row (codes "second") second ∷ [];
+      operands = λ end words runs.
+          more (plain_goes (leaf over_two_formulas) nothing_held idle 1 first (going (holding [] (codes "first") first) idle 2) one_plain refl refl refl)
+          (more (plain_goes (leaf over_two_formulas) (holding [] (codes "first") first) idle 2 second _ other_plain refl refl refl) runs);
+      states_flag = record { no_fault = refl; passes = refl; goes = refl };
+      nodes_flag = record { no_fault = refl; passes = refl; goes = refl };
+      states_value = λ before text plain. plain_goes _ (waiting_for before (codes "states")) (option (codes "states")) 3 text _ plain refl refl refl;
+      nodes_value = λ before text plain. plain_goes _ (waiting_for before (codes "nodes")) (option (codes "nodes")) 3 text _ plain refl refl refl;
+      nodes_after_states = λ text fits. record { no_fault = rw fits refl; passes = rw fits refl; goes = refl };
+      states_after_nodes = λ text fits. record { no_fault = rw fits refl; passes = rw fits refl; goes = refl };
+      neither = record { no_fault = refl; passes = refl; asked = refl };
+      states = λ text number is. record { no_fault = rw is.fits refl; passes = rw is.fits refl; asked = rw (is.fits, is.value) refl };
+      nodes = λ text number is. record { no_fault = rw is.fits refl; passes = rw is.fits refl; asked = rw (is.fits, is.value) refl };
+      nodes_last = λ first last some others one other.
+          record { no_fault = rw other.fits refl; passes = rw other.fits refl; asked = rw (one.fits, one.value, other.fits, other.value) refl };
+      states_last = λ first last others some one other.
+          record { no_fault = rw other.fits refl; passes = rw other.fits refl; asked = rw (one.fits, one.value, other.fits, other.value) refl };
+    }
+
+each_comparison : (first second : Text) (options : Options) → IsFileName first → IsFileName second → AreAllowed options
+    → AskFor (codes "implies" ∷ first ∷ second ∷ option_words options) (Implies first second (limits_given options))
+each_comparison first second options is other allowed =
+    each_list implies_is_one (λ rows. refl) (formulas_take_limits first second (has_no_dash first is) (has_no_dash second other)) options allowed
 
 -- ---- over an automaton's text
 
@@ -166,4 +210,4 @@ certify_alone name is =
     ask_for certify_is_one (λ rows. refl) runs (record { no_fault = refl; passes = refl; asked = refl })
 
 pub listed_words_are_taken : ListedWordsAreTaken
-listed_words_are_taken = record { report = each_report; certify = certify_alone }
+listed_words_are_taken = record { report = each_report; certify = certify_alone; implies = each_comparison }

@@ -11,7 +11,7 @@ use Rattle.dcv_explore.specs.declared.explorer.Limits.{Limits}
 use Rattle.dcv_print.specs.declared.report.Kind.{Kind}
 use Rattle.dcv_command.specs.Program.{most_states, most_nodes}
 use Rattle.dcv_print.specs.declared.report.Kind.TheVariants.{Check, Automaton, Lustre, C, All}
-use Rattle.dcv_command.specs.Request.{AreInRange, IsInRange, Request, Report, Certify, limits_among, limits_of, number_in, number_of, report_in, request_in, request_of_subcommand}
+use Rattle.dcv_command.specs.Request.{AreInRange, IsInRange, Request, Report, Certify, Implies, implies_in, limits_among, limits_of, number_in, number_of, report_in, request_in, request_of_subcommand}
 
 number_is_in_range : (most : ℕ) (text : Option Text) (number : ℕ) → option_and_then (number_of most) text ≡ Some number → (1 ≤ number) × (number ≤ most)
 number_is_in_range most None number is = let wrong : None ≡ Some number = is in cc
@@ -55,6 +55,17 @@ certify_is_in_range : (automaton : Option Text) (request : Request) → option_m
 certify_is_in_range None request is = let wrong : None ≡ Some request = is in cc
 certify_is_in_range (Some name) request is = let same : Certify name ≡ request = cc in subst IsInRange same tt
 
+implies_is_in_range : (rows : List Row) (request : Request) → implies_in rows ≡ Some request → IsInRange request
+implies_is_in_range rows request is = by (first_of (codes "first") rows) (first_of (codes "second") rows) (limits_among rows) refl is
+  where
+    by : (first second : Option Text) (limits : Option Limits) → limits_among rows ≡ limits
+        → option_and_then (λ one. option_and_then (λ other. option_map (Implies one other) limits) second) first ≡ Some request → IsInRange request
+    by None second limits found is = let wrong : None ≡ Some request = is in cc
+    by (Some first) None limits found is = let wrong : None ≡ Some request = is in cc
+    by (Some first) (Some second) None found is = let wrong : None ≡ Some request = is in cc
+    by (Some first) (Some second) (Some limits) found is =
+        let same : Implies first second limits ≡ request = cc in subst IsInRange same (limits_are_in_range rows limits found)
+
 -- what the subcommand asks for that a chain of tests finds
 module _ (rows : List Row) (request : Request) where
   -- each of some requests that may be read is in range
@@ -78,7 +89,8 @@ module _ (rows : List Row) (request : Request) where
       (either_fine (bytes_eq name (codes "lustre")) _ _ (report_fine Lustre)
       (either_fine (bytes_eq name (codes "c")) _ _ (report_fine C)
       (either_fine (bytes_eq name (codes "all")) _ _ (report_fine All)
-      (either_fine (bytes_eq name (codes "certify")) _ _ (certify_is_in_range (first_of (codes "automaton") rows) request) none_fine)))))
+      (either_fine (bytes_eq name (codes "certify")) _ _ (certify_is_in_range (first_of (codes "automaton") rows) request)
+      (either_fine (bytes_eq name (codes "implies")) _ _ (implies_is_in_range rows request) none_fine))))))
 
 pub request_is_in_range : (subcommand : Option (Text × List Row)) (request : Request) → request_of_subcommand subcommand ≡ Some request → IsInRange request
 request_is_in_range None request is = let wrong : None ≡ Some request = is in cc

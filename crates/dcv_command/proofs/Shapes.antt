@@ -3,7 +3,7 @@ use Rattle.std.proofs.Common.{◌≡◌, refl, sym, ap, ◌∙◌, subst, Bool, 
 use Rattle.std.specs.Prelude.{IsSome, ◌==◌, if◌then◌else◌, option_and_then, option_map}
 use Rattle.std.specs.Str.{bytes_eq}
 use Rattle.std.proofs.lemmas.Bool.{eqb-true}
-use Rattle.clap.specs.Words.{Kinds, Row, Text}
+use Rattle.clap.specs.Words.{Kinds, Row, Text, first_of}
 use Rattle.clap.specs.Kinds.{or_else, range_kinds}
 use Rattle.clap.specs.Faults.{level_fault}
 use Rattle.clap.specs.Simple.{filled, help_rule, with_index}
@@ -14,8 +14,8 @@ use Rattle.clap.specs.declared.error.kind.ErrorKind.{ErrorKind}
 use Rattle.clap.specs.declared.parser.matches.ValueSource.{ValueSource}
 use Rattle.clap.specs.declared.parser.matches.ValueSource.TheVariants.{CommandLine}
 use Rattle.dcv_print.specs.declared.report.Kind.{Kind}
-use Rattle.dcv_command.specs.Program.{file_operand, limit_option, most_nodes, most_states, over_a_formula, over_an_automaton}
-use Rattle.dcv_command.specs.Request.{Certify, Report, certify_in, limits_among, report_in}
+use Rattle.dcv_command.specs.Program.{file_operand, limit_option, most_nodes, most_states, nodes_option, over_a_formula, over_an_automaton, over_two_formulas, states_option}
+use Rattle.dcv_command.specs.Request.{Certify, Implies, Report, certify_in, implies_in, limits_among, report_in}
 use Rattle.dcv_command.proofs.Commands.{leaf}
 use Rattle.dcv_command.proofs.Leaves.{IsReadableShape, all_found}
 use Rattle.dcv_command.proofs.Rows.{AreReadable, IsFound, IsReadable, first_is_there, limits_are_there, new_row, readable_with, readable_without}
@@ -75,10 +75,10 @@ limit_keeps place name most default readable (text ∷ []) rows all none =
     (readable text (it_passes (is_unsigned_in 1 most text) _ (last_is_empty _ _ none))) (readable_without name rows all)
 limit_keeps place name most default readable (text ∷ other ∷ more) rows all none = absurd (two_are_refused (length more) _ none)
 
-states_keep : (place : ℕ) → Keeps false AreReadable (with_index place (filled (limit_option (codes "states") most_states (codes "30000"))))
+states_keep : (place : ℕ) → Keeps false AreReadable (with_index place (filled states_option))
 states_keep place = limit_keeps place (codes "states") most_states (codes "30000") (states_are_readable CommandLine)
 
-nodes_keep : (place : ℕ) → Keeps false AreReadable (with_index place (filled (limit_option (codes "nodes") most_nodes (codes "1000000"))))
+nodes_keep : (place : ℕ) → Keeps false AreReadable (with_index place (filled nodes_option))
 nodes_keep place = limit_keeps place (codes "nodes") most_nodes (codes "1000000") (nodes_are_readable CommandLine)
 
 help_keeps : (place : ℕ) → Keeps false AreReadable (with_index place (filled help_rule))
@@ -116,3 +116,29 @@ pub certify_asks : (words : List Text) → level_fault (leaf over_an_automaton) 
 certify_asks words none =
     let found = all_found (leaf over_an_automaton) automaton_is_readable words none in
     subst IsSome (sym (ap (option_map Certify) (first_is_there (codes "automaton") (rows_after (leaf over_an_automaton).rules [] words) (found.0.required refl)))) refl
+
+-- ---- over two formula files
+
+formulas_are_readable : IsReadableShape (leaf over_two_formulas)
+formulas_are_readable =
+    record {
+      uses = (operand_keeps 1 (codes "first") refl refl, (operand_keeps 2 (codes "second") refl refl, (states_keep 3, (nodes_keep 3, (help_keeps 3, tt)))));
+      defaults = (tt, (tt, (states_are_readable _ (codes "30000") refl, (nodes_are_readable _ (codes "1000000") refl, (tt, tt)))));
+    }
+
+implies_is_some : (rows : List Row) → IsFound (codes "first") rows → IsFound (codes "second") rows → IsFound (codes "states") rows → IsFound (codes "nodes") rows
+    → IsSome (implies_in rows)
+implies_is_some rows first second states nodes =
+    subst IsSome
+    (sym (ap (option_and_then (λ one. option_and_then (λ other. option_map (Implies one other) (limits_among rows)) (first_of (codes "second") rows)))
+    (first_is_there (codes "first") rows first)
+    ∙ ap (option_and_then (λ other. option_map (Implies first.readable.text other) (limits_among rows))) (first_is_there (codes "second") rows second)
+    ∙ ap (option_map (Implies first.readable.text second.readable.text)) (limits_are_there rows states nodes)))
+    refl
+
+pub implies_asks : (words : List Text) → level_fault (leaf over_two_formulas) [] nothing_held words false [] ≡ []
+    → IsSome (implies_in (rows_after (leaf over_two_formulas).rules [] words))
+implies_asks words none =
+    let found = all_found (leaf over_two_formulas) formulas_are_readable words none in
+    implies_is_some (rows_after (leaf over_two_formulas).rules [] words) (found.0.required refl) (found.1.0.required refl) (found.1.1.0.default tt)
+    (found.1.1.1.0.default tt)

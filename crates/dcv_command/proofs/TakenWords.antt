@@ -19,11 +19,11 @@ use Rattle.clap.specs.Kinds.{Kinds, check_kinds}
 use Rattle.clap.specs.Faults.{check_fault, level_fault, entered_fault, settle_fault, defaults_fault, walk_fault, turn_fault, step_fault, word_fault, other_fault}
 use Rattle.clap.proofs.OnLiterals.{clap_on_literals}
 use Rattle.dcv_print.specs.declared.report.Kind.TheVariants.{Check, Automaton, Lustre, C, All}
-use Rattle.dcv_command.specs.Program.{over_a_formula, over_an_automaton, program}
+use Rattle.dcv_command.specs.Program.{over_a_formula, over_an_automaton, over_two_formulas, program}
 use Rattle.dcv_command.specs.Request.{IsTaken, Request, request_in, request_of, request_of_subcommand}
 use Rattle.dcv_command.specs.Laws.{TakenWordsAsk}
 use Rattle.dcv_command.proofs.Commands.{leaf}
-use Rattle.dcv_command.proofs.Shapes.{report_asks, certify_asks}
+use Rattle.dcv_command.proofs.Shapes.{report_asks, certify_asks, implies_asks}
 use Rattle.dcv_command.proofs.Steps.{first_is_empty, going_has_none, last_is_empty}
 
 -- ---- where a subcommand is required, one is entered
@@ -159,6 +159,10 @@ certify_does : (words : List Text) → Asks (leaf over_an_automaton) words
 unfolding clap_on_literals
 certify_does words = certify_asks words
 
+implies_does : (words : List Text) → Asks (leaf over_two_formulas) words
+unfolding clap_on_literals
+implies_does words = implies_asks words
+
 -- each of some subcommands that the name names asks for something
 abbrev EachAsks : Text → List Text → List Shape → Type 0
 EachAsks name rest [] = Unit {0}
@@ -191,7 +195,7 @@ stop_asks None before no_fault e = e
 stop_asks (Some p) before no_fault e =
     found_asks p.0 p.1 (built program).subs (
       (λ _. check_does p.1),
-      ((λ _. automaton_does p.1), ((λ _. lustre_does p.1), ((λ _. c_does p.1), ((λ _. all_does p.1), ((λ _. certify_does p.1), (no_help, tt)))))),
+      ((λ _. automaton_does p.1), ((λ _. lustre_does p.1), ((λ _. c_does p.1), ((λ _. all_does p.1), ((λ _. certify_does p.1), ((λ _. implies_does p.1), (no_help, tt))))))),
     )
     no_fault e
   where

@@ -21,10 +21,13 @@ pub data Request : Type 0 where
   Report : (kind : Kind) → (name : List ℕ) → (limits : Limits) → Request
   -- whether the words of the automaton's text in the file with this name show that it is minimal
   Certify : (name : List ℕ) → Request
+  -- whether the formula in the first file implies that in the second
+  Implies : (first second : List ℕ) → (limits : Limits) → Request
 
 abbrev pub files_of : Request → List (List ℕ)
 files_of (Report kind name limits) = name ∷ []
 files_of (Certify name) = name ∷ []
+files_of (Implies first second limits) = first ∷ second ∷ []
 
 pub record AreInRange (limits : Limits) : Type 0 where
   pub some_states : 1 ≤ limits.states
@@ -35,6 +38,7 @@ pub record AreInRange (limits : Limits) : Type 0 where
 abbrev pub IsInRange : Request → Type 0
 IsInRange (Report kind name limits) = AreInRange limits
 IsInRange (Certify name) = Unit {0}
+IsInRange (Implies first second limits) = AreInRange limits
 
 -- ---- the values of a subcommand's options
 
@@ -59,6 +63,11 @@ report_in kind rows = option_and_then (λ file. option_map (Report kind file) (l
 abbrev pub certify_in : List Row → Option Request
 certify_in rows = option_map Certify (first_of (codes "automaton") rows)
 
+abbrev pub implies_in : List Row → Option Request
+implies_in rows =
+    option_and_then (λ first. option_and_then (λ second. option_map (Implies first second) (limits_among rows)) (first_of (codes "second") rows))
+    (first_of (codes "first") rows)
+
 abbrev pub request_in : Text → List Row → Option Request
 request_in name rows =
     if bytes_eq name (codes "check") then report_in Check rows
@@ -66,7 +75,8 @@ request_in name rows =
     else (if bytes_eq name (codes "lustre") then report_in Lustre rows
     else (if bytes_eq name (codes "c") then report_in C rows
     else (if bytes_eq name (codes "all") then report_in All rows
-    else (if bytes_eq name (codes "certify") then certify_in rows else None)))))
+    else (if bytes_eq name (codes "certify") then certify_in rows
+    else (if bytes_eq name (codes "implies") then implies_in rows else None))))))
 
 -- of the subcommand that the words name, with its matches
 abbrev pub request_of_subcommand : Option (Text × List Row) → Option Request

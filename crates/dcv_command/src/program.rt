@@ -2,8 +2,8 @@
 ghost use Rattle.std.specs.Prelude.{◌≡◌, [], false, codes, IfOk};
 ghost use Rattle.clap.specs.Words.{rule_of, app_of, new_app, with_subcommand};
 ghost use Rattle.clap.specs.declared.builder.Command.TheViews.{out-Command as fields_of};
-ghost use Rattle.dcv_command.specs.Program.{file_operand as file_rule, limit_option, program as the_program, bare_app};
-ghost use Rattle.dcv_command.specs.Program.{over_a_formula as formula_shape, over_an_automaton as automaton_shape};
+ghost use Rattle.dcv_command.specs.Program.{file_operand as file_rule, limit_option, states_option, nodes_option, program as the_program, bare_app};
+ghost use Rattle.dcv_command.specs.Program.{over_a_formula as formula_shape, over_an_automaton as automaton_shape, over_two_formulas as formulas_shape};
 
 use clap::builder::ValueParser;
 use clap::{Arg, Command};
@@ -12,21 +12,22 @@ use std::alloc::{AllocError, Global};
 const ABOUT: &str =
     "Decides whether a requirement about stretches of time, a formula of Quantified Discrete-time Duration Calculus, always holds. \
 Shows a shortest behaviour that breaks it, or the minimal automaton of the behaviours that satisfy it, or an observer of these. \
-Tells whether an automaton's text shows by its own words that it is minimal.";
+Tells whether one requirement implies another, and whether an automaton's text shows by its own words that it is minimal.";
 
 const EXAMPLE_AND_STATUS: &str =
     "Example, with `var door_closed; infer [[door_closed]];` in the file door.dc:
   dcvalid check door.dc
   dcvalid automaton door.dc --states 1000 > door.auto
   dcvalid certify door.auto
+  dcvalid implies door.dc other.dc
 
 Status:
-  0  each behaviour satisfies the formula; the automaton is certified
-  1  some behaviour does not; the words of the automaton's text do not show that it is minimal
+  0  each behaviour satisfies the formula; the automaton is shown to be minimal; A implies B
+  1  some behaviour does not; the automaton is not shown to be minimal; A does not imply B
   2  the words are no command, or ask for help
-  3  the file holds no formula, for the fault that is named, at its offset in bytes
-  4  a step of the formula has more states or nodes than the limit
-  5  the file could not be opened or read
+  3  a file holds no formula, for the fault that is named, at its offset in bytes; A and B declare different variables
+  4  a step of a formula, or the product of A and B, has more states or nodes than the limit
+  5  a file could not be opened or read
   6  the report could not be written
   7  memory ran out
  10  the file holds no automaton's text, for the fault that is named";
@@ -72,7 +73,8 @@ pub(crate) fn program<'a>(alloc: Global) -> Result<Command<'a>, AllocError>
         "all",
         "Writes the verdict, the automaton and both observers, each behind a line that names it",
     )?;
-    with_certify(alloc, all)
+    let certify = with_certify(alloc, all)?;
+    with_implies(alloc, certify)
 }
 
 // The command without its subcommands, of which one is required.
@@ -107,6 +109,13 @@ fn with_certify<'a>(alloc: Global, command: Command<'a>) -> Result<Command<'a>, 
     command.subcommand(over_an_automaton(alloc)?)
 }
 
+// The command with the subcommand that compares two formulas.
+fn with_implies<'a>(alloc: Global, command: Command<'a>) -> Result<Command<'a>, AllocError>
+    ensures { IfOk result (λ more. app_of more ≡ with_subcommand (app_of command.entry) formulas_shape) }
+{
+    command.subcommand(over_two_formulas(alloc)?)
+}
+
 // A command with no words yet, which usage calls by its name.
 fn named<'a>(alloc: Global) -> Result<Command<'a>, AllocError>
     ensures app { IfOk result (λ command. app_of command ≡ new_app (codes "dcvalid")) }
@@ -127,20 +136,8 @@ fn over_a_formula<'a>(
     Command::new(alloc, name)
         .about(about)
         .arg(file_operand(alloc, "file", "FILE", "The formula file"))?
-        .arg(limit(
-            alloc,
-            "states",
-            MOST_STATES,
-            "30000",
-            "The most states that a step may have, from 1 to 32000",
-        ))?
-        .arg(limit(
-            alloc,
-            "nodes",
-            MOST_NODES,
-            "1000000",
-            "The most diagram nodes that a step may have, from 1 to 1000000",
-        ))
+        .arg(states_limit(alloc))?
+        .arg(nodes_limit(alloc))
 }
 
 // The subcommand over an automaton's text.
@@ -160,6 +157,31 @@ fn over_an_automaton<'a>(alloc: Global) -> Result<Command<'a>, AllocError>
         ))
 }
 
+// The subcommand over two formula files.
+fn over_two_formulas<'a>(alloc: Global) -> Result<Command<'a>, AllocError>
+    ensures app { IfOk result (λ command. app_of command ≡ record { top = formulas_shape; subs = [] }) }
+    ensures local { IfOk result (λ command. (fields_of command).has_globals ≡ false) }
+{
+    Command::new(alloc, "implies")
+        .about(
+            "Tells whether each behaviour that satisfies the formula of A satisfies that of B too, with a shortest one that does not",
+        )
+        .arg(file_operand(
+            alloc,
+            "first",
+            "A",
+            "The formula file that is to imply the other",
+        ))?
+        .arg(file_operand(
+            alloc,
+            "second",
+            "B",
+            "The formula file that is to be implied, with the same variables in the same order",
+        ))?
+        .arg(states_limit(alloc))?
+        .arg(nodes_limit(alloc))
+}
+
 // The name of a file.
 fn file_operand<'a>(alloc: Global, id: &'a str, value_name: &'a str, help: &'a str) -> Arg<'a>
     ensures rule { rule_of result ≡ file_rule id.entry.now }
@@ -169,6 +191,34 @@ fn file_operand<'a>(alloc: Global, id: &'a str, value_name: &'a str, help: &'a s
         .required(true)
         .value_name(value_name)
         .help(help)
+}
+
+// The limit on the states of a step.
+fn states_limit<'a>(alloc: Global) -> Arg<'a>
+    ensures rule { rule_of result ≡ states_option }
+    ensures local { result.global ≡ false }
+{
+    limit(
+        alloc,
+        "states",
+        MOST_STATES,
+        "30000",
+        "The most states that a step may have, from 1 to 32000",
+    )
+}
+
+// The limit on the diagram nodes of a step.
+fn nodes_limit<'a>(alloc: Global) -> Arg<'a>
+    ensures rule { rule_of result ≡ nodes_option }
+    ensures local { result.global ≡ false }
+{
+    limit(
+        alloc,
+        "nodes",
+        MOST_NODES,
+        "1000000",
+        "The most diagram nodes that a step may have, from 1 to 1000000",
+    )
 }
 
 // A limit on the steps of a formula.

@@ -3,7 +3,7 @@ ghost use Rattle.std.specs.Prelude.{◌≡◌, ◌≢◌, true, [], map, option_
 ghost use Rattle.clap.specs.Words.{fault_of, first_of, found_of, rows_of, subcommand_of, subcommand_rows_of, takes};
 ghost use Rattle.dcv_command.specs.Program.{program as the_program};
 ghost use Rattle.dcv_command.specs.Request.{IsInRange, IsTaken, request_of, request_of_subcommand};
-ghost use Rattle.dcv_command.specs.Request.{report_in as report_among, certify_in as certify_among, request_in as request_among};
+ghost use Rattle.dcv_command.specs.Request.{report_in as report_among, certify_in as certify_among, implies_in as implies_among, request_in as request_among};
 ghost use Rattle.dcv_command.specs.Request.{limits_among as limits_among_rows, number_in as number_in_rows};
 ghost use Rattle.dcv_command.specs.declared.words.WordsFault.TheVariants.{Memory};
 ghost use Rattle.dcv_command.specs.Seen.{asked_by, IsUsageOnlyWhere};
@@ -29,6 +29,12 @@ pub enum Request<'a> {
     /// Whether the words of the automaton's text in the file of this name show that it is minimal.
     Certify {
         automaton: &'a str,
+    },
+    /// Whether the formula in the first file implies that in the second, where no step exceeds the limits.
+    Implies {
+        first: &'a str,
+        second: &'a str,
+        limits: Limits,
     },
 }
 
@@ -98,6 +104,7 @@ fn request_named<'a>(name: &str, matches: &ArgMatches<'a>) -> Option<Request<'a>
         "c" => report_in(matches, Kind::C),
         "all" => report_in(matches, Kind::All),
         "certify" => certify_in(matches),
+        "implies" => implies_in(matches),
         _ => None,
     }
 }
@@ -117,6 +124,20 @@ fn certify_in<'a>(matches: &ArgMatches<'a>) -> Option<Request<'a>>
 {
     let automaton = operand_in(matches, "automaton")?;
     Some(Request::Certify { automaton })
+}
+
+// The comparison that is asked for.
+fn implies_in<'a>(matches: &ArgMatches<'a>) -> Option<Request<'a>>
+    ensures { option_map asked_by result ≡ implies_among (rows_of (found_of matches.now)) }
+{
+    let first = operand_in(matches, "first")?;
+    let second = operand_in(matches, "second")?;
+    let limits = limits_among(matches)?;
+    Some(Request::Implies {
+        first,
+        second,
+        limits,
+    })
 }
 
 // The value of an operand.

@@ -2,7 +2,7 @@
 use Rattle.std.proofs.Common.{ap, ◌∙◌, codes}
 use Rattle.std.proofs.lemmas.Result.{IfOk-weaker}
 use Rattle.clap.specs.Words.{App, with_subcommand}
-use Rattle.dcv_command.specs.Program.{over_a_formula, over_an_automaton}
+use Rattle.dcv_command.specs.Program.{over_a_formula, over_an_automaton, over_two_formulas}
 use Rattle.dcv_command.proofs.program.program.Goals as goal
 
 pub returns : goal.returns
@@ -12,4 +12,5 @@ returns c =
     let lustre = c.in_ok-lustre.ensures ∙ ap (λ (app : App). with_subcommand app (over_a_formula (codes "lustre"))) automaton in
     let observer = c.in_ok-c.ensures ∙ ap (λ (app : App). with_subcommand app (over_a_formula (codes "c"))) lustre in
     let all = c.in_ok-all.ensures ∙ ap (λ (app : App). with_subcommand app (over_a_formula (codes "all"))) observer in
-    IfOk-weaker c.with_certify.result _ _ (λ command is. is ∙ ap (λ (app : App). with_subcommand app over_an_automaton) all) c.with_certify.ensures
+    let certify = c.in_ok-certify.ensures ∙ ap (λ (app : App). with_subcommand app over_an_automaton) all in
+    IfOk-weaker c.with_implies.result _ _ (λ command is. is ∙ ap (λ (app : App). with_subcommand app over_two_formulas) certify) c.with_implies.ensures
