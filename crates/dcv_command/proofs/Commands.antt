@@ -11,7 +11,7 @@ use Rattle.clap.specs.Simple.{built_leaf, entered, names_of}
 use Rattle.clap.specs.Faults.{check_fault, defaults_fault, entered_fault, level_fault, settle_fault, turn_fault, walk_fault}
 use Rattle.clap.specs.Takes.{default_passes, entered_passes, is_valid, level_passes, settle_passes, turn_passes, walk_passes}
 use Rattle.clap.proofs.OnLiterals.{clap_on_literals}
-use Rattle.dcv_command.specs.Program.{over_a_formula, program}
+use Rattle.dcv_command.specs.Program.{over_a_formula, over_an_automaton, over_two_formulas, program}
 
 -- ---- behind the name
 
@@ -65,20 +65,20 @@ takes_by passes w =
     && (settle_passes top.rules top.args_override_self w.held
     && (list_all default_passes top.rules && is_valid top (finished top.rules w.held) (is_some (entered (built program) w.stopped)))))
 
--- a subcommand over a formula file, as it is built
-abbrev pub leaf : Text → Shape
-leaf name = built_leaf (record (over_a_formula name) { no_binary_name = true })
+-- a subcommand, as it is built
+abbrev pub leaf : Shape → Shape
+leaf shape = built_leaf (record shape { no_binary_name = true })
 
 -- what is computed of a name: the walk stops at it, with no fault, and enters the subcommand
-pub record IsSubcommand (name : Text) : Type 0 where
+pub record IsSubcommand (name : Text) (shape : Shape) : Type 0 where
   pub met : walked top.rules names (walk_from nothing_held) name ≡ stopped_at name []
   pub no_fault : turn_fault top names (walk_from nothing_held) name ≡ []
-  pub faults : (rest : List Text) → faults_by [] (stopped_at name rest) ≡ or_else (level_fault (leaf name) [] nothing_held rest false []) []
+  pub faults : (rest : List Text) → faults_by [] (stopped_at name rest) ≡ or_else (level_fault (leaf shape) [] nothing_held rest false []) []
   pub passes : turn_passes top names (walk_from nothing_held) name ≡ true
-  pub takes : (rest : List Text) → takes_by true (stopped_at name rest) ≡ level_passes (leaf name) [] nothing_held rest false && true
-  pub found : (rest : List Text) → entered (built program) (Some (name, rest)) ≡ Some (name, rows_after (leaf name).rules [] rest)
+  pub takes : (rest : List Text) → takes_by true (stopped_at name rest) ≡ level_passes (leaf shape) [] nothing_held rest false && true
+  pub found : (rest : List Text) → entered (built program) (Some (name, rest)) ≡ Some (name, rows_after (leaf shape).rules [] rest)
 
-module _ (name : Text) (is : IsSubcommand name) (rest : List Text) where
+module _ (name : Text) (shape : Shape) (is : IsSubcommand name shape) (rest : List Text) where
   is_met : walk top.rules names nothing_held (name ∷ rest) ≡ stopped_at name rest
   is_met = ap (λ w. fold (walked top.rules names) w rest) is.met ∙ stays_stopped top.rules names name [] rest
 
@@ -88,10 +88,10 @@ module _ (name : Text) (is : IsSubcommand name) (rest : List Text) where
       ap (λ kinds. or_else kinds (walk_fault top names (walked top.rules names (walk_from nothing_held) name) rest)) is.no_fault
       ∙ ap (λ w. walk_fault top names w rest) is.met ∙ no_more_faults top names name [] rest
 
-  pub faults_below : fault_of program (name ∷ rest) ≡ level_fault (leaf name) [] nothing_held rest false []
+  pub faults_below : fault_of program (name ∷ rest) ≡ level_fault (leaf shape) [] nothing_held rest false []
   faults_below =
       ap (λ kinds. faults_by kinds (walk top.rules names nothing_held (name ∷ rest))) none_above
-      ∙ ap (faults_by []) is_met ∙ is.faults rest ∙ nothing_else (level_fault (leaf name) [] nothing_held rest false [])
+      ∙ ap (faults_by []) is_met ∙ is.faults rest ∙ nothing_else (level_fault (leaf shape) [] nothing_held rest false [])
 
   all_pass_above : walk_passes top names (walk_from nothing_held) (name ∷ rest) ≡ true
   unfolding walk_passes
@@ -99,31 +99,39 @@ module _ (name : Text) (is : IsSubcommand name) (rest : List Text) where
       ap (λ passes. passes && walk_passes top names (walked top.rules names (walk_from nothing_held) name) rest) is.passes
       ∙ ap (λ w. walk_passes top names w rest) is.met ∙ all_pass top names name [] rest
 
-  pub takes_below : takes program (name ∷ rest) ≡ level_passes (leaf name) [] nothing_held rest false && true
+  pub takes_below : takes program (name ∷ rest) ≡ level_passes (leaf shape) [] nothing_held rest false && true
   unfolding clap_on_literals
   takes_below =
       ap (λ passes. takes_by passes (walk top.rules names nothing_held (name ∷ rest))) all_pass_above
       ∙ ap (takes_by true) is_met ∙ is.takes rest
 
-  pub found_below : subcommand_of program (name ∷ rest) ≡ Some (name, rows_after (leaf name).rules [] rest)
+  pub found_below : subcommand_of program (name ∷ rest) ≡ Some (name, rows_after (leaf shape).rules [] rest)
   found_below = ap (λ (w : Walk). entered (built program) w.stopped) is_met ∙ is.found rest
 
-pub check_is_one : IsSubcommand (codes "check")
+pub check_is_one : IsSubcommand (codes "check") (over_a_formula (codes "check"))
 unfolding clap_on_literals
 check_is_one = record { met = refl; no_fault = refl; faults = λ rest. refl; passes = refl; takes = λ rest. refl; found = λ rest. refl }
 
-pub lustre_is_one : IsSubcommand (codes "lustre")
+pub automaton_is_one : IsSubcommand (codes "automaton") (over_a_formula (codes "automaton"))
+unfolding clap_on_literals
+automaton_is_one = record { met = refl; no_fault = refl; faults = λ rest. refl; passes = refl; takes = λ rest. refl; found = λ rest. refl }
+
+pub lustre_is_one : IsSubcommand (codes "lustre") (over_a_formula (codes "lustre"))
 unfolding clap_on_literals
 lustre_is_one = record { met = refl; no_fault = refl; faults = λ rest. refl; passes = refl; takes = λ rest. refl; found = λ rest. refl }
 
-pub c_is_one : IsSubcommand (codes "c")
+pub c_is_one : IsSubcommand (codes "c") (over_a_formula (codes "c"))
 unfolding clap_on_literals
 c_is_one = record { met = refl; no_fault = refl; faults = λ rest. refl; passes = refl; takes = λ rest. refl; found = λ rest. refl }
 
-pub all_is_one : IsSubcommand (codes "all")
+pub all_is_one : IsSubcommand (codes "all") (over_a_formula (codes "all"))
 unfolding clap_on_literals
 all_is_one = record { met = refl; no_fault = refl; faults = λ rest. refl; passes = refl; takes = λ rest. refl; found = λ rest. refl }
 
-pub automaton_is_one : IsSubcommand (codes "automaton")
+pub certify_is_one : IsSubcommand (codes "certify") over_an_automaton
 unfolding clap_on_literals
-automaton_is_one = record { met = refl; no_fault = refl; faults = λ rest. refl; passes = refl; takes = λ rest. refl; found = λ rest. refl }
+certify_is_one = record { met = refl; no_fault = refl; faults = λ rest. refl; passes = refl; takes = λ rest. refl; found = λ rest. refl }
+
+pub implies_is_one : IsSubcommand (codes "implies") over_two_formulas
+unfolding clap_on_literals
+implies_is_one = record { met = refl; no_fault = refl; faults = λ rest. refl; passes = refl; takes = λ rest. refl; found = λ rest. refl }

@@ -4,7 +4,7 @@ use Rattle.clap.specs.Words.{is_simple, fault_of}
 use Rattle.clap.proofs.OnLiterals.{clap_on_literals}
 use Rattle.dcv_command.specs.Program.{program}
 use Rattle.dcv_print.specs.declared.report.Kind.TheVariants.{Check, Automaton}
-use Rattle.dcv_command.specs.Request.{Report, request_of}
+use Rattle.dcv_command.specs.Request.{Report, Certify, Implies, request_of}
 
 program_is_simple : is_simple program ≡ true
 program_is_simple = refl
@@ -26,3 +26,25 @@ limited = codes "automaton" ∷ codes "door.dc" ∷ codes "--states" ∷ codes "
 limits : request_of limited ≡ Some (Report Automaton (codes "door.dc") (record { states = 10; nodes = 1000000 }))
 unfolding clap_on_literals
 limits = refl
+
+abbrev certified : List (List ℕ)
+certified = codes "certify" ∷ codes "door.auto" ∷ []
+
+certify_taken : fault_of program certified ≡ []
+unfolding clap_on_literals
+certify_taken = refl
+
+certify_asked : request_of certified ≡ Some (Certify (codes "door.auto"))
+unfolding clap_on_literals
+certify_asked = refl
+
+abbrev compared : List (List ℕ)
+compared = codes "implies" ∷ codes "door.dc" ∷ codes "other.dc" ∷ codes "--nodes" ∷ codes "7" ∷ []
+
+implies_taken : fault_of program compared ≡ []
+unfolding clap_on_literals
+implies_taken = refl
+
+implies_asked : request_of compared ≡ Some (Implies (codes "door.dc") (codes "other.dc") (record { states = 30000; nodes = 7 }))
+unfolding clap_on_literals
+implies_asked = refl

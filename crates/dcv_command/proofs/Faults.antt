@@ -1,6 +1,7 @@
 -- What it says that `clap` refuses the words.
 use Rattle.std.proofs.Common.{◌≡◌, ◌≢◌, inl, inr, true, List, [], ◌∷◌, refl, subst, sym, Result, Ok, Err}
-use Rattle.clap.specs.Words.{kind_of, App, FailsBy, HasKind, Kinds, Text, fault_of, is_simple_and_free, takes}
+use Rattle.clap.specs.Words.{kind_of, App, FailsBy, HasKind, HasMatchesOf, Kinds, Text, fault_of, is_simple_and_free, subcommand_of, subcommand_rows_of, takes}
+use Rattle.clap.specs.declared.parser.matches.ArgMatches.{ArgMatches}
 use Rattle.clap.specs.declared.error.Error.{Error}
 use Rattle.clap.specs.declared.error.kind.ErrorKind.TheVariants.{OutOfMemory}
 use Rattle.dcv_command.specs.Program.{program}
@@ -48,3 +49,6 @@ module _ (app : App) (same : app ≡ program) (words : List Text) where
       let there : is_simple_and_free program ≡ true → FailsBy (fault_of program words) result
       = subst (λ one. is_simple_and_free one ≡ true → FailsBy (fault_of one words) result) same kinds in
       has_none result found (fault_of program words) (there refl) is
+
+  pub found : (matches : ArgMatches) → HasMatchesOf app words matches → subcommand_rows_of matches ≡ subcommand_of program words
+  found matches has = let there : HasMatchesOf program words matches = subst (λ one. HasMatchesOf one words matches) same has in (there refl).1

@@ -1,6 +1,7 @@
 pub mod Examples
 pub mod Faults
 pub mod Commands
+pub mod Runs
 pub mod Listed
 pub mod Plain
 pub mod Numbers
@@ -8,5 +9,6 @@ pub mod Requests
 pub mod Steps
 pub mod Rows
 pub mod Leaves
+pub mod Shapes
 pub mod TakenWords
 pub mod Ranges

@@ -1,145 +1,32 @@
--- The words behind a subcommand over a formula file: a file's name, and options with their numbers.
-use Rattle.std.proofs.Common.{◌≡◌, refl, sym, ap, ◌∙◌, subst, true, false, List, ℕ, ◌<◌, ◌^◌, [], ◌∷◌, None, Some, codes, arith, ne_eqb, option_and_then}
-use Rattle.std.specs.Prelude.{fold, ◌==◌, ◌&&◌, Bool}
-use Rattle.std.specs.List.{list_all}
+-- The words behind a subcommand's name: files' names, and options with their numbers.
+use Rattle.std.proofs.Common.{◌≡◌, refl, sym, ap, ◌∙◌, subst, true, false, List, ℕ, ◌<◌, ◌^◌, [], ◌∷◌, ◌++◌, Option, codes, arith, ne_eqb}
+use Rattle.std.specs.Prelude.{◌==◌}
 use Rattle.std.specs.Fmt.{decimal}
 use Rattle.std.specs.Str.Parse.{IsNumeral, digits_value, without_leading_plus}
 use Rattle.std.proofs.lemmas.Fmt.{decimal_is_IsNumeral}
 use Rattle.std.proofs.lemmas.Str.Parse.{digit_from_value}
-use Rattle.clap.specs.Words.{Kinds, Row, Rule, Text, first_of}
+use Rattle.clap.specs.Words.{Row, Shape, Text}
 use Rattle.clap.specs.declared.builder.value_parser.ValueParser.TheVariants.{Unsigned}
 use Rattle.clap.proofs.ValueTestLemmas.{Accepts-accepts}
-use Rattle.dcv_explore.specs.declared.explorer.Limits.{Limits}
-use Rattle.clap.specs.Kinds.{or_else}
 use Rattle.clap.specs.ValueTests.{is_unsigned_in}
-use Rattle.clap.specs.Walk.{Held, Walk, finished, idle, option, nothing_held, plain_word, rows_after, settled, walk, walk_from, walked}
-use Rattle.clap.specs.Faults.{check_fault, defaults_fault, level_fault, settle_fault, step_fault, turn_fault, walk_fault}
-use Rattle.clap.specs.Takes.{default_passes, is_valid, level_passes, settle_passes, step_passes, turn_passes, walk_passes}
-use Rattle.clap.specs.declared.builder.value_parser.Reading.TheVariants.{AsWritten}
-use Rattle.clap.specs.declared.parser.matches.ValueSource.TheVariants.{CommandLine}
+use Rattle.clap.specs.Walk.{Held, Walk, idle, option, nothing_held, walk_from}
 use Rattle.clap.proofs.OnLiterals.{clap_on_literals}
-use Rattle.dcv_command.specs.Program.{most_states, most_nodes}
-use Rattle.dcv_command.specs.Laws.{ListedWordsAreTaken}
-use Rattle.dcv_command.specs.Listed.{AreAllowed, AskFor, IsAllowed, IsFileName, Options, Neither, States, Nodes, StatesThenNodes, NodesThenStates, limits_given, option_words}
+use Rattle.dcv_explore.specs.declared.explorer.Limits.{Limits}
+use Rattle.dcv_print.specs.declared.report.Kind.{Kind}
 use Rattle.dcv_print.specs.declared.report.Kind.TheVariants.{Check, Automaton, Lustre, C, All}
-use Rattle.dcv_command.specs.Request.{Report, Request, command_of, limits_among, limits_of, request_in, request_of, request_of_subcommand}
-use Rattle.dcv_command.proofs.Commands.{IsSubcommand, check_is_one, automaton_is_one, lustre_is_one, c_is_one, all_is_one, faults_below, found_below, takes_below, leaf}
-use Rattle.dcv_command.proofs.Plain.{HasNoDash, after_plain, going, turn_plain, turn_plain_passes, walked_plain}
+use Rattle.dcv_command.specs.Program.{most_states, most_nodes, over_a_formula, over_an_automaton, over_two_formulas}
+use Rattle.dcv_command.specs.Laws.{ListedWordsAreTaken}
+use Rattle.dcv_command.specs.Listed.{AreAllowed, AskFor, IsAllowed, IsFileName, Options, Neither, States, Nodes, StatesThenNodes, NodesThenStates}
+use Rattle.dcv_command.specs.Listed.{limits_given, option_words, report_name}
+use Rattle.dcv_command.specs.Request.{Certify, Implies, Report, Request, implies_in, limits_of, report_in, request_in}
+use Rattle.dcv_command.proofs.Commands.{IsSubcommand, leaf}
+use Rattle.dcv_command.proofs.Commands.{check_is_one, automaton_is_one, lustre_is_one, c_is_one, all_is_one, certify_is_one, implies_is_one}
+use Rattle.dcv_command.proofs.Plain.{HasNoDash, going}
+use Rattle.dcv_command.proofs.Runs.{EndsWell, Goes, Runs, at_end, more, ask_for, holding, plain_goes, row, waiting_for}
 
-abbrev rules : List Rule
-rules = (leaf []).rules
-
--- ---- what is held on the way
-
-abbrev row : Text → Text → Row
-row id text = record { id = id; values = text ∷ []; count = None; source = Some CommandLine; reading = AsWritten }
-
--- these rows, and an argument with its value
-abbrev holding : List Row → Text → Text → Held
-holding rows id text = record { rows = rows; pending = Some (id, text ∷ []); skip = 0 }
-
-abbrev waiting_for : List Row → Text → Held
-waiting_for rows id = record { rows = rows; pending = Some (id, []); skip = 0 }
-
-abbrev with_file : Text → List Row
-with_file file = row (codes "file") file ∷ []
-
--- ---- runs of the walk
-
-record Goes (name : Text) (w : Walk) (word : Text) (next : Walk) : Type 0 where
-  no_fault : turn_fault (leaf name) [] w word ≡ []
-  passes : turn_passes (leaf name) [] w word ≡ true
-  goes : walked rules [] w word ≡ next
-
--- word by word from a walk to the end
-data Runs (name : Text) (end : Walk) : Walk → List Text → Type 0 where
-  at_end : Runs name end end []
-  more : {w next : Walk} {word : Text} {words : List Text} → Goes name w word next → Runs name end next words → Runs name end w (word ∷ words)
-
-run_ends : (name : Text) (end w : Walk) (words : List Text) → Runs name end w words → fold (walked rules []) w words ≡ end
-run_ends name end w [] at_end = refl
-run_ends name end w (word ∷ words) (more one rest) = ap (λ there. fold (walked rules []) there words) one.goes ∙ run_ends name end _ words rest
-
-no_fault_on : (name : Text) (end w : Walk) (words : List Text) → Runs name end w words → walk_fault (leaf name) [] w words ≡ []
-unfolding walk_fault
-no_fault_on name end w [] at_end = refl
-no_fault_on name end w (word ∷ words) (more one rest) =
-    ap (λ kinds. or_else kinds (walk_fault (leaf name) [] (walked rules [] w word) words)) one.no_fault
-    ∙ ap (λ there. walk_fault (leaf name) [] there words) one.goes ∙ no_fault_on name end _ words rest
-
-all_pass_on : (name : Text) (end w : Walk) (words : List Text) → Runs name end w words → walk_passes (leaf name) [] w words ≡ true
-unfolding walk_passes
-all_pass_on name end w [] at_end = refl
-all_pass_on name end w (word ∷ words) (more one rest) =
-    ap (λ passes. passes && walk_passes (leaf name) [] (walked rules [] w word) words) one.passes
-    ∙ ap (λ there. walk_passes (leaf name) [] there words) one.goes ∙ all_pass_on name end _ words rest
-
--- the faults behind the walk
-abbrev faults_at_end : Text → Held → Kinds
-faults_at_end name held =
-    or_else (settle_fault rules (leaf name).args_override_self held)
-    (or_else (defaults_fault (settled rules held).rows rules) (check_fault (leaf name) (finished rules held) false))
-
--- what passes behind the walk
-abbrev passes_at_end : Text → Held → Bool
-passes_at_end name held =
-    settle_passes rules (leaf name).args_override_self held && (list_all default_passes rules && is_valid (leaf name) (finished rules held) false)
-
--- ---- the steps of the walk
-
-file_goes : {name file : Text} → HasNoDash file → Goes name (walk_from nothing_held) file (going (holding [] (codes "file") file) idle 2)
-unfolding clap_on_literals
-file_goes {name} {file} none =
-    record {
-      no_fault = turn_plain (leaf name) nothing_held idle 1 file none refl;
-      passes = turn_plain_passes (leaf name) nothing_held idle 1 file none refl;
-      goes = walked_plain rules nothing_held idle 1 file none;
-    }
-
--- the value behind an option with this name, if the walk takes it so
-value_goes : {name text : Text} {rows : List Row} (id : Text) → HasNoDash text
-    → (let met = plain_word rules (option id) text (waiting_for rows id) in step_fault (leaf name) 2 met.0 met.1 ≡ [])
-    → (let met = plain_word rules (option id) text (waiting_for rows id) in step_passes (leaf name) 2 met.0 met.1 ≡ true)
-    → after_plain rules (waiting_for rows id) (option id) 2 text ≡ going (holding rows id text) idle 2
-    → Goes name (going (waiting_for rows id) (option id) 2) text (going (holding rows id text) idle 2)
-value_goes {name} {text} {rows} id none no_fault passes taken =
-    record {
-      no_fault = turn_plain (leaf name) (waiting_for rows id) (option id) 2 text none no_fault;
-      passes = turn_plain_passes (leaf name) (waiting_for rows id) (option id) 2 text none passes;
-      goes = walked_plain rules (waiting_for rows id) (option id) 2 text none ∙ taken;
-    }
-
-states_value : {name text : Text} {rows : List Row} → HasNoDash text
-    → Goes name (going (waiting_for rows (codes "states")) (option (codes "states")) 2) text (going (holding rows (codes "states") text) idle 2)
-unfolding clap_on_literals
-states_value none = value_goes (codes "states") none refl refl refl
-
-nodes_value : {name text : Text} {rows : List Row} → HasNoDash text
-    → Goes name (going (waiting_for rows (codes "nodes")) (option (codes "nodes")) 2) text (going (holding rows (codes "nodes") text) idle 2)
-unfolding clap_on_literals
-nodes_value none = value_goes (codes "nodes") none refl refl refl
-
-states_flag : {name file : Text} → Goes name (going (holding [] (codes "file") file) idle 2) (codes "--states")
-    (going (waiting_for (with_file file) (codes "states")) (option (codes "states")) 2)
-unfolding clap_on_literals
-states_flag = record { no_fault = refl; passes = refl; goes = refl }
-
-nodes_flag : {name file : Text} → Goes name (going (holding [] (codes "file") file) idle 2) (codes "--nodes")
-    (going (waiting_for (with_file file) (codes "nodes")) (option (codes "nodes")) 2)
-unfolding clap_on_literals
-nodes_flag = record { no_fault = refl; passes = refl; goes = refl }
-
-nodes_after_states : {name file text : Text} → is_unsigned_in 1 most_states text ≡ true
-    → Goes name (going (holding (with_file file) (codes "states") text) idle 2) (codes "--nodes")
-    (going (waiting_for (row (codes "file") file ∷ row (codes "states") text ∷ []) (codes "nodes")) (option (codes "nodes")) 2)
-unfolding clap_on_literals
-nodes_after_states fits = record { no_fault = rw fits refl; passes = rw fits refl; goes = refl }
-
-states_after_nodes : {name file text : Text} → is_unsigned_in 1 most_nodes text ≡ true
-    → Goes name (going (holding (with_file file) (codes "nodes") text) idle 2) (codes "--states")
-    (going (waiting_for (row (codes "file") file ∷ row (codes "nodes") text ∷ []) (codes "states")) (option (codes "states")) 2)
-unfolding clap_on_literals
-states_after_nodes fits = record { no_fault = rw fits refl; passes = rw fits refl; goes = refl }
+has_no_dash : (name : Text) → IsFileName name → HasNoDash name
+has_no_dash [] is = absurd is
+has_no_dash (first ∷ rest) is = ne_eqb first 45 is
 
 -- ---- numbers
 
@@ -171,97 +58,156 @@ decimal_is_one most number few (low, high) =
       value = value;
     }
 
--- ---- what is asked for
+-- ---- with both limits
 
--- a run to an argument with its value asks for what the rows behind it say
-module _ {name file : Text} {words : List Text} {rows : List Row} {id text : Text} {request : Request} (limits : Limits) (is : IsSubcommand name)
-    (runs : Runs name (going (holding rows id text) idle 2) (walk_from nothing_held) words) (no_fault : faults_at_end name (holding rows id text) ≡ [])
-    (passes : passes_at_end name (holding rows id text) ≡ true)
-    (named : first_of (codes "file") (finished rules (holding rows id text)) ≡ Some file)
-    (limited : limits_among (finished rules (holding rows id text)) ≡ Some limits) (command : command_of name file limits ≡ Some request) where
-  abbrev last : Walk
-  last = going (holding rows id text) idle 2
+-- what is computed of a subcommand with both limits: the walk over its operands, then over its options, each with a text that is its number
+record TakesLimits (shape : Shape) (asks : List Row → Option Request) (behind : List Text → List Text) (request : Limits → Request) : Type 0 where
+  place : ℕ
+  held : Held
+  rows : List Row
+  operands : (end : Walk) (words : List Text) → Runs shape end (going held idle place) words → Runs shape end (walk_from nothing_held) (behind words)
+  states_flag : Goes shape (going held idle place) (codes "--states") (going (waiting_for rows (codes "states")) (option (codes "states")) place)
+  nodes_flag : Goes shape (going held idle place) (codes "--nodes") (going (waiting_for rows (codes "nodes")) (option (codes "nodes")) place)
+  states_value : (before : List Row) (text : Text) → HasNoDash text
+      → Goes shape (going (waiting_for before (codes "states")) (option (codes "states")) place) text (going (holding before (codes "states") text) idle place)
+  nodes_value : (before : List Row) (text : Text) → HasNoDash text
+      → Goes shape (going (waiting_for before (codes "nodes")) (option (codes "nodes")) place) text (going (holding before (codes "nodes") text) idle place)
+  nodes_after_states : (text : Text) → is_unsigned_in 1 most_states text ≡ true
+      → Goes shape (going (holding rows (codes "states") text) idle place) (codes "--nodes")
+      (going (waiting_for (rows ++ row (codes "states") text ∷ []) (codes "nodes")) (option (codes "nodes")) place)
+  states_after_nodes : (text : Text) → is_unsigned_in 1 most_nodes text ≡ true
+      → Goes shape (going (holding rows (codes "nodes") text) idle place) (codes "--states")
+      (going (waiting_for (rows ++ row (codes "nodes") text ∷ []) (codes "states")) (option (codes "states")) place)
+  neither : EndsWell shape asks held (request (limits_of 30000 1000000))
+  states : (text : Text) (number : ℕ) → IsNumberText most_states number text
+      → EndsWell shape asks (holding rows (codes "states") text) (request (limits_of number 1000000))
+  nodes : (text : Text) (number : ℕ) → IsNumberText most_nodes number text
+      → EndsWell shape asks (holding rows (codes "nodes") text) (request (limits_of 30000 number))
+  nodes_last : (first last : Text) (some others : ℕ) → IsNumberText most_states some first → IsNumberText most_nodes others last
+      → EndsWell shape asks (holding (rows ++ row (codes "states") first ∷ []) (codes "nodes") last) (request (limits_of some others))
+  states_last : (first last : Text) (others some : ℕ) → IsNumberText most_nodes others first → IsNumberText most_states some last
+      → EndsWell shape asks (holding (rows ++ row (codes "nodes") first ∷ []) (codes "states") last) (request (limits_of some others))
 
-  ended : walk rules [] nothing_held words ≡ last
-  ended = run_ends name last (walk_from nothing_held) words runs
+-- then each list of options is taken
+module _ {name : Text} {shape : Shape} {asks : List Row → Option Request} {behind : List Text → List Text} {request : Limits → Request}
+    (is : IsSubcommand name shape) (named : (rows : List Row) → request_in name rows ≡ asks rows) (takes : TakesLimits (leaf shape) asks behind request) where
+  abbrev Asks : List Text → Limits → Type 0
+  Asks words limits = AskFor (name ∷ behind words) (request limits)
 
-  run_has_no_fault : level_fault (leaf name) [] nothing_held words false [] ≡ []
-  run_has_no_fault =
-      ap (λ kinds. or_else kinds (faults_at_end name (walk rules [] nothing_held words).held)) (no_fault_on name last (walk_from nothing_held) words runs)
-      ∙ ap (λ (w : Walk). faults_at_end name w.held) ended ∙ no_fault
+  states_alone : (text : Text) (number : ℕ) → IsNumberText most_states number text → Asks (codes "--states" ∷ text ∷ []) (limits_of number 1000000)
+  states_alone text number is_one =
+      ask_for is named (takes.operands _ _ (more takes.states_flag (more (takes.states_value takes.rows text is_one.no_dash) at_end)))
+      (takes.states text number is_one)
 
-  run_passes : level_passes (leaf name) [] nothing_held words false && true ≡ true
-  run_passes =
-      ap (λ all. all && passes_at_end name (walk rules [] nothing_held words).held && true) (all_pass_on name last (walk_from nothing_held) words runs)
-      ∙ ap (λ (w : Walk). passes_at_end name w.held && true) ended ∙ ap (λ all. all && true) passes
+  nodes_alone : (text : Text) (number : ℕ) → IsNumberText most_nodes number text → Asks (codes "--nodes" ∷ text ∷ []) (limits_of 30000 number)
+  nodes_alone text number is_one =
+      ask_for is named (takes.operands _ _ (more takes.nodes_flag (more (takes.nodes_value takes.rows text is_one.no_dash) at_end)))
+      (takes.nodes text number is_one)
 
-  run_has_rows : rows_after rules [] words ≡ finished rules (holding rows id text)
-  run_has_rows = ap (λ (w : Walk). finished rules w.held) ended
+  states_first : (first last : Text) (some others : ℕ) → IsNumberText most_states some first → IsNumberText most_nodes others last
+      → Asks (codes "--states" ∷ first ∷ codes "--nodes" ∷ last ∷ []) (limits_of some others)
+  states_first first last some others one other =
+      let last_runs = more (takes.nodes_value (takes.rows ++ row (codes "states") first ∷ []) last other.no_dash) at_end in
+      let runs = more (takes.states_value takes.rows first one.no_dash) (more (takes.nodes_after_states first one.fits) last_runs) in
+      ask_for is named (takes.operands _ _ (more takes.states_flag runs)) (takes.nodes_last first last some others one other)
 
-  asked : request_of (name ∷ words) ≡ Some request
-  asked =
-      ap request_of_subcommand (found_below name is words) ∙ ap (request_in name) run_has_rows
-      ∙ ap (λ found. option_and_then (λ one. option_and_then (command_of name one) (limits_among (finished rules (holding rows id text)))) found) named
-      ∙ ap (λ found. option_and_then (command_of name file) found) limited ∙ command
+  nodes_first : (first last : Text) (others some : ℕ) → IsNumberText most_nodes others first → IsNumberText most_states some last
+      → Asks (codes "--nodes" ∷ first ∷ codes "--states" ∷ last ∷ []) (limits_of some others)
+  nodes_first first last others some one other =
+      let last_runs = more (takes.states_value (takes.rows ++ row (codes "nodes") first ∷ []) last other.no_dash) at_end in
+      let runs = more (takes.nodes_value takes.rows first one.no_dash) (more (takes.states_after_nodes first one.fits) last_runs) in
+      ask_for is named (takes.operands _ _ (more takes.nodes_flag runs)) (takes.states_last first last others some one other)
 
-  ask_for : AskFor (name ∷ words) request
-  ask_for = record { taken = faults_below name is words ∙ run_has_no_fault; passes = takes_below name is words ∙ run_passes; asked = asked }
-
--- ---- each list
-
--- what each list asks for, of a subcommand that gives this request of a name and limits
-module _ (name file : Text) (asks : Limits → Request) (is : IsSubcommand name) (command : (limits : Limits) → command_of name file limits ≡ Some (asks limits))
-    (plain : HasNoDash file) where
-  neither : AskFor (name ∷ file ∷ []) (asks (limits_of 30000 1000000))
-  unfolding clap_on_literals
-  neither = ask_for (limits_of 30000 1000000) is (more (file_goes plain) at_end) refl refl refl refl (command (limits_of 30000 1000000))
-
-  states_alone : (text : Text) (states : ℕ) → IsNumberText most_states states text → AskFor (name ∷ file ∷ codes "--states" ∷ text ∷ []) (asks (limits_of states 1000000))
-  unfolding clap_on_literals
-  states_alone text states number =
-      let runs = more (file_goes plain) (more states_flag (more (states_value number.no_dash) at_end)) in
-      ask_for (limits_of states 1000000) is runs (rw number.fits refl) (rw number.fits refl) refl (rw (number.fits, number.value) refl) (command (limits_of states 1000000))
-
-  nodes_alone : (text : Text) (nodes : ℕ) → IsNumberText most_nodes nodes text → AskFor (name ∷ file ∷ codes "--nodes" ∷ text ∷ []) (asks (limits_of 30000 nodes))
-  unfolding clap_on_literals
-  nodes_alone text nodes number =
-      let runs = more (file_goes plain) (more nodes_flag (more (nodes_value number.no_dash) at_end)) in
-      ask_for (limits_of 30000 nodes) is runs (rw number.fits refl) (rw number.fits refl) refl (rw (number.fits, number.value) refl) (command (limits_of 30000 nodes))
-
-  states_first : (first second : Text) (states nodes : ℕ) → IsNumberText most_states states first → IsNumberText most_nodes nodes second
-      → AskFor (name ∷ file ∷ codes "--states" ∷ first ∷ codes "--nodes" ∷ second ∷ []) (asks (limits_of states nodes))
-  unfolding clap_on_literals
-  states_first first second states nodes one other =
-      let last = more (nodes_after_states one.fits) (more (nodes_value other.no_dash) at_end) in
-      let runs = more (file_goes plain) (more states_flag (more (states_value one.no_dash) last)) in
-      ask_for (limits_of states nodes) is runs (rw other.fits refl) (rw other.fits refl) refl (rw (one.fits, one.value, other.fits, other.value) refl) (command (limits_of states nodes))
-
-  nodes_first : (first second : Text) (nodes states : ℕ) → IsNumberText most_nodes nodes first → IsNumberText most_states states second
-      → AskFor (name ∷ file ∷ codes "--nodes" ∷ first ∷ codes "--states" ∷ second ∷ []) (asks (limits_of states nodes))
-  unfolding clap_on_literals
-  nodes_first first second nodes states one other =
-      let last = more (states_after_nodes one.fits) (more (states_value other.no_dash) at_end) in
-      let runs = more (file_goes plain) (more nodes_flag (more (nodes_value one.no_dash) last)) in
-      ask_for (limits_of states nodes) is runs (rw other.fits refl) (rw other.fits refl) refl (rw (one.fits, one.value, other.fits, other.value) refl) (command (limits_of states nodes))
-
-  each_list : (options : Options) → AreAllowed options → AskFor (name ∷ file ∷ option_words options) (asks (limits_given options))
-  each_list Neither allowed = neither
+  each_list : (options : Options) → AreAllowed options → Asks (option_words options) (limits_given options)
+  each_list Neither allowed = ask_for is named (takes.operands _ _ at_end) takes.neither
   each_list (States states) allowed = states_alone (decimal states) states (decimal_is_one most_states states (omega arith) allowed)
   each_list (Nodes nodes) allowed = nodes_alone (decimal nodes) nodes (decimal_is_one most_nodes nodes (omega arith) allowed)
   each_list (StatesThenNodes states nodes) (some, others) =
-      states_first (decimal states) (decimal nodes) states nodes (decimal_is_one most_states states (omega arith) some) (decimal_is_one most_nodes nodes (omega arith) others)
+      states_first (decimal states) (decimal nodes) states nodes (decimal_is_one most_states states (omega arith) some)
+      (decimal_is_one most_nodes nodes (omega arith) others)
   each_list (NodesThenStates nodes states) (some, others) =
-      nodes_first (decimal nodes) (decimal states) nodes states (decimal_is_one most_nodes nodes (omega arith) some) (decimal_is_one most_states states (omega arith) others)
+      nodes_first (decimal nodes) (decimal states) nodes states (decimal_is_one most_nodes nodes (omega arith) some)
+      (decimal_is_one most_states states (omega arith) others)
 
-has_no_dash : (name : Text) → IsFileName name → HasNoDash name
-has_no_dash [] is = absurd is
-has_no_dash (first ∷ rest) is = ne_eqb first 45 is
+-- ---- over a formula file
+
+formula_takes_limits : (name file : Text) (kind : Kind) → HasNoDash file
+    → TakesLimits (leaf (over_a_formula name)) (report_in kind) (λ words. file ∷ words) (Report kind file)
+unfolding clap_on_literals
+formula_takes_limits name file kind none =
+    record {
+      place = 2;
+      held = holding [] (codes "file") file;
+      rows = row (codes "file") file ∷ [];
+      operands = λ end words runs. more (plain_goes (leaf (over_a_formula name)) nothing_held idle 1 file _ none refl refl refl) runs;
+      states_flag = record { no_fault = refl; passes = refl; goes = refl };
+      nodes_flag = record { no_fault = refl; passes = refl; goes = refl };
+      states_value = λ before text plain. plain_goes _ (waiting_for before (codes "states")) (option (codes "states")) 2 text _ plain refl refl refl;
+      nodes_value = λ before text plain. plain_goes _ (waiting_for before (codes "nodes")) (option (codes "nodes")) 2 text _ plain refl refl refl;
+      nodes_after_states = λ text fits. record { no_fault = rw fits refl; passes = rw fits refl; goes = refl };
+      states_after_nodes = λ text fits. record { no_fault = rw fits refl; passes = rw fits refl; goes = refl };
+      neither = record { no_fault = refl; passes = refl; asked = refl };
+      states = λ text number is. record { no_fault = rw is.fits refl; passes = rw is.fits refl; asked = rw (is.fits, is.value) refl };
+      nodes = λ text number is. record { no_fault = rw is.fits refl; passes = rw is.fits refl; asked = rw (is.fits, is.value) refl };
+      nodes_last = λ first last some others one other.
+          record { no_fault = rw other.fits refl; passes = rw other.fits refl; asked = rw (one.fits, one.value, other.fits, other.value) refl };
+      states_last = λ first last others some one other.
+          record { no_fault = rw other.fits refl; passes = rw other.fits refl; asked = rw (one.fits, one.value, other.fits, other.value) refl };
+    }
+
+each_report : (kind : Kind) (file : Text) (options : Options) → IsFileName file → AreAllowed options
+    → AskFor (report_name kind ∷ file ∷ option_words options) (Report kind file (limits_given options))
+each_report Check file options is allowed =
+    each_list check_is_one (λ rows. refl) (formula_takes_limits (codes "check") file Check (has_no_dash file is)) options allowed
+each_report Automaton file options is allowed =
+    each_list automaton_is_one (λ rows. refl) (formula_takes_limits (codes "automaton") file Automaton (has_no_dash file is)) options allowed
+each_report Lustre file options is allowed =
+    each_list lustre_is_one (λ rows. refl) (formula_takes_limits (codes "lustre") file Lustre (has_no_dash file is)) options allowed
+each_report C file options is allowed =
+    each_list c_is_one (λ rows. refl) (formula_takes_limits (codes "c") file C (has_no_dash file is)) options allowed
+each_report All file options is allowed =
+    each_list all_is_one (λ rows. refl) (formula_takes_limits (codes "all") file All (has_no_dash file is)) options allowed
+
+-- ---- over two formula files
+
+formulas_take_limits : (first second : Text) → HasNoDash first → HasNoDash second
+    → TakesLimits (leaf over_two_formulas) implies_in (λ words. first ∷ second ∷ words) (Implies first second)
+unfolding clap_on_literals
+formulas_take_limits first second one_plain other_plain =
+    record {
+      place = 3;
+      held = holding (row (codes "first") first ∷ []) (codes "second") second;
+      rows = row (codes "first") first ∷ row (codes "second") second ∷ [];
+      operands = λ end words runs.
+          more (plain_goes (leaf over_two_formulas) nothing_held idle 1 first (going (holding [] (codes "first") first) idle 2) one_plain refl refl refl)
+          (more (plain_goes (leaf over_two_formulas) (holding [] (codes "first") first) idle 2 second _ other_plain refl refl refl) runs);
+      states_flag = record { no_fault = refl; passes = refl; goes = refl };
+      nodes_flag = record { no_fault = refl; passes = refl; goes = refl };
+      states_value = λ before text plain. plain_goes _ (waiting_for before (codes "states")) (option (codes "states")) 3 text _ plain refl refl refl;
+      nodes_value = λ before text plain. plain_goes _ (waiting_for before (codes "nodes")) (option (codes "nodes")) 3 text _ plain refl refl refl;
+      nodes_after_states = λ text fits. record { no_fault = rw fits refl; passes = rw fits refl; goes = refl };
+      states_after_nodes = λ text fits. record { no_fault = rw fits refl; passes = rw fits refl; goes = refl };
+      neither = record { no_fault = refl; passes = refl; asked = refl };
+      states = λ text number is. record { no_fault = rw is.fits refl; passes = rw is.fits refl; asked = rw (is.fits, is.value) refl };
+      nodes = λ text number is. record { no_fault = rw is.fits refl; passes = rw is.fits refl; asked = rw (is.fits, is.value) refl };
+      nodes_last = λ first last some others one other.
+          record { no_fault = rw other.fits refl; passes = rw other.fits refl; asked = rw (one.fits, one.value, other.fits, other.value) refl };
+      states_last = λ first last others some one other.
+          record { no_fault = rw other.fits refl; passes = rw other.fits refl; asked = rw (one.fits, one.value, other.fits, other.value) refl };
+    }
+
+each_comparison : (first second : Text) (options : Options) → IsFileName first → IsFileName second → AreAllowed options
+    → AskFor (codes "implies" ∷ first ∷ second ∷ option_words options) (Implies first second (limits_given options))
+each_comparison first second options is other allowed =
+    each_list implies_is_one (λ rows. refl) (formulas_take_limits first second (has_no_dash first is) (has_no_dash second other)) options allowed
+
+-- ---- over an automaton's text
+
+certify_alone : (name : Text) → IsFileName name → AskFor (codes "certify" ∷ name ∷ []) (Certify name)
+unfolding clap_on_literals
+certify_alone name is =
+    let runs = more (plain_goes (leaf over_an_automaton) nothing_held idle 1 name (going (holding [] (codes "automaton") name) idle 2) (has_no_dash name is) refl refl refl) at_end in
+    ask_for certify_is_one (λ rows. refl) runs (record { no_fault = refl; passes = refl; asked = refl })
 
 pub listed_words_are_taken : ListedWordsAreTaken
-listed_words_are_taken name options is allowed = (
-  each_list (codes "check") name (Report Check name) check_is_one (λ limits. refl) (has_no_dash name is) options allowed,
-  each_list (codes "automaton") name (Report Automaton name) automaton_is_one (λ limits. refl) (has_no_dash name is) options allowed,
-  each_list (codes "lustre") name (Report Lustre name) lustre_is_one (λ limits. refl) (has_no_dash name is) options allowed,
-  each_list (codes "c") name (Report C name) c_is_one (λ limits. refl) (has_no_dash name is) options allowed,
-  each_list (codes "all") name (Report All name) all_is_one (λ limits. refl) (has_no_dash name is) options allowed,
-)
+listed_words_are_taken = record { report = each_report; certify = certify_alone; implies = each_comparison }

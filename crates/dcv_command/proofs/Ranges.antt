@@ -10,7 +10,8 @@ use Rattle.clap.proofs.ValueTestLemmas.{accepts-Accepts}
 use Rattle.dcv_explore.specs.declared.explorer.Limits.{Limits}
 use Rattle.dcv_print.specs.declared.report.Kind.{Kind}
 use Rattle.dcv_command.specs.Program.{most_states, most_nodes}
-use Rattle.dcv_command.specs.Request.{AreInRange, Request, Report, command_of, limits_among, limits_in, limits_of, kind_named, number_in, number_of, request_of_subcommand}
+use Rattle.dcv_print.specs.declared.report.Kind.TheVariants.{Check, Automaton, Lustre, C, All}
+use Rattle.dcv_command.specs.Request.{AreInRange, IsInRange, Request, Report, Certify, Implies, implies_in, limits_among, limits_of, number_in, number_of, report_in, request_in, request_of_subcommand}
 
 number_is_in_range : (most : ℕ) (text : Option Text) (number : ℕ) → option_and_then (number_of most) text ≡ Some number → (1 ≤ number) × (number ≤ most)
 number_is_in_range most None number is = let wrong : None ≡ Some number = is in cc
@@ -40,18 +41,57 @@ limits_are_in_range rows limits is =
     both_are_in_range (number_in most_states (codes "states") rows) (number_in most_nodes (codes "nodes") rows) limits
     (number_is_in_range most_states (one_of (codes "states") rows)) (number_is_in_range most_nodes (one_of (codes "nodes") rows)) is
 
-command_is_in_range : (kind : Option Kind) (file : Text) (limits : Limits) (request : Request) → AreInRange limits
-    → option_map (λ kind. Report kind file limits) kind ≡ Some request → AreInRange (limits_in request)
-command_is_in_range None file limits request within is = let wrong : None ≡ Some request = is in cc
-command_is_in_range (Some kind) file limits request within is = let same : Report kind file limits ≡ request = cc in subst (λ one. AreInRange (limits_in one)) same within
-
-pub request_is_in_range : (subcommand : Option (Text × List Row)) (request : Request) → request_of_subcommand subcommand ≡ Some request → AreInRange (limits_in request)
-request_is_in_range None request is = let wrong : None ≡ Some request = is in cc
-request_is_in_range (Some (name, rows)) request is = by (first_of (codes "file") rows) (limits_among rows) refl is
+report_is_in_range : (kind : Kind) (rows : List Row) (request : Request) → report_in kind rows ≡ Some request → IsInRange request
+report_is_in_range kind rows request is = by (first_of (codes "file") rows) (limits_among rows) refl is
   where
-    by : (file : Option Text) (limits : Option Limits) → limits_among rows ≡ limits → option_and_then (λ one. option_and_then (command_of name one) limits) file ≡ Some request
-        → AreInRange (limits_in request)
+    by : (file : Option Text) (limits : Option Limits) → limits_among rows ≡ limits → option_and_then (λ one. option_map (Report kind one) limits) file ≡ Some request
+        → IsInRange request
     by None limits found is = let wrong : None ≡ Some request = is in cc
     by (Some file) None found is = let wrong : None ≡ Some request = is in cc
     by (Some file) (Some limits) found is =
-        command_is_in_range (kind_named name) file limits request (limits_are_in_range rows limits found) is
+        let same : Report kind file limits ≡ request = cc in subst IsInRange same (limits_are_in_range rows limits found)
+
+certify_is_in_range : (automaton : Option Text) (request : Request) → option_map Certify automaton ≡ Some request → IsInRange request
+certify_is_in_range None request is = let wrong : None ≡ Some request = is in cc
+certify_is_in_range (Some name) request is = let same : Certify name ≡ request = cc in subst IsInRange same tt
+
+implies_is_in_range : (rows : List Row) (request : Request) → implies_in rows ≡ Some request → IsInRange request
+implies_is_in_range rows request is = by (first_of (codes "first") rows) (first_of (codes "second") rows) (limits_among rows) refl is
+  where
+    by : (first second : Option Text) (limits : Option Limits) → limits_among rows ≡ limits
+        → option_and_then (λ one. option_and_then (λ other. option_map (Implies one other) limits) second) first ≡ Some request → IsInRange request
+    by None second limits found is = let wrong : None ≡ Some request = is in cc
+    by (Some first) None limits found is = let wrong : None ≡ Some request = is in cc
+    by (Some first) (Some second) None found is = let wrong : None ≡ Some request = is in cc
+    by (Some first) (Some second) (Some limits) found is =
+        let same : Implies first second limits ≡ request = cc in subst IsInRange same (limits_are_in_range rows limits found)
+
+-- what the subcommand asks for that a chain of tests finds
+module _ (rows : List Row) (request : Request) where
+  -- each of some requests that may be read is in range
+  abbrev IsFine : Option Request → Type 0
+  IsFine found = found ≡ Some request → IsInRange request
+
+  either_fine : (named : Bool) (one other : Option Request) → IsFine one → IsFine other → IsFine (if named then one else other)
+  either_fine true one other first last = first
+  either_fine false one other first last = last
+
+  none_fine : IsFine None
+  none_fine is = let wrong : None ≡ Some request = is in cc
+
+  report_fine : (kind : Kind) → IsFine (report_in kind rows)
+  report_fine kind = report_is_in_range kind rows request
+
+  named_fine : (name : Text) → IsFine (request_in name rows)
+  named_fine name =
+      either_fine (bytes_eq name (codes "check")) _ _ (report_fine Check)
+      (either_fine (bytes_eq name (codes "automaton")) _ _ (report_fine Automaton)
+      (either_fine (bytes_eq name (codes "lustre")) _ _ (report_fine Lustre)
+      (either_fine (bytes_eq name (codes "c")) _ _ (report_fine C)
+      (either_fine (bytes_eq name (codes "all")) _ _ (report_fine All)
+      (either_fine (bytes_eq name (codes "certify")) _ _ (certify_is_in_range (first_of (codes "automaton") rows) request)
+      (either_fine (bytes_eq name (codes "implies")) _ _ (implies_is_in_range rows request) none_fine))))))
+
+pub request_is_in_range : (subcommand : Option (Text × List Row)) (request : Request) → request_of_subcommand subcommand ≡ Some request → IsInRange request
+request_is_in_range None request is = let wrong : None ≡ Some request = is in cc
+request_is_in_range (Some (name, rows)) request is = named_fine rows request name is

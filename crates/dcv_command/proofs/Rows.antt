@@ -1,9 +1,10 @@
 -- Rows that a request can be read from: each has a first value, and where it is a limit's, a number in its range.
 use Rattle.std.proofs.Common.{◌≡◌, refl, sym, ap, ◌∙◌, ℕ, Bool, true, false, List, [], ◌∷◌, ◌++◌, None, Some, codes}
-use Rattle.std.specs.Prelude.{find, slice_get, ◌||◌, if◌then◌else◌, option_and_then, option_map}
+use Rattle.std.specs.Prelude.{find, fold, slice_get, ◌||◌, if◌then◌else◌, option_and_then, option_map}
 use Rattle.std.specs.Option.{option_map_or}
 use Rattle.std.specs.Str.{bytes_eq}
 use Rattle.std.specs.Str.Parse.{digits_value, without_leading_plus}
+use Rattle.std.proofs.lemmas.Slice.Eq.{bytes_eq-Decides}
 use mathlib.Core.Bool.{true≢false}
 use Rattle.clap.specs.Words.{Row, Rule, Text, first_of, one_of}
 use Rattle.clap.specs.Facts.{explicit_source}
@@ -99,7 +100,7 @@ default_rows_readable : (id : Text) (how : Reading) (values : List Text) (rows :
 default_rows_readable id how [] rows new all = all
 default_rows_readable id how (value ∷ values) rows new all = readable_with id how DefaultValue (value ∷ values) rows new all
 
-pub readable_with_default : (rule : Rule) (rows : List Row) → IsReadableDefault rule.id (reading_by rule) rule.defaults → AreReadable rows → AreReadable (with_default rows rule)
+readable_with_default : (rule : Rule) (rows : List Row) → IsReadableDefault rule.id (reading_by rule) rule.defaults → AreReadable rows → AreReadable (with_default rows rule)
 readable_with_default rule rows new all = by (has_row rule.id rows)
   where
     by : (has : Bool) → AreReadable (if has then rows else default_rows rule.id (reading_by rule) rule.defaults rows)
@@ -110,20 +111,52 @@ default_rows_have : (id other : Text) (how : Reading) (values : List Text) (rows
 default_rows_have id other how [] rows has = has
 default_rows_have id other how (value ∷ values) rows has = has_still id other how DefaultValue (value ∷ values) rows has
 
-pub has_after_default : (rule : Rule) (other : Text) (rows : List Row) → has_row other rows ≡ true → has_row other (with_default rows rule) ≡ true
+has_after_default : (rule : Rule) (other : Text) (rows : List Row) → has_row other rows ≡ true → has_row other (with_default rows rule) ≡ true
 has_after_default rule other rows has = by (has_row rule.id rows)
   where
     by : (there : Bool) → has_row other (if there then rows else default_rows rule.id (reading_by rule) rule.defaults rows) ≡ true
     by true = has
     by false = default_rows_have rule.id other (reading_by rule) rule.defaults rows has
 
-pub has_its_default : (id : Text) (how : Reading) (value : Text) (rows : List Row) → bytes_eq id id ≡ true
-    → has_row id (if has_row id rows then rows else default_rows id how (value ∷ []) rows) ≡ true
-has_its_default id how value rows same = by (has_row id rows) refl
+abbrev pub HasDefault : List Text → Type 0
+HasDefault [] = ⊥
+HasDefault (value ∷ values) = Unit {0}
+
+has_its_default : (rule : Rule) (rows : List Row) → HasDefault rule.defaults → has_row rule.id (with_default rows rule) ≡ true
+has_its_default rule rows some = by (has_row rule.id rows) refl
   where
-    by : (there : Bool) → has_row id rows ≡ there → has_row id (if there then rows else default_rows id how (value ∷ []) rows) ≡ true
+    added : (values : List Text) → HasDefault values → has_row rule.id (default_rows rule.id (reading_by rule) values rows) ≡ true
+    added [] some = absurd some
+    added (value ∷ values) some = has_now rule.id (reading_by rule) DefaultValue (value ∷ values) rows ((bytes_eq-Decides rule.id rule.id).1 refl)
+
+    by : (there : Bool) → has_row rule.id rows ≡ there
+        → has_row rule.id (if there then rows else default_rows rule.id (reading_by rule) rule.defaults rows) ≡ true
     by true is = is
-    by false is = has_now id how DefaultValue (value ∷ []) rows same
+    by false is = added rule.defaults some
+
+-- ---- the defaults of all arguments
+
+abbrev pub HasReadableDefaults : List Rule → Type 0
+HasReadableDefaults [] = Unit {0}
+HasReadableDefaults (rule ∷ rules) = IsReadableDefault rule.id (reading_by rule) rule.defaults × HasReadableDefaults rules
+
+pub readable_with_defaults : (rules : List Rule) (rows : List Row) → HasReadableDefaults rules → AreReadable rows → AreReadable (fold with_default rows rules)
+readable_with_defaults [] rows new all = all
+readable_with_defaults (rule ∷ rules) rows (one, others) all = readable_with_defaults rules (with_default rows rule) others (readable_with_default rule rows one all)
+
+has_after_defaults : (rules : List Rule) (other : Text) (rows : List Row) → has_row other rows ≡ true → has_row other (fold with_default rows rules) ≡ true
+has_after_defaults [] other rows has = has
+has_after_defaults (rule ∷ rules) other rows has = has_after_defaults rules other (with_default rows rule) (has_after_default rule other rows has)
+
+-- each argument with a default has a row
+abbrev pub HasDefaultRows : List Rule → List Row → Type 0
+HasDefaultRows [] rows = Unit {0}
+HasDefaultRows (rule ∷ rules) rows = (HasDefault rule.defaults → has_row rule.id rows ≡ true) × HasDefaultRows rules rows
+
+pub has_default_rows : (rules : List Rule) (rows : List Row) → HasDefaultRows rules (fold with_default rows rules)
+has_default_rows [] rows = tt
+has_default_rows (rule ∷ rules) rows =
+    (λ some. has_after_defaults rules rule.id (with_default rows rule) (has_its_default rule rows some), has_default_rows rules (with_default rows rule))
 
 -- ---- what is read
 

@@ -18,11 +18,12 @@ use Rattle.clap.specs.declared.error.kind.ErrorKind.TheVariants.{DisplayHelp, In
 use Rattle.clap.specs.Kinds.{Kinds, check_kinds}
 use Rattle.clap.specs.Faults.{check_fault, level_fault, entered_fault, settle_fault, defaults_fault, walk_fault, turn_fault, step_fault, word_fault, other_fault}
 use Rattle.clap.proofs.OnLiterals.{clap_on_literals}
-use Rattle.dcv_command.specs.Program.{program}
+use Rattle.dcv_print.specs.declared.report.Kind.TheVariants.{Check, Automaton, Lustre, C, All}
+use Rattle.dcv_command.specs.Program.{over_a_formula, over_an_automaton, over_two_formulas, program}
 use Rattle.dcv_command.specs.Request.{IsTaken, Request, request_in, request_of, request_of_subcommand}
 use Rattle.dcv_command.specs.Laws.{TakenWordsAsk}
 use Rattle.dcv_command.proofs.Commands.{leaf}
-use Rattle.dcv_command.proofs.Leaves.{leaf_asks}
+use Rattle.dcv_command.proofs.Shapes.{report_asks, certify_asks, implies_asks}
 use Rattle.dcv_command.proofs.Steps.{first_is_empty, going_has_none, last_is_empty}
 
 -- ---- where a subcommand is required, one is entered
@@ -134,25 +135,33 @@ module _ (shape : Shape) (names : Names) (enabled : shape.disable_help_subcomman
 abbrev Asks : Shape → List Text → Type 0
 Asks shape words = level_fault shape [] nothing_held words false [] ≡ [] → IsSome (request_in shape.name (rows_after shape.rules [] words))
 
-check_asks : (words : List Text) → Asks (leaf (codes "check")) words
+check_does : (words : List Text) → Asks (leaf (over_a_formula (codes "check"))) words
 unfolding clap_on_literals
-check_asks words = leaf_asks (codes "check") words (λ file limits. refl)
+check_does words = report_asks (codes "check") Check words
 
-automaton_asks : (words : List Text) → Asks (leaf (codes "automaton")) words
+automaton_does : (words : List Text) → Asks (leaf (over_a_formula (codes "automaton"))) words
 unfolding clap_on_literals
-automaton_asks words = leaf_asks (codes "automaton") words (λ file limits. refl)
+automaton_does words = report_asks (codes "automaton") Automaton words
 
-lustre_asks : (words : List Text) → Asks (leaf (codes "lustre")) words
+lustre_does : (words : List Text) → Asks (leaf (over_a_formula (codes "lustre"))) words
 unfolding clap_on_literals
-lustre_asks words = leaf_asks (codes "lustre") words (λ file limits. refl)
+lustre_does words = report_asks (codes "lustre") Lustre words
 
-c_asks : (words : List Text) → Asks (leaf (codes "c")) words
+c_does : (words : List Text) → Asks (leaf (over_a_formula (codes "c"))) words
 unfolding clap_on_literals
-c_asks words = leaf_asks (codes "c") words (λ file limits. refl)
+c_does words = report_asks (codes "c") C words
 
-all_asks : (words : List Text) → Asks (leaf (codes "all")) words
+all_does : (words : List Text) → Asks (leaf (over_a_formula (codes "all"))) words
 unfolding clap_on_literals
-all_asks words = leaf_asks (codes "all") words (λ file limits. refl)
+all_does words = report_asks (codes "all") All words
+
+certify_does : (words : List Text) → Asks (leaf over_an_automaton) words
+unfolding clap_on_literals
+certify_does words = certify_asks words
+
+implies_does : (words : List Text) → Asks (leaf over_two_formulas) words
+unfolding clap_on_literals
+implies_does words = implies_asks words
 
 -- each of some subcommands that the name names asks for something
 abbrev EachAsks : Text → List Text → List Shape → Type 0
@@ -185,8 +194,8 @@ unfolding clap_on_literals
 stop_asks None before no_fault e = e
 stop_asks (Some p) before no_fault e =
     found_asks p.0 p.1 (built program).subs (
-      (λ _. check_asks p.1),
-      ((λ _. automaton_asks p.1), ((λ _. lustre_asks p.1), ((λ _. c_asks p.1), ((λ _. all_asks p.1), (no_help, tt))))),
+      (λ _. check_does p.1),
+      ((λ _. automaton_does p.1), ((λ _. lustre_does p.1), ((λ _. c_does p.1), ((λ _. all_does p.1), ((λ _. certify_does p.1), ((λ _. implies_does p.1), (no_help, tt))))))),
     )
     no_fault e
   where

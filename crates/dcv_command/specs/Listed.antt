@@ -1,4 +1,5 @@
--- Words that are always taken: a subcommand's name, a file's name, and options with their numbers.
+-- Words that are always taken: a subcommand's name, files' names, and options with their numbers.
+--     report_name kind           the name of the subcommand that reports this
 --     Options                    the options that stand in the words, in order, with their numbers
 --     option_words options       their words
 --     limits_given options       the limits that they ask for
@@ -10,8 +11,17 @@ use Rattle.std.specs.Fmt.{decimal}
 use Rattle.std.specs.Str.{byte}
 use Rattle.clap.specs.Words.{Text, takes}
 use Rattle.dcv_explore.specs.declared.explorer.Limits.{Limits}
+use Rattle.dcv_print.specs.declared.report.Kind.{Kind}
+use Rattle.dcv_print.specs.declared.report.Kind.TheVariants.{Check, Automaton, Lustre, C, All}
 use Rattle.dcv_command.specs.Program.{program, most_states, most_nodes}
 use Rattle.dcv_command.specs.Request.{Request, IsTaken, limits_of, request_of}
+
+abbrev pub report_name : Kind → Text
+report_name Check = codes "check"
+report_name Automaton = codes "automaton"
+report_name Lustre = codes "lustre"
+report_name C = codes "c"
+report_name All = codes "all"
 
 pub data Options : Type 0 where
   Neither : Options

@@ -1,16 +1,19 @@
 -- The command line of the program, as `clap` reads it: one subcommand is required, with its operands, and options of one value each.
---     program            what `clap` is given
---     file_operand       a file's name, any text
---     limit_option       a whole number from 1 to the most, with a default
---     over_a_formula     a subcommand over one formula file, with both limits
---     most_states        the most states of a step that may be asked for, and the most diagram nodes
+--     program               what `clap` is given
+--     file_operand id       a file's name, any text
+--     limit_option          a whole number from 1 to the most, with a default
+--     states_option         the limit on states, and that on diagram nodes
+--     over_a_formula name   a subcommand over one formula file, with both limits
+--     over_an_automaton     the one over an automaton's text
+--     over_two_formulas     the one over two formula files, with both limits
+--     most_states           the most states of a step that may be asked for, and the most diagram nodes
 use Rattle.std.specs.Prelude.{ℕ, true, false, List, [], ◌∷◌, Some, codes}
 use Rattle.clap.specs.Words.{App, Shape, Rule, new_rule}
 use Rattle.clap.specs.Simple.{new_shape}
 use Rattle.clap.specs.declared.builder.value_parser.ValueParser.TheVariants.{Unsigned}
 
-abbrev pub file_operand : Rule
-file_operand = record (new_rule (codes "file")) { required = true; value_names = 1 }
+abbrev pub file_operand : List ℕ → Rule
+file_operand id = record (new_rule id) { required = true; value_names = 1 }
 
 abbrev pub limit_option : List ℕ → ℕ → List ℕ → Rule
 limit_option name most default = record (new_rule name) {
@@ -26,15 +29,27 @@ most_states = 32000
 abbrev pub most_nodes : ℕ
 most_nodes = 1000000
 
+abbrev pub states_option : Rule
+states_option = limit_option (codes "states") most_states (codes "30000")
+
+abbrev pub nodes_option : Rule
+nodes_option = limit_option (codes "nodes") most_nodes (codes "1000000")
+
 abbrev pub over_a_formula : List ℕ → Shape
-over_a_formula name = record (new_shape name) {
-  rules = file_operand ∷ limit_option (codes "states") most_states (codes "30000") ∷ limit_option (codes "nodes") most_nodes (codes "1000000") ∷ [];
+over_a_formula name = record (new_shape name) { rules = file_operand (codes "file") ∷ states_option ∷ nodes_option ∷ [] }
+
+abbrev pub over_an_automaton : Shape
+over_an_automaton = record (new_shape (codes "certify")) { rules = file_operand (codes "automaton") ∷ [] }
+
+abbrev pub over_two_formulas : Shape
+over_two_formulas = record (new_shape (codes "implies")) {
+  rules = file_operand (codes "first") ∷ file_operand (codes "second") ∷ states_option ∷ nodes_option ∷ [];
 }
 
 abbrev pub subcommands : List Shape
 subcommands =
     over_a_formula (codes "check") ∷ over_a_formula (codes "automaton") ∷ over_a_formula (codes "lustre") ∷ over_a_formula (codes "c")
-    ∷ over_a_formula (codes "all") ∷ []
+    ∷ over_a_formula (codes "all") ∷ over_an_automaton ∷ over_two_formulas ∷ []
 
 -- without its subcommands, of which one is required
 abbrev pub bare_app : App

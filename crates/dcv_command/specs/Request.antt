@@ -1,15 +1,12 @@
 -- What the words of the command line ask for, by `clap`'s matches of them.
 --     Request                 a thing that the program does
+--     files_of request        the names of the files that it reads, in the order in which it asks for them
+--     IsInRange request       its limits, if it has some, are within those of the options
 --     number_in most id rows  the value of an option, a number from 1 to the most
---     AreInRange limits       the limits are within those of the options
 --     limits_among rows       the values of both options
 --     request_of words        what the words ask for
 --     IsTaken words           `clap` finds no fault in the words
---     kind_named name         what the subcommand of this name reports
---     kind_in request         what it reports
---     file_in request         the name of the file that it reads
---     limits_in request       its limits
-use Rattle.std.specs.Prelude.{◌≡◌, ℕ, ◌≤◌, List, [], Option, None, Some, codes, if◌then◌else◌, option_map, option_and_then}
+use Rattle.std.specs.Prelude.{◌≡◌, ℕ, ◌≤◌, List, [], ◌∷◌, Option, None, Some, codes, if◌then◌else◌, option_map, option_and_then}
 use Rattle.std.specs.Str.{bytes_eq}
 use Rattle.std.specs.Str.Parse.{digits_value, without_leading_plus}
 use Rattle.clap.specs.Words.{Row, Text, first_of, one_of, subcommand_of, fault_of}
@@ -22,6 +19,26 @@ use Rattle.dcv_command.specs.Program.{program, most_states, most_nodes}
 pub data Request : Type 0 where
   -- a report on the formula in the file with this name
   Report : (kind : Kind) → (name : List ℕ) → (limits : Limits) → Request
+  -- whether the words of the automaton's text in the file with this name show that it is minimal
+  Certify : (name : List ℕ) → Request
+  -- whether the formula in the first file implies that in the second
+  Implies : (first second : List ℕ) → (limits : Limits) → Request
+
+abbrev pub files_of : Request → List (List ℕ)
+files_of (Report kind name limits) = name ∷ []
+files_of (Certify name) = name ∷ []
+files_of (Implies first second limits) = first ∷ second ∷ []
+
+pub record AreInRange (limits : Limits) : Type 0 where
+  pub some_states : 1 ≤ limits.states
+  pub few_states : limits.states ≤ most_states
+  pub some_nodes : 1 ≤ limits.nodes
+  pub few_nodes : limits.nodes ≤ most_nodes
+
+abbrev pub IsInRange : Request → Type 0
+IsInRange (Report kind name limits) = AreInRange limits
+IsInRange (Certify name) = Unit {0}
+IsInRange (Implies first second limits) = AreInRange limits
 
 -- ---- the values of a subcommand's options
 
@@ -38,27 +55,28 @@ abbrev pub limits_among : List Row → Option Limits
 limits_among rows =
     option_and_then (λ states. option_map (limits_of states) (number_in most_nodes (codes "nodes") rows)) (number_in most_states (codes "states") rows)
 
-pub record AreInRange (limits : Limits) : Type 0 where
-  pub some_states : 1 ≤ limits.states
-  pub few_states : limits.states ≤ most_states
-  pub some_nodes : 1 ≤ limits.nodes
-  pub few_nodes : limits.nodes ≤ most_nodes
+-- ---- what each subcommand asks for, by its matches
 
--- ---- what is asked for
+abbrev pub report_in : Kind → List Row → Option Request
+report_in kind rows = option_and_then (λ file. option_map (Report kind file) (limits_among rows)) (first_of (codes "file") rows)
 
-abbrev pub kind_named : Text → Option Kind
-kind_named name =
-    if bytes_eq name (codes "check") then Some Check
-    else (if bytes_eq name (codes "automaton") then Some Automaton
-    else (if bytes_eq name (codes "lustre") then Some Lustre
-    else (if bytes_eq name (codes "c") then Some C
-    else (if bytes_eq name (codes "all") then Some All else None))))
+abbrev pub certify_in : List Row → Option Request
+certify_in rows = option_map Certify (first_of (codes "automaton") rows)
 
-abbrev pub command_of : Text → Text → Limits → Option Request
-command_of name file limits = option_map (λ kind. Report kind file limits) (kind_named name)
+abbrev pub implies_in : List Row → Option Request
+implies_in rows =
+    option_and_then (λ first. option_and_then (λ second. option_map (Implies first second) (limits_among rows)) (first_of (codes "second") rows))
+    (first_of (codes "first") rows)
 
 abbrev pub request_in : Text → List Row → Option Request
-request_in name rows = option_and_then (λ file. option_and_then (command_of name file) (limits_among rows)) (first_of (codes "file") rows)
+request_in name rows =
+    if bytes_eq name (codes "check") then report_in Check rows
+    else (if bytes_eq name (codes "automaton") then report_in Automaton rows
+    else (if bytes_eq name (codes "lustre") then report_in Lustre rows
+    else (if bytes_eq name (codes "c") then report_in C rows
+    else (if bytes_eq name (codes "all") then report_in All rows
+    else (if bytes_eq name (codes "certify") then certify_in rows
+    else (if bytes_eq name (codes "implies") then implies_in rows else None))))))
 
 -- of the subcommand that the words name, with its matches
 abbrev pub request_of_subcommand : Option (Text × List Row) → Option Request
@@ -69,14 +87,3 @@ request_of words = request_of_subcommand (subcommand_of program words)
 
 abbrev pub IsTaken : List Text → Type 0
 IsTaken words = fault_of program words ≡ []
-
--- ---- its parts
-
-abbrev pub kind_in : Request → Kind
-kind_in (Report kind name limits) = kind
-
-abbrev pub file_in : Request → List ℕ
-file_in (Report kind name limits) = name
-
-abbrev pub limits_in : Request → Limits
-limits_in (Report kind name limits) = limits

@@ -1,8 +1,9 @@
-// What `clap` is given: the subcommands with their operands and options, and the texts of their help.
+//! What `clap` is given: the subcommands with their operands and options, and the texts of their help.
 ghost use Rattle.std.specs.Prelude.{◌≡◌, [], false, codes, IfOk};
 ghost use Rattle.clap.specs.Words.{rule_of, app_of, new_app, with_subcommand};
 ghost use Rattle.clap.specs.declared.builder.Command.TheViews.{out-Command as fields_of};
-ghost use Rattle.dcv_command.specs.Program.{file_operand as file_rule, limit_option, over_a_formula as formula_shape, program as the_program, bare_app};
+ghost use Rattle.dcv_command.specs.Program.{file_operand as file_rule, limit_option, states_option, nodes_option, program as the_program, bare_app};
+ghost use Rattle.dcv_command.specs.Program.{over_a_formula as formula_shape, over_an_automaton as automaton_shape, over_two_formulas as formulas_shape};
 
 use clap::builder::ValueParser;
 use clap::{Arg, Command};
@@ -10,22 +11,26 @@ use std::alloc::{AllocError, Global};
 
 const ABOUT: &str =
     "Decides whether a requirement about stretches of time, a formula of Quantified Discrete-time Duration Calculus, always holds. \
-Shows a shortest behaviour that breaks it, or the minimal automaton of the behaviours that satisfy it, or an observer of these.";
+Shows a shortest behaviour that breaks it, or the minimal automaton of the behaviours that satisfy it, or an observer of these. \
+Tells whether one requirement implies another, and whether an automaton's text shows by its own words that it is minimal.";
 
 const EXAMPLE_AND_STATUS: &str =
     "Example, with `var door_closed; infer [[door_closed]];` in the file door.dc:
   dcvalid check door.dc
-  dcvalid automaton door.dc --states 1000
+  dcvalid automaton door.dc --states 1000 > door.auto
+  dcvalid certify door.auto
+  dcvalid implies door.dc other.dc
 
 Status:
-  0  each behaviour satisfies the formula
-  1  some behaviour does not
+  0  each behaviour satisfies the formula; the automaton is shown to be minimal; A implies B
+  1  some behaviour does not; the automaton is not shown to be minimal; A does not imply B
   2  the words are no command, or ask for help
-  3  the file holds no formula, for the fault that is named, at its offset in bytes
-  4  a step of the formula has more states or nodes than the limit
-  5  the file could not be opened or read
+  3  a file holds no formula, for the fault that is named, at its offset in bytes; A and B declare different variables
+  4  a step of a formula, or the product of A and B, has more states or nodes than the limit
+  5  a file could not be opened or read
   6  the report could not be written
-  7  memory ran out";
+  7  memory ran out
+ 10  the file holds no automaton's text, for the fault that is named";
 
 /// The most states of a step that may be asked for.
 pub(crate) const MOST_STATES: u32 = 32_000;
@@ -62,12 +67,14 @@ pub(crate) fn program<'a>(alloc: Global) -> Result<Command<'a>, AllocError>
         "c",
         "Writes such an observer in a flat subset of C",
     )?;
-    with_report(
+    let all = with_report(
         alloc,
         c,
         "all",
         "Writes the verdict, the automaton and both observers, each behind a line that names it",
-    )
+    )?;
+    let certify = with_certify(alloc, all)?;
+    with_implies(alloc, certify)
 }
 
 // The command without its subcommands, of which one is required.
@@ -95,6 +102,20 @@ fn with_report<'a>(
     command.subcommand(over_a_formula(alloc, name, about)?)
 }
 
+// The command with the subcommand that certifies an automaton's text.
+fn with_certify<'a>(alloc: Global, command: Command<'a>) -> Result<Command<'a>, AllocError>
+    ensures { IfOk result (λ more. app_of more ≡ with_subcommand (app_of command.entry) automaton_shape) }
+{
+    command.subcommand(over_an_automaton(alloc)?)
+}
+
+// The command with the subcommand that compares two formulas.
+fn with_implies<'a>(alloc: Global, command: Command<'a>) -> Result<Command<'a>, AllocError>
+    ensures { IfOk result (λ more. app_of more ≡ with_subcommand (app_of command.entry) formulas_shape) }
+{
+    command.subcommand(over_two_formulas(alloc)?)
+}
+
 // A command with no words yet, which usage calls by its name.
 fn named<'a>(alloc: Global) -> Result<Command<'a>, AllocError>
     ensures app { IfOk result (λ command. app_of command ≡ new_app (codes "dcvalid")) }
@@ -114,32 +135,90 @@ fn over_a_formula<'a>(
 {
     Command::new(alloc, name)
         .about(about)
-        .arg(file_operand(alloc))?
-        .arg(limit(
+        .arg(file_operand(alloc, "file", "FILE", "The formula file"))?
+        .arg(states_limit(alloc))?
+        .arg(nodes_limit(alloc))
+}
+
+// The subcommand over an automaton's text.
+fn over_an_automaton<'a>(alloc: Global) -> Result<Command<'a>, AllocError>
+    ensures app { IfOk result (λ command. app_of command ≡ record { top = automaton_shape; subs = [] }) }
+    ensures local { IfOk result (λ command. (fields_of command).has_globals ≡ false) }
+{
+    Command::new(alloc, "certify")
+        .about(
+            "Tells whether the words in an automaton's text show that it is minimal, and if not, of which state or two states they do not",
+        )
+        .arg(file_operand(
             alloc,
-            "states",
-            MOST_STATES,
-            "30000",
-            "The most states that a step may have, from 1 to 32000",
-        ))?
-        .arg(limit(
-            alloc,
-            "nodes",
-            MOST_NODES,
-            "1000000",
-            "The most diagram nodes that a step may have, from 1 to 1000000",
+            "automaton",
+            "AUTO",
+            "The file with the automaton's text, as the command automaton writes it",
         ))
 }
 
-// The name of a formula file.
-fn file_operand<'a>(alloc: Global) -> Arg<'a>
-    ensures rule { rule_of result ≡ file_rule }
+// The subcommand over two formula files.
+fn over_two_formulas<'a>(alloc: Global) -> Result<Command<'a>, AllocError>
+    ensures app { IfOk result (λ command. app_of command ≡ record { top = formulas_shape; subs = [] }) }
+    ensures local { IfOk result (λ command. (fields_of command).has_globals ≡ false) }
+{
+    Command::new(alloc, "implies")
+        .about(
+            "Tells whether each behaviour that satisfies the formula of A satisfies that of B too, with a shortest one that does not",
+        )
+        .arg(file_operand(
+            alloc,
+            "first",
+            "A",
+            "The formula file that is to imply the other",
+        ))?
+        .arg(file_operand(
+            alloc,
+            "second",
+            "B",
+            "The formula file that is to be implied, with the same variables in the same order",
+        ))?
+        .arg(states_limit(alloc))?
+        .arg(nodes_limit(alloc))
+}
+
+// The name of a file.
+fn file_operand<'a>(alloc: Global, id: &'a str, value_name: &'a str, help: &'a str) -> Arg<'a>
+    ensures rule { rule_of result ≡ file_rule id.entry.now }
     ensures local { result.global ≡ false }
 {
-    Arg::new(alloc, "file")
+    Arg::new(alloc, id)
         .required(true)
-        .value_name("FILE")
-        .help("The formula file")
+        .value_name(value_name)
+        .help(help)
+}
+
+// The limit on the states of a step.
+fn states_limit<'a>(alloc: Global) -> Arg<'a>
+    ensures rule { rule_of result ≡ states_option }
+    ensures local { result.global ≡ false }
+{
+    limit(
+        alloc,
+        "states",
+        MOST_STATES,
+        "30000",
+        "The most states that a step may have, from 1 to 32000",
+    )
+}
+
+// The limit on the diagram nodes of a step.
+fn nodes_limit<'a>(alloc: Global) -> Arg<'a>
+    ensures rule { rule_of result ≡ nodes_option }
+    ensures local { result.global ≡ false }
+{
+    limit(
+        alloc,
+        "nodes",
+        MOST_NODES,
+        "1000000",
+        "The most diagram nodes that a step may have, from 1 to 1000000",
+    )
 }
 
 // A limit on the steps of a formula.

@@ -1,8 +1,9 @@
-// What the words of the command line ask for.
+//! What the words of the command line ask for.
 ghost use Rattle.std.specs.Prelude.{◌≡◌, ◌≢◌, true, [], map, option_map, IfOk, IfErr, Some};
-ghost use Rattle.clap.specs.Words.{fault_of, found_of, rows_of, subcommand_of, subcommand_rows_of, takes};
+ghost use Rattle.clap.specs.Words.{fault_of, first_of, found_of, rows_of, subcommand_of, subcommand_rows_of, takes};
 ghost use Rattle.dcv_command.specs.Program.{program as the_program};
-ghost use Rattle.dcv_command.specs.Request.{AreInRange, IsTaken, file_in, kind_in, kind_named, limits_in, request_of, request_of_subcommand};
+ghost use Rattle.dcv_command.specs.Request.{IsInRange, IsTaken, request_of, request_of_subcommand};
+ghost use Rattle.dcv_command.specs.Request.{report_in as report_among, certify_in as certify_among, implies_in as implies_among, request_in as request_among};
 ghost use Rattle.dcv_command.specs.Request.{limits_among as limits_among_rows, number_in as number_in_rows};
 ghost use Rattle.dcv_command.specs.declared.words.WordsFault.TheVariants.{Memory};
 ghost use Rattle.dcv_command.specs.Seen.{asked_by, IsUsageOnlyWhere};
@@ -25,35 +26,16 @@ pub enum Request<'a> {
         file: &'a str,
         limits: Limits,
     },
-}
-
-impl<'a> Request<'a> {
-    /// What is reported.
-    pub fn kind(self) -> Kind
-        ensures { result ≡ kind_in (asked_by self.entry) }
-    {
-        match self {
-            Request::Report { kind, .. } => kind,
-        }
-    }
-
-    /// The name of the file that it reads.
-    pub fn file(self) -> &'a str
-        ensures { result.now ≡ file_in (asked_by self.entry) }
-    {
-        match self {
-            Request::Report { file, .. } => file,
-        }
-    }
-
-    /// The limits of each step.
-    pub fn limits(self) -> Limits
-        ensures { result ≡ limits_in (asked_by self.entry) }
-    {
-        match self {
-            Request::Report { limits, .. } => limits,
-        }
-    }
+    /// Whether the words of the automaton's text in the file of this name show that it is minimal.
+    Certify {
+        automaton: &'a str,
+    },
+    /// Whether the formula in the first file implies that in the second, where no step exceeds the limits.
+    Implies {
+        first: &'a str,
+        second: &'a str,
+        limits: Limits,
+    },
 }
 
 /// Why words ask for nothing.
@@ -69,7 +51,7 @@ pub enum WordsFault {
 pub fn read_words<'a, S: AsStr>(alloc: Global, words: &'a [S]) -> Result<Request<'a>, WordsFault>
     ensures taken { IfOk result (λ request. IsTaken (map S.text words.entry.now)) }
     ensures asked { IfOk result (λ request. request_of (map S.text words.entry.now) ≡ Some (asked_by request)) }
-    ensures limits { IfOk result (λ request. AreInRange (limits_in (asked_by request))) }
+    ensures limits { IfOk result (λ request. IsInRange (asked_by request)) }
     ensures usage { IfErr result (IsUsageOnlyWhere (¬ IsTaken (map S.text words.entry.now))) }
     ensures passes { IfErr result (IsUsageOnlyWhere (¬ (takes the_program (map S.text words.entry.now) ≡ true))) }
 {
@@ -108,24 +90,61 @@ fn request_in<'a>(matches: &ArgMatches<'a>) -> Option<Request<'a>>
     ensures { option_map asked_by result ≡ request_of_subcommand (subcommand_rows_of matches.now) }
 {
     let (name, matches) = matches.subcommand()?;
-    let file = matches.get_str("file")?;
+    request_named(name, matches)
+}
+
+// What the subcommand of this name asks for, with its matches.
+fn request_named<'a>(name: &str, matches: &ArgMatches<'a>) -> Option<Request<'a>>
+    ensures { option_map asked_by result ≡ request_among name.now (rows_of (found_of matches.now)) }
+{
+    match name {
+        "check" => report_in(matches, Kind::Check),
+        "automaton" => report_in(matches, Kind::Automaton),
+        "lustre" => report_in(matches, Kind::Lustre),
+        "c" => report_in(matches, Kind::C),
+        "all" => report_in(matches, Kind::All),
+        "certify" => certify_in(matches),
+        "implies" => implies_in(matches),
+        _ => None,
+    }
+}
+
+// The report that is asked for.
+fn report_in<'a>(matches: &ArgMatches<'a>, kind: Kind) -> Option<Request<'a>>
+    ensures { option_map asked_by result ≡ report_among kind (rows_of (found_of matches.now)) }
+{
+    let file = operand_in(matches, "file")?;
     let limits = limits_among(matches)?;
-    let kind = kind_named(name)?;
     Some(Request::Report { kind, file, limits })
 }
 
-// What the subcommand of this name reports.
-fn kind_named(name: &str) -> Option<Kind>
-    ensures { result ≡ kind_named name.now }
+// The automaton whose text is to be certified.
+fn certify_in<'a>(matches: &ArgMatches<'a>) -> Option<Request<'a>>
+    ensures { option_map asked_by result ≡ certify_among (rows_of (found_of matches.now)) }
 {
-    match name {
-        "check" => Some(Kind::Check),
-        "automaton" => Some(Kind::Automaton),
-        "lustre" => Some(Kind::Lustre),
-        "c" => Some(Kind::C),
-        "all" => Some(Kind::All),
-        _ => None,
-    }
+    let automaton = operand_in(matches, "automaton")?;
+    Some(Request::Certify { automaton })
+}
+
+// The comparison that is asked for.
+fn implies_in<'a>(matches: &ArgMatches<'a>) -> Option<Request<'a>>
+    ensures { option_map asked_by result ≡ implies_among (rows_of (found_of matches.now)) }
+{
+    let first = operand_in(matches, "first")?;
+    let second = operand_in(matches, "second")?;
+    let limits = limits_among(matches)?;
+    Some(Request::Implies {
+        first,
+        second,
+        limits,
+    })
+}
+
+// The value of an operand.
+fn operand_in<'a>(matches: &ArgMatches<'a>, id: &str) -> Option<&'a str>
+    ensures { option_map (λ operand. operand.now) result ≡ first_of id.now (rows_of (found_of matches.now)) }
+{
+    matches.get_str(id)
 }
 
 // The limits that are asked for.

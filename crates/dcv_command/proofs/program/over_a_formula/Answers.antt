@@ -9,5 +9,5 @@ pub returns-clause-app : goal.returns-clause-app
 returns-clause-app c =
     let about : app_of c.about.result ≡ new_app c.args.name.now = ap app_of_fields c.about.ensures ∙ c.new.ensures.app in
     let one = c.in_ok-arg.ensures.shape c.file_operand.ensures.local ∙ ap₂ with_rule about c.file_operand.ensures.rule in
-    let two = c.in_ok-arg-2.ensures.shape c.limit.ensures.local ∙ ap₂ with_rule one c.limit.ensures.rule in
-    IfOk-weaker c.arg-3.result _ _ (λ command adds. adds.shape c.limit-2.ensures.local ∙ ap₂ with_rule two c.limit-2.ensures.rule) c.arg-3.ensures
+    let two = c.in_ok-arg-2.ensures.shape c.states_limit.ensures.local ∙ ap₂ with_rule one c.states_limit.ensures.rule in
+    IfOk-weaker c.arg-3.result _ _ (λ command adds. adds.shape c.nodes_limit.ensures.local ∙ ap₂ with_rule two c.nodes_limit.ensures.rule) c.arg-3.ensures

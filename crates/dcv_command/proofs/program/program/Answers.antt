@@ -1,8 +1,8 @@
 -- Each subcommand stands behind those before it.
-use Rattle.std.proofs.Common.{◌≡◌, ap, ◌∙◌, codes}
+use Rattle.std.proofs.Common.{ap, ◌∙◌, codes}
 use Rattle.std.proofs.lemmas.Result.{IfOk-weaker}
-use Rattle.clap.specs.Words.{App, app_of, with_subcommand}
-use Rattle.dcv_command.specs.Program.{bare_app, over_a_formula}
+use Rattle.clap.specs.Words.{App, with_subcommand}
+use Rattle.dcv_command.specs.Program.{over_a_formula, over_an_automaton, over_two_formulas}
 use Rattle.dcv_command.proofs.program.program.Goals as goal
 
 pub returns : goal.returns
@@ -11,4 +11,6 @@ returns c =
     let automaton = c.in_ok-automaton.ensures ∙ ap (λ (app : App). with_subcommand app (over_a_formula (codes "automaton"))) check in
     let lustre = c.in_ok-lustre.ensures ∙ ap (λ (app : App). with_subcommand app (over_a_formula (codes "lustre"))) automaton in
     let observer = c.in_ok-c.ensures ∙ ap (λ (app : App). with_subcommand app (over_a_formula (codes "c"))) lustre in
-    IfOk-weaker c.with_report-5.result _ _ (λ command is. is ∙ ap (λ (app : App). with_subcommand app (over_a_formula (codes "all"))) observer) c.with_report-5.ensures
+    let all = c.in_ok-all.ensures ∙ ap (λ (app : App). with_subcommand app (over_a_formula (codes "all"))) observer in
+    let certify = c.in_ok-certify.ensures ∙ ap (λ (app : App). with_subcommand app over_an_automaton) all in
+    IfOk-weaker c.with_implies.result _ _ (λ command is. is ∙ ap (λ (app : App). with_subcommand app over_two_formulas) certify) c.with_implies.ensures

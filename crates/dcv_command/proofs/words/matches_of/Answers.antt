@@ -2,13 +2,17 @@ use Rattle.std.proofs.Common.{◌≡◌, ◌≢◌, ◌∙◌, true, false, [], 
 use Rattle.clap.specs.Words.{app_of, fault_of, kind_of, takes}
 use Rattle.clap.specs.declared.error.kind.ErrorKind.TheVariants.{OutOfMemory}
 use Rattle.dcv_command.specs.Program.{program}
-use Rattle.dcv_command.proofs.Faults.{only_where, refused, not_taken, no_fault}
+use Rattle.dcv_command.proofs.Faults.{only_where, refused, not_taken, no_fault, found}
 use Rattle.dcv_command.proofs.words.matches_of.Goals as goal
 
 pub returns-in-Ok-clause-no_fault : goal.returns-in-Ok-clause-no_fault
 returns-in-Ok-clause-no_fault g c =
     no_fault (app_of c.in_ok-command.command) c.in_ok-command.ensures (map g.S.AsStr.text c.args.words.now) c.try_get_matches_from.result c.in-Ok.matches
     c.try_get_matches_from.ensures.kinds c.in-Ok.is
+
+pub returns-in-Ok-clause-subcommand : goal.returns-in-Ok-clause-subcommand
+returns-in-Ok-clause-subcommand g c =
+    found (app_of c.in_ok-command.command) c.in_ok-command.ensures (map g.S.AsStr.text c.args.words.now) c.in-Ok.matches c.in-Ok.ensures.matches
 
 pub returns-in-Err-2-clause-usage : goal.returns-in-Err-2-clause-usage
 returns-in-Err-2-clause-usage g c =

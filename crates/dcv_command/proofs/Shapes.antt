@@ -1,0 +1,144 @@
+-- Subcommands of each shape: words in which one has no fault ask for something.
+use Rattle.std.proofs.Common.{◌≡◌, refl, sym, ap, ◌∙◌, subst, Bool, true, false, ℕ, suc, length, arith, List, [], ◌∷◌, codes}
+use Rattle.std.specs.Prelude.{IsSome, ◌==◌, if◌then◌else◌, option_and_then, option_map}
+use Rattle.std.specs.Str.{bytes_eq}
+use Rattle.std.proofs.lemmas.Bool.{eqb-true}
+use Rattle.clap.specs.Words.{Kinds, Row, Text, first_of}
+use Rattle.clap.specs.Kinds.{or_else, range_kinds}
+use Rattle.clap.specs.Faults.{level_fault}
+use Rattle.clap.specs.Simple.{filled, help_rule, with_index}
+use Rattle.clap.specs.ValueTests.{is_unsigned_in}
+use Rattle.clap.specs.Walk.{nothing_held, rows_after, without}
+use Rattle.clap.specs.declared.builder.value_parser.Reading.TheVariants.{AsWritten}
+use Rattle.clap.specs.declared.error.kind.ErrorKind.{ErrorKind}
+use Rattle.clap.specs.declared.parser.matches.ValueSource.{ValueSource}
+use Rattle.clap.specs.declared.parser.matches.ValueSource.TheVariants.{CommandLine}
+use Rattle.dcv_print.specs.declared.report.Kind.{Kind}
+use Rattle.dcv_command.specs.Program.{file_operand, limit_option, most_nodes, most_states, nodes_option, over_a_formula, over_an_automaton, over_two_formulas, states_option}
+use Rattle.dcv_command.specs.Request.{Certify, Implies, Report, certify_in, implies_in, limits_among, report_in}
+use Rattle.dcv_command.proofs.Commands.{leaf}
+use Rattle.dcv_command.proofs.Leaves.{IsReadableShape, all_found}
+use Rattle.dcv_command.proofs.Rows.{AreReadable, IsFound, IsReadable, first_is_there, limits_are_there, new_row, readable_with, readable_without}
+use Rattle.dcv_command.proofs.Steps.{Keeps, last_is_empty}
+
+-- ---- each use of an argument leaves rows that can be read
+
+operand_is_readable : (id : Text) → bytes_eq id (codes "states") ≡ false → bytes_eq id (codes "nodes") ≡ false → (text : Text)
+    → IsReadable (new_row id AsWritten CommandLine (text ∷ []))
+operand_is_readable id no_states no_nodes text =
+    record {
+      text = text;
+      first = refl;
+      as_written = refl;
+      states = λ same. let wrong : true ≡ false = sym same ∙ no_states in cc;
+      nodes = λ same. let wrong : true ≡ false = sym same ∙ no_nodes in cc;
+    }
+
+states_are_readable : (source : ValueSource) (text : Text) → is_unsigned_in 1 most_states text ≡ true → IsReadable (new_row (codes "states") AsWritten source (text ∷ []))
+states_are_readable source text fits = record { text = text; first = refl; as_written = refl; states = λ same. fits; nodes = λ same. cc }
+
+nodes_are_readable : (source : ValueSource) (text : Text) → is_unsigned_in 1 most_nodes text ≡ true → IsReadable (new_row (codes "nodes") AsWritten source (text ∷ []))
+nodes_are_readable source text fits = record { text = text; first = refl; as_written = refl; states = λ same. cc; nodes = λ same. fits }
+
+no_fault_is_one : (kind : ErrorKind) → kind ∷ [] ≡ [] → ⊥
+no_fault_is_one kind none = cc
+
+range_kept : (empty one : Bool) (kind other : ErrorKind) (kinds : Kinds) → or_else (if empty then kind ∷ [] else (if one then [] else other ∷ [])) kinds ≡ [] → one ≡ true
+range_kept true one kind other kinds none = cc
+range_kept false true kind other kinds none = refl
+range_kept false false kind other kinds none = cc
+
+-- a use with two values or more is refused
+two_are_refused : (number : ℕ) (kinds : Kinds) → or_else (range_kinds 1 1 (suc (suc number))) kinds ≡ [] → ⊥
+two_are_refused number kinds none =
+    let same : 1 ≡ suc (suc number) = eqb-true 1 (suc (suc number)) (range_kept (suc (suc number) == 0) (1 == suc (suc number)) _ _ kinds none) in omega (arith, same)
+
+-- an operand at this place
+operand_keeps : (place : ℕ) (id : Text) → bytes_eq id (codes "states") ≡ false → bytes_eq id (codes "nodes") ≡ false
+    → Keeps false AreReadable (with_index place (filled (file_operand id)))
+operand_keeps place id no_states no_nodes [] rows all none = absurd (no_fault_is_one _ none)
+operand_keeps place id no_states no_nodes (text ∷ []) rows all none =
+    readable_with id AsWritten CommandLine (text ∷ []) (without id rows) (operand_is_readable id no_states no_nodes text) (readable_without id rows all)
+operand_keeps place id no_states no_nodes (text ∷ other ∷ more) rows all none = absurd (two_are_refused (length more) _ none)
+
+it_passes : (passes : Bool) (kind : ErrorKind) → or_else (if passes then [] else kind ∷ []) [] ≡ [] → passes ≡ true
+it_passes true kind none = refl
+it_passes false kind none = cc
+
+-- (an option has no place: the number that is counted on beside it says nothing)
+limit_keeps : (place : ℕ) (name : Text) (most : ℕ) (default : Text)
+    → ((text : Text) → is_unsigned_in 1 most text ≡ true → IsReadable (new_row name AsWritten CommandLine (text ∷ [])))
+    → Keeps false AreReadable (with_index place (filled (limit_option name most default)))
+limit_keeps place name most default readable [] rows all none = absurd (no_fault_is_one _ none)
+limit_keeps place name most default readable (text ∷ []) rows all none =
+    readable_with name AsWritten CommandLine (text ∷ []) (without name rows)
+    (readable text (it_passes (is_unsigned_in 1 most text) _ (last_is_empty _ _ none))) (readable_without name rows all)
+limit_keeps place name most default readable (text ∷ other ∷ more) rows all none = absurd (two_are_refused (length more) _ none)
+
+states_keep : (place : ℕ) → Keeps false AreReadable (with_index place (filled states_option))
+states_keep place = limit_keeps place (codes "states") most_states (codes "30000") (states_are_readable CommandLine)
+
+nodes_keep : (place : ℕ) → Keeps false AreReadable (with_index place (filled nodes_option))
+nodes_keep place = limit_keeps place (codes "nodes") most_nodes (codes "1000000") (nodes_are_readable CommandLine)
+
+help_keeps : (place : ℕ) → Keeps false AreReadable (with_index place (filled help_rule))
+help_keeps place values rows all none = all
+
+-- ---- over a formula file
+
+formula_is_readable : (name : Text) → IsReadableShape (leaf (over_a_formula name))
+formula_is_readable name =
+    record {
+      uses = (operand_keeps 1 (codes "file") refl refl, (states_keep 2, (nodes_keep 2, (help_keeps 2, tt))));
+      defaults = (tt, (states_are_readable _ (codes "30000") refl, (nodes_are_readable _ (codes "1000000") refl, (tt, tt))));
+    }
+
+report_is_some : (kind : Kind) (rows : List Row) → IsFound (codes "file") rows → IsFound (codes "states") rows → IsFound (codes "nodes") rows → IsSome (report_in kind rows)
+report_is_some kind rows file states nodes =
+    subst IsSome
+    (sym (ap (option_and_then (λ one. option_map (Report kind one) (limits_among rows))) (first_is_there (codes "file") rows file)
+    ∙ ap (option_map (Report kind file.readable.text)) (limits_are_there rows states nodes)))
+    refl
+
+pub report_asks : (name : Text) (kind : Kind) (words : List Text) → level_fault (leaf (over_a_formula name)) [] nothing_held words false [] ≡ []
+    → IsSome (report_in kind (rows_after (leaf (over_a_formula name)).rules [] words))
+report_asks name kind words none =
+    let found = all_found (leaf (over_a_formula name)) (formula_is_readable name) words none in
+    report_is_some kind (rows_after (leaf (over_a_formula name)).rules [] words) (found.0.required refl) (found.1.0.default tt) (found.1.1.0.default tt)
+
+-- ---- over an automaton's text
+
+automaton_is_readable : IsReadableShape (leaf over_an_automaton)
+automaton_is_readable = record { uses = (operand_keeps 1 (codes "automaton") refl refl, (help_keeps 2, tt)); defaults = (tt, (tt, tt)) }
+
+pub certify_asks : (words : List Text) → level_fault (leaf over_an_automaton) [] nothing_held words false [] ≡ []
+    → IsSome (certify_in (rows_after (leaf over_an_automaton).rules [] words))
+certify_asks words none =
+    let found = all_found (leaf over_an_automaton) automaton_is_readable words none in
+    subst IsSome (sym (ap (option_map Certify) (first_is_there (codes "automaton") (rows_after (leaf over_an_automaton).rules [] words) (found.0.required refl)))) refl
+
+-- ---- over two formula files
+
+formulas_are_readable : IsReadableShape (leaf over_two_formulas)
+formulas_are_readable =
+    record {
+      uses = (operand_keeps 1 (codes "first") refl refl, (operand_keeps 2 (codes "second") refl refl, (states_keep 3, (nodes_keep 3, (help_keeps 3, tt)))));
+      defaults = (tt, (tt, (states_are_readable _ (codes "30000") refl, (nodes_are_readable _ (codes "1000000") refl, (tt, tt)))));
+    }
+
+implies_is_some : (rows : List Row) → IsFound (codes "first") rows → IsFound (codes "second") rows → IsFound (codes "states") rows → IsFound (codes "nodes") rows
+    → IsSome (implies_in rows)
+implies_is_some rows first second states nodes =
+    subst IsSome
+    (sym (ap (option_and_then (λ one. option_and_then (λ other. option_map (Implies one other) (limits_among rows)) (first_of (codes "second") rows)))
+    (first_is_there (codes "first") rows first)
+    ∙ ap (option_and_then (λ other. option_map (Implies first.readable.text other) (limits_among rows))) (first_is_there (codes "second") rows second)
+    ∙ ap (option_map (Implies first.readable.text second.readable.text)) (limits_are_there rows states nodes)))
+    refl
+
+pub implies_asks : (words : List Text) → level_fault (leaf over_two_formulas) [] nothing_held words false [] ≡ []
+    → IsSome (implies_in (rows_after (leaf over_two_formulas).rules [] words))
+implies_asks words none =
+    let found = all_found (leaf over_two_formulas) formulas_are_readable words none in
+    implies_is_some (rows_after (leaf over_two_formulas).rules [] words) (found.0.required refl) (found.1.0.required refl) (found.1.1.0.default tt)
+    (found.1.1.1.0.default tt)
