@@ -1,6 +1,6 @@
 -- What `build` answers of a core is what is right for the steps of its file, and the verdict of its automaton is that of its words.
 use Rattle.std.proofs.Common.{◌≡◌, ℕ, ◌<◌, ◌≤◌, arith, List, length, map, Option, None, Some, Result, Ok, Err, sym, ap, ◌∙◌, subst}
-use Rattle.std.specs.Prelude.{IfOk, slice_get}
+use Rattle.std.specs.Prelude.{IfOk, IfErr, OnOk, slice_get}
 use Rattle.std.specs.Option.{option_map}
 use Rattle.std.proofs.lemmas.Option.{slice_get-map, slice_get_within}
 use Rattle.dcv_language.specs.Language.{Language, HaveSameBehaviours}
@@ -21,10 +21,11 @@ use Rattle.dcv_dfa.specs.Auto.{IsAuto, count_of_nodes, table_of_states}
 use Rattle.dcv_explore.specs.declared.explorer.Limits.{Limits}
 use Rattle.dcv_explore.specs.Budget.{Kind}
 use Rattle.dcv_build.specs.Budget.{IsAutomatonOf, IsOver, IsWithinBudget}
-use Rattle.dcv_build.specs.Given.{IsCoreOf}
+use Rattle.dcv_build.specs.Given.{IsCoreOf, IsCore}
 use Rattle.dcv_cli.specs.declared.budget_line.Excess.{Excess}
 use Rattle.dcv_cli.specs.declared.budget_line.Over.{Over}
 use Rattle.dcv_cli.specs.declared.refusal.Refusal.{Refusal}
+use Rattle.dcv_cli.specs.Expanded.{IsBuilt}
 use Rattle.dcv_cli.specs.Budget.{steps_of_file, kind_of, limit_of, IsFirstOverIn, NamesFirstOver}
 
 -- ---- steps of a core, with and without their trees
@@ -67,24 +68,14 @@ pub same_as_set : (accept : TableAcceptsAsTheStates) (auto : RawValue) → IsRaw
 same_as_set accept auto raw is k L of word b =
     sym (subst (λ k. HaveSameBehaviours k (table_accepts (table_of_states auto)) (raw_accepts auto)) of.slots (accept auto raw is.start) word b) ∙ of.canonical.exact word b
 
--- limits within the bounds leave an automaton within them
-pub few_states : (auto : RawValue) (given limits : Limits) → length auto.rows ≤ given.states → given ≡ limits → limits.states ≤ most_states
-    → length auto.rows ≤ most_states
-few_states auto given limits few same most =
-    let within = subst (λ (limits : Limits). length auto.rows ≤ limits.states) same few in
-    omega arith
-
-pub few_nodes : (auto : RawValue) (given limits : Limits) → count_of_nodes auto ≤ given.nodes → given ≡ limits → limits.nodes ≤ most_nodes
-    → count_of_nodes auto ≤ most_nodes
-few_nodes auto given limits few same most =
-    let within = subst (λ (limits : Limits). count_of_nodes auto ≤ limits.nodes) same few in
-    omega arith
-
 -- ---- what is said of a core, said of the file that it is of
 
 module _ (file : PlainFile) (core : PlainCore) (declared : core.declared ≡ length file.variables) (steps : core.steps ≡ map without_core (steps_of_file file)) where
   core_of_the_file : IsCoreOf (core_of_file file) core
   core_of_the_file = subst (λ k. core.steps ≡ map without_core (steps_of k (core_of_file file))) (sym declared) steps
+
+  pub is_core : IsCore core
+  is_core = record { tree = core_of_file file; is = core_of_the_file }
 
   pub over_in_file : (limits : Limits) (refusal : Refusal) → ((tree : CoreTree) → IsCoreOf tree core → NamesFirstOver (steps_of core.declared tree) limits refusal)
       → NamesFirstOver (steps_of_file file) limits refusal
@@ -106,3 +97,23 @@ module _ (file : PlainFile) (core : PlainCore) (declared : core.declared ≡ len
         canonical =
             move (length file.variables) (words_of (core_of_file file)) (models file) (table_of_states auto) of_words.access (models_are file) of_words.canonical;
       }
+
+  pub built_of_file : (limits : Limits) (auto : RawValue) → WordsAreModels → CanonicalForSameBehaviours
+      → ((tree : CoreTree) → IsCoreOf tree core → IsAutomatonOf core.declared (words_of tree) auto)
+      → ((tree : CoreTree) → IsCoreOf tree core → IsWithinBudget (steps_of core.declared tree) limits) → length auto.rows ≤ limits.states
+      → count_of_nodes auto ≤ limits.nodes → IsBuilt file limits auto
+  built_of_file limits auto models_are move canonical within states nodes =
+      record { within = within_in_file limits within; automaton = automaton_of_file auto models_are move canonical; states = states; nodes = nodes }
+
+  pub built_if_ok : (limits : Limits) (result : Result RawValue Refusal) → WordsAreModels → CanonicalForSameBehaviours
+      → ((tree : CoreTree) → IsCoreOf tree core → IfOk result (IsAutomatonOf core.declared (words_of tree)))
+      → ((tree : CoreTree) → IsCoreOf tree core → OnOk result (IsWithinBudget (steps_of core.declared tree) limits))
+      → IfOk result (λ auto. length auto.rows ≤ limits.states) → IfOk result (λ auto. count_of_nodes auto ≤ limits.nodes) → IfOk result (IsBuilt file limits)
+  built_if_ok limits (Ok auto) models_are move canonical within states nodes = built_of_file limits auto models_are move canonical within states nodes
+  built_if_ok limits (Err refusal) models_are move canonical within states nodes = tt
+
+  pub over_if_err : (limits : Limits) (result : Result RawValue Refusal)
+      → ((tree : CoreTree) → IsCoreOf tree core → IfErr result (NamesFirstOver (steps_of core.declared tree) limits))
+      → IfErr result (NamesFirstOver (steps_of_file file) limits)
+  over_if_err limits (Ok auto) over = tt
+  over_if_err limits (Err refusal) over = over_in_file limits refusal over

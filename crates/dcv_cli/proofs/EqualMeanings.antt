@@ -13,16 +13,18 @@ use Rattle.dcv_print.specs.Printed.{texts_of}
 use Rattle.dcv_reader.specs.Spelling.{SpellsOne}
 use Rattle.dcv_syntax.specs.declared.names.Name.{Name}
 use Rattle.dcv_syntax.specs.Plain.{PlainFile}
-use Rattle.dcv_command.specs.Request.{Request, limits_in, kind_in}
+use Rattle.dcv_explore.specs.declared.explorer.Limits.{Limits}
 use Rattle.dcv_cli.specs.declared.refusal.Refusal.{Refusal}
-use Rattle.dcv_cli.specs.declared.refusal.Refusal.TheVariants.{Open, Read as ReadRefusal, Length, Text, Budget, Write, Memory}
+use Rattle.dcv_cli.specs.declared.refusal.Refusal.TheVariants.{Open, Read as ReadRefusal, Formula, Automaton, Budget, Product, Write, Memory}
 use Rattle.dcv_cli.specs.declared.status.Status.{Status}
 use Rattle.dcv_cli.specs.declared.status.Status.TheVariants.{Budget as StatusBudget}
 use Rattle.dcv_cli.specs.Budget.{IsBudgeted, OverBudget, WithinBudget}
 use Rattle.dcv_cli.specs.FormulaFile.{IsFormulaFile, OnText, Refused, Read}
-use Rattle.dcv_cli.specs.Laws.{AskTheSame, IsAnswer, EqualMeanings}
+use Rattle.dcv_cli.specs.Laws.{IsAnswer, EqualMeanings}
+use Rattle.dcv_cli.specs.Held.{Texts}
 use Rattle.dcv_cli.specs.Outcome.{Outcome}
-use Rattle.dcv_cli.specs.Refusal.{Only, status_of}
+use Rattle.dcv_cli.specs.Refusal.{status_of}
+use Rattle.dcv_cli.specs.declared.refused.Which.TheVariants.{Only}
 use Rattle.dcv_cli.specs.Report.{Says, IsReport}
 use Rattle.dcv_cli.specs.Status.{is_answer, status_of_verdict}
 use Rattle.dcv_cli.proofs.Texts.{one_text, says_of_same}
@@ -31,8 +33,9 @@ use Rattle.dcv_cli.proofs.Texts.{one_text, says_of_same}
 no_refusal_answers : (refusal : Refusal) → IsTrue (is_answer (status_of refusal)) → ⊥
 no_refusal_answers Open is = true≢false (sym is)
 no_refusal_answers ReadRefusal is = true≢false (sym is)
-no_refusal_answers Length is = true≢false (sym is)
-no_refusal_answers (Text fault at) is = true≢false (sym is)
+no_refusal_answers (Formula fault) is = true≢false (sym is)
+no_refusal_answers (Automaton fault) is = true≢false (sym is)
+no_refusal_answers (Product excess limit) is = true≢false (sym is)
 no_refusal_answers (Budget over) is = true≢false (sym is)
 no_refusal_answers Write is = true≢false (sym is)
 no_refusal_answers Memory is = true≢false (sym is)
@@ -41,38 +44,37 @@ answers_as : (outcome : Outcome) (status : Status) → outcome.status ≡ status
 answers_as outcome status is answers = subst (λ (s : Status). IsTrue (is_answer s)) is answers
 
 module _ (one_tree : SpellsOne) where
-  report_on_text : (request : Request) (text : List ℕ) (file : PlainFile) (outcome : Outcome) → IsFormulaFile text file → IsTrue (is_answer outcome.status)
-      → OnText text Only (IsBudgeted (limits_in request) (IsReport (kind_in request))) outcome → IsReport (kind_in request) file outcome
-  report_on_text request text file outcome formula answers (Refused refusal is e) =
+  report_on_text : (kind : Kind) (limits : Limits) (text : List ℕ) (file : PlainFile) (outcome : Outcome) → IsFormulaFile text file → IsTrue (is_answer outcome.status)
+      → OnText text Only (IsBudgeted limits Only (IsReport kind)) outcome → IsReport kind file outcome
+  report_on_text kind limits text file outcome formula answers (Refused refusal is e) =
       absurd (no_refusal_answers refusal (answers_as outcome (status_of refusal) (ap (λ (o : Outcome). o.status) e) answers))
-  report_on_text request text file outcome formula answers (Read other is (OverBudget over first e)) =
+  report_on_text kind limits text file outcome formula answers (Read other is (OverBudget over first e)) =
       absurd (no_refusal_answers (Budget over) (answers_as outcome StatusBudget (ap (λ (o : Outcome). o.status) e) answers))
-  report_on_text request text file outcome formula answers (Read other is (WithinBudget within report)) =
-      subst (λ (f : PlainFile). IsReport (kind_in request) f outcome) (one_tree text other file is.sentence.spelled formula.sentence.spelled) report
+  report_on_text kind limits text file outcome formula answers (Read other is (WithinBudget within report)) =
+      subst (λ (f : PlainFile). IsReport kind f outcome) (one_tree text other file is.sentence.spelled formula.sentence.spelled) report
 
-  report_of : (request : Request) (held : List ℕ → Option (List ℕ)) (file : PlainFile) (outcome : Outcome) → IsAnswer request held file outcome → IsReport (kind_in request) file outcome
-  report_of request held file outcome is =
-      report_on_text request is.text file outcome is.formula is.answers
-      (subst (λ (text : Option (List ℕ)). IsSomeAnd text (λ bytes. OnText bytes Only (IsBudgeted (limits_in request) (IsReport (kind_in request))) outcome)) is.there is.right)
+  report_of : (kind : Kind) (name : List ℕ) (limits : Limits) (held : Texts) (file : PlainFile) (outcome : Outcome)
+      → IsAnswer kind name limits held file outcome → IsReport kind file outcome
+  report_of kind name limits held file outcome is =
+      report_on_text kind limits is.text file outcome is.formula is.answers
+      (subst (λ (text : Option (List ℕ)). IsSomeAnd text (λ bytes. OnText bytes Only (IsBudgeted limits Only (IsReport kind)) outcome)) is.there is.right)
 
 module _ (one_tree : SpellsOne) (one_verdict : OneVerdict) (move_verdict : VerdictOfSameBehaviours) (one_automaton : OneAutomaton) (move : AutomatonOfSameBehaviours)
     (one_file : OneFile) (move_file : FileOfSameBehaviours) (say_node : FileSaysNode) (say_unit : FileSaysUnit) where
   pub equal_meanings : EqualMeanings
-  equal_meanings request other held other_held file other_file one another ask mean answer other_answer =
-      let r = report_of one_tree request held file one answer in
-      let s = report_of one_tree other other_held other_file another other_answer in
+  equal_meanings kind name other_name limits other_limits held other_held file other_file one another mean answer other_answer =
+      let r = report_of one_tree kind name limits held file one answer in
+      let s = report_of one_tree kind other_name other_limits other_held other_file another other_answer in
       let count : length other_file.variables ≡ length file.variables =
       sym (length-map other_file.variables (λ (name : Name). name.text)) ∙ ap length (sym mean.same_names) ∙ length-map file.variables (λ (name : Name). name.text) in
       let moved = move_verdict (length file.variables) (models file) (models other_file) r.verdict mean.same_models r.is_verdict in
       let same : r.verdict ≡ s.verdict =
       one_verdict (length file.variables) (models other_file) r.verdict s.verdict moved (subst (λ k. IsVerdict k (models other_file) s.verdict) count s.is_verdict) in
-      let kind = kind_in request in
       let says =
       says_of_same move move_file say_node say_unit (length file.variables) (models file) (models other_file) (texts_of file.variables) mean.same_models r.verdict one.out kind r.says in
       let other_says =
-      subst (λ (kind : Kind). Says kind (length file.variables) (models other_file) (texts_of file.variables) s.verdict another.out) (sym ask)
-      (subst (λ (names : List (List ℕ)). Says (kind_in other) (length file.variables) (models other_file) names s.verdict another.out) (sym mean.same_names)
-      (subst (λ k. Says (kind_in other) k (models other_file) (texts_of other_file.variables) s.verdict another.out) count s.says)) in
+      subst (λ (names : List (List ℕ)). Says kind (length file.variables) (models other_file) names s.verdict another.out) (sym mean.same_names)
+      (subst (λ k. Says kind k (models other_file) (texts_of other_file.variables) s.verdict another.out) count s.says) in
       record {
         status = r.status ∙ ap status_of_verdict same ∙ sym s.status;
         report =

@@ -34,22 +34,24 @@ use Rattle.dcv_print.specs.declared.report.Kind.{Kind as ReportKind}
 use Rattle.dcv_cli.specs.Report.{IsReport}
 use Rattle.dcv_cli.proofs.Texts.{one_text}
 use Rattle.dcv_cli.specs.FormulaFile.{IsRefused, TooLong, Faulty, HasNoCore, IsSentence, IsFormulaFile, OnText, Refused, Read}
-use Rattle.dcv_cli.specs.Laws.{NameOneStep, OneOutcome}
+use Rattle.dcv_cli.specs.Laws.{NameOneStep, OneOutcome, AskForAReport}
+use Rattle.dcv_cli.specs.Held.{Texts}
 use Rattle.dcv_cli.specs.Outcome.{Outcome, refused, Agrees}
-use Rattle.dcv_cli.specs.Refusal.{most_bytes, Which, Only, message_of, status_of, refusal_of_reading, refusal_of_scope}
-use Rattle.dcv_command.specs.Request.{Request, file_in, limits_in, kind_in}
+use Rattle.dcv_cli.specs.Refusal.{most_bytes, message_of, only, status_of, refusal_of_reading, refusal_of_scope}
+use Rattle.dcv_cli.specs.declared.refused.Which.{Which}
+use Rattle.dcv_cli.specs.declared.refused.Which.TheVariants.{Only, First, Second}
+use Rattle.dcv_automaton_text.specs.Laws.{OneFile as OneAutomatonText}
+use Rattle.dcv_certify.specs.Laws.{OneAnswer}
+use Rattle.dcv_cli.proofs.OneCertificate.{same_agrees, one_held_certificate}
+use Rattle.dcv_cli.specs.Comparison.{IsCompared, Undeclared, Declared, IsDifference, OverProduct, WithinProduct, compared}
+use Rattle.dcv_cli.specs.Held.{OnHeld}
+use Rattle.dcv_command.specs.Request.{Request, Report, Certify, Implies}
+use Rattle.dcv_implies.specs.Comparison.{TooMany, Least}
+use Rattle.dcv_implies.specs.Laws.{OneAnswer as OneComparison}
 use Rattle.dcv_cli.specs.Request.{AsksFor}
 use Rattle.dcv_print.specs.Printed.{texts_of}
 use Rattle.dcv_cli.specs.Right.{Fulfils, IsRight, Misused, Fulfilled}
 use Rattle.dcv_cli.specs.Status.{status_of_verdict}
-
--- outcomes that are the same agree
-same_agrees : (one other : Outcome) → one ≡ other → Agrees one other
-same_agrees one other e = record {
-  status = ap (λ (o : Outcome). o.status) e;
-  report = inl (ap (λ (o : Outcome). o.out) e);
-  message = λ taken within. ap (λ (o : Outcome). o.err) e;
-}
 
 -- ---- statuses that are not that of a step over the limits
 
@@ -97,7 +99,8 @@ answer_is_no_refusal verdict e = by (is_none verdict.counterexample) e
 one_some : (first second : ℕ) → Some first ≡ Some second → first ≡ second
 one_some first second e = cc
 
-module _ (one_tree : SpellsOne) (one_fault : FaultIsUnique) (one_verdict : OneVerdict) (one_step : OneStepIsOver) (none_over : WithinExcludesOver) (one_automaton : OneAutomaton) (one_automaton_file : OneFile) where
+module _ (one_tree : SpellsOne) (one_fault : FaultIsUnique) (one_verdict : OneVerdict) (one_step : OneStepIsOver) (none_over : WithinExcludesOver) (one_automaton : OneAutomaton) (one_automaton_file : OneFile)
+    (one_automaton_text : OneAutomatonText) (one_answer : OneAnswer) (one_comparison : OneComparison) where
   one_sentence : (text : List ℕ) (f g : PlainFile) → IsSentence text f → IsSentence text g → f ≡ g
   one_sentence text f g s t = one_tree text f g s.spelled t.spelled
 
@@ -184,51 +187,47 @@ module _ (one_tree : SpellsOne) (one_fault : FaultIsUnique) (one_verdict : OneVe
       by Nodes States TooManyNodes p q differ = p
 
   -- a right outcome with the status of a step over the limits names it
-  record Names (request : Request) (text : List ℕ) (outcome : Outcome) : Type 0 where
+  record Names (limits : Limits) (text : List ℕ) (outcome : Outcome) : Type 0 where
     file : PlainFile
     formula : IsFormulaFile text file
     over : Over
-    is : IsFirstOver (limits_in request) file over
-    says : outcome.err ≡ message_of (Budget over)
+    is : IsFirstOver limits file over
+    says : outcome.err ≡ message_of (only (Budget over))
 
-  named : (request : Request) (text : List ℕ) (outcome : Outcome) → OnText text Only (IsBudgeted (limits_in request) (IsReport (kind_in request))) outcome
-      → outcome.status ≡ StatusBudget → Names request text outcome
-  named request text outcome (Refused refusal is e) budget =
+  named : (kind : ReportKind) (limits : Limits) (text : List ℕ) (outcome : Outcome) → OnText text Only (IsBudgeted limits Only (IsReport kind)) outcome
+      → outcome.status ≡ StatusBudget → Names limits text outcome
+  named kind limits text outcome (Refused refusal is e) budget =
       absurd (refused_is_formula text refusal is (sym (ap (λ (o : Outcome). o.status) e) ∙ budget))
-  named request text outcome (Read file is (WithinBudget within report)) budget = absurd (answer_is_no_refusal report.verdict (sym report.status ∙ budget))
-  named request text outcome (Read file is (OverBudget over first e)) budget =
+  named kind limits text outcome (Read file is (WithinBudget within report)) budget = absurd (answer_is_no_refusal report.verdict (sym report.status ∙ budget))
+  named kind limits text outcome (Read file is (OverBudget over first e)) budget =
       record { file = file; formula = is; over = over; is = first; says = ap (λ (o : Outcome). o.err) e }
 
-  two_names : (words : List (List ℕ)) (held : List ℕ → Option (List ℕ)) (request : Request) (text : List ℕ) (a b : Outcome) → AsksFor words request
-      → held (file_in request) ≡ Some text → Names request text a → Names request text b → NameOneStep words held a.err b.err
-  two_names words held request text a b asks there one other =
-      let second = subst (λ (file : PlainFile). IsFirstOver (limits_in request) file other.over) (one_file text other.file one.file other.formula one.formula) other.is in
-      record {
-        asks = record { request = request; asked = asks; text = text; there = there; file = one.file; formula = one.formula };
-        first = one.over;
-        second = other.over;
-        first_is = one.is;
-        second_is = second;
-        one_is = one.says;
-        other_is = other.says;
-        step = one_first (limits_in request) one.file one.over other.over one.is second;
-        same = one_excess (limits_in request) one.file one.over other.over one.is second;
-        both = both_over (limits_in request) one.file one.over other.over one.is second;
-      }
+  module _ (words : List (List ℕ)) (held : Texts) (kind : ReportKind) (name : List ℕ) (limits : Limits) (asks : AsksFor words (Report kind name limits)) where
+    two_names : (text : List ℕ) (a b : Outcome) → held 0 name ≡ Some text → Names limits text a → Names limits text b → NameOneStep words held a.err b.err
+    two_names text a b there one other =
+        let second = subst (λ (file : PlainFile). IsFirstOver limits file other.over) (one_file text other.file one.file other.formula one.formula) other.is in
+        record {
+          asks = record { kind = kind; name = name; limits = limits; asked = asks; text = text; there = there; file = one.file; formula = one.formula };
+          first = one.over;
+          second = other.over;
+          first_is = one.is;
+          second_is = second;
+          one_is = one.says;
+          other_is = other.says;
+          step = one_first limits one.file one.over other.over one.is second;
+          same = one_excess limits one.file one.over other.over one.is second;
+          both = both_over limits one.file one.over other.over one.is second;
+        }
 
-  one_step_named : (words : List (List ℕ)) (held : List ℕ → Option (List ℕ)) (request : Request) (a b : Outcome) → AsksFor words request
-      → Fulfils request held a → Fulfils request held b → a.status ≡ StatusBudget → b.status ≡ StatusBudget → NameOneStep words held a.err b.err
-  one_step_named words held request a b asks p q over over' = by (held (file_in request)) refl p q
-    where
-      by : (found : Option (List ℕ)) → held (file_in request) ≡ found
-          → IsSomeAnd found (λ text. OnText text Only (IsBudgeted (limits_in request) (IsReport (kind_in request))) a)
-          → IsSomeAnd found (λ text. OnText text Only (IsBudgeted (limits_in request) (IsReport (kind_in request))) b) → NameOneStep words held a.err b.err
-      by None there p q = absurd p
-      by (Some text) there p q = two_names words held request text a b asks there (named request text a p over) (named request text b q over')
+    one_step_named : (a b : Outcome) (found : Option (List ℕ)) → held 0 name ≡ found → IsSomeAnd found (λ text. OnText text Only (IsBudgeted limits Only (IsReport kind)) a)
+        → IsSomeAnd found (λ text. OnText text Only (IsBudgeted limits Only (IsReport kind)) b) → a.status ≡ StatusBudget → b.status ≡ StatusBudget
+        → NameOneStep words held a.err b.err
+    one_step_named a b None there p q over over' = absurd p
+    one_step_named a b (Some text) there p q over over' = two_names text a b there (named kind limits text a p over) (named kind limits text b q over')
 
   -- two messages of one step agree but for the message
-  one_over : (limits : Limits) (file : PlainFile) (a b : Outcome) (over another : Over) → a ≡ refused (Budget over) Only → b ≡ refused (Budget another) Only → Agrees a b
-  one_over limits file a b over another e e' = record {
+  one_over : (limits : Limits) (which : Which) (file : PlainFile) (a b : Outcome) (over another : Over) → a ≡ refused (Budget over) which → b ≡ refused (Budget another) which → Agrees a b
+  one_over limits which file a b over another e e' = record {
     status = ap (λ (o : Outcome). o.status) e ∙ sym (ap (λ (o : Outcome). o.status) e');
     report = inl (ap (λ (o : Outcome). o.out) e ∙ sym (ap (λ (o : Outcome). o.out) e'));
     message = λ taken within. absurd (within (ap (λ (o : Outcome). o.status) e));
@@ -243,20 +242,46 @@ module _ (one_tree : SpellsOne) (one_fault : FaultIsUnique) (one_verdict : OneVe
         message = λ taken within. r.no_message ∙ sym s.no_message;
       }
 
-  one_budgeted : (limits : Limits) (RightFor : PlainFile → Outcome → Type 0)
+  one_budgeted : (limits : Limits) (which : Which) (RightFor : PlainFile → Outcome → Type 0)
       → ((file : PlainFile) (a b : Outcome) → RightFor file a → RightFor file b → Agrees a b)
-      → (file : PlainFile) (a b : Outcome) → IsBudgeted limits RightFor file a → IsBudgeted limits RightFor file b → Agrees a b
-  one_budgeted limits RightFor one file a b (OverBudget over is e) (OverBudget another is' e') = one_over limits file a b over another e e'
-  one_budgeted limits RightFor one file a b (OverBudget over is e) (WithinBudget within right) =
+      → (file : PlainFile) (a b : Outcome) → IsBudgeted limits which RightFor file a → IsBudgeted limits which RightFor file b → Agrees a b
+  one_budgeted limits which RightFor one file a b (OverBudget over is e) (OverBudget another is' e') = one_over limits which file a b over another e e'
+  one_budgeted limits which RightFor one file a b (OverBudget over is e) (WithinBudget within right) =
       absurd (none_over (length file.variables) (core_of_file file) limits (kind_of over.excess) over.step within is.is_over)
-  one_budgeted limits RightFor one file a b (WithinBudget within right) (OverBudget over is e) =
+  one_budgeted limits which RightFor one file a b (WithinBudget within right) (OverBudget over is e) =
       absurd (none_over (length file.variables) (core_of_file file) limits (kind_of over.excess) over.step within is.is_over)
-  one_budgeted limits RightFor one file a b (WithinBudget within right) (WithinBudget within' right') = one file a b right right'
+  one_budgeted limits which RightFor one file a b (WithinBudget within right) (WithinBudget within' right') = one file a b right right'
 
-  one_fulfilled : (request : Request) (held : List ℕ → Option (List ℕ)) (a b : Outcome) → Fulfils request held a → Fulfils request held b → Agrees a b
-  one_fulfilled request held a b p q =
-      one_on_file (held (file_in request)) Only (IsBudgeted (limits_in request) (IsReport (kind_in request)))
-      (one_budgeted (limits_in request) (IsReport (kind_in request)) (one_report (kind_in request))) a b p q
+  one_difference : (limits : Limits) (one other : PlainFile) (a b : Outcome) → IsDifference limits one other a → IsDifference limits one other b → Agrees a b
+  one_difference limits one other a b (OverProduct excess over e) (OverProduct excess' over' e') = record {
+    status = ap (λ (o : Outcome). o.status) e ∙ sym (ap (λ (o : Outcome). o.status) e');
+    report = inl (ap (λ (o : Outcome). o.out) e ∙ sym (ap (λ (o : Outcome). o.out) e'));
+    message = λ taken within. absurd (within (ap (λ (o : Outcome). o.status) e));
+  }
+  one_difference limits one other a b (OverProduct excess over e) (WithinProduct within is) =
+      absurd (one_comparison limits (length one.variables) (models one) (models other) (TooMany (kind_of excess)) (Least is.least) over (within, is.is_least))
+  one_difference limits one other a b (WithinProduct within is) (OverProduct excess over e) =
+      absurd (one_comparison limits (length one.variables) (models one) (models other) (Least is.least) (TooMany (kind_of excess)) (within, is.is_least) over)
+  one_difference limits one other a b (WithinProduct within is) (WithinProduct within' is') =
+      let same : is.least ≡ is'.least =
+      one_comparison limits (length one.variables) (models one) (models other) (Least is.least) (Least is'.least) (within, is.is_least) (within', is'.is_least) in
+      same_agrees a b (is.says ∙ ap compared same ∙ sym is'.says)
+
+  one_compared : (limits : Limits) (one other : PlainFile) (a b : Outcome) → IsCompared limits one other a → IsCompared limits one other b → Agrees a b
+  one_compared limits one other a b (Undeclared differ e) (Undeclared differ' e') = same_agrees a b (e ∙ sym e')
+  one_compared limits one other a b (Undeclared differ e) (Declared same is) = absurd (differ same)
+  one_compared limits one other a b (Declared same is) (Undeclared differ e) = absurd (differ same)
+  one_compared limits one other a b (Declared same is) (Declared same' is') =
+      one_budgeted limits First (λ first. IsBudgeted limits Second (IsDifference limits first) other)
+      (λ first a b p q. one_budgeted limits Second (IsDifference limits first) (one_difference limits first) other a b p q) one a b is is'
+
+  one_fulfilled : (request : Request) (held : Texts) (a b : Outcome) → Fulfils request held a → Fulfils request held b → Agrees a b
+  one_fulfilled (Report kind name limits) held a b p q =
+      one_on_file (held 0 name) Only (IsBudgeted limits Only (IsReport kind)) (one_budgeted limits Only (IsReport kind) (one_report kind)) a b p q
+  one_fulfilled (Certify name) held a b p q = one_held_certificate one_automaton_text one_answer (held 0 name) a b p q
+  one_fulfilled (Implies first second limits) held a b p q =
+      one_on_file (held 0 first) First (λ one. OnHeld (held 1) second (λ text. OnText text Second (IsCompared limits one)))
+      (λ one a b p q. one_on_file (held 1 second) Second (IsCompared limits one) (one_compared limits one) a b p q) a b p q
 
   -- words ask for one thing
   one_request : (words : List (List ℕ)) (r s : Request) → AsksFor words r → AsksFor words s → r ≡ s
@@ -265,7 +290,7 @@ module _ (one_tree : SpellsOne) (one_fault : FaultIsUnique) (one_verdict : OneVe
       some_same : (r s : Request) → Some r ≡ Some s → r ≡ s
       some_same r s e = cc
 
-  one_right : (words : List (List ℕ)) (held : List ℕ → Option (List ℕ)) (one other : Outcome) → IsRight words held one → IsRight words held other → Agrees one other
+  one_right : (words : List (List ℕ)) (held : Texts) (one other : Outcome) → IsRight words held one → IsRight words held other → Agrees one other
   one_right words held one other (Misused not s o) (Misused not' s' o') =
       record { status = s ∙ sym s'; report = inl (o ∙ sym o'); message = λ told within. absurd (told s) }
   one_right words held one other (Misused not s o) (Fulfilled request asked right) = absurd (not asked.taken)
@@ -274,15 +299,17 @@ module _ (one_tree : SpellsOne) (one_fault : FaultIsUnique) (one_verdict : OneVe
       one_fulfilled r held one other right
       (subst (λ (request : Request). Fulfils request held other) (one_request words s r asked' asked) right')
 
-  right_names_one : (words : List (List ℕ)) (held : List ℕ → Option (List ℕ)) (one other : Outcome) → IsRight words held one → IsRight words held other
+  right_names_one : (words : List (List ℕ)) (held : Texts) (one other : Outcome) → IsRight words held one → IsRight words held other → AskForAReport words
       → one.status ≡ StatusBudget → other.status ≡ StatusBudget → NameOneStep words held one.err other.err
-  right_names_one words held one other (Misused not s o) right over over' = absurd (no_usage_budget (sym s ∙ over))
-  right_names_one words held one other (Fulfilled r asked right) (Misused not s o) over over' = absurd (no_usage_budget (sym s ∙ over'))
-  right_names_one words held one other (Fulfilled r asked right) (Fulfilled s asked' right') over over' =
-      one_step_named words held r one other asked right
-      (subst (λ (request : Request). Fulfils request held other) (one_request words s r asked' asked) right') over over'
+  right_names_one words held one other (Misused not s o) right asks over over' = absurd (no_usage_budget (sym s ∙ over))
+  right_names_one words held one other (Fulfilled r asked right) (Misused not s o) asks over over' = absurd (no_usage_budget (sym s ∙ over'))
+  right_names_one words held one other (Fulfilled r asked right) (Fulfilled s asked' right') (kind, name, limits, asks) over over' =
+      let report = Report kind name limits in
+      one_step_named words held kind name limits asks one other (held 0 name) refl
+      (subst (λ (request : Request). Fulfils request held one) (one_request words r report asked asks) right)
+      (subst (λ (request : Request). Fulfils request held other) (one_request words s report asked' asks) right') over over'
 
   pub one_outcome : OneOutcome
   one_outcome words held one other is is' =
       let agrees = one_right words held one other is is' in
-      (agrees, λ over. right_names_one words held one other is is' over (sym agrees.status ∙ over))
+      (agrees, λ asks over. right_names_one words held one other is is' asks over (sym agrees.status ∙ over))

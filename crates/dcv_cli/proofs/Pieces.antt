@@ -1,12 +1,21 @@
 -- A front of a later piece, behind whole earlier ones, is a front of all of them.
 use Rattle.std.proofs.Common.{◌≡◌, ℕ, suc, ◌<◌, List, ◌++◌, codes, append_assoc, length, get_or, take, drop, Option, sym, ap, ◌∙◌, subst}
 use Rattle.std.specs.Borrow.{Bor}
+use Rattle.std.specs.Prelude.{OnOk, OnErr, ⊤}
+use Rattle.std.proofs.Common.{Result, Ok, Err, refl}
+use Rattle.dcv_io.specs.declared.fault.Failed.{Failed}
+use Rattle.dcv_language.specs.VerdictText.{line}
+use Rattle.dcv_cli.specs.Refusal.{words_of, ended, end_of, message_of}
+use Rattle.dcv_cli.specs.declared.refused.Refused.{Refused}
+use Rattle.dcv_cli.specs.declared.refused.Which.{Which}
+use Rattle.dcv_cli.specs.declared.refused.Which.TheVariants.{Only, First, Second}
 use Rattle.std.specs.List.{flat_map}
 use Rattle.std.proofs.lemmas.Grind.{flat_map-append}
-use Rattle.std.proofs.lemmas.List.{take-append-drop}
+use Rattle.std.proofs.lemmas.List.{take-append-drop, take-append-le}
+use Rattle.std.proofs.Common.{◌≤◌, arith, length-append}
 use Rattle.std.proofs.Math.Seq.{drop-cons}
-use Rattle.dcv_io.specs.Written.{Appends, AppendsPrefix, AppendsStrictPrefix}
-use Rattle.dcv_io.proofs.Appending.{strict_is_prefix, appends_further, appends_less}
+use Rattle.dcv_io.specs.Written.{Appends, AppendsPrefix, AppendsStrictPrefix, appended}
+use Rattle.dcv_io.proofs.Appending.{strict_is_prefix, appends_further, appends_less, appended-appended}
 
 abbrev joined : List (Bor (List ℕ)) → List ℕ
 joined pieces = flat_map (λ piece. piece.now) pieces
@@ -45,3 +54,48 @@ in_any_order word limit at step end =
     ∙ append_assoc two limit (codes " at " ++ (at ++ (codes " step " ++ (step ++ end))))
     ∙ append_assoc one (codes " ") (limit ++ (codes " at " ++ (at ++ (codes " step " ++ (step ++ end)))))
     ∙ append_assoc budget word (codes " " ++ (limit ++ (codes " at " ++ (at ++ (codes " step " ++ (step ++ end)))))))
+
+pub five_pieces : (a b c d e : List ℕ) → a ++ (b ++ (c ++ (d ++ e))) ≡ (a ++ b ++ c ++ d) ++ e
+five_pieces a b c d e = sym (append_assoc (a ++ b ++ c) d e ∙ append_assoc (a ++ b) c (d ++ e) ∙ append_assoc a b (c ++ (d ++ e)))
+
+-- ---- a line, by its words and its end
+
+ends_line : (refused : Refused) → words_of refused.refusal ++ end_of refused.which ≡ message_of refused
+ends_line refused = by refused.which (words_of refused.refusal)
+  where
+    by : (which : Which) (words : List ℕ) → words ++ end_of which ≡ line (ended which words)
+    by Only words = refl
+    by First words = sym (append_assoc words (codes " in first") (codes "\n"))
+    by Second words = sym (append_assoc words (codes " in second") (codes "\n"))
+
+module _ (old mid new : Option (List ℕ)) (refused : Refused) (end : List ℕ) (result : Result ⊤ Failed) (words : Appends old mid (words_of refused.refusal))
+    (is : end ≡ end_of refused.which) where
+  whole : words_of refused.refusal ++ end ≡ message_of refused
+  whole = ap (λ bytes. words_of refused.refusal ++ bytes) is ∙ ends_line refused
+
+  pub line_told : OnOk result (Appends mid new end) → OnOk result (Appends old new (message_of refused))
+  line_told told = by result told
+    where
+      by : (result : Result ⊤ Failed) → OnOk result (Appends mid new end) → OnOk result (Appends old new (message_of refused))
+      by (Ok done) told = subst (λ (bytes : List ℕ). Appends old new bytes) whole (told ∙ ap (λ written. appended written end) words ∙ appended-appended old (words_of refused.refusal) end)
+      by (Err failed) told = tt
+
+  pub line_begun : OnErr result (AppendsStrictPrefix mid new end) → OnErr result (AppendsPrefix old new (message_of refused))
+  line_begun part = by result part
+    where
+      by : (result : Result ⊤ Failed) → OnErr result (AppendsStrictPrefix mid new end) → OnErr result (AppendsPrefix old new (message_of refused))
+      by (Ok done) part = tt
+      by (Err failed) part =
+          subst (λ (bytes : List ℕ). AppendsPrefix old new bytes) whole
+          (strict_is_prefix old new _ (appends_further old mid new (words_of refused.refusal) end words part))
+
+-- a front of the words is a front of the line
+pub words_begun : (old new : Option (List ℕ)) (refused : Refused) → AppendsPrefix old new (words_of refused.refusal) → AppendsPrefix old new (message_of refused)
+words_begun old new refused part =
+    let words = words_of refused.refusal in
+    let fits : part.0 ≤ length words = part.1 in
+    subst (λ (bytes : List ℕ). AppendsPrefix old new bytes) (ends_line refused) (
+      part.0,
+      omega (arith, fits, length-append words (end_of refused.which)),
+      subst (λ (bytes : List ℕ). Appends old new bytes) (sym (take-append-le part.0 words (end_of refused.which) fits)) part.2,
+    )

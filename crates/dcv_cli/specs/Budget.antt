@@ -3,7 +3,8 @@
 --     kind_of, limit_of               what there is too much of, and how much there may be
 --     IsFirstOver limits file over    this step is the first over the limits, with what it has too much of and where its text begins
 --     NamesFirstOver steps limits r   the refusal names the first of these steps that is over the limits, or memory ran out
---     IsBudgeted limits Right ..      the outcome names the first step over the limits, or there is none and it is right otherwise
+--     IsBudgeted limits which Right ..
+--                                     the outcome names the first step over the limits, or there is none and it is right otherwise
 use Rattle.std.specs.Prelude.{◌≡◌, ℕ, List, Some, length, slice_get}
 use Rattle.std.specs.Option.{option_map}
 use Rattle.dcv_syntax.specs.Plain.{PlainFile}
@@ -18,7 +19,7 @@ use Rattle.dcv_cli.specs.declared.budget_line.Over.{Over}
 use Rattle.dcv_cli.specs.declared.refusal.Refusal.{Refusal}
 use Rattle.dcv_cli.specs.declared.refusal.Refusal.TheVariants.{Budget, Memory}
 use Rattle.dcv_cli.specs.Outcome.{Outcome, refused}
-use Rattle.dcv_cli.specs.Refusal.{Only}
+use Rattle.dcv_cli.specs.declared.refused.Which.{Which}
 
 abbrev pub steps_of_file : PlainFile → List PlainStep
 steps_of_file file = steps_of (length file.variables) (core_of_file file)
@@ -45,7 +46,7 @@ NamesFirstOver steps limits (Budget over) = IsFirstOverIn steps limits over
 NamesFirstOver steps limits Memory = Unit {0}
 NamesFirstOver steps limits _ = ⊥
 
--- Some step is over the limits, and the first such step is named; or none is, and the outcome is right for the file in another way, `RightFor`.
-pub data IsBudgeted (limits : Limits) (RightFor : PlainFile → Outcome → Type 0) (file : PlainFile) (outcome : Outcome) : Type 0 where
-  OverBudget : (over : Over) → IsFirstOver limits file over → outcome ≡ refused (Budget over) Only → IsBudgeted limits RightFor file outcome
-  WithinBudget : IsWithinBudget (steps_of_file file) limits → RightFor file outcome → IsBudgeted limits RightFor file outcome
+-- Some step is over the limits, and the first such step is named, of this file of the request; or none is, and the outcome is right for the file in another way, `RightFor`.
+pub data IsBudgeted (limits : Limits) (which : Which) (RightFor : PlainFile → Outcome → Type 0) (file : PlainFile) (outcome : Outcome) : Type 0 where
+  OverBudget : (over : Over) → IsFirstOver limits file over → outcome ≡ refused (Budget over) which → IsBudgeted limits which RightFor file outcome
+  WithinBudget : IsWithinBudget (steps_of_file file) limits → RightFor file outcome → IsBudgeted limits which RightFor file outcome

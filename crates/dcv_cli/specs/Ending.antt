@@ -1,6 +1,5 @@
 -- The words with which the clauses of a run speak of how it ended.
 --     EndsBy Right ..          it ended as a right outcome does
---     IsExplained Right r      the refusal r is a right outcome, where the words and the texts determine it
 --     AddsFront Right ..       nothing but a front of a right report was written
 --     StopsWithin Right ..     the output failed before a right report was whole
 --     LeavesOver words ..      what was written where an input failed
@@ -13,16 +12,14 @@ use Rattle.dcv_io.specs.Asked.{Asks, AsksPrefix}
 use Rattle.dcv_io.specs.Disk.{Disk}
 use Rattle.dcv_io.specs.Faults.{has_risen, Rises}
 use Rattle.dcv_io.specs.Written.{Appends, AppendsPrefix, AppendsStrictPrefix}
-use Rattle.dcv_command.specs.Request.{Request}
-use Rattle.dcv_cli.specs.declared.refusal.Refusal.{Refusal}
+use Rattle.dcv_command.specs.Request.{Request, files_of}
 use Rattle.dcv_cli.specs.declared.refusal.Refusal.TheVariants.{Open, Read, Write, Memory as OutOfMemory}
 use Rattle.dcv_cli.specs.declared.status.Status.{Status}
 use Rattle.dcv_cli.specs.declared.status.Status.TheVariants.{Input, Output, Memory}
-use Rattle.dcv_cli.specs.Outcome.{Outcome, refused}
-use Rattle.dcv_cli.specs.Refusal.{status_of, message_of, Only}
-use Rattle.dcv_cli.specs.Request.{AsksFor, files_of}
-use Rattle.dcv_cli.specs.Right.{ForHeld}
-use Rattle.dcv_cli.specs.Status.{is_determined}
+use Rattle.dcv_cli.specs.Outcome.{Outcome}
+use Rattle.dcv_cli.specs.Refusal.{message_of, only}
+use Rattle.dcv_cli.specs.Request.{AsksFor}
+use Rattle.dcv_cli.specs.Held.{Texts, ForHeld}
 
 -- ---- the status and the report
 
@@ -34,10 +31,6 @@ pub record EndsBy (Right : Outcome → Type 0) (status : Status) (old new : Opti
   pub report : Appends old new outcome.out
   pub message : P outcome.err
 
--- Of the other refusals the words, the counts of the outside, and nothing at all where memory runs out, say when they come.
-abbrev pub IsExplained : (Outcome → Type 0) → Refusal → Type 0
-IsExplained Right refusal = OnTrue (is_determined (status_of refusal)) (Right (refused refusal Only))
-
 -- what was added is a front of the report of a right outcome, or nothing
 abbrev pub AddsFront : (Outcome → Type 0) → Option (List ℕ) → Option (List ℕ) → Type 0
 AddsFront Right old new = Appends old new [] ⊎ ((outcome : Outcome) × Right outcome × AppendsPrefix old new outcome.out)
@@ -46,8 +39,8 @@ AddsFront Right old new = Appends old new [] ⊎ ((outcome : Outcome) × Right o
 abbrev pub StopsWithin : (Outcome → Type 0) → Option (List ℕ) → Option (List ℕ) → Type 0
 StopsWithin Right old new = (outcome : Outcome) × Right outcome × AppendsStrictPrefix old new outcome.out
 
--- What a run of the request has written where an input failed: on a formula file nothing.
-abbrev pub Leaves : Request → (List ℕ → Option (List ℕ)) → List ℕ → Type 0
+-- What a run of the request has written where an input failed: nothing.
+abbrev pub Leaves : Request → Texts → List ℕ → Type 0
 Leaves request held bytes = bytes ≡ []
 
 -- that is what was added to the output, for the request of the words
@@ -89,9 +82,9 @@ pub record Tells (message : List ℕ) (old new : Option (List ℕ)) (faults_befo
 -- the message of a status that something outside of the words and the texts brought about
 abbrev pub NamesCause : Status → Bool → Bool → List ℕ → Type 0
 NamesCause Input open_risen read_risen message =
-    ((message ≡ message_of Open) × IsTrue open_risen) ⊎ ((message ≡ message_of Read) × IsTrue read_risen)
-NamesCause Output open_risen read_risen message = message ≡ message_of Write
-NamesCause Memory open_risen read_risen message = message ≡ message_of OutOfMemory
+    ((message ≡ message_of (only Open)) × IsTrue open_risen) ⊎ ((message ≡ message_of (only Read)) × IsTrue read_risen)
+NamesCause Output open_risen read_risen message = message ≡ message_of (only Write)
+NamesCause Memory open_risen read_risen message = message ≡ message_of (only OutOfMemory)
 NamesCause _ open_risen read_risen message = ⊥
 
 abbrev pub has_cause : Status → Bool

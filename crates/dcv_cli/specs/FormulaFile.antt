@@ -3,8 +3,7 @@
 --     IsSentence text file      the text has no fault, and spells the file
 --     IsFormulaFile text file   nor does the file have one, in its names or its goal
 --     OnText ..                 the outcomes that are right where a command is given this text
---     OnFile ..                 the same, where the text is held under a name
-use Rattle.std.specs.Prelude.{◌≡◌, ℕ, ◌<◌, ◌≤◌, List, Option, None, Some, IsSomeAnd, length}
+use Rattle.std.specs.Prelude.{◌≡◌, ℕ, ◌<◌, ◌≤◌, List, None, Some, length}
 use Rattle.dcv_syntax.specs.Plain.{PlainFile}
 use Rattle.dcv_sentence.specs.Faults.{HasFault, IsFirstFault}
 use Rattle.dcv_reader.specs.Spelling.{Spells}
@@ -12,9 +11,11 @@ use Rattle.dcv_sentence.specs.declared.faults.ReadFault.{ReadFault}
 use Rattle.dcv_scope.specs.Faults.{fault_of_file}
 use Rattle.dcv_scope.specs.declared.faults.ScopeFault.{ScopeFault}
 use Rattle.dcv_cli.specs.declared.refusal.Refusal.{Refusal}
-use Rattle.dcv_cli.specs.declared.refusal.Refusal.TheVariants.{Length}
+use Rattle.dcv_cli.specs.declared.refusal.Refusal.TheVariants.{Formula}
+use Rattle.dcv_cli.specs.declared.faults.FormulaFault.TheVariants.{Length}
 use Rattle.dcv_cli.specs.Outcome.{Outcome, refused}
-use Rattle.dcv_cli.specs.Refusal.{most_bytes, refusal_of_reading, refusal_of_scope, Which}
+use Rattle.dcv_cli.specs.Refusal.{most_bytes, refusal_of_reading, refusal_of_scope}
+use Rattle.dcv_cli.specs.declared.refused.Which.{Which}
 
 pub record IsSentence (text : List ℕ) (file : PlainFile) : Type 0 where
   pub fits : length text ≤ most_bytes
@@ -23,7 +24,7 @@ pub record IsSentence (text : List ℕ) (file : PlainFile) : Type 0 where
 
 -- It is longer than a formula file may be; or it has a fault, the first of which counts; or the file that it spells has one.
 pub data IsRefused (text : List ℕ) (refusal : Refusal) : Type 0 where
-  TooLong : most_bytes < length text → refusal ≡ Length → IsRefused text refusal
+  TooLong : most_bytes < length text → refusal ≡ Formula Length → IsRefused text refusal
   Faulty : length text ≤ most_bytes → (fault : ReadFault) → IsFirstFault text fault → refusal ≡ refusal_of_reading fault → IsRefused text refusal
   HasNoCore : (file : PlainFile) → IsSentence text file → (fault : ScopeFault) → fault_of_file file ≡ Some fault
       → refusal ≡ refusal_of_scope fault → IsRefused text refusal
@@ -37,7 +38,3 @@ pub record IsFormulaFile (text : List ℕ) (file : PlainFile) : Type 0 where
 pub data OnText (text : List ℕ) (which : Which) (RightFor : PlainFile → Outcome → Type 0) (outcome : Outcome) : Type 0 where
   Refused : (refusal : Refusal) → IsRefused text refusal → outcome ≡ refused refusal which → OnText text which RightFor outcome
   Read : (file : PlainFile) → IsFormulaFile text file → RightFor file outcome → OnText text which RightFor outcome
-
--- none where nothing is held under the name
-abbrev pub OnFile : (List ℕ → Option (List ℕ)) → List ℕ → Which → (PlainFile → Outcome → Type 0) → Outcome → Type 0
-OnFile held name which RightFor outcome = IsSomeAnd (held name) (λ text. OnText text which RightFor outcome)

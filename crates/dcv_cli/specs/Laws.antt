@@ -1,5 +1,5 @@
 -- The laws that `src/laws.rt` proves.
-use Rattle.std.specs.Prelude.{◌≡◌, ◌≢◌, ◌⊎◌, ℕ, List, Option, Some, IsSome, IsTrue, length, map}
+use Rattle.std.specs.Prelude.{◌≡◌, ◌≢◌, ◌⊎◌, ℕ, List, Option, Bool, true, false, Some, IsSome, IsTrue, IsFalse, length, map}
 use Rattle.std.specs.List.{All}
 use Rattle.std.specs.List.Sorted.{IsStrictlyIncreasing}
 use Rattle.dcv_syntax.specs.Plain.{PlainFile}
@@ -8,26 +8,31 @@ use Rattle.dcv_logic.specs.Models.{models}
 use Rattle.dcv_reader.specs.Spelling.{Spells}
 use Rattle.dcv_scope.specs.Names.{occurrences_in_file}
 use Rattle.dcv_print.specs.Printed.{texts_of}
-use Rattle.dcv_explore.specs.Budget.{Kind}
+use Rattle.dcv_explore.specs.Budget.{Kind as KindOfExcess}
+use Rattle.dcv_explore.specs.declared.explorer.Limits.{Limits}
 use Rattle.dcv_build.specs.Budget.{IsOver}
 use Rattle.dcv_cli.specs.declared.budget_line.Over.{Over}
 use Rattle.dcv_cli.specs.declared.refusal.Refusal.TheVariants.{Budget}
 use Rattle.dcv_cli.specs.declared.status.Status.TheVariants.{Budget as StatusBudget}
 use Rattle.dcv_cli.specs.Budget.{steps_of_file, IsFirstOver}
-use Rattle.dcv_cli.specs.Refusal.{message_of}
+use Rattle.dcv_cli.specs.Refusal.{message_of, only}
 use Rattle.dcv_cli.specs.FormulaFile.{IsFormulaFile}
+use Rattle.dcv_cli.specs.Held.{Texts}
 use Rattle.dcv_cli.specs.Outcome.{Outcome, Agrees}
-use Rattle.dcv_command.specs.Request.{Request, kind_in, file_in, limits_in}
-use Rattle.dcv_cli.specs.Request.{AsksFor, files_of}
+use Rattle.dcv_print.specs.declared.report.Kind.{Kind}
+use Rattle.dcv_command.specs.Request.{Request, Report, files_of}
+use Rattle.dcv_cli.specs.Request.{AsksFor}
 use Rattle.dcv_cli.specs.Right.{Fulfils, IsRight}
 use Rattle.dcv_cli.specs.Status.{is_answer}
 
 -- the words ask for a report on a file, and what is held there is a formula file
-pub record AskForAFormula (words : List (List ℕ)) (held : List ℕ → Option (List ℕ)) : Type 0 where
-  pub request : Request
-  pub asked : AsksFor words request
+pub record AskForAFormula (words : List (List ℕ)) (held : Texts) : Type 0 where
+  pub kind : Kind
+  pub name : List ℕ
+  pub limits : Limits
+  pub asked : AsksFor words (Report kind name limits)
   pub text : List ℕ
-  pub there : held (file_in request) ≡ Some text
+  pub there : held 0 name ≡ Some text
   pub file : PlainFile
   pub formula : IsFormulaFile text file
 
@@ -35,58 +40,67 @@ pub record AskForAFormula (words : List (List ℕ)) (held : List ℕ → Option 
 
 -- Both messages are of the first step over the limits of the file that the words name. Where they name one excess they are the same;
 -- where one names the states and the other the nodes, the step has too many of both.
-pub record NameOneStep (words : List (List ℕ)) (held : List ℕ → Option (List ℕ)) (one other : List ℕ) : Type 0 where
+pub record NameOneStep (words : List (List ℕ)) (held : Texts) (one other : List ℕ) : Type 0 where
   pub asks : AskForAFormula words held
   pub first : Over
   pub second : Over
-  pub first_is : IsFirstOver (limits_in asks.request) asks.file first
-  pub second_is : IsFirstOver (limits_in asks.request) asks.file second
-  pub one_is : one ≡ message_of (Budget first)
-  pub other_is : other ≡ message_of (Budget second)
+  pub first_is : IsFirstOver asks.limits asks.file first
+  pub second_is : IsFirstOver asks.limits asks.file second
+  pub one_is : one ≡ message_of (only (Budget first))
+  pub other_is : other ≡ message_of (only (Budget second))
   pub step : first.step ≡ second.step
   pub same : first.excess ≡ second.excess → first ≡ second
-  pub both : first.excess ≢ second.excess → (kind : Kind) → IsOver (steps_of_file asks.file) (limits_in asks.request) kind first.step
+  pub both : first.excess ≢ second.excess → (kind : KindOfExcess) → IsOver (steps_of_file asks.file) asks.limits kind first.step
+
+-- the words ask for a report
+abbrev pub AskForAReport : List (List ℕ) → Type 0
+AskForAReport words = (kind : Kind) × (name : List ℕ) × (limits : Limits) × AsksFor words (Report kind name limits)
 
 -- two outcomes that are right for the words and what is held are the same, but for what is left to the program
 abbrev pub OneOutcome : Type 0
-OneOutcome = (words : List (List ℕ)) (held : List ℕ → Option (List ℕ)) (one other : Outcome) → IsRight words held one → IsRight words held other
-    → Agrees one other × (one.status ≡ StatusBudget → NameOneStep words held one.err other.err)
+OneOutcome = (words : List (List ℕ)) (held : Texts) (one other : Outcome) → IsRight words held one → IsRight words held other
+    → Agrees one other × (AskForAReport words → one.status ≡ StatusBudget → NameOneStep words held one.err other.err)
 
 -- ---- some outcome
 
 -- each file that the words name is held
-abbrev pub AreHeld : List (List ℕ) → (List ℕ → Option (List ℕ)) → Type 0
-AreHeld words held = (request : Request) → AsksFor words request → All (λ name. IsSome (held name)) (files_of request)
+abbrev pub AreHeld : List (List ℕ) → (Texts) → Type 0
+AreHeld words held = (request : Request) → AsksFor words request → (time : ℕ) → All (λ name. IsSome (held time name)) (files_of request)
 
--- Some outcome is right for all words, where the files that they name are held, unless they name a formula file.
+-- they ask for something else than a report on a formula file
+abbrev pub is_report : Request → Bool
+is_report (Report kind name limits) = true
+is_report _ = false
+
+abbrev pub AskOtherwise : List (List ℕ) → Type 0
+AskOtherwise words = (request : Request) × AsksFor words request × IsFalse (is_report request)
+
+-- Some outcome is right for all words, where the files that they name are held, unless they ask for something else than a report, or name a
+-- formula file.
 abbrev pub SomeOutcome : Type 0
-SomeOutcome = (words : List (List ℕ)) (held : List ℕ → Option (List ℕ)) → AreHeld words held
-    → ((outcome : Outcome) × IsRight words held outcome) ⊎ AskForAFormula words held
+SomeOutcome = (words : List (List ℕ)) (held : Texts) → AreHeld words held
+    → ((outcome : Outcome) × IsRight words held outcome) ⊎ AskForAFormula words held ⊎ AskOtherwise words
 
 -- ---- files that mean the same
-
--- the same command, over any file and with any limits
-abbrev pub AskTheSame : Request → Request → Type 0
-AskTheSame request other = kind_in request ≡ kind_in other
 
 -- variables with the same names, and the same behaviours that model them
 pub record MeanTheSame (one other : PlainFile) : Type 0 where
   pub same_names : texts_of one.variables ≡ texts_of other.variables
   pub same_models : HaveSameBehaviours (length one.variables) (models one) (models other)
 
--- the outcome is right for the request, and answers it by a report on this formula file
-pub record IsAnswer (request : Request) (held : List ℕ → Option (List ℕ)) (file : PlainFile) (outcome : Outcome) : Type 0 where
+-- the outcome is right for a report of this kind, and answers by one on this formula file
+pub record IsAnswer (kind : Kind) (name : List ℕ) (limits : Limits) (held : Texts) (file : PlainFile) (outcome : Outcome) : Type 0 where
   pub text : List ℕ
-  pub there : held (file_in request) ≡ Some text
+  pub there : held 0 name ≡ Some text
   pub formula : IsFormulaFile text file
-  pub right : Fulfils request held outcome
+  pub right : Fulfils (Report kind name limits) held outcome
   pub answers : IsTrue (is_answer outcome.status)
 
--- files that mean the same have the same verdict, the same observers, and the same automaton but for its suffixes
+-- files that mean the same have the same verdict, the same observers, and the same automaton but for its suffixes, with any limits
 abbrev pub EqualMeanings : Type 0
-EqualMeanings = (request other : Request) (held other_held : List ℕ → Option (List ℕ)) (file other_file : PlainFile) (one another : Outcome)
-    → AskTheSame request other → MeanTheSame file other_file → IsAnswer request held file one → IsAnswer other other_held other_file another
-    → Agrees one another
+EqualMeanings = (kind : Kind) (name other_name : List ℕ) (limits other_limits : Limits) (held other_held : Texts) (file other_file : PlainFile)
+    (one another : Outcome) → MeanTheSame file other_file → IsAnswer kind name limits held file one
+    → IsAnswer kind other_name other_limits other_held other_file another → Agrees one another
 
 -- ---- the order of names
 

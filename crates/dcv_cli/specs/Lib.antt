@@ -3,12 +3,18 @@ pub mod Request
 pub mod Status
 pub mod Refusal
 pub mod Outcome
+pub mod Held
 pub mod FormulaFile
 pub mod Budget
 pub mod Automaton
 pub mod Report
+pub mod AutomatonFile
+pub mod Certificate
+pub mod Comparison
 pub mod Right
 pub mod Ending
+pub mod Performed
 pub mod Laws
 -- what clauses within the crate cite
+pub mod Expanded
 pub mod Judged

@@ -1,13 +1,16 @@
 -- What each refusal says, and what it comes from.
 --     most_bytes             how many bytes a formula file may have
+--     most_automaton_bytes   how many the text of an automaton may have
 --     words_of refusal       the words of its line, as `fault syntax at 12`
 --     over_words over        those of the first step that is over the limits, as `budget states 30000 at 12 step 3`
---     message_of refusal     the line
---     ended which words      the words where a request reads more than one formula file, and this one is refused
-use Rattle.std.specs.Prelude.{ℕ, Bool, true, false, List, ◌++◌, Result, Err, codes}
+--     ended which words      the words where a request reads two formula files, and this one is refused
+--     message_of refused     the line
+use Rattle.std.specs.Prelude.{ℕ, Bool, true, false, List, ◌++◌, Result, Ok, Err, codes}
 use Rattle.std.specs.Fmt.{decimal}
-use Rattle.dcv_io.specs.declared.fault.TakeFault.{TakeFault}
-use Rattle.dcv_io.specs.declared.fault.TakeFault.TheVariants.{Open as TakeOpen, Read as TakeRead, TooLong, Memory as TakeMemory}
+use Rattle.dcv_automaton_read.specs.declared.faults.AutoFault.{AutoFault}
+use Rattle.dcv_automaton_read.specs.declared.faults.AutoFault.TheVariants.{Syntax as AutoSyntax, Table as AutoTable, Memory as AutoMemory}
+use Rattle.dcv_implies.specs.declared.faults.OutsideFault.{OutsideFault}
+use Rattle.dcv_implies.specs.declared.faults.OutsideFault.TheVariants.{States as OutsideStates, Nodes as OutsideNodes, Memory as OutsideMemory}
 use Rattle.dcv_sentence.specs.declared.faults.ReadFault.{ReadFault}
 use Rattle.dcv_sentence.specs.declared.faults.ReadFault.TheVariants.{Byte as ByteAt, Syntax as SyntaxAt, Number as NumberAt, Name as NameAt, Nest as NestAt, Memory as ReadMemory}
 use Rattle.dcv_scope.specs.declared.faults.ScopeFault.{ScopeFault}
@@ -19,22 +22,36 @@ use Rattle.dcv_cli.specs.declared.budget_line.Excess.{Excess}
 use Rattle.dcv_cli.specs.declared.budget_line.Excess.TheVariants.{States, Nodes}
 use Rattle.dcv_cli.specs.declared.budget_line.Over.{Over}
 use Rattle.dcv_cli.specs.declared.refusal.Refusal.{Refusal}
-use Rattle.dcv_cli.specs.declared.refusal.Refusal.TheVariants.{Open, Read, Length, Text, Budget, Write, Memory}
-use Rattle.dcv_cli.specs.declared.refusal.TextFault.{TextFault}
-use Rattle.dcv_cli.specs.declared.refusal.TextFault.TheVariants.{Byte, Syntax, Number, Name, Nest, Many, Duplicate, Taken, Unknown, Kind, Arity, Size, Depth, Slots}
+use Rattle.dcv_cli.specs.declared.refusal.Refusal.TheVariants.{Open, Read, Formula, Automaton, Budget, Product, Write, Memory}
+use Rattle.dcv_cli.specs.declared.faults.FormulaFault.{FormulaFault}
+use Rattle.dcv_cli.specs.declared.faults.FormulaFault.TheVariants.{Length as FormulaLength, Text, Declarations}
+use Rattle.dcv_cli.specs.declared.faults.AutomatonFault.{AutomatonFault}
+use Rattle.dcv_cli.specs.declared.faults.AutomatonFault.TheVariants.{Length as AutomatonLength, Syntax as AutomatonSyntax, Table as AutomatonTable}
+use Rattle.dcv_cli.specs.declared.refused.Refused.{Refused}
+use Rattle.dcv_cli.specs.declared.refused.Which.{Which}
+use Rattle.dcv_cli.specs.declared.refused.Which.TheVariants.{Only, First, Second}
+use Rattle.dcv_cli.specs.declared.faults.TextFault.{TextFault}
+use Rattle.dcv_cli.specs.declared.faults.TextFault.TheVariants.{Byte, Syntax, Number, Name, Nest, Many, Duplicate, Taken, Unknown, Kind, Arity, Size, Depth, Slots}
 use Rattle.dcv_cli.specs.declared.status.Status.{Status}
-use Rattle.dcv_cli.specs.declared.status.Status.TheVariants.{Formula, Budget as StatusBudget, Input, Output, Memory as StatusMemory}
+use Rattle.dcv_cli.specs.declared.status.Status.TheVariants.{Formula as StatusFormula, Budget as StatusBudget, Input, Output, Memory as StatusMemory}
+use Rattle.dcv_cli.specs.declared.status.Status.TheVariants.{Automaton as StatusAutomaton}
 
 abbrev pub most_bytes : ℕ
 most_bytes = 262144
 
+-- and the text of an automaton
+abbrev pub most_automaton_bytes : ℕ
+most_automaton_bytes = 134217728
+
 abbrev pub status_of : Refusal → Status
 status_of Open = Input
 status_of Read = Input
-status_of Write = Output
+status_of (Formula fault) = StatusFormula
+status_of (Automaton fault) = StatusAutomaton
 status_of (Budget over) = StatusBudget
+status_of (Product excess limit) = StatusBudget
+status_of Write = Output
 status_of Memory = StatusMemory
-status_of _ = Formula
 
 -- what a text is refused for, in a word
 abbrev pub text_word_of : TextFault → List ℕ
@@ -60,7 +77,18 @@ fault_words word = codes "fault " ++ word
 abbrev pub fault_words_at : List ℕ → ℕ → List ℕ
 fault_words_at word at = fault_words word ++ codes " at " ++ decimal at
 
--- what a step has too many of, in a word
+-- A file that is too long is at fault behind the last byte that a file may have.
+abbrev pub formula_words : FormulaFault → List ℕ
+formula_words FormulaLength = fault_words_at (codes "length") most_bytes
+formula_words (Text fault at) = fault_words_at (text_word_of fault) at
+formula_words Declarations = fault_words (codes "declarations")
+
+abbrev pub automaton_words : AutomatonFault → List ℕ
+automaton_words AutomatonLength = fault_words (codes "automaton length")
+automaton_words (AutomatonSyntax at) = fault_words_at (codes "automaton syntax") at
+automaton_words (AutomatonTable at) = fault_words_at (codes "automaton table") at
+
+-- what there is too much of, in a word
 abbrev pub excess_word_of : Excess → List ℕ
 excess_word_of States = codes "states"
 excess_word_of Nodes = codes "nodes"
@@ -69,73 +97,98 @@ abbrev pub over_words : Over → List ℕ
 over_words over =
     codes "budget " ++ excess_word_of over.excess ++ codes " " ++ decimal over.limit ++ codes " at " ++ decimal over.at ++ codes " step " ++ decimal over.step
 
--- A file that is too long is at fault behind the last byte that a file may have.
+abbrev pub product_words : Excess → ℕ → List ℕ
+product_words excess limit = codes "budget " ++ excess_word_of excess ++ codes " " ++ decimal limit ++ codes " in product"
+
 abbrev pub words_of : Refusal → List ℕ
 words_of Open = fault_words (codes "open")
 words_of Read = fault_words (codes "read")
-words_of Length = fault_words_at (codes "length") most_bytes
-words_of (Text fault at) = fault_words_at (text_word_of fault) at
+words_of (Formula fault) = formula_words fault
+words_of (Automaton fault) = automaton_words fault
 words_of (Budget over) = over_words over
+words_of (Product excess limit) = product_words excess limit
 words_of Write = fault_words (codes "write")
 words_of Memory = fault_words (codes "memory")
 
-abbrev pub message_of : Refusal → List ℕ
-message_of refusal = line (words_of refusal)
-
--- which of the formula files that a request reads
-pub data Which : Type 0 where
-  Only : Which
-  First : Which
-  Second : Which
-
+-- of one of two formula files that a request reads, the line says which
 abbrev pub ended : Which → List ℕ → List ℕ
 ended Only words = words
 ended First words = words ++ codes " in first"
 ended Second words = words ++ codes " in second"
 
-abbrev pub refusal_of_taking : TakeFault → Refusal
-refusal_of_taking TakeOpen = Open
-refusal_of_taking TakeRead = Read
-refusal_of_taking (TooLong limit) = Length
-refusal_of_taking TakeMemory = Memory
+abbrev pub message_of : Refused → List ℕ
+message_of refused = line (ended refused.which (words_of refused.refusal))
+
+abbrev pub only : Refusal → Refused
+only refusal = record { refusal = refusal; which = Only }
+
+-- a fault of a file is said of that file; that the outside failed, or memory, is said of none
+abbrev pub marked : Which → Refusal → Refused
+marked which Open = only Open
+marked which Read = only Read
+marked which Write = only Write
+marked which Memory = only Memory
+marked which refusal = record { refusal = refusal; which = which }
+
+-- behind the words, to the end of the line
+abbrev pub end_of : Which → List ℕ
+end_of Only = codes "\n"
+end_of First = codes " in first\n"
+end_of Second = codes " in second\n"
+
+abbrev pub refusal_of_automaton : AutoFault → Refusal
+refusal_of_automaton (AutoSyntax at) = Automaton (AutomatonSyntax at)
+refusal_of_automaton (AutoTable at) = Automaton (AutomatonTable at)
+refusal_of_automaton AutoMemory = Memory
+
+abbrev pub refusal_of_outside : OutsideFault → Refusal
+refusal_of_outside (OutsideStates limit) = Product States limit
+refusal_of_outside (OutsideNodes limit) = Product Nodes limit
+refusal_of_outside OutsideMemory = Memory
 
 abbrev pub refusal_of_reading : ReadFault → Refusal
-refusal_of_reading (ByteAt at) = Text Byte at
-refusal_of_reading (SyntaxAt at) = Text Syntax at
-refusal_of_reading (NumberAt at) = Text Number at
-refusal_of_reading (NameAt at) = Text Name at
-refusal_of_reading (NestAt at) = Text Nest at
+refusal_of_reading (ByteAt at) = Formula (Text Byte at)
+refusal_of_reading (SyntaxAt at) = Formula (Text Syntax at)
+refusal_of_reading (NumberAt at) = Formula (Text Number at)
+refusal_of_reading (NameAt at) = Formula (Text Name at)
+refusal_of_reading (NestAt at) = Formula (Text Nest at)
 refusal_of_reading ReadMemory = Memory
 
 abbrev pub refusal_of_scope : ScopeFault → Refusal
-refusal_of_scope (ManyAt at) = Text Many at
-refusal_of_scope (DuplicateAt at) = Text Duplicate at
-refusal_of_scope (TakenAt at) = Text Taken at
-refusal_of_scope (UnknownAt at) = Text Unknown at
-refusal_of_scope (KindAt at) = Text Kind at
-refusal_of_scope (ArityAt at) = Text Arity at
-refusal_of_scope (SizeAt at) = Text Size at
-refusal_of_scope (DepthAt at) = Text Depth at
-refusal_of_scope (SlotsAt at) = Text Slots at
+refusal_of_scope (ManyAt at) = Formula (Text Many at)
+refusal_of_scope (DuplicateAt at) = Formula (Text Duplicate at)
+refusal_of_scope (TakenAt at) = Formula (Text Taken at)
+refusal_of_scope (UnknownAt at) = Formula (Text Unknown at)
+refusal_of_scope (KindAt at) = Formula (Text Kind at)
+refusal_of_scope (ArityAt at) = Formula (Text Arity at)
+refusal_of_scope (SizeAt at) = Formula (Text Size at)
+refusal_of_scope (DepthAt at) = Formula (Text Depth at)
+refusal_of_scope (SlotsAt at) = Formula (Text Slots at)
 refusal_of_scope ScopeMemory = Memory
 
 -- ---- which refusal a call ended with
 
-abbrev pub is_open_refusal : {T : Type 0} → Result T Refusal → Bool
-is_open_refusal (Err Open) = true
-is_open_refusal _ = false
+abbrev pub is_open : Refusal → Bool
+is_open Open = true
+is_open _ = false
 
-abbrev pub is_read_refusal : {T : Type 0} → Result T Refusal → Bool
-is_read_refusal (Err Read) = true
-is_read_refusal _ = false
+abbrev pub is_read : Refusal → Bool
+is_read Read = true
+is_read _ = false
 
-abbrev pub is_write_refusal : {T : Type 0} → Result T Refusal → Bool
-is_write_refusal (Err Write) = true
-is_write_refusal _ = false
-
--- the refusal is one of the text itself, or memory ran out while it was judged
+-- the refusal is one of a text that was taken, or memory ran out while it was judged
 abbrev pub is_of_text : Refusal → Bool
 is_of_text Open = false
 is_of_text Read = false
 is_of_text Write = false
 is_of_text _ = true
+
+-- the text could not be taken, or memory ran out, or the text itself is refused
+abbrev pub is_of_taking : Refusal → Bool
+is_of_taking Write = false
+is_of_taking _ = true
+
+-- a call ended by such a refusal
+abbrev pub is_err_and : {T : Type 0} → (Refusal → Bool) → Result T Refusal → Bool
+is_err_and test (Ok value) = false
+is_err_and test (Err refusal) = test refusal

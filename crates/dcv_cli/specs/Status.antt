@@ -2,11 +2,12 @@
 use Rattle.std.specs.Prelude.{ℕ, Bool, true, false, is_none, if◌then◌else◌}
 use Rattle.dcv_language.specs.Verdict.{Verdict}
 use Rattle.dcv_cli.specs.declared.status.Status.{Status}
-use Rattle.dcv_cli.specs.declared.status.Status.TheVariants.{Valid, NotValid, Usage, Formula, Budget, Input, Output, Memory}
+use Rattle.dcv_cli.specs.declared.status.Status.TheVariants.{Valid, Done, NotValid, Usage, Formula, Budget, Input, Output, Memory, Automaton}
 
 -- the program's exit status
 abbrev pub code_of : Status → ℕ
 code_of Valid = 0
+code_of Done = 0
 code_of NotValid = 1
 code_of Usage = 2
 code_of Formula = 3
@@ -14,6 +15,7 @@ code_of Budget = 4
 code_of Input = 5
 code_of Output = 6
 code_of Memory = 7
+code_of Automaton = 10
 
 -- of a run that answers with this verdict: valid where there is no counterexample
 abbrev pub status_of_verdict : Verdict → Status
@@ -22,15 +24,18 @@ status_of_verdict verdict = if is_none verdict.counterexample then Valid else No
 -- the status of a run that answers
 abbrev pub is_answer : Status → Bool
 is_answer Valid = true
+is_answer Done = true
 is_answer NotValid = true
 is_answer _ = false
 
 -- The words and what is held determine such a status, with its report and its message.
 abbrev pub is_determined : Status → Bool
 is_determined Valid = true
+is_determined Done = true
 is_determined NotValid = true
 is_determined Formula = true
 is_determined Budget = true
+is_determined Automaton = true
 is_determined _ = false
 
 -- the status of a run that is refused before anything is written, whatever it was asked for
@@ -38,6 +43,7 @@ abbrev pub is_silent : Status → Bool
 is_silent Usage = true
 is_silent Formula = true
 is_silent Budget = true
+is_silent Automaton = true
 is_silent Memory = true
 is_silent _ = false
 

@@ -2,10 +2,9 @@
 ghost use Rattle.std.specs.Prelude.{◌≡◌, is_err, OnOk, OnErr};
 ghost use Rattle.dcv_io.specs.Faults.{RisesIf};
 ghost use Rattle.dcv_io.specs.Written.{Appends, AppendsPrefix};
-ghost use Rattle.dcv_language.specs.VerdictText.{line};
-ghost use Rattle.dcv_cli.specs.Refusal.{excess_word_of, over_words};
+ghost use Rattle.dcv_cli.specs.Refusal.{excess_word_of, over_words, product_words};
 
-use crate::refusal::write_pieces;
+use crate::telling::write_pieces;
 use dcv_io::{Failed, Sink};
 use itoa::Buffer;
 
@@ -41,14 +40,14 @@ pub struct Over {
 }
 
 impl Over {
-    /// Writes the line that says so. It takes no memory.
+    /// Writes the words that say so. It takes no memory.
     pub fn tell<S: Sink>(self, sink: &mut S) -> Result<(), Failed>
-        ensures ok { OnOk result (Appends (S.written sink.old) (S.written sink.new) (line (over_words self))) }
-        ensures failed { OnErr result (AppendsPrefix (S.written sink.old) (S.written sink.new) (line (over_words self))) }
+        ensures ok { OnOk result (Appends (S.written sink.old) (S.written sink.new) (over_words self)) }
+        ensures failed { OnErr result (AppendsPrefix (S.written sink.old) (S.written sink.new) (over_words self)) }
         ensures faults { RisesIf (is_err result) (S.faults sink.old) (S.faults sink.new) }
     {
         let (mut limit, mut at, mut step) = (Buffer::new(), Buffer::new(), Buffer::new());
-        let pieces: [&[u8]; 9] = [
+        let pieces: [&[u8]; 8] = [
             b"budget ",
             self.excess.word(),
             b" ",
@@ -57,8 +56,27 @@ impl Over {
             at.format(self.at).as_bytes(),
             b" step ",
             step.format(self.step).as_bytes(),
-            b"\n",
         ];
         write_pieces(sink, &pieces)
     }
+}
+
+/// Writes the words that say that the product of two automata has more of this than the limit.
+pub(crate) fn tell_product<S: Sink>(sink: &mut S, excess: Excess, limit: u32) -> Result<(), Failed>
+    ensures ok { OnOk result (Appends (S.written sink.old) (S.written sink.new) (product_words excess limit)) }
+    ensures failed { OnErr result (AppendsPrefix (S.written sink.old) (S.written sink.new) (product_words excess limit)) }
+    ensures faults { RisesIf (is_err result) (S.faults sink.old) (S.faults sink.new) }
+{
+    let mut digits = Buffer::new();
+    let number = digits.format(limit);
+    write_pieces(
+        sink,
+        &[
+            b"budget ",
+            excess.word(),
+            b" ",
+            number.as_bytes(),
+            b" in product",
+        ],
+    )
 }

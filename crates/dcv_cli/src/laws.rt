@@ -1,8 +1,11 @@
 //! Laws on what is right, each the contract of a function that does nothing.
 ghost use Rattle.dcv_cli.specs.Laws.{OneOutcome, SomeOutcome, EqualMeanings, NamesAscend};
 
+use dcv_automaton_text::laws::one_file as one_automaton_text;
 use dcv_build::laws::one_step_is_over;
+use dcv_certify::laws::one_answer;
 use dcv_command::laws::taken_words_ask;
+use dcv_implies::laws::one_answer as one_comparison;
 use dcv_language::laws::{one_verdict, verdict_of_same_behaviours};
 use dcv_print::laws::{
     automaton_of_same_behaviours, one_automaton, one_file, printed_observers_observe,
@@ -20,10 +23,13 @@ pub fn one_outcome()
     one_step_is_over();
     one_automaton();
     one_file();
+    one_automaton_text();
+    one_answer();
+    one_comparison();
 }
 
-/// Some outcome is right for all words, where the files that they name are held, unless the text is that of a formula file. So no words
-/// and no text that has a fault leave [`run`](crate::run) nothing to answer but that memory has run out.
+/// Some outcome is right for all words, where the files that they name are held, unless the text is that of a formula file, or an automaton's is
+/// asked for. So no words and no text of a formula file that has a fault leave [`run`](crate::run) nothing to answer but that memory has run out.
 pub fn some_outcome()
     ensures { SomeOutcome }
 {

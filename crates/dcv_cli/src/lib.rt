@@ -1,4 +1,4 @@
-//! The run of the program: from its words and the bytes of a formula file to the report, the message and the status.
+//! The run of the program: from its words and the bytes of the files to the report, the message and the status.
 //! [`run`] is what the program calls, and its contract is what the program promises.
 //!
 //! ```text
@@ -11,16 +11,25 @@
 //! With `var door_closed; infer [[door_closed]];` held under that name, `status` is [`Status::NotValid`], and on `out` stands
 //! `not valid`, `satisfiable`, a counterexample of the one instant `0` and an example of the one instant `1`. With `automaton` in place
 //! of `check` there stands the minimal automaton of the formula, with two states, in the text that `dcv_automaton_text` shows.
+//! `certify` reads such a text back and judges its words by themselves, and `implies` compares two formula files.
 #![tactic(auto)]
 
 mod automaton;
 mod budget_line;
+mod certifying;
+mod comparing;
+mod expanded;
+mod faults;
 mod judged;
 pub mod laws;
+mod performing;
 mod refusal;
+mod refused;
 mod reporting;
 mod running;
 mod status;
+mod taking;
+mod telling;
 mod words;
 
 pub use running::run;

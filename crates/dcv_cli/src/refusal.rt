@@ -1,80 +1,23 @@
-// Why a run gives no report, and what it says then.
+// Why a run gives no report.
 ghost use Rattle.std.specs.Prelude.{◌≡◌, is_err, OnOk, OnErr};
-ghost use Rattle.std.specs.List.{flat_map};
 ghost use Rattle.dcv_io.specs.Faults.{RisesIf};
 ghost use Rattle.dcv_io.specs.Written.{Appends, AppendsPrefix};
-ghost use Rattle.dcv_cli.specs.declared.refusal.Refusal.TheVariants.{Memory, Text, Write};
-ghost use Rattle.dcv_language.specs.VerdictText.{line};
-ghost use Rattle.dcv_cli.specs.Refusal.{status_of, text_word_of, fault_words, fault_words_at, message_of};
-ghost use Rattle.dcv_cli.specs.Refusal.{refusal_of_taking, refusal_of_reading, refusal_of_scope};
+ghost use Rattle.dcv_cli.specs.declared.refusal.Refusal.TheVariants.{Formula, Memory, Product};
+ghost use Rattle.dcv_cli.specs.declared.faults.FormulaFault.TheVariants.{Text};
+ghost use Rattle.dcv_cli.specs.Refusal.{marked, status_of, words_of};
+ghost use Rattle.dcv_cli.specs.Refusal.{refusal_of_automaton, refusal_of_outside, refusal_of_reading, refusal_of_scope};
 
-use crate::budget_line::Over;
+use crate::budget_line::{Excess, Over, tell_product};
+use crate::faults::{AutomatonFault, FormulaFault, TextFault};
+use crate::refused::{Refused, Which};
 use crate::status::Status;
-use dcv_io::{Failed, Sink, TakeFault, write_all};
+use crate::telling::tell_fault;
+use dcv_automaton_read::AutoFault;
+use dcv_implies::OutsideFault;
+use dcv_io::{Failed, Sink};
 use dcv_reader::ReadFault;
 use dcv_scope::ScopeFault;
-use itoa::Buffer;
 use std::alloc::{AllocError, AllocFailed};
-
-/// The most bytes that a formula file has.
-pub const MOST_BYTES: u64 = 262_144;
-
-/// What is wrong with a text, at some place of it.
-#[derive(Clone, Copy, Debug, PartialEq, Eq)]
-pub enum TextFault {
-    /// No token, white space or comment begins there.
-    Byte,
-    /// The tokens up to there begin no formula file.
-    Syntax,
-    /// A number is too large.
-    Number,
-    /// A name is too long.
-    Name,
-    /// A definition or the goal is nested too deeply.
-    Nest,
-    /// A name is one too many of its list, or of the macros.
-    Many,
-    /// A name stands in its list a second time.
-    Duplicate,
-    /// A name is that of a macro, or a macro's that of a variable.
-    Taken,
-    /// A name has no meaning there.
-    Unknown,
-    /// A name has another kind than is asked for there.
-    Kind,
-    /// A name is used with another number of arguments than it has parameters.
-    Arity,
-    /// The goal with its macros in place has too many nodes.
-    Size,
-    /// The goal with its macros in place is nested too deeply.
-    Depth,
-    /// The goal has too many variables, declared and quantified.
-    Slots,
-}
-
-impl TextFault {
-    // What it is, in a word.
-    fn word(self) -> &'static [u8]
-        ensures { result.now ≡ text_word_of self }
-    {
-        match self {
-            TextFault::Byte => b"byte",
-            TextFault::Syntax => b"syntax",
-            TextFault::Number => b"number",
-            TextFault::Name => b"name",
-            TextFault::Nest => b"nest",
-            TextFault::Many => b"many",
-            TextFault::Duplicate => b"duplicate",
-            TextFault::Taken => b"taken",
-            TextFault::Unknown => b"unknown",
-            TextFault::Kind => b"kind",
-            TextFault::Arity => b"arity",
-            TextFault::Size => b"size",
-            TextFault::Depth => b"depth",
-            TextFault::Slots => b"slots",
-        }
-    }
-}
 
 /// Why a run gives no report.
 #[derive(Clone, Copy, Debug, PartialEq, Eq)]
@@ -83,12 +26,14 @@ pub enum Refusal {
     Open,
     /// The file could not be read to its end.
     Read,
-    /// The file is longer than a formula file may be.
-    Length,
-    /// The file's text is no formula file, as the byte at this offset shows.
-    Text { fault: TextFault, at: u32 },
+    /// The file's text is no formula file.
+    Formula(FormulaFault),
+    /// The file's text is no automaton's.
+    Automaton(AutomatonFault),
     /// A step of the file's formula is over the limits.
     Budget(Over),
+    /// The product of two automata has more of this than the limit.
+    Product { excess: Excess, limit: u32 },
     /// The report could not be written.
     Write,
     /// Memory ran out.
@@ -96,87 +41,73 @@ pub enum Refusal {
 }
 
 impl Refusal {
+    /// As it is said of this file of a request.
+    pub fn of(self, which: Which) -> Refused
+        ensures { result ≡ record { refusal = self; which = which } }
+    {
+        Refused {
+            refusal: self,
+            which,
+        }
+    }
+
+    /// As it is said of this file of a request, where it is a fault of the file's.
+    pub fn in_file(self, which: Which) -> Refused
+        ensures { result ≡ marked which self }
+    {
+        match self {
+            Refusal::Open | Refusal::Read | Refusal::Write | Refusal::Memory => {
+                self.of(Which::Only)
+            }
+            _ => self.of(which),
+        }
+    }
+
     /// The status of a run that is refused so.
     pub fn status(self) -> Status
         ensures { result ≡ status_of self }
     {
         match self {
             Refusal::Open | Refusal::Read => Status::Input,
-            Refusal::Length | Refusal::Text { .. } => Status::Formula,
-            Refusal::Budget(_) => Status::Budget,
+            Refusal::Formula(_) => Status::Formula,
+            Refusal::Automaton(_) => Status::Automaton,
+            Refusal::Budget(_) | Refusal::Product { .. } => Status::Budget,
             Refusal::Write => Status::Output,
             Refusal::Memory => Status::Memory,
         }
     }
 
-    /// Writes the line that says so. It takes no memory, since memory may have run out.
+    /// Writes the words that say so. It takes no memory, since memory may have run out.
     pub fn tell<S: Sink>(self, sink: &mut S) -> Result<(), Failed>
-        ensures ok { OnOk result (Appends (S.written sink.old) (S.written sink.new) (message_of self)) }
-        ensures failed { OnErr result (AppendsPrefix (S.written sink.old) (S.written sink.new) (message_of self)) }
+        ensures ok { OnOk result (Appends (S.written sink.old) (S.written sink.new) (words_of self)) }
+        ensures failed { OnErr result (AppendsPrefix (S.written sink.old) (S.written sink.new) (words_of self)) }
         ensures faults { RisesIf (is_err result) (S.faults sink.old) (S.faults sink.new) }
     {
         match self {
             Refusal::Open => tell_fault(sink, b"open"),
             Refusal::Read => tell_fault(sink, b"read"),
-            Refusal::Length => tell_fault_at(sink, b"length", MOST_BYTES),
-            Refusal::Text { fault, at } => tell_fault_at(sink, fault.word(), u64::from(at)),
+            Refusal::Formula(fault) => fault.tell(sink),
+            Refusal::Automaton(fault) => fault.tell(sink),
             Refusal::Budget(over) => over.tell(sink),
+            Refusal::Product { excess, limit } => tell_product(sink, excess, limit),
             Refusal::Write => tell_fault(sink, b"write"),
             Refusal::Memory => tell_fault(sink, b"memory"),
         }
     }
 }
 
-// Writes the line of a fault.
-fn tell_fault<S: Sink>(sink: &mut S, word: &[u8]) -> Result<(), Failed>
-    ensures ok { OnOk result (Appends (S.written sink.old) (S.written sink.new) (line (fault_words word.now))) }
-    ensures failed { OnErr result (AppendsPrefix (S.written sink.old) (S.written sink.new) (line (fault_words word.now))) }
-    ensures faults { RisesIf (is_err result) (S.faults sink.old) (S.faults sink.new) }
-{
-    write_pieces(sink, &[b"fault ", word, b"\n"])
-}
-
-// Writes the line of a fault at an offset in the file.
-fn tell_fault_at<S: Sink>(sink: &mut S, word: &[u8], at: u64) -> Result<(), Failed>
-    ensures ok { OnOk result (Appends (S.written sink.old) (S.written sink.new) (line (fault_words_at word.now at))) }
-    ensures failed { OnErr result (AppendsPrefix (S.written sink.old) (S.written sink.new) (line (fault_words_at word.now at))) }
-    ensures faults { RisesIf (is_err result) (S.faults sink.old) (S.faults sink.new) }
-{
-    let mut number = Buffer::new();
-    let digits = number.format(at);
-    write_pieces(sink, &[b"fault ", word, b" at ", digits.as_bytes(), b"\n"])
-}
-
-// A text is refused for this fault.
+// The text of a formula file is refused for this fault.
 fn of_text(fault: TextFault, at: u32) -> Refusal
-    ensures { result ≡ Text fault at }
+    ensures { result ≡ Formula (Text fault at) }
 {
-    Refusal::Text { fault, at }
+    Refusal::Formula(FormulaFault::Text { fault, at })
 }
 
-// Writes the pieces, one after another, up to the first write that fails.
-pub(crate) fn write_pieces<S: Sink>(sink: &mut S, pieces: &[&[u8]]) -> Result<(), Failed>
-    ensures ok { OnOk result (Appends (S.written sink.old) (S.written sink.new) (flat_map (λ piece. piece.now) pieces.now)) }
-    ensures failed { OnErr result (AppendsPrefix (S.written sink.old) (S.written sink.new) (flat_map (λ piece. piece.now) pieces.now)) }
-    ensures faults { RisesIf (is_err result) (S.faults sink.old) (S.faults sink.new) }
+// The product of two automata has more of this than the limit.
+fn product(excess: Excess, limit: u32) -> Refusal
+    ensures { result ≡ Product excess limit }
 {
-    for piece in pieces {
-        write_all(sink, piece)?;
-    }
-    Ok(())
-}
-
-impl From<TakeFault> for Refusal {
-    ghost from_gives = { λ fault refusal. refusal ≡ refusal_of_taking fault };
-
-    fn from(fault: TakeFault) -> Self {
-        match fault {
-            TakeFault::Open => Refusal::Open,
-            TakeFault::Read => Refusal::Read,
-            TakeFault::TooLong { .. } => Refusal::Length,
-            TakeFault::Memory => Refusal::Memory,
-        }
-    }
+    Refusal::Product { excess, limit }
 }
 
 impl From<ReadFault> for Refusal {
@@ -213,6 +144,30 @@ impl From<ScopeFault> for Refusal {
     }
 }
 
+impl From<AutoFault> for Refusal {
+    ghost from_gives = { λ fault refusal. refusal ≡ refusal_of_automaton fault };
+
+    fn from(fault: AutoFault) -> Self {
+        match fault {
+            AutoFault::Syntax { at } => Refusal::Automaton(AutomatonFault::Syntax { at }),
+            AutoFault::Table { at } => Refusal::Automaton(AutomatonFault::Table { at }),
+            AutoFault::Memory => Refusal::Memory,
+        }
+    }
+}
+
+impl From<OutsideFault> for Refusal {
+    ghost from_gives = { λ fault refusal. refusal ≡ refusal_of_outside fault };
+
+    fn from(fault: OutsideFault) -> Self {
+        match fault {
+            OutsideFault::States { limit } => product(Excess::States, limit),
+            OutsideFault::Nodes { limit } => product(Excess::Nodes, limit),
+            OutsideFault::Memory => Refusal::Memory,
+        }
+    }
+}
+
 impl From<AllocError> for Refusal {
     ghost from_gives = { λ _ refusal. refusal ≡ Memory };
 
@@ -226,14 +181,5 @@ impl<T: Drop> From<AllocFailed<T>> for Refusal {
 
     fn from(_: AllocFailed<T>) -> Self {
         Refusal::Memory
-    }
-}
-
-impl From<Failed> for Refusal {
-    ghost from_gives = { λ _ refusal. refusal ≡ Write };
-
-    // The one call of the outside that is handed on so is a write of the report.
-    fn from(_: Failed) -> Self {
-        Refusal::Write
     }
 }

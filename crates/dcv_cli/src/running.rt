@@ -1,22 +1,24 @@
 // The run of the program.
-ghost use Rattle.std.specs.Prelude.{◌≡◌, [], ◌||◌, true, IsTrue, IsFalse};
+ghost use Rattle.std.specs.Prelude.{◌≡◌, ℕ, List, [], true, IsTrue, IsFalse};
 ghost use Rattle.std.specs.Bool.{OnTrue};
-ghost use Rattle.dcv_io.specs.Asked.{Asks};
+ghost use Rattle.dcv_io.specs.Asked.{AsksPrefix};
 ghost use Rattle.dcv_io.specs.Disk.{held_of};
 ghost use Rattle.dcv_io.specs.Faults.{has_risen, RisesIf};
 ghost use Rattle.dcv_io.specs.Written.{Appends};
 ghost use Rattle.dcv_cli.specs.Ending.{EndsBy, AddsFront, StopsWithin, LeavesOver, AsksFrontOf, HasInputCause, Tells, TellsCause};
-ghost use Rattle.dcv_command.specs.Request.{Request as RequestOfWords, IsTaken, limits_in, AreInRange};
+ghost use Rattle.dcv_command.specs.Request.{Request as RequestOfWords, IsTaken, IsInRange, files_of};
 ghost use Rattle.clap.specs.Words.{takes};
 ghost use Rattle.dcv_command.specs.Program.{program};
 ghost use Rattle.dcv_command.specs.Seen.{asked_by};
 ghost use Rattle.dcv_cli.specs.Refusal.{status_of, message_of};
-ghost use Rattle.dcv_cli.specs.Request.{AsksFor, files_of};
+ghost use Rattle.dcv_cli.specs.Request.{AsksFor};
+ghost use Rattle.dcv_cli.specs.Performed.{LeavesFor};
 ghost use Rattle.dcv_cli.specs.Right.{FulfilsOver, IsRightOver};
 ghost use Rattle.dcv_cli.specs.Status.{is_answer, is_determined, is_input, is_of_request, is_output, is_silent, is_usage};
 
+use crate::performing::perform;
 use crate::refusal::Refusal;
-use crate::reporting::perform;
+use crate::refused::{Refused, Which};
 use crate::status::Status;
 use crate::words::Words;
 use dcv_command::{Request, WordsFault, read_words};
@@ -28,7 +30,9 @@ use std::alloc::Global;
 ///
 /// `check FILE` writes the verdict of the formula in the file: whether each behaviour satisfies it, whether some
 /// does, a shortest behaviour that does not, and a shortest that does. `automaton FILE` writes its minimal automaton,
-/// with words that show that none with fewer states accepts just the behaviours that satisfy it.
+/// with words that show that none with fewer states accepts just the behaviours that satisfy it. `lustre FILE` and `c FILE`
+/// write that automaton as an observer. `certify FILE` judges the words of an automaton's text, and `implies FILE FILE` says
+/// whether each behaviour that satisfies the first formula satisfies the second, or writes a shortest that does not.
 #[tactic(auto, using(crate::proofs::Endings::ends))]
 pub fn run<F: Files, O: Sink, E: Sink>(
     alloc: Global,
@@ -73,7 +77,7 @@ pub fn run<F: Files, O: Sink, E: Sink>(
             let _ = write_all(err, text.as_bytes());
             Status::Usage
         }
-        Err(WordsFault::Memory) => refuse(err, Refusal::Memory),
+        Err(WordsFault::Memory) => refuse(err, Refusal::Memory.of(Which::Only)),
     }
 }
 
@@ -86,32 +90,34 @@ fn answer<F: Files, O: Sink, E: Sink>(
     out: &mut O,
     err: &mut E,
 ) -> Status
-    requires { AreInRange (limits_in (asked_by request)) }
+    requires { IsInRange (asked_by request) }
     ensures right { OnTrue (is_determined result) (EndsBy (FulfilsOver (asked_by request.entry) (F.told files.old)) result
         (O.written out.old) (O.written out.new) (λ message. Tells message (E.written err.old) (E.written err.new) (E.faults err.old) (E.faults err.new))) }
     ensures report { AddsFront (FulfilsOver (asked_by request.entry) (F.told files.old)) (O.written out.old) (O.written out.new) }
     ensures taken { IsFalse (is_usage result) }
     ensures input { HasInputCause result (F.open_faults files.old) (F.open_faults files.new) (F.read_faults files.old) (F.read_faults files.new) }
     ensures output { RisesIf (is_output result) (O.faults out.old) (O.faults out.new) }
-    ensures files { Asks (files_of (asked_by request.entry)) (F.asked files.old) (F.asked files.new) }
+    ensures files { AsksPrefix (files_of (asked_by request.entry)) (F.asked files.old) (F.asked files.new) }
     ensures cause { TellsCause result (has_risen (F.open_faults files.old) (F.open_faults files.new))
         (has_risen (F.read_faults files.old) (F.read_faults files.new)) (E.written err.old) (E.written err.new) (E.faults err.old) (E.faults err.new) }
     ensures no_message { OnTrue (is_answer result) (Appends (E.written err.old) (E.written err.new) []) }
-    ensures no_report { OnTrue (is_silent result || is_input result) (Appends (O.written out.old) (O.written out.new) []) }
+    ensures no_report { OnTrue (is_silent result) (Appends (O.written out.old) (O.written out.new) []) }
+    ensures left { OnTrue (is_input result) ((bytes : List ℕ) × LeavesFor (asked_by request.entry) (F.told files.old) bytes
+        × Appends (O.written out.old) (O.written out.new) bytes) }
     ensures stops { OnTrue (is_output result) (StopsWithin (FulfilsOver (asked_by request.entry) (F.told files.old)) (O.written out.old) (O.written out.new)) }
     ensures held { held_of (F.told files.new) ≡ held_of (F.told files.old) }
 {
     match perform(alloc, request, files, out) {
         Ok(status) => status,
-        Err(refusal) => refuse(err, refusal),
+        Err(refused) => refuse(err, refused),
     }
 }
 
 // Says why there is no report. A message that cannot be written changes nothing.
-fn refuse<E: Sink>(err: &mut E, refusal: Refusal) -> Status
-    ensures status { result ≡ status_of refusal }
-    ensures message { Tells (message_of refusal) (E.written err.old) (E.written err.new) (E.faults err.old) (E.faults err.new) }
+fn refuse<E: Sink>(err: &mut E, refused: Refused) -> Status
+    ensures status { result ≡ status_of refused.refusal }
+    ensures message { Tells (message_of refused) (E.written err.old) (E.written err.new) (E.faults err.old) (E.faults err.new) }
 {
-    let _ = refusal.tell(err);
-    refusal.status()
+    let _ = refused.tell(err);
+    refused.refusal.status()
 }

@@ -10,7 +10,9 @@ use dcv_print::Verdict;
 pub enum Status {
     /// Each behaviour satisfies the formula.
     Valid,
-    /// Some behaviour does not satisfy the formula.
+    /// What was asked for is done, and it says no verdict of a formula.
+    Done,
+    /// Some behaviour does not satisfy the formula, or the words of an automaton do not show that it is minimal.
     NotValid,
     /// The words ask for nothing that the program does.
     Usage,
@@ -24,6 +26,8 @@ pub enum Status {
     Output,
     /// Memory ran out.
     Memory,
+    /// The file holds no automaton: its text has a fault.
+    Automaton,
 }
 
 impl Status {
@@ -43,7 +47,7 @@ impl Status {
         ensures { result ≡ code_of self }
     {
         match self {
-            Status::Valid => 0,
+            Status::Valid | Status::Done => 0,
             Status::NotValid => 1,
             Status::Usage => 2,
             Status::Formula => 3,
@@ -51,6 +55,7 @@ impl Status {
             Status::Input => 5,
             Status::Output => 6,
             Status::Memory => 7,
+            Status::Automaton => 10,
         }
     }
 }

@@ -18,19 +18,58 @@ const NEVER: &[u8] =
 // A text, and the offset of the first word that breaks a rule of names.
 const NAMES: [(&[u8], u32); 41] = [
     // The names of statics, of both functions, of parameters and of locals twice.
-    (b"static int s; static int s; void r(void) { s = 0; } int t(void) { return 0; }", 25),
-    (b"static int s; void s(void) { s = 0; } int t(void) { return 0; }", 19),
-    (b"static int s; void r(void) { s = 0; } int s(void) { return 0; }", 42),
-    (b"static int s; void r(void) { s = 0; } int r(void) { return 0; }", 42),
-    (b"static int s; void r(void) { s = 0; } int t(int s) { return 0; }", 48),
-    (b"static int s; void r(void) { s = 0; } int t(int r) { return 0; }", 48),
-    (b"static int s; void r(void) { s = 0; } int t(int t) { return 0; }", 48),
-    (b"static int s; void r(void) { s = 0; } int t(int a, int b, int a) { return 0; }", 62),
-    (b"static int s; void r(void) { s = 0; } int t(int a) { int s; return 0; }", 57),
-    (b"static int s; void r(void) { s = 0; } int t(int a) { int r; return 0; }", 57),
-    (b"static int s; void r(void) { s = 0; } int t(int a) { int t; return 0; }", 57),
-    (b"static int s; void r(void) { s = 0; } int t(int a) { int a; return 0; }", 57),
-    (b"static int s; void r(void) { s = 0; } int t(int a) { int x; int y; int x; return 0; }", 71),
+    (
+        b"static int s; static int s; void r(void) { s = 0; } int t(void) { return 0; }",
+        25,
+    ),
+    (
+        b"static int s; void s(void) { s = 0; } int t(void) { return 0; }",
+        19,
+    ),
+    (
+        b"static int s; void r(void) { s = 0; } int s(void) { return 0; }",
+        42,
+    ),
+    (
+        b"static int s; void r(void) { s = 0; } int r(void) { return 0; }",
+        42,
+    ),
+    (
+        b"static int s; void r(void) { s = 0; } int t(int s) { return 0; }",
+        48,
+    ),
+    (
+        b"static int s; void r(void) { s = 0; } int t(int r) { return 0; }",
+        48,
+    ),
+    (
+        b"static int s; void r(void) { s = 0; } int t(int t) { return 0; }",
+        48,
+    ),
+    (
+        b"static int s; void r(void) { s = 0; } int t(int a, int b, int a) { return 0; }",
+        62,
+    ),
+    (
+        b"static int s; void r(void) { s = 0; } int t(int a) { int s; return 0; }",
+        57,
+    ),
+    (
+        b"static int s; void r(void) { s = 0; } int t(int a) { int r; return 0; }",
+        57,
+    ),
+    (
+        b"static int s; void r(void) { s = 0; } int t(int a) { int t; return 0; }",
+        57,
+    ),
+    (
+        b"static int s; void r(void) { s = 0; } int t(int a) { int a; return 0; }",
+        57,
+    ),
+    (
+        b"static int s; void r(void) { s = 0; } int t(int a) { int x; int y; int x; return 0; }",
+        71,
+    ),
     // Seventeen parameters.
     (
         b"static int s; void r(void) { s = 0; } int t(int a0, int a1, int a2, int a3, int a4, int a5, int a6, int a7, int \
@@ -38,48 +77,114 @@ const NAMES: [(&[u8], u32); 41] = [
         182,
     ),
     // What reset assigns.
-    (b"static int s; void r(void) { s = 0; x = 0; } int t(void) { return 0; }", 36),
-    (b"static int s; void r(void) { s = 0; r = 0; } int t(void) { return 0; }", 36),
-    (b"static int s; void r(void) { s = 0; s = 1; } int t(void) { return 0; }", 36),
-    (b"static int s; static int u; void r(void) { u = 0; } int t(void) { return 0; }", 50),
+    (
+        b"static int s; void r(void) { s = 0; x = 0; } int t(void) { return 0; }",
+        36,
+    ),
+    (
+        b"static int s; void r(void) { s = 0; r = 0; } int t(void) { return 0; }",
+        36,
+    ),
+    (
+        b"static int s; void r(void) { s = 0; s = 1; } int t(void) { return 0; }",
+        36,
+    ),
+    (
+        b"static int s; static int u; void r(void) { u = 0; } int t(void) { return 0; }",
+        50,
+    ),
     (b"static int s;void r(void){}int t(void){return 0;}", 26),
-    (b"static int s; void r(void) { a = 0; } int t(int a) { return 0; }", 29),
+    (
+        b"static int s; void r(void) { a = 0; } int t(int a) { return 0; }",
+        29,
+    ),
     // Left sides.
-    (b"static int s; void r(void) { s = 0; } int t(int a) { a = 1; return 0; }", 53),
-    (b"static int s; void r(void) { s = 0; } int t(int a) { b = 1; return 0; }", 53),
-    (b"static int s; void r(void) { s = 0; } int t(int a) { r = 1; return 0; }", 53),
-    (b"static int s; void r(void) { s = 0; } int t(int a) { if (a) a = 1; return 0; }", 60),
-    (b"static int s; void r(void) { s = 0; } int t(int a) { if (a == 1) b = 1; return 0; }", 65),
+    (
+        b"static int s; void r(void) { s = 0; } int t(int a) { a = 1; return 0; }",
+        53,
+    ),
+    (
+        b"static int s; void r(void) { s = 0; } int t(int a) { b = 1; return 0; }",
+        53,
+    ),
+    (
+        b"static int s; void r(void) { s = 0; } int t(int a) { r = 1; return 0; }",
+        53,
+    ),
+    (
+        b"static int s; void r(void) { s = 0; } int t(int a) { if (a) a = 1; return 0; }",
+        60,
+    ),
+    (
+        b"static int s; void r(void) { s = 0; } int t(int a) { if (a == 1) b = 1; return 0; }",
+        65,
+    ),
     // Names that are read and not known, or not yet.
-    (b"static int s; void r(void) { s = 0; } int t(int a) { s = b; return 0; }", 57),
-    (b"static int s; void r(void) { s = 0; } int t(int a) { s = t; return 0; }", 57),
-    (b"static int s; void r(void) { s = 0; } int t(int a) { int x; s = x; x = a; return 0; }", 64),
-    (b"static int s; void r(void) { s = 0; } int t(int a) { int x; x = x; return 0; }", 64),
+    (
+        b"static int s; void r(void) { s = 0; } int t(int a) { s = b; return 0; }",
+        57,
+    ),
+    (
+        b"static int s; void r(void) { s = 0; } int t(int a) { s = t; return 0; }",
+        57,
+    ),
+    (
+        b"static int s; void r(void) { s = 0; } int t(int a) { int x; s = x; x = a; return 0; }",
+        64,
+    ),
+    (
+        b"static int s; void r(void) { s = 0; } int t(int a) { int x; x = x; return 0; }",
+        64,
+    ),
     (
         b"static int s; void r(void) { s = 0; } int t(int a) { int x; if (a) x = 1; s = x; return 0; }",
         78,
     ),
-    (b"static int s; void r(void) { s = 0; } int t(int a) { int x; s = x ? 0 : 1; return 0; }", 64),
+    (
+        b"static int s; void r(void) { s = 0; } int t(int a) { int x; s = x ? 0 : 1; return 0; }",
+        64,
+    ),
     (
         b"static int s; void r(void) { s = 0; } int t(int a) { int x; s = x == 1 ? 0 : 1; return 0; }",
         64,
     ),
-    (b"static int s; void r(void) { s = 0; } int t(int a) { int x; s = a ? x : 1; return 0; }", 68),
+    (
+        b"static int s; void r(void) { s = 0; } int t(int a) { int x; s = a ? x : 1; return 0; }",
+        68,
+    ),
     (
         b"static int s; void r(void) { s = 0; } int t(int a) { int x; s = a == 0 ? 1 : x; return 0; }",
         77,
     ),
-    (b"static int s; void r(void) { s = 0; } int t(int a) { int x; if (x) s = 0; return 0; }", 64),
+    (
+        b"static int s; void r(void) { s = 0; } int t(int a) { int x; if (x) s = 0; return 0; }",
+        64,
+    ),
     (
         b"static int s; void r(void) { s = 0; } int t(int a) { int x; if (x == 2) s = 0; return 0; }",
         64,
     ),
-    (b"static int s; void r(void) { s = 0; } int t(int a) { int x; if (a) s = x; return 0; }", 71),
-    (b"static int s; void r(void) { s = 0; } int t(int a) { int x; return x == 0; }", 67),
-    (b"static int s; void r(void) { s = 0; } int t(int a) { return s == 0 || b == 1; }", 70),
+    (
+        b"static int s; void r(void) { s = 0; } int t(int a) { int x; if (a) s = x; return 0; }",
+        71,
+    ),
+    (
+        b"static int s; void r(void) { s = 0; } int t(int a) { int x; return x == 0; }",
+        67,
+    ),
+    (
+        b"static int s; void r(void) { s = 0; } int t(int a) { return s == 0 || b == 1; }",
+        70,
+    ),
     // Of two faults the earlier one.
-    (b"static int s; void r(void) { } int s(void) { return 0; }", 29),
-    (b"static int s; void r(void) { s = 0; } int t(int a) { int x; if (x) a = b; return 0; }", 64),
+    (
+        b"static int s; void r(void) { } int s(void) { return 0; }",
+        29,
+    ),
+    (
+        b"static int s; void r(void) { s = 0; } int t(int a) { int x; if (x) a = b; return 0; }",
+        64,
+    ),
 ];
 
 // A text, and the offset of its syntax fault.
@@ -87,34 +192,85 @@ const SYNTAX: [(&[u8], u32); 25] = [
     // Nothing, and texts that end too early.
     (b"", 0),
     (b"static", 6),
-    (b"static int s; void r(void) { s = 0; } int t(void) { return 0; ", 62),
+    (
+        b"static int s; void r(void) { s = 0; } int t(void) { return 0; ",
+        62,
+    ),
     // Words of no place.
     (b"void r(void) { } int t(void) { return 0; }", 0),
-    (b"static int if; void r(void) { } int t(void) { return 0; }", 11),
-    (b"static int s void r(void) { s = 0; } int t(void) { return 0; }", 13),
+    (
+        b"static int if; void r(void) { } int t(void) { return 0; }",
+        11,
+    ),
+    (
+        b"static int s void r(void) { s = 0; } int t(void) { return 0; }",
+        13,
+    ),
     (b"static int s; int t(void) { return 0; }", 14),
-    (b"static int s; void r() { s = 0; } int t(void) { return 0; }", 21),
-    (b"static int s; void r(void) { s = s; } int t(void) { return 0; }", 33),
-    (b"static int s; void r(void) { s = 0; } int t() { return 0; }", 44),
-    (b"static int s; void r(void) { s = 0; } int t(int a) int b) { return 0; }", 51),
-    (b"static int s; void r(void) { s = 0; } int t(void) { s = 0; int x; return 0; }", 59),
-    (b"static int s; void r(void) { s = 0; } int t(void) { s = 1 ? 0 : 1; return 0; }", 58),
-    (b"static int s; void r(void) { s = 0; } int t(void) { s = s == 1; return 0; }", 62),
-    (b"static int s; void r(void) { s = 0; } int t(void) { if (s) s = s ? 0 : 1; return 0; }", 65),
-    (b"static int s; void r(void) { s = 0; } int t(void) { return s; }", 60),
-    (b"static int s; void r(void) { s = 0; } int t(void) { return s == 0 ||; }", 68),
+    (
+        b"static int s; void r() { s = 0; } int t(void) { return 0; }",
+        21,
+    ),
+    (
+        b"static int s; void r(void) { s = s; } int t(void) { return 0; }",
+        33,
+    ),
+    (
+        b"static int s; void r(void) { s = 0; } int t() { return 0; }",
+        44,
+    ),
+    (
+        b"static int s; void r(void) { s = 0; } int t(int a) int b) { return 0; }",
+        51,
+    ),
+    (
+        b"static int s; void r(void) { s = 0; } int t(void) { s = 0; int x; return 0; }",
+        59,
+    ),
+    (
+        b"static int s; void r(void) { s = 0; } int t(void) { s = 1 ? 0 : 1; return 0; }",
+        58,
+    ),
+    (
+        b"static int s; void r(void) { s = 0; } int t(void) { s = s == 1; return 0; }",
+        62,
+    ),
+    (
+        b"static int s; void r(void) { s = 0; } int t(void) { if (s) s = s ? 0 : 1; return 0; }",
+        65,
+    ),
+    (
+        b"static int s; void r(void) { s = 0; } int t(void) { return s; }",
+        60,
+    ),
+    (
+        b"static int s; void r(void) { s = 0; } int t(void) { return s == 0 ||; }",
+        68,
+    ),
     (b"static int s; void r(void) { s = 0; } int t(void) { }", 52),
-    (b"static int s; void r(void) { s = 0; } int t(void) { return 0; } int", 64),
+    (
+        b"static int s; void r(void) { s = 0; } int t(void) { return 0; } int",
+        64,
+    ),
     (b"stati int s;", 0),
     // Stray bytes, a word of 33 bytes and the number 32768.
-    (b"static int s; void r(void) { s = 0; } int t(void) { return s == 0 | s == 1; }", 66),
+    (
+        b"static int s; void r(void) { s = 0; } int t(void) { return s == 0 | s == 1; }",
+        66,
+    ),
     (b"static int s; // c", 14),
     (
         b"static int wwwwwwwwwwwwwwwwwwwwwwwwwwwwwwwww; void r(void) { } int t(void) { return 0; }",
         11,
     ),
-    (b"static int s; void r(void) { s = 32768; } int t(void) { return 0; }", 33),
-    (b"static int s; void r(void) { s = 0; } int t(void) { return s == 000032768; }", 64),
+    (
+        b"static int s; void r(void) { s = 32768; } int t(void) { return 0; }",
+        33,
+    ),
+    (
+        b"static int s; void r(void) { s = 0; } int t(void) { return s == 000032768; }",
+        64,
+    ),
 ];
 
 // Texts that keep the rules.
@@ -187,7 +343,10 @@ fn beginnings(rt: HostRuntime) -> Result<(), Fail> {
             return Err(Fail::new("a fault behind the text"));
         };
         assert!(rt;
-            cut_off == b"=".as_slice() || cut_off.iter().all(|byte| byte.is_ascii_alphanumeric() || *byte == b'_'),
+            cut_off == b"=".as_slice()
+                || cut_off
+                    .iter()
+                    .all(|byte| byte.is_ascii_alphanumeric() || *byte == b'_'),
             "at {at} of {size}"
         );
     }

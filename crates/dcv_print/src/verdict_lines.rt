@@ -62,8 +62,8 @@ impl Verdict {
     }
 }
 
-// The heading with the number of letters and the word's trace lines, or nothing where there is no word.
-fn put_word<T: Target>(target: &mut T, heading: &[u8], word: &Option<Word>)
+/// Puts the heading with the number of letters and the word's trace lines, or nothing where there is no word.
+pub fn put_word<T: Target>(target: &mut T, heading: &[u8], word: &Option<Word>)
     ensures { Puts (T.standing target.old) (T.standing target.new) (shown heading.now (letters_of word.now)) }
 {
     let Some(word) = word else {

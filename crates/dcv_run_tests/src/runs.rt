@@ -80,6 +80,31 @@ pub(crate) fn expect(
     Ok(())
 }
 
+// The same, with texts held under the names `f` and `g`.
+pub(crate) fn expect_of_two(
+    rt: &impl Abort,
+    alloc: Global,
+    words: &[&str],
+    first: &str,
+    second: &str,
+    wanted: (u8, &str, &str),
+) -> Result<(), AllocError> {
+    let mut given = Words::new(alloc);
+    for word in words {
+        given.push(word)?;
+    }
+    let mut files = MemFiles::new(alloc, &[], &[])?;
+    files.hold("f", first.as_bytes())?;
+    files.hold("g", second.as_bytes())?;
+    let mut out = MemSink::new(alloc, ROOM, &[], &[])?;
+    let mut err = MemSink::new(alloc, ROOM, &[], &[])?;
+    let status = run(alloc, &given, &mut files, &mut out, &mut err);
+    assert_eq!(rt; status.code(), wanted.0, "{first} {second}");
+    assert_eq!(rt; out.written(), wanted.1.as_bytes(), "{first} {second}");
+    assert_eq!(rt; err.written(), wanted.2.as_bytes(), "{first} {second}");
+    Ok(())
+}
+
 // Whether `check` of a file with the text ended with this status and wrote just this.
 fn expect_checked(
     rt: &impl Abort,

@@ -2,8 +2,9 @@
 use Rattle.std.proofs.Common.{inr}
 use Rattle.dcv_command.specs.Seen.{asked_by}
 use Rattle.dcv_cli.specs.Request.{AsksFor}
-use Rattle.dcv_cli.proofs.Endings.{leaves_nothing}
-use Rattle.dcv_cli.proofs.Outcomes.{asks_for, ends_request, front_request, stops_request, on_true_weaker}
+use Rattle.dcv_cli.proofs.Endings.{leaves_over}
+use Rattle.dcv_cli.proofs.Outcomes.{asks_for, ends_request, front_request, stops_request}
+use Rattle.dcv_cli.proofs.ThreeEnds.{on_true_weaker}
 use Rattle.dcv_cli.proofs.running.run.Given.{Over}
 use Rattle.dcv_cli.proofs.running.run.Goals as goal
 
@@ -25,7 +26,7 @@ pub returns-in-Ok-clause-asked : goal.returns-in-Ok-clause-asked
 returns-in-Ok-clause-asked g c of = (asked_by c.in-Ok.request, asked g c)
 
 pub returns-in-Ok-clause-files : goal.returns-in-Ok-clause-files
-returns-in-Ok-clause-files g c = inr (asked_by c.in-Ok.request, asked g c, (1, c.answer.ensures.files))
+returns-in-Ok-clause-files g c = inr (asked_by c.in-Ok.request, asked g c, c.answer.ensures.files)
 
 pub returns-in-Ok-clause-stops : goal.returns-in-Ok-clause-stops
 returns-in-Ok-clause-stops g c =
@@ -34,5 +35,5 @@ returns-in-Ok-clause-stops g c =
 
 pub returns-in-Ok-clause-left : goal.returns-in-Ok-clause-left
 returns-in-Ok-clause-left g c =
-    leaves_nothing c.args.words.now (asked_by c.in-Ok.request) (g.F.Files.told c.args.files.now)
-    (g.O.Sink.written c.args.out.now) (g.O.Sink.written c.answer.new.out) c.answer.result (asked g c) c.answer.ensures.no_report
+    leaves_over c.args.words.now (asked_by c.in-Ok.request) (g.F.Files.told c.args.files.now)
+    (g.O.Sink.written c.args.out.now) (g.O.Sink.written c.answer.new.out) c.answer.result (asked g c) c.answer.ensures.left

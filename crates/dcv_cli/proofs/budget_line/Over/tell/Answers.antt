@@ -3,8 +3,7 @@ use Rattle.std.proofs.Common.{◌≡◌, ℕ, List, [], ◌∷◌, ◌++◌, rul
 use Rattle.std.specs.Fmt.{decimal}
 use Rattle.std.specs.Prelude.{OnErr}
 use Rattle.dcv_io.specs.Written.{AppendsPrefix}
-use Rattle.dcv_word.specs.TraceLine.{line_feed}
-use Rattle.dcv_language.specs.VerdictText.{line}
+use Rattle.std.proofs.lemmas.List.{append-nil}
 use Rattle.dcv_cli.specs.Refusal.{excess_word_of, over_words}
 use Rattle.dcv_cli.proofs.Pieces.{in_any_order}
 use Rattle.dcv_cli.proofs.budget_line.Over.tell.Goals as goal
@@ -17,8 +16,8 @@ returns-clause-failed g c =
     let at : c.as_bytes-2.result.now ≡ decimal over.at = search rules in
     let step : c.as_bytes-3.result.now ≡ decimal over.step = search rules in
     let same : codes "budget " ++ (c.word.result.now ++ (codes " " ++ (c.as_bytes.result.now ++ (codes " at "
-    ++ (c.as_bytes-2.result.now ++ (codes " step " ++ (c.as_bytes-3.result.now ++ (line_feed ∷ [])))))))) ≡ line (over_words over) =
-    in_any_order c.word.result.now c.as_bytes.result.now c.as_bytes-2.result.now c.as_bytes-3.result.now (line_feed ∷ [])
-    ∙ (λ i. line (codes "budget " ++ word i ++ codes " " ++ limit i ++ codes " at " ++ at i ++ codes " step " ++ step i)) in
+    ++ (c.as_bytes-2.result.now ++ (codes " step " ++ (c.as_bytes-3.result.now ++ []))))))) ≡ over_words over =
+    in_any_order c.word.result.now c.as_bytes.result.now c.as_bytes-2.result.now c.as_bytes-3.result.now []
+    ∙ append-nil _ ∙ (λ i. codes "budget " ++ word i ++ codes " " ++ limit i ++ codes " at " ++ at i ++ codes " step " ++ step i) in
     subst (λ (bytes : List ℕ). OnErr c.write_pieces.result
     (AppendsPrefix (g.S.Sink.written c.args.sink.now) (g.S.Sink.written c.write_pieces.new.sink) bytes)) same c.write_pieces.ensures.failed

@@ -1,7 +1,7 @@
 -- A front of a later piece, behind whole earlier ones, is a front of all of them.
 use Rattle.std.proofs.lemmas.Result.{err_from_is_err_and}
 use Rattle.dcv_cli.proofs.Pieces.{front_of_pieces}
-use Rattle.dcv_cli.proofs.refusal.write_pieces.Goals as goal
+use Rattle.dcv_cli.proofs.telling.write_pieces.Goals as goal
 
 pub returns-in_err-write_all-clause-failed : goal.returns-in_err-write_all-clause-failed
 returns-in_err-write_all-clause-failed g c =

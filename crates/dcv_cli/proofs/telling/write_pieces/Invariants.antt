@@ -1,7 +1,7 @@
 use Rattle.std.proofs.Common.{◌≡◌, take}
 use Rattle.std.specs.List.{flat_map}
 use Rattle.dcv_io.specs.Written.{Appends}
-use Rattle.dcv_cli.proofs.refusal.write_pieces.Given as goal
+use Rattle.dcv_cli.proofs.telling.write_pieces.Given as goal
 
 abbrev pub invariant-loop-piece : goal.invariant-loop-piece
 invariant-loop-piece g l = record {

@@ -1,0 +1,213 @@
+-- What is right where two formula files are compared.
+use Rattle.std.proofs.Common.{◌≡◌, ◌≢◌, ℕ, Bool, true, false, List, [], ◌∷◌, ◌++◌, length, map, Option, None, Some, Result, Ok, Err, refl, sym, ap, ◌∙◌, subst, codes}
+use Rattle.std.specs.Prelude.{IfOk, IfErr, IsTrue, IsSome, ◌↔◌, ◌&&◌, not, is_none, is_some, if◌then◌else◌}
+use Rattle.std.specs.Str.{bytes_eq}
+use Rattle.std.proofs.lemmas.Slice.Eq.{bytes_eq-Decides}
+use Rattle.std.specs.Bool.{OnTrue}
+use Rattle.std.specs.Option.{option_map}
+use Rattle.std.proofs.lemmas.List.{length-map}
+use mathlib.Core.Bool.{true≢false}
+use Rattle.dcv_io.specs.Disk.{Disk, held_of}
+use Rattle.dcv_io.specs.Putting.{Put, Puts}
+use Rattle.dcv_io.proofs.Putting.{puts_both}
+use Rattle.dcv_word.specs.Behaviour.{Word}
+use Rattle.dcv_word.specs.Word.{WordValue}
+use Rattle.dcv_syntax.specs.Plain.{PlainFile}
+use Rattle.dcv_syntax.specs.declared.names.Name.{Name}
+use Rattle.dcv_logic.specs.Models.{models}
+use Rattle.dcv_language.specs.VerdictText.{line, shown}
+use Rattle.dcv_language.specs.Language.{Language}
+use Rattle.dcv_language.specs.Verdict.{IsLeastOf}
+use Rattle.dcv_explore.specs.Budget.{TooManyStates, TooManyNodes}
+use Rattle.dcv_explore.specs.declared.explorer.Limits.{Limits}
+use Rattle.dcv_build.specs.Budget.{IsAutomatonOf}
+use Rattle.dcv_dfa.specs.Auto.{IsAuto}
+use Rattle.dcv_dfa.specs.Raw.{RawValue, raw_accepts}
+use Rattle.dcv_implies.specs.Comparison.{difference, letters_of, IsIncluded, IsProductWithin, IsProductOver, Answer, TooMany, Least, IsAnswer}
+use Rattle.dcv_implies.specs.Laws.{AnswerOfAutomata, NoneWhereIncluded}
+use Rattle.dcv_implies.specs.declared.faults.OutsideFault.{OutsideFault}
+use Rattle.dcv_implies.specs.declared.faults.OutsideFault.TheVariants as outside
+use Rattle.dcv_print.specs.Printed.{texts_of}
+use Rattle.dcv_cli.specs.Budget.{IsBudgeted, OverBudget, WithinBudget, NamesFirstOver, steps_of_file, kind_of, limit_of}
+use Rattle.dcv_cli.specs.Comparison.{comparison_text, status_of_least, compared, have_same_texts, IsComparison, IsDifference, OverProduct, WithinProduct, IsCompared, Undeclared, Declared, FulfilsSecond}
+use Rattle.dcv_cli.specs.Expanded.{IsBuilt}
+use Rattle.dcv_cli.specs.FormulaFile.{IsFormulaFile, OnText, Read as ReadFile}
+use Rattle.dcv_cli.specs.Held.{Texts, OnHeld, ForHeld, IsHeldText}
+use Rattle.dcv_cli.specs.Right.{Fulfils, FulfilsOver}
+use Rattle.dcv_command.specs.Request.{Implies}
+use Rattle.dcv_cli.proofs.TwoFiles.{later_held}
+use Rattle.dcv_cli.specs.Outcome.{Outcome, IsExplained, refused}
+use Rattle.dcv_cli.specs.Refusal.{status_of, marked, is_of_text, refusal_of_outside}
+use Rattle.dcv_cli.specs.Status.{is_answer, is_determined}
+use Rattle.dcv_cli.specs.declared.budget_line.Excess.TheVariants.{States, Nodes}
+use Rattle.dcv_cli.specs.declared.refusal.Refusal.{Refusal}
+use Rattle.dcv_cli.specs.declared.refusal.Refusal.TheVariants.{Open, Read, Formula, Automaton, Budget, Product, Write, Memory}
+use Rattle.dcv_cli.specs.declared.faults.FormulaFault.TheVariants.{Declarations}
+use Rattle.dcv_cli.specs.declared.refused.Which.{Which}
+use Rattle.dcv_cli.specs.declared.refused.Which.TheVariants.{Only, First, Second}
+use Rattle.dcv_cli.proofs.Outcomes.{explains_over}
+
+-- ---- what is written
+
+pub puts_difference : (old mid new : Put) (least : Option WordValue) → is_some least ≡ true → Puts old mid (line (codes "does not imply"))
+    → Puts mid new (shown (codes "counterexample") (letters_of least)) → Puts old new (comparison_text (letters_of least))
+puts_difference old mid new None some first second = absurd (true≢false (sym some))
+puts_difference old mid new (Some word) some first second = puts_both old mid new _ _ first second
+
+pub answers_least : (least : Option Word) → IsTrue (is_answer (status_of_least least))
+answers_least None = refl
+answers_least (Some word) = refl
+
+heads_same : (name other : List ℕ) (names others : List (List ℕ)) → (name ∷ names) ≡ (other ∷ others) → name ≡ other
+heads_same name other names others e = cc
+
+tails_same : (name other : List ℕ) (names others : List (List ℕ)) → (name ∷ names) ≡ (other ∷ others) → names ≡ others
+tails_same name other names others e = cc
+
+-- ---- marks
+
+-- a refusal that is marked by its file is as it would be, where it is determined
+pub marked_explains : (Right : Outcome → Type 0) (which : Which) (refusal : Refusal) → IsExplained Right which refusal
+    → IsExplained Right (marked which refusal).which (marked which refusal).refusal
+marked_explains Right which Open is = is
+marked_explains Right which Read is = is
+marked_explains Right which (Formula fault) is = is
+marked_explains Right which (Automaton fault) is = is
+marked_explains Right which (Budget over) is = is
+marked_explains Right which (Product excess limit) is = is
+marked_explains Right which Write is = is
+marked_explains Right which Memory is = is
+
+-- ---- inclusion
+
+none_is : NoneWhereIncluded → (k : ℕ) (L M : Language) (least : Option Word) → IsLeastOf k (difference L M) least → (least ≡ None) ↔ IsIncluded k L M
+none_is none k L M None is = ((λ e. (none k L M).0 is), (λ included. refl))
+none_is none k L M (Some word) is = (
+  (λ e. let wrong : Some word ≡ None = e in cc),
+  (λ included.
+      let wrong : not true ≡ true = subst (λ (b : Bool). not b ≡ true) is.member ((none k L M).1 included word is.behaviour) in absurd (true≢false (sym wrong))),
+)
+
+-- ---- names
+
+abbrev IsSo : Bool → List (List ℕ) → List (List ℕ) → Type 0
+IsSo true names others = names ≡ others
+IsSo false names others = names ≢ others
+
+same_or_not : (names others : List (List ℕ)) (same : Bool) → have_same_texts names others ≡ same → IsSo same names others
+same_or_not [] [] true is = refl
+same_or_not [] [] false is = absurd (true≢false is)
+same_or_not [] (other ∷ others) true is = absurd (true≢false (sym is))
+same_or_not [] (other ∷ others) false is = λ e. cc
+same_or_not (name ∷ names) [] true is = absurd (true≢false (sym is))
+same_or_not (name ∷ names) [] false is = λ e. cc
+same_or_not (name ∷ names) (other ∷ others) same is = by (bytes_eq name other) refl (have_same_texts names others) (same_or_not names others _ refl) same is
+  where
+    by : (here : Bool) → bytes_eq name other ≡ here → (behind : Bool) → IsSo behind names others → (same : Bool) → (here && behind) ≡ same
+        → IsSo same (name ∷ names) (other ∷ others)
+    by true here true behind true is = (λ i. (bytes_eq-Decides name other).0 here i ∷ behind i)
+    by true here true behind false is = absurd (true≢false is)
+    by true here false behind true is = absurd (true≢false (sym is))
+    by true here false behind false is = λ e. behind (tails_same name other names others e)
+    by false here behind is' true is = absurd (true≢false (sym is))
+    by false here behind is' false is = λ e. true≢false (sym ((bytes_eq-Decides name other).1 (heads_same name other names others e)) ∙ here)
+
+module _ (given others : List Name) (one other : PlainFile) (result : Bool) (is : result ≡ have_same_texts (texts_of given) (texts_of others))
+    (first : given ≡ one.variables) (second : others ≡ other.variables) where
+  there : have_same_texts (texts_of one.variables) (texts_of other.variables) ≡ result
+  there = sym (is ∙ (λ i. have_same_texts (texts_of (first i)) (texts_of (second i))))
+
+  pub names_same : result ≡ true → texts_of one.variables ≡ texts_of other.variables
+  names_same found = same_or_not (texts_of one.variables) (texts_of other.variables) true (there ∙ found)
+
+  pub names_differ : result ≡ false → texts_of one.variables ≢ texts_of other.variables
+  names_differ none = same_or_not (texts_of one.variables) (texts_of other.variables) false (there ∙ none)
+
+-- ---- files that were built
+
+module _ (limits : Limits) (one other : PlainFile) where
+  -- the first is over the limits
+  pub explains_first_over : (refusal : Refusal) → texts_of one.variables ≡ texts_of other.variables → NamesFirstOver (steps_of_file one) limits refusal
+      → IsExplained (IsCompared limits one other) First refusal
+  explains_first_over (Budget over) same is = Declared same (OverBudget over is refl)
+  explains_first_over Memory same is = tt
+  explains_first_over _ same is = absurd is
+
+  -- the first is not, and the second is
+  pub explains_second_over : (refusal : Refusal) (auto : RawValue) → texts_of one.variables ≡ texts_of other.variables → IsBuilt one limits auto
+      → NamesFirstOver (steps_of_file other) limits refusal → IsExplained (IsCompared limits one other) Second refusal
+  explains_second_over (Budget over) auto same built is = Declared same (WithinBudget built.within (OverBudget over is refl))
+  explains_second_over Memory auto same built is = tt
+  explains_second_over _ auto same built is = absurd is
+
+  module _ (move : AnswerOfAutomata) (none : NoneWhereIncluded) (first second : RawValue) (first_auto : IsAuto first) (second_auto : IsAuto second)
+      (same : texts_of one.variables ≡ texts_of other.variables) (of_one : IsBuilt one limits first) (of_other : IsBuilt other limits second) where
+    count : length other.variables ≡ length one.variables
+    count =
+        sym (length-map other.variables (λ (name : Name). name.text)) ∙ ap length (sym same) ∙ length-map one.variables (λ (name : Name). name.text)
+
+    -- what is answered of the automata is answered of the files
+    answer : (found : Answer) → IsAnswer limits first.arena.slots (raw_accepts first) (raw_accepts second) found → IsAnswer limits (length one.variables) (models one) (models other) found
+    answer found is =
+        move limits (length one.variables) (models one) (models other) first second found first_auto second_auto of_one.automaton
+        (subst (λ k. IsAutomatonOf k (models other) second) count of_other.automaton) is
+
+    pub compares : (least : Option Word) → IsProductWithin limits first.arena.slots (raw_accepts first) (raw_accepts second)
+        → IsLeastOf first.arena.slots (difference (raw_accepts first) (raw_accepts second)) least → IsCompared limits one other (compared least)
+    compares least within is =
+        let found = answer (Least least) (within, is) in
+        Declared same (WithinBudget of_one.within (WithinBudget of_other.within (WithinProduct found.0 (record {
+          least = least;
+          is_least = found.1;
+          included = none_is none (length one.variables) (models one) (models other) least found.1;
+          says = refl;
+        }))))
+
+    pub explains_product : (fault : OutsideFault)
+        → ((limit : ℕ) → fault ≡ outside.States limit → (limit ≡ limits.states) × IsProductOver limits first.arena.slots (raw_accepts first) (raw_accepts second) TooManyStates)
+        → ((limit : ℕ) → fault ≡ outside.Nodes limit → (limit ≡ limits.nodes) × IsProductOver limits first.arena.slots (raw_accepts first) (raw_accepts second) TooManyNodes)
+        → IsExplained (IsCompared limits one other) Only (refusal_of_outside fault)
+    explains_product (outside.States limit) states nodes =
+        let over = states limit refl in
+        Declared same (WithinBudget of_one.within (WithinBudget of_other.within
+        (OverProduct States (answer (TooMany TooManyStates) over.1) (ap (λ n. refused (Product States n) Only) over.0))))
+    explains_product (outside.Nodes limit) states nodes =
+        let over = nodes limit refl in
+        Declared same (WithinBudget of_one.within (WithinBudget of_other.within
+        (OverProduct Nodes (answer (TooMany TooManyNodes) over.1) (ap (λ n. refused (Product Nodes n) Only) over.0))))
+    explains_product outside.Memory states nodes = tt
+
+-- ---- the second file
+
+pub undeclared : (limits : Limits) (one other : PlainFile) → texts_of one.variables ≢ texts_of other.variables → IsCompared limits one other (refused (Formula Declarations) Only)
+undeclared limits one other differ = Undeclared differ refl
+
+pub count_same : (names others : List Name) → texts_of names ≡ texts_of others → length names ≡ length others
+count_same names others same =
+    sym (length-map names (λ (name : Name). name.text)) ∙ ap length same ∙ length-map others (λ (name : Name). name.text)
+
+pub marked_own : (which : Which) (refusal : Refusal) → IsTrue (is_of_text refusal) → IsTrue (is_of_text (marked which refusal).refusal)
+marked_own which Open own = own
+marked_own which Read own = own
+marked_own which (Formula fault) own = own
+marked_own which (Automaton fault) own = own
+marked_own which (Budget over) own = own
+marked_own which (Product excess limit) own = own
+marked_own which Write own = own
+marked_own which Memory own = own
+
+-- what is right for the second file, behind the first, is right for both
+pub fulfils_both : (told told' : Option Disk) (first second text : List ℕ) (limits : Limits) (one : PlainFile) (outcome : Outcome) → held_of told' ≡ held_of told
+    → IsHeldText told first text → IsFormulaFile text one → FulfilsSecond limits one second told' outcome → FulfilsOver (Implies first second limits) told outcome
+fulfils_both told told' first second text limits one outcome same there formula right =
+    later_held told told' first text (λ held. OnHeld (held 0) second (λ text. OnText text Second (IsCompared limits one)) outcome)
+    (λ held. Fulfils (Implies first second limits) held outcome) same there moves right
+  where
+    moves : (held late : Texts) → held 0 first ≡ Some text → held 1 ≡ late 0
+        → OnHeld (late 0) second (λ text. OnText text Second (IsCompared limits one)) outcome → Fulfils (Implies first second limits) held outcome
+    moves held late there same right =
+        rw there (ReadFile one formula (subst (λ held. OnHeld held second (λ text. OnText text Second (IsCompared limits one)) outcome) (sym same) right))
+
+pub leaves_none : (told : Option Disk) (bytes : List ℕ) → bytes ≡ [] → ForHeld told (λ held. bytes ≡ [])
+leaves_none None bytes e = record { held = λ time n. None; same = tt; holds = e }
+leaves_none (Some disk) bytes e = record { held = λ time. disk.held; same = λ time. refl; holds = e }

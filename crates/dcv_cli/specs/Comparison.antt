@@ -1,0 +1,66 @@
+-- What is right where it is asked whether the requirement of one formula file implies that of another.
+--     comparison_text least               what is said, by the least behaviour that models the first and not the second
+--     IsDifference limits one other o     the outcome says so of two files over the same variables, or that their product is over the limits
+--     FulfilsSecond limits one name ..    the same for the second file, by its name
+--     have_same_texts                     for proofs alone
+--     IsCompared limits one other o       they have the same variables, both are within the limits, and so it is; or the outcome says what is not
+use Rattle.std.specs.Prelude.{◌≡◌, ◌≢◌, ◌↔◌, ℕ, Bool, true, false, ◌&&◌, List, [], ◌∷◌, ◌++◌, Option, None, Some, is_none, length, codes, if◌then◌else◌}
+use Rattle.std.specs.Str.{bytes_eq}
+use Rattle.dcv_word.specs.Behaviour.{Word}
+use Rattle.dcv_syntax.specs.Plain.{PlainFile}
+use Rattle.dcv_logic.specs.Models.{models}
+use Rattle.dcv_language.specs.Verdict.{IsLeastOf}
+use Rattle.dcv_language.specs.VerdictText.{line, shown}
+use Rattle.dcv_explore.specs.declared.explorer.Limits.{Limits}
+use Rattle.dcv_implies.specs.Comparison.{difference, IsIncluded, IsProductWithin, IsProductOver}
+use Rattle.dcv_print.specs.Printed.{texts_of}
+use Rattle.dcv_cli.specs.declared.budget_line.Excess.{Excess}
+use Rattle.dcv_cli.specs.declared.refusal.Refusal.TheVariants.{Formula, Product}
+use Rattle.dcv_cli.specs.declared.faults.FormulaFault.TheVariants.{Declarations}
+use Rattle.dcv_cli.specs.declared.refused.Which.TheVariants.{Only, First, Second}
+use Rattle.dcv_cli.specs.declared.status.Status.{Status}
+use Rattle.dcv_cli.specs.declared.status.Status.TheVariants.{Valid, NotValid}
+use Rattle.dcv_cli.specs.Budget.{IsBudgeted, kind_of, limit_of}
+use Rattle.dcv_cli.specs.FormulaFile.{OnText}
+use Rattle.dcv_cli.specs.Held.{OnHeld, ForHeld}
+use Rattle.dcv_cli.specs.Outcome.{Outcome, refused}
+use Rattle.dcv_io.specs.Disk.{Disk}
+
+abbrev pub comparison_text : Option Word → List ℕ
+comparison_text None = line (codes "implies")
+comparison_text (Some word) = line (codes "does not imply") ++ shown (codes "counterexample") (Some word)
+
+abbrev pub status_of_least : Option Word → Status
+status_of_least least = if is_none least then Valid else NotValid
+
+abbrev pub compared : Option Word → Outcome
+compared least = record { status = status_of_least least; out = comparison_text least; err = [] }
+
+-- There is no such behaviour exactly where each that models the first file models the second.
+pub record IsComparison (one other : PlainFile) (outcome : Outcome) : Type 0 where
+  pub least : Option Word
+  pub is_least : IsLeastOf (length one.variables) (difference (models one) (models other)) least
+  pub included : (least ≡ None) ↔ IsIncluded (length one.variables) (models one) (models other)
+  pub says : outcome ≡ compared least
+
+pub data IsDifference (limits : Limits) (one other : PlainFile) (outcome : Outcome) : Type 0 where
+  OverProduct : (excess : Excess) → IsProductOver limits (length one.variables) (models one) (models other) (kind_of excess)
+      → outcome ≡ refused (Product excess (limit_of excess limits)) Only → IsDifference limits one other outcome
+  WithinProduct : IsProductWithin limits (length one.variables) (models one) (models other) → IsComparison one other outcome
+      → IsDifference limits one other outcome
+
+-- The variables are the same where they have the same names in the same order. Both files are judged before the steps of either are counted.
+pub data IsCompared (limits : Limits) (one other : PlainFile) (outcome : Outcome) : Type 0 where
+  Undeclared : texts_of one.variables ≢ texts_of other.variables → outcome ≡ refused (Formula Declarations) Only → IsCompared limits one other outcome
+  Declared : texts_of one.variables ≡ texts_of other.variables
+      → IsBudgeted limits First (λ first. IsBudgeted limits Second (IsDifference limits first) other) one outcome → IsCompared limits one other outcome
+
+-- that is right for the second file, which is held under the name
+abbrev pub FulfilsSecond : Limits → PlainFile → List ℕ → Option Disk → Outcome → Type 0
+FulfilsSecond limits one name told outcome = ForHeld told (λ held. OnHeld (held 0) name (λ text. OnText text Second (IsCompared limits one)) outcome)
+
+-- for proofs alone: whether two lists of texts are the same
+abbrev pub have_same_texts : List (List ℕ) → List (List ℕ) → Bool
+have_same_texts [] [] = true
+have_same_texts (text ∷ texts) (other ∷ others) = bytes_eq text other && have_same_texts texts others
+have_same_texts _ _ = false

@@ -1,0 +1,169 @@
+// The command that compares the requirements of two formula files.
+ghost use Rattle.std.specs.Prelude.{◌≡◌, [], ◌∷◌, is_err, IfOk, IfErr, OnOk, OnErr, IsTrue};
+ghost use Rattle.std.specs.Bool.{OnTrue};
+ghost use Rattle.dcv_io.specs.Faults.{RisesIf};
+ghost use Rattle.dcv_io.specs.Putting.{Puts};
+ghost use Rattle.dcv_io.specs.Written.{Appends, AppendsStrictPrefix};
+ghost use Rattle.dcv_syntax.specs.Plain.{PlainFile};
+ghost use Rattle.dcv_command.specs.Request.{Implies, AreInRange};
+ghost use Rattle.dcv_implies.specs.Comparison.{letters_of};
+ghost use Rattle.dcv_print.specs.Printed.{texts_of};
+ghost use Rattle.dcv_cli.specs.Comparison.{comparison_text, status_of_least, compared, have_same_texts, IsCompared, FulfilsSecond};
+ghost use Rattle.dcv_cli.specs.Ending.{has_cause};
+ghost use Rattle.dcv_cli.specs.Expanded.{IsExpanded, IsOfFile};
+ghost use Rattle.dcv_cli.specs.Outcome.{IsExplained};
+ghost use Rattle.dcv_cli.specs.Performed.{Performs, PerformsRequest, outside};
+ghost use Rattle.dcv_cli.specs.Refusal.{status_of, is_of_text};
+ghost use Rattle.dcv_cli.specs.declared.refused.Which.TheVariants.{Only};
+
+use crate::budget_line::Excess;
+use crate::expanded::{Expanded, built, expanded_file};
+use crate::faults::FormulaFault;
+use crate::refusal::Refusal;
+use crate::refused::{Refused, Which};
+use crate::status::Status;
+use dcv_explore::Limits;
+use dcv_implies::laws::{answers_are_of_sets, none_is_inclusion};
+use dcv_implies::least_outside;
+use dcv_io::{Block, Failed, Files, Sink, Target};
+use dcv_print::put_word;
+use dcv_syntax::Name;
+use dcv_word::Word;
+use std::alloc::Global;
+
+/// The least behaviour that models the first of two files and not the second, if there is one.
+#[derive(Debug, Drop)]
+pub(crate) struct Compared {
+    least: Option<Word>,
+}
+
+/// Writes whether the requirement in the file of the first name implies that in the file of the second.
+pub(crate) fn compare_files<F: Files, O: Sink>(
+    alloc: Global,
+    first: &str,
+    second: &str,
+    limits: Limits,
+    files: &mut F,
+    out: &mut O,
+) -> Result<Status, Refused>
+    requires { AreInRange limits }
+    ensures { PerformsRequest (Implies first.entry.now second.entry.now limits) result
+        (outside (F.told files.old) (F.asked files.old) (F.open_faults files.old) (F.read_faults files.old) (O.written out.old) (O.faults out.old))
+        (outside (F.told files.new) (F.asked files.new) (F.open_faults files.new) (F.read_faults files.new) (O.written out.new) (O.faults out.new)) }
+{
+    match expanded_file(alloc, files, first) {
+        Ok(one) => compare_with(alloc, &one, second, limits, files, out),
+        Err(refusal) => Err(refusal.in_file(Which::First)),
+    }
+}
+
+// Writes whether the requirement of a file implies that in the file of the name.
+fn compare_with<F: Files, O: Sink>(
+    alloc: Global,
+    one: &Expanded,
+    second: &str,
+    limits: Limits,
+    files: &mut F,
+    out: &mut O,
+) -> Result<Status, Refused>
+    requires { IsOfFile one.now }
+    ensures { (first : PlainFile) → IsExpanded first one.now
+        → Performs (FulfilsSecond limits first second.entry.now (F.told files.old)) (λ bytes. bytes ≡ []) (second.entry.now ∷ []) result
+        (outside (F.told files.old) (F.asked files.old) (F.open_faults files.old) (F.read_faults files.old) (O.written out.old) (O.faults out.old))
+        (outside (F.told files.new) (F.asked files.new) (F.open_faults files.new) (F.read_faults files.new) (O.written out.new) (O.faults out.new)) }
+{
+    let other = match expanded_file(alloc, files, second) {
+        Ok(other) => other,
+        Err(refusal) => return Err(refusal.in_file(Which::Second)),
+    };
+    let compared = compare(alloc, one, &other, limits)?;
+    compared.send(out)?;
+    Ok(compared.status())
+}
+
+// Compares the requirements of two files.
+fn compare(
+    alloc: Global,
+    one: &Expanded,
+    other: &Expanded,
+    limits: Limits,
+) -> Result<Compared, Refused>
+    requires one { IsOfFile one.now }
+    requires other { IsOfFile other.now }
+    ensures compared { (first second : PlainFile) → IsExpanded first one.now → IsExpanded second other.now
+        → IfOk result (λ found. IsCompared limits first second (compared (letters_of found.least))) }
+    ensures refused { (first second : PlainFile) → IsExpanded first one.now → IsExpanded second other.now
+        → IfErr result (λ refused. IsExplained (IsCompared limits first second) refused.which refused.refusal) }
+    ensures own { IfErr result (λ refused. IsTrue (is_of_text refused.refusal)) }
+    ensures of_none { IfErr result (λ refused. OnTrue (has_cause (status_of refused.refusal)) (refused.which ≡ Only)) }
+{
+    answers_are_of_sets();
+    none_is_inclusion();
+    if !have_same_names(&one.names, &other.names) {
+        return Err(Refusal::Formula(FormulaFault::Declarations).of(Which::Only));
+    }
+    let first = match built(alloc, one, limits) {
+        Ok(auto) => auto,
+        Err(refusal) => return Err(refusal.in_file(Which::First)),
+    };
+    let second = match built(alloc, other, limits) {
+        Ok(auto) => auto,
+        Err(refusal) => return Err(refusal.in_file(Which::Second)),
+    };
+    // for the prover: what is true of every canonical automaton.
+    let _states = (first.states(), second.states());
+    match least_outside(alloc, &first, second, limits) {
+        Ok(least) => Ok(Compared { least }),
+        Err(fault) => Err(Refusal::from(fault).of(Which::Only)),
+    }
+}
+
+// Whether both have the same names in the same order.
+fn have_same_names(names: &[Name], others: &[Name]) -> bool
+    ensures { result ≡ have_same_texts (texts_of names.now) (texts_of others.now) }
+{
+    let Some((name, names)) = names.split_first() else {
+        return others.is_empty();
+    };
+    let Some((other, others)) = others.split_first() else {
+        return false;
+    };
+    if name.text.as_bytes() != other.text.as_bytes() {
+        return false;
+    }
+    have_same_names(names, others)
+}
+
+impl Compared {
+    fn status(&self) -> Status
+        ensures { result ≡ status_of_least (letters_of self.now.least) }
+    {
+        if self.least.is_none() {
+            Status::Valid
+        } else {
+            Status::NotValid
+        }
+    }
+
+    // Writes the lines that say it.
+    fn send<S: Sink>(&self, sink: &mut S) -> Result<(), Failed>
+        ensures ok { OnOk result (Appends (S.written sink.old) (S.written sink.new) (comparison_text (letters_of self.now.least))) }
+        ensures failed { OnErr result (AppendsStrictPrefix (S.written sink.old) (S.written sink.new) (comparison_text (letters_of self.now.least))) }
+        ensures faults { RisesIf (is_err result) (S.faults sink.old) (S.faults sink.new) }
+    {
+        let mut block = Block::new(sink);
+        self.put(&mut block);
+        block.finish()
+    }
+
+    fn put<T: Target>(&self, target: &mut T)
+        ensures { Puts (T.standing target.old) (T.standing target.new) (comparison_text (letters_of self.now.least)) }
+    {
+        if self.least.is_none() {
+            target.put(b"implies\n");
+            return;
+        }
+        target.put(b"does not imply\n");
+        put_word(target, b"counterexample", &self.least);
+    }
+}

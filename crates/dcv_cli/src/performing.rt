@@ -1,0 +1,38 @@
+// What the program does for a request.
+ghost use Rattle.dcv_command.specs.Request.{IsInRange};
+ghost use Rattle.dcv_command.specs.Seen.{asked_by};
+ghost use Rattle.dcv_cli.specs.Performed.{PerformsRequest, outside};
+
+use crate::certifying::certify_file;
+use crate::comparing::compare_files;
+use crate::refused::Refused;
+use crate::reporting::report_on_file;
+use crate::status::Status;
+use dcv_command::Request;
+use dcv_io::{Files, Sink};
+use std::alloc::Global;
+
+/// Does what the request asks for, or says why not.
+pub(crate) fn perform<F: Files, O: Sink>(
+    alloc: Global,
+    request: Request,
+    files: &mut F,
+    out: &mut O,
+) -> Result<Status, Refused>
+    requires { IsInRange (asked_by request) }
+    ensures { PerformsRequest (asked_by request.entry) result
+        (outside (F.told files.old) (F.asked files.old) (F.open_faults files.old) (F.read_faults files.old) (O.written out.old) (O.faults out.old))
+        (outside (F.told files.new) (F.asked files.new) (F.open_faults files.new) (F.read_faults files.new) (O.written out.new) (O.faults out.new)) }
+{
+    match request {
+        Request::Report { kind, file, limits } => {
+            report_on_file(alloc, kind, file, limits, files, out)
+        }
+        Request::Certify { automaton } => certify_file(alloc, automaton, files, out),
+        Request::Implies {
+            first,
+            second,
+            limits,
+        } => compare_files(alloc, first, second, limits, files, out),
+    }
+}

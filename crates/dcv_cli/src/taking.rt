@@ -1,0 +1,44 @@
+// The texts that a command reads.
+ghost use Rattle.std.specs.Prelude.{◌≡◌, ◌^◌, ◌<◌, ◌≤◌, [], ◌∷◌, Some, length, IfOk, IfErr, IfSome, IsTrue};
+ghost use Rattle.dcv_io.specs.Asked.{Asks};
+ghost use Rattle.dcv_io.specs.Disk.{held_of};
+ghost use Rattle.dcv_io.specs.Faults.{RisesIf};
+ghost use Rattle.std.specs.Bool.{OnTrue};
+ghost use Rattle.dcv_cli.specs.Held.{IsTooLongText};
+ghost use Rattle.dcv_cli.specs.Status.{is_determined};
+ghost use Rattle.dcv_cli.specs.Refusal.{is_open, is_read, is_of_text, is_of_taking, is_err_and, status_of};
+
+use crate::refusal::Refusal;
+use dcv_io::{Files, TakeFault, read_all};
+use std::alloc::Global;
+
+/// The text that is held under the name. One with more bytes than the limit is refused for that.
+pub(crate) fn take<F: Files>(
+    alloc: Global,
+    files: &mut F,
+    name: &str,
+    limit: u64,
+    too_long: Refusal,
+) -> Result<Vec<u8>, Refusal>
+    requires limit { limit < 2 ^ 32 }
+    requires of_text { IsTrue (is_of_text too_long) }
+    ensures ok { IfOk result (λ text. IfSome (held_of (F.told files.old)) (λ held. held name.now ≡ Some text.items)) }
+    ensures short { IfOk result (λ text. length text.items ≤ limit) }
+
+    // Where it is neither the outside nor memory, the text is too long.
+    ensures refused { IfErr result (λ refusal. OnTrue (is_determined (status_of refusal))
+        ((refusal ≡ too_long) × IsTooLongText (F.told files.old) name.now limit)) }
+    ensures asked { Asks (name.now ∷ []) (F.asked files.old) (F.asked files.new) }
+    ensures open_faults { RisesIf (is_err_and is_open result) (F.open_faults files.old) (F.open_faults files.new) }
+    ensures read_faults { RisesIf (is_err_and is_read result) (F.read_faults files.old) (F.read_faults files.new) }
+    ensures unwritten { IfErr result (λ refusal. IsTrue (is_of_taking refusal)) }
+    ensures held { held_of (F.told files.new) ≡ held_of (F.told files.old) }
+{
+    match read_all(alloc, files, name, limit) {
+        Ok(text) => Ok(text),
+        Err(TakeFault::Open) => Err(Refusal::Open),
+        Err(TakeFault::Read) => Err(Refusal::Read),
+        Err(TakeFault::TooLong { .. }) => Err(too_long),
+        Err(TakeFault::Memory) => Err(Refusal::Memory),
+    }
+}
