@@ -1,6 +1,6 @@
 #!/usr/bin/env bash
-# Runs ./dcvalid on every file of examples/ and compares the exit status and the first line: which of them always hold. Run it by
-# hand: tests/examples.sh
+# Runs ./dcvalid on every file of examples/ and compares the exit status and the first line: which of them always hold. Then each of their
+# automata is certified, and two of them are compared, both ways. Run it by hand: tests/examples.sh
 here=$(dirname "$(dirname "$(readlink -f "${BASH_SOURCE[0]}")")") || exit 1
 failed=0
 
@@ -23,4 +23,24 @@ for file in "$here"/examples/*.dc; do
     failed=1
   fi
 done
+
+# tell NAME WANTED GOT
+tell() {
+  if [ "$3" = "$2" ]; then
+    echo "$1: $3"
+  else
+    echo "FAILED: $1: wanted '$2', got '$3'"
+    failed=1
+  fi
+}
+
+for file in "$here"/examples/*.dc; do
+  text=$("$here/dcvalid" automaton "$file")
+  states=$(awk '$1 == "states" { print $2 }' <<<"$text")
+  tell "$(basename "$file")" "certified $states" "$("$here/dcvalid" certify /dev/stdin <<<"$text")"
+done
+
+tell 'response_2 implies response' implies "$("$here/dcvalid" implies "$here/examples/response_2.dc" "$here/examples/response.dc")"
+tell 'response implies response_2' $'does not imply\ncounterexample 3\n10\n00\n00' \
+  "$("$here/dcvalid" implies "$here/examples/response.dc" "$here/examples/response_2.dc")"
 exit "$failed"

@@ -1,6 +1,6 @@
 //! The program: `dcvalid check FILE` decides whether the formula of a file always holds, `dcvalid automaton FILE` writes its
 //! minimal automaton, which `dcvalid certify` judges by its text alone, and `dcvalid implies FILE FILE` compares two formulas;
-//! `dcvalid --help` lists its commands. All that it promises is the contract of `dcv_cli::run`; here the words, the files and the
+//! `dcvalid` alone lists its commands. All that it promises is the contract of `dcv_cli::run`; here the words, the files and the
 //! two streams of the system are handed to it.
 #![tactic(auto)]
 
