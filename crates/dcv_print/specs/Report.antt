@@ -1,8 +1,9 @@
 -- What a report says of an automaton.
 --     ReportValue                a verdict, and the text that is written
 --     Says kind raw names r      the text of the report is what the kind asks for, of this automaton over variables with these names
+--     SpellsAllBy raw names ..   so is this text of all that is asked for, with these words of the automaton
 use Rattle.std.specs.Prelude.{◌≡◌, ℕ, List}
-use Rattle.dcv_language.specs.Verdict.{Verdict}
+use Rattle.dcv_language.specs.Verdict.{Verdict, IsVerdict}
 use Rattle.dcv_language.specs.VerdictText.{verdict_text}
 use Rattle.dcv_language.specs.declared.certificate.Access.{Access}
 use Rattle.dcv_language.specs.declared.certificate.Suffix.{Suffix}
@@ -10,7 +11,7 @@ use Rattle.dcv_automaton_text.specs.File.{AccessLine, SuffixLine}
 use Rattle.dcv_automaton_text.specs.Spelled.{spelled}
 use Rattle.dcv_automaton_file.specs.File.{file_of}
 use Rattle.dcv_certificate.specs.Proof.{IsProof}
-use Rattle.dcv_dfa.specs.Raw.{RawValue}
+use Rattle.dcv_dfa.specs.Raw.{RawValue, raw_accepts}
 use Rattle.dcv_c.specs.Layout as c
 use Rattle.dcv_c.specs.Observer.{observer_of as unit_of}
 use Rattle.dcv_lustre.specs.Layout as lustre
@@ -56,6 +57,16 @@ pub record SpellsAll (raw : RawValue) (names : List (List ℕ)) (verdict text : 
   pub is_node : IsLustreObserver raw names node
   pub is_unit : IsCObserver raw names unit
   pub says : text ≡ all_text verdict automaton node unit
+
+-- the same, with words that were found before
+pub record SpellsAllBy (raw : RawValue) (names : List (List ℕ)) (access : List Access) (suffixes : List Suffix) (text : List ℕ) : Type 0 where
+  pub verdict : Verdict
+  pub node : List ℕ
+  pub unit : List ℕ
+  pub is_verdict : IsVerdict raw.arena.slots (raw_accepts raw) verdict
+  pub is_node : IsLustreObserver raw names node
+  pub is_unit : IsCObserver raw names unit
+  pub says : text ≡ all_text (verdict_text verdict) (spelled (printed_file raw names access suffixes)) node unit
 
 abbrev pub Says : Kind → RawValue → List (List ℕ) → ReportValue → Type 0
 Says Check raw names report = report.text ≡ verdict_text report.verdict

@@ -79,7 +79,7 @@ impl<'a> Listed<'a> {
 }
 
 // Puts the lines.
-fn put_automaton<T: Target>(
+pub(crate) fn put_automaton<T: Target>(
     target: &mut T,
     auto: &Auto,
     names: &[Name],

@@ -1,5 +1,5 @@
 // A report on the words of an automaton. It holds words, lists and references, and no text: that is written in pieces.
-ghost use Rattle.std.specs.Prelude.{◌≡◌, ◌≤◌, true, length, is_err, IfOk, OnOk, OnErr};
+ghost use Rattle.std.specs.Prelude.{◌≡◌, ◌≤◌, ◌++◌, true, length, codes, is_err, IfOk, OnOk, OnErr};
 ghost use Rattle.dcv_io.specs.Faults.{raised, RisesIf};
 ghost use Rattle.dcv_io.specs.Putting.{Puts};
 ghost use Rattle.dcv_io.specs.Written.{Appends, AppendsStrictPrefix};
@@ -13,16 +13,17 @@ ghost use Rattle.dcv_automaton_text.specs.Spelled.{spelled};
 ghost use Rattle.dcv_lustre.specs.Layout as lustre;
 ghost use Rattle.dcv_c.specs.Layout as c;
 ghost use Rattle.dcv_print.specs.Listed.{listed_file, IsListed};
-ghost use Rattle.dcv_print.specs.Report.{Says, SpellsAutomaton, IsLustreObserver, IsCObserver, text_of_sections, seen_report, IsContent};
+ghost use Rattle.dcv_print.specs.Report.{Says, SpellsAutomaton, SpellsAllBy, IsLustreObserver, IsCObserver, text_of_sections, seen_report, IsContent};
 ghost use Rattle.dcv_print.specs.Verdict.{seen_verdict};
 ghost use Rattle.dcv_print.specs.declared.verdict_lines.Verdict.{Verdict as CodeVerdict};
 
-use crate::automaton_lines::Listed;
+use crate::automaton_lines::{Listed, put_automaton};
 use crate::verdict_lines::Verdict;
 use crate::verdicts::verdict;
 use dcv_c::CUnit;
+use dcv_certificate::Proof;
 use dcv_dfa::Auto;
-use dcv_io::{Block, Failed, Sink, Target};
+use dcv_io::{Block, Failed, Sink, Target, Text};
 use dcv_lustre::Node;
 use dcv_syntax::Name;
 use std::alloc::{AllocError, Global};
@@ -88,11 +89,46 @@ impl<'a> Sections<'a> {
         verdict.put(target);
         target.put(b"--- automaton\n");
         self.listed.put(target);
-        target.put(b"--- lustre\n");
-        dcv_lustre::put(&self.node, target);
-        target.put(b"--- c\n");
-        dcv_c::put(&self.unit, target);
+        put_observers(target, &self.node, &self.unit);
     }
+}
+
+/// All that is said of an automaton: its verdict, its own text with the words of this proof, and both observers, each behind a line
+/// that names it.
+pub fn all_text(
+    alloc: Global,
+    auto: &Auto,
+    names: &[Name],
+    proof: &Proof,
+) -> Result<Vec<u8>, AllocError>
+    requires names { AreNames (texts_of names.now) }
+    requires slots { length names.now ≡ auto.now.arena.slots }
+    requires states { length auto.now.rows ≤ most_states }
+    requires nodes { count_of_nodes auto.now ≤ most_nodes }
+    ensures { IfOk result (λ text. SpellsAllBy auto.now (texts_of names.now) proof.now.access proof.now.suffixes text.items) }
+{
+    let verdict = verdict(alloc, auto)?;
+    let nodes = auto.node_lines(alloc)?;
+    let node = dcv_lustre::of_auto(alloc, auto, names)?;
+    let unit = dcv_c::of_auto(alloc, auto, names)?;
+    let mut text = Text::new(alloc);
+    text.put(b"--- verdict\n");
+    verdict.put(&mut text);
+    text.put(b"--- automaton\n");
+    put_automaton(&mut text, auto, names, &nodes, proof);
+    put_observers(&mut text, &node, &unit);
+    text.finish()
+}
+
+// Puts both observers, each behind its line.
+fn put_observers<T: Target>(target: &mut T, node: &Node, unit: &CUnit)
+    ensures { Puts (T.standing target.old) (T.standing target.new)
+        (codes "--- lustre\n" ++ (lustre.text_of node.now ++ (codes "--- c\n" ++ c.text_of unit.now))) }
+{
+    target.put(b"--- lustre\n");
+    dcv_lustre::put(node, target);
+    target.put(b"--- c\n");
+    dcv_c::put(unit, target);
 }
 
 /// A report on the words that an automaton accepts, before it is written.
