@@ -1,1 +1,2 @@
 mod BelowFacts
+mod PlainNames

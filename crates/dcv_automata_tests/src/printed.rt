@@ -1,10 +1,12 @@
 // The texts that are printed of automata.
-ghost use Rattle.std.specs.Prelude.{◌≡◌, length};
+ghost use Rattle.std.specs.Prelude.{◌≡◌, length, IfOk};
+ghost use Rattle.dcv_automaton_text.specs.Rules.{AreNames};
+ghost use Rattle.dcv_print.specs.Printed.{texts_of};
 
 use crate::examples::{EACH_LETTER, LAST_LETTER, ODD_DIFFERENCES, ONE_LETTER};
 use crate::minimal::auto_of;
 use dcv_certificate::separate;
-use dcv_print::automaton_text;
+use dcv_print::{all_text, automaton_text};
 use dcv_syntax::{Name, Span, Text};
 use std::alloc::Global;
 use std::test::Fail;
@@ -92,6 +94,41 @@ fn nodes_of_two_variables(rt: HostRuntime) -> Result<(), Fail> {
         state 0 reject n2\nstate 1 accept n3\n\
         access 0 start 00\naccess 1 start 01\n\
         suffix 0 empty\nend\n";
+    assert_eq!(rt; text.as_slice(), expected.as_slice());
+    Ok(())
+}
+
+// The names `p` and no other.
+fn one_name(alloc: Global) -> Result<Vec<Name>, Fail>
+    ensures names { IfOk result (λ names. AreNames (texts_of names.items)) }
+    ensures count { IfOk result (λ names. length names.items ≡ 1) }
+{
+    let text = Text::copy_of(alloc, b"p")?;
+    let span = Span { start: 0, end: 0 };
+    let mut names = Vec::new(alloc);
+    names.push(Name { text, span })?;
+    Ok(names)
+}
+
+// Verdict, automaton and both observers.
+#[test]
+fn four_texts_in_one(rt: HostRuntime) -> Result<(), Fail> {
+    let alloc = rt.alloc();
+    let auto = auto_of(alloc, 1, EACH_LETTER, 0)?;
+    let names = one_name(alloc)?;
+    if auto.slots() != 1 || auto.states() > 32_000 || auto.nodes() > 1_000_000 {
+        return Err(Fail::new("another automaton"));
+    }
+    let proof = separate(alloc, &auto)?;
+    let text = all_text(alloc, &auto, &names, &proof)?;
+    let expected = b"--- verdict\nnot valid\nsatisfiable\ncounterexample 1\n0\nexample 1\n1\n\
+        --- automaton\nautomaton 1\nvariables p\nstates 2\nnode n0 p ? t0 : t1\nstate 0 accept n0\nstate 1 reject t1\n\
+        access 0 start 1\naccess 1 start 0\nsuffix 0 empty\nend\n\
+        --- lustre\nnode observer(v_p: bool) returns (ok: bool);\nvar\n  st: int;\n  nx: int;\n  n0: int;\nlet\n\
+        \x20 st = 0 -> pre nx;\n  n0 = if v_p then 0 else 1;\n  nx = if st = 0 then n0 else 1;\n  ok = (nx = 0);\ntel\n\
+        --- c\nstatic int st;\n\nvoid observer_reset(void)\n{\n  st = 0;\n}\n\nint observer_step(int v_p)\n{\n\
+        \x20 int nx;\n  int n0;\n\n  nx = 0;\n  n0 = v_p ? 0 : 1;\n  if (st == 0) nx = n0;\n  if (st == 1) nx = 1;\n\
+        \x20 st = nx;\n  return nx == 0;\n}\n";
     assert_eq!(rt; text.as_slice(), expected.as_slice());
     Ok(())
 }
