@@ -1,3 +1,3 @@
-mod Findings
+mod Judged
 mod OneSummary
 mod Swept

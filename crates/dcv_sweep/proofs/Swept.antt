@@ -1,7 +1,7 @@
 -- One formula more, drawn and counted behind those before it.
-use Rattle.std.proofs.Common.{◌≡◌, ℕ, zero, suc, ◌+◌, ◌*◌, ◌^◌, ◌≤◌, ◌<◌, Bool, true, false, cond, List, [], ◌∷◌, ◌++◌, length, refl, sym, ap, subst, ◌∙◌, arith, length-append}
+use Rattle.std.proofs.Common.{◌≡◌, ℕ, zero, suc, ◌+◌, ◌*◌, ◌^◌, ◌≤◌, ◌<◌, Bool, cond, List, [], ◌∷◌, ◌++◌, length, refl, sym, ap, subst, ◌∙◌, arith, length-append}
 use Rattle.std.specs.List.{AllZip}
-use Rattle.std.specs.Prelude.{count_by, sum_by}
+use Rattle.std.specs.Prelude.{sum_by}
 use Rattle.std.proofs.lemmas.List.Sums.{sum_by-append, count_by-le-length}
 use Rattle.dcv_core.specs.Core.{CoreTree}
 use Rattle.dcv_explore.specs.declared.explorer.Limits.{Limits}
@@ -19,12 +19,14 @@ behind others =
     record { made = others.made ++ last.made ∷ []; after = last.after }
 
 drawn_more : (count seed : ℕ) → drawn_formulas (suc count) seed ≡ behind (drawn_formulas count seed)
+unfolding drawn_formulas
 drawn_more zero seed = refl
 drawn_more (suc count) seed =
     let first = drawn_formula seed in
     ap (λ (others : Drawn (List CoreTree)). record { made = first.made ∷ others.made; after = others.after }) (drawn_more count first.after)
 
 drawn_count : (count seed : ℕ) → length (drawn_formulas count seed).made ≡ count
+unfolding drawn_formulas
 drawn_count zero seed = refl
 drawn_count (suc count) seed = ap suc (drawn_count count (drawn_formula seed).after)
 
@@ -63,6 +65,7 @@ counted_behind findings last =
 
 pub swept_none : (limits : Limits) (seed state : ℕ) (summary : Summary) → state ≡ seed
     → summary ≡ record { formulas = 0; valid = 0; satisfiable = 0; over = 0; states = 0 } → IsSweptUpTo limits seed 0 state summary
+unfolding drawn_formulas
 swept_none limits seed state summary begins none = record { findings = []; found = tt; counts = none; states = omega (arith, ap (λ (s : Summary). s.states) none); goes_on = begins }
 
 module _ (limits : Limits) (seed count state : ℕ) (summary : Summary) (swept : IsSweptUpTo limits seed count state summary) where
@@ -72,7 +75,7 @@ module _ (limits : Limits) (seed count state : ℕ) (summary : Summary) (swept :
       ∙ sym (zip_length (IsFinding limits 3) (drawn_formulas count seed).made swept.findings swept.found)
       ∙ drawn_count count seed
 
-  pub has_room : count + 1 < 2 ^ 32 → HasRoom limits summary
+  pub has_room : count + 1 < 2 ^ 32 → HasRoom summary
   has_room within =
       let of = ap (λ (s : Summary). s.formulas) swept.counts in
       let valid = ap (λ (s : Summary). s.valid) swept.counts in
@@ -82,7 +85,7 @@ module _ (limits : Limits) (seed count state : ℕ) (summary : Summary) (swept :
         valid = omega (arith, of, valid, count_by-le-length is_valid swept.findings);
         satisfiable = omega (arith, of, satisfiable, count_by-le-length is_satisfiable swept.findings);
         over = omega (arith, of, over, count_by-le-length is_over swept.findings);
-        states = subst (λ n. summary.states ≤ n * limits.states) (sym formulas_are) swept.states;
+        states = omega (arith, formulas_are, swept.states);
         one_more = omega (arith, formulas_are, within);
       }
 
@@ -93,11 +96,8 @@ module _ (limits : Limits) (seed count state : ℕ) (summary : Summary) (swept :
     last_found : IsFinding limits 3 (drawn_formula (drawn_formulas count seed).after).made more.finding
     last_found = subst (λ s. IsFinding limits 3 (drawn_formula s).made more.finding) swept.goes_on more.is
 
-    states_then : grown.states ≤ suc count * limits.states
-    states_then =
-        let of = ap (λ (s : Summary). s.states) more.grows in
-        let product : suc count * limits.states ≡ count * limits.states + limits.states = omega arith in
-        omega (arith, of, product, swept.states, more.few)
+    states_then : grown.states ≤ suc count * 4294967296
+    states_then = let of = ap (λ (s : Summary). s.states) more.grows in omega (arith, of, swept.states, more.few)
 
     swept_to : IsSweptUpTo limits seed (suc count) after grown
     swept_to = record {

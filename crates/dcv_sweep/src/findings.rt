@@ -1,5 +1,5 @@
 // What is found of a formula.
-ghost use Rattle.std.specs.Prelude.{◌≡◌, ◌≤◌, ℕ, length, IfOk};
+ghost use Rattle.std.specs.Prelude.{◌≡◌, ◌<◌, ◌^◌, ℕ, length, IfOk};
 ghost use Rattle.dcv_language.specs.Language.{Language};
 ghost use Rattle.dcv_core.specs.Core.{CoreTree};
 ghost use Rattle.dcv_build.specs.Budget.{IsAutomatonOf};
@@ -39,12 +39,13 @@ pub struct Judgement {
 pub(crate) fn find(alloc: Global, core: &Core, limits: Limits) -> Result<Finding, AllocError>
     requires { IsCore core.now }
     ensures finding { (tree : CoreTree) → IsCoreOf tree core.now → IfOk result (IsFinding limits core.now.declared tree) }
-    ensures few { IfOk result (λ finding. states_of finding ≤ limits.states) }
+    ensures few { IfOk result (λ finding. states_of finding < 2 ^ 32) }
 {
     match build(alloc, core, limits) {
         Ok(auto) => Ok(Finding::Within(judge(alloc, &auto)?)),
+        Err(BuildFault::States { .. }) => Ok(Finding::Over),
+        Err(BuildFault::Nodes { .. }) => Ok(Finding::Over),
         Err(BuildFault::Memory) => Err(AllocError),
-        Err(_) => Ok(Finding::Over),
     }
 }
 

@@ -1,11 +1,9 @@
 // The counts, and the lines that say them.
-ghost use Rattle.std.specs.Prelude.{◌≡◌, ◌≤◌, ◌++◌};
+ghost use Rattle.std.specs.Prelude.{◌≡◌, ◌++◌};
 ghost use Rattle.std.specs.Fmt.{decimal};
 ghost use Rattle.dcv_io.specs.Putting.{Puts};
 ghost use Rattle.dcv_language.specs.VerdictText.{line};
-ghost use Rattle.dcv_explore.specs.declared.explorer.Limits.{Limits as Bounds};
 ghost use Rattle.dcv_sweep.specs.Counting.{counted, HasRoom};
-ghost use Rattle.dcv_sweep.specs.Findings.{states_of};
 ghost use Rattle.dcv_sweep.specs.SummaryText.{summary_text};
 
 use crate::findings::Finding;
@@ -30,7 +28,7 @@ pub struct Summary {
 impl Summary {
     // One formula more.
     pub(crate) fn count(&mut self, finding: Finding)
-        requires { (limits : Bounds) × HasRoom limits self.old × (states_of finding ≤ limits.states) }
+        requires { HasRoom self.old }
         ensures { self.new ≡ counted self.old finding }
     {
         self.formulas += 1;
@@ -61,8 +59,5 @@ fn put_line<T: Target>(target: &mut T, heading: &[u8], number: u64)
     ensures { Puts (T.standing target.old) (T.standing target.new) (line (heading.now ++ decimal number)) }
 {
     let mut digits = Buffer::new();
-    put_pieces(
-        target,
-        &[heading, digits.format(number).as_bytes(), b"\n"],
-    );
+    put_pieces(target, &[heading, digits.format(number).as_bytes(), b"\n"]);
 }

@@ -29,7 +29,7 @@ fn one_more(
     draw: &mut Draw,
     summary: &mut Summary,
 ) -> Result<(), AllocError>
-    requires { HasRoom limits summary.old }
+    requires { HasRoom summary.old }
     ensures { OnOk result (IsOneMore limits draw.old summary.old draw.new summary.new) }
 {
     let core = drawn_core(alloc, draw)?;
