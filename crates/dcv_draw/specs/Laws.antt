@@ -1,0 +1,17 @@
+-- The laws that `src/laws.rt` proves: the numbers and the formula with which seed 0 begins.
+use Rattle.std.specs.Prelude.{◌≡◌, ℕ, zero, suc, ◌/◌, List, [], ◌∷◌}
+use Rattle.dcv_core.specs.Core.{TruthSlot, TruthNot, BasicPoint, CoreAtom}
+use Rattle.dcv_draw.specs.Draw.{next_draw}
+use Rattle.dcv_draw.specs.DrawnCores.{nowhere, drawn_formulas}
+
+-- the high bits of so many states in turn
+abbrev pub first_numbers : ℕ → ℕ → List ℕ
+first_numbers zero state = []
+first_numbers (suc count) state = let next = next_draw state in next / 65536 ∷ first_numbers count next
+
+abbrev pub NumbersOfSeed0 : Type 0
+NumbersOfSeed0 = first_numbers 4 0 ≡ 0 ∷ 21468 ∷ 9988 ∷ 22117 ∷ []
+
+-- `<!y>`, where the variables are x, y and z
+abbrev pub FormulaOfSeed0 : Type 0
+FormulaOfSeed0 = (drawn_formulas 1 0).made ≡ CoreAtom (BasicPoint (TruthNot (TruthSlot 1))) nowhere ∷ []

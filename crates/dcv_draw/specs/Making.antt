@@ -1,0 +1,32 @@
+-- For the proofs alone: the steps of what is drawn, as they are made.
+--     join_of, join_op             the operators of two operands, of trees and of steps
+--     Adds old slots drawn new     the steps of what is drawn are made, and the generator has gone on
+--     most_steps depth             how many steps a formula has at most whose operators nest so deep
+use Rattle.std.specs.Prelude.{◌≡◌, ℕ, zero, suc, ◌*◌}
+use Rattle.dcv_syntax.specs.declared.names.Span.{Span}
+use Rattle.dcv_core.specs.Core.{CoreTree, CoreAnd, CoreOr, CoreIff, CoreChop}
+use Rattle.dcv_core.specs.Steps.{PlainOp, OpAnd, OpOr, OpIff, OpChop, PlainCore, Made}
+use Rattle.dcv_draw.specs.declared.formulas.Join.{Join}
+use Rattle.dcv_draw.specs.declared.formulas.Join.TheVariants.{And, Or, Chop, Iff}
+use Rattle.dcv_draw.specs.DrawnCores.{Drawn}
+
+abbrev pub join_of : Join → CoreTree → CoreTree → Span → CoreTree
+join_of And = CoreAnd
+join_of Or = CoreOr
+join_of Chop = CoreChop
+join_of Iff = CoreIff
+
+abbrev pub join_op : Join → ℕ → ℕ → PlainOp
+join_op And = OpAnd
+join_op Or = OpOr
+join_op Chop = OpChop
+join_op Iff = OpIff
+
+-- the new core has the steps of the tree more, the last of which has this number, and this is the generator's state after it
+pub record Adds (old : PlainCore) (slots : ℕ) (drawn : Drawn CoreTree) (new : PlainCore) (state last : ℕ) : Type 0 where
+  pub made : Made old slots drawn.made new last
+  pub state_is : state ≡ drawn.after
+
+abbrev pub most_steps : ℕ → ℕ
+most_steps zero = 1
+most_steps (suc depth) = suc (2 * most_steps depth)
