@@ -30,7 +30,7 @@ use Rattle.dcv_cli.specs.Status.{is_answer, status_of_verdict}
 use Rattle.dcv_cli.proofs.Texts.{one_text, says_of_same}
 
 -- no refusal answers
-no_refusal_answers : (refusal : Refusal) → IsTrue (is_answer (status_of refusal)) → ⊥
+pub no_refusal_answers : (refusal : Refusal) → IsTrue (is_answer (status_of refusal)) → ⊥
 no_refusal_answers Open is = true≢false (sym is)
 no_refusal_answers ReadRefusal is = true≢false (sym is)
 no_refusal_answers (Formula fault) is = true≢false (sym is)
@@ -40,7 +40,7 @@ no_refusal_answers (Budget over) is = true≢false (sym is)
 no_refusal_answers Write is = true≢false (sym is)
 no_refusal_answers Memory is = true≢false (sym is)
 
-answers_as : (outcome : Outcome) (status : Status) → outcome.status ≡ status → IsTrue (is_answer outcome.status) → IsTrue (is_answer status)
+pub answers_as : (outcome : Outcome) (status : Status) → outcome.status ≡ status → IsTrue (is_answer outcome.status) → IsTrue (is_answer status)
 answers_as outcome status is answers = subst (λ (s : Status). IsTrue (is_answer s)) is answers
 
 module _ (one_tree : SpellsOne) where

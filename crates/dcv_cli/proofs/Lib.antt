@@ -1,4 +1,5 @@
 pub mod Automata
+pub mod BothWays
 pub mod Budgets
 pub mod Certificates
 pub mod Comparisons
@@ -12,6 +13,7 @@ pub mod Outcomes
 pub mod ThreeEnds
 pub mod TwoFiles
 pub mod Pieces
+pub mod Printed
 pub mod SomeOutcome
 pub mod LongTexts
 pub mod VariableNames

@@ -104,7 +104,7 @@ module _ (one_file : OneFile) where
   one_refusal text r s (BreaksARule short f form at fault e) (BreaksARule short' g form' other fault' e') =
       e ∙ ap (λ place. Automaton (Table place)) (one_broken text f g at other form form' fault fault') ∙ sym e'
 
-  refused_or_read : (text : List ℕ) (refusal : Refusal) (file : AutomatonFile) → IsRefusedAutomaton text refusal → IsAutomatonText text file → ⊥
+  pub refused_or_read : (text : List ℕ) (refusal : Refusal) (file : AutomatonFile) → IsRefusedAutomaton text refusal → IsAutomatonText text file → ⊥
   refused_or_read text refusal file (TooLong long e) is = let fits = is.fits in omega arith
   refused_or_read text refusal file (HasNoForm short at fault e) is = no_fault_of_form text file at is.form fault
   refused_or_read text refusal file (BreaksARule short other form at fault e) is = broken_or_good text other file at form is.form fault is.good

@@ -1,5 +1,5 @@
 -- The laws that `src/laws.rt` proves.
-use Rattle.std.specs.Prelude.{◌≡◌, ◌≢◌, ◌⊎◌, ℕ, List, Option, Bool, true, false, Some, IsSome, IsTrue, IsFalse, length, map}
+use Rattle.std.specs.Prelude.{◌≡◌, ◌≢◌, ◌≤◌, ◌⊎◌, ℕ, List, Option, Bool, true, false, Some, IsSome, IsTrue, IsFalse, length, map}
 use Rattle.std.specs.List.{All}
 use Rattle.std.specs.List.Sorted.{IsStrictlyIncreasing}
 use Rattle.dcv_syntax.specs.Plain.{PlainFile}
@@ -13,14 +13,16 @@ use Rattle.dcv_explore.specs.declared.explorer.Limits.{Limits}
 use Rattle.dcv_build.specs.Budget.{IsOver}
 use Rattle.dcv_cli.specs.declared.budget_line.Over.{Over}
 use Rattle.dcv_cli.specs.declared.refusal.Refusal.TheVariants.{Budget}
-use Rattle.dcv_cli.specs.declared.status.Status.TheVariants.{Budget as StatusBudget}
+use Rattle.dcv_cli.specs.declared.status.Status.TheVariants.{Done, Valid, Budget as StatusBudget}
 use Rattle.dcv_cli.specs.Budget.{steps_of_file, IsFirstOver}
-use Rattle.dcv_cli.specs.Refusal.{message_of, only}
+use Rattle.dcv_cli.specs.Refusal.{message_of, most_automaton_bytes, only}
 use Rattle.dcv_cli.specs.FormulaFile.{IsFormulaFile}
 use Rattle.dcv_cli.specs.Held.{Texts}
 use Rattle.dcv_cli.specs.Outcome.{Outcome, Agrees}
+use Rattle.dcv_print.specs.Sections.{all_text}
 use Rattle.dcv_print.specs.declared.report.Kind.{Kind}
-use Rattle.dcv_command.specs.Request.{Request, Report, files_of}
+use Rattle.dcv_print.specs.declared.report.Kind.TheVariants.{Automaton, All as AllTexts}
+use Rattle.dcv_command.specs.Request.{Request, Report, Certify, Implies, files_of}
 use Rattle.dcv_cli.specs.Request.{AsksFor}
 use Rattle.dcv_cli.specs.Right.{Fulfils, IsRight}
 use Rattle.dcv_cli.specs.Status.{is_answer}
@@ -101,6 +103,55 @@ abbrev pub EqualMeanings : Type 0
 EqualMeanings = (kind : Kind) (name other_name : List ℕ) (limits other_limits : Limits) (held other_held : Texts) (file other_file : PlainFile)
     (one another : Outcome) → MeanTheSame file other_file → IsAnswer kind name limits held file one
     → IsAnswer kind other_name other_limits other_held other_file another → Agrees one another
+
+-- ---- texts that are printed are certified
+
+-- whatever is right where the text is to be certified says that it is
+abbrev pub IsCertifiable : List ℕ → Type 0
+IsCertifiable text = (name : List ℕ) (held : Texts) (outcome : Outcome) → held 0 name ≡ Some text → length text ≤ most_automaton_bytes
+    → Fulfils (Certify name) held outcome → outcome.status ≡ Done
+
+-- the text of a right answer of this kind
+pub record IsPrinted (kind : Kind) (text : List ℕ) : Type 0 where
+  pub name : List ℕ
+  pub limits : Limits
+  pub held : Texts
+  pub outcome : Outcome
+  pub right : Fulfils (Report kind name limits) held outcome
+  pub answers : IsTrue (is_answer outcome.status)
+  pub says : text ≡ outcome.out
+
+-- so each text of an automaton is, and in the text of all that part which is an automaton's
+pub record PrintedIsCertified : Type 0 where
+  pub automaton : (text : List ℕ) → IsPrinted Automaton text → IsCertifiable text
+  pub all : (text : List ℕ) → IsPrinted AllTexts text
+      → (verdict automaton node unit : List ℕ) × (text ≡ all_text verdict automaton node unit) × IsCertifiable automaton
+
+-- ---- requirements that imply each other
+
+-- it is right to answer of the two texts that the requirement of the first implies that of the second
+pub record Implied (first second : List ℕ) : Type 0 where
+  pub name : List ℕ
+  pub other_name : List ℕ
+  pub limits : Limits
+  pub held : Texts
+  pub first_there : held 0 name ≡ Some first
+  pub second_there : held 1 other_name ≡ Some second
+  pub outcome : Outcome
+  pub right : Fulfils (Implies name other_name limits) held outcome
+  pub valid : outcome.status ≡ Valid
+
+-- two formula files that mean the same
+pub record AreOneRequirement (first second : List ℕ) : Type 0 where
+  pub file : PlainFile
+  pub other_file : PlainFile
+  pub formula : IsFormulaFile first file
+  pub other_formula : IsFormulaFile second other_file
+  pub mean : MeanTheSame file other_file
+
+-- those that imply each other do, so that all that is printed of one is printed of the other, but for suffixes
+abbrev pub ImpliesBothWays : Type 0
+ImpliesBothWays = (first second : List ℕ) → Implied first second → Implied second first → AreOneRequirement first second
 
 -- ---- the order of names
 

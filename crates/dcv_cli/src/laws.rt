@@ -1,11 +1,11 @@
 //! Laws on what is right, each the contract of a function that does nothing.
-ghost use Rattle.dcv_cli.specs.Laws.{OneOutcome, SomeOutcome, EqualMeanings, NamesAscend};
+ghost use Rattle.dcv_cli.specs.Laws.{OneOutcome, SomeOutcome, EqualMeanings, PrintedIsCertified, ImpliesBothWays, NamesAscend};
 
 use dcv_automaton_text::laws::one_file as one_automaton_text;
 use dcv_build::laws::one_step_is_over;
-use dcv_certify::laws::one_answer;
+use dcv_certify::laws::{one_answer, printed_is_certified as good_words_are_certified};
 use dcv_command::laws::taken_words_ask;
-use dcv_implies::laws::one_answer as one_comparison;
+use dcv_implies::laws::{none_is_inclusion, one_answer as one_comparison};
 use dcv_language::laws::{one_verdict, verdict_of_same_behaviours};
 use dcv_print::laws::{
     automaton_of_same_behaviours, one_automaton, one_file, printed_observers_observe,
@@ -49,6 +49,24 @@ pub fn equal_meanings()
     automaton_of_same_behaviours();
     one_file();
     printed_observers_observe();
+}
+
+/// Each text of an automaton that is printed is certified when it is read back, and so is that part of the text of `all`, as long as it is no
+/// longer than such a text may be.
+pub fn printed_is_certified()
+    ensures { PrintedIsCertified }
+{
+    one_automaton_text();
+    one_answer();
+    good_words_are_certified();
+}
+
+/// Formula files of which each implies the other have the same variables and the same models, so [`equal_meanings`] speaks of them.
+pub fn implies_both_ways()
+    ensures { ImpliesBothWays }
+{
+    one_tree();
+    none_is_inclusion();
 }
 
 /// The names of a text occur in the order of their offsets. So the first fault of names, which counts, is the one at the least

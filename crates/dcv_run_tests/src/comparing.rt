@@ -61,8 +61,12 @@ const COUNTED: &str = "var p, q; infer scount p = 2;";
 
 const OTHERS_COUNTED: &str = "var p, q; infer scount q = 2;";
 
+const MANY_COUNTED: &str = "var p, q; infer scount p = 199;";
+
+const MANY_OTHERS_COUNTED: &str = "var p, q; infer scount q = 199;";
+
 // Two files each, the limit of states, and what is answered.
-const COMPARISONS: [(&str, &str, &str, (u8, &str, &str)); 11] = [
+const COMPARISONS: [(&str, &str, &str, (u8, &str, &str)); 12] = [
     (
         "var p; infer <p>;",
         "var p; infer [[p]];",
@@ -130,6 +134,13 @@ const COMPARISONS: [(&str, &str, &str, (u8, &str, &str)); 11] = [
         OTHERS_COUNTED,
         "16",
         (1, "does not imply\ncounterexample 2\n10\n10\n", ""),
+    ),
+    // 201 states each, and more than 40,000 pairs
+    (
+        MANY_COUNTED,
+        MANY_OTHERS_COUNTED,
+        "30000",
+        (4, "", "budget states 30000 in product\n"),
     ),
 ];
 

@@ -1,0 +1,83 @@
+#!/usr/bin/env bash
+# Measures, by hand, what `certify` and `implies` take: the least time of so many runs (RUNS, 3 by custom) in milliseconds, start and end of the process
+# included, and the most memory, in MB.
+#
+#   certify N        the program's own text of an automaton with N states and as many suffixes, beside the command that writes it
+#   shuffled N       the same text with its suffixes in another order, each still behind the one that it goes on from, so that the way for all lists is taken
+#   implies N        two counts up to N, whose product has N times N pairs of states
+#   itself N         a chain of N states, compared with itself
+#
+# Goals: 28,562 states certified in a second, 10,000 with shuffled suffixes in two.
+#
+# The last figures: FIGURES
+set -euo pipefail
+here=$(cd "$(dirname "$(readlink -f "${BASH_SOURCE[0]}")")" && pwd)
+program=${PROGRAM:-$here/../crates/dcvalid/out/dcvalid}
+[ -x "$program" ] || { echo "build the program first: ./dcvalid check examples/always.dc" >&2; exit 1; }
+folder=$(mktemp -d)
+trap 'rm -rf "$folder"' EXIT
+
+# Runs a command so often, and prints the least time and the most memory behind a name.
+measure() {
+  local name=$1 took= kept=0
+  shift
+  for _ in $(seq "${RUNS:-3}"); do
+    local begun=${EPOCHREALTIME/./} now memory
+    /usr/bin/time -o "$folder/.kept" -f %M "$@" >"$folder/.out" 2>"$folder/.err" || true
+    now=$((${EPOCHREALTIME/./} - begun)) memory=$(tail -n 1 "$folder/.kept")
+    [ -n "$took" ] && [ "$took" -le "$now" ] || took=$now
+    [ "$kept" -ge "$memory" ] || kept=$memory
+  done
+  awk -v n="$name" -v t="$took" -v m="$kept" -v o="$(head -c 60 "$folder/.out" "$folder/.err" | grep -v '^==>' | tr '\n' ' ')" \
+    'BEGIN { printf "%-18s %8.1f ms %7.1f MB   %s\n", n, t / 1000, m / 1024, o }'
+}
+
+# The suffixes of an automaton's text in another order, each behind the one that it goes on from.
+shuffle_suffixes() {
+  python3 - "$1" <<'END'
+import random, sys
+random.seed(1)
+lines = open(sys.argv[1]).read().split("\n")
+suffixes = [line.split()[2:] for line in lines if line.startswith("suffix ")]
+later, order, place = {}, [], {}
+for number, words in enumerate(suffixes):
+    if words != ["empty"]:
+        later.setdefault(int(words[1]), []).append(number)
+open_ends = [0]
+while open_ends:
+    number = open_ends.pop(random.randrange(len(open_ends)))
+    place[number] = len(order)
+    order.append(number)
+    open_ends += later.get(number, [])
+for line in lines:
+    if line == "end":
+        for new, number in enumerate(order):
+            words = suffixes[number]
+            print("suffix", new, *(words if words == ["empty"] else [words[0], place[int(words[1])]]))
+    if line and not line.startswith("suffix "):
+        print(line)
+END
+}
+
+for n in 4000 9999; do
+  echo "infer slen <= $n;" >"$folder/chain"
+  "$program" automaton "$folder/chain" >"$folder/chain.auto" || true
+  measure "automaton $n" "$program" automaton "$folder/chain"
+  measure "certify $n" "$program" certify "$folder/chain.auto"
+done
+for n in 98 168; do
+  echo "var p, q; infer scount p <= $n && scount q <= $n;" >"$folder/grid"
+  "$program" automaton "$folder/grid" >"$folder/grid.auto" || true
+  shuffle_suffixes "$folder/grid.auto" >"$folder/shuffled.auto"
+  states=$(awk '$1 == "states" { print $2 }' "$folder/grid.auto")
+  measure "automaton $states" "$program" automaton "$folder/grid"
+  measure "certify $states" "$program" certify "$folder/grid.auto"
+  measure "shuffled $states" "$program" certify "$folder/shuffled.auto"
+done
+for n in 50 150; do
+  echo "var p, q; infer scount p <= $n;" >"$folder/one"
+  echo "var p, q; infer scount q <= $n;" >"$folder/other"
+  measure "implies $n" "$program" implies "$folder/one" "$folder/other"
+done
+echo 'infer slen <= 9999;' >"$folder/chain"
+measure 'itself 9999' "$program" implies "$folder/chain" "$folder/chain"

@@ -1,0 +1,101 @@
+-- Texts of automata that are printed are certified.
+use Rattle.std.proofs.Common.{◌≡◌, ℕ, ◌≤◌, List, length, Option, None, Some, refl, sym, ap, ◌∙◌, subst}
+use Rattle.std.specs.Prelude.{IsTrue, IsSomeAnd}
+use Rattle.std.proofs.lemmas.List.{length-map}
+use Rattle.dcv_automaton_text.specs.File.{AutomatonFile}
+use Rattle.dcv_automaton_text.specs.Form.{HasForm}
+use Rattle.dcv_automaton_text.specs.Laws.{OneFile}
+use Rattle.dcv_automaton_text.specs.Meaning.{access_words_of, suffix_words_of, table_of}
+use Rattle.dcv_certify.specs.Certified.{IsCertified}
+use Rattle.dcv_certify.specs.Laws.{OneAnswer, PrintedIsCertified as GoodWordsAreCertified}
+use Rattle.dcv_certify.specs.declared.answer.Answer.TheVariants.{Minimal}
+use Rattle.dcv_explore.specs.declared.explorer.Limits.{Limits}
+use Rattle.dcv_language.specs.Canonical.{IsCanonical}
+use Rattle.dcv_language.specs.Certificate.{IsCertificate as IsCertificateOf}
+use Rattle.dcv_language.specs.Language.{Language}
+use Rattle.dcv_logic.specs.Models.{models}
+use Rattle.dcv_print.specs.Automaton.{IsAutomatonOf}
+use Rattle.dcv_print.specs.Printed.{texts_of}
+use Rattle.dcv_print.specs.declared.report.Kind.{Kind}
+use Rattle.dcv_print.specs.declared.report.Kind.TheVariants.{Automaton, All}
+use Rattle.dcv_syntax.specs.Plain.{PlainFile}
+use Rattle.dcv_syntax.specs.declared.names.Name.{Name}
+use Rattle.dcv_cli.specs.Automaton.{SaysAutomaton}
+use Rattle.dcv_cli.specs.AutomatonFile.{IsAutomatonText, OnAutomaton, Refused as RefusedAutomaton, Read as ReadAutomaton}
+use Rattle.dcv_cli.specs.Budget.{IsBudgeted, OverBudget, WithinBudget}
+use Rattle.dcv_cli.specs.Certificate.{IsCertificate, status_of_answer}
+use Rattle.dcv_cli.specs.FormulaFile.{OnText, Refused, Read}
+use Rattle.dcv_cli.specs.Laws.{IsCertifiable, IsPrinted, PrintedIsCertified}
+use Rattle.dcv_cli.specs.Outcome.{Outcome}
+use Rattle.dcv_cli.specs.Refusal.{most_automaton_bytes, status_of}
+use Rattle.dcv_cli.specs.Report.{IsReport}
+use Rattle.dcv_cli.specs.Status.{is_answer}
+use Rattle.dcv_cli.specs.declared.refused.Which.TheVariants.{Only}
+use Rattle.dcv_cli.specs.declared.status.Status.TheVariants.{Done, Budget as StatusBudget}
+use Rattle.dcv_cli.proofs.EqualMeanings.{answers_as, no_refusal_answers}
+use Rattle.dcv_cli.proofs.OneCertificate.{refused_or_read}
+
+-- ---- a right answer is a report on some file
+
+record IsReported (kind : Kind) (outcome : Outcome) : Type 0 where
+  file : PlainFile
+  report : IsReport kind file outcome
+
+reported : (kind : Kind) (limits : Limits) (found : Option (List ℕ)) (outcome : Outcome) → IsTrue (is_answer outcome.status)
+    → IsSomeAnd found (λ text. OnText text Only (IsBudgeted limits Only (IsReport kind)) outcome) → IsReported kind outcome
+reported kind limits None outcome answers right = absurd right
+reported kind limits (Some text) outcome answers (Refused refusal is e) =
+    absurd (no_refusal_answers refusal (answers_as outcome (status_of refusal) (ap (λ (o : Outcome). o.status) e) answers))
+reported kind limits (Some text) outcome answers (Read file is (OverBudget over first e)) =
+    let wrong : IsTrue (is_answer StatusBudget) = answers_as outcome StatusBudget (ap (λ (o : Outcome). o.status) e) answers in cc
+reported kind limits (Some text) outcome answers (Read file is (WithinBudget within report)) = record { file = file; report = report }
+
+report_of : (kind : Kind) (text : List ℕ) → (is : IsPrinted kind text) → IsReported kind is.outcome
+report_of kind text is = reported kind is.limits (is.held 0 is.name) is.outcome is.answers is.right
+
+-- ---- its text is certified
+
+module _ (one_file : OneFile) (one_answer : OneAnswer) (certified : GoodWordsAreCertified) where
+  says_certifiable : (file : PlainFile) (text : List ℕ) → SaysAutomaton (length file.variables) (models file) (texts_of file.variables) text → IsCertifiable text
+  says_certifiable plain text says name held outcome there short right =
+      on_held (held 0 name) there right
+    where
+      file : AutomatonFile
+      file = says.automaton
+
+      width : length plain.variables ≡ length file.names
+      width = sym (ap length says.is.variables ∙ length-map plain.variables (λ (name : Name). name.text))
+
+      canonical : IsCanonical (length file.names) (models plain) (table_of file) (access_words_of file)
+      canonical = subst (λ k. IsCanonical k (models plain) (table_of file) (access_words_of file)) width says.is.canonical
+
+      certificate : IsCertificateOf (length file.names) (models plain) (access_words_of file) (suffix_words_of file)
+      certificate = subst (λ k. IsCertificateOf k (models plain) (access_words_of file) (suffix_words_of file)) width says.is.certificate
+
+      form : HasForm text file
+      form = record { spellable = says.is.form; spelled = says.says }
+
+      is_text : IsAutomatonText text file
+      is_text = record { fits = short; form = form; good = says.is.rules }
+
+      on_text : OnAutomaton text IsCertificate outcome → outcome.status ≡ Done
+      on_text (RefusedAutomaton refusal is e) = absurd (refused_or_read one_file text refusal file is is_text)
+      on_text (ReadAutomaton other is said) =
+          let same : other ≡ file = one_file text other file is.form form in
+          let answer : said.answer ≡ Minimal =
+          one_answer file said.answer Minimal (subst (λ (f : AutomatonFile). IsCertified f said.answer) same said.is) (certified (models plain) file says.is.rules canonical certificate) in
+          said.status ∙ ap status_of_answer answer
+
+      on_held : (found : Option (List ℕ)) → found ≡ Some text → IsSomeAnd found (λ bytes. OnAutomaton bytes IsCertificate outcome) → outcome.status ≡ Done
+      on_held found there right = on_text (subst (λ some. IsSomeAnd some (λ bytes. OnAutomaton bytes IsCertificate outcome)) there right)
+
+  pub printed_is_certified : PrintedIsCertified
+  printed_is_certified = record {
+    automaton = λ text is.
+        let reported = report_of Automaton text is in
+        subst IsCertifiable (sym is.says) (says_certifiable reported.file is.outcome.out reported.report.says);
+    all = λ text is.
+        let reported = report_of All text is in
+        let parts = reported.report.says in
+        (_, parts.automaton, parts.node, parts.unit, is.says ∙ parts.says, says_certifiable reported.file parts.automaton parts.says_automaton);
+  }
