@@ -4,8 +4,8 @@ ghost use Rattle.dcv_draw.specs.Draw.{next_draw, drawn};
 
 use std::marker::Model;
 
-/// A linear congruential generator (D. H. Lehmer, 1951), with the multiplier, the increment and the modulus of the C standard's
-/// example of `rand`.
+/// A linear congruential generator (D. H. Lehmer, 1951) of the states below 2^31, with the multiplier and the increment of the C
+/// standard's example of `rand`.
 #[derive(Debug, Drop)]
 pub struct Draw {
     state: u32,
