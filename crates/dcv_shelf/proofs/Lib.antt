@@ -1,0 +1,6 @@
+mod Copies
+mod FirstSlots
+mod Sharing
+mod Shelves
+mod Turned
+mod Views
