@@ -1,4 +1,6 @@
+mod CopiedRows
 mod Copies
+mod Departed
 mod FirstSlots
 mod Sharing
 mod Shelves

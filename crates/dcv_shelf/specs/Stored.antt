@@ -1,14 +1,16 @@
 -- The form in which a shelf keeps tables: for each state a flag and a row in the shelf's arena.
+--     row_at stored state               the row of a state
 --     stored_table arena stored         what it stands for
 --     IsStored arena stored             what is true of each one
 --     shelf_value, IsShelf              a shelf by its parts, and what is true of each one
 --     copied_states auto copies count   the first states of an automaton, with the copies of their rows
 --     IsTurned old new                  what is kept of a complement
+--     HasRows from stored arena rows    these rows of another arena are those of its states
 --     ViewValue, IsView                 a stored table beside the arena of its rows
---     view_table, view_row              what it stands for, and the row of a state
+--     view_table                        what it stands for
 use Rattle.std.specs.Prelude.{◌≡◌, ℕ, ◌^◌, ◌-◌, ◌<◌, ◌≤◌, Bool, not, false, if◌then◌else◌, List, [], ◌∷◌, length, map, slice_index_or}
 use Rattle.std.specs.List.{All, range_with_len}
-use Rattle.dcv_arena.specs.Arena.{ArenaValue, IsArena, IsRef, value_of}
+use Rattle.dcv_arena.specs.Arena.{ArenaValue, IsArena, IsRef, value_of, HasOnlyNodesOf}
 use Rattle.dcv_arena.specs.Diagram.{as_table}
 use Rattle.dcv_arena.specs.declared.nodes.Ref.{Ref}
 use Rattle.dcv_arena.specs.declared.nodes.Ref.TheVariants.{Leaf}
@@ -18,6 +20,10 @@ use Rattle.dcv_shelf.specs.Copies.{DependsOnFirst, copied_ref}
 use Rattle.dcv_shelf.specs.Shelf.{ShelfTable, ShelfValue, nodes_of_table, IsCanonicalTable, HaveOneNumberEach}
 use Rattle.dcv_shelf.specs.declared.stored.State.{State}
 use Rattle.dcv_shelf.specs.declared.stored.Stored.{Stored}
+
+-- the row of a state, and of one that is none the leaf 0
+abbrev pub row_at : Stored → ℕ → Ref
+row_at stored state = (slice_index_or stored.states.items state (record { accepting = false; row = Leaf 0 })).row
 
 -- a row is read at letters of the table's own slots
 abbrev pub stored_state : ArenaValue → ℕ → State → TableState
@@ -66,6 +72,18 @@ pub record IsTurned (old new : Stored) : Type 0 where
   pub nodes : new.nodes ≡ old.nodes
   pub states : new.states.items ≡ turned_states old.alone old.states.items
 
+-- ---- tables that leave
+
+-- the first states have these rows, which mean there at the table's letters what they mean here
+pub record HasRows (from : ArenaValue) (stored : Stored) (arena : ArenaValue) (rows : List Ref) : Type 0 where
+  pub arena_is : IsArena arena
+  pub slots : arena.slots ≡ stored.slots
+  pub refs : All (IsRef arena) rows
+  pub values : (place : ℕ) (letter : List Bool) → place < length rows → length letter ≡ stored.slots
+      → value_of arena (slice_index_or rows place (Leaf 0)) letter ≡ value_of from (row_at stored place) letter
+  -- and the arena has the nodes of the rows alone
+  pub nodes : HasOnlyNodesOf arena rows
+
 -- ---- views
 
 pub record ViewValue : Type 0 where
@@ -78,7 +96,3 @@ pub record IsView (view : ViewValue) : Type 0 where
 
 abbrev pub view_table : ViewValue → ShelfTable
 view_table view = stored_table view.arena view.stored
-
--- of a state that is none the leaf 0
-abbrev pub view_row : Stored → ℕ → Ref
-view_row stored state = (slice_index_or stored.states.items state (record { accepting = false; row = Leaf 0 })).row

@@ -14,6 +14,7 @@
 #![tactic(auto)]
 
 mod inclusion;
+mod leaving;
 mod shelf;
 mod stored;
 mod view;

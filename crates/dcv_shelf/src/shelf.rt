@@ -5,6 +5,7 @@ ghost use Rattle.dcv_dfa.specs.Auto.{count_of_nodes};
 ghost use Rattle.dcv_shelf.specs.Shelf.{ShelfTable, table_of_auto, HaveOneNumberEach, KeepsNumbers, HasNumber, HasComplement};
 ghost use Rattle.dcv_shelf.specs.Stored.{IsStored, stored_table, view_table};
 
+use crate::leaving::auto_of;
 use crate::stored::Stored;
 use crate::view::View;
 use dcv_arena::Arena;
@@ -103,6 +104,18 @@ impl Shelf {
         ensures { slice_get self.now.tables number ≡ Some (view_table result) }
     {
         View::new(&self.arena, &self.tables.as_slice()[number as usize])
+    }
+
+    /// The automaton with this number, in an arena of its own: of its own width, and with the nodes of its rows and no others.
+    pub fn copy_out(&self, number: u32) -> Result<Auto, AllocError>
+        requires { number < length self.now.tables }
+        ensures { IfOk result (λ auto. slice_get self.now.tables number ≡ Some (table_of_auto auto)) }
+    {
+        auto_of(
+            self.alloc,
+            &self.arena,
+            &self.tables.as_slice()[number as usize],
+        )
     }
 }
 

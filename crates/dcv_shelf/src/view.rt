@@ -2,7 +2,7 @@
 ghost use Rattle.std.specs.Prelude.{◌≡◌, length};
 ghost use Rattle.dcv_arena.specs.Arena.{IsArena};
 ghost use Rattle.dcv_language.specs.Table.{automaton_of};
-ghost use Rattle.dcv_shelf.specs.Stored.{IsStored, view_table, view_row};
+ghost use Rattle.dcv_shelf.specs.Stored.{IsStored, view_table, row_at};
 
 use crate::stored::Stored;
 use dcv_arena::{Arena, Ref};
@@ -48,7 +48,7 @@ impl Table for View<'_> {
 
     ghost arena = { λ view. view.arena };
 
-    ghost row_at = { λ view. view_row view.stored };
+    ghost row_at = { λ view. row_at view.stored };
 
     fn slots(&self) -> u8 {
         self.stored.slots
