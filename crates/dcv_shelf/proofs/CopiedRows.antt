@@ -45,21 +45,29 @@ renumbered_by_itself count number below = omega (arith, get_or-range_with_len 0 
 -- a row that was renumbered, in the words of the one who did it
 module _ (from : ArenaValue) (stored : Stored) (is : IsStored from stored) (numbers given_numbers : List ℕ) (given_from : ArenaValue)
     (all : numbers ≡ range_with_len 0 (length stored.states.items)) (is_numbers : given_numbers ≡ numbers) (is_from : given_from ≡ from)
-    (place : ℕ) (within : place < length stored.states.items) (root : Ref) (is_root : row_at stored place ≡ root) where
+    (states : List State) (are : states ≡ stored.states.items) (place : ℕ) (within : place < length states) where
+  abbrev root : Ref
+  root = (get_or states place no_state).row
+
+  inside : place < length stored.states.items
+  inside = omega (arith, within, ap length are)
+
+  -- each number of the row is in the list
   pub leads_inside : (slots : ℕ) → slots ≡ stored.slots → (letter : List Bool) → length letter ≡ slots → value_of given_from root letter < length given_numbers
   leads_inside slots same letter size =
-      let leads = leads_below from stored is place letter within (size ∙ same) in
-      let value : value_of given_from root letter ≡ value_of from (row_at stored place) letter = (λ i. value_of (is_from i) (sym is_root i) letter) in
+      let leads = leads_below from stored is place letter inside (size ∙ same) in
+      let value : value_of given_from root letter ≡ value_of from (row_at stored place) letter = (λ i. value_of (is_from i) (get_or (are i) place no_state).row letter) in
       omega (arith, leads, value, ap length is_numbers, ap length all, length-range_with_len 0 (length stored.states.items))
 
   pub value_by : (slots : ℕ) → slots ≡ stored.slots → (after : ArenaValue) (row : Ref)
       → ((letter : List Bool) → length letter ≡ slots → value_of after row letter ≡ renumbered given_numbers given_from root letter)
-      → (letter : List Bool) → length letter ≡ slots → value_of after row letter ≡ value_of from (row_at stored place) letter
-  value_by slots same after row value letter size =
+      → (count : ℕ) → count ≡ place → (letter : List Bool) → length letter ≡ slots → value_of after row letter ≡ value_of from (row_at stored count) letter
+  value_by slots same after row value count here letter size =
       value letter size
-      ∙ (λ i. renumbered (is_numbers i) (is_from i) (sym is_root i) letter)
+      ∙ (λ i. renumbered (is_numbers i) (is_from i) (get_or (are i) place no_state).row letter)
       ∙ ap (λ list. renumbered list from (row_at stored place) letter) all
-      ∙ renumbered_by_itself (length stored.states.items) (value_of from (row_at stored place) letter) (leads_below from stored is place letter within (size ∙ same))
+      ∙ renumbered_by_itself (length stored.states.items) (value_of from (row_at stored place) letter) (leads_below from stored is place letter inside (size ∙ same))
+      ∙ ap (λ place. value_of from (row_at stored place) letter) (sym here)
 
 -- ---- one row more
 

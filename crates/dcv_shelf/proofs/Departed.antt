@@ -98,10 +98,10 @@ pub record IsDeparted (from : ArenaValue) (stored : Stored) (new : RawValue) : T
   pub table : table_of_auto new ≡ stored_table from stored
 
 pub departed : (from : ArenaValue) (stored : Stored) → IsStored from stored → (arena : ArenaValue) (rows : List Ref) → HasRows from stored arena rows → length rows ≡ length stored.states.items
-    → (flags : List Bool) (states : List State) → states ≡ stored.states.items → flags ≡ map (λ (state : State). state.accepting) states
-    → IsDeparted from stored (raw_value arena rows flags 0)
-departed from stored is arena rows has count flags states same are =
-    subst (λ (flags : List Bool). IsDeparted from stored (raw_value arena rows flags 0)) (sym (are ∙ ap (map (λ (state : State). state.accepting)) same))
+    → (accepting : List Bool) (given : List State) → given ≡ stored.states.items → accepting ≡ map (λ (state : State). state.accepting) given
+    → IsDeparted from stored (raw_value arena rows accepting 0)
+departed from stored is arena rows has count accepting given same are =
+    subst (λ (list : List Bool). IsDeparted from stored (raw_value arena rows list 0)) (sym (are ∙ ap (map (λ (state : State). state.accepting)) same))
     (record {
       raw = raw_is from stored is arena rows has count;
       canonical = auto_is from stored is arena rows has count;

@@ -3,7 +3,7 @@ ghost use Rattle.std.specs.Prelude.{◌≡◌, ◌<◌, ◌≤◌, ◌+◌, [], 
 ghost use Rattle.std.specs.List.{All};
 ghost use Rattle.dcv_dfa.specs.Auto.{count_of_nodes};
 ghost use Rattle.dcv_shelf.specs.Shelf.{ShelfTable, table_of_auto, HaveOneNumberEach, KeepsNumbers, HasNumber, HasComplement};
-ghost use Rattle.dcv_shelf.specs.Stored.{IsStored, stored_table, view_table};
+ghost use Rattle.dcv_shelf.specs.Stored.{IsStored, stored_table, IsView, view_table};
 
 use crate::leaving::auto_of;
 use crate::stored::Stored;
@@ -101,7 +101,10 @@ impl Shelf {
     /// The automaton with this number.
     pub fn view(&self, number: u32) -> View<'_>
         requires { number < length self.now.tables }
-        ensures { slice_get self.now.tables number ≡ Some (view_table result) }
+        ensures table { slice_get self.now.tables number ≡ Some (view_table result) }
+
+        // The table is canonical, and its rows are refs of the arena that depend on its own slots alone.
+        ensures view { IsView result }
     {
         View::new(&self.arena, &self.tables.as_slice()[number as usize])
     }

@@ -45,11 +45,12 @@ impl Stored {
         let Ok(copies) = include(alloc, arena, auto.arena()) else {
             return Err(AllocError);
         };
+        let states = states_of(alloc, auto, &copies)?;
         Ok(Stored {
             slots,
             alone,
             nodes,
-            states: states_of(alloc, auto, &copies)?,
+            states,
         })
     }
 

@@ -2,6 +2,7 @@
 ghost use Rattle.std.specs.Prelude.{◌≡◌, length};
 ghost use Rattle.dcv_arena.specs.Arena.{IsArena};
 ghost use Rattle.dcv_language.specs.Table.{automaton_of};
+ghost use Rattle.dcv_shelf.specs.Shelf.{nodes_of_table};
 ghost use Rattle.dcv_shelf.specs.Stored.{IsStored, view_table, row_at};
 
 use crate::stored::Stored;
@@ -36,6 +37,15 @@ impl<'a> View<'a> {
         // for the prover: of an arena that was asked it is known what is true of every arena.
         let _ = arena.slots();
         View { arena, stored }
+    }
+}
+
+impl View<'_> {
+    /// How many nodes the rows have together.
+    pub fn nodes(&self) -> u32
+        ensures { result ≡ nodes_of_table (view_table self.now) }
+    {
+        self.stored.nodes
     }
 }
 

@@ -1,10 +1,8 @@
-use Rattle.std.proofs.Common.{◌≡◌, ◌+◌, ◌<◌, length, get_or, sym, ap, subst, ◌∙◌, arith}
+use Rattle.std.proofs.Common.{◌+◌, length, sym, ap, subst, ◌∙◌}
 use Rattle.std.proofs.lemmas.List.{length_push}
-use Rattle.dcv_arena.specs.Arena.{value_of}
-use Rattle.dcv_shelf.specs.Stored.{row_at, HasRows}
-use Rattle.dcv_shelf.proofs.CopiedRows.{no_rows, more_rows, value_by, leads_inside, no_state}
+use Rattle.dcv_shelf.specs.Stored.{HasRows}
+use Rattle.dcv_shelf.proofs.CopiedRows.{no_rows, more_rows, value_by, leads_inside}
 use Rattle.dcv_shelf.proofs.leaving.rows_of.Goals as goal
-use Rattle.dcv_shelf.proofs.leaving.rows_of.Goals.{After-remap-arg-1}
 
 pub loop-state-init : goal.loop-state-init
 loop-state-init c = record {
@@ -15,18 +13,11 @@ loop-state-init c = record {
   holds = c.new-remapping.ensures.holds c.new-own.result;
 }
 
--- the row that is remapped is the next state's
-is_next : (c : After-remap-arg-1) → row_at c.args.stored.now c.loop-state.state-index ≡ (get_or c.deref-state-items.result.now c.loop-state.state-index no_state).row
-is_next c = ap (λ states. (get_or states c.loop-state.state-index no_state).row) (sym c.deref-state-items.ensures.value)
-
-within : (c : After-remap-arg-1) → c.loop-state.state-index < length c.args.stored.now.states.items
-within c = omega (arith, c.loop-state-test.true, ap length c.deref-state-items.ensures.value)
-
 pub remap-requires-clause-map : goal.remap-requires-clause-map
 remap-requires-clause-map c =
     let was = c.loop-state.invariant in
     leads_inside c.args.arena.now c.args.stored.now c.requires.stored c.args.numbers.now c.loop-state.remapping.numbers c.loop-state.remapping.from c.requires.numbers was.new was.from
-    c.loop-state.state-index (within c) (get_or c.deref-state-items.result.now c.loop-state.state-index no_state).row (is_next c) c.loop-state.own.slots was.rows.slots
+    c.deref-state-items.result.now c.deref-state-items.ensures.value c.loop-state.state-index c.loop-state-test.true c.loop-state.own.slots was.rows.slots
 
 pub loop-state-preserved : goal.loop-state-preserved
 loop-state-preserved c =
@@ -36,14 +27,12 @@ loop-state-preserved c =
     let after = c.remap.new.arena in
     let was = c.loop-state.invariant in
     let rows = c.loop-state.rows.items in
-    let here = (goal.at.loop-state-preserved c).After-remap-arg-1 in
     let value = value_by from stored c.requires.stored c.args.numbers.now c.loop-state.remapping.numbers c.loop-state.remapping.from c.requires.numbers was.new was.from
-    c.loop-state.state-index (within here) (get_or c.deref-state-items.result.now c.loop-state.state-index no_state).row (is_next here) before.slots was.rows.slots after c.in-Ok.row c.in-Ok.ensures.value in
+    c.deref-state-items.result.now c.deref-state-items.ensures.value c.loop-state.state-index c.loop-state-test.true before.slots was.rows.slots after c.in-Ok.row c.in-Ok.ensures.value
+    (length rows) was.count in
     record {
       rows = subst (HasRows from stored after) (sym c.in_ok-push.ensures.items)
-          (more_rows from stored before after rows c.in-Ok.row was.rows c.in-Ok.ensures.arena c.in-Ok.ensures.kept c.in-Ok.ensures.is_ref
-          (λ letter size. value letter size ∙ ap (λ place. value_of from (row_at stored place) letter) (sym was.count))
-          c.in-Ok.ensures.adds);
+          (more_rows from stored before after rows c.in-Ok.row was.rows c.in-Ok.ensures.arena c.in-Ok.ensures.kept c.in-Ok.ensures.is_ref value c.in-Ok.ensures.adds);
       count = ap length c.in_ok-push.ensures.items ∙ length_push rows c.in-Ok.row ∙ ap (λ n. n + 1) was.count;
       from = c.in-Ok.ensures.from ∙ was.from;
       new = c.in-Ok.ensures.map ∙ was.new;

@@ -16,8 +16,8 @@ few c =
 pub returns-in_default-clause-few : goal.returns-in_default-clause-few
 returns-in_default-clause-few c = few (goal.at.returns-in_default-clause-few c).After-include
 
-pub returns-in_err-states_of-clause-few : goal.returns-in_err-states_of-clause-few
-returns-in_err-states_of-clause-few c = few (goal.at.returns-in_err-states_of-clause-few c).After-include
+pub returns-in_err-states-clause-few : goal.returns-in_err-states-clause-few
+returns-in_err-states-clause-few c = few (goal.at.returns-in_err-states-clause-few c).After-include
 
 pub returns-clause-few : goal.returns-clause-few
 returns-clause-few c = few (goal.at.returns-clause-few c).After-include
@@ -27,11 +27,11 @@ returns-clause-stored c =
     let auto = c.args.auto.now in
     let arena = c.include.new.arena in
     let copies = c.in-Ok.copies.items in
-    let stored : Stored = record { slots = c.slots-slots.result; alone = c.starts_alone-alone.result; nodes = c.nodes-nodes.result; states = c.in_ok-states_of.field-0 } in
+    let stored : Stored = record { slots = c.slots-slots.result; alone = c.starts_alone-alone.result; nodes = c.nodes-nodes.result; states = c.in_ok-states.states } in
     stored_is auto c.states_of.ensures.raw arena copies
     (subst (λ (from : ArenaValue). HasCopies from arena copies) c.arena.ensures.arena c.in-Ok.ensures.copies)
     (c.in-Ok.ensures.count ∙ ap (λ (from : ArenaValue). length from.nodes) c.arena.ensures.arena) stored c.slots-slots.ensures.slots
-    (c.in_ok-states_of.ensures.states ∙ ap (λ list. copied_states auto list (length auto.rows)) c.deref.ensures.value)
+    (c.in_ok-states.ensures.states ∙ ap (λ list. copied_states auto list (length auto.rows)) c.deref.ensures.value)
     c.starts_alone-alone.ensures c.nodes-nodes.ensures
 
 pub returns-clause-table : goal.returns-clause-table
@@ -39,8 +39,8 @@ returns-clause-table c =
     let auto = c.args.auto.now in
     let arena = c.include.new.arena in
     let copies = c.in-Ok.copies.items in
-    let stored : Stored = record { slots = c.slots-slots.result; alone = c.starts_alone-alone.result; nodes = c.nodes-nodes.result; states = c.in_ok-states_of.field-0 } in
+    let stored : Stored = record { slots = c.slots-slots.result; alone = c.starts_alone-alone.result; nodes = c.nodes-nodes.result; states = c.in_ok-states.states } in
     table_is auto c.states_of.ensures.raw arena copies
     (subst (λ (from : ArenaValue). HasCopies from arena copies) c.arena.ensures.arena c.in-Ok.ensures.copies)
     (c.in-Ok.ensures.count ∙ ap (λ (from : ArenaValue). length from.nodes) c.arena.ensures.arena) stored c.slots-slots.ensures.slots
-    (c.in_ok-states_of.ensures.states ∙ ap (λ list. copied_states auto list (length auto.rows)) c.deref.ensures.value)
+    (c.in_ok-states.ensures.states ∙ ap (λ list. copied_states auto list (length auto.rows)) c.deref.ensures.value)
