@@ -57,6 +57,20 @@ impl Shelf {
         }
     }
 
+    /// How many variables the letters may have.
+    pub fn slots(&self) -> u8
+        ensures { result ≡ self.now.slots }
+    {
+        self.arena.slots()
+    }
+
+    /// How many tables there are. Their numbers are those below.
+    pub fn tables(&self) -> usize
+        ensures { result ≡ length self.now.tables }
+    {
+        self.tables.len()
+    }
+
     /// How many nodes may still come.
     pub fn room(&self) -> u32
         ensures { result ≡ self.now.room }
