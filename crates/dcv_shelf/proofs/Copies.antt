@@ -59,22 +59,25 @@ one_more_copy from arena copies new has is = record {
 -- ---- a node
 
 module _ (from : ArenaValue) (is : IsReduced from) (place : ℕ) (there : place < length from.nodes) where
+  -- what has a child's function is the child
+  child_stands_before : (child given : Ref) → IsBefore place child → IsRef from given → ((letter : List Bool) → length letter ≡ from.slots → value_of from child letter ≡ value_of from given letter)
+      → IsBefore place given
+  child_stands_before child given before one same = subst (IsBefore place) (same_ref from is child given (is_ref from is place child there before) one same) before
+
   -- what the split at the node's own slot gives are its children, so they stand before it
   pub lo_stands_before : (lo : Ref) → IsRef from lo
       → ((letter : List Bool) → length letter ≡ from.slots → value_of from lo letter ≡ value_of from (Place place) (set letter (level_of from (Place place)) false))
       → IsBefore place lo
   lo_stands_before lo one means =
       let facts = has_children from is place there in
-      subst (IsBefore place) (same_ref from is (lo_of from place) lo (is_ref from is place (lo_of from place) there facts.lo_before) one
-      (λ letter size. facts.lo_value letter size ∙ sym (means letter size))) facts.lo_before
+      child_stands_before (lo_of from place) lo facts.lo_before one (λ letter size. facts.lo_value letter size ∙ sym (means letter size))
 
   pub hi_stands_before : (hi : Ref) → IsRef from hi
       → ((letter : List Bool) → length letter ≡ from.slots → value_of from hi letter ≡ value_of from (Place place) (set letter (level_of from (Place place)) true))
       → IsBefore place hi
   hi_stands_before hi one means =
       let facts = has_children from is place there in
-      subst (IsBefore place) (same_ref from is (hi_of from place) hi (is_ref from is place (hi_of from place) there facts.hi_before) one
-      (λ letter size. facts.hi_value letter size ∙ sym (means letter size))) facts.hi_before
+      child_stands_before (hi_of from place) hi facts.hi_before one (λ letter size. facts.hi_value letter size ∙ sym (means letter size))
 
 -- the node that is made of the children's copies, where there is memory for it
 pub node_copied : (from old arena : ArenaValue) (place slot : ℕ) (lo hi new_lo new_hi : Ref) (result : Result Ref ArenaFault) → slot ≡ level_of from (Place place)

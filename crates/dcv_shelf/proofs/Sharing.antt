@@ -36,6 +36,11 @@ rows_by_number rows =
     let size = length-map-range_with_len by 0 (length rows) in
     ext_get_or (Leaf 0) (map by (range_with_len 0 (length rows))) rows size (λ i within. get_or-map-range_with_len by 0 (length rows) i i (Leaf 0) (omega (arith, size)) (omega arith))
 
+-- what is kept is right, and stands for the automaton's table
+pub record IsKept (auto : RawValue) (arena : ArenaValue) (form : Stored) : Type 0 where
+  pub stored : IsStored arena form
+  pub table : stored_table arena form ≡ table_of_auto auto
+
 module _ (auto : RawValue) (is : IsRaw auto) (arena : ArenaValue) (copies : List Ref) (has : HasCopies auto.arena arena copies) (all : length copies ≡ length auto.arena.nodes) where
   row_copy : (number : ℕ) → IsCopy auto.arena arena (row_of auto number) (copied_ref copies (row_of auto number))
   row_copy number = copy_of auto.arena arena copies has (row_of auto number) (before_count (row_of auto number) all (row_is_ref auto.arena auto.rows is.rows number))
@@ -58,7 +63,7 @@ module _ (auto : RawValue) (is : IsRaw auto) (arena : ArenaValue) (copies : List
       ∙ (λ i. map (λ number. same_state number i) (range_with_len 0 (length auto.rows)))
 
   module _ (stored : Stored) (slots : stored.slots ≡ auto.arena.slots) (items : stored.states.items ≡ copied_states auto copies (length auto.rows)) where
-    pub table_is : stored_table arena stored ≡ table_of_auto auto
+    table_is : stored_table arena stored ≡ table_of_auto auto
     table_is =
         (λ i. record { slots = slots i; table = map (stored_state arena (slots i)) (items i) })
         ∙ (λ i. record { slots = auto.arena.slots; table = same_states i })
@@ -93,7 +98,7 @@ module _ (auto : RawValue) (is : IsRaw auto) (arena : ArenaValue) (copies : List
         ∙ map-map (table_of auto.arena) (row_of auto) numbers
         ∙ sym (map-map (λ (state : TableState). state.row) (state_of auto) numbers))
 
-    pub stored_is : IsAutoWith auto stored.alone → stored.nodes ≡ count_of_nodes auto → IsStored arena stored
+    stored_is : IsAutoWith auto stored.alone → stored.nodes ≡ count_of_nodes auto → IsStored arena stored
     stored_is its nodes = record {
       slots = omega (arith, slots, has.slots);
       refs = refs;
@@ -102,6 +107,9 @@ module _ (auto : RawValue) (is : IsRaw auto) (arena : ArenaValue) (copies : List
       nodes = subst (λ (s : ShelfTable). stored.nodes ≡ nodes_of_table s) (sym table_is) (nodes ∙ nodes_are);
       states = omega (arith, ap length items, length-map-range_with_len (copied_state auto copies) 0 (length auto.rows), is.states);
     }
+
+    pub is_kept : IsAutoWith auto stored.alone → stored.nodes ≡ count_of_nodes auto → IsKept auto arena stored
+    is_kept its nodes = record { stored = stored_is its nodes; table = table_is }
 
 -- the arena has no nodes but those of the rows
 pub few_nodes : (auto : RawValue) (from : ArenaValue) → IsArena from → from ≡ auto.arena → HasOnlyNodesOf auto.arena auto.rows → length from.nodes ≤ count_of_nodes auto
