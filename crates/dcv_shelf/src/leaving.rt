@@ -1,0 +1,80 @@
+// A table that leaves a shelf: an automaton whose arena is as wide as its letters, and has the nodes of its rows and no others.
+ghost use Rattle.std.specs.Prelude.{◌≡◌, ◌<◌, ◌^◌, length, map, IfOk};
+ghost use Rattle.std.specs.List.{range_with_len};
+ghost use Rattle.dcv_shelf.specs.Shelf.{table_of_auto};
+ghost use Rattle.dcv_shelf.specs.Stored.{IsStored, stored_table, HasRows};
+ghost use Rattle.dcv_shelf.specs.declared.stored.State.{State as AnyState};
+
+use crate::stored::{State, Stored};
+use dcv_arena::{Arena, Ref};
+use dcv_dfa::{Auto, Raw};
+use dcv_renumber::Remapping;
+use std::alloc::{AllocError, Global};
+
+// Rows, in an arena that has their nodes and no others.
+#[derive(Drop)]
+struct Rows {
+    arena: Arena,
+    rows: Vec<Ref>,
+}
+
+// The automaton of a table.
+pub(crate) fn auto_of(alloc: Global, arena: &Arena, stored: &Stored) -> Result<Auto, AllocError>
+    requires { IsStored arena.now stored.now }
+    ensures { IfOk result (λ auto. table_of_auto auto ≡ stored_table arena.now stored.now) }
+{
+    let numbers = numbers_below(alloc, stored.states.len() as u32)?;
+    let rows = rows_of(alloc, arena, stored, &numbers)?;
+    let accepting = flags_of(alloc, &stored.states)?;
+    let raw = Raw::new(rows.arena, rows.rows, accepting, 0);
+    Ok(Auto::new(raw, stored.alone))
+}
+
+// Its rows: each state keeps its number, and slots that the letters do not have are left out.
+fn rows_of(
+    alloc: Global,
+    arena: &Arena,
+    stored: &Stored,
+    numbers: &[u32],
+) -> Result<Rows, AllocError>
+    requires stored { IsStored arena.now stored.now }
+    requires numbers { numbers.now ≡ range_with_len 0 (length stored.now.states.items) }
+    ensures rows { IfOk result (λ new. HasRows arena.now stored.now new.arena new.rows.items) }
+    ensures count { IfOk result (λ new. length new.rows.items ≡ length stored.now.states.items) }
+{
+    // for the prover: of an arena that was asked it is known what is true of every arena.
+    let _ = arena.slots();
+    let mut own = Arena::new(alloc, stored.slots, arena.limit());
+    let mut remapping = Remapping::new(alloc, arena, numbers);
+    let mut rows = Vec::new(alloc);
+    for state in &stored.states {
+        // An arena that is full is as good as one without memory.
+        let Ok(row) = remapping.remap(&mut own, state.row) else {
+            return Err(AllocError);
+        };
+        rows.push(row)?;
+    }
+    Ok(Rows { arena: own, rows })
+}
+
+// The numbers below this one, in order.
+fn numbers_below(alloc: Global, count: u32) -> Result<Vec<u32>, AllocError>
+    ensures { IfOk result (λ numbers. numbers.items ≡ range_with_len 0 count) }
+{
+    let mut numbers = Vec::new(alloc);
+    for number in 0..count {
+        numbers.push(number)?;
+    }
+    Ok(numbers)
+}
+
+// Which states accept.
+fn flags_of(alloc: Global, states: &[State]) -> Result<Vec<bool>, AllocError>
+    ensures { IfOk result (λ flags. flags.items ≡ map (λ (state : AnyState). state.accepting) states.now) }
+{
+    let mut flags = Vec::new(alloc);
+    for state in states {
+        flags.push(state.accepting)?;
+    }
+    Ok(flags)
+}
