@@ -1,0 +1,6 @@
+mod Examples
+mod LeastMoves
+mod LeastOutputs
+mod Tracks
+mod Unbeaten
+mod Winners

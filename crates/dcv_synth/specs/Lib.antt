@@ -1,0 +1,7 @@
+-- what public clauses cite: the game, who wins it from the states of an automaton, how both play, and what is answered
+pub mod Game
+pub mod Tracks
+pub mod Winning
+pub mod Play
+-- the statements that `src/laws.rt` proves
+pub mod Laws
