@@ -1,6 +1,11 @@
+mod Descents
 mod Examples
+mod Forced
 mod LeastMoves
 mod LeastOutputs
+mod RankEnds
+mod Ranking
+mod RowRanks
 mod Tracks
 mod Unbeaten
 mod Winners

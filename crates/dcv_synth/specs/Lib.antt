@@ -5,3 +5,6 @@ pub mod Winning
 pub mod Play
 -- the statements that `src/laws.rt` proves
 pub mod Laws
+-- for proofs alone: what the search goes through
+pub mod Forced
+pub mod Ranked

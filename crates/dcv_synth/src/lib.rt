@@ -2,4 +2,6 @@
 //! synthesis of A. Church's problem, for safety games as of R. McNaughton, 1993).
 #![tactic(auto)]
 
+mod forcing;
 pub mod laws;
+mod ranks;
