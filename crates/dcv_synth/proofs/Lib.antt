@@ -3,6 +3,7 @@ mod Examples
 mod Forced
 mod LeastMoves
 mod LeastOutputs
+mod Listed
 mod RankEnds
 mod Ranking
 mod RowRanks

@@ -3,8 +3,10 @@ pub mod Game
 pub mod Tracks
 pub mod Winning
 pub mod Play
+pub mod Moves
 -- the statements that `src/laws.rt` proves
 pub mod Laws
 -- for proofs alone: what the search goes through
 pub mod Forced
 pub mod Ranked
+pub mod Listing

@@ -5,3 +5,6 @@
 mod forcing;
 pub mod laws;
 mod ranks;
+mod strategy;
+
+pub use strategy::{Move, Strategy};
