@@ -4,6 +4,7 @@ pub mod Tracks
 pub mod Winning
 pub mod Play
 pub mod Moves
+pub mod Outcome
 -- the statements that `src/laws.rt` proves
 pub mod Laws
 -- for proofs alone: what the search goes through
