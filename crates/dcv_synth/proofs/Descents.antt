@@ -1,5 +1,5 @@
 -- The way down to the least inputs that force a lost state.
-use Rattle.std.proofs.Common.{◌≡◌, ℕ, zero, suc, ◌+◌, ◌-◌, ◌<◌, ◌≤◌, Bool, true, false, not, cond, List, [], ◌∷◌, ◌++◌, length, take, set, get_or, refl, ap, sym, ◌∙◌, subst, arith, length-take, length-set}
+use Rattle.std.proofs.Common.{◌≡◌, ℕ, zero, suc, ◌+◌, ◌<◌, ◌≤◌, Bool, true, false, not, cond, List, [], ◌∷◌, ◌++◌, length, take, set, get_or, refl, ap, sym, ◌∙◌, arith, length-take, length-set}
 use Rattle.std.proofs.Math.Seq.{take-suc-set}
 use Rattle.std.proofs.lemmas.List.{append_assoc, append-nil}
 use Rattle.dcv_language.specs.Operations.{some_track}
@@ -58,6 +58,7 @@ module _ (n m : ℕ) (arena : ArenaValue) (lost : List Bool) (root : Ref) (slot 
     where
       here : get_or (front ++ b ∷ values) slot false ≡ b
       here = ap (λ s. get_or (front ++ b ∷ values) s false) (sym front_size) ∙ value-at front b values
+
       by : (x : Bool) → value_of arena (cond x hi lo) (front ++ b ∷ values) ≡ cond x (value_of arena hi (front ++ b ∷ values)) (value_of arena lo (front ++ b ∷ values))
       by true = refl
       by false = refl
@@ -69,7 +70,7 @@ module _ (n m : ℕ) (arena : ArenaValue) (lost : List Bool) (root : Ref) (slot 
   some_low rest all =
       (λ i. some_track rest (λ others. each_track m (λ output. lost_at lost (same others output i))))
       ∙ sym (forced_tracks n (length (front ++ false ∷ [])) rest m (rest + m) (λ values. lost_at lost (value_of arena lo ((front ++ false ∷ []) ++ values)))
-          (omega (arith, length-push front false, front_size)) refl)
+      (omega (arith, length-push front false, front_size)) refl)
       ∙ is (front ++ false ∷ []) (rest + m) (omega (arith, length-push front false, front_size)) (omega (arith, length-push front false, front_size, lo_level))
     where
       same : (others output : List Bool) → value_of arena root ((front ++ false ∷ others) ++ output) ≡ value_of arena lo ((front ++ false ∷ []) ++ (others ++ output))
@@ -96,7 +97,7 @@ module _ (n m : ℕ) (arena : ArenaValue) (lost : List Bool) (root : Ref) (slot 
           ≡ (front ++ not b ∷ []) ++ least_track rest (λ others. loses m arena lost root ((front ++ not b ∷ []) ++ others))
       by b e =
           ap (λ x. front ++ cond x (false ∷ least_track rest (λ others. loses m arena lost root (front ++ false ∷ others)))
-              (true ∷ least_track rest (λ others. loses m arena lost root (front ++ true ∷ others)))) e
+          (true ∷ least_track rest (λ others. loses m arena lost root (front ++ true ∷ others)))) e
           ∙ side b
         where
           side : (x : Bool) → front ++ cond x (false ∷ least_track rest (λ others. loses m arena lost root (front ++ false ∷ others)))
@@ -124,9 +125,11 @@ module _ (n m : ℕ) (arena : ArenaValue) (lost : List Bool) (root : Ref) (slot 
       ref_by : (x : Bool) → IsRef arena (cond x lo hi)
       ref_by true = lo_ref
       ref_by false = hi_ref
+
       level_by : (x : Bool) → suc slot ≤ level_of arena (cond x lo hi)
       level_by true = omega (arith, lo_level)
       level_by false = omega (arith, hi_level)
+
       by : (x : Bool) (values : List Bool) → value_of arena (cond x lo hi) (front ++ not x ∷ values) ≡ value_of arena root (front ++ not x ∷ values)
       by true values = side_value false values
       by false values = side_value true values

@@ -3,7 +3,7 @@ use Rattle.std.proofs.Common.{◌≡◌, ℕ, zero, suc, ◌+◌, ◌-◌, ◌<�
 use Rattle.std.proofs.lemmas.Bool.{ltb-true, ltb-false, lt-ltb, le-ltb}
 use Rattle.std.proofs.lemmas.List.{get_or_append_left, get_or_push}
 use Rattle.dcv_language.specs.Operations.{some_track}
-use Rattle.dcv_arena.specs.Arena.{ArenaValue, IsRef, IsBefore, level_of, value_of}
+use Rattle.dcv_arena.specs.Arena.{ArenaValue, IsBefore, level_of, value_of}
 use Rattle.dcv_arena.specs.declared.nodes.Ref.{Ref}
 use Rattle.dcv_arena.specs.declared.nodes.Ref.TheVariants.{Leaf, Place}
 use Rattle.dcv_synth.specs.Tracks.{each_track}
@@ -64,13 +64,13 @@ module _ (n : ℕ) (arena : ArenaValue) (lost : List Bool) (place slot : ℕ) (l
   lo_value front values at =
       ap (lost_at lost) (node.value (front ++ false ∷ values)
       ∙ ap (λ x. cond x (value_of arena hi (front ++ false ∷ values)) (value_of arena lo (front ++ false ∷ values)))
-          (ap (λ s. get_or (front ++ false ∷ values) s false) at ∙ value-at front false values))
+      (ap (λ s. get_or (front ++ false ∷ values) s false) at ∙ value-at front false values))
 
   hi_value : (front values : List Bool) → slot ≡ length front → whole (front ++ true ∷ values) ≡ lost_at lost (value_of arena hi (front ++ true ∷ values))
   hi_value front values at =
       ap (lost_at lost) (node.value (front ++ true ∷ values)
       ∙ ap (λ x. cond x (value_of arena hi (front ++ true ∷ values)) (value_of arena lo (front ++ true ∷ values)))
-          (ap (λ s. get_or (front ++ true ∷ values) s false) at ∙ value-at front true values))
+      (ap (λ s. get_or (front ++ true ∷ values) s false) at ∙ value-at front true values))
 
   forced_behind : (before : ℕ) (front : List Bool) (count : ℕ) → length front + count ≡ arena.slots → length front + before ≡ slot
       → is_forced n (length front) count (λ values. whole (front ++ values)) ≡ picked n slot a b
@@ -78,18 +78,18 @@ module _ (n : ℕ) (arena : ArenaValue) (lost : List Bool) (place slot : ℕ) (l
   forced_behind zero front (suc count) size at =
       let here : slot ≡ length front = omega arith in
       let low : is_forced n (suc (length front)) count (λ values. whole (front ++ false ∷ values)) ≡ a =
-          (λ i. is_forced n (suc (length front)) count (λ values. lo_value front values here i))
-          ∙ front_on n front false count (λ letter. lost_at lost (value_of arena lo letter))
-          ∙ lo_is (front ++ false ∷ []) count (omega (arith, length-push front false)) (omega (arith, length-push front false, node.lo_level)) in
+      (λ i. is_forced n (suc (length front)) count (λ values. lo_value front values here i))
+      ∙ front_on n front false count (λ letter. lost_at lost (value_of arena lo letter))
+      ∙ lo_is (front ++ false ∷ []) count (omega (arith, length-push front false)) (omega (arith, length-push front false, node.lo_level)) in
       let high : is_forced n (suc (length front)) count (λ values. whole (front ++ true ∷ values)) ≡ b =
-          (λ i. is_forced n (suc (length front)) count (λ values. hi_value front values here i))
-          ∙ front_on n front true count (λ letter. lost_at lost (value_of arena hi letter))
-          ∙ hi_is (front ++ true ∷ []) count (omega (arith, length-push front true)) (omega (arith, length-push front true, node.hi_level)) in
+      (λ i. is_forced n (suc (length front)) count (λ values. hi_value front values here i))
+      ∙ front_on n front true count (λ letter. lost_at lost (value_of arena hi letter))
+      ∙ hi_is (front ++ true ∷ []) count (omega (arith, length-push front true)) (omega (arith, length-push front true, node.hi_level)) in
       λ i. picked n (sym here i) (low i) (high i)
   forced_behind (suc before) front (suc count) size at =
       let side : (value : Bool) → is_forced n (suc (length front)) count (λ values. whole (front ++ value ∷ values)) ≡ picked n slot a b = λ value.
-          front_on n front value count whole
-          ∙ forced_behind before (front ++ value ∷ []) count (omega (arith, length-push front value)) (omega (arith, length-push front value)) in
+      front_on n front value count whole
+      ∙ forced_behind before (front ++ value ∷ []) count (omega (arith, length-push front value)) (omega (arith, length-push front value)) in
       (λ i. picked n (length front) (side false i) (side true i)) ∙ picked_same n (length front) (picked n slot a b)
 
   pub forced_node : IsForced n arena lost (Place place) (picked n slot a b)
@@ -126,7 +126,7 @@ forced_outputs n slot zero p later = refl
 forced_outputs n slot (suc m) p later =
     let test : ltb slot n ≡ false = le-ltb slot n later in
     (λ i. cond (test i) (is_forced n (suc slot) m (λ v. p (false ∷ v)) || is_forced n (suc slot) m (λ v. p (true ∷ v)))
-        (forced_outputs n (suc slot) m (λ v. p (false ∷ v)) (omega arith) i && forced_outputs n (suc slot) m (λ v. p (true ∷ v)) (omega arith) i))
+    (forced_outputs n (suc slot) m (λ v. p (false ∷ v)) (omega arith) i && forced_outputs n (suc slot) m (λ v. p (true ∷ v)) (omega arith) i))
 
 pub forced_tracks : (n slot a m count : ℕ) (p : List Bool → Bool) → slot + a ≡ n → a + m ≡ count
     → is_forced n slot count p ≡ some_track a (λ input. each_track m (λ output. p (input ++ output)))
@@ -137,5 +137,5 @@ forced_tracks n slot (suc a) m zero p at size = absurd (omega arith)
 forced_tracks n slot (suc a) m (suc count) p at size =
     let test : ltb slot n ≡ true = lt-ltb slot n (omega arith) in
     let side : (value : Bool) → is_forced n (suc slot) count (λ v. p (value ∷ v)) ≡ some_track a (λ input. each_track m (λ output. p (value ∷ (input ++ output)))) =
-        λ value. forced_tracks n (suc slot) a m count (λ v. p (value ∷ v)) (omega arith) (omega arith) in
+    λ value. forced_tracks n (suc slot) a m count (λ v. p (value ∷ v)) (omega arith) (omega arith) in
     λ i. cond (test i) (side false i || side true i) (is_forced n (suc slot) count (λ v. p (false ∷ v)) && is_forced n (suc slot) count (λ v. p (true ∷ v)))

@@ -1,13 +1,12 @@
 -- Moves that are listed state by state, and the environment that plays them.
-use Rattle.std.proofs.Common.{◌≡◌, ◌⊎◌, inl, inr, ⊎_elim, ℕ, zero, suc, ◌+◌, ◌<◌, ◌≤◌, ltb, eqb, cond, Bool, true, false, List, [], ◌∷◌, ◌++◌, length, replicate, get_or, slice_get, Option, Some, None, Contains, refl, ap, sym, ◌∙◌, subst, arith}
-use Rattle.std.specs.List.{AllPairs}
+use Rattle.std.proofs.Common.{◌≡◌, ⊎_elim, ℕ, zero, suc, ◌+◌, ◌<◌, ◌≤◌, ltb, eqb, cond, Bool, true, false, List, [], ◌∷◌, ◌++◌, length, get_or, Option, Some, None, Contains, refl, ap, sym, ◌∙◌, subst, arith}
 use Rattle.std.proofs.lemmas.Bool.{true≢false, ltb-true, ltb-false, eqb-true, eq-eqb}
 use Rattle.std.proofs.lemmas.List.{length-replicate}
 use Rattle.std.proofs.lemmas.List.Elements.{Contains-push, Contains-push_cases, Contains-append_left, Contains-get_or}
 use Rattle.std.proofs.lemmas.List.Quantifiers.{all_pairs_push}
 use Rattle.dcv_language.specs.Automaton.{Automaton}
 use Rattle.dcv_synth.specs.Winning.{is_losing, is_beaten, IsRank, move_of}
-use Rattle.dcv_synth.specs.Play.{IsStartOr, MovesSo}
+use Rattle.dcv_synth.specs.Play.{MovesSo}
 use Rattle.dcv_synth.specs.Moves.{IsMove, AreMoves, input_at}
 use Rattle.dcv_synth.specs.Listing.{AreMovesBelow, IsMoveAt, with_move}
 use Rattle.dcv_synth.specs.declared.strategy.Move.{Move}
@@ -60,6 +59,7 @@ module _ (n m : ℕ) (automaton : Automaton ℕ) where
       earlier place default within =
           let before = (are.only (get_or moves place default) (Contains-get_or moves place default within)).1 in
           omega (arith, before, at)
+
       by : (move : Move) → IsMove n m automaton move → move.state < state + 1 → (b : Bool) → ltb move.state state ≡ b → Contains (moves ++ new ∷ []) move
       by move its less true e = Contains-append_left moves (new ∷ []) move (are.all move its (ltb-true move.state state e))
       by move its less false e =
@@ -80,8 +80,10 @@ module _ (n m : ℕ) (automaton : Automaton ℕ) where
     where
       first_is : IsMove n m automaton first
       first_is = only first (0, omega arith, refl)
+
       rest : (other : Move) → Contains moves other → IsMove n m automaton other
       rest other there = only other (suc there.0, omega (arith, there.1), there.2)
+
       by : (b : Bool) → eqb first.state move.state ≡ b → (place : ℕ) → place < length (first ∷ moves) → get_or (first ∷ moves) place move ≡ move
           → ((later : ℕ) → later < length moves → get_or moves later move ≡ move → input_at n moves move.state ≡ move.input)
           → cond (eqb first.state move.state) first.input (input_at n moves move.state) ≡ move.input
@@ -98,6 +100,7 @@ module _ (n m : ℕ) (automaton : Automaton ℕ) where
     where
       first_is : IsMove n m automaton first
       first_is = only first (0, omega arith, refl)
+
       by : (b : Bool) → length (input_at n moves state) ≡ n → length (cond b first.input (input_at n moves state)) ≡ n
       by true go = ap length first_is.least ∙ move_is_wide first.rank first.state
       by false go = go

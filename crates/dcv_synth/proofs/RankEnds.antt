@@ -1,16 +1,16 @@
 -- Where a round leaves the states that are lost as they were, all ranks are found.
-use Rattle.std.proofs.Common.{◌≡◌, ◌⊎◌, ⊎_elim, ℕ, zero, suc, ◌+◌, ◌-◌, ◌<◌, ◌≤◌, ltb, Bool, true, false, not, ◌&&◌, List, [], ◌∷◌, length, map, get_or, Option, Some, None, is_none, refl, ap, sym, ◌∙◌, subst, arith}
+use Rattle.std.proofs.Common.{◌≡◌, ◌⊎◌, ℕ, suc, ◌-◌, ◌<◌, ltb, Bool, true, false, not, ◌&&◌, List, length, Option, Some, None, is_none, refl, ap, sym, ◌∙◌, subst, arith}
 use Rattle.std.specs.List.{range_with_len}
 use Rattle.std.proofs.lemmas.Bool.{true≢false, ltb-true, ltb-false}
 use Rattle.std.proofs.lemmas.List.{get_or_past}
 use Rattle.dcv_language.specs.Automaton.{Automaton}
 use Rattle.dcv_dfa.specs.Raw.{RawValue, automaton_of}
-use Rattle.dcv_synth.specs.Winning.{is_lost, is_beaten, IsRank, IsWin, is_held}
+use Rattle.dcv_synth.specs.Winning.{is_lost, is_beaten, IsWin, is_held}
 use Rattle.dcv_synth.specs.Laws.{is_unbeaten}
 use Rattle.dcv_synth.specs.Forced.{lost_at}
-use Rattle.dcv_synth.specs.Ranked.{rank_at, IsRanked, AreRanked, win_by, IsRankedWithin, AreRankedWithin, lost_within, IsStanding}
+use Rattle.dcv_synth.specs.Ranked.{rank_at, IsRanked, AreRanked, win_by, IsRankedWithin, IsStanding}
 use Rattle.dcv_synth.specs.declared.ranks.Ranked.{Ranked}
-use Rattle.dcv_synth.proofs.Ranking.{beaten-more, unbeaten-before, beats_no_more, never, count_kept, kept_within, fewer_kept, lost-more}
+use Rattle.dcv_synth.proofs.Ranking.{beaten-more, beats_no_more, never, count_kept, fewer_kept, lost-more}
 use Rattle.dcv_synth.proofs.RowRanks.{lost_at_state}
 use Rattle.dcv_synth.proofs.Unbeaten.{unbeaten_states_are_win, unbeaten_states_are_held}
 
@@ -27,7 +27,7 @@ module _ (n : ℕ) (raw : RawValue) (bound : ℕ) (lost : List Bool) (ranks : Li
   fewer_or_same =
       subst (λ (lists : List Bool × List Bool). (lists.1 ≡ lists.0) ⊎ (count_kept lists.1 < count_kept lists.0)) (λ i. (sym now.lost_is i, sym next.lost_is i))
       (fewer_kept (is_lost automaton (is_beaten n m automaton bound)) (is_lost automaton (is_beaten n m automaton (suc bound)))
-          (lost-more n m automaton (is_beaten n m automaton bound) (is_beaten n m automaton (suc bound)) (beaten-more n m automaton bound)) (range_with_len 0 (length raw.rows)))
+      (lost-more n m automaton (is_beaten n m automaton bound) (is_beaten n m automaton (suc bound)) (beaten-more n m automaton bound)) (range_with_len 0 (length raw.rows)))
 
   module _ (same : next_lost ≡ lost) where
     stays : (state : ℕ) → is_lost automaton (is_beaten n m automaton (suc bound)) state ≡ is_lost automaton (is_beaten n m automaton bound) state
@@ -56,6 +56,7 @@ module _ (n : ℕ) (raw : RawValue) (bound : ℕ) (lost : List Bool) (ranks : Li
             beaten true e = ap not e
             beaten false e =
                 absurd (true≢false (sym is.0.beaten ∙ never n m automaton bound stays state (beats_no_more n m automaton bound stays state a ∙ e) ranked.rank))
+
         by : (b : Bool) → ltb state (length raw.rows) ≡ b → is_unbeaten n m automaton bound state ≡ win_by automaton next_ranks state
         by true e = entries (automaton.accepting state) (rank_at next_ranks state) refl (all_ranked.each state (ltb-true state (length raw.rows) e))
         by false e =

@@ -1,15 +1,12 @@
 -- What a round adds to the states that are lost and to the ranks.
-use Rattle.std.proofs.Common.{◌≡◌, ◌⊎◌, inl, inr, ⊎_elim, ℕ, zero, suc, ◌+◌, ◌-◌, ◌<◌, ◌≤◌, Bool, true, false, not, ◌&&◌, ◌||◌, List, [], ◌∷◌, ◌++◌, length, map, get_or, Option, Some, None, is_none, refl, ap, sym, ◌∙◌, subst, arith}
-use Rattle.std.specs.List.{range_with_len}
-use Rattle.std.proofs.lemmas.Bool.{true≢false, and_parts, or_from, or_left, or_right, not-true}
+use Rattle.std.proofs.Common.{◌≡◌, ◌⊎◌, inl, inr, ⊎_elim, ℕ, zero, suc, ◌+◌, ◌-◌, ◌<◌, ◌≤◌, Bool, true, false, not, ◌||◌, List, [], ◌∷◌, length, map, refl, ap, sym, ◌∙◌, arith}
+use Rattle.std.proofs.lemmas.Bool.{true≢false}
 use Rattle.dcv_language.specs.Automaton.{Automaton}
 use Rattle.dcv_language.specs.Operations.{some_track}
 use Rattle.dcv_synth.specs.Tracks.{each_track, least_track}
-use Rattle.dcv_synth.specs.Winning.{leads, is_lost, is_losing, is_beaten, IsRank, IsWin, is_held, move_of}
-use Rattle.dcv_synth.specs.Laws.{is_unbeaten, BeatsNoMore}
-use Rattle.dcv_synth.specs.Ranked.{rank_at, IsRanked, AreRanked, win_by, IsRankedWithin, AreRankedWithin, lost_within, IsStanding}
+use Rattle.dcv_synth.specs.Winning.{leads, is_lost, is_losing, is_beaten}
+use Rattle.dcv_synth.specs.Laws.{BeatsNoMore}
 use Rattle.dcv_synth.proofs.Tracks.{each-at, each-from, some-from, least-length, least-has}
-use Rattle.dcv_synth.proofs.Unbeaten.{unbeaten_states_are_win, unbeaten_states_are_held}
 
 some-more : (n : ℕ) (p q : List Bool → Bool) → ((track : List Bool) → p track ≡ true → q track ≡ true) → some_track n p ≡ true → some_track n q ≡ true
 some-more n p q more e = some-from n q (least_track n p) (least-length n p) (more (least_track n p) (least-has n p e))
@@ -34,8 +31,8 @@ module _ (n m : ℕ) (automaton : Automaton ℕ) where
   beaten-more (suc bound) state e =
       some-more n (is_losing m automaton (beaten bound) state) (is_losing m automaton (beaten (suc bound)) state)
       (λ input. each-more m (λ output. is_lost automaton (beaten bound) (leads automaton state input output))
-          (λ output. is_lost automaton (beaten (suc bound)) (leads automaton state input output))
-          (λ output. lost-more (beaten bound) (beaten (suc bound)) (beaten-more bound) (leads automaton state input output))) e
+      (λ output. is_lost automaton (beaten (suc bound)) (leads automaton state input output))
+      (λ output. lost-more (beaten bound) (beaten (suc bound)) (beaten-more bound) (leads automaton state input output))) e
 
   beaten-after : (bound more state : ℕ) → beaten bound state ≡ true → beaten (more + bound) state ≡ true
   beaten-after bound zero state e =
@@ -51,6 +48,7 @@ module _ (n m : ℕ) (automaton : Automaton ℕ) where
     where
       same : (bound - other) + other ≡ bound
       same = omega (arith, less)
+
       by : (b : Bool) → beaten other state ≡ b → beaten other state ≡ false
       by false is = is
       by true is = absurd (true≢false (sym (sym (ap (λ b. beaten b state) same) ∙ beaten-after other (bound - other) state is) ∙ e))

@@ -1,5 +1,5 @@
 -- What is forced from a state's row on is that the state is beaten.
-use Rattle.std.proofs.Common.{◌≡◌, ⊎_elim, ℕ, zero, suc, ◌+◌, ◌-◌, ◌<◌, ◌≤◌, ltb, Bool, true, false, not, ◌||◌, List, [], ◌∷◌, ◌++◌, length, map, get_or, Option, Some, None, is_some, slice_get, refl, ap, sym, ◌∙◌, subst, arith}
+use Rattle.std.proofs.Common.{◌≡◌, ℕ, suc, ◌+◌, ◌-◌, ◌<◌, ◌≤◌, ltb, Bool, true, false, not, List, [], ◌∷◌, ◌++◌, length, map, get_or, Option, Some, None, is_some, slice_get, refl, ap, sym, ◌∙◌, subst, arith}
 use Rattle.std.specs.List.{range_with_len}
 use Rattle.std.proofs.lemmas.Bool.{true≢false, ltb-true, ltb-false, or_left}
 use Rattle.std.proofs.lemmas.List.{get_or_past, get_or_push, get_or_append_left}
@@ -7,14 +7,14 @@ use Rattle.std.proofs.lemmas.List.FromFn.{get_or-map-range_with_len, length-map-
 use Rattle.std.proofs.lemmas.Option.{get_or_from_slice_get}
 use Rattle.dcv_language.specs.Automaton.{Automaton}
 use Rattle.dcv_language.specs.Operations.{some_track}
-use Rattle.dcv_arena.specs.Arena.{ArenaValue, IsRef, IsBefore, value_of}
+use Rattle.dcv_arena.specs.Arena.{IsRef, IsBefore, value_of}
 use Rattle.dcv_arena.specs.declared.nodes.Ref.{Ref}
 use Rattle.dcv_arena.specs.declared.nodes.Ref.TheVariants.{Leaf}
 use Rattle.dcv_dfa.specs.Raw.{RawValue, automaton_of, row_of}
 use Rattle.dcv_synth.specs.Tracks.{each_track, least_track}
 use Rattle.dcv_synth.specs.Winning.{is_lost, is_beaten, IsRank, move_of}
-use Rattle.dcv_synth.specs.Forced.{lost_at, forced_at, is_forced, IsForced, AreAllForced, loses}
-use Rattle.dcv_synth.specs.Ranked.{rank_at, IsRankedWithin, AreRankedWithin, lost_within, IsStanding, HasForced}
+use Rattle.dcv_synth.specs.Forced.{lost_at, forced_at, AreAllForced, loses}
+use Rattle.dcv_synth.specs.Ranked.{IsRankedWithin, AreRankedWithin, lost_within, IsStanding, HasForced}
 use Rattle.dcv_synth.specs.declared.forcing.Forcing.{Forcing}
 use Rattle.dcv_synth.specs.declared.ranks.Ranked.{Ranked}
 use Rattle.dcv_synth.proofs.Forced.{forced_ref, forced_tracks}
@@ -26,13 +26,14 @@ lost_at_state n m raw bound state flags = by (ltb state (length raw.rows)) refl
   where
     f : ℕ → Bool
     f = is_lost (automaton_of raw) (is_beaten n m (automaton_of raw) bound)
+
     by : (b : Bool) → ltb state (length raw.rows) ≡ b → lost_at (map f (range_with_len 0 (length raw.rows))) state ≡ f state
     by true e = get_or-map-range_with_len f 0 (length raw.rows) state state true (ltb-true state (length raw.rows) e) (omega arith)
     by false e =
         let past = ltb-false state (length raw.rows) e in
         get_or_past (map f (range_with_len 0 (length raw.rows))) state true (omega (arith, past, length-map-range_with_len f 0 (length raw.rows)))
         ∙ sym (or_left (not ((automaton_of raw).accepting state)) (is_beaten n m (automaton_of raw) bound state)
-            (ap not (get_or_past raw.accepting state false (omega (arith, past, flags)))))
+        (ap not (get_or_past raw.accepting state false (omega (arith, past, flags)))))
 
 module _ (raw : RawValue) (bound : ℕ) (forcing : Forcing) (has : HasForced raw bound forcing) (state : ℕ) (row : Ref)
     (at : slice_get raw.rows state ≡ Some row) (is_ref : IsRef raw.arena row) where
@@ -49,12 +50,12 @@ module _ (raw : RawValue) (bound : ℕ) (forcing : Forcing) (has : HasForced raw
   row_forced =
       let whole : forcing.inputs + m ≡ raw.arena.slots = omega (arith, has.inputs) in
       let forced = forced_ref forcing.inputs raw.arena forcing.lost.now forcing.forced.items row has.each.each
-          (subst (λ count. IsBefore count row) (sym has.each.places) is_ref) in
+      (subst (λ count. IsBefore count row) (sym has.each.places) is_ref) in
       sym (forced [] raw.arena.slots (omega arith) (omega arith))
       ∙ forced_tracks forcing.inputs 0 forcing.inputs m raw.arena.slots (λ values. lost_at forcing.lost.now (value_of raw.arena row values)) (omega arith) whole
       ∙ (λ i. some_track forcing.inputs (λ input. each_track m (λ output. lost_is (value_of raw.arena row (input ++ output)) i)))
       ∙ (λ i. some_track forcing.inputs (λ input. each_track m (λ output.
-          is_lost (automaton_of raw) (is_beaten forcing.inputs m (automaton_of raw) bound) (value_of raw.arena (sym row_is i) (input ++ output)))))
+      is_lost (automaton_of raw) (is_beaten forcing.inputs m (automaton_of raw) bound) (value_of raw.arena (sym row_is i) (input ++ output)))))
 
   pub row_move : least_track forcing.inputs (loses (forcing.arena.now.slots - forcing.inputs) forcing.arena.now forcing.lost.now row)
       ≡ move_of forcing.inputs m (automaton_of raw) (suc bound) state
@@ -62,7 +63,7 @@ module _ (raw : RawValue) (bound : ℕ) (forcing : Forcing) (has : HasForced raw
       (λ i. least_track forcing.inputs (loses ((has.arena i).slots - forcing.inputs) (has.arena i) forcing.lost.now row))
       ∙ (λ i. least_track forcing.inputs (λ input. each_track m (λ output. lost_is (value_of raw.arena row (input ++ output)) i)))
       ∙ (λ i. least_track forcing.inputs (λ input. each_track m (λ output.
-          is_lost (automaton_of raw) (is_beaten forcing.inputs m (automaton_of raw) bound) (value_of raw.arena (sym row_is i) (input ++ output)))))
+      is_lost (automaton_of raw) (is_beaten forcing.inputs m (automaton_of raw) bound) (value_of raw.arena (sym row_is i) (input ++ output)))))
 
 -- ---- one more rank
 
@@ -92,6 +93,7 @@ ranks_more n m automaton states bound ranks more entry so grown here =
     longer : (xs : List (Option Ranked)) → length (xs ++ entry ∷ []) ≡ suc (length xs)
     longer [] = refl
     longer (x ∷ xs) = ap suc (longer xs)
+
     by : (state : ℕ) → state < states + 1 → (b : Bool) → ltb state states ≡ b → IsRankedWithin n m automaton bound state (get_or (ranks ++ entry ∷ []) state None)
     by state within true e =
         let earlier = ltb-true state states e in

@@ -63,7 +63,11 @@ impl Standing {
             lost.push(!auto.accepting(state))?;
             ranks.push(None)?;
         }
-        Ok(Standing { bound: 0, lost, ranks })
+        Ok(Standing {
+            bound: 0,
+            lost,
+            ranks,
+        })
     }
 
     // The same within one letter more.

@@ -1,4 +1,4 @@
-use Rattle.std.proofs.Common.{◌≡◌, ◌-◌, ◌<◌, ◌∙◌, ℕ, List, length, get_or, ap, None, Some, Option, sym, refl, subst, arith}
+use Rattle.std.proofs.Common.{◌≡◌, ◌-◌, ◌<◌, ◌∙◌, ℕ, List, length, get_or, ap, None, Option, sym, refl, subst, arith}
 use Rattle.std.proofs.lemmas.List.{get_or_default}
 use Rattle.dcv_dfa.specs.Raw.{RawValue, automaton_of}
 use Rattle.dcv_synth.specs.Play.{controller_of, answer_of}
@@ -25,11 +25,10 @@ returns-in_default-clause-wins c =
     let rows : length c.raw.result.now.rows ≡ length raw.rows = ap (λ (r : RawValue). length r.rows) c.raw.ensures.raw in
     let within : c.start-start.result < length raw.rows = omega (arith, c.start-start.ensures.state, rows) in
     let none : rank_at ranks raw.start ≡ None =
-        entry_at ranks c.start-start.result raw.start (length raw.rows) c.index.result.now same within c.in_ok-ranks.ensures.ranks.count c.index.ensures ∙ c.in_default.is in
-    (
+    entry_at ranks c.start-start.result raw.start (length raw.rows) c.index.result.now same within c.in_ok-ranks.ensures.ranks.count c.index.ensures ∙ c.in_default.is in (
       controller_of raw.start (answer_of m (automaton_of raw) win),
       c.least_outputs_win.ensures n m (automaton_of raw) win (answer_of m (automaton_of raw) win) c.in_ok-ranks.ensures.win.safe
-      (c.in_ok-ranks.ensures.held raw.start (subst (λ state. state < length raw.rows) same within) none) (λ state input from width. refl)
+          (c.in_ok-ranks.ensures.held raw.start (subst (λ state. state < length raw.rows) same within) none) (λ state input from width. refl),
     )
 
 unrealisable : (c : In_ok-moves) → IsUnrealisable c.args.inputs (c.args.auto.now.arena.slots - c.args.inputs) (automaton_of c.args.auto.now)

@@ -1,4 +1,4 @@
-use Rattle.std.proofs.Common.{◌≡◌, ◌-◌, ◌+◌, ◌∙◌, ℕ, suc, length, sym, subst, arith}
+use Rattle.std.proofs.Common.{◌≡◌, ◌-◌, suc, length, subst, arith}
 use Rattle.dcv_dfa.specs.Raw.{automaton_of}
 use Rattle.dcv_synth.specs.Ranked.{lost_within}
 use Rattle.dcv_synth.proofs.RowRanks.{lost_more}

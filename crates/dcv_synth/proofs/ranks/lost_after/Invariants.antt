@@ -1,5 +1,4 @@
-use Rattle.std.proofs.Common.{◌≡◌, ◌-◌, ℕ, suc, map}
-use Rattle.std.specs.List.{range_with_len}
+use Rattle.std.proofs.Common.{◌≡◌, ◌-◌, ℕ, suc}
 use Rattle.dcv_dfa.specs.Raw.{automaton_of}
 use Rattle.dcv_synth.specs.Ranked.{lost_within, HasForced}
 use Rattle.dcv_synth.proofs.ranks.lost_after.Given as goal

@@ -1,8 +1,7 @@
-use Rattle.std.proofs.Common.{◌≡◌, ◌∙◌, ◌-◌, ◌+◌, ◌≤◌, ℕ, suc, Bool, true, false, sym, ap, subst, arith}
+use Rattle.std.proofs.Common.{◌≡◌, ◌∙◌, ◌-◌, ◌+◌, ◌≤◌, ℕ, suc, true, false, sym, ap, subst, arith}
 use Rattle.dcv_arena.specs.Arena.{IsRef}
 use Rattle.dcv_dfa.specs.Raw.{automaton_of}
 use Rattle.dcv_synth.specs.Forced.{AreAllForced}
-use Rattle.dcv_synth.specs.Ranked.{IsRankedWithin}
 use Rattle.dcv_synth.specs.Winning.{is_beaten, IsRank, move_of}
 use Rattle.dcv_synth.proofs.Ranking.{unbeaten-before}
 use Rattle.dcv_synth.proofs.RowRanks.{row_forced, row_move, not_yet, new_rank}
@@ -29,12 +28,13 @@ returns-then-is_forced c =
     let state = c.args.state in
     let next : suc bound ≡ bound + 1 = omega arith in
     let unbeaten : (other : ℕ) → other ≤ bound → is_beaten n m (automaton_of raw) other state ≡ false = λ other less.
-        unbeaten-before n m (automaton_of raw) bound other state less (not_yet n m (automaton_of raw) bound state c.args.before (sym c.is_some.ensures ∙ c.if-is_some.false) c.requires.before) in
+    unbeaten-before n m (automaton_of raw) bound other state less (not_yet n m (automaton_of raw) bound state c.args.before (sym c.is_some.ensures ∙ c.if-is_some.false) c.requires.before) in
     let beaten : is_beaten n m (automaton_of raw) (suc bound) state ≡ true =
-        sym (row_forced raw bound forcing c.requires.forced state c.row-row.result c.row-row.ensures.row c.row-row.ensures.is_ref) ∙ sym c.is_forced.ensures ∙ c.if-is_forced.true in
-    (subst (λ rank. IsRank n m (automaton_of raw) state rank) next (new_rank n m (automaton_of raw) bound state unbeaten beaten),
-        c.least_input.ensures ∙ row_move raw bound forcing c.requires.forced state c.row-row.result c.row-row.ensures.row c.row-row.ensures.is_ref
-        ∙ ap (λ rank. move_of n m (automaton_of raw) rank state) next)
+    sym (row_forced raw bound forcing c.requires.forced state c.row-row.result c.row-row.ensures.row c.row-row.ensures.is_ref) ∙ sym c.is_forced.ensures ∙ c.if-is_forced.true in (
+      subst (λ rank. IsRank n m (automaton_of raw) state rank) next (new_rank n m (automaton_of raw) bound state unbeaten beaten),
+      c.least_input.ensures ∙ row_move raw bound forcing c.requires.forced state c.row-row.result c.row-row.ensures.row c.row-row.ensures.is_ref
+          ∙ ap (λ rank. move_of n m (automaton_of raw) rank state) next,
+    )
 
 pub returns-else-is_forced : goal.returns-else-is_forced
 returns-else-is_forced c =

@@ -1,4 +1,4 @@
-use Rattle.std.proofs.Common.{◌≡◌, ◌⊎◌, ◌+◌, ◌≤◌, ◌<◌, ◌∙◌, ℕ, suc, length, inl, inr, true, false, Bool, List, sym, ap, subst, refl, arith}
+use Rattle.std.proofs.Common.{◌≡◌, ◌⊎◌, ◌<◌, ◌∙◌, suc, length, inl, inr, true, false, Bool, List, sym, ap, subst, refl, arith}
 use Rattle.std.proofs.lemmas.Bool.{false≢true}
 use Rattle.std.specs.Cmp.{booleans_Decides}
 use Rattle.std.proofs.lemmas.Slice.Eq.{slice_eq-Decides}
@@ -23,10 +23,9 @@ rounds-init c =
     let first = c.in_ok-standing.ensures.standing in
     let many : length standing.lost.items ≡ length raw.rows = ap length first.lost_is ∙ length-map-range_with_len _ 0 (length raw.rows) in
     let few = kept_within standing.lost.items in
-    let bound = c.in_ok-standing.ensures.bound in
-    (
+    let bound = c.in_ok-standing.ensures.bound in (
       subst (λ bound. IsStanding c.args.inputs raw bound standing.lost.items standing.ranks.items) (sym bound) first,
-      omega (arith, many, few, bound)
+      omega (arith, many, few, bound),
     )
 
 pub returns-then-eq-clause-ranks : goal.returns-then-eq-clause-ranks
@@ -56,7 +55,7 @@ rounds-smaller c =
     let next = c.in_ok-next.next in
     decided next.lost.items standing.lost.items (λ same. false≢true ((slice_eq-Decides booleans_Decides next.lost.items standing.lost.items false c.if-eq.ensures).1 same))
     (fewer_or_same c.args.inputs c.args.auto.now standing.bound standing.lost.items standing.ranks.items next.lost.items next.ranks.items c.rounds.invariant.0
-        (next_stands (goal.at.rounds-smaller c).In_ok-next))
+    (next_stands (goal.at.rounds-smaller c).In_ok-next))
 
 pub rounds-preserved : goal.rounds-preserved
 rounds-preserved c =
@@ -65,10 +64,9 @@ rounds-preserved c =
     let stands = next_stands (goal.at.rounds-preserved c).In_ok-next in
     let bound = c.in_ok-next.ensures.bound in
     let less : count_kept next.lost.items < count_kept standing.lost.items =
-        decided next.lost.items standing.lost.items (λ same. false≢true ((slice_eq-Decides booleans_Decides next.lost.items standing.lost.items false c.if-eq.ensures).1 same))
-        (fewer_or_same c.args.inputs c.args.auto.now standing.bound standing.lost.items standing.ranks.items next.lost.items next.ranks.items c.rounds.invariant.0 stands) in
-    let here : suc standing.bound ≡ next.bound = omega (arith, bound) in
-    (
+    decided next.lost.items standing.lost.items (λ same. false≢true ((slice_eq-Decides booleans_Decides next.lost.items standing.lost.items false c.if-eq.ensures).1 same))
+    (fewer_or_same c.args.inputs c.args.auto.now standing.bound standing.lost.items standing.ranks.items next.lost.items next.ranks.items c.rounds.invariant.0 stands) in
+    let here : suc standing.bound ≡ next.bound = omega (arith, bound) in (
       subst (λ bound. IsStanding c.args.inputs c.args.auto.now bound next.lost.items next.ranks.items) here stands,
-      omega (arith, less, bound, c.rounds.invariant.1)
+      omega (arith, less, bound, c.rounds.invariant.1),
     )

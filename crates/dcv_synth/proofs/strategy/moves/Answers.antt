@@ -1,4 +1,4 @@
-use Rattle.std.proofs.Common.{◌≡◌, ◌-◌, ◌+◌, ◌<◌, ◌∙◌, ℕ, None, false, length, sym, ap, subst, arith}
+use Rattle.std.proofs.Common.{◌≡◌, ◌+◌, ◌<◌, ◌∙◌, None, false, length, sym, subst, arith}
 use Rattle.std.proofs.lemmas.List.{get_or_past, get_or_default}
 use Rattle.dcv_dfa.specs.Raw.{automaton_of}
 use Rattle.dcv_synth.specs.Ranked.{rank_at, IsRanked}
@@ -12,10 +12,10 @@ loop-state-preserved c n m ranked =
     let state = c.loop-state.state in
     let within : state < length raw.rows = omega (arith, c.loop-state-test.true, c.loop-state.auto.state-end, c.states-state-end.ensures.states) in
     let entry : rank_at c.args.ranks.now state ≡ c.index-ranks-state.result =
-        get_or_default c.args.ranks.now state None c.index-ranks-state.result (omega (arith, within, ranked.count)) ∙ sym c.index-ranks-state.is in
+    get_or_default c.args.ranks.now state None c.index-ranks-state.result (omega (arith, within, ranked.count)) ∙ sym c.index-ranks-state.is in
     subst (AreMovesBelow n m (automaton_of raw) (state + 1)) (sym c.in_ok-add.ensures)
     (listed_more n m (automaton_of raw) state c.loop-state.moves.items c.move_at.result (c.loop-state.invariant n m ranked)
-        (c.move_at.ensures n m (subst (IsRanked n m (automaton_of raw) state) entry (ranked.each state within))))
+    (c.move_at.ensures n m (subst (IsRanked n m (automaton_of raw) state) entry (ranked.each state within))))
 
 pub returns : goal.returns
 returns c n m ranked =

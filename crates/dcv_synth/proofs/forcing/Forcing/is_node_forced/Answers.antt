@@ -1,4 +1,4 @@
-use Rattle.std.proofs.Common.{◌≡◌, ℕ, Bool, length, sym, ap, subst, ◌∙◌, refl, ◌<◌, ◌≤◌}
+use Rattle.std.proofs.Common.{◌≡◌, length, sym, subst, ◌∙◌, refl}
 use Rattle.dcv_arena.specs.Arena.{IsBefore}
 use Rattle.dcv_arena.specs.declared.nodes.Ref.{Ref}
 use Rattle.dcv_arena.specs.declared.nodes.Ref.TheVariants.{Place}
@@ -19,12 +19,12 @@ returns c =
     let inner = c.level-slot.ensures.node c.args.place refl in
     let children = has_children arena reduced c.args.place c.requires.place in
     let same = split_is arena reduced c.args.place c.level-slot.result lo hi c.requires.place
-        (record { slot = c.level-slot.ensures.level; lo_is_ref = split.lo_is_ref; hi_is_ref = split.hi_is_ref; lo_value = split.lo_value; hi_value = split.hi_value }) in
+    (record { slot = c.level-slot.ensures.level; lo_is_ref = split.lo_is_ref; hi_is_ref = split.hi_is_ref; lo_value = split.lo_value; hi_value = split.hi_value }) in
     let before : (ref child : Ref) → ref ≡ child → IsBefore c.args.place child → IsBefore (length self.forced.items) ref = λ ref child e h.
-        subst (λ count. IsBefore count ref) (sym c.requires.before) (subst (IsBefore c.args.place) (sym e) h) in
+    subst (λ count. IsBefore count ref) (sym c.requires.before) (subst (IsBefore c.args.place) (sym e) h) in
     subst (IsForced self.inputs arena self.lost.now (Place c.args.place))
     (sym (c.pick.ensures ∙ (λ i. picked self.inputs c.level-slot.result (c.is_forced.ensures i) (c.is_forced-2.ensures i))))
     (forced_node self.inputs arena self.lost.now c.args.place c.level-slot.result lo hi (forced_at self.lost.now self.forced.items lo) (forced_at self.lost.now self.forced.items hi)
-        (record { slot_is = c.level-slot.ensures.level; inner = inner; lo_level = split.lo_level inner; hi_level = split.hi_level inner; value = split.value })
-        (forced_ref self.inputs arena self.lost.now self.forced.items lo c.requires.forced (before lo _ same.0 children.lo_before))
-        (forced_ref self.inputs arena self.lost.now self.forced.items hi c.requires.forced (before hi _ same.1 children.hi_before)))
+    (record { slot_is = c.level-slot.ensures.level; inner = inner; lo_level = split.lo_level inner; hi_level = split.hi_level inner; value = split.value })
+    (forced_ref self.inputs arena self.lost.now self.forced.items lo c.requires.forced (before lo _ same.0 children.lo_before))
+    (forced_ref self.inputs arena self.lost.now self.forced.items hi c.requires.forced (before hi _ same.1 children.hi_before)))

@@ -1,4 +1,4 @@
-use Rattle.std.proofs.Common.{◌∙◌, ◌≡◌, sym, subst, List, Bool}
+use Rattle.std.proofs.Common.{◌∙◌, subst, List, Bool}
 use Rattle.dcv_arena.specs.Arena.{ArenaValue}
 use Rattle.dcv_synth.specs.Forced.{AreAllForced}
 use Rattle.dcv_synth.specs.Ranked.{HasForced}
