@@ -60,7 +60,8 @@ module _ (n m : ℕ) (automaton : Automaton ℕ) (moves : ℕ → List Bool) (so
   abbrev environment : Environment
   environment = environment_of automaton moves
 
-  falls : (bound rank : ℕ) (before : List (List Bool)) (letters : Word) (state : ℕ) → rank ≤ bound → state_after automaton letters ≡ state → IsStartOr automaton automaton.accepting state → IsRank n m automaton state rank → Widths n before
+  falls : (bound rank : ℕ) (before : List (List Bool)) (letters : Word) (state : ℕ) → rank ≤ bound → state_after automaton letters ≡ state
+      → IsStartOr automaton automaton.accepting state → IsRank n m automaton state rank → Widths n before
       → Falls automaton environment controller before letters state rank
   falls bound zero before letters state within at from is w = absurd (true≢false (sym is.beaten))
   falls zero (suc rank) before letters state within at from is w = absurd (omega arith)

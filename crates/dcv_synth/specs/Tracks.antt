@@ -12,4 +12,5 @@ each_track (suc n) p = each_track n (λ track. p (false ∷ track)) && each_trac
 abbrev pub least_track : ℕ → (List Bool → Bool) → List Bool
 least_track zero p = []
 least_track (suc n) p =
-    if some_track n (λ track. p (false ∷ track)) then false ∷ least_track n (λ track. p (false ∷ track)) else true ∷ least_track n (λ track. p (true ∷ track))
+    if some_track n (λ track. p (false ∷ track)) then false ∷ least_track n (λ track. p (false ∷ track))
+    else true ∷ least_track n (λ track. p (true ∷ track))
