@@ -1,0 +1,12 @@
+mod Descents
+mod Examples
+mod Forced
+mod LeastMoves
+mod LeastOutputs
+mod Listed
+mod RankEnds
+mod Ranking
+mod RowRanks
+mod Tracks
+mod Unbeaten
+mod Winners

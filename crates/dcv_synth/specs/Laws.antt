@@ -1,0 +1,48 @@
+-- The laws that `src/laws.rt` proves.
+use Rattle.std.specs.Prelude.{◌≡◌, ℕ, suc, Bool, not, ◌&&◌, List, IsTrue, IsFalse}
+use Rattle.dcv_language.specs.Language.{Language}
+use Rattle.dcv_language.specs.Automaton.{Automaton, accepts}
+use Rattle.dcv_synth.specs.Game.{Controller, Environment, Wins, Beats}
+use Rattle.dcv_synth.specs.Winning.{is_held, IsSafe, IsWin, is_beaten, IsRank}
+use Rattle.dcv_synth.specs.Play.{Step, controller_of, AnswersSo, environment_of, MovesSo}
+
+-- ---- one of the two at most
+
+abbrev pub WinnersAreNotBeaten : Type 0
+WinnersAreNotBeaten = (n m : ℕ) (L : Language) (controller : Controller) (environment : Environment) (bound : ℕ)
+    → Wins n m L controller → ¬ Beats n m L environment bound
+
+-- ---- one of the two at least
+
+abbrev pub HeldStatesAreNotBeaten : Type 0
+HeldStatesAreNotBeaten = (n m : ℕ) (automaton : Automaton ℕ) (set : ℕ → Bool) (bound state : ℕ)
+    → IsSafe n m automaton set → IsTrue (is_held n m automaton set state) → IsFalse (is_beaten n m automaton bound state)
+
+abbrev pub is_unbeaten : ℕ → ℕ → Automaton ℕ → ℕ → ℕ → Bool
+is_unbeaten n m automaton bound state = automaton.accepting state && not (is_beaten n m automaton bound state)
+
+-- one letter more beats no further state that accepts
+abbrev pub BeatsNoMore : ℕ → ℕ → Automaton ℕ → ℕ → Type 0
+BeatsNoMore n m automaton bound = (state : ℕ) → IsTrue (automaton.accepting state)
+    → is_beaten n m automaton (suc bound) state ≡ is_beaten n m automaton bound state
+
+abbrev pub UnbeatenStatesAreWin : Type 0
+UnbeatenStatesAreWin = (n m : ℕ) (automaton : Automaton ℕ) (bound : ℕ) → BeatsNoMore n m automaton bound
+    → IsWin n m automaton (is_unbeaten n m automaton bound)
+
+-- a state is then held by them, or beaten within one letter more
+abbrev pub UnbeatenStatesAreHeld : Type 0
+UnbeatenStatesAreHeld = (n m : ℕ) (automaton : Automaton ℕ) (bound state : ℕ) → IsFalse (is_beaten n m automaton (suc bound) state)
+    → IsTrue (is_held n m automaton (is_unbeaten n m automaton bound) state)
+
+-- ---- how each of the two wins
+
+abbrev pub LeastOutputsWin : Type 0
+LeastOutputsWin = (n m : ℕ) (automaton : Automaton ℕ) (win : ℕ → Bool) (step : Step)
+    → IsSafe n m automaton win → IsTrue (is_held n m automaton win automaton.start) → AnswersSo n m automaton win step
+    → Wins n m (accepts automaton) (controller_of automaton.start step)
+
+abbrev pub LeastMovesBeat : Type 0
+LeastMovesBeat = (n m : ℕ) (automaton : Automaton ℕ) (moves : ℕ → List Bool) (rank : ℕ)
+    → MovesSo n m automaton moves → IsRank n m automaton automaton.start rank
+    → Beats n m (accepts automaton) (environment_of automaton moves) rank

@@ -1,0 +1,22 @@
+-- The moves of the first states, while they are listed.
+--     AreMovesBelow n m automaton states moves    the moves of the states below the number
+--     IsMoveAt n m automaton state found          the state's move, or none where it has none
+--     with_move moves found                       the moves, and this one behind them
+use Rattle.std.specs.Prelude.{◌≡◌, ℕ, ◌<◌, List, [], ◌∷◌, ◌++◌, Option, Some, None, Contains}
+use Rattle.std.specs.List.{AllPairs}
+use Rattle.dcv_language.specs.Automaton.{Automaton}
+use Rattle.dcv_synth.specs.Moves.{IsMove}
+use Rattle.dcv_synth.specs.declared.strategy.Move.{Move}
+
+pub record AreMovesBelow (n m : ℕ) (automaton : Automaton ℕ) (states : ℕ) (moves : List Move) : Type 0 where
+  pub only : (move : Move) → Contains moves move → IsMove n m automaton move × (move.state < states)
+  pub all : (move : Move) → IsMove n m automaton move → move.state < states → Contains moves move
+  pub in_order : AllPairs (λ (one other : Move). one.state < other.state) moves
+
+abbrev pub IsMoveAt : ℕ → ℕ → Automaton ℕ → ℕ → Option Move → Type 0
+IsMoveAt n m automaton state None = (move : Move) → move.state ≡ state → ¬ IsMove n m automaton move
+IsMoveAt n m automaton state (Some move) = IsMove n m automaton move × (move.state ≡ state)
+
+abbrev pub with_move : List Move → Option Move → List Move
+with_move moves None = moves
+with_move moves (Some move) = moves ++ move ∷ []

@@ -1,0 +1,26 @@
+//! Laws of the game between inputs and outputs. Each function here does nothing: its contract is the law.
+ghost use Rattle.dcv_synth.specs.Laws.{WinnersAreNotBeaten, HeldStatesAreNotBeaten, UnbeatenStatesAreWin, UnbeatenStatesAreHeld};
+ghost use Rattle.dcv_synth.specs.Laws.{LeastOutputsWin, LeastMovesBeat};
+
+/// No environment beats a controller that wins.
+pub fn winners_are_not_beaten()
+    ensures { WinnersAreNotBeaten }
+{}
+
+/// A state from which each input can be answered for ever is never beaten. Where one letter more beats no further state that
+/// accepts, those that accept and are not beaten are the greatest set of such states.
+pub fn some_player_wins()
+    ensures unbeaten { HeldStatesAreNotBeaten }
+    ensures win { UnbeatenStatesAreWin }
+    ensures held { UnbeatenStatesAreHeld }
+{}
+
+/// The controller of least outputs wins, where each first input can be answered.
+pub fn least_outputs_win()
+    ensures { LeastOutputsWin }
+{}
+
+/// The least moves of the states that have a rank beat every controller within the rank of the start.
+pub fn least_moves_beat()
+    ensures { LeastMovesBeat }
+{}
