@@ -12,7 +12,10 @@ use dcv_translation::Body;
 use std::alloc::{AllocError, Global};
 
 // more_inputs = {";" input}
-pub(crate) fn more_inputs<'a>(alloc: Global, parts: &mut Body<Part<'a>>) -> Result<Part<'a>, AllocError>
+pub(crate) fn more_inputs<'a>(
+    alloc: Global,
+    parts: &mut Body<Part<'a>>,
+) -> Result<Part<'a>, AllocError>
     requires { IsMeant (more_inputs_part (map seen_part parts.old)) }
     ensures { IfOk result (λ part. seen_part part ≡ more_inputs_part (map seen_part parts.old)) }
 {
@@ -49,7 +52,10 @@ pub(crate) fn output<'a>(parts: &mut Body<Part<'a>>) -> Part<'a>
 }
 
 // variables = ["var" local locals]
-pub(crate) fn variables<'a>(alloc: Global, parts: &mut Body<Part<'a>>) -> Result<Part<'a>, AllocError>
+pub(crate) fn variables<'a>(
+    alloc: Global,
+    parts: &mut Body<Part<'a>>,
+) -> Result<Part<'a>, AllocError>
     requires { IsMeant (variables_part (map seen_part parts.old)) }
     ensures { IfOk result (λ part. seen_part part ≡ variables_part (map seen_part parts.old)) }
 {
@@ -103,7 +109,10 @@ pub(crate) fn token<'a>(parts: &mut Body<Part<'a>>) -> Part<'a>
 }
 
 // equations = {equation}
-pub(crate) fn equations<'a>(alloc: Global, parts: &mut Body<Part<'a>>) -> Result<Part<'a>, AllocError>
+pub(crate) fn equations<'a>(
+    alloc: Global,
+    parts: &mut Body<Part<'a>>,
+) -> Result<Part<'a>, AllocError>
     requires { IsMeant (equations_part (map seen_part parts.old)) }
     ensures { IfOk result (λ part. seen_part part ≡ equations_part (map seen_part parts.old)) }
 {
@@ -193,7 +202,10 @@ fn comparison<'a>(parts: &mut Body<Part<'a>>) -> Part<'a>
 }
 
 // more_tests = {"or" test}
-pub(crate) fn more_tests<'a>(alloc: Global, parts: &mut Body<Part<'a>>) -> Result<Part<'a>, AllocError>
+pub(crate) fn more_tests<'a>(
+    alloc: Global,
+    parts: &mut Body<Part<'a>>,
+) -> Result<Part<'a>, AllocError>
     requires { IsMeant (more_tests_part (map seen_part parts.old)) }
     ensures { IfOk result (λ part. seen_part part ≡ more_tests_part (map seen_part parts.old)) }
 {
