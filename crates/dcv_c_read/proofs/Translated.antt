@@ -1,6 +1,7 @@
 -- What trees stand for, by the parts of the code.
 use Rattle.std.proofs.Common.{◌≡◌, ℕ, zero, suc, ◌≤◌, List, [], ◌∷◌, length, refl, sym, ap, ◌∙◌, subst, arith}
-use Rattle.std.specs.Prelude.{slice_index_or}
+use Rattle.std.specs.Prelude.{Box, slice_index_or}
+use Rattle.std.specs.declared.alloc.Global.{Global}
 use Rattle.dcv_grammar.specs.Trees.{Nodes, done, leaf, node}
 use Rattle.dcv_lexer.specs.Cuts.{Token}
 use Rattle.dcv_c.specs.Placed.{PlacedUnit}
@@ -48,6 +49,6 @@ pub no_rule : (rule : ℕ) (parts : List Part) → 23 ≤ rule → IsMeant (acti
 no_rule rule parts there is = subst IsMeant (far actions rule parts there) is
 
 -- the part of a unit is the code's
-pub unit_in : (part : CodePart) (placed : PlacedUnit) → seen_part part ≡ AUnit placed → ((found : CodeUnit) → part ≡ CodeUnitPart found → ⊥) → ⊥
+pub unit_in : (part : CodePart) (placed : PlacedUnit) → seen_part part ≡ AUnit placed → ((found : Box CodeUnit Global) → part ≡ CodeUnitPart found → ⊥) → ⊥
 unit_in (CodeUnitPart found) placed is none = none found refl
 unit_in _ placed is none = cc

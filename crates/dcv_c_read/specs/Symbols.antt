@@ -32,7 +32,7 @@ seen_part (CodeBehind number tests) = Behind (seen number) (reverse (map seen_te
 seen_part (CodeStep step) =
     AStep (seen step.name) (map seen step.parameters.items) (map seen step.locals.items) (map seen_statement step.statements.items)
     (seen_returned step.returned)
-seen_part (CodeUnit placed) = AUnit (seen_unit placed)
+seen_part (CodeUnit placed) = AUnit (seen_unit placed.value)
 
 abbrev pub IsMeant : Part → Type 0
 IsMeant Nothing = ⊥

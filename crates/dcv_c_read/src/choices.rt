@@ -1,6 +1,5 @@
 // What the rules of statements and of results stand for, by the parts of one of their bodies.
 ghost use Rattle.std.specs.Prelude.{◌≡◌, ◌∷◌, map, reverse, option_map, IfOk};
-ghost use Rattle.std.specs.Vec.Iter.{into_iter_items};
 ghost use Rattle.dcv_observer.specs.Left.{seen};
 ghost use Rattle.dcv_c.specs.Actions.{statement_part, right_part, choice_part, returned_part};
 ghost use Rattle.dcv_c_read.specs.Seen.{seen_test};
@@ -12,16 +11,15 @@ use crate::placed::{
     PlacedChoice, PlacedReturned, PlacedRight, PlacedStatement, PlacedTest, PlacedWhen,
 };
 use dcv_observer::Item;
+use dcv_translation::Body;
 use std::alloc::AllocError;
-use std::vec::IntoIter;
 
 // statement = "if" "(" condition ")" name "=" item ";" | name "=" right ";"
 #[tactic(auto, using(crate::proofs::Bodies::statement_in_steps))]
-pub(crate) fn statement<'a>(parts: Vec<Part<'a>>) -> Part<'a>
-    requires { IsMeant (statement_part (map seen_part parts.items)) }
-    ensures { seen_part result ≡ statement_part (map seen_part parts.entry.items) }
+pub(crate) fn statement<'a>(parts: &mut Body<Part<'a>>) -> Part<'a>
+    requires { IsMeant (statement_part (map seen_part parts.old)) }
+    ensures { seen_part result ≡ statement_part (map seen_part parts.old) }
 {
-    let mut parts = parts.into_iter();
     match (parts.next(), parts.next(), parts.next()) {
         (Some(Part::Token(_)), Some(Part::Token(_)), Some(Part::Compared(name, number))) => {
             when(name, number, parts)
@@ -34,10 +32,10 @@ pub(crate) fn statement<'a>(parts: Vec<Part<'a>>) -> Part<'a>
 }
 
 // What stands behind a condition.
-fn when<'a>(name: Item<'a>, number: Option<Item<'a>>, mut parts: IntoIter<Part<'a>>) -> Part<'a>
-    requires { IsMeant (behind_condition (seen name) (option_map seen number) (map seen_part (into_iter_items parts))) }
+fn when<'a>(name: Item<'a>, number: Option<Item<'a>>, parts: &mut Body<Part<'a>>) -> Part<'a>
+    requires { IsMeant (behind_condition (seen name) (option_map seen number) (map seen_part parts.old)) }
     ensures { seen_part result
-        ≡ behind_condition (seen name.entry) (option_map seen number.entry) (map seen_part (into_iter_items parts.entry)) }
+        ≡ behind_condition (seen name.entry) (option_map seen number.entry) (map seen_part parts.old) }
 {
     match (parts.next(), parts.next(), parts.next()) {
         (Some(Part::Token(_)), Some(Part::Token(left)), Some(Part::Token(_))) => {
@@ -52,11 +50,11 @@ fn assigned_item<'a>(
     name: Item<'a>,
     number: Option<Item<'a>>,
     left: Item<'a>,
-    mut parts: IntoIter<Part<'a>>,
+    parts: &mut Body<Part<'a>>,
 ) -> Part<'a>
-    requires { IsMeant (when_item (seen name) (option_map seen number) (seen left) (map seen_part (into_iter_items parts))) }
+    requires { IsMeant (when_item (seen name) (option_map seen number) (seen left) (map seen_part parts.old)) }
     ensures { seen_part result
-        ≡ when_item (seen name.entry) (option_map seen number.entry) (seen left.entry) (map seen_part (into_iter_items parts.entry)) }
+        ≡ when_item (seen name.entry) (option_map seen number.entry) (seen left.entry) (map seen_part parts.old) }
 {
     match parts.next() {
         Some(Part::Token(item)) => Part::Statement(PlacedStatement::When(PlacedWhen {
@@ -70,11 +68,10 @@ fn assigned_item<'a>(
 }
 
 // right = number | name choice
-pub(crate) fn right<'a>(parts: Vec<Part<'a>>) -> Part<'a>
-    requires { IsMeant (right_part (map seen_part parts.items)) }
-    ensures { seen_part result ≡ right_part (map seen_part parts.entry.items) }
+pub(crate) fn right<'a>(parts: &mut Body<Part<'a>>) -> Part<'a>
+    requires { IsMeant (right_part (map seen_part parts.old)) }
+    ensures { seen_part result ≡ right_part (map seen_part parts.old) }
 {
-    let mut parts = parts.into_iter();
     match (parts.next(), parts.next()) {
         (Some(Part::Token(number)), None) => Part::Right(PlacedRight::Plain(number)),
         (Some(Part::Token(name)), Some(Part::Choice(None))) => {
@@ -89,11 +86,10 @@ pub(crate) fn right<'a>(parts: Vec<Part<'a>>) -> Part<'a>
 
 // choice = ["?" item ":" item | "==" number "?" item ":" item]
 #[tactic(auto, using(crate::proofs::Bodies::choice_in_steps))]
-pub(crate) fn choice<'a>(parts: Vec<Part<'a>>) -> Part<'a>
-    requires { IsMeant (choice_part (map seen_part parts.items)) }
-    ensures { seen_part result ≡ choice_part (map seen_part parts.entry.items) }
+pub(crate) fn choice<'a>(parts: &mut Body<Part<'a>>) -> Part<'a>
+    requires { IsMeant (choice_part (map seen_part parts.old)) }
+    ensures { seen_part result ≡ choice_part (map seen_part parts.old) }
 {
-    let mut parts = parts.into_iter();
     match (parts.next(), parts.next(), parts.next()) {
         (None, _, _) => Part::Choice(None),
         (Some(Part::Token(_)), Some(Part::Token(second)), Some(Part::Token(_))) => {
@@ -104,9 +100,9 @@ pub(crate) fn choice<'a>(parts: Vec<Part<'a>>) -> Part<'a>
 }
 
 // What stands behind the `:` of a bare name's choice, or behind the `?` of one that compares.
-fn longer_choice<'a>(second: Item<'a>, mut parts: IntoIter<Part<'a>>) -> Part<'a>
-    requires { IsMeant (behind_second (seen second) (map seen_part (into_iter_items parts))) }
-    ensures { seen_part result ≡ behind_second (seen second.entry) (map seen_part (into_iter_items parts.entry)) }
+fn longer_choice<'a>(second: Item<'a>, parts: &mut Body<Part<'a>>) -> Part<'a>
+    requires { IsMeant (behind_second (seen second) (map seen_part parts.old)) }
+    ensures { seen_part result ≡ behind_second (seen second.entry) (map seen_part parts.old) }
 {
     match (parts.next(), parts.next(), parts.next()) {
         (Some(Part::Token(otherwise)), None, _) => Part::Choice(Some(PlacedChoice {
@@ -127,11 +123,10 @@ fn longer_choice<'a>(second: Item<'a>, mut parts: IntoIter<Part<'a>>) -> Part<'a
 
 // returned = number | name tests
 #[tactic(auto, using(crate::proofs::Bodies::forwards))]
-pub(crate) fn returned<'a>(parts: Vec<Part<'a>>) -> Result<Part<'a>, AllocError>
-    requires { IsMeant (returned_part (map seen_part parts.items)) }
-    ensures { IfOk result (λ part. seen_part part ≡ returned_part (map seen_part parts.entry.items)) }
+pub(crate) fn returned<'a>(parts: &mut Body<Part<'a>>) -> Result<Part<'a>, AllocError>
+    requires { IsMeant (returned_part (map seen_part parts.old)) }
+    ensures { IfOk result (λ part. seen_part part ≡ returned_part (map seen_part parts.old)) }
 {
-    let mut parts = parts.into_iter();
     match (parts.next(), parts.next()) {
         (Some(Part::Token(number)), None) => Ok(Part::Returned(PlacedReturned::Fixed(number))),
         (Some(Part::Token(name)), Some(Part::Behind(number, tests))) => {

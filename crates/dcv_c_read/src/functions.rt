@@ -1,6 +1,5 @@
 // What the rules of a unit and of its functions stand for, by the parts of their bodies. A long body is taken in steps.
 ghost use Rattle.std.specs.Prelude.{◌≡◌, ◌∷◌, map, reverse, IfOk};
-ghost use Rattle.std.specs.Vec.Iter.{into_iter_items};
 ghost use Rattle.dcv_observer.specs.Left.{seen};
 ghost use Rattle.dcv_c.specs.Actions.{unit_part, reset_part, step_part};
 ghost use Rattle.dcv_c_read.specs.Seen.{seen_statement};
@@ -11,20 +10,19 @@ ghost use Rattle.dcv_c_read.specs.Translated.{behind_step_name, step_body, step_
 use crate::parts::Part;
 use crate::placed::{PlacedReset, PlacedStatement, PlacedStep, PlacedUnit};
 use dcv_observer::Item;
-use std::alloc::AllocError;
-use std::vec::IntoIter;
+use dcv_translation::Body;
+use std::alloc::{AllocError, Global};
 
 // unit = static more_statics reset step
 #[tactic(auto, using(crate::proofs::Bodies::unit_in_steps))]
-pub(crate) fn unit<'a>(parts: Vec<Part<'a>>) -> Result<Part<'a>, AllocError>
-    requires { IsMeant (unit_part (map seen_part parts.items)) }
-    ensures { IfOk result (λ part. seen_part part ≡ unit_part (map seen_part parts.entry.items)) }
+pub(crate) fn unit<'a>(alloc: Global, parts: &mut Body<Part<'a>>) -> Result<Part<'a>, AllocError>
+    requires { IsMeant (unit_part (map seen_part parts.old)) }
+    ensures { IfOk result (λ part. seen_part part ≡ unit_part (map seen_part parts.old)) }
 {
-    let mut parts = parts.into_iter();
     match (parts.next(), parts.next()) {
         (Some(Part::Token(first)), Some(Part::Tokens(statics))) => {
             let statics = with_static(first, statics)?;
-            Ok(reset_and_step(statics, parts))
+            reset_and_step(alloc, statics, parts)
         }
         _ => unreachable!(),
     }
@@ -40,18 +38,23 @@ fn with_static<'a>(first: Item<'a>, mut statics: Vec<Item<'a>>) -> Result<Vec<It
 
 // What stands behind the statics.
 #[tactic(auto, using(crate::proofs::Bodies::forwards))]
-fn reset_and_step<'a>(mut statics: Vec<Item<'a>>, mut parts: IntoIter<Part<'a>>) -> Part<'a>
-    requires { IsMeant (behind_statics (reverse (map seen statics.items)) (map seen_part (into_iter_items parts))) }
-    ensures { seen_part result ≡ behind_statics (reverse (map seen statics.entry.items)) (map seen_part (into_iter_items parts.entry)) }
+fn reset_and_step<'a>(
+    alloc: Global,
+    mut statics: Vec<Item<'a>>,
+    parts: &mut Body<Part<'a>>,
+) -> Result<Part<'a>, AllocError>
+    requires { IsMeant (behind_statics (reverse (map seen statics.items)) (map seen_part parts.old)) }
+    ensures { IfOk result (λ part. seen_part part ≡ behind_statics (reverse (map seen statics.entry.items)) (map seen_part parts.old)) }
 {
     match (parts.next(), parts.next()) {
         (Some(Part::Reset(reset)), Some(Part::Step(step))) => {
             statics.reverse();
-            Part::Unit(PlacedUnit {
+            let placed = PlacedUnit {
                 statics,
                 reset,
                 step,
-            })
+            };
+            Ok(Part::Unit(Box::new(alloc, placed)?))
         }
         _ => unreachable!(),
     }
@@ -59,11 +62,10 @@ fn reset_and_step<'a>(mut statics: Vec<Item<'a>>, mut parts: IntoIter<Part<'a>>)
 
 // reset = "void" name "(" "void" ")" "{" assignments "}"
 #[tactic(auto, using(crate::proofs::Bodies::reset_in_steps))]
-pub(crate) fn reset<'a>(parts: Vec<Part<'a>>) -> Part<'a>
-    requires { IsMeant (reset_part (map seen_part parts.items)) }
-    ensures { seen_part result ≡ reset_part (map seen_part parts.entry.items) }
+pub(crate) fn reset<'a>(parts: &mut Body<Part<'a>>) -> Part<'a>
+    requires { IsMeant (reset_part (map seen_part parts.old)) }
+    ensures { seen_part result ≡ reset_part (map seen_part parts.old) }
 {
-    let mut parts = parts.into_iter();
     match (parts.next(), parts.next(), parts.next()) {
         (Some(Part::Token(_)), Some(Part::Token(name)), Some(Part::Token(_))) => {
             reset_parameters(name, parts)
@@ -73,9 +75,9 @@ pub(crate) fn reset<'a>(parts: Vec<Part<'a>>) -> Part<'a>
 }
 
 // What stands behind the parenthesis that opens.
-fn reset_parameters<'a>(name: Item<'a>, mut parts: IntoIter<Part<'a>>) -> Part<'a>
-    requires { IsMeant (behind_reset_name (seen name) (map seen_part (into_iter_items parts))) }
-    ensures { seen_part result ≡ behind_reset_name (seen name.entry) (map seen_part (into_iter_items parts.entry)) }
+fn reset_parameters<'a>(name: Item<'a>, parts: &mut Body<Part<'a>>) -> Part<'a>
+    requires { IsMeant (behind_reset_name (seen name) (map seen_part parts.old)) }
+    ensures { seen_part result ≡ behind_reset_name (seen name.entry) (map seen_part parts.old) }
 {
     match (parts.next(), parts.next(), parts.next()) {
         (Some(Part::Token(_)), Some(Part::Token(_)), Some(Part::Token(_))) => {
@@ -87,9 +89,9 @@ fn reset_parameters<'a>(name: Item<'a>, mut parts: IntoIter<Part<'a>>) -> Part<'
 
 // What stands behind the brace that opens.
 #[tactic(auto, using(crate::proofs::Bodies::forwards))]
-fn reset_assignments<'a>(name: Item<'a>, mut parts: IntoIter<Part<'a>>) -> Part<'a>
-    requires { IsMeant (reset_body (seen name) (map seen_part (into_iter_items parts))) }
-    ensures { seen_part result ≡ reset_body (seen name.entry) (map seen_part (into_iter_items parts.entry)) }
+fn reset_assignments<'a>(name: Item<'a>, parts: &mut Body<Part<'a>>) -> Part<'a>
+    requires { IsMeant (reset_body (seen name) (map seen_part parts.old)) }
+    ensures { seen_part result ≡ reset_body (seen name.entry) (map seen_part parts.old) }
 {
     match (parts.next(), parts.next()) {
         (Some(Part::Assignments(mut assignments)), Some(Part::Token(end))) => {
@@ -106,11 +108,10 @@ fn reset_assignments<'a>(name: Item<'a>, mut parts: IntoIter<Part<'a>>) -> Part<
 
 // step = "int" name "(" parameters ")" "{" locals statements "return" returned ";" "}"
 #[tactic(auto, using(crate::proofs::Bodies::step_in_steps))]
-pub(crate) fn step<'a>(parts: Vec<Part<'a>>) -> Part<'a>
-    requires { IsMeant (step_part (map seen_part parts.items)) }
-    ensures { seen_part result ≡ step_part (map seen_part parts.entry.items) }
+pub(crate) fn step<'a>(parts: &mut Body<Part<'a>>) -> Part<'a>
+    requires { IsMeant (step_part (map seen_part parts.old)) }
+    ensures { seen_part result ≡ step_part (map seen_part parts.old) }
 {
-    let mut parts = parts.into_iter();
     match (parts.next(), parts.next(), parts.next()) {
         (Some(Part::Token(_)), Some(Part::Token(name)), Some(Part::Token(_))) => {
             step_parameters(name, parts)
@@ -120,9 +121,9 @@ pub(crate) fn step<'a>(parts: Vec<Part<'a>>) -> Part<'a>
 }
 
 // What stands behind the parenthesis that opens.
-fn step_parameters<'a>(name: Item<'a>, mut parts: IntoIter<Part<'a>>) -> Part<'a>
-    requires { IsMeant (behind_step_name (seen name) (map seen_part (into_iter_items parts))) }
-    ensures { seen_part result ≡ behind_step_name (seen name.entry) (map seen_part (into_iter_items parts.entry)) }
+fn step_parameters<'a>(name: Item<'a>, parts: &mut Body<Part<'a>>) -> Part<'a>
+    requires { IsMeant (behind_step_name (seen name) (map seen_part parts.old)) }
+    ensures { seen_part result ≡ behind_step_name (seen name.entry) (map seen_part parts.old) }
 {
     match (parts.next(), parts.next(), parts.next()) {
         (Some(Part::Tokens(parameters)), Some(Part::Token(_)), Some(Part::Token(_))) => {
@@ -136,11 +137,11 @@ fn step_parameters<'a>(name: Item<'a>, mut parts: IntoIter<Part<'a>>) -> Part<'a
 fn step_statements<'a>(
     name: Item<'a>,
     parameters: Vec<Item<'a>>,
-    mut parts: IntoIter<Part<'a>>,
+    parts: &mut Body<Part<'a>>,
 ) -> Part<'a>
-    requires { IsMeant (step_body (seen name) (reverse (map seen parameters.items)) (map seen_part (into_iter_items parts))) }
+    requires { IsMeant (step_body (seen name) (reverse (map seen parameters.items)) (map seen_part parts.old)) }
     ensures { seen_part result
-        ≡ step_body (seen name.entry) (reverse (map seen parameters.entry.items)) (map seen_part (into_iter_items parts.entry)) }
+        ≡ step_body (seen name.entry) (reverse (map seen parameters.entry.items)) (map seen_part parts.old) }
 {
     match (parts.next(), parts.next(), parts.next()) {
         (Some(Part::Tokens(locals)), Some(Part::Statements(statements)), Some(Part::Token(_))) => {
@@ -157,13 +158,13 @@ fn step_returned<'a>(
     mut parameters: Vec<Item<'a>>,
     mut locals: Vec<Item<'a>>,
     mut statements: Vec<PlacedStatement<'a>>,
-    mut parts: IntoIter<Part<'a>>,
+    parts: &mut Body<Part<'a>>,
 ) -> Part<'a>
     requires { IsMeant (step_end (seen name) (reverse (map seen parameters.items)) (reverse (map seen locals.items))
-        (reverse (map seen_statement statements.items)) (map seen_part (into_iter_items parts))) }
+        (reverse (map seen_statement statements.items)) (map seen_part parts.old)) }
     ensures { seen_part result
         ≡ step_end (seen name.entry) (reverse (map seen parameters.entry.items)) (reverse (map seen locals.entry.items))
-        (reverse (map seen_statement statements.entry.items)) (map seen_part (into_iter_items parts.entry)) }
+        (reverse (map seen_statement statements.entry.items)) (map seen_part parts.old) }
 {
     match parts.next() {
         Some(Part::Returned(returned)) => {

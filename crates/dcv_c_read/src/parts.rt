@@ -28,5 +28,6 @@ pub(crate) enum Part<'a> {
     // A number, and tests.
     Behind(Item<'a>, Vec<PlacedTest<'a>>),
     Step(PlacedStep<'a>),
-    Unit(PlacedUnit<'a>),
+    // On the heap, since each part has the size of the largest.
+    Unit(Box<PlacedUnit<'a>>),
 }

@@ -45,7 +45,7 @@ pub(crate) fn placed_unit<'a>(alloc: Global, text: &'a [u8]) -> Result<PlacedUni
         return Err(ObsFault::Syntax { at });
     }
     match translate(alloc, &UnitTranslation { alloc }, text)? {
-        Part::Unit(placed) => Ok(placed),
+        Part::Unit(placed) => Ok(Box::into_inner(placed)),
         _ => unreachable!(),
     }
 }

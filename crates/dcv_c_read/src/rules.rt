@@ -7,14 +7,14 @@ ghost use Rattle.dcv_c_read.specs.Symbols.{seen_part, IsMeant};
 
 use crate::parts::Part;
 use crate::placed::{PlacedAssignment, PlacedTest};
+use dcv_translation::Body;
 use std::alloc::{AllocError, Global};
 
 // static = "static" "int" name ";"
-pub(crate) fn static_name<'a>(parts: Vec<Part<'a>>) -> Part<'a>
-    requires { IsMeant (static_part (map seen_part parts.items)) }
-    ensures { seen_part result ≡ static_part (map seen_part parts.entry.items) }
+pub(crate) fn static_name<'a>(parts: &mut Body<Part<'a>>) -> Part<'a>
+    requires { IsMeant (static_part (map seen_part parts.old)) }
+    ensures { seen_part result ≡ static_part (map seen_part parts.old) }
 {
-    let mut parts = parts.into_iter();
     match (parts.next(), parts.next(), parts.next()) {
         (Some(Part::Token(_)), Some(Part::Token(_)), Some(Part::Token(name))) => Part::Token(name),
         _ => unreachable!(),
@@ -22,11 +22,10 @@ pub(crate) fn static_name<'a>(parts: Vec<Part<'a>>) -> Part<'a>
 }
 
 // more_statics = {static}, locals = {local}
-pub(crate) fn tokens<'a>(alloc: Global, parts: Vec<Part<'a>>) -> Result<Part<'a>, AllocError>
-    requires { IsMeant (tokens_part (map seen_part parts.items)) }
-    ensures { IfOk result (λ part. seen_part part ≡ tokens_part (map seen_part parts.entry.items)) }
+pub(crate) fn tokens<'a>(alloc: Global, parts: &mut Body<Part<'a>>) -> Result<Part<'a>, AllocError>
+    requires { IsMeant (tokens_part (map seen_part parts.old)) }
+    ensures { IfOk result (λ part. seen_part part ≡ tokens_part (map seen_part parts.old)) }
 {
-    let mut parts = parts.into_iter();
     match (parts.next(), parts.next()) {
         (None, _) => Ok(Part::Tokens(Vec::new(alloc))),
         (Some(Part::Token(name)), Some(Part::Tokens(mut names))) => {
@@ -38,11 +37,13 @@ pub(crate) fn tokens<'a>(alloc: Global, parts: Vec<Part<'a>>) -> Result<Part<'a>
 }
 
 // assignments = {assignment}
-pub(crate) fn assignments<'a>(alloc: Global, parts: Vec<Part<'a>>) -> Result<Part<'a>, AllocError>
-    requires { IsMeant (assignments_part (map seen_part parts.items)) }
-    ensures { IfOk result (λ part. seen_part part ≡ assignments_part (map seen_part parts.entry.items)) }
+pub(crate) fn assignments<'a>(
+    alloc: Global,
+    parts: &mut Body<Part<'a>>,
+) -> Result<Part<'a>, AllocError>
+    requires { IsMeant (assignments_part (map seen_part parts.old)) }
+    ensures { IfOk result (λ part. seen_part part ≡ assignments_part (map seen_part parts.old)) }
 {
-    let mut parts = parts.into_iter();
     match (parts.next(), parts.next()) {
         (None, _) => Ok(Part::Assignments(Vec::new(alloc))),
         (Some(Part::Assignment(assignment)), Some(Part::Assignments(mut assignments))) => {
@@ -54,11 +55,10 @@ pub(crate) fn assignments<'a>(alloc: Global, parts: Vec<Part<'a>>) -> Result<Par
 }
 
 // assignment = name "=" number ";"
-pub(crate) fn assignment<'a>(parts: Vec<Part<'a>>) -> Part<'a>
-    requires { IsMeant (assignment_part (map seen_part parts.items)) }
-    ensures { seen_part result ≡ assignment_part (map seen_part parts.entry.items) }
+pub(crate) fn assignment<'a>(parts: &mut Body<Part<'a>>) -> Part<'a>
+    requires { IsMeant (assignment_part (map seen_part parts.old)) }
+    ensures { seen_part result ≡ assignment_part (map seen_part parts.old) }
 {
-    let mut parts = parts.into_iter();
     match (parts.next(), parts.next(), parts.next()) {
         (Some(Part::Token(name)), Some(Part::Token(_)), Some(Part::Token(number))) => {
             Part::Assignment(PlacedAssignment { name, number })
@@ -68,11 +68,13 @@ pub(crate) fn assignment<'a>(parts: Vec<Part<'a>>) -> Part<'a>
 }
 
 // parameters = "void" | parameter more_parameters
-pub(crate) fn parameters<'a>(alloc: Global, parts: Vec<Part<'a>>) -> Result<Part<'a>, AllocError>
-    requires { IsMeant (parameters_part (map seen_part parts.items)) }
-    ensures { IfOk result (λ part. seen_part part ≡ parameters_part (map seen_part parts.entry.items)) }
+pub(crate) fn parameters<'a>(
+    alloc: Global,
+    parts: &mut Body<Part<'a>>,
+) -> Result<Part<'a>, AllocError>
+    requires { IsMeant (parameters_part (map seen_part parts.old)) }
+    ensures { IfOk result (λ part. seen_part part ≡ parameters_part (map seen_part parts.old)) }
 {
-    let mut parts = parts.into_iter();
     match (parts.next(), parts.next()) {
         (Some(Part::Token(_)), None) => Ok(Part::Tokens(Vec::new(alloc))),
         (Some(Part::Token(name)), Some(Part::Tokens(mut names))) => {
@@ -86,12 +88,11 @@ pub(crate) fn parameters<'a>(alloc: Global, parts: Vec<Part<'a>>) -> Result<Part
 // more_parameters = {"," parameter}
 pub(crate) fn more_parameters<'a>(
     alloc: Global,
-    parts: Vec<Part<'a>>,
+    parts: &mut Body<Part<'a>>,
 ) -> Result<Part<'a>, AllocError>
-    requires { IsMeant (more_parameters_part (map seen_part parts.items)) }
-    ensures { IfOk result (λ part. seen_part part ≡ more_parameters_part (map seen_part parts.entry.items)) }
+    requires { IsMeant (more_parameters_part (map seen_part parts.old)) }
+    ensures { IfOk result (λ part. seen_part part ≡ more_parameters_part (map seen_part parts.old)) }
 {
-    let mut parts = parts.into_iter();
     match (parts.next(), parts.next(), parts.next()) {
         (None, _, _) => Ok(Part::Tokens(Vec::new(alloc))),
         (Some(Part::Token(_)), Some(Part::Token(name)), Some(Part::Tokens(mut names))) => {
@@ -103,11 +104,10 @@ pub(crate) fn more_parameters<'a>(
 }
 
 // parameter = "int" name
-pub(crate) fn parameter<'a>(parts: Vec<Part<'a>>) -> Part<'a>
-    requires { IsMeant (parameter_part (map seen_part parts.items)) }
-    ensures { seen_part result ≡ parameter_part (map seen_part parts.entry.items) }
+pub(crate) fn parameter<'a>(parts: &mut Body<Part<'a>>) -> Part<'a>
+    requires { IsMeant (parameter_part (map seen_part parts.old)) }
+    ensures { seen_part result ≡ parameter_part (map seen_part parts.old) }
 {
-    let mut parts = parts.into_iter();
     match (parts.next(), parts.next()) {
         (Some(Part::Token(_)), Some(Part::Token(name))) => Part::Token(name),
         _ => unreachable!(),
@@ -115,11 +115,10 @@ pub(crate) fn parameter<'a>(parts: Vec<Part<'a>>) -> Part<'a>
 }
 
 // local = "int" name ";"
-pub(crate) fn local<'a>(parts: Vec<Part<'a>>) -> Part<'a>
-    requires { IsMeant (local_part (map seen_part parts.items)) }
-    ensures { seen_part result ≡ local_part (map seen_part parts.entry.items) }
+pub(crate) fn local<'a>(parts: &mut Body<Part<'a>>) -> Part<'a>
+    requires { IsMeant (local_part (map seen_part parts.old)) }
+    ensures { seen_part result ≡ local_part (map seen_part parts.old) }
 {
-    let mut parts = parts.into_iter();
     match (parts.next(), parts.next()) {
         (Some(Part::Token(_)), Some(Part::Token(name))) => Part::Token(name),
         _ => unreachable!(),
@@ -127,11 +126,13 @@ pub(crate) fn local<'a>(parts: Vec<Part<'a>>) -> Part<'a>
 }
 
 // statements = {statement}
-pub(crate) fn statements<'a>(alloc: Global, parts: Vec<Part<'a>>) -> Result<Part<'a>, AllocError>
-    requires { IsMeant (statements_part (map seen_part parts.items)) }
-    ensures { IfOk result (λ part. seen_part part ≡ statements_part (map seen_part parts.entry.items)) }
+pub(crate) fn statements<'a>(
+    alloc: Global,
+    parts: &mut Body<Part<'a>>,
+) -> Result<Part<'a>, AllocError>
+    requires { IsMeant (statements_part (map seen_part parts.old)) }
+    ensures { IfOk result (λ part. seen_part part ≡ statements_part (map seen_part parts.old)) }
 {
-    let mut parts = parts.into_iter();
     match (parts.next(), parts.next()) {
         (None, _) => Ok(Part::Statements(Vec::new(alloc))),
         (Some(Part::Statement(statement)), Some(Part::Statements(mut statements))) => {
@@ -143,11 +144,10 @@ pub(crate) fn statements<'a>(alloc: Global, parts: Vec<Part<'a>>) -> Result<Part
 }
 
 // condition = name compared
-pub(crate) fn condition<'a>(parts: Vec<Part<'a>>) -> Part<'a>
-    requires { IsMeant (condition_part (map seen_part parts.items)) }
-    ensures { seen_part result ≡ condition_part (map seen_part parts.entry.items) }
+pub(crate) fn condition<'a>(parts: &mut Body<Part<'a>>) -> Part<'a>
+    requires { IsMeant (condition_part (map seen_part parts.old)) }
+    ensures { seen_part result ≡ condition_part (map seen_part parts.old) }
 {
-    let mut parts = parts.into_iter();
     match (parts.next(), parts.next()) {
         (Some(Part::Token(name)), Some(Part::Maybe(number))) => Part::Compared(name, number),
         _ => unreachable!(),
@@ -155,11 +155,10 @@ pub(crate) fn condition<'a>(parts: Vec<Part<'a>>) -> Part<'a>
 }
 
 // compared = ["==" number]
-pub(crate) fn compared<'a>(parts: Vec<Part<'a>>) -> Part<'a>
-    requires { IsMeant (compared_part (map seen_part parts.items)) }
-    ensures { seen_part result ≡ compared_part (map seen_part parts.entry.items) }
+pub(crate) fn compared<'a>(parts: &mut Body<Part<'a>>) -> Part<'a>
+    requires { IsMeant (compared_part (map seen_part parts.old)) }
+    ensures { seen_part result ≡ compared_part (map seen_part parts.old) }
 {
-    let mut parts = parts.into_iter();
     match (parts.next(), parts.next()) {
         (None, _) => Part::Maybe(None),
         (Some(Part::Token(_)), Some(Part::Token(number))) => Part::Maybe(Some(number)),
@@ -168,11 +167,10 @@ pub(crate) fn compared<'a>(parts: Vec<Part<'a>>) -> Part<'a>
 }
 
 // item = number | name
-pub(crate) fn item<'a>(parts: Vec<Part<'a>>) -> Part<'a>
-    requires { IsMeant (item_part (map seen_part parts.items)) }
-    ensures { seen_part result ≡ item_part (map seen_part parts.entry.items) }
+pub(crate) fn item<'a>(parts: &mut Body<Part<'a>>) -> Part<'a>
+    requires { IsMeant (item_part (map seen_part parts.old)) }
+    ensures { seen_part result ≡ item_part (map seen_part parts.old) }
 {
-    let mut parts = parts.into_iter();
     match parts.next() {
         Some(Part::Token(item)) => Part::Token(item),
         _ => unreachable!(),
@@ -180,11 +178,10 @@ pub(crate) fn item<'a>(parts: Vec<Part<'a>>) -> Part<'a>
 }
 
 // tests = "==" number more_tests
-pub(crate) fn tests<'a>(parts: Vec<Part<'a>>) -> Part<'a>
-    requires { IsMeant (tests_part (map seen_part parts.items)) }
-    ensures { seen_part result ≡ tests_part (map seen_part parts.entry.items) }
+pub(crate) fn tests<'a>(parts: &mut Body<Part<'a>>) -> Part<'a>
+    requires { IsMeant (tests_part (map seen_part parts.old)) }
+    ensures { seen_part result ≡ tests_part (map seen_part parts.old) }
 {
-    let mut parts = parts.into_iter();
     match (parts.next(), parts.next(), parts.next()) {
         (Some(Part::Token(_)), Some(Part::Token(number)), Some(Part::Tests(tests))) => {
             Part::Behind(number, tests)
@@ -194,11 +191,13 @@ pub(crate) fn tests<'a>(parts: Vec<Part<'a>>) -> Part<'a>
 }
 
 // more_tests = {"||" test}
-pub(crate) fn more_tests<'a>(alloc: Global, parts: Vec<Part<'a>>) -> Result<Part<'a>, AllocError>
-    requires { IsMeant (more_tests_part (map seen_part parts.items)) }
-    ensures { IfOk result (λ part. seen_part part ≡ more_tests_part (map seen_part parts.entry.items)) }
+pub(crate) fn more_tests<'a>(
+    alloc: Global,
+    parts: &mut Body<Part<'a>>,
+) -> Result<Part<'a>, AllocError>
+    requires { IsMeant (more_tests_part (map seen_part parts.old)) }
+    ensures { IfOk result (λ part. seen_part part ≡ more_tests_part (map seen_part parts.old)) }
 {
-    let mut parts = parts.into_iter();
     match (parts.next(), parts.next(), parts.next()) {
         (None, _, _) => Ok(Part::Tests(Vec::new(alloc))),
         (Some(Part::Token(_)), Some(Part::Test(test)), Some(Part::Tests(mut tests))) => {
@@ -210,11 +209,10 @@ pub(crate) fn more_tests<'a>(alloc: Global, parts: Vec<Part<'a>>) -> Result<Part
 }
 
 // test = name "==" number
-pub(crate) fn test<'a>(parts: Vec<Part<'a>>) -> Part<'a>
-    requires { IsMeant (test_part (map seen_part parts.items)) }
-    ensures { seen_part result ≡ test_part (map seen_part parts.entry.items) }
+pub(crate) fn test<'a>(parts: &mut Body<Part<'a>>) -> Part<'a>
+    requires { IsMeant (test_part (map seen_part parts.old)) }
+    ensures { seen_part result ≡ test_part (map seen_part parts.old) }
 {
-    let mut parts = parts.into_iter();
     match (parts.next(), parts.next(), parts.next()) {
         (Some(Part::Token(name)), Some(Part::Token(_)), Some(Part::Token(number))) => {
             Part::Test(PlacedTest { name, number })

@@ -161,7 +161,7 @@ impl<'a> Scope<'a> {
             → Leads whole (λ made. (map (statement_seen frame.placed) made.items ≡ map statement_of (map seen_statement statements.now))
             × KnowsMore unit frame whole words self.new) result }
     {
-        let mut all = Vec::new(alloc);
+        let mut all = Vec::with_capacity(alloc, statements.len())?;
         for statement in statements {
             push(&mut all, self.statement(statement)?)?;
         }

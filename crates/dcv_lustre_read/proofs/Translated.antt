@@ -1,6 +1,7 @@
 -- What trees stand for, by the parts of the code.
 use Rattle.std.proofs.Common.{◌≡◌, ℕ, zero, suc, ◌≤◌, List, [], ◌∷◌, length, refl, sym, ap, ◌∙◌, subst, arith}
-use Rattle.std.specs.Prelude.{slice_index_or}
+use Rattle.std.specs.Prelude.{Box, slice_index_or}
+use Rattle.std.specs.declared.alloc.Global.{Global}
 use Rattle.dcv_grammar.specs.Trees.{Nodes, done, leaf, node}
 use Rattle.dcv_lexer.specs.Cuts.{Token}
 use Rattle.dcv_lustre.specs.Placed.{PlacedNode}
@@ -48,6 +49,6 @@ pub no_rule : (rule : ℕ) (parts : List Part) → 20 ≤ rule → IsMeant (acti
 no_rule rule parts there is = subst IsMeant (far actions rule parts there) is
 
 -- the part of a node is the code's
-pub node_in : (part : CodePart) (placed : PlacedNode) → seen_part part ≡ ANode placed → ((found : CodeNode) → part ≡ Node found → ⊥) → ⊥
+pub node_in : (part : CodePart) (placed : PlacedNode) → seen_part part ≡ ANode placed → ((found : Box CodeNode Global) → part ≡ Node found → ⊥) → ⊥
 node_in (Node found) placed is none = none found refl
 node_in _ placed is none = cc

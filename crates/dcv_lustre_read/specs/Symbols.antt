@@ -23,7 +23,7 @@ seen_part (CodeCompared name number) = Compared (seen name) (option_map seen num
 seen_part (CodeChoice arms otherwise) = Choice (reverse (map seen_arm arms.items)) (seen otherwise)
 seen_part (CodeTest test) = ATest (seen_test test)
 seen_part (CodeTests tests) = Tests (reverse (map seen_test tests.items))
-seen_part (CodeNode placed) = ANode (seen_node placed)
+seen_part (CodeNode placed) = ANode (seen_node placed.value)
 
 abbrev pub IsMeant : Part → Type 0
 IsMeant Nothing = ⊥

@@ -1,6 +1,5 @@
 // What the rules of right sides stand for, by the parts of one of their bodies.
 ghost use Rattle.std.specs.Prelude.{◌≡◌, ◌∷◌, [], map, reverse, option_map, IfOk};
-ghost use Rattle.std.specs.Vec.Iter.{into_iter_items};
 ghost use Rattle.dcv_observer.specs.Left.{seen};
 ghost use Rattle.dcv_lustre.specs.Actions.{AToken, ARight, Maybe, Choice, right_part, choice_part};
 ghost use Rattle.dcv_lustre_read.specs.Seen.{seen_arm, seen_test, seen_right};
@@ -10,16 +9,15 @@ ghost use Rattle.dcv_lustre_read.specs.Translated.{behind_condition, otherwise_p
 use crate::parts::Part;
 use crate::placed::{PlacedArm, PlacedRight, PlacedTest};
 use dcv_observer::Item;
+use dcv_translation::Body;
 use std::alloc::{AllocError, Global};
-use std::vec::IntoIter;
 
 // choice = {"if" condition "then" item "else"} item
 #[tactic(auto, using(crate::proofs::Bodies::choice_in_steps))]
-pub(crate) fn choice<'a>(alloc: Global, parts: Vec<Part<'a>>) -> Result<Part<'a>, AllocError>
-    requires { IsMeant (choice_part (map seen_part parts.items)) }
-    ensures { IfOk result (λ part. seen_part part ≡ choice_part (map seen_part parts.entry.items)) }
+pub(crate) fn choice<'a>(alloc: Global, parts: &mut Body<Part<'a>>) -> Result<Part<'a>, AllocError>
+    requires { IsMeant (choice_part (map seen_part parts.old)) }
+    ensures { IfOk result (λ part. seen_part part ≡ choice_part (map seen_part parts.old)) }
 {
-    let mut parts = parts.into_iter();
     match (parts.next(), parts.next()) {
         (Some(Part::Token(item)), None) => Ok(Part::Choice(Vec::new(alloc), item)),
         (Some(Part::Token(_)), Some(Part::Compared(name, number))) => {
@@ -34,11 +32,11 @@ pub(crate) fn choice<'a>(alloc: Global, parts: Vec<Part<'a>>) -> Result<Part<'a>
 fn longer_choice<'a>(
     name: Item<'a>,
     number: Option<Item<'a>>,
-    mut parts: IntoIter<Part<'a>>,
+    parts: &mut Body<Part<'a>>,
 ) -> Result<(Vec<PlacedArm<'a>>, Item<'a>), AllocError>
-    requires { IsMeant (behind_condition (seen name) (option_map seen number) (map seen_part (into_iter_items parts))) }
+    requires { IsMeant (behind_condition (seen name) (option_map seen number) (map seen_part parts.old)) }
     ensures { IfOk result (λ made. Choice (reverse (map seen_arm made.0.items)) (seen made.1)
-        ≡ behind_condition (seen name.entry) (option_map seen number.entry) (map seen_part (into_iter_items parts.entry))) }
+        ≡ behind_condition (seen name.entry) (option_map seen number.entry) (map seen_part parts.old)) }
 {
     match (parts.next(), parts.next()) {
         (Some(Part::Token(_)), Some(Part::Token(item))) => {
@@ -51,28 +49,40 @@ fn longer_choice<'a>(
 // What stands behind the first arm.
 fn other_arms<'a>(
     arm: PlacedArm<'a>,
-    mut parts: IntoIter<Part<'a>>,
+    parts: &mut Body<Part<'a>>,
 ) -> Result<(Vec<PlacedArm<'a>>, Item<'a>), AllocError>
-    requires { IsMeant (otherwise_part (seen_arm arm) (map seen_part (into_iter_items parts))) }
+    requires { IsMeant (otherwise_part (seen_arm arm) (map seen_part parts.old)) }
     ensures { IfOk result (λ made. Choice (reverse (map seen_arm made.0.items)) (seen made.1)
-        ≡ otherwise_part (seen_arm arm.entry) (map seen_part (into_iter_items parts.entry))) }
+        ≡ otherwise_part (seen_arm arm.entry) (map seen_part parts.old)) }
 {
     match (parts.next(), parts.next()) {
-        (Some(Part::Token(_)), Some(Part::Choice(mut arms, otherwise))) => {
-            arms.push(arm)?;
-            Ok((arms, otherwise))
+        (Some(Part::Token(_)), Some(Part::Choice(arms, otherwise))) => {
+            Ok((with_arm(arm, arms)?, otherwise))
         }
         _ => unreachable!(),
     }
 }
 
+// An arm before others, from the last to the first. Most choices have one, for which there is room and no more.
+fn with_arm<'a>(
+    arm: PlacedArm<'a>,
+    mut arms: Vec<PlacedArm<'a>>,
+) -> Result<Vec<PlacedArm<'a>>, AllocError>
+    ensures { IfOk result (λ all. reverse (map seen_arm all.items) ≡ seen_arm arm.entry ∷ reverse (map seen_arm arms.entry.items)) }
+{
+    if arms.is_empty() {
+        arms.reserve_exact(1)?;
+    }
+    arms.push(arm)?;
+    Ok(arms)
+}
+
 // right = literal delay | "if" condition "then" item "else" choice | test more_tests | name
 #[tactic(auto, using(crate::proofs::Bodies::right_in_steps, crate::proofs::Bodies::forwards))]
-pub(crate) fn right<'a>(alloc: Global, parts: Vec<Part<'a>>) -> Result<Part<'a>, AllocError>
-    requires { IsMeant (right_part (map seen_part parts.items)) }
-    ensures { IfOk result (λ part. seen_part part ≡ right_part (map seen_part parts.entry.items)) }
+pub(crate) fn right<'a>(alloc: Global, parts: &mut Body<Part<'a>>) -> Result<Part<'a>, AllocError>
+    requires { IsMeant (right_part (map seen_part parts.old)) }
+    ensures { IfOk result (λ part. seen_part part ≡ right_part (map seen_part parts.old)) }
 {
-    let mut parts = parts.into_iter();
     match (parts.next(), parts.next()) {
         (Some(Part::Token(name)), None) => {
             Ok(Part::Right(PlacedRight::Chosen(Vec::new(alloc), name)))

@@ -100,7 +100,7 @@ impl<'a> Scope<'a> {
             × KnowsAll node (map equation_of (map seen_equation equations.now)) self.new.declared (map seen_row self.new.names.items)
             × IsLeft whole words keeps) result }
     {
-        let mut all = Vec::new(alloc);
+        let mut all = Vec::with_capacity(alloc, equations.len())?;
         for equation in equations {
             push(&mut all, self.equation(alloc, equation)?)?;
         }

@@ -94,7 +94,7 @@ impl<'a> Scope<'a> {
             → Leads whole (λ made. (map local_seen made.items ≡ map local_of (map seen_local locals.now))
             × IsDeclaring node whole others others_keep self.new.declared (map seen_row self.new.names.items) [] [] []) result }
     {
-        let mut all = Vec::new(alloc);
+        let mut all = Vec::with_capacity(alloc, locals.len())?;
         for local in locals {
             let kind = kind_at(&local.kind);
             self.declare(local.name.bytes, local.name.start, kind, false)?;

@@ -19,5 +19,6 @@ pub(crate) enum Part<'a> {
     Choice(Vec<PlacedArm<'a>>, Item<'a>),
     Test(PlacedTest<'a>),
     Tests(Vec<PlacedTest<'a>>),
-    Node(PlacedNode<'a>),
+    // On the heap, since each part has the size of the largest.
+    Node(Box<PlacedNode<'a>>),
 }

@@ -45,7 +45,7 @@ pub(crate) fn placed_node<'a>(alloc: Global, text: &'a [u8]) -> Result<PlacedNod
         return Err(ObsFault::Syntax { at });
     }
     match translate(alloc, &NodeTranslation { alloc }, text)? {
-        Part::Node(placed) => Ok(placed),
+        Part::Node(placed) => Ok(Box::into_inner(placed)),
         _ => unreachable!(),
     }
 }

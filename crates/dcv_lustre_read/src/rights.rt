@@ -120,7 +120,7 @@ impl<'a> Scope<'a> {
             (flat_map (keeps_arm node (node.inputs ++ earlier) (seen_kind kind)) (map arm_of (map seen_arm arms.now)) ++ keeps)
             → Leads whole (λ seen. (map (arm_seen (names_of node)) seen.items ≡ map arm_of (map seen_arm arms.now)) × IsLeft whole words keeps) result }
     {
-        let mut all = Vec::new(alloc);
+        let mut all = Vec::with_capacity(alloc, arms.len())?;
         for arm in arms {
             push(&mut all, self.arm(arm, kind)?)?;
         }
@@ -135,7 +135,7 @@ impl<'a> Scope<'a> {
             (keeps_tests node (node.inputs ++ earlier) (map test_of (map seen_test tests.now)) ++ keeps)
             → Leads whole (λ seen. (map (test_seen (names_of node)) seen.items ≡ map test_of (map seen_test tests.now)) × IsLeft whole words keeps) result }
     {
-        let mut all = Vec::new(alloc);
+        let mut all = Vec::with_capacity(alloc, tests.len())?;
         for test in tests {
             push(&mut all, self.test(test)?)?;
         }

@@ -8,7 +8,7 @@ use crate::{choices, nodes, rules, tables};
 use dcv_grammar::grammar::ContextFree;
 use dcv_lexer::Lexicon;
 use dcv_observer::Item;
-use dcv_translation::Translation;
+use dcv_translation::{Body, Translation};
 use std::alloc::{AllocError, Global};
 
 // From texts to nodes.
@@ -42,21 +42,21 @@ impl<'a> Translation<'a> for NodeTranslation {
         Part::Token(item)
     }
 
-    fn rule(&self, rule: u8, parts: Vec<Part<'a>>) -> Result<Part<'a>, AllocError>
-        requires { IsOfBody scheme rule (map seen_part parts.items) }
-        ensures { IfOk result (λ part. seen_part part ≡ action rule (map seen_part parts.entry.items)) }
+    fn rule(&self, rule: u8, parts: &mut Body<Part<'a>>) -> Result<Part<'a>, AllocError>
+        requires { IsOfBody scheme rule (map seen_part parts.old) }
+        ensures { IfOk result (λ part. seen_part part ≡ action rule (map seen_part parts.old)) }
     {
         act(self.alloc, rule, parts)
     }
 }
 
 // The action of a rule.
-fn act<'a>(alloc: Global, rule: u8, parts: Vec<Part<'a>>) -> Result<Part<'a>, AllocError>
-    requires { IsMeant (action rule (map seen_part parts.items)) }
-    ensures { IfOk result (λ part. seen_part part ≡ action rule (map seen_part parts.entry.items)) }
+fn act<'a>(alloc: Global, rule: u8, parts: &mut Body<Part<'a>>) -> Result<Part<'a>, AllocError>
+    requires { IsMeant (action rule (map seen_part parts.old)) }
+    ensures { IfOk result (λ part. seen_part part ≡ action rule (map seen_part parts.old)) }
 {
     match rule {
-        tables::NODE => nodes::node(parts),
+        tables::NODE => nodes::node(alloc, parts),
         tables::MORE_INPUTS => rules::more_inputs(alloc, parts),
         tables::INPUT => Ok(rules::input(parts)),
         tables::VARIABLES => rules::variables(alloc, parts),

@@ -8,8 +8,10 @@
 //! In a list `xs = x xs | nothing` the last action is that of the first `x`, so a list is complete from its last element on.
 #![tactic(auto)]
 
+mod body;
 mod machine;
 mod translation;
 
+pub use body::Body;
 pub use machine::translate;
 pub use translation::Translation;

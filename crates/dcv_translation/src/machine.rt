@@ -10,6 +10,7 @@ ghost use Rattle.dcv_translation.specs.Scheme.{IsOfBody, StandsFor};
 ghost use Rattle.dcv_translation.specs.UnderWay.{step_of, IsUnderWay, IsSomewhere, GoesOn, with_class};
 ghost use Rattle.dcv_translation.specs.declared.machine.Step.TheVariants.{Rule as RuleStep, Close as CloseStep};
 
+use crate::body::Body;
 use crate::translation::Translation;
 use dcv_grammar::grammar::{ContextFree, Symbol};
 use dcv_observer::{Item, Items};
@@ -33,6 +34,8 @@ pub(crate) struct Machine<'a, 't, T: Translation<'a>> {
     grammar: ContextFree<'a>,
     steps: Vec<Step>,
     parts: Vec<T::Part>,
+    // of the rule whose action comes next
+    body: Body<T::Part>,
 }
 
 /// What the text stands for: the part of its one derivation tree. It goes through the text once.
@@ -69,6 +72,7 @@ impl<'a, 't, T: Translation<'a>> Machine<'a, 't, T> {
             grammar,
             steps,
             parts: Vec::new(alloc),
+            body: Body::new(alloc),
         })
     }
 
@@ -150,8 +154,8 @@ impl<'a, 't, T: Translation<'a>> Machine<'a, 't, T> {
             ≡ take first (map T.meaning self.old.parts.items)
             ++ T.scheme.action rule (drop first (map T.meaning self.old.parts.items)) ∷ []) }
     {
-        let parts = self.parts.split_off(first)?;
-        let part = self.translation.rule(rule, parts)?;
+        self.body.refill(&mut self.parts, first)?;
+        let part = self.translation.rule(rule, &mut self.body)?;
         self.parts.push(part)?;
         Ok(())
     }

@@ -6,6 +6,7 @@ ghost use Rattle.dcv_lexer.specs.Lexicon.{lexicon_of, is_orderly};
 ghost use Rattle.dcv_observer.specs.Left.{seen};
 ghost use Rattle.dcv_translation.specs.Scheme.{Scheme, IsOfBody};
 
+use crate::body::Body;
 use dcv_grammar::grammar::ContextFree;
 use dcv_lexer::Lexicon;
 use dcv_observer::Item;
@@ -40,7 +41,7 @@ pub trait Translation<'a> {
         ensures { meaning result ≡ scheme.of_token (seen item.entry) };
 
     /// What a rule stands for, by the parts of one of its bodies.
-    fn rule(&self, rule: u8, parts: Vec<Self::Part>) -> Result<Self::Part, AllocError>
-        requires { IsOfBody scheme rule (map meaning parts.items) }
-        ensures { IfOk result (λ part. meaning part ≡ scheme.action rule (map meaning parts.items)) };
+    fn rule(&self, rule: u8, body: &mut Body<Self::Part>) -> Result<Self::Part, AllocError>
+        requires { IsOfBody scheme rule (map meaning body.old) }
+        ensures { IfOk result (λ part. meaning part ≡ scheme.action rule (map meaning body.old)) };
 }

@@ -18,7 +18,7 @@ returns-in_err-statement c = λ (frame : Frame) knows (unit : CUnit) lefts (whol
     let sofar = subst (λ (later : List PlacedStatement). AreStatementsSoFar unit frame whole words items c.loop-statement.all.items later c.loop-statement.self)
     (drop_more items i _ c.loop-statement-test.true)
     (c.loop-statement.invariant.1 frame knows unit lefts whole words left) in
-    leads_on whole _ c.from_residual.result c.in_err-statement.field-0.0 c.from_residual.ensures.1
+    leads_on whole _ c.from_residual-in_err-statement.result c.in_err-statement.field-0.0 c.from_residual-in_err-statement.ensures.1
     (c.in_err-statement.ensures (with_known sofar.known frame) sofar.knows unit lefts whole _ _
     (statement_left unit frame whole words items c.loop-statement.all.items _ (drop (i + 1) items) c.loop-statement.self sofar))
 

@@ -4,4 +4,4 @@ use Rattle.dcv_c_read.proofs.Translated.{body_is_meant}
 use Rattle.dcv_c_read.proofs.translation.UnitTranslationTranslation.rule.Goals as goal
 
 pub act-requires : goal.act-requires
-act-requires c = body_is_meant c.args.rule (map seen_part c.args.parts.items) c.requires
+act-requires c = body_is_meant c.args.rule (map seen_part c.args.parts.now) c.requires

@@ -17,7 +17,7 @@ pub returns-in_err-arm : goal.returns-in_err-arm
 returns-in_err-arm c = λ (node : Node) (earlier : Names) knows (whole : Option ℕ) (words : List Token) (keeps : List Bool) left.
     let items = c.args.arms.now in
     let i = c.loop-arm.arm-index in
-    leads_on whole _ c.from_residual.result c.in_err-arm.field-0.0 c.from_residual.ensures.1
+    leads_on whole _ c.from_residual-in_err-arm.result c.in_err-arm.field-0.0 c.from_residual-in_err-arm.ensures.1
     (c.in_err-arm.ensures node earlier knows whole _ _
     (arm_left node (node.inputs ++ earlier) (seen_kind c.args.kind) whole words keeps (drop i items) _ (drop (i + 1) items) (drop_more items i _ c.loop-arm-test.true)
     (c.loop-arm.invariant.1 node earlier knows whole words keeps left).1))

@@ -21,7 +21,7 @@ returns-in_err-equation c = λ (node : Node) knows (whole : Option ℕ) (words :
     drop_more items i c.equation-item.result c.loop-equation-test.true ∙ ap (λ (x : CodeEquation). x ∷ drop (i + 1) items) (sym c.equation-item.is) in
     let sofar = subst (λ (later : List CodeEquation). AreEquationsSoFar node whole words keeps items c.loop-equation.all.items later names rows) split
     (c.loop-equation.invariant.1 node knows whole words keeps left) in
-    leads_on whole _ c.from_residual.result c.in_err-equation.field-0.0 c.from_residual.ensures.1
+    leads_on whole _ c.from_residual-in_err-equation.result c.in_err-equation.field-0.0 c.from_residual-in_err-equation.ensures.1
     (c.in_err-equation.ensures node sofar.earlier sofar.knows whole _ _ (equation_left node whole words keeps items c.loop-equation.all.items _ (drop (i + 1) items) names rows sofar))
 
 pub loop-equation-preserved : goal.loop-equation-preserved

@@ -17,7 +17,7 @@ returns-in_err-declare c = λ (node : Node) (whole : Option ℕ) (others : List 
     let rows = map seen_row c.loop-local.self.names.items in
     let sofar = subst (λ (rest : List CodeLocal). AreLocalsSoFar node whole others others_keep items c.loop-local.all.items rest names rows) (drop_more items i _ c.loop-local-test.true)
     (c.loop-local.invariant node whole others others_keep d behind) in
-    leads_on whole _ c.from_residual.result c.in_err-declare.field-0.0 c.from_residual.ensures.1
+    leads_on whole _ c.from_residual-in_err-declare.result c.in_err-declare.field-0.0 c.from_residual-in_err-declare.ensures.1
     (c.in_err-declare.ensures node whole others others_keep _ _ _ _ (told_here (sym c.kind_at-kind.ensures) sofar.declaring) (behind_inputs node (length names) sofar.behind))
 
 pub loop-local-preserved : goal.loop-local-preserved

@@ -16,7 +16,7 @@ pub returns-in_err-test : goal.returns-in_err-test
 returns-in_err-test c = λ (node : Node) (earlier : Names) knows (whole : Option ℕ) (words : List Token) (keeps : List Bool) left.
     let items = c.args.tests.now in
     let i = c.loop-test.test-index in
-    leads_on whole _ c.from_residual.result c.in_err-test.field-0.0 c.from_residual.ensures.1
+    leads_on whole _ c.from_residual-in_err-test.result c.in_err-test.field-0.0 c.from_residual-in_err-test.ensures.1
     (tests_fault node (node.inputs ++ earlier) whole words keeps (drop i items) _ (drop (i + 1) items) c.in_err-test.field-0.0 (drop_more items i _ c.loop-test-test.true)
     (c.loop-test.invariant.1 node earlier knows whole words keeps left).1 (c.in_err-test.ensures node earlier knows))
 

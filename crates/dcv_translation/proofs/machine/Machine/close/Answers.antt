@@ -7,8 +7,7 @@ pub rule-requires : goal.rule-requires
 rule-requires g c κs =
     let meaning = g.T.Translation.meaning in
     let old = c.args.self.now.parts.items in
-    let own : drop c.args.first (map meaning old) ≡ map meaning c.in_ok-parts.parts.items =
-    drop-map meaning c.args.first old ∙ ap (map meaning) (sym c.in_ok-parts.ensures.tail) in
+    let own : drop c.args.first (map meaning old) ≡ map meaning c.refill.new.self = drop-map meaning c.args.first old ∙ ap (map meaning) (sym c.in_ok-refill.ensures.parts) in
     ((refl, tt), subst (IsOfBody g.T.Translation.scheme c.args.rule) own c.requires.body)
 
 pub returns-clause-parts : goal.returns-clause-parts
@@ -17,10 +16,8 @@ returns-clause-parts g c =
     let action = g.T.Translation.scheme.action c.args.rule in
     let old = c.args.self.now.parts.items in
     let first = c.args.first in
-    let own : map meaning c.in_ok-parts.parts.items ≡ drop first (map meaning old) =
-    ap (map meaning) c.in_ok-parts.ensures.tail ∙ sym (drop-map meaning first old) in
-    let before : map meaning c.split_off.new.self.items ≡ take first (map meaning old) =
-    ap (map meaning) c.in_ok-parts.ensures.items ∙ sym (take-map meaning first old) in
+    let own : map meaning c.refill.new.self ≡ drop first (map meaning old) = ap (map meaning) c.in_ok-refill.ensures.parts ∙ sym (drop-map meaning first old) in
+    let before : map meaning c.refill.new.stack.items ≡ take first (map meaning old) = ap (map meaning) c.in_ok-refill.ensures.stack ∙ sym (take-map meaning first old) in
     ap (map meaning) c.in_ok-push.ensures.items
-    ∙ map-append meaning c.split_off.new.self.items (c.in_ok-part.part ∷ [])
+    ∙ map-append meaning c.refill.new.stack.items (c.in_ok-part.part ∷ [])
     ∙ (λ i. before i ++ (c.in_ok-part.ensures ∙ ap action own) i ∷ [])

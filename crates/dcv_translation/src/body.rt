@@ -1,0 +1,56 @@
+// The parts of a body, which the action of its rule takes one after another.
+ghost use Rattle.std.specs.Prelude.{◌≡◌, ◌↔◌, ◌≤◌, ◌<◌, ◌++◌, [], length, take, drop, reverse, IsSome, OnOk};
+ghost use Rattle.std.specs.Option.{option_to_list};
+
+use std::alloc::{AllocError, Global};
+use std::marker::Model;
+
+/// What the symbols of a body stand for, from the first one on. One is the body of all rules in turn, so an action takes no memory for it.
+#[derive(Drop)]
+pub struct Body<P> {
+    // from the last one to the first
+    parts: Vec<P>,
+}
+
+impl<P> Model for Body<P> {
+    ghost use Rattle.std.specs.Prelude.{List, reverse};
+
+    ghost Value = { List P };
+
+    ghost view = { λ body. reverse body.parts.items };
+}
+
+impl<P: Drop> Body<P> {
+    // No parts.
+    pub(crate) fn new(alloc: Global) -> Self
+        ensures { result ≡ [] }
+    {
+        Body {
+            parts: Vec::new(alloc),
+        }
+    }
+
+    /// Takes the next part.
+    pub fn next(&mut self) -> Option<P>
+        ensures parts { self.old ≡ option_to_list result ++ self.new }
+        ensures variant { IsSome result ↔ (0 < length self.old) }
+    {
+        self.parts.pop()
+    }
+
+    // Takes the parts from the first one on off a stack, in the place of those that are left.
+    pub(crate) fn refill(&mut self, stack: &mut Vec<P>, first: usize) -> Result<(), AllocError>
+        requires { first ≤ length stack.old.items }
+        ensures stack { OnOk result (stack.new.items ≡ take first stack.old.items) }
+        ensures parts { OnOk result (self.new ≡ drop first stack.old.items) }
+    {
+        self.parts.clear();
+        while first < stack.len() {
+            let Some(part) = stack.pop() else {
+                unreachable!()
+            };
+            self.parts.push(part)?;
+        }
+        Ok(())
+    }
+}
