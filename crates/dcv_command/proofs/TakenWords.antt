@@ -204,8 +204,22 @@ stop_asks None before no_fault e = e
 stop_asks (Some p) before no_fault e =
     found_asks p.0 p.1 (built program).subs (
       (λ _. check_does p.1),
-      ((λ _. automaton_does p.1), ((λ _. lustre_does p.1), ((λ _. c_does p.1), ((λ _. all_does p.1), ((λ _. certify_does p.1),
-      ((λ _. implies_does p.1), ((λ _. replay_lustre_does p.1), ((λ _. replay_c_does p.1), (no_help, tt))))))))),
+      (
+        (λ _. automaton_does p.1),
+        (
+          (λ _. lustre_does p.1),
+          (
+            (λ _. c_does p.1),
+            (
+              (λ _. all_does p.1),
+              (
+                (λ _. certify_does p.1),
+                ((λ _. implies_does p.1), ((λ _. replay_lustre_does p.1), ((λ _. replay_c_does p.1), (no_help, tt)))),
+              ),
+            ),
+          ),
+        ),
+      ),
     )
     no_fault e
   where

@@ -212,11 +212,7 @@ fn over_two_formulas<'a>(alloc: Global) -> Result<Command<'a>, AllocError>
 }
 
 // A subcommand over an observer's text and a trace.
-fn over_a_trace<'a>(
-    alloc: Global,
-    name: &'a str,
-    about: &'a str,
-) -> Result<Command<'a>, AllocError>
+fn over_a_trace<'a>(alloc: Global, name: &'a str, about: &'a str) -> Result<Command<'a>, AllocError>
     ensures app { IfOk result (λ command. app_of command ≡ record { top = trace_shape name.entry.now; subs = [] }) }
     ensures local { IfOk result (λ command. (fields_of command).has_globals ≡ false) }
 {
