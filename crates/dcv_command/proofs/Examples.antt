@@ -4,7 +4,8 @@ use Rattle.clap.specs.Words.{is_simple, fault_of}
 use Rattle.clap.proofs.OnLiterals.{clap_on_literals}
 use Rattle.dcv_command.specs.Program.{program}
 use Rattle.dcv_print.specs.declared.report.Kind.TheVariants.{Check, Automaton}
-use Rattle.dcv_command.specs.Request.{Report, Certify, Implies, request_of}
+use Rattle.dcv_command.specs.declared.words.Subset.TheVariants.{C as CText}
+use Rattle.dcv_command.specs.Request.{Report, Certify, Implies, Replay, request_of}
 
 program_is_simple : is_simple program ≡ true
 program_is_simple = refl
@@ -48,3 +49,14 @@ implies_taken = refl
 implies_asked : request_of compared ≡ Some (Implies (codes "door.dc") (codes "other.dc") (record { states = 30000; nodes = 7 }))
 unfolding clap_on_literals
 implies_asked = refl
+
+abbrev replayed : List (List ℕ)
+replayed = codes "replay-c" ∷ codes "door.c" ∷ codes "door.trace" ∷ []
+
+replay_taken : fault_of program replayed ≡ []
+unfolding clap_on_literals
+replay_taken = refl
+
+replay_asked : request_of replayed ≡ Some (Replay CText (codes "door.c") (codes "door.trace"))
+unfolding clap_on_literals
+replay_asked = refl

@@ -14,13 +14,15 @@ use Rattle.clap.proofs.OnLiterals.{clap_on_literals}
 use Rattle.dcv_explore.specs.declared.explorer.Limits.{Limits}
 use Rattle.dcv_print.specs.declared.report.Kind.{Kind}
 use Rattle.dcv_print.specs.declared.report.Kind.TheVariants.{Check, Automaton, Lustre, C, All}
-use Rattle.dcv_command.specs.Program.{most_states, most_nodes, over_a_formula, over_an_automaton, over_two_formulas}
+use Rattle.dcv_command.specs.Program.{most_states, most_nodes, over_a_formula, over_a_trace, over_an_automaton, over_two_formulas}
+use Rattle.dcv_command.specs.declared.words.Subset.{Subset}
+use Rattle.dcv_command.specs.declared.words.Subset.TheVariants.{Lustre as LustreText, C as CText}
 use Rattle.dcv_command.specs.Laws.{ListedWordsAreTaken}
 use Rattle.dcv_command.specs.Listed.{AreAllowed, AskFor, IsAllowed, IsFileName, Options, Neither, States, Nodes, StatesThenNodes, NodesThenStates}
-use Rattle.dcv_command.specs.Listed.{limits_given, option_words, report_name}
-use Rattle.dcv_command.specs.Request.{Certify, Implies, Report, Request, implies_in, limits_of, report_in, request_in}
+use Rattle.dcv_command.specs.Listed.{limits_given, option_words, replay_name, report_name}
+use Rattle.dcv_command.specs.Request.{Certify, Implies, Replay, Report, Request, implies_in, limits_of, replay_in, report_in, request_in}
 use Rattle.dcv_command.proofs.Commands.{IsSubcommand, leaf}
-use Rattle.dcv_command.proofs.Commands.{check_is_one, automaton_is_one, lustre_is_one, c_is_one, all_is_one, certify_is_one, implies_is_one}
+use Rattle.dcv_command.proofs.Commands.{check_is_one, automaton_is_one, lustre_is_one, c_is_one, all_is_one, certify_is_one, implies_is_one, replay_lustre_is_one, replay_c_is_one}
 use Rattle.dcv_command.proofs.Plain.{HasNoDash, going}
 use Rattle.dcv_command.proofs.Runs.{EndsWell, Goes, Runs, at_end, more, ask_for, holding, plain_goes, row, waiting_for}
 
@@ -209,5 +211,22 @@ certify_alone name is =
     let runs = more (plain_goes (leaf over_an_automaton) nothing_held idle 1 name (going (holding [] (codes "automaton") name) idle 2) (has_no_dash name is) refl refl refl) at_end in
     ask_for certify_is_one (λ rows. refl) runs (record { no_fault = refl; passes = refl; asked = refl })
 
+-- ---- over an observer's text and a trace
+
+each_replay_of : {name : Text} (is : IsSubcommand name (over_a_trace name)) (subset : Subset) → ((rows : List Row) → request_in name rows ≡ replay_in subset rows)
+    → (observer trace : Text) → IsFileName observer → IsFileName trace → AskFor (name ∷ observer ∷ trace ∷ []) (Replay subset observer trace)
+unfolding clap_on_literals
+each_replay_of {name} is subset named observer trace one other =
+    let middle = going (holding [] (codes "observer") observer) idle 2 in
+    let end = going (holding (row (codes "observer") observer ∷ []) (codes "trace") trace) idle 3 in
+    let last = more (plain_goes (leaf (over_a_trace name)) (holding [] (codes "observer") observer) idle 2 trace end (has_no_dash trace other) refl refl refl) at_end in
+    let runs = more (plain_goes (leaf (over_a_trace name)) nothing_held idle 1 observer middle (has_no_dash observer one) refl refl refl) last in
+    ask_for is named runs (record { no_fault = refl; passes = refl; asked = refl })
+
+each_replay : (subset : Subset) (observer trace : Text) → IsFileName observer → IsFileName trace
+    → AskFor (replay_name subset ∷ observer ∷ trace ∷ []) (Replay subset observer trace)
+each_replay LustreText = each_replay_of replay_lustre_is_one LustreText (λ rows. refl)
+each_replay CText = each_replay_of replay_c_is_one CText (λ rows. refl)
+
 pub listed_words_are_taken : ListedWordsAreTaken
-listed_words_are_taken = record { report = each_report; certify = certify_alone; implies = each_comparison }
+listed_words_are_taken = record { report = each_report; certify = certify_alone; implies = each_comparison; replay = each_replay }

@@ -11,7 +11,9 @@ use Rattle.dcv_explore.specs.declared.explorer.Limits.{Limits}
 use Rattle.dcv_print.specs.declared.report.Kind.{Kind}
 use Rattle.dcv_command.specs.Program.{most_states, most_nodes}
 use Rattle.dcv_print.specs.declared.report.Kind.TheVariants.{Check, Automaton, Lustre, C, All}
-use Rattle.dcv_command.specs.Request.{AreInRange, IsInRange, Request, Report, Certify, Implies, implies_in, limits_among, limits_of, number_in, number_of, report_in, request_in, request_of_subcommand}
+use Rattle.dcv_command.specs.declared.words.Subset.{Subset}
+use Rattle.dcv_command.specs.declared.words.Subset.TheVariants.{Lustre as LustreText, C as CText}
+use Rattle.dcv_command.specs.Request.{AreInRange, IsInRange, Request, Report, Certify, Implies, Replay, replay_in, implies_in, limits_among, limits_of, number_in, number_of, report_in, request_in, request_of_subcommand}
 
 number_is_in_range : (most : ℕ) (text : Option Text) (number : ℕ) → option_and_then (number_of most) text ≡ Some number → (1 ≤ number) × (number ≤ most)
 number_is_in_range most None number is = let wrong : None ≡ Some number = is in cc
@@ -66,6 +68,14 @@ implies_is_in_range rows request is = by (first_of (codes "first") rows) (first_
     by (Some first) (Some second) (Some limits) found is =
         let same : Implies first second limits ≡ request = cc in subst IsInRange same (limits_are_in_range rows limits found)
 
+replay_is_in_range : (subset : Subset) (rows : List Row) (request : Request) → replay_in subset rows ≡ Some request → IsInRange request
+replay_is_in_range subset rows request is = by (first_of (codes "observer") rows) (first_of (codes "trace") rows) is
+  where
+    by : (observer trace : Option Text) → option_and_then (λ one. option_map (Replay subset one) trace) observer ≡ Some request → IsInRange request
+    by None trace is = let wrong : None ≡ Some request = is in cc
+    by (Some observer) None is = let wrong : None ≡ Some request = is in cc
+    by (Some observer) (Some trace) is = let same : Replay subset observer trace ≡ request = cc in subst IsInRange same tt
+
 -- what the subcommand asks for that a chain of tests finds
 module _ (rows : List Row) (request : Request) where
   -- each of some requests that may be read is in range
@@ -90,7 +100,9 @@ module _ (rows : List Row) (request : Request) where
       (either_fine (bytes_eq name (codes "c")) _ _ (report_fine C)
       (either_fine (bytes_eq name (codes "all")) _ _ (report_fine All)
       (either_fine (bytes_eq name (codes "certify")) _ _ (certify_is_in_range (first_of (codes "automaton") rows) request)
-      (either_fine (bytes_eq name (codes "implies")) _ _ (implies_is_in_range rows request) none_fine))))))
+      (either_fine (bytes_eq name (codes "implies")) _ _ (implies_is_in_range rows request)
+      (either_fine (bytes_eq name (codes "replay-lustre")) _ _ (replay_is_in_range LustreText rows request)
+      (either_fine (bytes_eq name (codes "replay-c")) _ _ (replay_is_in_range CText rows request) none_fine))))))))
 
 pub request_is_in_range : (subcommand : Option (Text × List Row)) (request : Request) → request_of_subcommand subcommand ≡ Some request → IsInRange request
 request_is_in_range None request is = let wrong : None ≡ Some request = is in cc

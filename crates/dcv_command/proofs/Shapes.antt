@@ -14,8 +14,9 @@ use Rattle.clap.specs.declared.error.kind.ErrorKind.{ErrorKind}
 use Rattle.clap.specs.declared.parser.matches.ValueSource.{ValueSource}
 use Rattle.clap.specs.declared.parser.matches.ValueSource.TheVariants.{CommandLine}
 use Rattle.dcv_print.specs.declared.report.Kind.{Kind}
-use Rattle.dcv_command.specs.Program.{file_operand, limit_option, most_nodes, most_states, nodes_option, over_a_formula, over_an_automaton, over_two_formulas, states_option}
-use Rattle.dcv_command.specs.Request.{Certify, Implies, Report, certify_in, implies_in, limits_among, report_in}
+use Rattle.dcv_command.specs.Program.{file_operand, limit_option, most_nodes, most_states, nodes_option, over_a_formula, over_a_trace, over_an_automaton, over_two_formulas, states_option}
+use Rattle.dcv_command.specs.declared.words.Subset.{Subset}
+use Rattle.dcv_command.specs.Request.{Certify, Implies, Replay, Report, certify_in, implies_in, limits_among, replay_in, report_in}
 use Rattle.dcv_command.proofs.Commands.{leaf}
 use Rattle.dcv_command.proofs.Leaves.{IsReadableShape, all_found}
 use Rattle.dcv_command.proofs.Rows.{AreReadable, IsFound, IsReadable, first_is_there, limits_are_there, new_row, readable_with, readable_without}
@@ -142,3 +143,25 @@ implies_asks words none =
     let found = all_found (leaf over_two_formulas) formulas_are_readable words none in
     implies_is_some (rows_after (leaf over_two_formulas).rules [] words) (found.0.required refl) (found.1.0.required refl) (found.1.1.0.default tt)
     (found.1.1.1.0.default tt)
+
+-- ---- over an observer's text and a trace
+
+trace_is_readable : (name : Text) → IsReadableShape (leaf (over_a_trace name))
+trace_is_readable name =
+    record {
+      uses = (operand_keeps 1 (codes "observer") refl refl, (operand_keeps 2 (codes "trace") refl refl, (help_keeps 3, tt)));
+      defaults = (tt, (tt, (tt, tt)));
+    }
+
+replay_is_some : (subset : Subset) (rows : List Row) → IsFound (codes "observer") rows → IsFound (codes "trace") rows → IsSome (replay_in subset rows)
+replay_is_some subset rows observer trace =
+    subst IsSome
+    (sym (ap (option_and_then (λ one. option_map (Replay subset one) (first_of (codes "trace") rows))) (first_is_there (codes "observer") rows observer)
+    ∙ ap (option_map (Replay subset observer.readable.text)) (first_is_there (codes "trace") rows trace)))
+    refl
+
+pub replay_asks : (name : Text) (subset : Subset) (words : List Text) → level_fault (leaf (over_a_trace name)) [] nothing_held words false [] ≡ []
+    → IsSome (replay_in subset (rows_after (leaf (over_a_trace name)).rules [] words))
+replay_asks name subset words none =
+    let found = all_found (leaf (over_a_trace name)) (trace_is_readable name) words none in
+    replay_is_some subset (rows_after (leaf (over_a_trace name)).rules [] words) (found.0.required refl) (found.1.0.required refl)

@@ -2,8 +2,9 @@
 use Rattle.std.specs.Prelude.{List, [], ◌∷◌, IsSome, codes}
 use Rattle.clap.specs.Words.{Text}
 use Rattle.dcv_print.specs.declared.report.Kind.{Kind}
-use Rattle.dcv_command.specs.Listed.{Options, option_words, limits_given, report_name, AreAllowed, IsFileName, AskFor}
-use Rattle.dcv_command.specs.Request.{Report, Certify, Implies, IsTaken, request_of}
+use Rattle.dcv_command.specs.declared.words.Subset.{Subset}
+use Rattle.dcv_command.specs.Listed.{Options, option_words, limits_given, report_name, replay_name, AreAllowed, IsFileName, AskFor}
+use Rattle.dcv_command.specs.Request.{Report, Certify, Implies, Replay, IsTaken, request_of}
 
 -- words in which `clap` finds no fault ask for something
 abbrev pub TakenWordsAsk : Type 0
@@ -16,3 +17,5 @@ pub record ListedWordsAreTaken : Type 0 where
   pub certify : (name : Text) → IsFileName name → AskFor (codes "certify" ∷ name ∷ []) (Certify name)
   pub implies : (first second : Text) (options : Options) → IsFileName first → IsFileName second → AreAllowed options
       → AskFor (codes "implies" ∷ first ∷ second ∷ option_words options) (Implies first second (limits_given options))
+  pub replay : (subset : Subset) (observer trace : Text) → IsFileName observer → IsFileName trace
+      → AskFor (replay_name subset ∷ observer ∷ trace ∷ []) (Replay subset observer trace)

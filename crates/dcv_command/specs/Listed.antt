@@ -1,5 +1,6 @@
 -- Words that are always taken: a subcommand's name, files' names, and options with their numbers.
 --     report_name kind           the name of the subcommand that reports this
+--     replay_name subset         the name of the subcommand that replays a trace through an observer of this subset
 --     Options                    the options that stand in the words, in order, with their numbers
 --     option_words options       their words
 --     limits_given options       the limits that they ask for
@@ -13,6 +14,8 @@ use Rattle.clap.specs.Words.{Text, takes}
 use Rattle.dcv_explore.specs.declared.explorer.Limits.{Limits}
 use Rattle.dcv_print.specs.declared.report.Kind.{Kind}
 use Rattle.dcv_print.specs.declared.report.Kind.TheVariants.{Check, Automaton, Lustre, C, All}
+use Rattle.dcv_command.specs.declared.words.Subset.{Subset}
+use Rattle.dcv_command.specs.declared.words.Subset.TheVariants.{Lustre as LustreText, C as CText}
 use Rattle.dcv_command.specs.Program.{program, most_states, most_nodes}
 use Rattle.dcv_command.specs.Request.{Request, IsTaken, limits_of, request_of}
 
@@ -22,6 +25,10 @@ report_name Automaton = codes "automaton"
 report_name Lustre = codes "lustre"
 report_name C = codes "c"
 report_name All = codes "all"
+
+abbrev pub replay_name : Subset → Text
+replay_name LustreText = codes "replay-lustre"
+replay_name CText = codes "replay-c"
 
 pub data Options : Type 0 where
   Neither : Options

@@ -6,6 +6,7 @@
 --     over_a_formula name   a subcommand over one formula file, with both limits
 --     over_an_automaton     the one over an automaton's text
 --     over_two_formulas     the one over two formula files, with both limits
+--     over_a_trace name     a subcommand over an observer's text and a trace
 --     most_states           the most states of a step that may be asked for, and the most diagram nodes
 use Rattle.std.specs.Prelude.{ℕ, true, false, List, [], ◌∷◌, Some, codes}
 use Rattle.clap.specs.Words.{App, Shape, Rule, new_rule}
@@ -46,10 +47,13 @@ over_two_formulas = record (new_shape (codes "implies")) {
   rules = file_operand (codes "first") ∷ file_operand (codes "second") ∷ states_option ∷ nodes_option ∷ [];
 }
 
+abbrev pub over_a_trace : List ℕ → Shape
+over_a_trace name = record (new_shape name) { rules = file_operand (codes "observer") ∷ file_operand (codes "trace") ∷ [] }
+
 abbrev pub subcommands : List Shape
 subcommands =
     over_a_formula (codes "check") ∷ over_a_formula (codes "automaton") ∷ over_a_formula (codes "lustre") ∷ over_a_formula (codes "c")
-    ∷ over_a_formula (codes "all") ∷ over_an_automaton ∷ over_two_formulas ∷ []
+    ∷ over_a_formula (codes "all") ∷ over_an_automaton ∷ over_two_formulas ∷ over_a_trace (codes "replay-lustre") ∷ over_a_trace (codes "replay-c") ∷ []
 
 -- without its subcommands, of which one is required
 abbrev pub bare_app : App

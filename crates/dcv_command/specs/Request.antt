@@ -14,6 +14,8 @@ use Rattle.clap.specs.ValueTests.{is_unsigned_in}
 use Rattle.dcv_explore.specs.declared.explorer.Limits.{Limits}
 use Rattle.dcv_print.specs.declared.report.Kind.{Kind}
 use Rattle.dcv_print.specs.declared.report.Kind.TheVariants.{Check, Automaton, Lustre, C, All}
+use Rattle.dcv_command.specs.declared.words.Subset.{Subset}
+use Rattle.dcv_command.specs.declared.words.Subset.TheVariants.{Lustre as LustreText, C as CText}
 use Rattle.dcv_command.specs.Program.{program, most_states, most_nodes}
 
 pub data Request : Type 0 where
@@ -23,11 +25,14 @@ pub data Request : Type 0 where
   Certify : (name : List ℕ) → Request
   -- whether the formula in the first file implies that in the second
   Implies : (first second : List ℕ) → (limits : Limits) → Request
+  -- what the observer in the first file, a text of this subset, answers at each instant of the trace in the second
+  Replay : (subset : Subset) → (observer trace : List ℕ) → Request
 
 abbrev pub files_of : Request → List (List ℕ)
 files_of (Report kind name limits) = name ∷ []
 files_of (Certify name) = name ∷ []
 files_of (Implies first second limits) = first ∷ second ∷ []
+files_of (Replay subset observer trace) = observer ∷ trace ∷ []
 
 pub record AreInRange (limits : Limits) : Type 0 where
   pub some_states : 1 ≤ limits.states
@@ -39,6 +44,7 @@ abbrev pub IsInRange : Request → Type 0
 IsInRange (Report kind name limits) = AreInRange limits
 IsInRange (Certify name) = Unit {0}
 IsInRange (Implies first second limits) = AreInRange limits
+IsInRange (Replay subset observer trace) = Unit {0}
 
 -- ---- the values of a subcommand's options
 
@@ -68,6 +74,9 @@ implies_in rows =
     option_and_then (λ first. option_and_then (λ second. option_map (Implies first second) (limits_among rows)) (first_of (codes "second") rows))
     (first_of (codes "first") rows)
 
+abbrev pub replay_in : Subset → List Row → Option Request
+replay_in subset rows = option_and_then (λ observer. option_map (Replay subset observer) (first_of (codes "trace") rows)) (first_of (codes "observer") rows)
+
 abbrev pub request_in : Text → List Row → Option Request
 request_in name rows =
     if bytes_eq name (codes "check") then report_in Check rows
@@ -76,7 +85,9 @@ request_in name rows =
     else (if bytes_eq name (codes "c") then report_in C rows
     else (if bytes_eq name (codes "all") then report_in All rows
     else (if bytes_eq name (codes "certify") then certify_in rows
-    else (if bytes_eq name (codes "implies") then implies_in rows else None))))))
+    else (if bytes_eq name (codes "implies") then implies_in rows
+    else (if bytes_eq name (codes "replay-lustre") then replay_in LustreText rows
+    else (if bytes_eq name (codes "replay-c") then replay_in CText rows else None))))))))
 
 -- of the subcommand that the words name, with its matches
 abbrev pub request_of_subcommand : Option (Text × List Row) → Option Request

@@ -3,7 +3,7 @@ ghost use Rattle.std.specs.Prelude.{◌≡◌, [], false, codes, IfOk};
 ghost use Rattle.clap.specs.Words.{rule_of, app_of, new_app, with_subcommand};
 ghost use Rattle.clap.specs.declared.builder.Command.TheViews.{out-Command as fields_of};
 ghost use Rattle.dcv_command.specs.Program.{file_operand as file_rule, limit_option, states_option, nodes_option, program as the_program, bare_app};
-ghost use Rattle.dcv_command.specs.Program.{over_a_formula as formula_shape, over_an_automaton as automaton_shape, over_two_formulas as formulas_shape};
+ghost use Rattle.dcv_command.specs.Program.{over_a_formula as formula_shape, over_an_automaton as automaton_shape, over_two_formulas as formulas_shape, over_a_trace as trace_shape};
 
 use clap::builder::ValueParser;
 use clap::{Arg, Command};
@@ -12,7 +12,8 @@ use std::alloc::{AllocError, Global};
 const ABOUT: &str =
     "Decides whether a requirement about stretches of time, a formula of Quantified Discrete-time Duration Calculus, always holds. \
 Shows a shortest behaviour that breaks it, or the minimal automaton of the behaviours that satisfy it, or an observer of these. \
-Tells whether one requirement implies another, and whether an automaton's text shows by its own words that it is minimal.";
+Tells whether one requirement implies another, and whether an automaton's text shows by its own words that it is minimal. \
+Replays traces through observers.";
 
 const EXAMPLE_AND_STATUS: &str =
     "Example, with `var door_closed; infer [[door_closed]];` in the file door.dc:
@@ -20,9 +21,11 @@ const EXAMPLE_AND_STATUS: &str =
   dcvalid automaton door.dc --states 1000 > door.auto
   dcvalid certify door.auto
   dcvalid implies door.dc other.dc
+  dcvalid c door.dc > door.c
+  dcvalid replay-c door.c door.trace
 
 Status:
-  0  each behaviour satisfies the formula; the automaton is shown to be minimal; A implies B
+  0  each behaviour satisfies the formula; the automaton is shown to be minimal; A implies B; the trace was read to its end
   1  some behaviour does not; the automaton is not shown to be minimal; A does not imply B
   2  the words are no command, or ask for help
   3  a file holds no formula, for the fault that is named, at its offset in bytes; A and B declare different variables
@@ -30,6 +33,8 @@ Status:
   5  a file could not be opened or read
   6  the report could not be written
   7  memory ran out
+  8  a line of the trace, which is named, is no instant, or the trace is empty or too long
+  9  the file holds no observer's text, for the fault that is named
  10  the file holds no automaton's text, for the fault that is named";
 
 /// The most states of a step that may be asked for.
@@ -74,7 +79,19 @@ pub(crate) fn program<'a>(alloc: Global) -> Result<Command<'a>, AllocError>
         "Writes the verdict, the automaton and both observers, each behind a line that names it",
     )?;
     let certify = with_certify(alloc, all)?;
-    with_implies(alloc, certify)
+    let implies = with_implies(alloc, certify)?;
+    let replay_lustre = with_replay(
+        alloc,
+        implies,
+        "replay-lustre",
+        "Writes what an observer, as the command lustre writes it, answers at each instant of a trace",
+    )?;
+    with_replay(
+        alloc,
+        replay_lustre,
+        "replay-c",
+        "Writes what an observer, as the command c writes it, answers at each instant of a trace",
+    )
 }
 
 // The command without its subcommands, of which one is required.
@@ -114,6 +131,18 @@ fn with_implies<'a>(alloc: Global, command: Command<'a>) -> Result<Command<'a>, 
     ensures { IfOk result (λ more. app_of more ≡ with_subcommand (app_of command.entry) formulas_shape) }
 {
     command.subcommand(over_two_formulas(alloc)?)
+}
+
+// The command with a subcommand more, which replays a trace through an observer.
+fn with_replay<'a>(
+    alloc: Global,
+    command: Command<'a>,
+    name: &'a str,
+    about: &'a str,
+) -> Result<Command<'a>, AllocError>
+    ensures { IfOk result (λ more. app_of more ≡ with_subcommand (app_of command.entry) (trace_shape name.entry.now)) }
+{
+    command.subcommand(over_a_trace(alloc, name, about)?)
 }
 
 // A command with no words yet, which usage calls by its name.
@@ -180,6 +209,27 @@ fn over_two_formulas<'a>(alloc: Global) -> Result<Command<'a>, AllocError>
         ))?
         .arg(states_limit(alloc))?
         .arg(nodes_limit(alloc))
+}
+
+// A subcommand over an observer's text and a trace.
+fn over_a_trace<'a>(alloc: Global, name: &'a str, about: &'a str) -> Result<Command<'a>, AllocError>
+    ensures app { IfOk result (λ command. app_of command ≡ record { top = trace_shape name.entry.now; subs = [] }) }
+    ensures local { IfOk result (λ command. (fields_of command).has_globals ≡ false) }
+{
+    Command::new(alloc, name)
+        .about(about)
+        .arg(file_operand(
+            alloc,
+            "observer",
+            "OBS",
+            "The file with the observer's text",
+        ))?
+        .arg(file_operand(
+            alloc,
+            "trace",
+            "TRACE",
+            "The trace: a line for each instant, with a digit 0 or 1 for each variable, or - where there is none",
+        ))
 }
 
 // The name of a file.

@@ -4,6 +4,7 @@ ghost use Rattle.clap.specs.Words.{fault_of, first_of, found_of, rows_of, subcom
 ghost use Rattle.dcv_command.specs.Program.{program as the_program};
 ghost use Rattle.dcv_command.specs.Request.{IsInRange, IsTaken, request_of, request_of_subcommand};
 ghost use Rattle.dcv_command.specs.Request.{report_in as report_among, certify_in as certify_among, implies_in as implies_among, request_in as request_among};
+ghost use Rattle.dcv_command.specs.Request.{replay_in as replay_among};
 ghost use Rattle.dcv_command.specs.Request.{limits_among as limits_among_rows, number_in as number_in_rows};
 ghost use Rattle.dcv_command.specs.declared.words.WordsFault.TheVariants.{Memory};
 ghost use Rattle.dcv_command.specs.Seen.{asked_by, IsUsageOnlyWhere};
@@ -36,6 +37,19 @@ pub enum Request<'a> {
         second: &'a str,
         limits: Limits,
     },
+    /// What the observer in the first file, a text of this subset, answers at each instant of the trace in the second.
+    Replay {
+        subset: Subset,
+        observer: &'a str,
+        trace: &'a str,
+    },
+}
+
+/// The subset of a language that an observer is written in.
+#[derive(Clone, Copy, Debug)]
+pub enum Subset {
+    Lustre,
+    C,
 }
 
 /// Why words ask for nothing.
@@ -105,6 +119,8 @@ fn request_named<'a>(name: &str, matches: &ArgMatches<'a>) -> Option<Request<'a>
         "all" => report_in(matches, Kind::All),
         "certify" => certify_in(matches),
         "implies" => implies_in(matches),
+        "replay-lustre" => replay_in(matches, Subset::Lustre),
+        "replay-c" => replay_in(matches, Subset::C),
         _ => None,
     }
 }
@@ -137,6 +153,19 @@ fn implies_in<'a>(matches: &ArgMatches<'a>) -> Option<Request<'a>>
         first,
         second,
         limits,
+    })
+}
+
+// The replay that is asked for.
+fn replay_in<'a>(matches: &ArgMatches<'a>, subset: Subset) -> Option<Request<'a>>
+    ensures { option_map asked_by result ≡ replay_among subset (rows_of (found_of matches.now)) }
+{
+    let observer = operand_in(matches, "observer")?;
+    let trace = operand_in(matches, "trace")?;
+    Some(Request::Replay {
+        subset,
+        observer,
+        trace,
     })
 }
 
