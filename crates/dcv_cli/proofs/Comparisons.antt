@@ -41,7 +41,7 @@ use Rattle.dcv_cli.specs.Refusal.{status_of, marked, is_of_text, refusal_of_outs
 use Rattle.dcv_cli.specs.Status.{is_answer, is_determined}
 use Rattle.dcv_cli.specs.declared.budget_line.Excess.TheVariants.{States, Nodes}
 use Rattle.dcv_cli.specs.declared.refusal.Refusal.{Refusal}
-use Rattle.dcv_cli.specs.declared.refusal.Refusal.TheVariants.{Open, Read, Formula, Automaton, Budget, Product, Write, Memory}
+use Rattle.dcv_cli.specs.declared.refusal.Refusal.TheVariants.{Open, Read, Formula, Automaton, Observer, Trace, Budget, Product, Write, Memory}
 use Rattle.dcv_cli.specs.declared.faults.FormulaFault.TheVariants.{Declarations}
 use Rattle.dcv_cli.specs.declared.refused.Which.{Which}
 use Rattle.dcv_cli.specs.declared.refused.Which.TheVariants.{Only, First, Second}
@@ -73,6 +73,8 @@ marked_explains Right which Open is = is
 marked_explains Right which Read is = is
 marked_explains Right which (Formula fault) is = is
 marked_explains Right which (Automaton fault) is = is
+marked_explains Right which (Observer fault) is = is
+marked_explains Right which (Trace fault) is = is
 marked_explains Right which (Budget over) is = is
 marked_explains Right which (Product excess limit) is = is
 marked_explains Right which Write is = is
@@ -191,6 +193,8 @@ marked_own which Open own = own
 marked_own which Read own = own
 marked_own which (Formula fault) own = own
 marked_own which (Automaton fault) own = own
+marked_own which (Observer fault) own = own
+marked_own which (Trace fault) own = own
 marked_own which (Budget over) own = own
 marked_own which (Product excess limit) own = own
 marked_own which Write own = own

@@ -4,13 +4,13 @@ use Rattle.std.proofs.Math.Seq.{take-length}
 use Rattle.std.specs.Prelude.{Bool, ◌||◌, OnOk, OnErr, is_err, ⊤}
 use mathlib.Core.Bool.{true≢false}
 use Rattle.std.specs.Bool.{OnTrue, OnFalse}
-use Rattle.dcv_io.specs.Disk.{Disk}
 use Rattle.dcv_io.specs.Faults.{RisesIf}
 use Rattle.dcv_io.specs.Written.{Appends, AppendsPrefix}
 use Rattle.dcv_io.specs.declared.fault.Failed.{Failed}
 use Rattle.dcv_cli.specs.declared.refused.Refused.{Refused}
 use Rattle.dcv_cli.specs.declared.status.Status.{Status}
 use Rattle.dcv_cli.specs.Ending.{EndsBy, LeavesOver, Tells}
+use Rattle.dcv_cli.specs.Outside.{Outside}
 use Rattle.dcv_cli.specs.Performed.{LeavesFor}
 use Rattle.dcv_cli.specs.Outcome.{Outcome}
 use Rattle.dcv_cli.specs.Refusal.{status_of, message_of}
@@ -68,9 +68,10 @@ module _ (Right : Outcome → Type 0) (old new : Option (List ℕ)) where
       (on_true_weaker (is_determined (status_of refused.refusal)) moved ends)
 
 -- what was written where an input failed, for the request of the words
-pub leaves_over : (words : List (List ℕ)) (request : Request) (told : Option Disk) (old new : Option (List ℕ)) (status : Status) → AsksFor words request
-    → OnTrue (is_input status) ((bytes : List ℕ) × LeavesFor request told bytes × Appends old new bytes) → OnTrue (is_input status) (LeavesOver words told old new)
-leaves_over words request told old new status asked left =
+pub leaves_over : (words : List (List ℕ)) (request : Request) (before after : Outside) (status : Status) → AsksFor words request
+    → OnTrue (is_input status) ((bytes : List ℕ) × LeavesFor request before after bytes × Appends before.written after.written bytes)
+    → OnTrue (is_input status) (LeavesOver words before after)
+leaves_over words request before after status asked left =
     on_true_weaker (is_input status) (λ some. record { request = request; asked = asked; bytes = some.0; left = some.1; added = some.2 }) left
 
 -- named by the function, so that its goals need no answer of their own

@@ -9,8 +9,11 @@ pub mod NamesInOrder
 pub mod NamesRead
 pub mod OneCertificate
 pub mod OneOutcome
+pub mod OneReplay
 pub mod Outcomes
+pub mod Replays
 pub mod ThreeEnds
+pub mod TraceEnds
 pub mod TwoFiles
 pub mod Pieces
 pub mod Printed

@@ -43,11 +43,13 @@ use Rattle.dcv_cli.specs.declared.refused.Which.TheVariants.{Only, First, Second
 use Rattle.dcv_automaton_text.specs.Laws.{OneFile as OneAutomatonText}
 use Rattle.dcv_certify.specs.Laws.{OneAnswer}
 use Rattle.dcv_cli.proofs.OneCertificate.{same_agrees, one_held_certificate}
+use Rattle.dcv_cli.proofs.OneReplay.{AreSubsets, one_held_replay}
 use Rattle.dcv_cli.specs.Comparison.{IsCompared, Undeclared, Declared, IsDifference, OverProduct, WithinProduct, compared}
 use Rattle.dcv_cli.specs.Held.{OnHeld}
-use Rattle.dcv_command.specs.Request.{Request, Report, Certify, Implies}
+use Rattle.dcv_command.specs.Request.{Request, Report, Certify, Implies, Replay}
 use Rattle.dcv_implies.specs.Comparison.{TooMany, Least}
 use Rattle.dcv_implies.specs.Laws.{OneAnswer as OneComparison}
+use Rattle.dcv_replay.specs.Laws.{OneVerdict as OneTraceVerdict, OneText as OneTextOfAnswers}
 use Rattle.dcv_cli.specs.Request.{AsksFor}
 use Rattle.dcv_print.specs.Printed.{texts_of}
 use Rattle.dcv_cli.specs.Right.{Fulfils, IsRight, Misused, Fulfilled}
@@ -100,7 +102,8 @@ one_some : (first second : ℕ) → Some first ≡ Some second → first ≡ sec
 one_some first second e = cc
 
 module _ (one_tree : SpellsOne) (one_fault : FaultIsUnique) (one_verdict : OneVerdict) (one_step : OneStepIsOver) (none_over : WithinExcludesOver) (one_automaton : OneAutomaton) (one_automaton_file : OneFile)
-    (one_automaton_text : OneAutomatonText) (one_answer : OneAnswer) (one_comparison : OneComparison) where
+    (one_automaton_text : OneAutomatonText) (one_answer : OneAnswer) (one_comparison : OneComparison) (subsets : AreSubsets) (one_trace_verdict : OneTraceVerdict)
+    (one_text_of_answers : OneTextOfAnswers) where
   one_sentence : (text : List ℕ) (f g : PlainFile) → IsSentence text f → IsSentence text g → f ≡ g
   one_sentence text f g s t = one_tree text f g s.spelled t.spelled
 
@@ -282,6 +285,8 @@ module _ (one_tree : SpellsOne) (one_fault : FaultIsUnique) (one_verdict : OneVe
   one_fulfilled (Implies first second limits) held a b p q =
       one_on_file (held 0 first) First (λ one. OnHeld (held 1) second (λ text. OnText text Second (IsCompared limits one)))
       (λ one a b p q. one_on_file (held 1 second) Second (IsCompared limits one) (one_compared limits one) a b p q) a b p q
+  one_fulfilled (Replay subset observer trace) held a b p q =
+      one_held_replay subsets one_trace_verdict one_text_of_answers subset (held 0 observer) (held 1 trace) a b p q
 
   -- words ask for one thing
   one_request : (words : List (List ℕ)) (r s : Request) → AsksFor words r → AsksFor words s → r ≡ s

@@ -1,11 +1,15 @@
 -- Some outcome is right for all words, where the files that they name are held and no formula file is asked for.
-use Rattle.std.proofs.Common.{◌≡◌, ◌⊎◌, ℕ, ◌≤◌, Bool, true, false, List, [], ◌∷◌, length, Option, None, Some, refl, sym, ◌∙◌, inl, inr, arith}
+use Rattle.std.proofs.Common.{◌≡◌, ◌⊎◌, ℕ, ◌≤◌, Bool, true, false, List, [], ◌∷◌, length, Option, None, Some, refl, sym, subst, ◌∙◌, inl, inr, arith}
 use Rattle.std.proofs.lemmas.Bool.Decides.{nat_tests}
-use Rattle.std.specs.Prelude.{IsSome, nat_le}
-use Rattle.std.proofs.lemmas.List.Elements.{All-head}
+use Rattle.std.specs.Prelude.{IsSome, IsSomeAnd, nat_le}
+use Rattle.std.proofs.lemmas.List.Elements.{All-head, recursion_from_All}
 use mathlib.Core.Bool.{true≢false}
 use Rattle.dcv_syntax.specs.Plain.{PlainFile}
+use Rattle.dcv_c.specs.Laws.{SomeReading as SomeUnit}
+use Rattle.dcv_command.specs.declared.words.Subset.{Subset}
+use Rattle.dcv_lustre.specs.Laws.{SomeReading as SomeNode}
 use Rattle.dcv_reader.specs.Laws.{SomeReading}
+use Rattle.dcv_replay.specs.Laws.{SomeVerdict, GoodLinesAreAnswered}
 use Rattle.dcv_scope.specs.Faults.{fault_of_file}
 use Rattle.dcv_scope.specs.declared.faults.ScopeFault.{ScopeFault}
 use Rattle.dcv_cli.specs.declared.refusal.Refusal.TheVariants.{Formula}
@@ -16,7 +20,9 @@ use Rattle.dcv_cli.specs.Report.{IsReport}
 use Rattle.dcv_cli.specs.FormulaFile.{TooLong, Faulty, HasNoCore, IsSentence, IsFormulaFile, OnText, Refused}
 use Rattle.dcv_cli.specs.Laws.{AreHeld, AskForAFormula, AskOtherwise, SomeOutcome}
 use Rattle.dcv_cli.specs.Held.{Texts}
+use Rattle.dcv_cli.specs.ObserverFile.{OnObserver}
 use Rattle.dcv_cli.specs.Outcome.{Outcome, refused}
+use Rattle.dcv_cli.specs.Replayed.{IsReplay}
 use Rattle.dcv_cli.specs.Refusal.{most_bytes, refusal_of_reading, refusal_of_scope}
 use Rattle.dcv_cli.specs.declared.refused.Which.TheVariants.{Only}
 use Rattle.clap.specs.Words.{fault_of, Kinds}
@@ -25,9 +31,10 @@ use Rattle.dcv_command.specs.Program.{program}
 use Rattle.dcv_explore.specs.declared.explorer.Limits.{Limits}
 use Rattle.dcv_print.specs.declared.report.Kind.{Kind}
 use Rattle.std.specs.List.{All}
-use Rattle.dcv_command.specs.Request.{Request, Report, Certify, Implies, IsTaken, request_of, files_of}
+use Rattle.dcv_command.specs.Request.{Request, Report, Certify, Implies, Replay, IsTaken, request_of, files_of}
 use Rattle.dcv_cli.specs.Request.{AsksFor}
 use Rattle.dcv_cli.specs.Right.{IsRight, Misused, Fulfilled}
+use Rattle.dcv_cli.proofs.OneReplay.{some_replay}
 
 -- what comes of a text: an outcome, or it is a formula file
 abbrev Comes : Kind → Limits → List ℕ → Type 0
@@ -42,7 +49,7 @@ some_on_sentence : (kind : Kind) (limits : Limits) (text : List ℕ) (file : Pla
 some_on_sentence kind limits text file holds (Some fault) is = inl (refused (refusal_of_scope fault) Only, Refused _ (HasNoCore file holds fault is refl) refl)
 some_on_sentence kind limits text file holds None is = inr (file, record { sentence = holds; has_core = is })
 
-module _ (some_reading : SomeReading) (words_ask : TakenWordsAsk) where
+module _ (some_reading : SomeReading) (words_ask : TakenWordsAsk) (some_node : SomeNode) (some_unit : SomeUnit) (some_verdict : SomeVerdict) (answered : GoodLinesAreAnswered) where
   some_on_short : (kind : Kind) (limits : Limits) (text : List ℕ) → length text ≤ most_bytes → Comes kind limits text
   some_on_short kind limits text short =
       elim (some_reading text) [
@@ -66,10 +73,27 @@ module _ (some_reading : SomeReading) (words_ask : TakenWordsAsk) where
   some_for_file words held kind name limits (Some text) asked is there =
       some_for_text words held kind name limits text asked is (some_on_text kind limits text (nat_le (length text) most_bytes) refl)
 
+  some_for_replay : (words : List (List ℕ)) (held : Texts) (subset : Subset) (observer trace : List ℕ) (text trace_text : Option (List ℕ))
+      → AsksFor words (Replay subset observer trace) → held 0 observer ≡ text → held 1 trace ≡ trace_text → IsSome text → IsSome trace_text → Found words held
+  some_for_replay words held subset observer trace None trace_text asked is is' there there' = absurd (true≢false (sym there))
+  some_for_replay words held subset observer trace (Some text) None asked is is' there there' = absurd (true≢false (sym there'))
+  some_for_replay words held subset observer trace (Some text) (Some trace_text) asked is is' there there' =
+      let found = some_replay some_node some_unit some_verdict answered subset text trace_text in
+      inl (
+        found.0,
+        Fulfilled (Replay subset observer trace) asked
+            (subst (λ (one : Option (List ℕ)). IsSomeAnd one (λ bytes. OnObserver subset bytes (λ o outcome. IsSomeAnd (held 1 trace) (λ t. IsReplay o t outcome)) found.0)) (sym is)
+            (subst (λ (other : Option (List ℕ)). OnObserver subset text (λ o outcome. IsSomeAnd other (λ t. IsReplay o t outcome)) found.0) (sym is') found.1)),
+      )
+
   some_for_request : (words : List (List ℕ)) (held : Texts) (request : Request) → AsksFor words request
-      → All (λ name. IsSome (held 0 name)) (files_of request) → Found words held
+      → ((time : ℕ) → All (λ name. IsSome (held time name)) (files_of request)) → Found words held
   some_for_request words held (Report kind name limits) asked there =
-      some_for_file words held kind name limits (held 0 name) asked refl (All-head (λ n. IsSome (held 0 n)) name [] there)
+      some_for_file words held kind name limits (held 0 name) asked refl (All-head (λ n. IsSome (held 0 n)) name [] (there 0))
+  some_for_request words held (Replay subset observer trace) asked there =
+      let first = recursion_from_All (λ n. IsSome (held 0 n)) (observer ∷ trace ∷ []) (there 0) in
+      let second = recursion_from_All (λ n. IsSome (held 1 n)) (observer ∷ trace ∷ []) (there 1) in
+      some_for_replay words held subset observer trace (held 0 observer) (held 1 trace) asked refl refl first.0 second.1.0
   some_for_request words held (Certify name) asked there = inr (inr (Certify name, asked, refl))
   some_for_request words held (Implies first second limits) asked there = inr (inr (Implies first second limits, asked, refl))
 
@@ -77,7 +101,7 @@ module _ (some_reading : SomeReading) (words_ask : TakenWordsAsk) where
       → request_of words ≡ request → IsSome request → Found words held
   some_for_taken words held there taken None is asks = absurd (true≢false (sym asks))
   some_for_taken words held there taken (Some request) is asks =
-      let asked : AsksFor words request = record { taken = taken; asked = is } in some_for_request words held request asked (there request asked 0)
+      let asked : AsksFor words request = record { taken = taken; asked = is } in some_for_request words held request asked (there request asked)
 
   -- words are taken where no fault is found in them
   some_for : (words : List (List ℕ)) (held : Texts) → AreHeld words held → (faults : Kinds) → fault_of program words ≡ faults

@@ -1,5 +1,5 @@
 -- How each command keeps to what all of them do: by a refusal before anything is written, a report that is written whole, or one whose writing
--- failed.
+-- failed; and a replay by a fault of the trace, or of a read of it, behind what was written.
 use Rattle.std.proofs.Common.{◌≡◌, ℕ, Bool, true, false, List, [], Option, None, Some, Result, Ok, Err, length, refl, sym, inl, inr, subst, take, arith}
 use Rattle.std.proofs.Math.Seq.{take-length}
 use Rattle.std.specs.Prelude.{IfSome, IsTrue, ◌<◌}
@@ -8,22 +8,23 @@ use mathlib.Core.Bool.{true≢false}
 use Rattle.dcv_io.specs.Asked.{AsksPrefix}
 use Rattle.dcv_io.specs.Disk.{Disk, held_of, WhereTold, ReadsPast}
 use Rattle.dcv_io.specs.Faults.{has_risen, RisesIf, Rises}
-use Rattle.dcv_io.specs.Written.{Appends, AppendsStrictPrefix}
+use Rattle.dcv_io.specs.Written.{Appends, AppendsPrefix, AppendsStrictPrefix}
 use Rattle.dcv_io.proofs.Appending.{strict_is_prefix}
 use Rattle.dcv_cli.specs.declared.refusal.Refusal.{Refusal}
-use Rattle.dcv_cli.specs.declared.refusal.Refusal.TheVariants.{Open, Read, Formula, Automaton, Budget, Product, Write, Memory}
+use Rattle.dcv_cli.specs.declared.refusal.Refusal.TheVariants.{Open, Read, Formula, Automaton, Observer, Trace, Budget, Product, Write, Memory}
 use Rattle.dcv_cli.specs.declared.status.Status.{Status}
-use Rattle.dcv_cli.specs.declared.status.Status.TheVariants.{Valid, Done, NotValid}
+use Rattle.dcv_cli.specs.declared.status.Status.TheVariants.{Valid, Done, NotValid, Output}
+use Rattle.dcv_cli.specs.declared.faults.TraceFault.{TraceFault}
 use Rattle.dcv_cli.specs.Ending.{EndsBy, HasInputCause, has_cause}
 use Rattle.dcv_cli.specs.Held.{Texts, OnHeld, ForHeld, IsHeldText}
 use Rattle.dcv_cli.specs.Outcome.{Outcome, IsExplained, refused}
-use Rattle.dcv_command.specs.Request.{Request}
-use Rattle.dcv_cli.specs.Performed.{Outside, Performs, LeavesFor}
+use Rattle.dcv_cli.specs.Outside.{Outside}
+use Rattle.dcv_cli.specs.Performed.{Performs}
 use Rattle.dcv_cli.specs.declared.refused.Refused.{Refused}
 use Rattle.dcv_cli.specs.declared.refused.Which.{Which}
 use Rattle.dcv_cli.specs.declared.refused.Which.TheVariants.{Only}
 use Rattle.dcv_cli.specs.Performed.{is_open_refusal, is_read_refusal}
-use Rattle.dcv_cli.specs.Refusal.{status_of, only, marked, is_open, is_read, is_of_text, is_of_taking}
+use Rattle.dcv_cli.specs.Refusal.{status_of, message_of, only, marked, is_open, is_read, is_of_text, is_of_taking}
 use Rattle.dcv_cli.specs.Status.{is_answer, is_determined, is_silent, is_input, is_output}
 
 pub on_true : (b : Bool) {P : Type 0} → P → OnTrue b P
@@ -69,6 +70,8 @@ text_is_of_taking Open is = refl
 text_is_of_taking Read is = refl
 text_is_of_taking (Formula fault) is = refl
 text_is_of_taking (Automaton fault) is = refl
+text_is_of_taking (Observer fault) is = refl
+text_is_of_taking (Trace fault) is = refl
 text_is_of_taking (Budget over) is = refl
 text_is_of_taking (Product excess limit) is = refl
 text_is_of_taking Write is = absurd (true≢false (sym is))
@@ -80,6 +83,8 @@ opened_stays Open before after is same = absurd (true≢false (sym is))
 opened_stays Read before after is same = absurd (true≢false (sym is))
 opened_stays (Formula fault) before after is same = same
 opened_stays (Automaton fault) before after is same = same
+opened_stays (Observer fault) before after is same = same
+opened_stays (Trace fault) before after is same = same
 opened_stays (Budget over) before after is same = same
 opened_stays (Product excess limit) before after is same = same
 opened_stays Write before after is same = absurd (true≢false (sym is))
@@ -90,6 +95,8 @@ read_stays Open before after is same = absurd (true≢false (sym is))
 read_stays Read before after is same = absurd (true≢false (sym is))
 read_stays (Formula fault) before after is same = same
 read_stays (Automaton fault) before after is same = same
+read_stays (Observer fault) before after is same = same
+read_stays (Trace fault) before after is same = same
 read_stays (Budget over) before after is same = same
 read_stays (Product excess limit) before after is same = same
 read_stays Write before after is same = absurd (true≢false (sym is))
@@ -101,6 +108,8 @@ no_output Open is = refl
 no_output Read is = refl
 no_output (Formula fault) is = refl
 no_output (Automaton fault) is = refl
+no_output (Observer fault) is = refl
+no_output (Trace fault) is = refl
 no_output (Budget over) is = refl
 no_output (Product excess limit) is = refl
 no_output Memory is = refl
@@ -112,6 +121,8 @@ input_of Open a b c d is opened read = inl (opened, read)
 input_of Read a b c d is opened read = inr (opened, read)
 input_of (Formula fault) a b c d is opened read = (opened, read)
 input_of (Automaton fault) a b c d is opened read = (opened, read)
+input_of (Observer fault) a b c d is opened read = (opened, read)
+input_of (Trace fault) a b c d is opened read = (opened, read)
 input_of (Budget over) a b c d is opened read = (opened, read)
 input_of (Product excess limit) a b c d is opened read = (opened, read)
 input_of Memory a b c d is opened read = (opened, read)
@@ -140,12 +151,12 @@ counts reads = record { asked = reads.asked; opened = reads.opened; read = reads
 
 -- ---- the three ends
 
-module _ (Right : Outcome → Type 0) (Left : List ℕ → Type 0) (names : List (List ℕ)) (before after : Outside) where
-  pub performs_refused : (refusal : Refusal) (which : Which) → IsTrue (is_of_taking refusal) → OnTrue (has_cause (status_of refusal)) (which ≡ Only) → Left []
+module _ (Right : Outcome → Type 0) (Left : Outside → Outside → List ℕ → Type 0) (names : List (List ℕ)) (before after : Outside) where
+  pub performs_refused : (refusal : Refusal) (which : Which) → IsTrue (is_of_taking refusal) → OnTrue (has_cause (status_of refusal)) (which ≡ Only) → Left before after []
       → IsExplained Right which refusal → Appends before.written after.written [] → after.faults ≡ before.faults
       → Reads names (Err (of refusal which)) before after → Performs Right Left names (Err (of refusal which)) before after
   performs_refused refusal which taking none nothing explained silent same reads =
-      let some : (bytes : List ℕ) × Left bytes × Appends before.written after.written bytes = ([], nothing, silent) in record {
+      let some : (bytes : List ℕ) × Left before after bytes × Appends before.written after.written bytes = ([], nothing, silent) in record {
         right =
             on_true_weaker (is_determined (status_of refusal))
             (λ right. record { outcome = refused refusal which; right = right; ends = refl; report = silent; message = refl }) explained;
@@ -164,18 +175,82 @@ module _ (Right : Outcome → Type 0) (Left : List ℕ → Type 0) (names : List
       }
 
   -- the same where it is marked by the file that it is of
-  pub performs_marked : (refusal : Refusal) (which : Which) → IsTrue (is_of_taking refusal) → Left [] → IsExplained Right which refusal
+  pub performs_marked : (refusal : Refusal) (which : Which) → IsTrue (is_of_taking refusal) → Left before after [] → IsExplained Right which refusal
       → Appends before.written after.written [] → after.faults ≡ before.faults → Reads names (Err (of refusal Only)) before after
       → Performs Right Left names (Err (marked which refusal)) before after
   performs_marked Open which taking nothing explained silent same reads = performs_refused Open Only taking refl nothing tt silent same (counts reads)
   performs_marked Read which taking nothing explained silent same reads = performs_refused Read Only taking refl nothing tt silent same (counts reads)
   performs_marked (Formula fault) which taking nothing explained silent same reads = performs_refused (Formula fault) which taking tt nothing explained silent same (counts reads)
   performs_marked (Automaton fault) which taking nothing explained silent same reads = performs_refused (Automaton fault) which taking tt nothing explained silent same (counts reads)
+  performs_marked (Observer fault) which taking nothing explained silent same reads = performs_refused (Observer fault) which taking tt nothing explained silent same (counts reads)
+  performs_marked (Trace fault) which taking nothing explained silent same reads = performs_refused (Trace fault) which taking tt nothing explained silent same (counts reads)
   performs_marked (Budget over) which taking nothing explained silent same reads = performs_refused (Budget over) which taking tt nothing explained silent same (counts reads)
   performs_marked (Product excess limit) which taking nothing explained silent same reads =
       performs_refused (Product excess limit) which taking tt nothing explained silent same (counts reads)
   performs_marked Write which taking nothing explained silent same reads = absurd (true≢false (sym taking))
   performs_marked Memory which taking nothing explained silent same reads = performs_refused Memory Only taking refl nothing tt silent same (counts reads)
+
+  -- some of a right report is missing, since a write failed
+  pub performs_broken : (outcome : Outcome) → Right outcome → AppendsStrictPrefix before.written after.written outcome.out → Rises before.faults after.faults
+      → HasInputCause Output before.open_faults after.open_faults before.read_faults after.read_faults → AsksPrefix names before.asked after.asked
+      → held_of after.told ≡ held_of before.told → Performs Right Left names (Err (only Write)) before after
+  performs_broken outcome right part rises counts asked held = record {
+    right = tt;
+    answer = tt;
+    front = inr (outcome, right, strict_is_prefix before.written after.written outcome.out part);
+    silent = tt;
+    stops = (outcome, right, part);
+    left = tt;
+    asked = asked;
+    input = counts;
+    opened = tt;
+    read = tt;
+    output = rises;
+    of_none = refl;
+    held = held;
+  }
+
+  -- a read failed behind the front of a right report
+  pub performs_cut : (outcome : Outcome) (text : List ℕ) → Right outcome → AppendsPrefix before.written after.written outcome.out → Left before after text
+      → Appends before.written after.written text → after.faults ≡ before.faults → Reads names (Err (only Read)) before after
+      → Performs Right Left names (Err (only Read)) before after
+  performs_cut outcome text right front left written same reads = record {
+    right = tt;
+    answer = tt;
+    front = inr (outcome, right, front);
+    silent = tt;
+    stops = tt;
+    left = (text, left, written);
+    asked = reads.asked;
+    input = inr (reads.opened, reads.read);
+    opened = tt;
+    read = reads.read.risen;
+    output = same;
+    of_none = refl;
+    held = reads.held;
+  }
+
+  -- a fault of the trace, behind the whole of a right report
+  pub performs_at_fault : (fault : TraceFault) (text : List ℕ)
+      → Right (record { status = status_of (Trace fault); out = text; err = message_of (only (Trace fault)) }) → Appends before.written after.written text
+      → after.faults ≡ before.faults → Reads names (Err (only (Trace fault))) before after → Performs Right Left names (Err (only (Trace fault))) before after
+  performs_at_fault fault text right written same reads =
+      let outcome : Outcome = record { status = status_of (Trace fault); out = text; err = message_of (only (Trace fault)) } in
+      record {
+        right = record { outcome = outcome; right = right; ends = refl; report = written; message = refl };
+        answer = tt;
+        front = inr (outcome, right, (length text, omega arith, rw take-length written));
+        silent = tt;
+        stops = tt;
+        left = tt;
+        asked = reads.asked;
+        input = (reads.opened, reads.read);
+        opened = tt;
+        read = tt;
+        output = same;
+        of_none = tt;
+        held = reads.held;
+      }
 
   -- a report with this status is right
   module _ (status : Status) (text : List ℕ) (right : Right (record { status = status; out = text; err = [] })) (answers : IsTrue (is_answer status)) where
@@ -204,22 +279,7 @@ module _ (Right : Outcome → Type 0) (Left : List ℕ → Type 0) (names : List
     pub performs_failed : AppendsStrictPrefix before.written after.written text → Rises before.faults after.faults → Reads names (Err (only Write)) before after
         → Performs Right Left names (Err (only Write)) before after
     performs_failed part rises reads =
-        let outcome : Outcome = record { status = status; out = text; err = [] } in
-        record {
-          right = tt;
-          answer = tt;
-          front = inr (outcome, right, strict_is_prefix before.written after.written text part);
-          silent = tt;
-          stops = (outcome, right, part);
-          left = tt;
-          asked = reads.asked;
-          input = inl (reads.opened, reads.read);
-          opened = tt;
-          read = tt;
-          output = rises;
-          of_none = refl;
-          held = reads.held;
-        }
+        performs_broken (record { status = status; out = text; err = [] }) right part rises (inl (reads.opened, reads.read)) reads.asked reads.held
 
 -- what is left where an input failed before anything was written
 abbrev Nothing : Texts → Type 0
@@ -228,9 +288,6 @@ Nothing held = let none : List ℕ = [] in none ≡ []
 pub nothing_held : (told : Option Disk) → ForHeld told Nothing
 nothing_held None = record { held = λ time n. None; same = tt; holds = refl }
 nothing_held (Some disk) = record { held = λ time. disk.held; same = λ time. refl; holds = refl }
-
-pub leaves_nothing : (request : Request) (told : Option Disk) → LeavesFor request told []
-leaves_nothing request told = nothing_held told
 
 -- a refusal of the one file that is read, or of none
 pub of_only : (refusal : Refusal) → OnTrue (has_cause (status_of refusal)) (Only ≡ Only)

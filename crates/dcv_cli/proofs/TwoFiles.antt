@@ -9,7 +9,8 @@ use Rattle.dcv_io.proofs.Asking.{asks_further}
 use Rattle.dcv_cli.specs.Ending.{EndsBy, AddsFront, StopsWithin}
 use Rattle.dcv_cli.specs.Held.{Texts, ForHeld, IsHeldText}
 use Rattle.dcv_cli.specs.Outcome.{Outcome}
-use Rattle.dcv_cli.specs.Performed.{Outside, outside, Performs, ending, said}
+use Rattle.dcv_cli.specs.Outside.{Outside, outside}
+use Rattle.dcv_cli.specs.Performed.{Performs, ending, said}
 use Rattle.dcv_cli.specs.Status.{is_determined, is_input, is_output}
 use Rattle.dcv_cli.specs.declared.refused.Refused.{Refused}
 use Rattle.dcv_cli.specs.declared.status.Status.{Status}
@@ -53,23 +54,27 @@ pub record StepsTo (name : List ℕ) (before mid : Outside) : Type 0 where
   pub faults : mid.faults ≡ before.faults
   pub held : held_of mid.told ≡ held_of before.told
 
-abbrev from : Outside → Outside → Outside
+-- what is seen behind the first file, with the counts and the output as they were before it
+abbrev pub from : Outside → Outside → Outside
 from before mid = outside mid.told mid.asked before.open_faults before.read_faults before.written before.faults
 
-module _ {One Other : Outcome → Type 0} {Left Leaves : List ℕ → Type 0} (moves : (outcome : Outcome) → One outcome → Other outcome)
-    (leaves : (bytes : List ℕ) → Left bytes → Leaves bytes) (first second : List ℕ) (result : Result Status Refused) (before mid after : Outside) (steps : StepsTo first before mid) where
-  counted : Performs One Left (second ∷ []) result mid after → Performs One Left (second ∷ []) result (from before mid) after
-  counted is =
-      subst (λ n. Performs One Left (second ∷ []) result (outside mid.told mid.asked before.open_faults before.read_faults before.written n) after) steps.faults
-      (subst (λ bytes. Performs One Left (second ∷ []) result (outside mid.told mid.asked before.open_faults before.read_faults bytes mid.faults) after) steps.written
-      (subst (λ n. Performs One Left (second ∷ []) result (outside mid.told mid.asked before.open_faults n mid.written mid.faults) after) steps.read
-      (subst (λ n. Performs One Left (second ∷ []) result (outside mid.told mid.asked n mid.read_faults mid.written mid.faults) after) steps.opened is)))
+-- the counts and the output are those before the first file
+counted : {One : Outcome → Type 0} {Left : Outside → Outside → List ℕ → Type 0} (first second : List ℕ) (result : Result Status Refused) (before mid after : Outside)
+    → StepsTo first before mid → Performs One Left (second ∷ []) result mid after → Performs One Left (second ∷ []) result (from before mid) after
+counted {One} {Left} first second result before mid after steps is =
+    subst (λ n. Performs One Left (second ∷ []) result (outside mid.told mid.asked before.open_faults before.read_faults before.written n) after) steps.faults
+    (subst (λ bytes. Performs One Left (second ∷ []) result (outside mid.told mid.asked before.open_faults before.read_faults bytes mid.faults) after) steps.written
+    (subst (λ n. Performs One Left (second ∷ []) result (outside mid.told mid.asked before.open_faults n mid.written mid.faults) after) steps.read
+    (subst (λ n. Performs One Left (second ∷ []) result (outside mid.told mid.asked n mid.read_faults mid.written mid.faults) after) steps.opened is)))
 
+module _ {One Other : Outcome → Type 0} {Left Leaves : Outside → Outside → List ℕ → Type 0} (moves : (outcome : Outcome) → One outcome → Other outcome)
+    (first second : List ℕ) (result : Result Status Refused) (before mid after : Outside) (steps : StepsTo first before mid)
+    (leaves : StepsTo first before mid → (bytes : List ℕ) → Left (from before mid) after bytes → Leaves before after bytes) where
   pub performs_later : Performs One Left (second ∷ []) result mid after → Performs Other Leaves (first ∷ second ∷ []) result before after
   performs_later given =
-      let is = counted given in
-      let left : (some : (bytes : List ℕ) × Left bytes × Appends before.written after.written bytes)
-      → (bytes : List ℕ) × Leaves bytes × Appends before.written after.written bytes = λ some. (some.0, leaves some.0 some.1, some.2) in
+      let is = counted first second result before mid after steps given in
+      let left : (some : (bytes : List ℕ) × Left (from before mid) after bytes × Appends before.written after.written bytes)
+      → (bytes : List ℕ) × Leaves before after bytes × Appends before.written after.written bytes = λ some. (some.0, leaves steps some.0 some.1, some.2) in
       record {
         right = on_true_weaker (is_determined (ending result)) (ends_moved moves before.written after.written (ending result) (λ message. message ≡ said result)) is.right;
         answer = is.answer;

@@ -9,17 +9,18 @@
 use Rattle.std.specs.Prelude.{◌≡◌, ◌⊎◌, ℕ, Bool, true, false, List, [], Option, IsTrue, IsFalse}
 use Rattle.std.specs.Bool.{OnTrue}
 use Rattle.dcv_io.specs.Asked.{Asks, AsksPrefix}
-use Rattle.dcv_io.specs.Disk.{Disk}
 use Rattle.dcv_io.specs.Faults.{has_risen, Rises}
 use Rattle.dcv_io.specs.Written.{Appends, AppendsPrefix, AppendsStrictPrefix}
-use Rattle.dcv_command.specs.Request.{Request, files_of}
+use Rattle.dcv_command.specs.Request.{Request, Replay, files_of}
 use Rattle.dcv_cli.specs.declared.refusal.Refusal.TheVariants.{Open, Read, Write, Memory as OutOfMemory}
 use Rattle.dcv_cli.specs.declared.status.Status.{Status}
 use Rattle.dcv_cli.specs.declared.status.Status.TheVariants.{Input, Output, Memory}
 use Rattle.dcv_cli.specs.Outcome.{Outcome}
+use Rattle.dcv_cli.specs.Outside.{Outside}
 use Rattle.dcv_cli.specs.Refusal.{message_of, only}
 use Rattle.dcv_cli.specs.Request.{AsksFor}
 use Rattle.dcv_cli.specs.Held.{Texts, ForHeld}
+use Rattle.dcv_cli.specs.Replayed.{LeavesAnswers}
 
 -- ---- the status and the report
 
@@ -39,17 +40,18 @@ AddsFront Right old new = Appends old new [] ⊎ ((outcome : Outcome) × Right o
 abbrev pub StopsWithin : (Outcome → Type 0) → Option (List ℕ) → Option (List ℕ) → Type 0
 StopsWithin Right old new = (outcome : Outcome) × Right outcome × AppendsStrictPrefix old new outcome.out
 
--- What a run of the request has written where an input failed: nothing.
-abbrev pub Leaves : Request → Texts → List ℕ → Type 0
-Leaves request held bytes = bytes ≡ []
+-- What a run of the request has written where an input failed: nothing, but of a replay the answers up to there.
+abbrev pub Leaves : Request → Texts → Outside → Outside → List ℕ → Type 0
+Leaves (Replay subset observer trace) held before after bytes = LeavesAnswers subset observer trace held before after bytes
+Leaves _ held before after bytes = bytes ≡ []
 
 -- that is what was added to the output, for the request of the words
-pub record LeavesOver (words : List (List ℕ)) (told : Option Disk) (old new : Option (List ℕ)) : Type 0 where
+pub record LeavesOver (words : List (List ℕ)) (before after : Outside) : Type 0 where
   pub request : Request
   pub asked : AsksFor words request
   pub bytes : List ℕ
-  pub left : ForHeld told (λ held. Leaves request held bytes)
-  pub added : Appends old new bytes
+  pub left : ForHeld before.told (λ held. Leaves request held before after bytes)
+  pub added : Appends before.written after.written bytes
 
 -- ---- the files
 

@@ -22,7 +22,7 @@ use Rattle.dcv_cli.specs.Outcome.{Outcome, Agrees}
 use Rattle.dcv_print.specs.Sections.{all_text}
 use Rattle.dcv_print.specs.declared.report.Kind.{Kind}
 use Rattle.dcv_print.specs.declared.report.Kind.TheVariants.{Automaton, All as AllTexts}
-use Rattle.dcv_command.specs.Request.{Request, Report, Certify, Implies, files_of}
+use Rattle.dcv_command.specs.Request.{Request, Report, Certify, Implies, Replay, files_of}
 use Rattle.dcv_cli.specs.Request.{AsksFor}
 use Rattle.dcv_cli.specs.Right.{Fulfils, IsRight}
 use Rattle.dcv_cli.specs.Status.{is_answer}
@@ -69,16 +69,17 @@ OneOutcome = (words : List (List ℕ)) (held : Texts) (one other : Outcome) → 
 abbrev pub AreHeld : List (List ℕ) → (Texts) → Type 0
 AreHeld words held = (request : Request) → AsksFor words request → (time : ℕ) → All (λ name. IsSome (held time name)) (files_of request)
 
--- they ask for something else than a report on a formula file
-abbrev pub is_report : Request → Bool
-is_report (Report kind name limits) = true
-is_report _ = false
+-- they ask for something else than a report on a formula file, and no replay
+abbrev pub is_report_or_replay : Request → Bool
+is_report_or_replay (Report kind name limits) = true
+is_report_or_replay (Replay subset observer trace) = true
+is_report_or_replay _ = false
 
 abbrev pub AskOtherwise : List (List ℕ) → Type 0
-AskOtherwise words = (request : Request) × AsksFor words request × IsFalse (is_report request)
+AskOtherwise words = (request : Request) × AsksFor words request × IsFalse (is_report_or_replay request)
 
--- Some outcome is right for all words, where the files that they name are held, unless they ask for something else than a report, or name a
--- formula file.
+-- Some outcome is right for all words, where the files that they name are held, unless they ask for something else than a report or a replay, or
+-- for a report and name a formula file.
 abbrev pub SomeOutcome : Type 0
 SomeOutcome = (words : List (List ℕ)) (held : Texts) → AreHeld words held
     → ((outcome : Outcome) × IsRight words held outcome) ⊎ AskForAFormula words held ⊎ AskOtherwise words

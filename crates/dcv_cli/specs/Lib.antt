@@ -3,6 +3,7 @@ pub mod Request
 pub mod Status
 pub mod Refusal
 pub mod Outcome
+pub mod Outside
 pub mod Held
 pub mod FormulaFile
 pub mod Budget
@@ -11,6 +12,8 @@ pub mod Report
 pub mod AutomatonFile
 pub mod Certificate
 pub mod Comparison
+pub mod ObserverFile
+pub mod Replayed
 pub mod Right
 pub mod Ending
 pub mod Performed
@@ -18,3 +21,4 @@ pub mod Laws
 -- what clauses within the crate cite
 pub mod Expanded
 pub mod Judged
+pub mod Replaying

@@ -1,12 +1,11 @@
 -- What each command keeps to, whatever it is asked for. The clauses of `run` are these, with the message.
---     Outside                          what is seen of the files and of the output
 --     ending result, said result       the status of a command, and the line that says why it gives no answer
 --     Performs Right Left names ..     the command ends rightly, or says why not
 --     PerformsRequest request ..       it does what the request asks for
-use Rattle.std.specs.Prelude.{◌≡◌, ℕ, Bool, false, List, [], Option, Result, Ok, Err, IfOk, IfErr, IsTrue}
+use Rattle.std.specs.Prelude.{◌≡◌, ℕ, Bool, false, List, [], Result, Ok, Err, IfOk, IfErr, IsTrue}
 use Rattle.std.specs.Bool.{OnTrue}
 use Rattle.dcv_io.specs.Asked.{AsksPrefix}
-use Rattle.dcv_io.specs.Disk.{Disk, held_of}
+use Rattle.dcv_io.specs.Disk.{held_of}
 use Rattle.dcv_io.specs.Faults.{has_risen, RisesIf}
 use Rattle.dcv_io.specs.Written.{Appends}
 use Rattle.dcv_command.specs.Request.{Request, files_of}
@@ -15,22 +14,11 @@ use Rattle.dcv_cli.specs.declared.status.Status.{Status}
 use Rattle.dcv_cli.specs.Ending.{EndsBy, AddsFront, StopsWithin, Leaves, HasInputCause, has_cause}
 use Rattle.dcv_cli.specs.Held.{ForHeld}
 use Rattle.dcv_cli.specs.Outcome.{Outcome}
+use Rattle.dcv_cli.specs.Outside.{Outside}
 use Rattle.dcv_cli.specs.declared.refused.Which.TheVariants.{Only}
 use Rattle.dcv_cli.specs.Refusal.{status_of, message_of, is_open, is_read}
 use Rattle.dcv_cli.specs.Right.{FulfilsOver}
 use Rattle.dcv_cli.specs.Status.{is_answer, is_determined, is_silent, is_input, is_output}
-
-pub record Outside : Type 0 where
-  pub told : Option Disk
-  pub asked : Option (List (List ℕ))
-  pub open_faults : ℕ
-  pub read_faults : ℕ
-  pub written : Option (List ℕ)
-  pub faults : ℕ
-
-abbrev pub outside : Option Disk → Option (List (List ℕ)) → ℕ → ℕ → Option (List ℕ) → ℕ → Outside
-outside told asked open_faults read_faults written faults =
-    record { told = told; asked = asked; open_faults = open_faults; read_faults = read_faults; written = written; faults = faults }
 
 abbrev pub ending : Result Status Refused → Status
 ending (Ok status) = status
@@ -49,8 +37,8 @@ abbrev pub is_read_refusal : Result Status Refused → Bool
 is_read_refusal (Ok status) = false
 is_read_refusal (Err refused) = is_read refused.refusal
 
--- `Right` says which outcomes are right, `Left` what may have been written where an input failed, and `names` are the files that are read.
-pub record Performs (Right : Outcome → Type 0) (Left : List ℕ → Type 0) (names : List (List ℕ)) (result : Result Status Refused) (before after : Outside) : Type 0 where
+-- `Right` says which outcomes are right, `Left` what was written where an input failed, and `names` are the files that are read.
+pub record Performs (Right : Outcome → Type 0) (Left : Outside → Outside → List ℕ → Type 0) (names : List (List ℕ)) (result : Result Status Refused) (before after : Outside) : Type 0 where
   -- Where the texts determine the end, it is that of a right outcome. A command that answers does so without a message.
   pub right : OnTrue (is_determined (ending result)) (EndsBy Right (ending result) before.written after.written (λ message. message ≡ said result))
   pub answer : IfOk result (λ status. IsTrue (is_answer status))
@@ -59,7 +47,7 @@ pub record Performs (Right : Outcome → Type 0) (Left : List ℕ → Type 0) (n
   pub front : AddsFront Right before.written after.written
   pub silent : OnTrue (is_silent (ending result)) (Appends before.written after.written [])
   pub stops : OnTrue (is_output (ending result)) (StopsWithin Right before.written after.written)
-  pub left : OnTrue (is_input (ending result)) ((bytes : List ℕ) × Left bytes × Appends before.written after.written bytes)
+  pub left : OnTrue (is_input (ending result)) ((bytes : List ℕ) × Left before after bytes × Appends before.written after.written bytes)
   -- Its files are asked for in order, no fault is passed over, and none is invented. A refusal that the outside brought about is of no file.
   pub asked : AsksPrefix names before.asked after.asked
   pub input : HasInputCause (ending result) before.open_faults after.open_faults before.read_faults after.read_faults
@@ -70,9 +58,9 @@ pub record Performs (Right : Outcome → Type 0) (Left : List ℕ → Type 0) (n
   pub held : held_of after.told ≡ held_of before.told
 
 -- what was written for the request, where an input failed
-abbrev pub LeavesFor : Request → Option Disk → List ℕ → Type 0
-LeavesFor request told bytes = ForHeld told (λ held. Leaves request held bytes)
+abbrev pub LeavesFor : Request → Outside → Outside → List ℕ → Type 0
+LeavesFor request before after bytes = ForHeld before.told (λ held. Leaves request held before after bytes)
 
 abbrev pub PerformsRequest : Request → Result Status Refused → Outside → Outside → Type 0
 PerformsRequest request result before after =
-    Performs (FulfilsOver request before.told) (LeavesFor request before.told) (files_of request) result before after
+    Performs (FulfilsOver request before.told) (LeavesFor request) (files_of request) result before after

@@ -1,6 +1,7 @@
 -- What each refusal says, and what it comes from.
 --     most_bytes             how many bytes a formula file may have
 --     most_automaton_bytes   how many the text of an automaton may have
+--     most_observer_bytes    how many the text of an observer may have
 --     words_of refusal       the words of its line, as `fault syntax at 12`
 --     over_words over        those of the first step that is over the limits, as `budget states 30000 at 12 step 3`
 --     ended which words      the words where a request reads two formula files, and this one is refused
@@ -11,6 +12,11 @@ use Rattle.dcv_automaton_read.specs.declared.faults.AutoFault.{AutoFault}
 use Rattle.dcv_automaton_read.specs.declared.faults.AutoFault.TheVariants.{Syntax as AutoSyntax, Table as AutoTable, Memory as AutoMemory}
 use Rattle.dcv_implies.specs.declared.faults.OutsideFault.{OutsideFault}
 use Rattle.dcv_implies.specs.declared.faults.OutsideFault.TheVariants.{States as OutsideStates, Nodes as OutsideNodes, Memory as OutsideMemory}
+use Rattle.dcv_observer.specs.declared.fault.ObsFault.{ObsFault}
+use Rattle.dcv_observer.specs.declared.fault.ObsFault.TheVariants.{Syntax as ObsSyntax, Names as ObsNames, Memory as ObsMemory}
+use Rattle.dcv_replay.specs.declared.fault.ReplayFault.{ReplayFault}
+use Rattle.dcv_replay.specs.declared.fault.ReplayFault.TheVariants.{Open as ReplayOpen, Read as ReplayRead, Line as ReplayLine, TooLong as ReplayLong}
+use Rattle.dcv_replay.specs.declared.fault.ReplayFault.TheVariants.{Empty as ReplayEmpty, Write as ReplayWrite}
 use Rattle.dcv_sentence.specs.declared.faults.ReadFault.{ReadFault}
 use Rattle.dcv_sentence.specs.declared.faults.ReadFault.TheVariants.{Byte as ByteAt, Syntax as SyntaxAt, Number as NumberAt, Name as NameAt, Nest as NestAt, Memory as ReadMemory}
 use Rattle.dcv_scope.specs.declared.faults.ScopeFault.{ScopeFault}
@@ -22,11 +28,15 @@ use Rattle.dcv_cli.specs.declared.budget_line.Excess.{Excess}
 use Rattle.dcv_cli.specs.declared.budget_line.Excess.TheVariants.{States, Nodes}
 use Rattle.dcv_cli.specs.declared.budget_line.Over.{Over}
 use Rattle.dcv_cli.specs.declared.refusal.Refusal.{Refusal}
-use Rattle.dcv_cli.specs.declared.refusal.Refusal.TheVariants.{Open, Read, Formula, Automaton, Budget, Product, Write, Memory}
+use Rattle.dcv_cli.specs.declared.refusal.Refusal.TheVariants.{Open, Read, Formula, Automaton, Observer, Trace, Budget, Product, Write, Memory}
 use Rattle.dcv_cli.specs.declared.faults.FormulaFault.{FormulaFault}
 use Rattle.dcv_cli.specs.declared.faults.FormulaFault.TheVariants.{Length as FormulaLength, Text, Declarations}
 use Rattle.dcv_cli.specs.declared.faults.AutomatonFault.{AutomatonFault}
 use Rattle.dcv_cli.specs.declared.faults.AutomatonFault.TheVariants.{Length as AutomatonLength, Syntax as AutomatonSyntax, Table as AutomatonTable}
+use Rattle.dcv_cli.specs.declared.faults.ObserverFault.{ObserverFault}
+use Rattle.dcv_cli.specs.declared.faults.ObserverFault.TheVariants.{Length as ObserverLength, Syntax as ObserverSyntax, Names as ObserverNames}
+use Rattle.dcv_cli.specs.declared.faults.TraceFault.{TraceFault}
+use Rattle.dcv_cli.specs.declared.faults.TraceFault.TheVariants.{Line, Empty, Length as TraceLength}
 use Rattle.dcv_cli.specs.declared.refused.Refused.{Refused}
 use Rattle.dcv_cli.specs.declared.refused.Which.{Which}
 use Rattle.dcv_cli.specs.declared.refused.Which.TheVariants.{Only, First, Second}
@@ -34,7 +44,7 @@ use Rattle.dcv_cli.specs.declared.faults.TextFault.{TextFault}
 use Rattle.dcv_cli.specs.declared.faults.TextFault.TheVariants.{Byte, Syntax, Number, Name, Nest, Many, Duplicate, Taken, Unknown, Kind, Arity, Size, Depth, Slots}
 use Rattle.dcv_cli.specs.declared.status.Status.{Status}
 use Rattle.dcv_cli.specs.declared.status.Status.TheVariants.{Formula as StatusFormula, Budget as StatusBudget, Input, Output, Memory as StatusMemory}
-use Rattle.dcv_cli.specs.declared.status.Status.TheVariants.{Automaton as StatusAutomaton}
+use Rattle.dcv_cli.specs.declared.status.Status.TheVariants.{Automaton as StatusAutomaton, Trace as StatusTrace, Observer as StatusObserver}
 
 abbrev pub most_bytes : ℕ
 most_bytes = 262144
@@ -43,11 +53,17 @@ most_bytes = 262144
 abbrev pub most_automaton_bytes : ℕ
 most_automaton_bytes = 134217728
 
+-- and that of an observer
+abbrev pub most_observer_bytes : ℕ
+most_observer_bytes = 134217728
+
 abbrev pub status_of : Refusal → Status
 status_of Open = Input
 status_of Read = Input
 status_of (Formula fault) = StatusFormula
 status_of (Automaton fault) = StatusAutomaton
+status_of (Observer fault) = StatusObserver
+status_of (Trace fault) = StatusTrace
 status_of (Budget over) = StatusBudget
 status_of (Product excess limit) = StatusBudget
 status_of Write = Output
@@ -88,6 +104,17 @@ automaton_words AutomatonLength = fault_words (codes "automaton length")
 automaton_words (AutomatonSyntax at) = fault_words_at (codes "automaton syntax") at
 automaton_words (AutomatonTable at) = fault_words_at (codes "automaton table") at
 
+abbrev pub observer_words : ObserverFault → List ℕ
+observer_words ObserverLength = fault_words (codes "observer length")
+observer_words (ObserverSyntax at) = fault_words_at (codes "observer syntax") at
+observer_words (ObserverNames at) = fault_words_at (codes "observer names") at
+
+-- a line is told by its number
+abbrev pub trace_words : TraceFault → List ℕ
+trace_words (Line line) = fault_words (codes "line ") ++ decimal line
+trace_words Empty = fault_words (codes "trace empty")
+trace_words TraceLength = fault_words (codes "trace length")
+
 -- what there is too much of, in a word
 abbrev pub excess_word_of : Excess → List ℕ
 excess_word_of States = codes "states"
@@ -105,6 +132,8 @@ words_of Open = fault_words (codes "open")
 words_of Read = fault_words (codes "read")
 words_of (Formula fault) = formula_words fault
 words_of (Automaton fault) = automaton_words fault
+words_of (Observer fault) = observer_words fault
+words_of (Trace fault) = trace_words fault
 words_of (Budget over) = over_words over
 words_of (Product excess limit) = product_words excess limit
 words_of Write = fault_words (codes "write")
@@ -140,6 +169,19 @@ abbrev pub refusal_of_automaton : AutoFault → Refusal
 refusal_of_automaton (AutoSyntax at) = Automaton (AutomatonSyntax at)
 refusal_of_automaton (AutoTable at) = Automaton (AutomatonTable at)
 refusal_of_automaton AutoMemory = Memory
+
+abbrev pub refusal_of_observer : ObsFault → Refusal
+refusal_of_observer (ObsSyntax at) = Observer (ObserverSyntax at)
+refusal_of_observer (ObsNames at) = Observer (ObserverNames at)
+refusal_of_observer ObsMemory = Memory
+
+abbrev pub refusal_of_replay : ReplayFault → Refusal
+refusal_of_replay ReplayOpen = Open
+refusal_of_replay ReplayRead = Read
+refusal_of_replay (ReplayLine line) = Trace (Line line)
+refusal_of_replay ReplayLong = Trace TraceLength
+refusal_of_replay ReplayEmpty = Trace Empty
+refusal_of_replay ReplayWrite = Write
 
 abbrev pub refusal_of_outside : OutsideFault → Refusal
 refusal_of_outside (OutsideStates limit) = Product States limit

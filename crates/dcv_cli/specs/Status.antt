@@ -2,7 +2,7 @@
 use Rattle.std.specs.Prelude.{ℕ, Bool, true, false, is_none, if◌then◌else◌}
 use Rattle.dcv_language.specs.Verdict.{Verdict}
 use Rattle.dcv_cli.specs.declared.status.Status.{Status}
-use Rattle.dcv_cli.specs.declared.status.Status.TheVariants.{Valid, Done, NotValid, Usage, Formula, Budget, Input, Output, Memory, Automaton}
+use Rattle.dcv_cli.specs.declared.status.Status.TheVariants.{Valid, Done, NotValid, Usage, Formula, Budget, Input, Output, Memory, Trace, Observer, Automaton}
 
 -- the program's exit status
 abbrev pub code_of : Status → ℕ
@@ -15,6 +15,8 @@ code_of Budget = 4
 code_of Input = 5
 code_of Output = 6
 code_of Memory = 7
+code_of Trace = 8
+code_of Observer = 9
 code_of Automaton = 10
 
 -- of a run that answers with this verdict: valid where there is no counterexample
@@ -35,6 +37,8 @@ is_determined Done = true
 is_determined NotValid = true
 is_determined Formula = true
 is_determined Budget = true
+is_determined Trace = true
+is_determined Observer = true
 is_determined Automaton = true
 is_determined _ = false
 
@@ -43,6 +47,7 @@ abbrev pub is_silent : Status → Bool
 is_silent Usage = true
 is_silent Formula = true
 is_silent Budget = true
+is_silent Observer = true
 is_silent Automaton = true
 is_silent Memory = true
 is_silent _ = false

@@ -9,7 +9,8 @@ ghost use Rattle.std.specs.Bool.{OnTrue};
 ghost use Rattle.dcv_cli.specs.AutomatonFile.{IsRefusedAutomaton};
 ghost use Rattle.dcv_cli.specs.Certificate.{answer_words, status_of_answer, IsCertifiedText};
 ghost use Rattle.dcv_cli.specs.Status.{is_determined};
-ghost use Rattle.dcv_cli.specs.Performed.{PerformsRequest, outside};
+ghost use Rattle.dcv_cli.specs.Outside.{outside};
+ghost use Rattle.dcv_cli.specs.Performed.{PerformsRequest};
 ghost use Rattle.dcv_cli.specs.Refusal.{most_automaton_bytes, is_of_text, status_of};
 
 use crate::faults::{AutomatonFault, MOST_AUTOMATON_BYTES};

@@ -12,7 +12,8 @@ ghost use Rattle.dcv_cli.specs.Comparison.{comparison_text, status_of_least, com
 ghost use Rattle.dcv_cli.specs.Ending.{has_cause};
 ghost use Rattle.dcv_cli.specs.Expanded.{IsExpanded, IsOfFile};
 ghost use Rattle.dcv_cli.specs.Outcome.{IsExplained};
-ghost use Rattle.dcv_cli.specs.Performed.{Performs, PerformsRequest, outside};
+ghost use Rattle.dcv_cli.specs.Outside.{outside};
+ghost use Rattle.dcv_cli.specs.Performed.{Performs, PerformsRequest};
 ghost use Rattle.dcv_cli.specs.Refusal.{status_of, is_of_text};
 ghost use Rattle.dcv_cli.specs.declared.refused.Which.TheVariants.{Only};
 
@@ -68,7 +69,7 @@ fn compare_with<F: Files, O: Sink>(
 ) -> Result<Status, Refused>
     requires { IsOfFile one.now }
     ensures { (first : PlainFile) → IsExpanded first one.now
-        → Performs (FulfilsSecond limits first second.entry.now (F.told files.old)) (λ bytes. bytes ≡ []) (second.entry.now ∷ []) result
+        → Performs (FulfilsSecond limits first second.entry.now (F.told files.old)) (λ before after bytes. bytes ≡ []) (second.entry.now ∷ []) result
         (outside (F.told files.old) (F.asked files.old) (F.open_faults files.old) (F.read_faults files.old) (O.written out.old) (O.faults out.old))
         (outside (F.told files.new) (F.asked files.new) (F.open_faults files.new) (F.read_faults files.new) (O.written out.new) (O.faults out.new)) }
 {

@@ -2,16 +2,21 @@
 ghost use Rattle.std.specs.Prelude.{◌≡◌, is_err, OnOk, OnErr};
 ghost use Rattle.dcv_io.specs.Faults.{RisesIf};
 ghost use Rattle.dcv_io.specs.Written.{Appends, AppendsPrefix};
-ghost use Rattle.dcv_cli.specs.Refusal.{text_word_of, formula_words, automaton_words};
+ghost use Rattle.dcv_cli.specs.Refusal.{text_word_of, formula_words, automaton_words, observer_words, trace_words};
+ghost use Rattle.dcv_cli.specs.declared.faults.TraceFault.TheVariants.{Line};
 
-use crate::telling::{tell_fault, tell_fault_at};
+use crate::telling::{tell_fault, tell_fault_at, write_pieces};
 use dcv_io::{Failed, Sink};
+use itoa::Buffer;
 
 /// The most bytes that a formula file has.
 pub const MOST_BYTES: u64 = 262_144;
 
 /// The most bytes that the text of an automaton has.
 pub const MOST_AUTOMATON_BYTES: u64 = 134_217_728;
+
+/// The most bytes that the text of an observer has.
+pub const MOST_OBSERVER_BYTES: u64 = 134_217_728;
 
 /// What is wrong with a text, at some place of it.
 #[derive(Clone, Copy, Debug, PartialEq, Eq)]
@@ -124,4 +129,67 @@ impl AutomatonFault {
             AutomatonFault::Table { at } => tell_fault_at(sink, b"automaton table", u64::from(at)),
         }
     }
+}
+
+/// Why a text is no observer's.
+#[derive(Clone, Copy, Debug, PartialEq, Eq)]
+pub enum ObserverFault {
+    /// It is longer than such a text may be.
+    Length,
+    /// Up to the token or byte at this offset it begins a text of the subset, and no further.
+    Syntax { at: u32 },
+    /// The word at this offset breaks a rule of names.
+    Names { at: u32 },
+}
+
+impl ObserverFault {
+    /// Writes the words that say so.
+    pub fn tell<S: Sink>(self, sink: &mut S) -> Result<(), Failed>
+        ensures ok { OnOk result (Appends (S.written sink.old) (S.written sink.new) (observer_words self)) }
+        ensures failed { OnErr result (AppendsPrefix (S.written sink.old) (S.written sink.new) (observer_words self)) }
+        ensures faults { RisesIf (is_err result) (S.faults sink.old) (S.faults sink.new) }
+    {
+        match self {
+            ObserverFault::Length => tell_fault(sink, b"observer length"),
+            ObserverFault::Syntax { at } => tell_fault_at(sink, b"observer syntax", u64::from(at)),
+            ObserverFault::Names { at } => tell_fault_at(sink, b"observer names", u64::from(at)),
+        }
+    }
+}
+
+/// What is wrong with a trace, behind its good lines.
+#[derive(Clone, Copy, Debug, PartialEq, Eq)]
+pub enum TraceFault {
+    /// The line with this number, counted from 1, is no line of the observer's inputs.
+    Line { line: u32 },
+    /// It has no line.
+    Empty,
+    /// It has more lines than a trace may have.
+    Length,
+}
+
+impl TraceFault {
+    /// Writes the words that say so.
+    pub fn tell<S: Sink>(self, sink: &mut S) -> Result<(), Failed>
+        ensures ok { OnOk result (Appends (S.written sink.old) (S.written sink.new) (trace_words self)) }
+        ensures failed { OnErr result (AppendsPrefix (S.written sink.old) (S.written sink.new) (trace_words self)) }
+        ensures faults { RisesIf (is_err result) (S.faults sink.old) (S.faults sink.new) }
+    {
+        match self {
+            TraceFault::Line { line } => tell_line(sink, line),
+            TraceFault::Empty => tell_fault(sink, b"trace empty"),
+            TraceFault::Length => tell_fault(sink, b"trace length"),
+        }
+    }
+}
+
+// Writes the words of a fault of the line with this number.
+fn tell_line<S: Sink>(sink: &mut S, line: u32) -> Result<(), Failed>
+    ensures ok { OnOk result (Appends (S.written sink.old) (S.written sink.new) (trace_words (Line line))) }
+    ensures failed { OnErr result (AppendsPrefix (S.written sink.old) (S.written sink.new) (trace_words (Line line))) }
+    ensures faults { RisesIf (is_err result) (S.faults sink.old) (S.faults sink.new) }
+{
+    let mut number = Buffer::new();
+    let digits = number.format(line);
+    write_pieces(sink, &[b"fault line ", digits.as_bytes()])
 }

@@ -3,14 +3,17 @@ ghost use Rattle.dcv_cli.specs.Laws.{OneOutcome, SomeOutcome, EqualMeanings, Pri
 
 use dcv_automaton_text::laws::one_file as one_automaton_text;
 use dcv_build::laws::one_step_is_over;
+use dcv_c::laws::{texts_are_units_or_at_fault, texts_spell_units};
 use dcv_certify::laws::{one_answer, printed_is_certified as good_words_are_certified};
 use dcv_command::laws::taken_words_ask;
 use dcv_implies::laws::{none_is_inclusion, one_answer as one_comparison};
 use dcv_language::laws::{one_verdict, verdict_of_same_behaviours};
+use dcv_lustre::laws::{texts_are_nodes_or_at_fault, texts_spell_nodes};
 use dcv_print::laws::{
     automaton_of_same_behaviours, one_automaton, one_file, printed_observers_observe,
 };
 use dcv_reader::laws::{one_fault, one_tree, some_reading};
+use dcv_replay::laws::{letters_have_one_text_of_answers, traces_have_one_verdict};
 
 /// One outcome at most is right for the words and the texts that are held. So each status, report and message that
 /// the clauses of [`run`](crate::run) call right is the only one.
@@ -26,15 +29,25 @@ pub fn one_outcome()
     one_automaton_text();
     one_answer();
     one_comparison();
+    texts_spell_nodes();
+    texts_are_nodes_or_at_fault();
+    texts_spell_units();
+    texts_are_units_or_at_fault();
+    traces_have_one_verdict();
+    letters_have_one_text_of_answers();
 }
 
-/// Some outcome is right for all words, where the files that they name are held, unless the text is that of a formula file, or an automaton's is
-/// asked for. So no words and no text of a formula file that has a fault leave [`run`](crate::run) nothing to answer but that memory has run out.
+/// Some outcome is right for all words, where the files that they name are held, unless they ask for a report and name a formula file, or ask for
+/// something else than a report or a replay. So no words, no replay, and no text of a formula file that has a fault leave [`run`](crate::run) nothing to answer but that memory has run out.
 pub fn some_outcome()
     ensures { SomeOutcome }
 {
     some_reading();
     taken_words_ask();
+    texts_are_nodes_or_at_fault();
+    texts_are_units_or_at_fault();
+    traces_have_one_verdict();
+    letters_have_one_text_of_answers();
 }
 
 /// Formula files with the same variables and the same models have the same answer: the same verdict, the same observers, and the same

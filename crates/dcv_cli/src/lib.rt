@@ -11,7 +11,8 @@
 //! With `var door_closed; infer [[door_closed]];` held under that name, `status` is [`Status::NotValid`], and on `out` stands
 //! `not valid`, `satisfiable`, a counterexample of the one instant `0` and an example of the one instant `1`. With `automaton` in place
 //! of `check` there stands the minimal automaton of the formula, with two states, in the text that `dcv_automaton_text` shows.
-//! `certify` reads such a text back and judges its words by themselves, and `implies` compares two formula files.
+//! `certify` reads such a text back and judges its words by themselves, `implies` compares two formula files, and `replay-lustre` and
+//! `replay-c` run an observer over a trace.
 #![tactic(auto)]
 
 mod automaton;
@@ -25,6 +26,7 @@ pub mod laws;
 mod performing;
 mod refusal;
 mod refused;
+mod replaying;
 mod reporting;
 mod running;
 mod status;

@@ -1,11 +1,13 @@
 // What the program does for a request.
 ghost use Rattle.dcv_command.specs.Request.{IsInRange};
 ghost use Rattle.dcv_command.specs.Seen.{asked_by};
-ghost use Rattle.dcv_cli.specs.Performed.{PerformsRequest, outside};
+ghost use Rattle.dcv_cli.specs.Outside.{outside};
+ghost use Rattle.dcv_cli.specs.Performed.{PerformsRequest};
 
 use crate::certifying::certify_file;
 use crate::comparing::compare_files;
 use crate::refused::Refused;
+use crate::replaying::replay_file;
 use crate::reporting::report_on_file;
 use crate::status::Status;
 use dcv_command::Request;
@@ -34,5 +36,10 @@ pub(crate) fn perform<F: Files, O: Sink>(
             second,
             limits,
         } => compare_files(alloc, first, second, limits, files, out),
+        Request::Replay {
+            subset,
+            observer,
+            trace,
+        } => replay_file(alloc, subset, observer, trace, files, out),
     }
 }

@@ -5,16 +5,17 @@ ghost use Rattle.dcv_io.specs.Written.{Appends, AppendsPrefix};
 ghost use Rattle.dcv_cli.specs.declared.refusal.Refusal.TheVariants.{Formula, Memory, Product};
 ghost use Rattle.dcv_cli.specs.declared.faults.FormulaFault.TheVariants.{Text};
 ghost use Rattle.dcv_cli.specs.Refusal.{marked, status_of, words_of};
-ghost use Rattle.dcv_cli.specs.Refusal.{refusal_of_automaton, refusal_of_outside, refusal_of_reading, refusal_of_scope};
+ghost use Rattle.dcv_cli.specs.Refusal.{refusal_of_automaton, refusal_of_observer, refusal_of_outside, refusal_of_reading, refusal_of_scope};
 
 use crate::budget_line::{Excess, Over, tell_product};
-use crate::faults::{AutomatonFault, FormulaFault, TextFault};
+use crate::faults::{AutomatonFault, FormulaFault, ObserverFault, TextFault, TraceFault};
 use crate::refused::{Refused, Which};
 use crate::status::Status;
 use crate::telling::tell_fault;
 use dcv_automaton_read::AutoFault;
 use dcv_implies::OutsideFault;
 use dcv_io::{Failed, Sink};
+use dcv_observer::ObsFault;
 use dcv_reader::ReadFault;
 use dcv_scope::ScopeFault;
 use std::alloc::{AllocError, AllocFailed};
@@ -30,6 +31,10 @@ pub enum Refusal {
     Formula(FormulaFault),
     /// The file's text is no automaton's.
     Automaton(AutomatonFault),
+    /// The file's text is no observer's.
+    Observer(ObserverFault),
+    /// The trace is not good. The answers to the lines before the fault are written.
+    Trace(TraceFault),
     /// A step of the file's formula is over the limits.
     Budget(Over),
     /// The product of two automata has more of this than the limit.
@@ -71,6 +76,8 @@ impl Refusal {
             Refusal::Open | Refusal::Read => Status::Input,
             Refusal::Formula(_) => Status::Formula,
             Refusal::Automaton(_) => Status::Automaton,
+            Refusal::Observer(_) => Status::Observer,
+            Refusal::Trace(_) => Status::Trace,
             Refusal::Budget(_) | Refusal::Product { .. } => Status::Budget,
             Refusal::Write => Status::Output,
             Refusal::Memory => Status::Memory,
@@ -88,6 +95,8 @@ impl Refusal {
             Refusal::Read => tell_fault(sink, b"read"),
             Refusal::Formula(fault) => fault.tell(sink),
             Refusal::Automaton(fault) => fault.tell(sink),
+            Refusal::Observer(fault) => fault.tell(sink),
+            Refusal::Trace(fault) => fault.tell(sink),
             Refusal::Budget(over) => over.tell(sink),
             Refusal::Product { excess, limit } => tell_product(sink, excess, limit),
             Refusal::Write => tell_fault(sink, b"write"),
@@ -152,6 +161,18 @@ impl From<AutoFault> for Refusal {
             AutoFault::Syntax { at } => Refusal::Automaton(AutomatonFault::Syntax { at }),
             AutoFault::Table { at } => Refusal::Automaton(AutomatonFault::Table { at }),
             AutoFault::Memory => Refusal::Memory,
+        }
+    }
+}
+
+impl From<ObsFault> for Refusal {
+    ghost from_gives = { λ fault refusal. refusal ≡ refusal_of_observer fault };
+
+    fn from(fault: ObsFault) -> Self {
+        match fault {
+            ObsFault::Syntax { at } => Refusal::Observer(ObserverFault::Syntax { at }),
+            ObsFault::Names { at } => Refusal::Observer(ObserverFault::Names { at }),
+            ObsFault::Memory => Refusal::Memory,
         }
     }
 }

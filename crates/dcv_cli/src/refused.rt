@@ -2,11 +2,13 @@
 ghost use Rattle.std.specs.Prelude.{◌≡◌, is_err, OnOk, OnErr};
 ghost use Rattle.dcv_io.specs.Faults.{RisesIf};
 ghost use Rattle.dcv_io.specs.Written.{Appends, AppendsPrefix};
-ghost use Rattle.dcv_cli.specs.Refusal.{end_of, message_of, only};
+ghost use Rattle.dcv_cli.specs.Refusal.{end_of, message_of, only, refusal_of_replay};
 ghost use Rattle.dcv_cli.specs.declared.refusal.Refusal.TheVariants.{Memory, Write};
 
+use crate::faults::TraceFault;
 use crate::refusal::Refusal;
 use dcv_io::{Failed, Sink, write_all};
+use dcv_replay::ReplayFault;
 use std::alloc::AllocError;
 
 /// Which of the formula files that a request reads.
@@ -56,6 +58,22 @@ impl From<Refusal> for Refused {
     ghost from_gives = { λ refusal refused. refused ≡ only refusal };
 
     fn from(refusal: Refusal) -> Self {
+        refusal.of(Which::Only)
+    }
+}
+
+impl From<ReplayFault> for Refused {
+    ghost from_gives = { λ fault refused. refused ≡ only (refusal_of_replay fault) };
+
+    fn from(fault: ReplayFault) -> Self {
+        let refusal = match fault {
+            ReplayFault::Open => Refusal::Open,
+            ReplayFault::Read => Refusal::Read,
+            ReplayFault::Line { line } => Refusal::Trace(TraceFault::Line { line }),
+            ReplayFault::TooLong => Refusal::Trace(TraceFault::Length),
+            ReplayFault::Empty => Refusal::Trace(TraceFault::Empty),
+            ReplayFault::Write => Refusal::Write,
+        };
         refusal.of(Which::Only)
     }
 }

@@ -7,7 +7,8 @@ ghost use Rattle.dcv_cli.specs.Budget.{steps_of_file, NamesFirstOver};
 ghost use Rattle.dcv_cli.specs.Expanded.{IsExpanded};
 ghost use Rattle.dcv_cli.specs.FormulaFile.{IsFormulaFile};
 ghost use Rattle.dcv_cli.specs.Judged.{IsJudged};
-ghost use Rattle.dcv_cli.specs.Performed.{PerformsRequest, outside};
+ghost use Rattle.dcv_cli.specs.Outside.{outside};
+ghost use Rattle.dcv_cli.specs.Performed.{PerformsRequest};
 
 use crate::expanded::{Expanded, built, expanded_file};
 use crate::judged::{Judged, report_on};

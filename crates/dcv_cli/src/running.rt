@@ -12,6 +12,7 @@ ghost use Rattle.dcv_command.specs.Program.{program};
 ghost use Rattle.dcv_command.specs.Seen.{asked_by};
 ghost use Rattle.dcv_cli.specs.Refusal.{status_of, message_of};
 ghost use Rattle.dcv_cli.specs.Request.{AsksFor};
+ghost use Rattle.dcv_cli.specs.Outside.{outside};
 ghost use Rattle.dcv_cli.specs.Performed.{LeavesFor};
 ghost use Rattle.dcv_cli.specs.Right.{FulfilsOver, IsRightOver};
 ghost use Rattle.dcv_cli.specs.Status.{is_answer, is_determined, is_input, is_of_request, is_output, is_silent, is_usage};
@@ -33,6 +34,7 @@ use std::alloc::Global;
 /// with words that show that none with fewer states accepts just the behaviours that satisfy it. `lustre FILE` and `c FILE`
 /// write that automaton as an observer. `certify FILE` judges the words of an automaton's text, and `implies FILE FILE` says
 /// whether each behaviour that satisfies the first formula satisfies the second, or writes a shortest that does not.
+/// `replay-lustre OBSERVER TRACE` and `replay-c OBSERVER TRACE` write what an observer answers at each instant of a trace.
 #[tactic(auto, using(crate::proofs::Endings::ends))]
 pub fn run<F: Files, O: Sink, E: Sink>(
     alloc: Global,
@@ -62,11 +64,14 @@ pub fn run<F: Files, O: Sink, E: Sink>(
     ensures cause { TellsCause result (has_risen (F.open_faults files.old) (F.open_faults files.new))
         (has_risen (F.read_faults files.old) (F.read_faults files.new)) (E.written err.old) (E.written err.new) (E.faults err.old) (E.faults err.new) }
 
-    // An answer says nothing on the messages, and a refusal before it nothing on the output.
+    // An answer says nothing on the messages, and a refusal before it nothing on the output. Where an input failed, a replay has answered
+    // the lines of the trace that were read.
     ensures no_message { OnTrue (is_answer result) (Appends (E.written err.old) (E.written err.new) []) }
     ensures no_report { OnTrue (is_silent result) (Appends (O.written out.old) (O.written out.new) []) }
     ensures stops { OnTrue (is_output result) (StopsWithin (IsRightOver words.now (F.told files.old)) (O.written out.old) (O.written out.new)) }
-    ensures left { OnTrue (is_input result) (LeavesOver words.now (F.told files.old) (O.written out.old) (O.written out.new)) }
+    ensures left { OnTrue (is_input result) (LeavesOver words.now
+        (outside (F.told files.old) (F.asked files.old) (F.open_faults files.old) (F.read_faults files.old) (O.written out.old) (O.faults out.old))
+        (outside (F.told files.new) (F.asked files.new) (F.open_faults files.new) (F.read_faults files.new) (O.written out.new) (O.faults out.new))) }
 
     ensures held { held_of (F.told files.new) ≡ held_of (F.told files.old) }
 {
@@ -102,7 +107,9 @@ fn answer<F: Files, O: Sink, E: Sink>(
         (has_risen (F.read_faults files.old) (F.read_faults files.new)) (E.written err.old) (E.written err.new) (E.faults err.old) (E.faults err.new) }
     ensures no_message { OnTrue (is_answer result) (Appends (E.written err.old) (E.written err.new) []) }
     ensures no_report { OnTrue (is_silent result) (Appends (O.written out.old) (O.written out.new) []) }
-    ensures left { OnTrue (is_input result) ((bytes : List ℕ) × LeavesFor (asked_by request.entry) (F.told files.old) bytes
+    ensures left { OnTrue (is_input result) ((bytes : List ℕ) × LeavesFor (asked_by request.entry)
+        (outside (F.told files.old) (F.asked files.old) (F.open_faults files.old) (F.read_faults files.old) (O.written out.old) (O.faults out.old))
+        (outside (F.told files.new) (F.asked files.new) (F.open_faults files.new) (F.read_faults files.new) (O.written out.new) (O.faults out.new)) bytes
         × Appends (O.written out.old) (O.written out.new) bytes) }
     ensures stops { OnTrue (is_output result) (StopsWithin (FulfilsOver (asked_by request.entry) (F.told files.old)) (O.written out.old) (O.written out.new)) }
     ensures held { held_of (F.told files.new) ≡ held_of (F.told files.old) }

@@ -26,6 +26,10 @@ pub enum Status {
     Output,
     /// Memory ran out.
     Memory,
+    /// The trace is not good: behind the lines that were answered stands a fault.
+    Trace,
+    /// The file holds no observer: its text has a fault.
+    Observer,
     /// The file holds no automaton: its text has a fault.
     Automaton,
 }
@@ -55,6 +59,8 @@ impl Status {
             Status::Input => 5,
             Status::Output => 6,
             Status::Memory => 7,
+            Status::Trace => 8,
+            Status::Observer => 9,
             Status::Automaton => 10,
         }
     }

@@ -4,14 +4,14 @@ use Rattle.std.specs.Option.{IfSome}
 use Rattle.std.specs.Result.{OnOk, is_err}
 use Rattle.std.proofs.lemmas.Bool.{false≢true}
 use Rattle.std.proofs.lemmas.List.{append-nil}
-use Rattle.dcv_io.specs.Disk.{Disk, WhereTold, Opens, Gives}
+use Rattle.dcv_io.specs.Disk.{Disk, held_of, WhereTold, Opens}
 use Rattle.dcv_word.specs.Behaviour.{Word}
 use Rattle.dcv_replay.specs.TraceText.{AreLines}
 use Rattle.dcv_replay.specs.Program.{ReplayValue, rest_of}
 use Rattle.dcv_replay.specs.Answers.{answers}
 use Rattle.dcv_replay.specs.Stops.{fault_of}
-use Rattle.dcv_replay.specs.Replayed.{Sends, HasLines, IsTraceResult, is_write, IfRead, CutShort, ReadsPart}
-use Rattle.dcv_replay.specs.Running.{Answered, IsEnding, IsResultOf, EndsBy, Ran, RunsOver, IsCut}
+use Rattle.dcv_replay.specs.Replayed.{Sends, HasLines, IsTraceResult, is_open, is_write, IfRead, CutShort}
+use Rattle.dcv_replay.specs.Running.{Answered, IsEnding, IsResultOf, EndsBy, IsFront, Ran, RunsOver, IsCut}
 use Rattle.dcv_replay.specs.declared.fault.ReplayFault.{ReplayFault}
 use Rattle.dcv_replay.specs.declared.fault.ReplayFault.TheVariants as fault
 use Rattle.dcv_replay.specs.declared.fault.Stop.{Stop}
@@ -43,15 +43,12 @@ result_is width text letters (Some why) (Err fault) is ending = subst (λ (one :
   of_fault TooLong ending = ending
   of_fault Empty ending = ending
 
--- what holds of the open file holds of what is held
-opened_holds : (name : List ℕ) (told opened : Option Disk) (P Q : List ℕ → Type 0) → WhereTold (Opens name) told opened → ((text : List ℕ) → P text → Q text)
-    → IfSome opened (λ disk. IfSome disk.open P) → IfSome told (λ disk. IfSome (disk.held name) Q)
-opened_holds name None opened P Q opens weaker fact = tt
-opened_holds name (Some disk) None P Q opens weaker fact = absurd opens
-opened_holds name (Some disk) (Some after) P Q opens weaker fact = if_some_weaker (disk.held name) (subst (λ (left : Option (List ℕ)). IfSome left P) opens.whole fact) where
-  if_some_weaker : (left : Option (List ℕ)) → IfSome left P → IfSome left Q
-  if_some_weaker None fact = tt
-  if_some_weaker (Some text) fact = weaker text fact
+-- what is open is what is held
+opened_held : (name text : List ℕ) (told opened : Option Disk) → WhereTold (Opens name) told opened → IfSome opened (λ disk. disk.open ≡ Some text)
+    → IfSome (held_of told) (λ held. held name ≡ Some text)
+opened_held name text None opened opens whole = tt
+opened_held name text (Some disk) None opens whole = absurd opens
+opened_held name text (Some disk) (Some after) opens whole = sym opens.whole ∙ whole
 
 sent_on : {before after : ReplayValue} {written written' written'' : Option (List ℕ)} {block left : List ℕ} {letters : Word}
     → Answered before written [] letters after written' block → Sends written' written'' block left
@@ -62,26 +59,18 @@ sent_on {before} {after} {written} {written'} {written''} {block} {left} {letter
       (sends_in_turn [] answered.sends (subst (λ (bytes : List ℕ). Sends written' written'' bytes left) (sym (append-nil block)) sends));
 }
 
--- what was read of the open file was read of what is held
-part_read : (name read : List ℕ) (told opened told' : Option Disk) → WhereTold (Opens name) told opened → WhereTold (Gives read) opened told' → WhereTold (ReadsPart name read) told told'
-part_read name read None None None opens given = tt
-part_read name read None None (Some now) opens given = given
-part_read name read None (Some after) told' opens given = absurd opens
-part_read name read (Some disk) None told' opens given = absurd opens
-part_read name read (Some disk) (Some after) None opens given = given
-part_read name read (Some disk) (Some after) (Some now) opens given = record { rest = given.rest; there = sym opens.whole ∙ given.before; left = given.after }
-
-cut_is : {T : Type 0} (width : ℕ) (name : List ℕ) (told opened told' : Option Disk) (letters : Word) (read : List ℕ) (why : Option Stop) (result : Result T ReplayFault) → IsResultOf why result
-    → WhereTold (Opens name) told opened → WhereTold (Gives read) opened told' → IsCut width why read letters → IfRead result (CutShort width name told told' letters)
-cut_is width name told opened told' letters read None (Ok done) is opens given cut = tt
-cut_is width name told opened told' letters read None (Err fault) is opens given cut = absurd is
-cut_is width name told opened told' letters read (Some why) (Ok done) is opens given cut = absurd is
-cut_is {T} width name told opened told' letters read (Some why) (Err fault) is opens given cut = subst (λ (one : ReplayFault). IfRead {T = T} (Err one) (CutShort width name told told' letters)) (sym is) (of_fault why cut) where
-  of_fault : (why : Stop) → IsCut width (Some why) read letters → IfRead {T = T} (Err (fault_of why)) (CutShort width name told told' letters)
-  of_fault Read (line, come, free) = record { read = read; line = line; come = come; feedless = free; part = part_read name read told opened told' opens given }
-  of_fault (Line line) cut = tt
-  of_fault TooLong cut = tt
-  of_fault Empty cut = tt
+cut_is : {T : Type 0} (width : ℕ) (opened told' : Option Disk) (letters : Word) (read : List ℕ) (why : Option Stop) (result : Result T ReplayFault) → IsResultOf why result
+    → (front : IsFront read opened told') → IsCut width why read letters → IfRead result (CutShort width (read ++ front.rest) told' letters)
+cut_is width opened told' letters read None (Ok done) is front cut = tt
+cut_is width opened told' letters read None (Err fault) is front cut = absurd is
+cut_is width opened told' letters read (Some why) (Ok done) is front cut = absurd is
+cut_is {T} width opened told' letters read (Some why) (Err fault) is front cut =
+    subst (λ (one : ReplayFault). IfRead {T = T} (Err one) (CutShort width (read ++ front.rest) told' letters)) (sym is) (of_fault why cut) where
+      of_fault : (why : Stop) → IsCut width (Some why) read letters → IfRead {T = T} (Err (fault_of why)) (CutShort width (read ++ front.rest) told' letters)
+      of_fault Read (line, come, free) = record { read = read; rest = front.rest; parts = refl; left = front.left; line = line; come = come; feedless = free }
+      of_fault (Line line) cut = tt
+      of_fault TooLong cut = tt
+      of_fault Empty cut = tt
 
 no_write_of : {T : Type 0} (why : Option Stop) (result : Result T ReplayFault) → IsResultOf why result → is_write result ≡ false
 no_write_of None (Ok done) is = refl
@@ -89,6 +78,18 @@ no_write_of None (Err fault) is = absurd is
 no_write_of (Some why) (Ok done) is = absurd is
 no_write_of {T} (Some why) (Err fault) is = subst (λ (one : ReplayFault). is_write {T = T} (Err one) ≡ false) (sym is) (of_fault why) where
   of_fault : (why : Stop) → is_write {T = T} (Err (fault_of why)) ≡ false
+  of_fault Read = refl
+  of_fault (Line line) = refl
+  of_fault TooLong = refl
+  of_fault Empty = refl
+
+-- how an open trace ends is no failed open
+no_open_of : {T : Type 0} (why : Option Stop) (result : Result T ReplayFault) → IsResultOf why result → is_open result ≡ false
+no_open_of None (Ok done) is = refl
+no_open_of None (Err fault) is = absurd is
+no_open_of (Some why) (Ok done) is = absurd is
+no_open_of {T} (Some why) (Err fault) is = subst (λ (one : ReplayFault). is_open {T = T} (Err one) ≡ false) (sym is) (of_fault why) where
+  of_fault : (why : Stop) → is_open {T = T} (Err (fault_of why)) ≡ false
   of_fault Read = refl
   of_fault (Line line) = refl
   of_fault TooLong = refl
@@ -112,17 +113,24 @@ replayed_end name told opened told' before after written written' written'' firs
     | inl (is, some) ↦ absurd (false≢true (sym no_write ∙ ap is_write is))
     | inr (none, is) ↦ none
   ];
-  cut = elim ends.is [
-    | inl (is, some) ↦ subst (λ (one : Result _ ReplayFault). IfRead one (CutShort before.program.width name told told' ran.letters)) (sym is) tt
-    | inr (none, is) ↦ cut_is before.program.width name told opened told' ran.letters ran.read why result is opens ran.given ran.cut
+  unopened = λ failed. elim ends.is [
+    | inl (is, some) ↦ absurd (false≢true (ap is_open (sym is) ∙ failed))
+    | inr (none, is) ↦ absurd (false≢true (sym (no_open_of why result is) ∙ failed))
   ];
-  verdict = elim ends.is [
-    | inl (is, some) ↦ subst (λ (one : Result _ ReplayFault). IfSome told (λ disk. IfSome (disk.held name) (λ text. IsTraceResult before.program.width text ran.letters one))) (sym is)
-        (opened_holds name told opened (λ text. IsEnding before.program.width text ran.letters why) (λ text. HasLines before.program.width text ran.letters) opens (λ text. has_lines before.program.width text ran.letters why) ran.verdict)
-    | inr (none, is) ↦
-        opened_holds name told opened (λ text. IsEnding before.program.width text ran.letters why) (λ text. IsTraceResult before.program.width text ran.letters result) opens
-        (λ text. result_is before.program.width text ran.letters why result is) ran.verdict
-  ];
+  traced = λ was_opened. record {
+    trace = ran.read ++ ran.front.rest;
+    there = opened_held name (ran.read ++ ran.front.rest) told opened opens ran.front.whole;
+    verdict = elim ends.is [
+      | inl (is, some) ↦ subst (λ (one : Result _ ReplayFault). IsTraceResult before.program.width (ran.read ++ ran.front.rest) ran.letters one) (sym is)
+          (has_lines before.program.width (ran.read ++ ran.front.rest) ran.letters why ran.verdict)
+      | inr (none, is) ↦ result_is before.program.width (ran.read ++ ran.front.rest) ran.letters why result is ran.verdict
+    ];
+    cut = elim ends.is [
+      | inl (is, some) ↦
+          subst (λ (one : Result _ ReplayFault). IfRead one (CutShort before.program.width (ran.read ++ ran.front.rest) told' ran.letters)) (sym is) tt
+      | inr (none, is) ↦ cut_is before.program.width opened told' ran.letters ran.read why result is ran.front ran.cut
+    ];
+  };
 }
 
 pub replayed_broken : {T : Type 0} (name : List ℕ) (told opened told' : Option Disk) (before after : ReplayValue) (written written' : Option (List ℕ)) (first left : List ℕ)
@@ -135,32 +143,27 @@ replayed_broken name told opened told' before after written written' first left 
   left = left;
   answered = subst (λ (front : List ℕ). Answered before written front ran.letters after written' left) none_yet ran.answered;
   whole = λ no_write. absurd (false≢true (sym no_write));
-  cut = tt;
-  verdict = opened_holds name told opened (λ text. HasLines before.program.width text ran.letters) (λ text. HasLines before.program.width text ran.letters) opens (λ text lines. lines) ran.verdict;
+  unopened = λ failed. absurd (false≢true failed);
+  traced = λ was_opened. record {
+    trace = ran.read ++ ran.front.rest;
+    there = opened_held name (ran.read ++ ran.front.rest) told opened opens ran.front.whole;
+    verdict = ran.verdict;
+    cut = tt;
+  };
 }
-
-abbrev NoLetters : Type 0
-NoLetters = let none : Word = [] in none ≡ []
 
 pub replayed_unopened : {T : Type 0} (name : List ℕ) (told told' : Option Disk) (replay : ReplayValue) (written : Option (List ℕ))
     → RunsOver {T = T} name told told' replay written replay written (Err fault.Open)
 replayed_unopened name told told' replay written = record {
-  cut = tt;
   letters = [];
   wide = wide_none replay.program.width;
   some = λ wrote. absurd (false≢true wrote);
   left = [];
   answered = answered_nothing replay written [];
   whole = λ no_write. refl;
-  verdict = any told;
-} where
-  any_text : (held : Option (List ℕ)) → IfSome held (λ text. NoLetters)
-  any_text None = tt
-  any_text (Some text) = refl
-
-  any : (told : Option Disk) → IfSome told (λ disk. IfSome (disk.held name) (λ text. NoLetters))
-  any None = tt
-  any (Some disk) = any_text (disk.held name)
+  unopened = λ failed. refl;
+  traced = λ was_opened. absurd (false≢true (sym was_opened));
+}
 
 pub where_ok : {T E : Type 0} {P : Type 0} (result : Result T E) → is_err result ≡ false → OnOk result P → P
 where_ok (Ok value) fine fact = fact

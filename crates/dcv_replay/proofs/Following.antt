@@ -1,6 +1,5 @@
 -- A replay that follows an observer goes on to follow it.
 use Rattle.std.proofs.Common.{◌≡◌, ◌↔◌, ℕ, Bool, IsTrue, Result, List, [], ◌∷◌, ◌++◌, length, Option, refl, sym, ap, subst, ◌∙◌, arith, append_assoc, length-append}
-use Rattle.std.specs.Option.{IfSome}
 use Rattle.std.specs.List.{AllByRecursion}
 use Rattle.std.proofs.lemmas.List.Elements.{recursion_from_All}
 use Rattle.dcv_io.specs.Disk.{Disk}
@@ -9,7 +8,7 @@ use Rattle.dcv_replay.specs.TraceText.{AreWide}
 use Rattle.dcv_replay.specs.Answers.{answers}
 use Rattle.dcv_replay.specs.Program.{ReplayValue, is_accepting, rest_of, advanced}
 use Rattle.dcv_replay.specs.Observer.{Observer, width_of, Accepts, HasStore, Follows, AreAnswers}
-use Rattle.dcv_replay.specs.Replayed.{IsTraceResult, IfRead, CutShort, Replayed}
+use Rattle.dcv_replay.specs.Replayed.{Traced, Replayed}
 use Rattle.dcv_replay.specs.Running.{RunsOver}
 use Rattle.dcv_replay.specs.declared.fault.ReplayFault.{ReplayFault}
 use Rattle.dcv_replay.proofs.Texts.{wide_append, wide_one}
@@ -76,6 +75,6 @@ replayed_so {observer = observer} {word} {name} {told} {told'} {before} {after} 
       sends = runs.answered.sends;
       whole = runs.whole;
       some = runs.some;
-      cut = subst (λ (n : ℕ). IfRead result (CutShort n name told told' runs.letters)) follows.width runs.cut;
-      verdict = subst (λ (n : ℕ). IfSome told (λ disk. IfSome (disk.held name) (λ trace. IsTraceResult n trace runs.letters result))) follows.width runs.verdict;
+      unopened = runs.unopened;
+      traced = λ opened. subst (λ (n : ℕ). Traced n name told told' runs.letters result) follows.width (runs.traced opened);
     }

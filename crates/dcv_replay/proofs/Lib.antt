@@ -4,6 +4,7 @@ mod Steps
 mod Runs
 mod Endings
 mod OneVerdict
+mod SomeVerdict
 mod Following
 mod Mirrors
 mod NamePlaces
@@ -19,3 +20,4 @@ mod NodeRuns
 mod Values
 mod NodeReplays
 mod TraceLaws
+mod AnswerLaws

@@ -13,7 +13,7 @@ use Rattle.dcv_replay.specs.TraceText.{AreWide, AreLines, BeginsWithNoLine, IsTr
 use Rattle.dcv_replay.specs.Coming.{LinesValue, budget, IsLines, HasCome, IsAtFault}
 use Rattle.dcv_replay.specs.Program.{ReplayValue}
 use Rattle.dcv_replay.specs.Replayed.{HasLines}
-use Rattle.dcv_replay.specs.Running.{Going, going, Passes, StopsAt, Breaks, IsEnding, IsCut, IsEndOf, EndsSo, BreaksOff, Ran}
+use Rattle.dcv_replay.specs.Running.{Going, going, Passes, StopsAt, Breaks, IsEnding, IsCut, IsEndOf, EndsSo, BreaksOff, IsFront, Ran}
 use Rattle.dcv_replay.specs.declared.fault.Stop.{Stop}
 use Rattle.dcv_replay.specs.declared.fault.Stop.TheVariants.{Read, Line, TooLong, Empty}
 use Rattle.dcv_replay.proofs.Texts.{come_lines, come_wide, wide_append, wide_one, wide_none, lines_in_turn}
@@ -21,21 +21,26 @@ use Rattle.dcv_replay.proofs.Steps.{answered_in_turn, passes_nothing}
 
 -- ---- what is told of the text
 
-pub told_verdict : (told told' : Option Disk) (read : List ℕ) (P : List ℕ → Type 0) → WhereTold (Gives read) told told'
-    → ((rest : List ℕ) → P (read ++ rest)) → IfSome told (λ disk. IfSome disk.open P)
-told_verdict None told' read P given each = tt
-told_verdict (Some disk) None read P given each = absurd given
-told_verdict (Some disk) (Some disk') read P given each = subst (λ (left : Option (List ℕ)). IfSome left P) (sym given.before) (each given.rest)
+abbrev front_is : (told told' : Option Disk) (read : List ℕ) → WhereTold (Gives read) told told' → IsFront read told told'
+front_is None None read given = record { rest = []; whole = tt; left = tt }
+front_is None (Some disk) read given = absurd given
+front_is (Some disk) None read given = absurd given
+front_is (Some disk) (Some disk') read given = record { rest = given.rest; whole = given.before; left = given.after }
 
 same_some : (a b : List ℕ) → Some a ≡ Some b → a ≡ b
 same_some a b same = cc
 
-pub told_whole : (told told' : Option Disk) (read : List ℕ) (P : List ℕ → Type 0) → WhereTold (Gives read) told told' → IsAtEnd told' → P read → IfSome told (λ disk. IfSome disk.open P)
-told_whole None told' read P given end fact = tt
-told_whole (Some disk) None read P given end fact = absurd given
-told_whole (Some disk) (Some disk') read P given end fact =
-    let nothing : given.rest ≡ [] = same_some given.rest [] (sym given.after ∙ end) in
-    subst (λ (left : Option (List ℕ)). IfSome left P) (sym (given.before ∙ ap (λ rest. Some (read ++ rest)) nothing ∙ ap Some (append-nil read))) fact
+-- at its end nothing is left
+front_is_whole : (told told' : Option Disk) (read : List ℕ) (given : WhereTold (Gives read) told told') → IsAtEnd told' → (front_is told told' read given).rest ≡ []
+front_is_whole None None read given end = refl
+front_is_whole None (Some disk) read given end = absurd given
+front_is_whole (Some disk) None read given end = absurd given
+front_is_whole (Some disk) (Some disk') read given end = same_some given.rest [] (sym given.after ∙ end)
+
+told_whole : (told told' : Option Disk) (read : List ℕ) (P : List ℕ → Type 0) (given : WhereTold (Gives read) told told') → IsAtEnd told' → P read
+    → P (read ++ (front_is told told' read given).rest)
+told_whole told told' read P given end fact =
+    subst P (sym (ap (λ rest. read ++ rest) (front_is_whole told told' read given end) ∙ append-nil read)) fact
 
 pub if_ok_weaker : {T E : Type 0} {P Q : T → Type 0} (result : Result T E) → ((value : T) → P value → Q value) → IfOk result P → IfOk result Q
 if_ok_weaker (Ok value) weaker fact = weaker value fact
@@ -66,12 +71,12 @@ module _ (replay : ReplayValue) (written : Option (List ℕ)) (block : List ℕ)
     wide = come_wide passes.come;
     answered = passes.answered;
     read = read;
-    given = given;
-    verdict = told_verdict told told' read (λ text. HasLines replay.program.width text passes.letters) given (λ rest. record {
-      rest = now.lines.line ++ rest;
-      lines = come_lines passes.come rest;
+    front = front_is told told' read given;
+    verdict = record {
+      rest = now.lines.line ++ (front_is told told' read given).rest;
+      lines = come_lines passes.come (front_is told told' read given).rest;
       few = omega (arith, passes.count, is.few);
-    });
+    };
   }
 
   some_left : (line back rest : List ℕ) → back ≢ [] → line ++ (back ++ rest) ≢ []
@@ -123,11 +128,12 @@ module _ (replay : ReplayValue) (written : Option (List ℕ)) (block : List ℕ)
     wide = come_wide stops.passes.come;
     answered = stops.passes.answered;
     read = all;
-    given = given;
-    verdict = told_verdict told told' all (λ text. IsEnding replay.program.width text stops.passes.letters (Some why)) given (λ rest.
+    front = front_is told told' all given;
+    verdict =
+        let rest = (front_is told told' all given).rest in
         stopping now.lines stops.passes.letters (all ++ rest) stops.back rest why stops.passes.width (omega (arith, stops.passes.count))
         (subst (λ (text : List ℕ). AreLines replay.program.width stops.passes.letters text (now.lines.line ++ (stops.back ++ rest))) (text_parts all stops.taken stops.back rest stops.parts)
-        (come_lines stops.passes.come (stops.back ++ rest))) stops.fault_there);
+        (come_lines stops.passes.come (stops.back ++ rest))) stops.fault_there;
   }
 
   pub ran_broken : {all : List ℕ} {replay' : ReplayValue} {lines : LinesValue} {written' : Option (List ℕ)} (told told' : Option Disk)
@@ -142,13 +148,13 @@ module _ (replay : ReplayValue) (written : Option (List ℕ)) (block : List ℕ)
       wide = come_wide breaks.passes.come;
       answered = breaks.passes.answered;
       read = all;
-      given = given;
-      verdict = told_verdict told told' all (λ text. HasLines replay.program.width text breaks.passes.letters) given (λ rest. record {
+      front = front_is told told' all given;
+      verdict = let rest = (front_is told told' all given).rest in record {
         rest = lines.line ++ (breaks.back ++ rest);
         few = omega (arith, breaks.passes.count, is.few);
         lines = subst (λ (text : List ℕ). AreLines replay.program.width breaks.passes.letters text (lines.line ++ (breaks.back ++ rest))) (text_parts all breaks.taken breaks.back rest breaks.parts)
             (come_lines breaks.passes.come (breaks.back ++ rest));
-      });
+      };
     },
   )
 
@@ -219,7 +225,7 @@ module _ (replay : ReplayValue) (written : Option (List ℕ)) (block : List ℕ)
     wide = wide_append replay.program.width passes.letters ends.letters (come_wide passes.come) (end_wide before.lines ends.letters why passes.width ends.last);
     answered = answered_in_turn passes.answered ends.answered;
     read = read;
-    given = given;
+    front = front_is told told' read given;
     verdict = told_whole told told' read (λ text. IsEnding replay.program.width text (passes.letters ++ ends.letters) why) given end
         (ending before.lines passes.letters ends.letters read why is passes.width (omega (arith, passes.count)) passes.come (whole_lines passes) ends.last);
   }
@@ -236,7 +242,7 @@ module _ (replay : ReplayValue) (written : Option (List ℕ)) (block : List ℕ)
       wide = wide_append replay.program.width passes.letters (breaks.letter ∷ []) (come_wide passes.come) (wide_one replay.program.width breaks.letter (breaks.last.0 ∙ passes.width));
       answered = answered_in_turn passes.answered breaks.answered;
       read = read;
-      given = given;
+      front = front_is told told' read given;
       verdict = told_whole told told' read (λ text. HasLines replay.program.width text (passes.letters ++ breaks.letter ∷ [])) given end
           (record {
             rest = [];

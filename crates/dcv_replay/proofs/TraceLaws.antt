@@ -3,8 +3,8 @@ use Rattle.std.proofs.Common.{◌≡◌, ℕ, ◌<◌, List, [], ◌∷◌, ◌+
 use Rattle.std.proofs.lemmas.Bool.{cases_lt}
 use Rattle.dcv_word.specs.Behaviour.{Word}
 use Rattle.dcv_word.specs.Laws.{LineIsOfOneLetter}
-use Rattle.dcv_replay.specs.TraceText.{AreLines, BeginsWithNoLine, IsTrace, HasBadLine, IsTooLong}
-use Rattle.dcv_replay.specs.Laws.{Good, Bad, Long, Nothing, OneVerdict, NoBadTrace, NoLongTrace, LinesAreFront}
+use Rattle.dcv_replay.specs.TraceText.{AreLines, BeginsWithNoLine, IsTrace, HasBadLine, IsTooLong, Good, Bad, Long, Nothing}
+use Rattle.dcv_replay.specs.Laws.{OneVerdict, NoBadTrace, NoLongTrace, LinesAreFront}
 use Rattle.dcv_replay.proofs.OneVerdict.{no_line_in_nothing, goes_on, none_more, one_trace, no_bad_trace, one_bad_line, too_long_once, one_too_long}
 
 module _ (one : LineIsOfOneLetter) where

@@ -2,6 +2,7 @@
 --     Observer                          a node of Lustre or a unit of C
 --     width_of observer                 how many variables its letters have
 --     Accepts observer word             it accepts the word, by its own meaning
+--     KeepsTheRules observer            it keeps the rules of names
 --     HasStore observer word replay     what the replay keeps for the observer's names is what they have after the word
 --     Follows observer word replay      so it is, also after all letters that may come; and the replay's answers are the observer's
 --     AreAnswers observer before ..     the lines of the answers to letters, behind a word
@@ -10,8 +11,10 @@ use Rattle.dcv_word.specs.Behaviour.{Word, IsBehaviour}
 use Rattle.dcv_language.specs.Automaton.{state_after}
 use Rattle.dcv_lustre.specs.Tree.{Node, Value, Truth, Number}
 use Rattle.dcv_lustre.specs.Meaning as lustre
+use Rattle.dcv_lustre.specs.Rules as lustre_rules
 use Rattle.dcv_c.specs.Tree.{CUnit}
 use Rattle.dcv_c.specs.Meaning as c
+use Rattle.dcv_c.specs.Rules as c_rules
 use Rattle.dcv_replay.specs.TraceText.{AreWide}
 use Rattle.dcv_replay.specs.Answers.{answer_line}
 use Rattle.dcv_replay.specs.Program.{ReplayValue, first_name, advanced, rest_of}
@@ -28,6 +31,11 @@ width_of (C unit) = c.width_of unit
 abbrev pub Accepts : Observer → Word → Type 0
 Accepts (Lustre node) word = lustre.Accepts node word
 Accepts (C unit) word = IsTrue (c.unit_accepts unit word)
+
+-- it keeps its language's rules of names
+abbrev pub KeepsTheRules : Observer → Type 0
+KeepsTheRules (Lustre node) = lustre_rules.IsWellNamed node
+KeepsTheRules (C unit) = c_rules.IsWellNamed unit
 
 -- ---- stores
 

@@ -7,12 +7,12 @@
 use Rattle.std.specs.Prelude.{◌≡◌, ◌≢◌, ℕ, ◌+◌, ◌<◌, ◌⊎◌, Bool, true, false, List, [], ◌∷◌, ◌++◌, length, Option, None, Some, Result, Ok, Err, IfSome}
 use Rattle.dcv_word.specs.Behaviour.{Word}
 use Rattle.dcv_word.specs.TraceLine.{trace_line}
-use Rattle.dcv_io.specs.Disk.{Disk, WhereTold, Gives}
+use Rattle.dcv_io.specs.Disk.{Disk}
 use Rattle.dcv_replay.specs.TraceText.{most_lines, BeginsWithNoLine, IsTrace, HasBadLine, IsTooLong, AreWide}
 use Rattle.dcv_replay.specs.Coming.{LinesValue, HasCome, HasNoFeed, IsAtFault}
 use Rattle.dcv_replay.specs.Answers.{answers}
 use Rattle.dcv_replay.specs.Program.{ReplayValue, rest_of, advanced}
-use Rattle.dcv_replay.specs.Replayed.{Sends, HasLines, IsTraceResult, CutShort, IfRead, is_write}
+use Rattle.dcv_replay.specs.Replayed.{Sends, HasLines, Traced, is_open, is_write}
 use Rattle.dcv_replay.specs.declared.fault.ReplayFault.{ReplayFault}
 use Rattle.dcv_replay.specs.declared.fault.ReplayFault.TheVariants.{Write}
 use Rattle.dcv_replay.specs.declared.fault.Stop.{Stop}
@@ -79,15 +79,21 @@ IsCut width (Some (stop.Line line)) read letters = Unit {0}
 IsCut width (Some stop.TooLong) read letters = Unit {0}
 IsCut width (Some stop.Empty) read letters = Unit {0}
 
+-- so much of the open file was read, and the rest is left; where files tell nothing, some text
+pub record IsFront (read : List ℕ) (told told' : Option Disk) : Type 0 where
+  pub rest : List ℕ
+  pub whole : IfSome told (λ disk. disk.open ≡ Some (read ++ rest))
+  pub left : IfSome told' (λ disk. disk.open ≡ Some rest)
+
 -- of a file that is open this much was read, and this became of the replay
 pub record Ran (P C : List ℕ → Word → Type 0) (told told' : Option Disk) (before : ReplayValue) (written : Option (List ℕ)) (block : List ℕ) (after : ReplayValue) (written' : Option (List ℕ)) (left : List ℕ) : Type 0 where
   pub letters : Word
   pub wide : AreWide before.program.width letters
   pub answered : Answered before written block letters after written' left
   pub read : List ℕ
-  pub given : WhereTold (Gives read) told told'
+  pub front : IsFront read told told'
   pub cut : C read letters
-  pub verdict : IfSome told (λ disk. IfSome disk.open (λ text. P text letters))
+  pub verdict : P (read ++ front.rest) letters
 
 abbrev pub is_read : Option Stop → Bool
 is_read (Some stop.Read) = true
@@ -136,5 +142,5 @@ pub record RunsOver {T : Type 0} (name : List ℕ) (told told' : Option Disk) (b
   pub answered : Answered before written [] letters after written' left
   pub whole : is_write result ≡ false → left ≡ []
   pub some : is_write result ≡ true → left ≢ []
-  pub cut : IfRead result (CutShort before.program.width name told told' letters)
-  pub verdict : IfSome told (λ disk. IfSome (disk.held name) (λ text. IsTraceResult before.program.width text letters result))
+  pub unopened : is_open result ≡ true → letters ≡ []
+  pub traced : is_open result ≡ false → Traced before.program.width name told told' letters result

@@ -5,6 +5,7 @@
 --     AreLines width letters text rest    the text is the lines of the letters, and then the rest
 --     IsTrace width text letters          the text is the trace of the word
 --     HasBadLine, IsTooLong               behind the lines of the word stands one that is none, or more than may come
+--     Verdict, HasVerdict                 what a text is as a trace, and the letters of its good lines
 use Rattle.std.specs.Prelude.{◌≡◌, ◌≢◌, ℕ, ◌+◌, ◌<◌, ◌≤◌, ◌⊎◌, Bool, List, [], ◌∷◌, ◌++◌, length}
 use Rattle.std.specs.List.{All}
 use Rattle.dcv_word.specs.Behaviour.{Word}
@@ -63,3 +64,23 @@ pub record IsTooLong (width : ℕ) (text : List ℕ) (letters : Word) : Type 0 w
   pub lines : AreLines width letters text rest
   pub full : length letters ≡ most_lines
   pub some : rest ≢ []
+
+-- what a text is as a trace
+pub data Verdict : Type 0 where
+  Good : (letters : Word) → Verdict
+  Bad : (letters : Word) → (line : ℕ) → Verdict
+  Long : (letters : Word) → Verdict
+  Nothing : Verdict
+
+abbrev pub HasVerdict : ℕ → List ℕ → Verdict → Type 0
+HasVerdict width text (Good letters) = IsTrace width text letters
+HasVerdict width text (Bad letters line) = HasBadLine width text letters line
+HasVerdict width text (Long letters) = IsTooLong width text letters
+HasVerdict width text Nothing = text ≡ []
+
+-- the letters of the lines before the fault
+abbrev pub good_letters : Verdict → Word
+good_letters (Good letters) = letters
+good_letters (Bad letters line) = letters
+good_letters (Long letters) = letters
+good_letters Nothing = []

@@ -9,7 +9,7 @@ const EACH_BEHAVIOUR: &str =
 const NO_BEHAVIOUR: &str =
     "node observer(tick: bool) returns (ok: bool);\nvar\n  st: int;\n  nx: int;\nlet\n  st = 0 -> pre nx;\n  nx = 0;\n  ok = false;\ntel\n";
 
-const ALWAYS_P: &str =
+pub(crate) const ALWAYS_P: &str =
     "node observer(v_p: bool) returns (ok: bool);\nvar\n  st: int;\n  nx: int;\n  n0: int;\nlet\n  st = 0 -> pre nx;\n  \
     n0 = if v_p then 0 else 1;\n  nx = if st = 0 then n0 else 1;\n  ok = (nx = 0);\ntel\n";
 
@@ -17,7 +17,7 @@ const NO_BEHAVIOUR_IN_C: &str =
     "static int st;\n\nvoid observer_reset(void)\n{\n  st = 0;\n}\n\nint observer_step(void)\n{\n  \
     int nx;\n\n  nx = 0;\n  if (st == 0) nx = 0;\n  st = nx;\n  return 0;\n}\n";
 
-const ALWAYS_P_IN_C: &str =
+pub(crate) const ALWAYS_P_IN_C: &str =
     "static int st;\n\nvoid observer_reset(void)\n{\n  st = 0;\n}\n\nint observer_step(int v_p)\n{\n  \
     int nx;\n  int n0;\n\n  nx = 0;\n  n0 = v_p ? 0 : 1;\n  if (st == 0) nx = n0;\n  if (st == 1) nx = 1;\n  st = nx;\n  return nx == 0;\n}\n";
 

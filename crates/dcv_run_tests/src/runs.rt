@@ -25,11 +25,11 @@ struct Ran {
 // How the outside behaves: read sizes, write sizes, and the calls that fail.
 #[derive(Clone, Copy)]
 pub(crate) struct Outside<'a> {
-    reads: &'a [usize],
-    failing_reads: &'a [u64],
-    writes: &'a [usize],
-    failing_writes: &'a [u64],
-    failing_messages: &'a [u64],
+    pub(crate) reads: &'a [usize],
+    pub(crate) failing_reads: &'a [u64],
+    pub(crate) writes: &'a [usize],
+    pub(crate) failing_writes: &'a [u64],
+    pub(crate) failing_messages: &'a [u64],
 }
 
 pub(crate) const WHOLE: Outside<'static> = Outside {
@@ -102,6 +102,37 @@ pub(crate) fn expect_of_two(
     assert_eq!(rt; status.code(), wanted.0, "{first} {second}");
     assert_eq!(rt; out.written(), wanted.1.as_bytes(), "{first} {second}");
     assert_eq!(rt; err.written(), wanted.2.as_bytes(), "{first} {second}");
+    Ok(())
+}
+
+// The same of a replay, whose observer is held under the name `f`, and whose trace, if there is one, under the name `g`.
+pub(crate) fn expect_replayed(
+    rt: &impl Abort,
+    alloc: Global,
+    command: &str,
+    observer: &str,
+    trace: Option<&str>,
+    outside: &Outside,
+    wanted: (u8, &str, &str),
+) -> Result<(), AllocError>
+    requires reads { All (λ size. 0 < size) outside.now.reads.now }
+    requires writes { All (λ size. 0 < size) outside.now.writes.now }
+{
+    let mut given = Words::new(alloc);
+    for word in [command, "f", "g"] {
+        given.push(word)?;
+    }
+    let mut files = MemFiles::new(alloc, outside.reads, outside.failing_reads)?;
+    files.hold("f", observer.as_bytes())?;
+    if let Some(trace) = trace {
+        files.hold("g", trace.as_bytes())?;
+    }
+    let mut out = MemSink::new(alloc, ROOM, outside.writes, outside.failing_writes)?;
+    let mut err = MemSink::new(alloc, ROOM, &[], outside.failing_messages)?;
+    let status = run(alloc, &given, &mut files, &mut out, &mut err);
+    assert_eq!(rt; status.code(), wanted.0, "{command}");
+    assert_eq!(rt; out.written(), wanted.1.as_bytes(), "{command}");
+    assert_eq!(rt; err.written(), wanted.2.as_bytes(), "{command}");
     Ok(())
 }
 

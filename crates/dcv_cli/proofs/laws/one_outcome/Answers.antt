@@ -6,3 +6,12 @@ pub returns : goal.returns
 returns c =
     one_outcome c.one_tree.ensures c.one_fault.ensures c.one_verdict.ensures c.one_step_is_over.ensures.one c.one_step_is_over.ensures.within c.one_automaton.ensures
     c.one_file.ensures.one c.one_file-2.ensures c.one_answer.ensures c.one_answer-2.ensures
+    (record {
+      one_node = c.texts_spell_nodes.ensures.one;
+      one_node_fault = c.texts_are_nodes_or_at_fault.ensures.one;
+      no_node_fault = c.texts_are_nodes_or_at_fault.ensures.none;
+      one_unit = c.texts_spell_units.ensures.one;
+      one_unit_fault = c.texts_are_units_or_at_fault.ensures.one;
+      no_unit_fault = c.texts_are_units_or_at_fault.ensures.none;
+    })
+    c.traces_have_one_verdict.ensures.one c.letters_have_one_text_of_answers.ensures.one

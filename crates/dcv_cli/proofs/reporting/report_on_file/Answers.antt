@@ -12,7 +12,7 @@ use Rattle.dcv_cli.specs.declared.refused.Which.TheVariants.{Only}
 use Rattle.dcv_cli.specs.declared.status.Status.{Status}
 use Rattle.dcv_cli.proofs.Endings.{nothing_told}
 use Rattle.dcv_cli.proofs.Outcomes.{answers_report, answer_of_verdict, explains_file, explains_in_file, explains_over, over_is_of_text}
-use Rattle.dcv_cli.proofs.ThreeEnds.{performs_refused, performs_sent, performs_failed, fulfils_first, text_is_of_taking, opened_stays, read_stays, leaves_nothing, of_only}
+use Rattle.dcv_cli.proofs.ThreeEnds.{performs_refused, performs_sent, performs_failed, fulfils_first, text_is_of_taking, opened_stays, read_stays, nothing_held, of_only}
 use Rattle.dcv_cli.proofs.reporting.report_on_file.Goals as goal
 
 pub returns-in_err-expanded : goal.returns-in_err-expanded
@@ -21,7 +21,7 @@ returns-in_err-expanded g c =
     let p = err_from_is_err_and c.from_residual.result c.from_residual.ensures.1 in
     let refusal = c.in_err-expanded.field-0.0 in
     let given = c.in_err-expanded.ensures in
-    rw (p.1, p.2) (performs_refused _ _ _ _ _ refusal Only given.unwritten (of_only refusal) (leaves_nothing (Report c.args.kind c.args.name.now c.args.limits) told)
+    rw (p.1, p.2) (performs_refused _ _ _ _ _ refusal Only given.unwritten (of_only refusal) (nothing_held told)
     (explains_file told c.args.name.now Only (λ held. IsBudgeted c.args.limits Only (IsReport c.args.kind)) refusal given.refused)
     (nothing_told _) refl (record { asked = (1, given.asked); opened = given.open_faults; read = given.read_faults; held = given.held }))
 
@@ -35,7 +35,7 @@ returns-in_err-judged g c =
     let over = c.in_err-judged.ensures.over known.file known.is in
     let own = over_is_of_text (steps_of_file known.file) c.args.limits refusal over in
     rw (p.1, p.2) (performs_refused _ _ _ _ _ refusal Only (text_is_of_taking refusal own) (of_only refusal)
-    (leaves_nothing (Report c.args.kind c.args.name.now c.args.limits) told)
+    (nothing_held told)
     (explains_in_file told c.args.name.now Only (IsBudgeted c.args.limits Only (IsReport c.args.kind)) given.expanded.text known.file Only refusal given.expanded.there known.formula
     (explains_over c.args.limits Only (IsReport c.args.kind) known.file refusal over))
     (nothing_told _) refl (record { asked = (1, given.asked); opened = opened_stays refusal _ _ own given.open_faults; read = read_stays refusal _ _ own given.read_faults; held = given.held }))
@@ -45,7 +45,7 @@ returns-in_err-report g c =
     let told = g.F.Files.told c.args.files.now in
     let p = err_from_is_err_and c.from_residual-in_err-report.result c.from_residual-in_err-report.ensures.1 in
     let given = c.in_ok-expanded.ensures in
-    rw (p.1, p.2) (performs_refused _ _ _ _ _ Memory Only refl refl (leaves_nothing (Report c.args.kind c.args.name.now c.args.limits) told) tt
+    rw (p.1, p.2) (performs_refused _ _ _ _ _ Memory Only refl refl (nothing_held told) tt
     (nothing_told _) refl (record { asked = (1, given.asked); opened = given.open_faults; read = given.read_faults; held = given.held }))
 
 pub returns-in_err-send : goal.returns-in_err-send

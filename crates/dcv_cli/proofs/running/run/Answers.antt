@@ -35,5 +35,4 @@ returns-in-Ok-clause-stops g c =
 
 pub returns-in-Ok-clause-left : goal.returns-in-Ok-clause-left
 returns-in-Ok-clause-left g c =
-    leaves_over c.args.words.now (asked_by c.in-Ok.request) (g.F.Files.told c.args.files.now)
-    (g.O.Sink.written c.args.out.now) (g.O.Sink.written c.answer.new.out) c.answer.result (asked g c) c.answer.ensures.left
+    leaves_over c.args.words.now (asked_by c.in-Ok.request) _ _ c.answer.result (asked g c) c.answer.ensures.left

@@ -1,0 +1,103 @@
+-- The observer of a replay, and what is right for the trace behind it.
+use Rattle.std.proofs.Common.{◌≡◌, ◌≢◌, ◌≤◌, ℕ, List, [], ◌∷◌, length, Option, None, Some, Result, Ok, Err, refl, sym, ap, subst, ◌∙◌}
+use Rattle.std.specs.Prelude.{IfErr}
+use Rattle.std.specs.Bool.{OnTrue}
+use Rattle.dcv_io.specs.Asked.{Asks}
+use Rattle.dcv_io.specs.Disk.{Disk, held_of}
+use Rattle.dcv_io.proofs.Asking.{asks_in_turn}
+use Rattle.dcv_c.specs.Tree.{CUnit}
+use Rattle.dcv_command.specs.Request.{Replay}
+use Rattle.dcv_command.specs.declared.words.Subset.{Subset}
+use Rattle.dcv_command.specs.declared.words.Subset.TheVariants.{Lustre as InLustre, C as InC}
+use Rattle.dcv_lustre.specs.Tree.{Node}
+use Rattle.dcv_observer.specs.declared.fault.ObsFault.{ObsFault}
+use Rattle.dcv_observer.specs.declared.fault.ObsFault.TheVariants.{Syntax, Names, Memory}
+use Rattle.dcv_replay.specs.Observer.{Observer, Lustre, C, KeepsTheRules}
+use Rattle.dcv_cli.specs.declared.refusal.Refusal.{Refusal}
+use Rattle.dcv_cli.specs.declared.refused.Which.TheVariants.{Only}
+use Rattle.dcv_cli.specs.Held.{Texts, OnHeld, ForHeld, IsHeldText}
+use Rattle.dcv_cli.specs.ObserverFile.{IsFaultIn, IsRefusedObserver, Faulty, IsObserverText, OnObserver, Refused, Read}
+use Rattle.dcv_cli.specs.Outcome.{Outcome, IsExplained}
+use Rattle.dcv_cli.specs.Outside.{Outside}
+use Rattle.dcv_cli.specs.Performed.{LeavesFor}
+use Rattle.dcv_cli.specs.Refusal.{most_observer_bytes, refusal_of_observer, status_of}
+use Rattle.dcv_cli.specs.Replayed.{IsReplay, IsCutShort, LeavesAnswers, OfObserver, OfOpen as NotOpened, OfRead as ReadFailed}
+use Rattle.dcv_cli.specs.Replaying.{IsRefusedIn, FulfilsTrace, LeavesTrace, LeavesOfTrace, OfOpen, OfRead}
+use Rattle.dcv_cli.specs.Right.{Fulfils, FulfilsOver}
+use Rattle.dcv_cli.specs.Status.{is_determined}
+use Rattle.dcv_cli.proofs.ThreeEnds.{on_true_weaker, explains_first}
+use Rattle.dcv_cli.proofs.TwoFiles.{StepsTo, from, later_held}
+
+-- a fault of the text is a right refusal
+pub explains_observer : (subset : Subset) (text : List ℕ) (fault : ObsFault) → length text ≤ most_observer_bytes → (fault ≢ Memory → IsFaultIn subset text fault)
+    → OnTrue (is_determined (status_of (refusal_of_observer fault))) (IsRefusedObserver subset text (refusal_of_observer fault))
+explains_observer subset text (Syntax at) short has = let fault : Syntax at ≢ Memory = λ same. cc in Faulty short (Syntax at) (has fault) refl
+explains_observer subset text (Names at) short has = let fault : Names at ≢ Memory = λ same. cc in Faulty short (Names at) (has fault) refl
+explains_observer subset text Memory short has = tt
+
+-- an observer that is read keeps the rules of names
+pub keeps_the_rules : (subset : Subset) (text : List ℕ) (observer : Observer) → IsObserverText subset text observer → KeepsTheRules observer
+keeps_the_rules InLustre text (Lustre node) is = is.read.well_named
+keeps_the_rules InLustre text (C unit) is = absurd is.read
+keeps_the_rules InC text (Lustre node) is = absurd is.read
+keeps_the_rules InC text (C unit) is = is.read.well_named
+
+-- ---- of the file of a name
+
+-- a refusal of a text that is held is one of the file
+pub refused_in : {T : Type 0} (subset : Subset) (told : Option Disk) (name text : List ℕ) (result : Result T Refusal) → IsHeldText told name text
+    → IfErr result (λ refusal. OnTrue (is_determined (status_of refusal)) (IsRefusedObserver subset text refusal))
+    → IfErr result (λ refusal. OnTrue (is_determined (status_of refusal)) (IsRefusedIn subset told name refusal))
+refused_in subset told name text (Ok value) there refused = tt
+refused_in subset told name text (Err refusal) there refused =
+    on_true_weaker (is_determined (status_of refusal)) (λ is. record { text = text; there = there; refused = is }) refused
+
+module _ (subset : Subset) (told : Option Disk) (name trace : List ℕ) where
+  -- so it is right, whatever is held under the name of the trace
+  pub explains_replay : (refusal : Refusal) → OnTrue (is_determined (status_of refusal)) (IsRefusedIn subset told name refusal)
+      → IsExplained (FulfilsOver (Replay subset name trace) told) Only refusal
+  explains_replay refusal refused_so =
+      explains_first told name (λ held text. OnObserver subset text (λ one. OnHeld (held 1) trace (IsReplay one))) Only refusal (λ text. IsRefusedObserver subset text refusal)
+      (λ held text is. Refused refusal is refl) (on_true_weaker (is_determined (status_of refusal)) (λ is. (is.text, is.there, is.refused)) refused_so)
+
+  module _ (told' : Option Disk) (text : List ℕ) (observer : Observer) (same : held_of told' ≡ held_of told) (there : IsHeldText told name text)
+      (is : IsObserverText subset text observer) where
+    -- what is right for the trace, behind the observer, is right for both
+    pub fulfils_replay : (outcome : Outcome) → FulfilsTrace observer trace told' outcome → FulfilsOver (Replay subset name trace) told outcome
+    fulfils_replay outcome right =
+        later_held told told' name text (λ held. OnHeld (held 0) trace (IsReplay observer) outcome) (λ held. Fulfils (Replay subset name trace) held outcome) same there moves right
+      where
+        moves : (held late : Texts) → held 0 name ≡ Some text → held 1 ≡ late 0 → OnHeld (late 0) trace (IsReplay observer) outcome → Fulfils (Replay subset name trace) held outcome
+        moves held late here next right = rw here (Read observer is (subst (λ held. OnHeld held trace (IsReplay observer) outcome) (sym next) right))
+
+-- what was written where the trace failed is what was written for both
+pub leaves_replay : (subset : Subset) (name trace text : List ℕ) (observer : Observer) (before mid after : Outside) (bytes : List ℕ) → StepsTo name before mid
+    → IsHeldText before.told name text → IsObserverText subset text observer → LeavesTrace observer trace (from before mid) after bytes
+    → LeavesFor (Replay subset name trace) before after bytes
+leaves_replay subset name trace text observer before mid after bytes steps there is left =
+    later_held before.told mid.told name text (λ held. LeavesOfTrace observer trace (held 0 trace) (from before mid) after bytes)
+    (λ held. LeavesAnswers subset name trace held before after bytes) steps.held there moves left
+  where
+    both : Asks (trace ∷ []) mid.asked after.asked → Asks (name ∷ trace ∷ []) before.asked after.asked
+    both asked = asks_in_turn before.asked mid.asked after.asked (name ∷ []) (trace ∷ []) steps.asked asked
+
+    moves : (held late : Texts) → held 0 name ≡ Some text → held 1 ≡ late 0 → LeavesOfTrace observer trace (late 0 trace) (from before mid) after bytes
+        → LeavesAnswers subset name trace held before after bytes
+    moves held late here next (OfOpen asked risen none) = NotOpened (both asked) risen none
+    moves held late here next (OfRead asked risen found found_is short) = ReadFailed (both asked) risen (record {
+      text = text;
+      there = here;
+      observer = observer;
+      is = is;
+      trace = found;
+      trace_there = (λ i. next i trace) ∙ found_is;
+      short = short;
+    })
+
+-- nothing was written where the observer's file failed
+pub leaves_before_trace : (subset : Subset) (name trace : List ℕ) (before after : Outside) → Asks (name ∷ []) before.asked after.asked
+    → LeavesFor (Replay subset name trace) before after []
+leaves_before_trace subset name trace before after asked = by before.told where
+  by : (told : Option Disk) → ForHeld told (λ held. LeavesAnswers subset name trace held before after [])
+  by None = record { held = λ time n. None; same = tt; holds = OfObserver asked refl }
+  by (Some disk) = record { held = λ time. disk.held; same = λ time. refl; holds = OfObserver asked refl }
