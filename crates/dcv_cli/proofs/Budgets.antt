@@ -1,11 +1,10 @@
 -- What `build` answers of a core is what is right for the steps of its file, and the verdict of its automaton is that of its words.
-use Rattle.std.proofs.Common.{◌≡◌, ℕ, ◌<◌, ◌≤◌, arith, List, length, map, Option, None, Some, Result, Ok, Err, sym, ap, ◌∙◌, subst}
+use Rattle.std.proofs.Common.{◌≡◌, ℕ, ◌<◌, ◌≤◌, List, length, map, Option, None, Some, Result, Ok, Err, sym, ap, ◌∙◌, subst}
 use Rattle.std.specs.Prelude.{IfOk, IfErr, OnOk, slice_get}
 use Rattle.std.specs.Option.{option_map}
 use Rattle.std.proofs.lemmas.Option.{slice_get-map, slice_get_within}
 use Rattle.dcv_language.specs.Language.{Language, HaveSameBehaviours}
-use Rattle.dcv_language.specs.Laws.{CanonicalForSameBehaviours, VerdictOfSameBehaviours}
-use Rattle.dcv_language.specs.Verdict.{Verdict, IsVerdict}
+use Rattle.dcv_language.specs.Laws.{CanonicalForSameBehaviours}
 use Rattle.dcv_syntax.specs.Plain.{PlainFile}
 use Rattle.dcv_logic.specs.Models.{models}
 use Rattle.dcv_core.specs.Core.{CoreTree}
@@ -16,7 +15,6 @@ use Rattle.dcv_core.specs.Steps.{PlainCore, PlainStep, CoreStep, without_core, s
 use Rattle.dcv_dfa.specs.Laws.{TableAcceptsAsTheStates}
 use Rattle.dcv_dfa.specs.Raw.{RawValue, IsRaw, raw_accepts}
 use Rattle.dcv_language.specs.Table.{table_accepts}
-use Rattle.dcv_automaton_text.specs.Rules.{most_states, most_nodes}
 use Rattle.dcv_dfa.specs.Auto.{IsAuto, count_of_nodes, table_of_states}
 use Rattle.dcv_explore.specs.declared.explorer.Limits.{Limits}
 use Rattle.dcv_explore.specs.Budget.{Kind}

@@ -1,5 +1,5 @@
 -- What is right where it is asked what the words of an automaton's text show.
-use Rattle.std.proofs.Common.{◌≡◌, ◌≢◌, ℕ, ◌≤◌, List, [], length, Option, refl, ap}
+use Rattle.std.proofs.Common.{ℕ, ◌≤◌, List, [], length, Option, refl, ap}
 use Rattle.std.specs.Prelude.{IsTrue}
 use Rattle.std.specs.Bool.{OnTrue}
 use Rattle.dcv_io.specs.Disk.{Disk}
@@ -14,13 +14,12 @@ use Rattle.dcv_language.specs.VerdictText.{line}
 use Rattle.dcv_cli.specs.AutomatonFile.{IsRefusedAutomaton, HasNoForm, BreaksARule, OnAutomaton, Refused, Read}
 use Rattle.dcv_cli.specs.Certificate.{IsCertificate, IsCertifiedText, answer_words, status_of_answer}
 use Rattle.dcv_cli.specs.Held.{OnHeld, ForHeld, IsHeldText}
-use Rattle.dcv_cli.specs.Outcome.{Outcome, IsExplained, refused}
+use Rattle.dcv_cli.specs.Outcome.{Outcome, IsExplained}
 use Rattle.dcv_cli.specs.Refusal.{most_automaton_bytes, refusal_of_automaton, status_of}
 use Rattle.dcv_cli.specs.Status.{is_answer, is_determined}
 use Rattle.dcv_cli.specs.declared.refusal.Refusal.{Refusal}
 use Rattle.dcv_cli.specs.declared.refused.Which.TheVariants.{Only}
-use Rattle.dcv_cli.specs.declared.status.Status.{Status}
-use Rattle.dcv_cli.proofs.ThreeEnds.{on_true_weaker, explains_first, fulfils_first}
+use Rattle.dcv_cli.proofs.ThreeEnds.{explains_first, fulfils_first}
 
 -- a refusal of the reader is right
 pub explains_automaton : (text : List ℕ) (fault : AutoFault) → length text ≤ most_automaton_bytes → IsFaultOf {Whole = AutomatonFile} text (Err fault)

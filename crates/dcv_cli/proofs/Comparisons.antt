@@ -1,10 +1,8 @@
 -- What is right where two formula files are compared.
-use Rattle.std.proofs.Common.{◌≡◌, ◌≢◌, ℕ, Bool, true, false, List, [], ◌∷◌, ◌++◌, length, map, Option, None, Some, Result, Ok, Err, refl, sym, ap, ◌∙◌, subst, codes}
-use Rattle.std.specs.Prelude.{IfOk, IfErr, IsTrue, IsSome, ◌↔◌, ◌&&◌, not, is_none, is_some, if◌then◌else◌}
+use Rattle.std.proofs.Common.{◌≡◌, ◌≢◌, ℕ, Bool, true, false, List, [], ◌∷◌, length, Option, None, Some, refl, sym, ap, ◌∙◌, subst, codes}
+use Rattle.std.specs.Prelude.{IsTrue, ◌↔◌, ◌&&◌, not, is_some}
 use Rattle.std.specs.Str.{bytes_eq}
 use Rattle.std.proofs.lemmas.Slice.Eq.{bytes_eq-Decides}
-use Rattle.std.specs.Bool.{OnTrue}
-use Rattle.std.specs.Option.{option_map}
 use Rattle.std.proofs.lemmas.List.{length-map}
 use mathlib.Core.Bool.{true≢false}
 use Rattle.dcv_io.specs.Disk.{Disk, held_of}
@@ -28,8 +26,8 @@ use Rattle.dcv_implies.specs.Laws.{AnswerOfAutomata, NoneWhereIncluded}
 use Rattle.dcv_implies.specs.declared.faults.OutsideFault.{OutsideFault}
 use Rattle.dcv_implies.specs.declared.faults.OutsideFault.TheVariants as outside
 use Rattle.dcv_print.specs.Printed.{texts_of}
-use Rattle.dcv_cli.specs.Budget.{IsBudgeted, OverBudget, WithinBudget, NamesFirstOver, steps_of_file, kind_of, limit_of}
-use Rattle.dcv_cli.specs.Comparison.{comparison_text, status_of_least, compared, have_same_texts, IsComparison, IsDifference, OverProduct, WithinProduct, IsCompared, Undeclared, Declared, FulfilsSecond}
+use Rattle.dcv_cli.specs.Budget.{OverBudget, WithinBudget, NamesFirstOver, steps_of_file}
+use Rattle.dcv_cli.specs.Comparison.{comparison_text, status_of_least, compared, have_same_texts, OverProduct, WithinProduct, IsCompared, Undeclared, Declared, FulfilsSecond}
 use Rattle.dcv_cli.specs.Expanded.{IsBuilt}
 use Rattle.dcv_cli.specs.FormulaFile.{IsFormulaFile, OnText, Read as ReadFile}
 use Rattle.dcv_cli.specs.Held.{Texts, OnHeld, ForHeld, IsHeldText}
@@ -37,15 +35,14 @@ use Rattle.dcv_cli.specs.Right.{Fulfils, FulfilsOver}
 use Rattle.dcv_command.specs.Request.{Implies}
 use Rattle.dcv_cli.proofs.TwoFiles.{later_held}
 use Rattle.dcv_cli.specs.Outcome.{Outcome, IsExplained, refused}
-use Rattle.dcv_cli.specs.Refusal.{status_of, marked, is_of_text, refusal_of_outside}
-use Rattle.dcv_cli.specs.Status.{is_answer, is_determined}
+use Rattle.dcv_cli.specs.Refusal.{marked, is_of_text, refusal_of_outside}
+use Rattle.dcv_cli.specs.Status.{is_answer}
 use Rattle.dcv_cli.specs.declared.budget_line.Excess.TheVariants.{States, Nodes}
 use Rattle.dcv_cli.specs.declared.refusal.Refusal.{Refusal}
 use Rattle.dcv_cli.specs.declared.refusal.Refusal.TheVariants.{Open, Read, Formula, Automaton, Observer, Trace, Budget, Product, Write, Memory}
 use Rattle.dcv_cli.specs.declared.faults.FormulaFault.TheVariants.{Declarations}
 use Rattle.dcv_cli.specs.declared.refused.Which.{Which}
 use Rattle.dcv_cli.specs.declared.refused.Which.TheVariants.{Only, First, Second}
-use Rattle.dcv_cli.proofs.Outcomes.{explains_over}
 
 -- ---- what is written
 

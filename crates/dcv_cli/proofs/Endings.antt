@@ -1,9 +1,9 @@
 -- How the answer of a command ends a run.
-use Rattle.std.proofs.Common.{◌≡◌, ℕ, true, false, List, [], Option, None, Some, Result, Ok, Err, length, refl, sym, ap, ◌∙◌, subst, append-nil, zero-le, arith}
+use Rattle.std.proofs.Common.{◌≡◌, ℕ, List, [], Option, None, Some, Result, Ok, Err, length, refl, sym, ap, ◌∙◌, subst, append-nil, zero-le, arith}
 use Rattle.std.proofs.Math.Seq.{take-length}
-use Rattle.std.specs.Prelude.{Bool, ◌||◌, OnOk, OnErr, is_err, ⊤}
+use Rattle.std.specs.Prelude.{OnOk, OnErr, is_err, ⊤}
 use mathlib.Core.Bool.{true≢false}
-use Rattle.std.specs.Bool.{OnTrue, OnFalse}
+use Rattle.std.specs.Bool.{OnTrue}
 use Rattle.dcv_io.specs.Faults.{RisesIf}
 use Rattle.dcv_io.specs.Written.{Appends, AppendsPrefix}
 use Rattle.dcv_io.specs.declared.fault.Failed.{Failed}

@@ -1,11 +1,10 @@
 -- Files that mean the same have the same verdict, the same observers, and the same automaton but for its suffixes.
-use Rattle.std.proofs.Common.{◌≡◌, ◌≢◌, ◌⊎◌, ℕ, List, length, Option, inl, inr, sym, ap, ◌∙◌, subst}
+use Rattle.std.proofs.Common.{◌≡◌, ℕ, List, length, Option, sym, ap, ◌∙◌, subst}
 use Rattle.std.specs.Prelude.{IsTrue, IsSomeAnd}
 use Rattle.std.proofs.lemmas.List.{length-map}
 use mathlib.Core.Bool.{true≢false}
-use Rattle.dcv_language.specs.Language.{Language}
 use Rattle.dcv_language.specs.Laws.{OneVerdict, VerdictOfSameBehaviours}
-use Rattle.dcv_language.specs.Verdict.{Verdict, IsVerdict}
+use Rattle.dcv_language.specs.Verdict.{IsVerdict}
 use Rattle.dcv_logic.specs.Models.{models}
 use Rattle.dcv_print.specs.Laws.{OneAutomaton, AutomatonOfSameBehaviours, OneFile, FileOfSameBehaviours, FileSaysNode, FileSaysUnit}
 use Rattle.dcv_print.specs.declared.report.Kind.{Kind}

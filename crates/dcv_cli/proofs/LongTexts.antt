@@ -1,5 +1,5 @@
 -- A text that is too long, where its files tell it, and where they tell nothing.
-use Rattle.std.proofs.Common.{◌≡◌, ℕ, suc, ◌<◌, List, length, replicate, Option, None, Some, arith}
+use Rattle.std.proofs.Common.{ℕ, suc, ◌<◌, List, length, replicate, Option, None, Some, arith}
 use Rattle.std.proofs.Math.ListN.{length-replicate}
 use Rattle.dcv_io.specs.Disk.{Disk, WhereTold, ReadsPast}
 use Rattle.dcv_cli.specs.Held.{IsTooLongText}

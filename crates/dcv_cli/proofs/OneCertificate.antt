@@ -1,5 +1,5 @@
 -- One outcome at most is right where it is asked what the words of an automaton's text show.
-use Rattle.std.proofs.Common.{◌≡◌, ◌≢◌, ◌⊎◌, inl, inr, refl, ℕ, ◌+◌, ◌<◌, ◌≤◌, Bool, zero, suc, true, false, List, [], ◌∷◌, length, take, drop, ◌++◌, Option, None, Some, sym, ap, ◌∙◌, subst, arith, append_assoc}
+use Rattle.std.proofs.Common.{◌≡◌, ◌≢◌, inl, inr, refl, ℕ, ◌+◌, ◌<◌, ◌≤◌, Bool, zero, suc, true, false, List, [], ◌∷◌, take, drop, ◌++◌, Option, None, Some, sym, ap, ◌∙◌, subst, arith, append_assoc}
 use Rattle.std.specs.Prelude.{IsSomeAnd, nat_lt}
 use Rattle.std.proofs.lemmas.Bool.Decides.{nat_tests}
 use Rattle.std.proofs.lemmas.List.{take-append-drop}
@@ -14,11 +14,11 @@ use Rattle.dcv_language.specs.VerdictText.{line}
 use Rattle.dcv_cli.specs.declared.refusal.Refusal.{Refusal}
 use Rattle.dcv_cli.specs.declared.refusal.Refusal.TheVariants.{Automaton}
 use Rattle.dcv_cli.specs.declared.faults.AutomatonFault.TheVariants.{Syntax, Table}
-use Rattle.dcv_cli.specs.declared.status.Status.TheVariants.{Done, NotValid, Budget as StatusBudget, Automaton as StatusAutomaton}
+use Rattle.dcv_cli.specs.declared.status.Status.TheVariants.{Budget as StatusBudget, Automaton as StatusAutomaton}
 use Rattle.dcv_cli.specs.AutomatonFile.{IsRefusedAutomaton, TooLong, HasNoForm, BreaksARule, IsAutomatonText, OnAutomaton, Refused, Read}
 use Rattle.dcv_cli.specs.Certificate.{IsCertificate, answer_words, status_of_answer}
 use Rattle.dcv_cli.specs.Outcome.{Outcome, Agrees, refused}
-use Rattle.dcv_cli.specs.Refusal.{most_automaton_bytes, status_of}
+use Rattle.dcv_cli.specs.Refusal.{status_of}
 use Rattle.dcv_cli.specs.declared.refused.Which.TheVariants.{Only}
 
 -- outcomes that are the same agree

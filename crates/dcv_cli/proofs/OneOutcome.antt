@@ -1,12 +1,10 @@
 -- One outcome at most is right.
-use Rattle.std.proofs.Common.{◌≡◌, ◌≢◌, ◌⊎◌, inl, inr, refl, ℕ, ◌<◌, Bool, true, false, List, length, Option, None, Some, sym, ap, ◌∙◌, subst, arith}
+use Rattle.std.proofs.Common.{◌≡◌, ◌≢◌, inl, refl, ℕ, ◌<◌, Bool, true, false, List, length, Option, None, Some, sym, ap, ◌∙◌, subst, arith}
 use Rattle.std.specs.Prelude.{IsSomeAnd, is_none, slice_get, if◌then◌else◌}
 use Rattle.std.specs.Option.{option_map}
 use Rattle.dcv_syntax.specs.Plain.{PlainFile}
 use Rattle.dcv_logic.specs.Models.{models}
-use Rattle.dcv_language.specs.Language.{Language}
 use Rattle.dcv_language.specs.Laws.{OneVerdict}
-use Rattle.dcv_language.specs.VerdictText.{verdict_text}
 use Rattle.dcv_language.specs.Verdict.{Verdict}
 use Rattle.dcv_sentence.specs.Faults.{FaultIsUnique}
 use Rattle.dcv_sentence.specs.declared.faults.ReadFault.{ReadFault}
@@ -28,7 +26,6 @@ use Rattle.dcv_cli.specs.declared.refusal.Refusal.{Refusal}
 use Rattle.dcv_cli.specs.declared.refusal.Refusal.TheVariants.{Budget}
 use Rattle.dcv_cli.specs.declared.status.Status.TheVariants.{Valid, NotValid, Usage, Formula, Budget as StatusBudget, Memory as OutOfMemory}
 use Rattle.dcv_cli.specs.Budget.{steps_of_file, kind_of, limit_of, IsFirstOver, IsBudgeted, OverBudget, WithinBudget}
-use Rattle.dcv_print.specs.Automaton.{DifferInSuffixes}
 use Rattle.dcv_print.specs.Laws.{OneAutomaton, OneFile}
 use Rattle.dcv_print.specs.declared.report.Kind.{Kind as ReportKind}
 use Rattle.dcv_cli.specs.Report.{IsReport}

@@ -1,15 +1,8 @@
 -- How each step of a command leads to a right outcome.
-use Rattle.std.proofs.Common.{◌≡◌, ◌≢◌, ℕ, suc, ◌<◌, ◌≤◌, List, [], length, replicate, Option, None, Some, Result, Ok, Err, Vec, Global, map, refl, inl, inr, arith, subst}
+use Rattle.std.proofs.Common.{◌≡◌, ◌≢◌, ℕ, ◌≤◌, List, [], length, Option, Some, Result, Ok, Err, Global, map, refl, inl, inr, subst}
 use Rattle.std.specs.Bool.{OnTrue}
-use Rattle.std.specs.Prelude.{Bool, true, false, IfErr, IfSome, IsTrue, is_none, if◌then◌else◌}
-use Rattle.std.proofs.Math.ListN.{length-replicate}
-use Rattle.std.proofs.Math.Seq.{take-length}
-use Rattle.dcv_io.specs.Disk.{Disk, held_of, WhereTold, ReadsPast}
-use Rattle.dcv_io.specs.Taking.{IfTooLong}
-use Rattle.dcv_io.specs.Written.{Appends, AppendsStrictPrefix}
-use Rattle.dcv_io.proofs.Appending.{strict_is_prefix}
-use Rattle.dcv_io.specs.declared.fault.TakeFault.{TakeFault}
-use Rattle.dcv_io.specs.declared.fault.TakeFault.TheVariants.{Open as TakeOpen, Read as TakeRead, TooLong as TakeTooLong, Memory as TakeMemory}
+use Rattle.std.specs.Prelude.{Bool, true, false, IfErr, IsTrue, is_none, if◌then◌else◌}
+use Rattle.dcv_io.specs.Disk.{Disk}
 use Rattle.dcv_syntax.specs.Plain.{PlainFile}
 use Rattle.dcv_logic.specs.Models.{models}
 use Rattle.dcv_language.specs.Language.{Language}
@@ -23,7 +16,7 @@ use Rattle.dcv_scope.specs.declared.faults.ScopeFault.{ScopeFault}
 use Rattle.dcv_scope.specs.declared.faults.ScopeFault.TheVariants.{TooMany, Duplicate, Taken, Unknown, Kind, Arity, Size, Depth, Slots}
 use Rattle.dcv_scope.specs.declared.faults.ScopeFault.TheVariants.{Memory as ScopeMemory}
 use Rattle.dcv_cli.specs.declared.refusal.Refusal.{Refusal}
-use Rattle.dcv_cli.specs.declared.refusal.Refusal.TheVariants.{Open, Read as ReadRefusal, Formula, Automaton, Budget, Product, Write, Memory}
+use Rattle.dcv_cli.specs.declared.refusal.Refusal.TheVariants.{Budget, Memory}
 use Rattle.dcv_cli.specs.declared.status.Status.{Status}
 use Rattle.dcv_core.specs.Steps.{PlainStep}
 use Rattle.dcv_explore.specs.declared.explorer.Limits.{Limits}
@@ -37,7 +30,7 @@ use Rattle.dcv_cli.specs.declared.judged.Judged.{Judged}
 use Rattle.dcv_cli.specs.Budget.{steps_of_file, NamesFirstOver, IsBudgeted, OverBudget, WithinBudget}
 use Rattle.dcv_cli.specs.Report.{Says, IsReport}
 use Rattle.dcv_cli.specs.Ending.{EndsBy, AddsFront, StopsWithin}
-use Rattle.dcv_cli.specs.FormulaFile.{IsRefused, TooLong, Faulty, HasNoCore, IsSentence, IsFormulaFile, OnText, Refused, Read}
+use Rattle.dcv_cli.specs.FormulaFile.{IsRefused, Faulty, HasNoCore, IsSentence, IsFormulaFile, OnText, Refused, Read}
 use Rattle.dcv_cli.specs.Outcome.{Outcome, refused, IsExplained}
 use Rattle.dcv_cli.specs.Refusal.{most_bytes, status_of, is_of_text, refusal_of_reading, refusal_of_scope}
 use Rattle.dcv_cli.specs.declared.refused.Which.{Which}

@@ -1,15 +1,13 @@
 -- The observer of a replay, and what is right for the trace behind it.
-use Rattle.std.proofs.Common.{◌≡◌, ◌≢◌, ◌≤◌, ℕ, List, [], ◌∷◌, length, Option, None, Some, Result, Ok, Err, refl, sym, ap, subst, ◌∙◌}
+use Rattle.std.proofs.Common.{◌≡◌, ◌≢◌, ◌≤◌, ℕ, List, [], ◌∷◌, length, Option, None, Some, Result, Ok, Err, refl, sym, subst, ◌∙◌}
 use Rattle.std.specs.Prelude.{IfErr}
 use Rattle.std.specs.Bool.{OnTrue}
 use Rattle.dcv_io.specs.Asked.{Asks}
 use Rattle.dcv_io.specs.Disk.{Disk, held_of}
 use Rattle.dcv_io.proofs.Asking.{asks_in_turn}
-use Rattle.dcv_c.specs.Tree.{CUnit}
 use Rattle.dcv_command.specs.Request.{Replay}
 use Rattle.dcv_command.specs.declared.words.Subset.{Subset}
 use Rattle.dcv_command.specs.declared.words.Subset.TheVariants.{Lustre as InLustre, C as InC}
-use Rattle.dcv_lustre.specs.Tree.{Node}
 use Rattle.dcv_observer.specs.declared.fault.ObsFault.{ObsFault}
 use Rattle.dcv_observer.specs.declared.fault.ObsFault.TheVariants.{Syntax, Names, Memory}
 use Rattle.dcv_replay.specs.Observer.{Observer, Lustre, C, KeepsTheRules}
@@ -21,7 +19,7 @@ use Rattle.dcv_cli.specs.Outcome.{Outcome, IsExplained}
 use Rattle.dcv_cli.specs.Outside.{Outside}
 use Rattle.dcv_cli.specs.Performed.{LeavesFor}
 use Rattle.dcv_cli.specs.Refusal.{most_observer_bytes, refusal_of_observer, status_of}
-use Rattle.dcv_cli.specs.Replayed.{IsReplay, IsCutShort, LeavesAnswers, OfObserver, OfOpen as NotOpened, OfRead as ReadFailed}
+use Rattle.dcv_cli.specs.Replayed.{IsReplay, LeavesAnswers, OfObserver, OfOpen as NotOpened, OfRead as ReadFailed}
 use Rattle.dcv_cli.specs.Replaying.{IsRefusedIn, FulfilsTrace, LeavesTrace, LeavesOfTrace, OfOpen, OfRead}
 use Rattle.dcv_cli.specs.Right.{Fulfils, FulfilsOver}
 use Rattle.dcv_cli.specs.Status.{is_determined}

@@ -1,6 +1,6 @@
 -- What a text says of a set: no two texts say the same, but for the suffixes of an automaton, and it is said of each set with the same
 -- behaviours.
-use Rattle.std.proofs.Common.{◌≡◌, ◌⊎◌, ℕ, List, [], ◌∷◌, ◌++◌, inl, inr, sym, ap, ◌∙◌, subst, codes, append_assoc}
+use Rattle.std.proofs.Common.{◌≡◌, ◌⊎◌, ℕ, List, [], ◌++◌, inl, inr, sym, ap, ◌∙◌, subst, codes, append_assoc}
 use Rattle.std.proofs.lemmas.List.{append-nil}
 use Rattle.dcv_language.specs.Language.{Language, HaveSameBehaviours}
 use Rattle.dcv_language.specs.Verdict.{Verdict}

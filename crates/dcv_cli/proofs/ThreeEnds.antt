@@ -1,12 +1,12 @@
 -- How each command keeps to what all of them do: by a refusal before anything is written, a report that is written whole, or one whose writing
 -- failed; and a replay by a fault of the trace, or of a read of it, behind what was written.
-use Rattle.std.proofs.Common.{◌≡◌, ℕ, Bool, true, false, List, [], Option, None, Some, Result, Ok, Err, length, refl, sym, inl, inr, subst, take, arith}
+use Rattle.std.proofs.Common.{◌≡◌, ℕ, Bool, true, false, List, [], Option, None, Some, Result, Ok, Err, length, refl, sym, inl, inr, arith}
 use Rattle.std.proofs.Math.Seq.{take-length}
-use Rattle.std.specs.Prelude.{IfSome, IsTrue, ◌<◌}
+use Rattle.std.specs.Prelude.{IfSome, IsTrue}
 use Rattle.std.specs.Bool.{OnTrue}
 use mathlib.Core.Bool.{true≢false}
 use Rattle.dcv_io.specs.Asked.{AsksPrefix}
-use Rattle.dcv_io.specs.Disk.{Disk, held_of, WhereTold, ReadsPast}
+use Rattle.dcv_io.specs.Disk.{Disk, held_of}
 use Rattle.dcv_io.specs.Faults.{has_risen, RisesIf, Rises}
 use Rattle.dcv_io.specs.Written.{Appends, AppendsPrefix, AppendsStrictPrefix}
 use Rattle.dcv_io.proofs.Appending.{strict_is_prefix}

@@ -1,14 +1,13 @@
 -- What a run over a trace leads to, as the end of a command.
 use Rattle.std.proofs.Common.{◌≡◌, ◌≢◌, ◌⊎◌, ℕ, ◌<◌, ◌≤◌, Bool, true, false, List, [], ◌∷◌, ◌++◌, length, take, Option, None, Some, Result, Ok, Err, inl, inr, refl, sym, ap, subst, ◌∙◌, arith, append_assoc, length-append}
-use Rattle.std.proofs.lemmas.Bool.{false≢true}
 use Rattle.std.proofs.lemmas.Bool.Decides.{nat_tests}
 use Rattle.std.proofs.lemmas.List.{append-nil}
 use Rattle.std.proofs.Math.Seq.{take-append_seam}
 use Rattle.std.specs.Prelude.{IfSome, IsTrue, nat_lt, ◌||◌, ◌==◌, ◌^◌, ◌-◌}
 use Rattle.dcv_io.specs.Asked.{Asks}
 use Rattle.dcv_io.specs.Disk.{Disk, held_of}
-use Rattle.dcv_io.specs.Faults.{has_risen, Rises, RisesIf}
-use Rattle.dcv_io.specs.Written.{appended, Appends, AppendsPrefix, AppendsStrictPrefix}
+use Rattle.dcv_io.specs.Faults.{RisesIf}
+use Rattle.dcv_io.specs.Written.{Appends, AppendsPrefix, AppendsStrictPrefix}
 use Rattle.dcv_word.specs.Behaviour.{Word}
 use Rattle.dcv_replay.specs.Laws.{SomeVerdict, LinesAreFront, AnswersOfFront, GoodLinesAreAnswered}
 use Rattle.dcv_replay.specs.Observer.{Observer, width_of, KeepsTheRules, AreAnswers}
@@ -27,7 +26,7 @@ use Rattle.dcv_cli.specs.Outcome.{Outcome}
 use Rattle.dcv_cli.specs.Outside.{Outside}
 use Rattle.dcv_cli.specs.Performed.{Performs}
 use Rattle.dcv_cli.specs.Refusal.{only, refusal_of_replay}
-use Rattle.dcv_cli.specs.Replayed.{IsReplay, IsCutShort, fault_of_trace, status_of_trace, message_of_trace}
+use Rattle.dcv_cli.specs.Replayed.{IsReplay, fault_of_trace, status_of_trace, message_of_trace}
 use Rattle.dcv_cli.specs.Replaying.{FulfilsTrace, LeavesTrace, LeavesOfTrace, OfOpen, OfRead}
 use Rattle.dcv_cli.proofs.ThreeEnds.{fulfils_first, performs_refused, performs_sent, performs_broken, performs_cut, performs_at_fault}
 

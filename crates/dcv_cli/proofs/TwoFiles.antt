@@ -1,7 +1,6 @@
 -- Commands that read a second file: what is right for that, behind the first, is right for both.
-use Rattle.std.proofs.Common.{◌≡◌, ℕ, Bool, true, false, List, [], ◌∷◌, Option, None, Some, Result, refl, sym, ◌∙◌, subst, inl, inr, ap}
-use Rattle.std.specs.Prelude.{IfSome, nat_eq, if◌then◌else◌}
-use Rattle.std.specs.Bool.{OnTrue}
+use Rattle.std.proofs.Common.{◌≡◌, ℕ, List, [], ◌∷◌, Option, None, Some, Result, refl, sym, ◌∙◌, subst, inl, inr}
+use Rattle.std.specs.Prelude.{nat_eq, if◌then◌else◌}
 use Rattle.dcv_io.specs.Asked.{Asks}
 use Rattle.dcv_io.specs.Disk.{Disk, held_of}
 use Rattle.dcv_io.specs.Written.{Appends}

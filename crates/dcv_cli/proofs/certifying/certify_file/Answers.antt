@@ -1,12 +1,11 @@
 -- What is right for the text of the file is right for the request.
-use Rattle.std.proofs.Common.{◌≡◌, List, ℕ, refl, sym, subst}
-use Rattle.std.specs.Prelude.{IsTrue}
+use Rattle.std.proofs.Common.{List, ℕ, refl, subst}
 use Rattle.std.specs.Bool.{OnTrue}
 use Rattle.std.proofs.lemmas.Result.{err_from_is_err_and}
 use Rattle.dcv_cli.specs.AutomatonFile.{IsRefusedAutomaton, TooLong}
 use Rattle.dcv_cli.specs.Certificate.{IsCertifiedText, status_of_answer}
 use Rattle.dcv_cli.specs.Refusal.{status_of}
-use Rattle.dcv_cli.specs.Status.{is_answer, is_determined}
+use Rattle.dcv_cli.specs.Status.{is_determined}
 use Rattle.dcv_cli.specs.declared.refused.Which.TheVariants.{Only}
 use Rattle.dcv_cli.proofs.Endings.{nothing_told}
 use Rattle.dcv_cli.proofs.Certificates.{explains_certificate, fulfils_certificate, answers_end}

@@ -1,5 +1,5 @@
 -- What is answered of the automata is what is right for the files.
-use Rattle.std.proofs.Common.{◌≡◌, ◌∙◌, sym, ap, Err}
+use Rattle.std.proofs.Common.{◌∙◌, sym, ap, Err}
 use Rattle.dcv_implies.specs.Comparison.{letters_of}
 use Rattle.dcv_cli.specs.Budget.{steps_of_file}
 use Rattle.dcv_cli.specs.Comparison.{IsCompared}

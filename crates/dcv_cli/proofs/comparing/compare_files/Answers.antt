@@ -1,6 +1,5 @@
 -- What is right for the second file, behind the first, is right for both.
 use Rattle.std.proofs.Common.{refl}
-use Rattle.dcv_command.specs.Request.{Implies}
 use Rattle.dcv_cli.specs.Comparison.{IsCompared}
 use Rattle.dcv_cli.specs.FormulaFile.{OnText}
 use Rattle.dcv_cli.specs.Held.{OnHeld}

@@ -1,5 +1,5 @@
 -- The automaton of the core is that of the file, within what may be printed.
-use Rattle.std.proofs.Common.{◌≡◌, List, length, sym, subst, ap, ◌∙◌, arith}
+use Rattle.std.proofs.Common.{List, length, sym, subst, ap, ◌∙◌, arith}
 use Rattle.std.proofs.lemmas.Result.{err_from_is_err_and}
 use Rattle.dcv_automaton_text.specs.Rules.{AreNames}
 use Rattle.dcv_print.specs.Printed.{texts_of}
