@@ -1,0 +1,63 @@
+#!/usr/bin/env bash
+# Measures replays, by hand: the least time of so many runs (RUNS, 3 by custom) in milliseconds, start and end of the process included, and the most
+# memory, in MB.
+#
+#   read LANGUAGE N       an observer's text with N nodes over 30,000 states is read, and a trace of one line replayed through it; beside it `certify`
+#                         reads the text of the same automaton, and refuses it at once
+#   lines LANGUAGE        a trace of 1,000,000 lines through a small observer, from file to file
+#   steps LANGUAGE        1,000 lines through the observer with the fewest nodes above, less the reading
+#
+# Goals: a text of 134,217,728 bytes read within 5 seconds; time and memory within twice those of the automaton's text; 1,000,000 lines within 0.2 s.
+#
+# The last figures: FIGURES
+set -euo pipefail
+here=$(cd "$(dirname "$(readlink -f "${BASH_SOURCE[0]}")")" && pwd)
+program=${PROGRAM:-$here/../crates/dcvalid/out/dcvalid}
+[ -x "$program" ] || { echo "build the program first: ./dcvalid check examples/always.dc" >&2; exit 1; }
+folder=$(mktemp -d)
+trap 'rm -rf "$folder"' EXIT
+
+# Runs a command so often, and leaves the least time (in microseconds) and the most memory (in kB) in `took` and `kept`.
+measure() {
+  took= kept=0
+  for _ in $(seq "${RUNS:-3}"); do
+    local begun=${EPOCHREALTIME/./} now memory
+    /usr/bin/time -o "$folder/kept" -f %M "$@" >"$folder/out" 2>"$folder/err" || true
+    now=$((${EPOCHREALTIME/./} - begun)) memory=$(tail -n 1 "$folder/kept")
+    [ -n "$took" ] && [ "$took" -le "$now" ] || took=$now
+    [ "$kept" -ge "$memory" ] || kept=$memory
+  done
+}
+
+# tell NAME BYTES: what was measured
+tell() {
+  awk -v n="$1" -v b="$2" -v t="$took" -v m="$kept" -v o="$(head -c 30 "$folder/out" | tr '\n' ' ')$(head -c 30 "$folder/err" | tr '\n' ' ')" \
+    'BEGIN { printf "%-22s %11d bytes %9.1f ms %7.1f MB   %s\n", n, b, t / 1000, m / 1024, o }'
+}
+
+for variables in 1 5; do
+  python3 "$here/observer_texts.py" 30000 "$variables" "$folder/text"
+  nodes=$((30000 * (2 ** variables - 1)))
+  printf "%0${variables}d\n" 0 >"$folder/one.trace"
+  measure "$program" certify "$folder/text.automaton"
+  tell "certify $nodes" "$(stat -c %s "$folder/text.automaton")"
+  for language in lustre c; do
+    measure "$program" "replay-$language" "$folder/text.$language" "$folder/one.trace"
+    tell "read $language $nodes" "$(stat -c %s "$folder/text.$language")"
+    if [ "$variables" -eq 1 ]; then
+      reading=$took
+      for _ in $(seq 1000); do echo 0; done >"$folder/thousand.trace"
+      measure "$program" "replay-$language" "$folder/text.$language" "$folder/thousand.trace"
+      took=$((took - reading))
+      tell "steps $language" "$(stat -c %s "$folder/thousand.trace")"
+    fi
+  done
+done
+
+echo 'var p, q; infer [](<p> => true^<q>);' >"$folder/small.dc"
+awk 'BEGIN { srand(1); for (i = 0; i < 1000000; i++) print int(2 * rand()) int(2 * rand()) }' >"$folder/million.trace"
+for language in lustre c; do
+  "$program" "$language" "$folder/small.dc" >"$folder/small.$language" || true
+  measure "$program" "replay-$language" "$folder/small.$language" "$folder/million.trace"
+  tell "lines $language" "$(stat -c %s "$folder/million.trace")"
+done
