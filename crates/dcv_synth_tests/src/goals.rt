@@ -49,8 +49,11 @@ fn auto_of(alloc: Global, text: &str) -> Result<Auto, Fail> {
 // The strategy against a text whose first variables are inputs, if there is one.
 pub(crate) fn strategy_of(alloc: Global, text: &str, inputs: u8) -> Result<Option<Strategy>, Fail> {
     let auto = auto_of(alloc, text)?;
-    if inputs > auto.slots() || auto.states() > 32_000 {
-        return Err("no such game".into());
+    if inputs > auto.slots() {
+        return Err("there are fewer variables".into());
+    }
+    if auto.states() > 32_000 {
+        return Err("there are more states".into());
     }
     Ok(winning_strategy(alloc, &auto, inputs)?)
 }
