@@ -79,5 +79,15 @@ got=$(STUB_OUT='not valid\nsatisfiable\ncounterexample 2\n01\n00\nexample 1\n00\
 [ $? -eq 1 ] || fail 'the status of a verdict'
 [ "$got" = "$wanted" ] || fail "the tables: $got"
 
+# Replays: an answer for each instant, and what is wrong with a trace or an observer.
+printf 'node observer(v_p: bool) returns (ok: bool);\nlet\n  ok = q;\ntel\n' >"$work/observer"
+got=$(STUB_OUT='1\n0\n' STUB_ERR='fault line 3' STUB_STATUS=8 DCVALID=$work/stub "$here/explain" replay-lustre "$work/observer" "$work/text.dc" 2>"$work/err")
+[ $? -eq 8 ] || fail 'the status of a replay'
+[ "$got" = $'  instant 0: the behaviour so far is accepted\n  instant 1: it is not' ] || fail "the answers: $got"
+grep -q '^That line of the trace' "$work/err" || fail 'what is said of a line'
+STUB_ERR='fault observer names at 56' STUB_STATUS=9 DCVALID=$work/stub "$here/explain" replay-lustre "$work/observer" "$work/text.dc" >"$work/out" 2>"$work/err"
+[ $? -eq 9 ] || fail 'the status of an observer'
+grep -q 'line 3' "$work/err" || fail "the line of an observer: $(cat "$work/err")"
+
 [ "$failed" -eq 0 ] && echo 'all passed'
 exit "$failed"
