@@ -9,7 +9,17 @@
 #
 # Goals: a text of 134,217,728 bytes read within 5 seconds; time and memory within twice those of the automaton's text; 1,000,000 lines within 0.2 s.
 #
-# The last figures: FIGURES
+# The last figures: 28 November 2026, an Intel Xeon at 2.5 GHz, the least of two runs beside a gate on all processors. The text of an observer takes ten
+# times the time of the automaton's text, and four times the memory, so the goals of reading are not kept. A plain pass over a trace is.
+#
+#   certify 30000              2333306 bytes      12.2 ms     8.6 MB
+#   read lustre 30000          2807126 bytes     152.3 ms    30.0 MB
+#   read c 30000               2522205 bytes     141.7 ms    23.5 MB
+#   certify 930000            33479812 bytes     261.2 ms   107.9 MB
+#   read lustre 930000        57164111 bytes    2500.1 ms   422.6 MB
+#   read c 930000             47879153 bytes    2557.3 ms   355.2 MB
+#   steps lustre, steps c         1000 lines     119.8 ms, 107.5 ms, of 30,000 nodes and 30,000 states each
+#   lines lustre, lines c      1000000 lines      46.0 ms, 45.9 ms, 2.0 MB
 set -euo pipefail
 here=$(cd "$(dirname "$(readlink -f "${BASH_SOURCE[0]}")")" && pwd)
 program=${PROGRAM:-$here/../crates/dcvalid/out/dcvalid}
