@@ -26,3 +26,4 @@ pub mod Readings
 pub mod ObserverForms
 pub mod Rows
 pub mod OfAuto
+pub mod PutLines

@@ -52,7 +52,7 @@ module _ (names : List (List ℕ)) (lines : List NodeLine) where
 
 -- ---- the whole node
 
-locals_are : (names : List (List ℕ)) (first : ℕ) (lines : List NodeLine)
+pub locals_are : (names : List (List ℕ)) (first : ℕ) (lines : List NodeLine)
     → map number_local (map node_name (range_with_len first (length lines))) ≡ map node_local (map (node_line names) (enumerate_from first lines))
 locals_are names first [] = refl
 locals_are names first (line ∷ lines) = ap (λ ls. number_local (node_name first) ∷ ls) (locals_are names (first + 1) lines)

@@ -32,8 +32,10 @@ pub mod laws;
 mod layout;
 mod node;
 mod observer;
+mod straight;
 
 pub use dcv_observer::{Condition, ObsFault, Test};
 pub use layout::{put, text};
 pub use node::{Arm, Equation, Item, Kind, Local, Node, Right, Value};
 pub use observer::of_auto;
+pub use straight::put_observer;

@@ -1,10 +1,11 @@
 // The observer of an automaton.
-ghost use Rattle.std.specs.Prelude.{◌≡◌, ◌<◌, ◌≤◌, ◌∷◌, ℕ, List, length, map, IfOk};
+ghost use Rattle.std.specs.Prelude.{◌≡◌, ◌<◌, ◌≤◌, [], ◌∷◌, ℕ, List, length, map, slice_index_or, IfOk};
 ghost use Rattle.std.specs.List.{All, range_with_len};
 ghost use Rattle.dcv_dfa.specs.NodeLines.{IsBelow};
 ghost use Rattle.dcv_dfa.specs.Auto.{count_of_nodes};
 ghost use Rattle.dcv_automaton_text.specs.Rules.{AreNames, most_states, most_nodes};
-ghost use Rattle.dcv_lustre.specs.Seen.{seen_item, seen_test, seen_equation, seen_local};
+ghost use Rattle.dcv_lustre.specs.Seen.{seen_item, seen_arm, seen_test, seen_equation, seen_local};
+ghost use Rattle.dcv_lustre.specs.Tree.{Holds, Equals};
 ghost use Rattle.dcv_automaton_text.specs.File.{AccessLine, SuffixLine};
 ghost use Rattle.dcv_automaton_file.specs.File.{texts_of, target_of, node_line, file_of};
 ghost use Rattle.dcv_dfa.specs.declared.node_lines.Child.{Child as PlainChild};
@@ -122,15 +123,26 @@ fn rows_equation(alloc: Global, inputs: u32, rows: &[Child]) -> Result<Equation,
     let last = rows.len() - 1;
     let mut arms = Vec::new(alloc);
     for state in 0..last {
-        arms.push(Arm {
-            condition: Condition::Equals(inputs + 1, state as u16),
-            item: child_item(inputs, rows[state]),
-        })?;
+        arms.push(state_arm(inputs, state as u32, rows[state]))?;
     }
     Ok(Equation {
         left: inputs + 2,
         right: Right::Chosen(arms, child_item(inputs, rows[last])),
     })
+}
+
+// `if st = I then RI else`.
+pub(crate) fn state_arm(inputs: u32, state: u32, row: Child) -> Arm
+    requires inputs { inputs ≤ 16 }
+    requires state { state < 32768 }
+    requires row { IsBelow 32768 1000000 row }
+    ensures { (names : List (List ℕ)) (nodes : ℕ) → length (input_names names) ≡ inputs → IsBelow 32768 nodes row
+        → seen_arm (observer_names names nodes) result ≡ record { condition = Equals state_name state; item = item_of (target_of row) } }
+{
+    Arm {
+        condition: Condition::Equals(inputs + 1, state as u16),
+        item: child_item(inputs, row),
+    }
 }
 
 // `ok = (nx = I) or ..`, or `false` where no state accepts.
@@ -161,7 +173,7 @@ fn output_equation(alloc: Global, inputs: u32, auto: &Auto) -> Result<Equation, 
 
 // `(nx = I)`.
 #[tactic(auto, using(crate::proofs::Places::next_test))]
-fn next_is(inputs: u32, state: u32) -> Test
+pub(crate) fn next_is(inputs: u32, state: u32) -> Test
     requires inputs { inputs ≤ 16 }
     requires state { state < 32768 }
     ensures { (names : List (List ℕ)) (nodes : ℕ) → length (input_names names) ≡ inputs
@@ -174,7 +186,7 @@ fn next_is(inputs: u32, state: u32) -> Test
 }
 
 // A state as its number, a node as its name.
-fn child_item(inputs: u32, child: Child) -> Item
+pub(crate) fn child_item(inputs: u32, child: Child) -> Item
     requires inputs { inputs ≤ 16 }
     requires child { IsBelow 32768 1000000 child }
     ensures seen { (names : List (List ℕ)) (nodes : ℕ) → length (input_names names) ≡ inputs → IsBelow 32768 nodes child
@@ -213,15 +225,25 @@ fn line_equation(
         → number < nodes → IsBelow 32768 nodes line.hi → IsBelow 32768 nodes line.lo
         → seen_equation (observer_names names nodes) equation ≡ node_equation (node_line names (number, line))) }
 {
-    let hi = child_item(inputs, line.hi);
     let lo = child_item(inputs, line.lo);
     let mut arms = Vec::new(alloc);
-    arms.push(Arm {
-        condition: Condition::Holds(u32::from(line.slot)),
-        item: hi,
-    })?;
+    arms.push(line_arm(inputs, line))?;
     Ok(Equation {
         left: inputs + 3 + number,
         right: Right::Chosen(arms, lo),
     })
+}
+
+// `if v_NAME then HI else`.
+pub(crate) fn line_arm(inputs: u32, line: NodeLine) -> Arm
+    requires inputs { inputs ≤ 16 }
+    requires hi { IsBelow 32768 1000000 line.hi }
+    ensures { (names : List (List ℕ)) (nodes : ℕ) → length (input_names names) ≡ inputs → line.slot < length names → IsBelow 32768 nodes line.hi
+        → seen_arm (observer_names names nodes) result
+        ≡ record { condition = Holds (input_name (slice_index_or names line.slot [])); item = item_of (target_of line.hi) } }
+{
+    Arm {
+        condition: Condition::Holds(u32::from(line.slot)),
+        item: child_item(inputs, line.hi),
+    }
 }

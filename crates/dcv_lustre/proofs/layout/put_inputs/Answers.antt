@@ -1,7 +1,7 @@
 use Rattle.std.proofs.Common.{◌++◌, ℕ, List, ap, ◌∙◌, arith}
 use Rattle.std.specs.Prelude.{codes}
 use Rattle.std.proofs.lemmas.Grind.{common_steps}
-use Rattle.dcv_io.proofs.Putting.{puts_one_more, puts_both, puts_nothing, puts_same}
+use Rattle.dcv_io.proofs.Putting.{puts_one_more, puts_both, puts_same}
 use Rattle.dcv_lustre.specs.Layout.{input_text}
 use Rattle.dcv_lustre.proofs.layout.put_inputs.Goals as goal
 
