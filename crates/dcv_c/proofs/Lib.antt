@@ -24,3 +24,4 @@ pub mod ObserverLaws
 pub mod Places
 pub mod Rows
 pub mod OfAuto
+pub mod PutLines

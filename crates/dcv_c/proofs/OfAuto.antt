@@ -16,7 +16,7 @@ use Rattle.dcv_c.specs.Observer.{state_name, next_name, node_name, parameter_nam
 use Rattle.dcv_c.specs.Observer.{state_statement, last_statement, accepting_tests, returned_for, observer_of}
 use Rattle.dcv_c.specs.Building.{observer_names, state_lines, Fits}
 
-below_more : (a b c d : ℕ) (child : Child) → a ≤ c → b ≤ d → IsBelow a b child → IsBelow c d child
+pub below_more : (a b c d : ℕ) (child : Child) → a ≤ c → b ≤ d → IsBelow a b child → IsBelow c d child
 below_more a b c d (State state) first second below = omega (arith, below, first)
 below_more a b c d (NodeAt number) first second below = omega (arith, below, second)
 
@@ -36,7 +36,7 @@ lines_fit slots states all few is = λ k d within.
 
 -- ---- the whole unit
 
-locals_are : (names : List (List ℕ)) (first : ℕ) (lines : List NodeLine)
+pub locals_are : (names : List (List ℕ)) (first : ℕ) (lines : List NodeLine)
     → map node_name (range_with_len first (length lines)) ≡ map node_local (map (node_line names) (enumerate_from first lines))
 locals_are names first [] = refl
 locals_are names first (line ∷ lines) = ap (λ ls. node_name first ∷ ls) (locals_are names (first + 1) lines)

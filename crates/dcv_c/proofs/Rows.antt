@@ -13,7 +13,7 @@ use Rattle.dcv_c.specs.Observer.{next_name, node_name, state_test, accepting_tes
 
 -- ---- ranges and numbers
 
-range_more : (first count : ℕ) → range_with_len first (count + 1) ≡ range_with_len first count ++ (first + count) ∷ []
+pub range_more : (first count : ℕ) → range_with_len first (count + 1) ≡ range_with_len first count ++ (first + count) ∷ []
 range_more first zero = let e : first ≡ first + 0 = omega arith in ap (λ n. n ∷ []) e
 range_more first (suc count) =
     let next : suc count + 1 ≡ suc (count + 1) = omega arith in

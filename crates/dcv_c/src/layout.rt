@@ -1,5 +1,5 @@
 // The text of a unit.
-ghost use Rattle.std.specs.Prelude.{◌≡◌, ◌++◌, codes, decimal, map, IfOk};
+ghost use Rattle.std.specs.Prelude.{◌≡◌, ◌++◌, ℕ, List, codes, decimal, map, IfOk};
 ghost use Rattle.std.specs.List.{flat_map, join_by};
 ghost use Rattle.dcv_io.specs.Putting.{Puts};
 ghost use Rattle.dcv_c.specs.Seen.{name_at, seen_item, seen_condition, seen_right, seen_statement, seen_test, seen_returned, seen_assignment, all_names};
@@ -45,6 +45,16 @@ pub fn put<T: Target>(unit: &CUnit, target: &mut T)
 }
 
 // The names of a unit, by their places.
+pub(crate) trait NamesByPlace {
+    // In order.
+    ghost names: { Self → List (List ℕ) };
+
+    // Puts the name at a place, and nothing behind the last.
+    fn put_at<T: Target>(&self, place: u32, target: &mut T)
+        ensures { Puts (T.standing target.old) (T.standing target.new) (name_at (names self.now) place) };
+}
+
+// The names that a unit has of its own.
 #[derive(Drop)]
 struct Names<'a> {
     statics: &'a [Text],
@@ -84,6 +94,14 @@ impl<'a> Names<'a> {
     }
 }
 
+impl<'a> NamesByPlace for Names<'a> {
+    ghost names = { λ names. names };
+
+    fn put_at<T: Target>(&self, place: u32, target: &mut T) {
+        target.put(self.at(place));
+    }
+}
+
 // ---- declarations
 
 fn put_statics<T: Target>(target: &mut T, statics: &[Text])
@@ -94,7 +112,7 @@ fn put_statics<T: Target>(target: &mut T, statics: &[Text])
     }
 }
 
-fn put_static<T: Target>(target: &mut T, name: &[u8])
+pub(crate) fn put_static<T: Target>(target: &mut T, name: &[u8])
     ensures { Puts (T.standing target.old) (T.standing target.new) (static_line name.now) }
 {
     put_pieces(target, &[b"static int ", name, b";\n"]);
@@ -107,10 +125,16 @@ fn put_reset<T: Target>(target: &mut T, names: &Names<'_>, reset: &Reset)
 {
     put_reset_head(target, reset.name.as_bytes());
     put_assignments(target, names, &reset.assignments);
+    put_reset_end(target);
+}
+
+pub(crate) fn put_reset_end<T: Target>(target: &mut T)
+    ensures { Puts (T.standing target.old) (T.standing target.new) (codes "}\n") }
+{
     target.put(b"}\n");
 }
 
-fn put_reset_head<T: Target>(target: &mut T, name: &[u8])
+pub(crate) fn put_reset_head<T: Target>(target: &mut T, name: &[u8])
     ensures { Puts (T.standing target.old) (T.standing target.new) (codes "\nvoid " ++ (name.now ++ codes "(void)\n{\n")) }
 {
     put_pieces(target, &[b"\nvoid ", name, b"(void)\n{\n"]);
@@ -124,15 +148,28 @@ fn put_assignments<T: Target>(target: &mut T, names: &Names<'_>, assignments: &[
     }
 }
 
-fn put_assignment<T: Target>(target: &mut T, names: &Names<'_>, assignment: Assignment)
-    ensures { Puts (T.standing target.old) (T.standing target.new) (assignment_line (seen_assignment names.now assignment)) }
+pub(crate) fn put_assignment<T: Target, N: NamesByPlace>(target: &mut T, names: &N, assignment: Assignment)
+    ensures { Puts (T.standing target.old) (T.standing target.new) (assignment_line (seen_assignment (N.names names.now) assignment)) }
 {
-    let mut digits = Buffer::new();
-    let number = digits.format(assignment.number).as_bytes();
-    put_pieces(
-        target,
-        &[b"  ", names.at(assignment.name), b" = ", number, b";\n"],
-    );
+    put_left(target, names, assignment.name);
+    put_number(target, assignment.number);
+    put_end(target);
+}
+
+// A line up to its right side.
+fn put_left<T: Target, N: NamesByPlace>(target: &mut T, names: &N, left: u32)
+    ensures { Puts (T.standing target.old) (T.standing target.new) (codes "  " ++ (name_at (N.names names.now) left ++ codes " = ")) }
+{
+    target.put(b"  ");
+    names.put_at(left, target);
+    target.put(b" = ");
+}
+
+// A line behind its right side.
+fn put_end<T: Target>(target: &mut T)
+    ensures { Puts (T.standing target.old) (T.standing target.new) (codes ";\n") }
+{
+    target.put(b";\n");
 }
 
 // The function that makes a step, behind an empty line.
@@ -144,8 +181,22 @@ fn put_step<T: Target>(target: &mut T, names: &Names<'_>, step: &Step)
     put_head(target, step.name.as_bytes(), &step.parameters);
     put_locals(target, &step.locals);
     put_statements(target, names, &step.statements);
-    target.put(b"  return ");
+    put_return(target);
     put_returned(target, names, &step.returned);
+    put_step_end(target);
+}
+
+// The last line but one, up to what is returned.
+pub(crate) fn put_return<T: Target>(target: &mut T)
+    ensures { Puts (T.standing target.old) (T.standing target.new) (codes "  return ") }
+{
+    target.put(b"  return ");
+}
+
+// What stands behind that.
+pub(crate) fn put_step_end<T: Target>(target: &mut T)
+    ensures { Puts (T.standing target.old) (T.standing target.new) (codes ";\n}\n") }
+{
     target.put(b";\n}\n");
 }
 
@@ -153,10 +204,22 @@ fn put_step<T: Target>(target: &mut T, names: &Names<'_>, step: &Step)
 fn put_head<T: Target>(target: &mut T, name: &[u8], parameters: &[Text])
     ensures { Puts (T.standing target.old) (T.standing target.new) (codes "\nint " ++ (name.now ++ (codes "(" ++ (parameters_text parameters.now ++ codes ")\n{\n")))) }
 {
-    target.put(b"\nint ");
-    target.put(name);
-    target.put(b"(");
+    put_opening(target, name);
     put_parameters(target, parameters);
+    put_body(target);
+}
+
+// The empty line, and the next one up to the parameters.
+pub(crate) fn put_opening<T: Target>(target: &mut T, name: &[u8])
+    ensures { Puts (T.standing target.old) (T.standing target.new) (codes "\nint " ++ (name.now ++ codes "(")) }
+{
+    put_pieces(target, &[b"\nint ", name, b"("]);
+}
+
+// What stands behind the parameters.
+pub(crate) fn put_body<T: Target>(target: &mut T)
+    ensures { Puts (T.standing target.old) (T.standing target.new) (codes ")\n{\n") }
+{
     target.put(b")\n{\n");
 }
 
@@ -165,19 +228,30 @@ fn put_parameters<T: Target>(target: &mut T, parameters: &[Text])
     ensures { Puts (T.standing target.old) (T.standing target.new) (parameters_text parameters.now) }
 {
     let Some((first, others)) = parameters.split_first() else {
-        return target.put(b"void");
+        return put_void(target);
     };
-    put_parameter(target, b"", first.as_bytes());
+    put_parameter(target, b"", b"", first.as_bytes());
     for parameter in others {
-        put_parameter(target, b", ", parameter.as_bytes());
+        put_parameter(target, b", ", b"", parameter.as_bytes());
     }
 }
 
-// A parameter, behind what stands between it and the one before.
-fn put_parameter<T: Target>(target: &mut T, between: &[u8], name: &[u8])
-    ensures { Puts (T.standing target.old) (T.standing target.new) (between.now ++ parameter_text name.now) }
+pub(crate) fn put_void<T: Target>(target: &mut T)
+    ensures { Puts (T.standing target.old) (T.standing target.new) (codes "void") }
 {
-    put_pieces(target, &[between, b"int ", name]);
+    target.put(b"void");
+}
+
+// A parameter, behind what stands between it and the one before. Its name is in two parts, of which the first may be empty.
+pub(crate) fn put_parameter<T: Target>(
+    target: &mut T,
+    between: &[u8],
+    beginning: &[u8],
+    name: &[u8],
+)
+    ensures { Puts (T.standing target.old) (T.standing target.new) (between.now ++ (codes "int " ++ (beginning.now ++ name.now))) }
+{
+    put_pieces(target, &[between, b"int ", beginning, name]);
 }
 
 // The lines of the locals and the empty line behind them, where there are any.
@@ -188,15 +262,22 @@ fn put_locals<T: Target>(target: &mut T, locals: &[Text])
         return;
     }
     for name in locals {
-        put_local(target, name.as_bytes());
+        put_local(target, b"", name.as_bytes());
     }
+    put_blank(target);
+}
+
+pub(crate) fn put_blank<T: Target>(target: &mut T)
+    ensures { Puts (T.standing target.old) (T.standing target.new) (codes "\n") }
+{
     target.put(b"\n");
 }
 
-fn put_local<T: Target>(target: &mut T, name: &[u8])
-    ensures { Puts (T.standing target.old) (T.standing target.new) (local_line name.now) }
+// The line of a local, whose name is in two parts, of which the first may be empty.
+pub(crate) fn put_local<T: Target>(target: &mut T, beginning: &[u8], name: &[u8])
+    ensures { Puts (T.standing target.old) (T.standing target.new) (codes "  int " ++ (beginning.now ++ (name.now ++ codes ";\n"))) }
 {
-    put_pieces(target, &[b"  int ", name, b";\n"]);
+    put_pieces(target, &[b"  int ", beginning, name, b";\n"]);
 }
 
 // ---- statements
@@ -209,8 +290,8 @@ fn put_statements<T: Target>(target: &mut T, names: &Names<'_>, statements: &[St
     }
 }
 
-fn put_statement<T: Target>(target: &mut T, names: &Names<'_>, statement: Statement)
-    ensures { Puts (T.standing target.old) (T.standing target.new) (statement_line (seen_statement names.now statement)) }
+pub(crate) fn put_statement<T: Target, N: NamesByPlace>(target: &mut T, names: &N, statement: Statement)
+    ensures { Puts (T.standing target.old) (T.standing target.new) (statement_line (seen_statement (N.names names.now) statement)) }
 {
     match statement {
         Statement::Assign(left, right) => put_assign(target, names, left, right),
@@ -219,38 +300,36 @@ fn put_statement<T: Target>(target: &mut T, names: &Names<'_>, statement: Statem
 }
 
 // `left = right;`
-fn put_assign<T: Target>(target: &mut T, names: &Names<'_>, left: u32, right: Right)
-    ensures { Puts (T.standing target.old) (T.standing target.new) (codes "  " ++ (name_at names.now left ++ (codes " = " ++ (right_text (seen_right names.now right) ++ codes ";\n")))) }
+fn put_assign<T: Target, N: NamesByPlace>(target: &mut T, names: &N, left: u32, right: Right)
+    ensures { Puts (T.standing target.old) (T.standing target.new) (codes "  " ++ (name_at (N.names names.now) left ++ (codes " = " ++ (right_text (seen_right (N.names names.now) right) ++ codes ";\n")))) }
 {
-    target.put(b"  ");
-    target.put(names.at(left));
-    target.put(b" = ");
+    put_left(target, names, left);
     put_right(target, names, right);
-    target.put(b";\n");
+    put_end(target);
 }
 
 // `if (condition) left = item;`
-fn put_when<T: Target>(
+fn put_when<T: Target, N: NamesByPlace>(
     target: &mut T,
-    names: &Names<'_>,
+    names: &N,
     condition: Condition,
     left: u32,
     item: Item,
 )
-    ensures { Puts (T.standing target.old) (T.standing target.new) (codes "  if (" ++ (condition_text (seen_condition names.now condition) ++ (codes ") " ++ (name_at names.now left
-        ++ (codes " = " ++ (item_text (seen_item names.now item) ++ codes ";\n")))))) }
+    ensures { Puts (T.standing target.old) (T.standing target.new) (codes "  if (" ++ (condition_text (seen_condition (N.names names.now) condition) ++ (codes ") " ++ (name_at (N.names names.now) left
+        ++ (codes " = " ++ (item_text (seen_item (N.names names.now) item) ++ codes ";\n")))))) }
 {
     target.put(b"  if (");
     put_condition(target, names, condition);
     target.put(b") ");
-    target.put(names.at(left));
+    names.put_at(left, target);
     target.put(b" = ");
     put_item(target, names, item);
-    target.put(b";\n");
+    put_end(target);
 }
 
-fn put_right<T: Target>(target: &mut T, names: &Names<'_>, right: Right)
-    ensures { Puts (T.standing target.old) (T.standing target.new) (right_text (seen_right names.now right)) }
+fn put_right<T: Target, N: NamesByPlace>(target: &mut T, names: &N, right: Right)
+    ensures { Puts (T.standing target.old) (T.standing target.new) (right_text (seen_right (N.names names.now) right)) }
 {
     match right {
         Right::Plain(item) => put_item(target, names, item),
@@ -261,15 +340,15 @@ fn put_right<T: Target>(target: &mut T, names: &Names<'_>, right: Right)
 }
 
 // `condition ? item : otherwise`
-fn put_chosen<T: Target>(
+fn put_chosen<T: Target, N: NamesByPlace>(
     target: &mut T,
-    names: &Names<'_>,
+    names: &N,
     condition: Condition,
     item: Item,
     otherwise: Item,
 )
-    ensures { Puts (T.standing target.old) (T.standing target.new) (condition_text (seen_condition names.now condition) ++ (codes " ? " ++ (item_text (seen_item names.now item)
-        ++ (codes " : " ++ item_text (seen_item names.now otherwise))))) }
+    ensures { Puts (T.standing target.old) (T.standing target.new) (condition_text (seen_condition (N.names names.now) condition) ++ (codes " ? " ++ (item_text (seen_item (N.names names.now) item)
+        ++ (codes " : " ++ item_text (seen_item (N.names names.now) otherwise))))) }
 {
     put_condition(target, names, condition);
     target.put(b" ? ");
@@ -278,21 +357,29 @@ fn put_chosen<T: Target>(
     put_item(target, names, otherwise);
 }
 
-fn put_condition<T: Target>(target: &mut T, names: &Names<'_>, condition: Condition)
-    ensures { Puts (T.standing target.old) (T.standing target.new) (condition_text (seen_condition names.now condition)) }
+fn put_condition<T: Target, N: NamesByPlace>(target: &mut T, names: &N, condition: Condition)
+    ensures { Puts (T.standing target.old) (T.standing target.new) (condition_text (seen_condition (N.names names.now) condition)) }
 {
     match condition {
-        Condition::Holds(name) => target.put(names.at(name)),
-        Condition::Equals(name, number) => put_equal(target, names.at(name), number),
+        Condition::Holds(name) => names.put_at(name, target),
+        Condition::Equals(name, number) => put_equal(target, names, name, number),
     }
 }
 
 // `name == number`
-fn put_equal<T: Target>(target: &mut T, name: &[u8], number: u16)
-    ensures { Puts (T.standing target.old) (T.standing target.new) (name.now ++ (codes " == " ++ decimal number)) }
+fn put_equal<T: Target, N: NamesByPlace>(target: &mut T, names: &N, name: u32, number: u16)
+    ensures { Puts (T.standing target.old) (T.standing target.new) (name_at (N.names names.now) name ++ (codes " == " ++ decimal number)) }
+{
+    names.put_at(name, target);
+    put_compared(target, number);
+}
+
+// ` == number`
+fn put_compared<T: Target>(target: &mut T, number: u16)
+    ensures { Puts (T.standing target.old) (T.standing target.new) (codes " == " ++ decimal number) }
 {
     let mut digits = Buffer::new();
-    put_pieces(target, &[name, b" == ", digits.format(number).as_bytes()]);
+    put_pieces(target, &[b" == ", digits.format(number).as_bytes()]);
 }
 
 fn put_returned<T: Target>(target: &mut T, names: &Names<'_>, returned: &Returned)
@@ -318,20 +405,19 @@ fn put_tests<T: Target>(target: &mut T, names: &Names<'_>, tests: &[Test])
 }
 
 // `name == number`, behind what stands between it and the test before.
-fn put_test<T: Target>(target: &mut T, between: &[u8], names: &Names<'_>, test: Test)
-    ensures { Puts (T.standing target.old) (T.standing target.new) (between.now ++ test_text (seen_test names.now test)) }
+pub(crate) fn put_test<T: Target, N: NamesByPlace>(target: &mut T, between: &[u8], names: &N, test: Test)
+    ensures { Puts (T.standing target.old) (T.standing target.new) (between.now ++ test_text (seen_test (N.names names.now) test)) }
 {
-    let mut digits = Buffer::new();
-    let number = digits.format(test.number).as_bytes();
-    put_pieces(target, &[between, names.at(test.name), b" == ", number]);
+    target.put(between);
+    put_equal(target, names, test.name, test.number);
 }
 
-fn put_item<T: Target>(target: &mut T, names: &Names<'_>, item: Item)
-    ensures { Puts (T.standing target.old) (T.standing target.new) (item_text (seen_item names.now item)) }
+pub(crate) fn put_item<T: Target, N: NamesByPlace>(target: &mut T, names: &N, item: Item)
+    ensures { Puts (T.standing target.old) (T.standing target.new) (item_text (seen_item (N.names names.now) item)) }
 {
     match item {
         Item::Constant(number) => put_number(target, number),
-        Item::Named(name) => target.put(names.at(name)),
+        Item::Named(name) => names.put_at(name, target),
     }
 }
 

@@ -38,9 +38,11 @@
 pub mod laws;
 mod layout;
 mod observer;
+mod straight;
 mod unit;
 
 pub use dcv_observer::{Condition, ObsFault, Test};
 pub use layout::{put, text};
 pub use observer::of_auto;
+pub use straight::put_observer;
 pub use unit::{Assignment, CUnit, Item, Reset, Returned, Right, Statement, Step};

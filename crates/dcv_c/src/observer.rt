@@ -115,7 +115,7 @@ fn local_texts(alloc: Global, nodes: u32) -> Result<Vec<Text>, AllocError>
 }
 
 // `nx = 0`.
-fn first_assignment(parameters: u32) -> Statement
+pub(crate) fn first_assignment(parameters: u32) -> Statement
     requires { parameters ≤ 16 }
     ensures { (names : List (List ℕ)) (nodes : ℕ) → length names ≡ parameters → seen_statement (observer_names names nodes) result ≡ first_statement }
 {
@@ -123,7 +123,7 @@ fn first_assignment(parameters: u32) -> Statement
 }
 
 // `st = nx`.
-fn last_assignment(parameters: u32) -> Statement
+pub(crate) fn last_assignment(parameters: u32) -> Statement
     requires { parameters ≤ 16 }
     ensures { (names : List (List ℕ)) (nodes : ℕ) → length names ≡ parameters → seen_statement (observer_names names nodes) result ≡ last_statement }
 {
@@ -151,7 +151,7 @@ fn push_nodes(
 }
 
 // `nJ = v_NAME ? HI : LO`.
-fn node_choice(parameters: u32, number: u32, line: NodeLine) -> Statement
+pub(crate) fn node_choice(parameters: u32, number: u32, line: NodeLine) -> Statement
     requires parameters { parameters ≤ 16 }
     requires number { number < 1000000 }
     requires hi { IsBelow 32768 1000000 line.hi }
@@ -185,7 +185,7 @@ fn push_rows(
 }
 
 // `if (st == I) nx = RI`.
-fn state_choice(parameters: u32, state: u32, row: Child) -> Statement
+pub(crate) fn state_choice(parameters: u32, state: u32, row: Child) -> Statement
     requires parameters { parameters ≤ 16 }
     requires state { state < 32768 }
     requires row { IsBelow 32768 1000000 row }
@@ -232,7 +232,7 @@ fn returned_by(alloc: Global, parameters: u32, auto: &Auto) -> Result<Returned, 
 
 // `nx == I`.
 #[tactic(auto, using(crate::proofs::Places::next_test))]
-fn next_is(parameters: u32, state: u32) -> Test
+pub(crate) fn next_is(parameters: u32, state: u32) -> Test
     requires parameters { parameters ≤ 16 }
     requires state { state < 32768 }
     ensures { (names : List (List ℕ)) (nodes : ℕ) → length names ≡ parameters

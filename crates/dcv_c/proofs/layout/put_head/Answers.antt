@@ -1,6 +1,7 @@
-use Rattle.dcv_io.proofs.Putting.{puts_both}
+use Rattle.std.proofs.Common.{append_assoc}
+use Rattle.dcv_io.proofs.Putting.{puts_both, puts_same}
 use Rattle.dcv_c.proofs.layout.put_head.Goals as goal
 
 pub returns : goal.returns
 returns g c =
-    puts_both _ _ _ _ _ c.put.ensures (puts_both _ _ _ _ _ c.put-2.ensures (puts_both _ _ _ _ _ c.put-3.ensures (puts_both _ _ _ _ _ c.put_parameters.ensures c.put-4.ensures)))
+    puts_same _ _ _ _ (puts_both _ _ _ _ _ c.put_opening.ensures (puts_both _ _ _ _ _ c.put_parameters.ensures c.put_body.ensures)) (simp append_assoc)
