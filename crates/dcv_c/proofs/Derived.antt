@@ -18,9 +18,9 @@ use Rattle.dcv_observer.specs.Classes.{name as plain_name, number, is_short_word
 use Rattle.dcv_observer.proofs.Limits.{small_number}
 use Rattle.dcv_observer.specs.Pieces.{Piece, Blank, Text, bytes_of, tokens_at}
 use Rattle.dcv_c.specs.Classes.{lexicon}
-use Rattle.dcv_c.specs.Tree.{Item, Constant, Named, Condition, Holds, Equals, Test, Right, Plain, Chosen, Statement, Assign, When, Returned, Fixed, Tested}
+use Rattle.dcv_c.specs.Tree.{Item, Constant, Named, Condition, Holds, Equals, Test, Right, Plain, Chosen, Statement, Assign, When, Returned, Fixed, Read, Tested}
 use Rattle.dcv_c.specs.Placed.{item_at, condition_of, test_of, right_of, statement_of, returned_of, PlacedRight, PlacedPlain, PlacedChosen}
-use Rattle.dcv_c.specs.Placed.{PlacedStatement, PlacedAssign, PlacedWhen, PlacedReturned, PlacedFixed, PlacedTested, PlacedTest}
+use Rattle.dcv_c.specs.Placed.{PlacedStatement, PlacedAssign, PlacedWhen, PlacedReturned, PlacedFixed, PlacedRead, PlacedTested, PlacedTest}
 use Rattle.dcv_c.specs.Language as rules
 use Rattle.dcv_c.specs.Language.{language}
 use Rattle.dcv_c.specs.Actions.{AToken, ARight, Compared, AStatement, Statements, AReturned, Tests}
@@ -273,6 +273,12 @@ returned_spelt start (Fixed n) is =
       returned_is = ap Fixed (value_of_decimal n (omega arith));
       spelt = by_rule rules.returned (1, omega arith, refl) (by_token (at start (decimal n)) (number_class n is) none);
     }
+returned_spelt start (Read name) is =
+    record {
+      placed = PlacedRead (at start name);
+      returned_is = refl;
+      spelt = by_rule rules.returned (0, omega arith, refl) (by_token (at start name) (name_class name is) (by_rule rules.tests (0, omega arith, refl) none));
+    }
 returned_spelt start (Tested []) is = absurd (omega (arith, is.0))
 returned_spelt start (Tested (test ∷ tests)) is =
     let last = start + length test.name + 1 + 2 + 1 in
@@ -284,6 +290,6 @@ returned_spelt start (Tested (test ∷ tests)) is =
       placed = PlacedTested (record { name = name; number = number } ∷ more.placed);
       returned_is = λ i. Tested (record { name = test.name; number = same i } ∷ more.tests_are i);
       spelt = by_rule rules.returned (0, omega arith, refl) (by_token name (name_class test.name is.1.0.name)
-          (by_rule rules.tests (0, omega arith, refl) (by_token (at (start + length test.name + 1) (codes "==")) refl
+          (by_rule rules.tests (1, omega arith, refl) (by_token (at (start + length test.name + 1) (codes "==")) refl
           (by_token number (number_class test.number is.1.0.number) more.spelt))));
     }

@@ -13,9 +13,9 @@ use Rattle.dcv_lexer.specs.Cuts.{Token}
 use Rattle.dcv_observer.specs.Items.{token_class}
 use Rattle.dcv_c.specs.Classes.{lexicon}
 use Rattle.dcv_c.specs.Language.{language}
-use Rattle.dcv_c.specs.Placed.{PlacedUnit, PlacedAssignment, PlacedStatement, PlacedRight, PlacedChoice, PlacedReturned, PlacedTest}
+use Rattle.dcv_c.specs.Placed.{PlacedUnit, PlacedAssignment, PlacedStatement, PlacedRight, PlacedChoice, PlacedReturned, PlacedTest, PlacedTests}
 use Rattle.dcv_c.specs.Actions.{Part, AToken, Tokens, AnAssignment, Assignments, AReset, AStatement, Statements, ARight, Choice, Maybe, Compared}
-use Rattle.dcv_c.specs.Actions.{AReturned, ATest, Tests, Behind, AStep, AUnit, Nothing, right_part, actions, action, parts_of}
+use Rattle.dcv_c.specs.Actions.{AReturned, ATest, Tests, Behind, AStep, AUnit, Nothing, right_part, returned_part, actions, action, parts_of}
 use Rattle.dcv_c.specs.Words.{IsNameWord, IsNumberWord, IsNumberOrNone, IsItemWord, AreWordsOfAssignment, AreWordsOfTest, AreWordsOfChoice}
 use Rattle.dcv_c.specs.Words.{AreWordsOfRight, AreWordsOfStatement, AreWordsOfReturned, AreWords}
 use Rattle.dcv_c.specs.Laws.{SpelledWords}
@@ -70,9 +70,13 @@ record IsConditionWords (name : Token) (number : Option Token) : Type 0 where
   name_is : IsNameWord name
   number_is : IsNumberOrNone number
 
-record AreBehind (number : Token) (tests : List PlacedTest) : Type 0 where
-  number_is : IsNumberWord number
-  tests_are : AllByRecursion AreWordsOfTest tests
+record AreWordsOfTests (tests : PlacedTests) : Type 0 where
+  number_is : IsNumberWord tests.number
+  others_are : AllByRecursion AreWordsOfTest tests.others
+
+abbrev AreBehind : Option PlacedTests → Type 0
+AreBehind None = ⊤
+AreBehind (Some tests) = AreWordsOfTests tests
 
 record IsStepWords (name : Token) (parameters locals : List Token) (statements : List PlacedStatement) (returned : PlacedReturned) : Type 0 where
   name_is : IsNameWord name
@@ -98,7 +102,7 @@ ValueOf OfCondition = (name : Token) × (number : Option Token) × IsConditionWo
 ValueOf OfReturned = (returned : PlacedReturned) × AreWordsOfReturned returned
 ValueOf OfTest = (test : PlacedTest) × AreWordsOfTest test
 ValueOf OfTests = (tests : List PlacedTest) × AllByRecursion AreWordsOfTest tests
-ValueOf OfBehind = (number : Token) × (tests : List PlacedTest) × AreBehind number tests
+ValueOf OfBehind = (tests : Option PlacedTests) × AreBehind tests
 ValueOf OfStep =
     (name : Token) × (parameters : List Token) × (locals : List Token) × (statements : List PlacedStatement) × (returned : PlacedReturned)
     × IsStepWords name parameters locals statements returned
@@ -120,7 +124,7 @@ part_of OfCondition value = Compared value.0 value.1
 part_of OfReturned value = AReturned value.0
 part_of OfTest value = ATest value.0
 part_of OfTests value = Tests value.0
-part_of OfBehind value = Behind value.0 value.1
+part_of OfBehind value = Behind value.0
 part_of OfStep value = AStep value.0 value.1 value.2 value.3 value.4
 part_of OfUnit value = AUnit value.0
 
@@ -140,7 +144,7 @@ IsOf OfCondition (Compared name number) = IsConditionWords name number
 IsOf OfReturned (AReturned returned) = AreWordsOfReturned returned
 IsOf OfTest (ATest test) = AreWordsOfTest test
 IsOf OfTests (Tests tests) = AllByRecursion AreWordsOfTest tests
-IsOf OfBehind (Behind number tests) = AreBehind number tests
+IsOf OfBehind (Behind tests) = AreBehind tests
 IsOf OfStep (AStep name parameters locals statements returned) = IsStepWords name parameters locals statements returned
 IsOf OfUnit (AUnit placed) = AreWords placed
 IsOf sort part = ⊥
@@ -181,7 +185,7 @@ value_in OfCondition (Compared name number) is = ((name, number, is), refl)
 value_in OfReturned (AReturned value) is = ((value, is), refl)
 value_in OfTest (ATest value) is = ((value, is), refl)
 value_in OfTests (Tests value) is = ((value, is), refl)
-value_in OfBehind (Behind number tests) is = ((number, tests, is), refl)
+value_in OfBehind (Behind value) is = ((value, is), refl)
 value_in OfStep (AStep name parameters locals statements returned) is = ((name, parameters, locals, statements, returned, is), refl)
 value_in OfUnit (AUnit value) is = ((value, is), refl)
 value_in sort part is = absurd is
@@ -209,6 +213,10 @@ right_of_name : (name : Token) (choice : Option PlacedChoice) → IsNameWord nam
     → IsOf OfRight (right_part (AToken name ∷ Choice choice ∷ []))
 right_of_name name None is words = name_item name is
 right_of_name name (Some choice) is words = (is, words)
+
+returned_of_name : (name : Token) (tests : Option PlacedTests) → IsNameWord name → AreBehind tests → IsOf OfReturned (returned_part (AToken name ∷ Behind tests ∷ []))
+returned_of_name name None is are = is
+returned_of_name name (Some tests) is are = (omega arith, (record { name = is; number = are.number_is }, are.others_are))
 
 -- the body that a rule takes otherwise stands first
 rules_agree : Agree language.productions actions sorts
@@ -304,17 +312,14 @@ rules_agree = (
                                       ),  -- item
                                       (
                                         (
-                                          λ v. (
-                                            omega arith,
-                                            (
-                                              record { name = plain_is_name v.0.0.bytes v.0.1; number = v.1.0.2.number_is },
-                                              v.1.0.2.tests_are,
-                                            ),
-                                          ),
+                                          λ v. returned_of_name v.0.0 v.1.0.0 (plain_is_name v.0.0.bytes v.0.1) v.1.0.1,
                                           (λ v. is_number_word v.0.0.bytes v.0.1, tt),
                                         ),  -- returned
                                         (
-                                          (λ v. record { number_is = is_number_word v.1.0.0.bytes v.1.0.1; tests_are = v.1.1.0.1 }, tt),  -- tests
+                                          (
+                                            λ v. tt,
+                                            (λ v. record { number_is = is_number_word v.1.0.0.bytes v.1.0.1; others_are = v.1.1.0.1 }, tt),
+                                          ),  -- tests
                                           (
                                             (λ v. tt, (λ v. (v.1.0.1, v.1.1.0.1), tt)),  -- more_tests
                                             (

@@ -3,9 +3,9 @@ use Rattle.std.proofs.Common.{◌≡◌, ℕ, ◌+◌, true, false, List, [], �
 use Rattle.std.specs.Fmt.{digits}
 use Rattle.dcv_lexer.specs.Cuts.{Token}
 use Rattle.dcv_automaton_text.specs.File.{AutomatonFile, ToState, ToNode, StartAccess, EmptySuffix}
-use Rattle.dcv_c.specs.Tree.{CUnit, Statement, Assign, When, Plain, Chosen, Constant, Named, Holds, Equals, Tested}
-use Rattle.dcv_c.specs.Placed.{PlacedUnit, PlacedAssign, PlacedPlain, PlacedFixed, PlacedAssignment, unit_of}
-use Rattle.dcv_c.specs.Meaning.{unit_accepts, returned_number, zeros}
+use Rattle.dcv_c.specs.Tree.{CUnit, Statement, Assign, When, Plain, Chosen, Constant, Named, Holds, Equals, Returned, Read, Tested}
+use Rattle.dcv_c.specs.Placed.{PlacedUnit, PlacedAssign, PlacedPlain, PlacedReturned, PlacedFixed, PlacedRead, PlacedAssignment, unit_of}
+use Rattle.dcv_c.specs.Meaning.{unit_accepts, returned_number, returned_after, zeros}
 use Rattle.dcv_c.specs.Rules.{judged, words_of, IsNamesFault, IsWellNamed}
 use Rattle.dcv_c.specs.Layout.{text_of}
 use Rattle.dcv_c.specs.Observer.{observer_of}
@@ -79,8 +79,8 @@ two_text = refl
 
 -- ---- `static int s; void r(void) { s = 0; } int f(int a) { int x; .. return ..; }`
 
-abbrev unit_with : List Statement → CUnit
-unit_with statements =
+abbrev unit_returning : Returned → List Statement → CUnit
+unit_returning returned statements =
     record {
       statics = codes "s" ∷ [];
       reset = codes "r";
@@ -89,8 +89,12 @@ unit_with statements =
       parameters = codes "a" ∷ [];
       locals = codes "x" ∷ [];
       statements = statements;
-      returned = Tested (record { name = codes "x"; number = 1 } ∷ []);
+      returned = returned;
     }
+
+-- where `x == 1` is returned
+abbrev unit_with : List Statement → CUnit
+unit_with statements = unit_returning (Tested (record { name = codes "x"; number = 1 } ∷ [])) statements
 
 -- `x = s; s = a;`: what the variable was at the step before
 abbrev delayed : CUnit
@@ -137,14 +141,34 @@ other_than_zero = refl
 no_count : returned_number zeros (Tested (record { name = codes "x"; number = 0 } ∷ record { name = codes "y"; number = 0 } ∷ [])) ≡ 1
 no_count = refl
 
+-- a name alone is returned as its number once the statements are made, and any other number than 0 accepts: `s = 5; if (a) s = 0; return s;`
+abbrev counts : CUnit
+counts = unit_returning (Read (codes "s")) (Assign (codes "s") (Plain (Constant 5)) ∷ When (Holds (codes "a")) (codes "s") (Constant 0) ∷ [])
+
+counts_is_well_named : IsWellNamed counts
+unfolding judged
+counts_is_well_named = refl
+
+returns_five : returned_after counts ((true ∷ []) ∷ (false ∷ []) ∷ []) ≡ 5
+returns_five = refl
+
+five_accepts : unit_accepts counts ((true ∷ []) ∷ (false ∷ []) ∷ []) ≡ true
+five_accepts = refl
+
+returns_none : returned_after counts ((false ∷ []) ∷ (true ∷ []) ∷ []) ≡ 0
+returns_none = refl
+
+none_rejects : unit_accepts counts ((false ∷ []) ∷ (true ∷ []) ∷ []) ≡ false
+none_rejects = refl
+
 -- ---- faults of names
 
 abbrev token : ℕ → List ℕ → Token
 token start bytes = record { bytes = bytes; start = start }
 
--- `static int s; void r(void) { ASSIGNMENTS } int f(int a) { int LOCAL; LEFT = ITEM; return 0; }`
-abbrev placed_with : List PlacedAssignment → ℕ → List ℕ → List ℕ → List ℕ → PlacedUnit
-placed_with assignments brace local left item =
+-- `static int s; void r(void) { ASSIGNMENTS } int f(int a) { int LOCAL; LEFT = ITEM; return RETURNED; }`
+abbrev placed_returning : PlacedReturned → List PlacedAssignment → ℕ → List ℕ → List ℕ → List ℕ → PlacedUnit
+placed_returning returned assignments brace local left item =
     record {
       statics = token 11 (codes "s") ∷ [];
       reset = token 19 (codes "r");
@@ -154,8 +178,12 @@ placed_with assignments brace local left item =
       parameters = token 66 (codes "a") ∷ [];
       locals = token 75 local ∷ [];
       statements = PlacedAssign (token 78 left) (PlacedPlain (token 82 item)) ∷ [];
-      returned = PlacedFixed (token 92 (codes "0"));
+      returned = returned;
     }
+
+-- where 0 is returned
+abbrev placed_with : List PlacedAssignment → ℕ → List ℕ → List ℕ → List ℕ → PlacedUnit
+placed_with assignments brace local left item = placed_returning (PlacedFixed (token 92 (codes "0"))) assignments brace local left item
 
 abbrev sets : ℕ → List ℕ → PlacedAssignment
 sets start name = record { name = token start name; number = token (start + 4) (codes "0") }
@@ -202,3 +230,26 @@ reads_itself = refl
 reads_a_function : IsNamesFault (placed_so (codes "x") (codes "x") (codes "f")) 82
 unfolding judged words_of
 reads_a_function = refl
+
+-- `s = a; return NAME;`
+abbrev placed_reading : List ℕ → PlacedUnit
+placed_reading name =
+    placed_returning (PlacedRead (token 92 name)) (sets 29 (codes "s") ∷ []) 36 (codes "x") (codes "s") (codes "a")
+
+returns_a_static : IsWellNamed (unit_of (placed_reading (codes "s")))
+unfolding judged
+returns_a_static = refl
+
+returns_a_parameter : IsWellNamed (unit_of (placed_reading (codes "a")))
+unfolding judged
+returns_a_parameter = refl
+
+-- a local that no statement assigns
+returns_an_unassigned : IsNamesFault (placed_reading (codes "x")) 92
+unfolding judged words_of
+returns_an_unassigned = refl
+
+-- a name that is not declared
+returns_an_unknown : IsNamesFault (placed_reading (codes "y")) 92
+unfolding judged words_of
+returns_an_unknown = refl

@@ -8,7 +8,7 @@ use Rattle.std.proofs.lemmas.Bool.{false≢true}
 use Rattle.dcv_lexer.specs.Cuts.{Token}
 use Rattle.dcv_c.specs.Tree.{Test, CUnit}
 use Rattle.dcv_c.specs.Placed.{PlacedAssignment, PlacedStatement, PlacedAssign, PlacedWhen, PlacedRight, PlacedPlain, PlacedChosen, PlacedReturned}
-use Rattle.dcv_c.specs.Placed.{PlacedFixed, PlacedTested, PlacedTest, PlacedUnit, test_of, right_of, statement_of, returned_of, assignment_of, bytes_of, unit_of}
+use Rattle.dcv_c.specs.Placed.{PlacedFixed, PlacedRead, PlacedTested, PlacedTest, PlacedUnit, test_of, right_of, statement_of, returned_of, assignment_of, bytes_of, unit_of}
 use Rattle.dcv_c.specs.Meaning.{is_among}
 use Rattle.dcv_c.specs.Rules.{keeps_new, keeps_apart, keeps_parameters, keeps_assignments, has_all_assignments, keeps_right, keeps_statement}
 use Rattle.dcv_c.specs.Rules.{keeps_statements, keeps_returned, known_after, before_step, before_parameters, before_locals, judged}
@@ -35,6 +35,7 @@ right_words known (PlacedChosen name choice) = refl
 
 returned_words : (known : List (List ℕ)) (returned : PlacedReturned) → length (keeps_returned known (returned_of returned)) ≡ length (words_of_returned returned)
 returned_words known (PlacedFixed number) = refl
+returned_words known (PlacedRead name) = refl
 returned_words known (PlacedTested tests) =
     length-map (map test_of tests) (λ (test : Test). is_among known test.name) ∙ length-map tests test_of ∙ sym (length-map tests (λ (test : PlacedTest). test.name))
 

@@ -13,7 +13,7 @@ use Rattle.dcv_observer.specs.Pieces.{Piece, Blank, Text, first_byte, ends_symbo
 use Rattle.dcv_observer.proofs.LaidOut.{append_laid}
 use Rattle.dcv_c.specs.Classes.{lexicon}
 use Rattle.dcv_c.specs.Tree.{Item, Constant, Named, Condition, Holds, Equals, Test, Right, Plain, Chosen, Statement, Assign, When}
-use Rattle.dcv_c.specs.Tree.{Returned, Fixed, Tested, Assignment, CUnit}
+use Rattle.dcv_c.specs.Tree.{Returned, Fixed, Read, Tested, Assignment, CUnit}
 use Rattle.dcv_c.specs.Form.{IsName, IsNumber, IsItem, IsCondition, IsRight, IsStatement, IsTest, IsReturned, IsAssignment, IsSpellable}
 use Rattle.dcv_c.specs.Layout.{item_text}
 use Rattle.dcv_c.proofs.UnitPieces.{condition_pieces, right_pieces, statement_pieces, test_pieces, returned_pieces, static_pieces, assignment_pieces}
@@ -161,6 +161,7 @@ more_tests_laid (test ∷ tests) next is stop = (
 
 returned_laid : (returned : Returned) (next : ℕ) → IsReturned returned → stops next ≡ true → Laid (returned_pieces returned) next
 returned_laid (Fixed number) next is stop = (number_before number next is stop, tt)
+returned_laid (Read name) next is stop = (name_before name next is stop, tt)
 returned_laid (Tested []) next is stop = tt
 returned_laid (Tested (test ∷ tests)) next is stop =
     append_laid lexicon orderly (test_pieces test) (flat_map or_test tests) next

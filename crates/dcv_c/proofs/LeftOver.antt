@@ -5,7 +5,7 @@ use Rattle.std.specs.Prelude.{bytes_eq, slice_index_or}
 use Rattle.std.specs.List.{list_any, position_or_len}
 use Rattle.std.proofs.lemmas.Bool.{cases_Bool, or_cases, or_from, and_parts, both_ways, not-true}
 use Rattle.dcv_c.specs.Tree.{Item, Constant, Named, Condition, Holds, Equals, Test, Right, Plain, Chosen, Statement, Assign, When}
-use Rattle.dcv_c.specs.Tree.{Returned, Fixed, Tested, CUnit}
+use Rattle.dcv_c.specs.Tree.{Returned, Fixed, Read, Tested, CUnit}
 use Rattle.dcv_c.specs.Meaning.{Numbers, is_among, item_number, holds, right_number, assigned, executed, passes, returned_number}
 use Rattle.dcv_c.specs.Meaning.{truth_number, numbers_before}
 use Rattle.dcv_c.specs.Rules.{keeps_item, keeps_condition, keeps_right, keeps_left, keeps_statement, keeps_statements, known_after, keeps_returned}
@@ -50,6 +50,7 @@ module _ (known : List Name) (now then : Numbers) (agree : Agree known now then)
 
   pub same_returned : (returned : Returned) → all_kept (keeps_returned known returned) ≡ true → returned_number now returned ≡ returned_number then returned
   same_returned (Fixed number) kept = refl
+  same_returned (Read name) kept = agree name (and_parts (is_among known name) _ kept).0
   same_returned (Tested tests) kept = ap (λ (b : Bool). cond b 1 0) (same_tests tests kept)
 
   -- ---- what is assigned

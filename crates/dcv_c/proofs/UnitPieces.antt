@@ -4,7 +4,7 @@
 use Rattle.std.proofs.Common.{◌≡◌, ℕ, List, [], ◌∷◌, ◌++◌, refl, sym, ap, ◌∙◌, codes, append_assoc, append-nil, decimal}
 use Rattle.std.specs.List.{flat_map, join_by}
 use Rattle.dcv_observer.specs.Pieces.{Piece, Blank, Text, bytes_in, bytes_of}
-use Rattle.dcv_c.specs.Tree.{Condition, Holds, Equals, Test, Right, Plain, Chosen, Statement, Assign, When, Returned, Fixed, Tested, Assignment, CUnit}
+use Rattle.dcv_c.specs.Tree.{Condition, Holds, Equals, Test, Right, Plain, Chosen, Statement, Assign, When, Returned, Fixed, Read, Tested, Assignment, CUnit}
 use Rattle.dcv_c.specs.Layout.{item_text, condition_text, right_text, statement_line, test_text, returned_text, static_line, assignment_line}
 use Rattle.dcv_c.specs.Layout.{parameter_text, parameters_text, local_line, local_lines, reset_text, step_head, step_end, text_of}
 
@@ -44,6 +44,7 @@ test_pieces test = Text test.name ∷ space ∷ Text (codes "==") ∷ space ∷ 
 
 abbrev pub returned_pieces : Returned → List Piece
 returned_pieces (Fixed number) = Text (decimal number) ∷ []
+returned_pieces (Read name) = Text name ∷ []
 returned_pieces (Tested tests) = joined (space ∷ Text (codes "||") ∷ space ∷ []) test_pieces tests
 
 -- ---- declarations
@@ -136,6 +137,7 @@ test_in_pieces test = ap (λ bytes. test.name ++ (codes " == " ++ bytes)) (appen
 
 returned_in_pieces : (returned : Returned) → bytes_of (returned_pieces returned) ≡ returned_text returned
 returned_in_pieces (Fixed number) = append-nil (decimal number)
+returned_in_pieces (Read name) = append-nil name
 returned_in_pieces (Tested tests) = joined_in_pieces (space ∷ Text (codes "||") ∷ space ∷ []) (codes " || ") test_pieces test_text refl test_in_pieces tests
 
 parameter_in_pieces : (name : List ℕ) → bytes_of (parameter_pieces name) ≡ parameter_text name

@@ -9,7 +9,7 @@ use Rattle.dcv_observer.specs.Items.{HasItems, token_class}
 use Rattle.dcv_c.specs.Classes.{lexicon}
 use Rattle.dcv_c.specs.Language.{language}
 use Rattle.dcv_c.specs.Placed.{PlacedUnit, PlacedAssignment, PlacedStatement, PlacedAssign, PlacedWhen, PlacedRight, PlacedPlain, PlacedChosen}
-use Rattle.dcv_c.specs.Placed.{PlacedChoice, PlacedReturned, PlacedFixed, PlacedTested, PlacedTest}
+use Rattle.dcv_c.specs.Placed.{PlacedChoice, PlacedReturned, PlacedFixed, PlacedRead, PlacedTested, PlacedTest, PlacedTests}
 
 -- what a symbol stands for
 pub data Part : Type 0 where
@@ -31,8 +31,8 @@ pub data Part : Type 0 where
   AReturned : PlacedReturned → Part
   ATest : PlacedTest → Part
   Tests : List PlacedTest → Part
-  -- a number, and tests
-  Behind : Token → List PlacedTest → Part
+  -- what may stand behind the first name of a result
+  Behind : Option PlacedTests → Part
   -- the function that makes a step: its name, its parameters, its locals, its statements and what it returns
   AStep : Token → List Token → List Token → List PlacedStatement → PlacedReturned → Part
   AUnit : PlacedUnit → Part
@@ -160,12 +160,14 @@ item_part _ = Nothing
 -- returned = number | name tests
 abbrev pub returned_part : List Part → Part
 returned_part (AToken number ∷ []) = AReturned (PlacedFixed number)
-returned_part (AToken name ∷ Behind number tests ∷ []) = AReturned (PlacedTested (record { name = name; number = number } ∷ tests))
+returned_part (AToken name ∷ Behind None ∷ []) = AReturned (PlacedRead name)
+returned_part (AToken name ∷ Behind (Some tests) ∷ []) = AReturned (PlacedTested (record { name = name; number = tests.number } ∷ tests.others))
 returned_part _ = Nothing
 
--- tests = "==" number more_tests
+-- tests = ["==" number more_tests]
 abbrev pub tests_part : List Part → Part
-tests_part (AToken equals ∷ AToken number ∷ Tests tests ∷ []) = Behind number tests
+tests_part [] = Behind None
+tests_part (AToken equals ∷ AToken number ∷ Tests others ∷ []) = Behind (Some (record { number = number; others = others }))
 tests_part _ = Nothing
 
 -- more_tests = {"||" test}

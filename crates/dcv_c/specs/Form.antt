@@ -5,7 +5,7 @@ use Rattle.std.specs.List.{AllByRecursion}
 use Rattle.dcv_observer.specs.Classes.{name as plain_name, largest_number, is_short_word, class_of}
 use Rattle.dcv_c.specs.Classes.{lexicon}
 use Rattle.dcv_c.specs.Tree.{Item, Constant, Named, Condition, Holds, Equals, Test, Right, Plain, Chosen, Statement, Assign, When}
-use Rattle.dcv_c.specs.Tree.{Returned, Fixed, Tested, Assignment, CUnit}
+use Rattle.dcv_c.specs.Tree.{Returned, Fixed, Read, Tested, Assignment, CUnit}
 
 -- a word that is not reserved
 abbrev pub is_name : List ℕ → Bool
@@ -39,6 +39,7 @@ pub record IsTest (test : Test) : Type 0 where
 
 abbrev pub IsReturned : Returned → Type 0
 IsReturned (Fixed number) = IsNumber number
+IsReturned (Read name) = IsName name
 IsReturned (Tested tests) = (0 < length tests) × AllByRecursion IsTest tests
 
 pub record IsAssignment (assignment : Assignment) : Type 0 where

@@ -196,9 +196,9 @@ item_rule = record { alternatives = after number [] ∷ []; otherwise = Class na
 abbrev pub returned_rule : Production
 returned_rule = record { alternatives = after number [] ∷ []; otherwise = Class name ∷ Rule tests ∷ [] }
 
--- tests = "==" number more_tests
+-- tests = ["==" number more_tests]
 abbrev pub tests_rule : Production
-tests_rule = always (Class double_equals ∷ Class number ∷ Rule more_tests ∷ [])
+tests_rule = optional double_equals (Class number ∷ Rule more_tests ∷ [])
 
 -- more_tests = {"||" test}
 abbrev pub more_tests_rule : Production

@@ -22,7 +22,7 @@ use Rattle.std.specs.Prelude.{ℕ, List, [], ◌∷◌, ◌++◌, codes}
 use Rattle.std.specs.Fmt.{decimal}
 use Rattle.std.specs.List.{flat_map, join_by}
 use Rattle.dcv_c.specs.Tree.{Item, Constant, Named, Condition, Holds, Equals, Test, Right, Plain, Chosen, Statement, Assign, When}
-use Rattle.dcv_c.specs.Tree.{Returned, Fixed, Tested, Assignment, CUnit}
+use Rattle.dcv_c.specs.Tree.{Returned, Fixed, Read, Tested, Assignment, CUnit}
 
 -- ---- statements
 
@@ -48,6 +48,7 @@ test_text test = test.name ++ (codes " == " ++ decimal test.number)
 
 abbrev pub returned_text : Returned → List ℕ
 returned_text (Fixed number) = decimal number
+returned_text (Read name) = name
 returned_text (Tested tests) = join_by test_text (codes " || ") tests
 
 -- ---- declarations

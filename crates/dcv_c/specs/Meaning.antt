@@ -3,16 +3,19 @@
 --     executed now statement                   the numbers after a statement
 --     Store                                    the numbers of the statics, in their order
 --     reset_store unit                         the store after reset
---     stepped unit left_over store letter      the store after a step, and what the step returns
+--     store_by unit left_over store letter     the store after a step
+--     returned_by unit left_over store letter  what the step returns
+--     returned_after unit word                 what the last step of a word returns
 --     unit_accepts unit                        the words whose last step returns another number than 0
 -- A local has no number of its own as a step begins, and the rules of names see to it that none is read before it is assigned: whatever was
 -- left there does not matter, which is a law. Here it is 0.
 use Rattle.std.specs.Prelude.{ℕ, Bool, not, nat_eq, bytes_eq, if◌then◌else◌, List, ◌++◌, length, map, fold, slice_index_or}
 use Rattle.std.specs.List.{list_any, position_or_len}
+use Rattle.dcv_word.specs.Behaviour.{Word}
 use Rattle.dcv_language.specs.Language.{Language}
-use Rattle.dcv_language.specs.Automaton.{Automaton, accepts}
+use Rattle.dcv_language.specs.Automaton.{Automaton, state_after}
 use Rattle.dcv_c.specs.Tree.{Item, Constant, Named, Condition, Holds, Equals, Test, Right, Plain, Chosen, Statement, Assign, When}
-use Rattle.dcv_c.specs.Tree.{Returned, Fixed, Tested, Assignment, CUnit}
+use Rattle.dcv_c.specs.Tree.{Returned, Fixed, Read, Tested, Assignment, CUnit}
 
 abbrev pub is_among : List (List ℕ) → List ℕ → Bool
 is_among names name = list_any (bytes_eq name) names
@@ -47,6 +50,7 @@ passes now test = nat_eq (now test.name) test.number
 
 abbrev pub returned_number : Numbers → Returned → ℕ
 returned_number now (Fixed number) = number
+returned_number now (Read name) = now name
 returned_number now (Tested tests) = if list_any (passes now) tests then 1 else 0
 
 -- ---- reset
@@ -79,14 +83,19 @@ numbers_before unit left_over store letter =
 abbrev pub numbers_after : CUnit → Numbers → Store → List Bool → Numbers
 numbers_after unit left_over store letter = fold executed (numbers_before unit left_over store letter) unit.statements
 
+abbrev pub store_by : CUnit → Numbers → Store → List Bool → Store
+store_by unit left_over store letter = map (numbers_after unit left_over store letter) unit.statics
+
+abbrev pub returned_by : CUnit → Numbers → Store → List Bool → ℕ
+returned_by unit left_over store letter = returned_number (numbers_after unit left_over store letter) unit.returned
+
 pub record UnitState : Type 0 where
   pub store : Store
   -- by the last step, and 0 before the first
   pub returned : ℕ
 
 abbrev pub stepped : CUnit → Numbers → Store → List Bool → UnitState
-stepped unit left_over store letter =
-    let after = numbers_after unit left_over store letter in record { store = map after unit.statics; returned = returned_number after unit.returned }
+stepped unit left_over store letter = record { store = store_by unit left_over store letter; returned = returned_by unit left_over store letter }
 
 -- ---- words
 
@@ -98,5 +107,9 @@ automaton_of_unit unit =
       accepting = λ state. not (nat_eq state.returned 0);
     }
 
+-- what the last step of a word returns, and 0 where there is no step
+abbrev pub returned_after : CUnit → Word → ℕ
+returned_after unit word = (state_after (automaton_of_unit unit) word).returned
+
 abbrev pub unit_accepts : CUnit → Language
-unit_accepts unit = accepts (automaton_of_unit unit)
+unit_accepts unit word = not (nat_eq (returned_after unit word) 0)

@@ -6,7 +6,7 @@ use Rattle.dcv_lexer.specs.Lexicon.{is_number}
 use Rattle.dcv_lexer.specs.Cuts.{Token}
 use Rattle.dcv_lexer.specs.Decimal.{value_of}
 use Rattle.dcv_c.specs.Tree.{Item, Constant, Named, Condition, Holds, Equals, Test, Right, Plain, Chosen, Statement, Assign, When}
-use Rattle.dcv_c.specs.Tree.{Returned, Fixed, Tested, Assignment, CUnit}
+use Rattle.dcv_c.specs.Tree.{Returned, Fixed, Read, Tested, Assignment, CUnit}
 
 pub record PlacedTest : Type 0 where
   pub name : Token
@@ -26,8 +26,14 @@ pub data PlacedStatement : Type 0 where
   PlacedAssign : (left : Token) → (right : PlacedRight) → PlacedStatement
   PlacedWhen : (name : Token) → (number : Option Token) → (left : Token) → (item : Token) → PlacedStatement
 
+-- what stands behind the name of the first test: the number, and the other tests
+pub record PlacedTests : Type 0 where
+  pub number : Token
+  pub others : List PlacedTest
+
 pub data PlacedReturned : Type 0 where
   PlacedFixed : (number : Token) → PlacedReturned
+  PlacedRead : (name : Token) → PlacedReturned
   PlacedTested : (tests : List PlacedTest) → PlacedReturned
 
 pub record PlacedAssignment : Type 0 where
@@ -68,6 +74,7 @@ statement_of (PlacedWhen name number left item) = When (condition_of name.bytes 
 
 abbrev pub returned_of : PlacedReturned → Returned
 returned_of (PlacedFixed number) = Fixed (value_of number.bytes)
+returned_of (PlacedRead name) = Read name.bytes
 returned_of (PlacedTested tests) = Tested (map test_of tests)
 
 abbrev pub assignment_of : PlacedAssignment → Assignment

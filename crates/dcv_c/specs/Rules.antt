@@ -8,9 +8,9 @@ use Rattle.std.specs.Prelude.{◌≡◌, ℕ, ◌+◌, Bool, true, not, ◌&&◌
 use Rattle.std.specs.List.{list_all, flat_map, zip}
 use Rattle.dcv_lexer.specs.Cuts.{Token}
 use Rattle.dcv_c.specs.Tree.{Item, Constant, Named, Condition, Holds, Equals, Test, Right, Plain, Chosen, Statement, Assign, When}
-use Rattle.dcv_c.specs.Tree.{Returned, Fixed, Tested, Assignment, CUnit}
+use Rattle.dcv_c.specs.Tree.{Returned, Fixed, Read, Tested, Assignment, CUnit}
 use Rattle.dcv_c.specs.Placed.{PlacedUnit, PlacedAssignment, PlacedStatement, PlacedAssign, PlacedWhen, PlacedRight, PlacedPlain, PlacedChosen}
-use Rattle.dcv_c.specs.Placed.{PlacedReturned, PlacedFixed, PlacedTested, PlacedTest, unit_of}
+use Rattle.dcv_c.specs.Placed.{PlacedReturned, PlacedFixed, PlacedRead, PlacedTested, PlacedTest, unit_of}
 use Rattle.dcv_c.specs.Meaning.{is_among}
 
 abbrev pub most_parameters : ℕ
@@ -84,6 +84,7 @@ known_after known (When condition left item) = known
 
 abbrev pub keeps_returned : List (List ℕ) → Returned → List Bool
 keeps_returned known (Fixed number) = true ∷ []
+keeps_returned known (Read name) = is_among known name ∷ []
 keeps_returned known (Tested tests) = map (λ (test : Test). is_among known test.name) tests
 
 abbrev pub keeps_statements : CUnit → List (List ℕ) → List Statement → List Bool
@@ -118,6 +119,7 @@ words_of_statement (PlacedWhen name number left item) = name ∷ left ∷ item �
 
 abbrev pub words_of_returned : PlacedReturned → List Token
 words_of_returned (PlacedFixed number) = number ∷ []
+words_of_returned (PlacedRead name) = name ∷ []
 words_of_returned (PlacedTested tests) = map (λ (test : PlacedTest). test.name) tests
 
 unfoldable pub words_of : PlacedUnit → List Token

@@ -11,11 +11,11 @@ use Rattle.dcv_c.specs.declared.unit.Right.TheVariants.{Plain as CodePlain, Chos
 use Rattle.dcv_c.specs.declared.unit.Statement.{Statement as CodeStatement}
 use Rattle.dcv_c.specs.declared.unit.Statement.TheVariants.{Assign as CodeAssign, When as CodeWhen}
 use Rattle.dcv_c.specs.declared.unit.Returned.{Returned as CodeReturned}
-use Rattle.dcv_c.specs.declared.unit.Returned.TheVariants.{Fixed as CodeFixed, Tested as CodeTested}
+use Rattle.dcv_c.specs.declared.unit.Returned.TheVariants.{Fixed as CodeFixed, Read as CodeRead, Tested as CodeTested}
 use Rattle.dcv_c.specs.declared.unit.Assignment.{Assignment as CodeAssignment}
 use Rattle.dcv_c.specs.declared.unit.Reset.{Reset}
 use Rattle.dcv_c.specs.declared.unit.Step.{Step}
-use Rattle.dcv_c.specs.Tree.{Item, Constant, Named, Right, Plain, Chosen, Statement, Assign, When, Returned, Fixed, Tested, Assignment, CUnit}
+use Rattle.dcv_c.specs.Tree.{Item, Constant, Named, Right, Plain, Chosen, Statement, Assign, When, Returned, Fixed, Read, Tested, Assignment, CUnit}
 use Rattle.dcv_c.specs.Rules.{IsWellNamed}
 use Rattle.dcv_c.specs.Form.{IsSpellable}
 
@@ -33,6 +33,7 @@ seen_statement names (CodeWhen condition left item) = When (seen_condition names
 
 abbrev pub seen_returned : Names → CodeReturned → Returned
 seen_returned names (CodeFixed number) = Fixed number
+seen_returned names (CodeRead place) = Read (name_at names place)
 seen_returned names (CodeTested tests) = Tested (map (seen_test names) tests.items)
 
 abbrev pub seen_assignment : Names → CodeAssignment → Assignment

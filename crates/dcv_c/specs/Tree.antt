@@ -2,7 +2,7 @@
 --     Item          a number, or the number that a name has
 --     Right         what is assigned: an item, or one of two by a condition
 --     Statement     an assignment, or one that is made where a condition holds
---     Returned      what a step returns: a number, or whether one of some tests passes
+--     Returned      what a step returns: a number, the number that a name has, or whether one of some tests passes
 --     CUnit         its statics, the function that sets them, and the function that makes a step
 use Rattle.std.specs.Prelude.{ℕ, List}
 pub use Rattle.dcv_observer.specs.Conditions.{Condition, Holds, Equals, Test}
@@ -24,6 +24,8 @@ pub data Statement : Type 0 where
 
 pub data Returned : Type 0 where
   Fixed : (number : ℕ) → Returned
+  -- a name alone
+  Read : (name : List ℕ) → Returned
   -- one of the tests
   Tested : (tests : List Test) → Returned
 

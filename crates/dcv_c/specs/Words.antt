@@ -5,7 +5,7 @@ use Rattle.std.specs.List.{AllByRecursion}
 use Rattle.dcv_lexer.specs.Cuts.{Token}
 use Rattle.dcv_observer.specs.Classes.{is_small_number}
 use Rattle.dcv_c.specs.Placed.{PlacedUnit, PlacedAssignment, PlacedStatement, PlacedAssign, PlacedWhen, PlacedRight, PlacedPlain, PlacedChosen}
-use Rattle.dcv_c.specs.Placed.{PlacedChoice, PlacedReturned, PlacedFixed, PlacedTested, PlacedTest, item_at}
+use Rattle.dcv_c.specs.Placed.{PlacedChoice, PlacedReturned, PlacedFixed, PlacedRead, PlacedTested, PlacedTest, item_at}
 use Rattle.dcv_c.specs.Form.{IsName, IsItem}
 
 abbrev pub IsNameWord : Token → Type 0
@@ -45,6 +45,7 @@ AreWordsOfStatement (PlacedWhen name number left item) = IsNameWord name × IsNu
 
 abbrev pub AreWordsOfReturned : PlacedReturned → Type 0
 AreWordsOfReturned (PlacedFixed number) = IsNumberWord number
+AreWordsOfReturned (PlacedRead name) = IsNameWord name
 AreWordsOfReturned (PlacedTested tests) = (0 < length tests) × AllByRecursion AreWordsOfTest tests
 
 pub record AreWords (placed : PlacedUnit) : Type 0 where

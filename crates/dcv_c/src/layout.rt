@@ -387,6 +387,7 @@ fn put_returned<T: Target>(target: &mut T, names: &Names<'_>, returned: &Returne
 {
     match returned {
         Returned::Fixed(number) => put_number(target, *number),
+        Returned::Read(name) => target.put(names.at(*name)),
         Returned::Tested(tests) => put_tests(target, names, tests),
     }
 }

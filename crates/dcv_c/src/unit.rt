@@ -33,6 +33,8 @@ pub enum Statement {
 #[derive(Debug, Drop)]
 pub enum Returned {
     Fixed(u16),
+    /// The number that the name at this place has.
+    Read(u32),
     /// `name == number || ..`: 1 where one of the tests passes, and else 0.
     Tested(Vec<Test>),
 }

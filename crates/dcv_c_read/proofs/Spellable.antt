@@ -9,7 +9,7 @@ use Rattle.dcv_lexer.specs.Cuts.{Token}
 use Rattle.dcv_lexer.specs.Lexicon.{is_number}
 use Rattle.dcv_lexer.specs.Decimal.{value_of}
 use Rattle.dcv_c.specs.Placed.{PlacedUnit, PlacedAssignment, PlacedStatement, PlacedAssign, PlacedWhen, PlacedRight, PlacedPlain, PlacedChosen}
-use Rattle.dcv_c.specs.Placed.{PlacedReturned, PlacedFixed, PlacedTested, PlacedTest}
+use Rattle.dcv_c.specs.Placed.{PlacedReturned, PlacedFixed, PlacedRead, PlacedTested, PlacedTest}
 use Rattle.dcv_c.specs.Placed.{unit_of, assignment_of, statement_of, right_of, returned_of, test_of, condition_of, bytes_of}
 use Rattle.dcv_c.specs.Form.{IsName, IsNumber, IsCondition, IsTest, IsRight, IsStatement, IsReturned, IsAssignment, IsSpellable}
 use Rattle.dcv_c.specs.Words.{IsNameWord, IsNumberWord, IsNumberOrNone, AreWordsOfAssignment, AreWordsOfTest, AreWordsOfRight}
@@ -49,6 +49,7 @@ statements_are (statement ∷ statements) words = (statement_is statement words.
 
 returned_is : (returned : PlacedReturned) → AreWordsOfReturned returned → IsReturned (returned_of returned)
 returned_is (PlacedFixed number) words = number_is number words
+returned_is (PlacedRead name) words = words
 returned_is (PlacedTested tests) words = (omega (arith, words.0, length-map tests test_of), tests_are tests words.1)
 
 names_are : (names : List Token) → AllByRecursion IsNameWord names → AllByRecursion IsName (bytes_of names)

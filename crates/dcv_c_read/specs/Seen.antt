@@ -3,7 +3,7 @@
 use Rattle.std.specs.Prelude.{map, option_map}
 use Rattle.dcv_observer.specs.Left.{seen}
 use Rattle.dcv_c.specs.Placed.{PlacedUnit, PlacedAssignment, PlacedStatement, PlacedAssign, PlacedWhen, PlacedRight, PlacedPlain, PlacedChosen}
-use Rattle.dcv_c.specs.Placed.{PlacedChoice, PlacedReturned, PlacedFixed, PlacedTested, PlacedTest}
+use Rattle.dcv_c.specs.Placed.{PlacedChoice, PlacedReturned, PlacedFixed, PlacedRead, PlacedTested, PlacedTest}
 use Rattle.dcv_c_read.specs.declared.placed.PlacedTest.{PlacedTest as CodeTest}
 use Rattle.dcv_c_read.specs.declared.placed.PlacedChoice.{PlacedChoice as CodeChoice}
 use Rattle.dcv_c_read.specs.declared.placed.PlacedRight.{PlacedRight as CodeRight}
@@ -12,7 +12,7 @@ use Rattle.dcv_c_read.specs.declared.placed.PlacedStatement.{PlacedStatement as 
 use Rattle.dcv_c_read.specs.declared.placed.PlacedStatement.TheVariants.{Assign as CodeAssign, When as CodeWhen}
 use Rattle.dcv_c_read.specs.declared.placed.PlacedWhen.{PlacedWhen as CodeWhenItem}
 use Rattle.dcv_c_read.specs.declared.placed.PlacedReturned.{PlacedReturned as CodeReturned}
-use Rattle.dcv_c_read.specs.declared.placed.PlacedReturned.TheVariants.{Fixed as CodeFixed, Tested as CodeTested}
+use Rattle.dcv_c_read.specs.declared.placed.PlacedReturned.TheVariants.{Fixed as CodeFixed, Read as CodeRead, Tested as CodeTested}
 use Rattle.dcv_c_read.specs.declared.placed.PlacedAssignment.{PlacedAssignment as CodeAssignment}
 use Rattle.dcv_c_read.specs.declared.placed.PlacedUnit.{PlacedUnit as CodeUnit}
 
@@ -35,6 +35,7 @@ seen_statement (CodeWhen made) = seen_when made
 
 abbrev pub seen_returned : CodeReturned → PlacedReturned
 seen_returned (CodeFixed number) = PlacedFixed (seen number)
+seen_returned (CodeRead name) = PlacedRead (seen name)
 seen_returned (CodeTested tests) = PlacedTested (map seen_test tests.items)
 
 abbrev pub seen_assignment : CodeAssignment → PlacedAssignment

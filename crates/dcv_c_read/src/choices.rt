@@ -3,12 +3,12 @@ ghost use Rattle.std.specs.Prelude.{◌≡◌, ◌∷◌, map, reverse, option_m
 ghost use Rattle.dcv_observer.specs.Left.{seen};
 ghost use Rattle.dcv_c.specs.Actions.{statement_part, right_part, choice_part, returned_part};
 ghost use Rattle.dcv_c_read.specs.Seen.{seen_test};
-ghost use Rattle.dcv_c_read.specs.Symbols.{seen_part, IsMeant};
+ghost use Rattle.dcv_c_read.specs.Symbols.{seen_part, seen_tests, IsMeant};
 ghost use Rattle.dcv_c_read.specs.Translated.{behind_condition, when_item, behind_second};
 
 use crate::parts::Part;
 use crate::placed::{
-    PlacedChoice, PlacedReturned, PlacedRight, PlacedStatement, PlacedTest, PlacedWhen,
+    PlacedChoice, PlacedReturned, PlacedRight, PlacedStatement, PlacedTest, PlacedTests, PlacedWhen,
 };
 use dcv_observer::Item;
 use dcv_translation::Body;
@@ -129,8 +129,12 @@ pub(crate) fn returned<'a>(parts: &mut Body<Part<'a>>) -> Result<Part<'a>, Alloc
 {
     match (parts.next(), parts.next()) {
         (Some(Part::Token(number)), None) => Ok(Part::Returned(PlacedReturned::Fixed(number))),
-        (Some(Part::Token(name)), Some(Part::Behind(number, tests))) => {
-            let mut tests = with_test(PlacedTest { name, number }, tests)?;
+        (Some(Part::Token(name)), Some(Part::Behind(None))) => {
+            Ok(Part::Returned(PlacedReturned::Read(name)))
+        }
+        (Some(Part::Token(name)), Some(Part::Behind(Some(tests)))) => {
+            let number = tests.number;
+            let mut tests = with_test(PlacedTest { name, number }, tests.others)?;
             tests.reverse();
             Ok(Part::Returned(PlacedReturned::Tested(tests)))
         }

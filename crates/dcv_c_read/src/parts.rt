@@ -1,7 +1,7 @@
 // What the symbols of the grammar stand for, in code.
 use crate::placed::{
     PlacedAssignment, PlacedChoice, PlacedReset, PlacedReturned, PlacedRight, PlacedStatement,
-    PlacedStep, PlacedTest, PlacedUnit,
+    PlacedStep, PlacedTest, PlacedTests, PlacedUnit,
 };
 use dcv_observer::Item;
 
@@ -25,8 +25,8 @@ pub(crate) enum Part<'a> {
     Returned(PlacedReturned<'a>),
     Test(PlacedTest<'a>),
     Tests(Vec<PlacedTest<'a>>),
-    // A number, and tests.
-    Behind(Item<'a>, Vec<PlacedTest<'a>>),
+    // What may stand behind the first name of a result.
+    Behind(Option<PlacedTests<'a>>),
     Step(PlacedStep<'a>),
     // On the heap, since each part has the size of the largest.
     Unit(Box<PlacedUnit<'a>>),

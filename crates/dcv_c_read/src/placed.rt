@@ -43,10 +43,20 @@ pub struct PlacedWhen<'a> {
     pub item: Item<'a>,
 }
 
+/// What stands behind the name of the first test: `== number`, and `|| name == number` any number of times.
+#[derive(Debug, Drop)]
+pub struct PlacedTests<'a> {
+    pub number: Item<'a>,
+    /// From the last to the first.
+    pub others: Vec<PlacedTest<'a>>,
+}
+
 /// What stands behind `return`.
 #[derive(Debug, Drop)]
 pub enum PlacedReturned<'a> {
     Fixed(Item<'a>),
+    /// A name alone.
+    Read(Item<'a>),
     /// One test or more.
     Tested(Vec<PlacedTest<'a>>),
 }

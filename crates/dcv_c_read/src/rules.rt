@@ -6,7 +6,7 @@ ghost use Rattle.dcv_c.specs.Actions.{compared_part, item_part, tests_part, more
 ghost use Rattle.dcv_c_read.specs.Symbols.{seen_part, IsMeant};
 
 use crate::parts::Part;
-use crate::placed::{PlacedAssignment, PlacedTest};
+use crate::placed::{PlacedAssignment, PlacedTest, PlacedTests};
 use dcv_translation::Body;
 use std::alloc::{AllocError, Global};
 
@@ -177,14 +177,15 @@ pub(crate) fn item<'a>(parts: &mut Body<Part<'a>>) -> Part<'a>
     }
 }
 
-// tests = "==" number more_tests
+// tests = ["==" number more_tests]
 pub(crate) fn tests<'a>(parts: &mut Body<Part<'a>>) -> Part<'a>
     requires { IsMeant (tests_part (map seen_part parts.old)) }
     ensures { seen_part result ≡ tests_part (map seen_part parts.old) }
 {
     match (parts.next(), parts.next(), parts.next()) {
-        (Some(Part::Token(_)), Some(Part::Token(number)), Some(Part::Tests(tests))) => {
-            Part::Behind(number, tests)
+        (None, _, _) => Part::Behind(None),
+        (Some(Part::Token(_)), Some(Part::Token(number)), Some(Part::Tests(others))) => {
+            Part::Behind(Some(PlacedTests { number, others }))
         }
         _ => unreachable!(),
     }

@@ -210,6 +210,7 @@ impl<'a> Scope<'a> {
     {
         match returned {
             PlacedReturned::Fixed(number) => Ok(Returned::Fixed(number_at(number))),
+            PlacedReturned::Read(name) => Ok(Returned::Read(self.name(name)?)),
             PlacedReturned::Tested(tests) => Ok(Returned::Tested(self.tests(alloc, tests)?)),
         }
     }

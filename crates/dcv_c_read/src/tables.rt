@@ -278,8 +278,8 @@ const RULES: [Production<'static>; 23] = [
         alternatives: &[after!(NUMBER)],
         otherwise: &[Class(NAME), Rule(TESTS)],
     },
-    // tests = "==" number more_tests
-    always!(Class(DOUBLE_EQUALS), Class(NUMBER), Rule(MORE_TESTS)),
+    // tests = ["==" number more_tests]
+    optional!(DOUBLE_EQUALS, Class(NUMBER), Rule(MORE_TESTS)),
     // more_tests = {"||" test}
     optional!(DOUBLE_BAR, Rule(TEST), Rule(MORE_TESTS)),
     // test = name "==" number

@@ -15,8 +15,14 @@ const NEVER: &[u8] =
     b"static int st;\n\nvoid observer_reset(void)\n{\n  st = 0;\n}\n\nint observer_step(void)\n{\n  \
     int nx;\n\n  nx = 0;\n  if (st == 0) nx = 0;\n  st = nx;\n  return 0;\n}\n";
 
+// A controller whose output is its input: it returns a number by its name alone.
+const CONTROLLER: &[u8] =
+    b"static int st;\n\nvoid controller_reset(void)\n{\n  st = 0;\n}\n\nint controller_step(int v_a)\n{\n  \
+    int nx;\n  int y;\n  int o0;\n\n  nx = 0;\n  y = 0;\n  o0 = v_a ? 1 : 0;\n  if (st == 0) nx = 0;\n  \
+    if (st == 0) y = o0;\n  st = nx;\n  return y;\n}\n";
+
 // A text, and the offset of the first word that breaks a rule of names.
-const NAMES: [(&[u8], u32); 41] = [
+const NAMES: [(&[u8], u32); 45] = [
     // The names of statics, of both functions, of parameters and of locals twice.
     (
         b"static int s; static int s; void r(void) { s = 0; } int t(void) { return 0; }",
@@ -176,6 +182,23 @@ const NAMES: [(&[u8], u32); 41] = [
         b"static int s; void r(void) { s = 0; } int t(int a) { return s == 0 || b == 1; }",
         70,
     ),
+    // A name alone that is returned.
+    (
+        b"static int s; void r(void) { s = 0; } int t(int a) { return b; }",
+        60,
+    ),
+    (
+        b"static int s; void r(void) { s = 0; } int t(int a) { return r; }",
+        60,
+    ),
+    (
+        b"static int s; void r(void) { s = 0; } int t(int a) { int x; return x; }",
+        67,
+    ),
+    (
+        b"static int s; void r(void) { s = 0; } int t(int a) { int x; if (a) x = 1; return x; }",
+        81,
+    ),
     // Of two faults the earlier one.
     (
         b"static int s; void r(void) { } int s(void) { return 0; }",
@@ -188,7 +211,7 @@ const NAMES: [(&[u8], u32); 41] = [
 ];
 
 // A text, and the offset of its syntax fault.
-const SYNTAX: [(&[u8], u32); 25] = [
+const SYNTAX: [(&[u8], u32); 26] = [
     // Nothing, and texts that end too early.
     (b"", 0),
     (b"static", 6),
@@ -240,8 +263,12 @@ const SYNTAX: [(&[u8], u32); 25] = [
         65,
     ),
     (
-        b"static int s; void r(void) { s = 0; } int t(void) { return s; }",
-        60,
+        b"static int s; void r(void) { s = 0; } int t(void) { return s ? 0 : 1; }",
+        61,
+    ),
+    (
+        b"static int s; void r(void) { s = 0; } int t(void) { return s || s == 1; }",
+        61,
     ),
     (
         b"static int s; void r(void) { s = 0; } int t(void) { return s == 0 ||; }",
@@ -274,7 +301,7 @@ const SYNTAX: [(&[u8], u32); 25] = [
 ];
 
 // Texts that keep the rules.
-const GOOD: [&[u8]; 7] = [
+const GOOD: [&[u8]; 10] = [
     b"static int s;void r(void){s=0;}int t(void){return 0;}",
     b"static int s; static int u; void r(void) { u = 00032767; s = 007; } int t(int a) { return a == 1 || s == 00; }",
     b"static int s; void r(void) { s = 0; } int t(int a) { int x; int y; x = a; y = x == 1 ? s : x; if (y) x = 2; s = x; return x == 2; }",
@@ -283,6 +310,9 @@ const GOOD: [&[u8]; 7] = [
     b"static int static1; void Void(void) { static1 = 0; } int if_(int return0) { return return0 == 1; }",
     b"static int s; void r(void) { s = 0; } int t(int a0, int a1, int a2, int a3, int a4, int a5, int a6, int a7, int a8, int a9, \
         int a10, int a11, int a12, int a13, int a14, int a15) { s = a15; return a0 == 1; }",
+    b"static int s; void r(void) { s = 0; } int t(void) { return s; }",
+    b"static int s; void r(void) { s = 0; } int t(int a) { return a; }",
+    b"static int s; void r(void) { s = 0; } int t(int a) { int x; x = a; if (a) x = 0; return x; }",
 ];
 
 // For the prover: the bound is what a text of `read` has to meet.
@@ -322,7 +352,7 @@ fn rules_kept(rt: HostRuntime) -> Result<(), Fail> {
 
 #[test]
 fn printed_texts_read_back(rt: HostRuntime) -> Result<(), Fail> {
-    for bytes in [OBSERVER, NEVER] {
+    for bytes in [OBSERVER, NEVER, CONTROLLER] {
         let Ok(unit) = unit_of(rt.alloc(), bytes) else {
             return Err(Fail::new("a printed text is refused"));
         };

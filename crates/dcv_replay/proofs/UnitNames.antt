@@ -14,7 +14,7 @@ use Rattle.dcv_c.specs.declared.unit.Right.TheVariants.{Plain, Chosen}
 use Rattle.dcv_c.specs.declared.unit.Statement.{Statement}
 use Rattle.dcv_c.specs.declared.unit.Statement.TheVariants.{Assign, When}
 use Rattle.dcv_c.specs.declared.unit.Returned.{Returned}
-use Rattle.dcv_c.specs.declared.unit.Returned.TheVariants.{Fixed, Tested}
+use Rattle.dcv_c.specs.declared.unit.Returned.TheVariants.{Fixed, Read, Tested}
 use Rattle.dcv_c.specs.declared.unit.Assignment.{Assignment}
 use Rattle.dcv_c.specs.Tree.{CUnit}
 use Rattle.dcv_c.specs.Form.{IsName, IsItem, IsCondition, IsRight, IsStatement, IsTest, IsReturned, IsAssignment}
@@ -125,6 +125,7 @@ module _ (names : List Name) (most : ℕ) (fits : length names ≤ most) where
 
   pub returned_by_form : (returned : Returned) → IsReturned (seen_returned names returned) → IsPlacedReturned most returned
   returned_by_form (Fixed number) is = tt
+  returned_by_form (Read place) is = placed place is
   returned_by_form (Tested tests) is = All-from_recursion (λ (test : Test). test.name < most) tests.items (placed_tests tests.items is.1)
 
   pub assignments_by_recursion : (assignments : List Assignment) → AllByRecursion IsAssignment (map (seen_assignment names) assignments)

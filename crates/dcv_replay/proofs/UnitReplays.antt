@@ -14,7 +14,7 @@ use Rattle.dcv_c.specs.declared.unit.Right.TheVariants.{Plain, Chosen}
 use Rattle.dcv_c.specs.declared.unit.Statement.{Statement}
 use Rattle.dcv_c.specs.declared.unit.Statement.TheVariants.{Assign, When}
 use Rattle.dcv_c.specs.declared.unit.Returned.{Returned}
-use Rattle.dcv_c.specs.declared.unit.Returned.TheVariants.{Fixed, Tested}
+use Rattle.dcv_c.specs.declared.unit.Returned.TheVariants.{Fixed, Read, Tested}
 use Rattle.dcv_c.specs.declared.unit.Assignment.{Assignment}
 use Rattle.dcv_c.specs.Tree.{CUnit}
 use Rattle.dcv_c.specs.Meaning.{Numbers, zeros, assigned, automaton_of_unit}
@@ -80,6 +80,9 @@ module _ (count slots : ℕ) (room : first_name + count < slots) where
         | inl is ↦ subst (λ b. cond {A = ℕ} b 0 1 < slots) (sym is) (omega (arith, room))
         | inr is ↦ subst (λ b. cond {A = ℕ} b 0 1 < slots) (sym is) (omega (arith, room))
       ]
+  returned_within answer answer_in (Read place) placed =
+      All-from_recursion (IsWithin slots) (returned_selects answer (Read place))
+      (record { target = answer_in; tested = omega (arith, placed, room); when_equal = omega (arith, room); otherwise = omega (arith, room) }, tt)
   returned_within answer answer_in (Tested tests) placed =
       All-from_recursion (IsWithin slots) (tests_selects answer tests.items)
       (copy_within answer 0 answer_in (omega (arith, room)), tests_within answer answer_in tests.items (recursion_from_All (λ (test : Test). test.name < count) tests.items placed))

@@ -15,7 +15,7 @@ use Rattle.dcv_c.specs.declared.unit.Right.TheVariants.{Plain, Chosen}
 use Rattle.dcv_c.specs.declared.unit.Statement.{Statement}
 use Rattle.dcv_c.specs.declared.unit.Statement.TheVariants.{Assign, When}
 use Rattle.dcv_c.specs.declared.unit.Returned.{Returned}
-use Rattle.dcv_c.specs.declared.unit.Returned.TheVariants.{Fixed, Tested}
+use Rattle.dcv_c.specs.declared.unit.Returned.TheVariants.{Fixed, Read, Tested}
 use Rattle.dcv_c.specs.declared.unit.Assignment.{Assignment}
 use Rattle.dcv_c.specs.Meaning.{Numbers, item_number, holds, right_number, assigned, executed, passes, returned_number}
 use Rattle.dcv_c.specs.Seen.{seen_item, seen_condition, seen_right, seen_statement, seen_test, seen_returned, seen_assignment}
@@ -115,6 +115,12 @@ module _ (names : List Name) (apart : IsApart names) where
       (through (number == 0) (λ (slot : ℕ). get_or store slot 0) 0 1
       ∙ both_are (number == 0) (mirrors.literals 0 (omega arith)) (mirrors.literals 1 (omega arith))
       ∙ turned (number == 0) 1 0)
+  returned_is {now} {store} mirrors (Read place) placed =
+      selected store (slot_of (length names)) (slot_of place) 0 0 1
+      ∙ ap (λ (n : ℕ). set store (slot_of (length names)) (cond (n == 0) (get_or store 0 0) (get_or store 1 0))) (mirrors.numbers place placed refl)
+      ∙ ap (λ (n : ℕ). set store (slot_of (length names)) n)
+      (both_are (now (get_or names place []) == 0) (mirrors.literals 0 (omega arith)) (mirrors.literals 1 (omega arith))
+      ∙ turned (now (get_or names place []) == 0) 1 0)
   returned_is {now} {store} mirrors (Tested tests) placed =
       any_test (λ (test : Test). test.number) (λ (test : Test). passes now (seen_test names test)) store (slot_of (length names))
       (free_slot mirrors (slot_of (length names)) (omega arith) (omega (arith, mirrors.long))) tests.items

@@ -15,7 +15,7 @@ use Rattle.dcv_c.specs.declared.unit.Right.TheVariants.{Plain, Chosen}
 use Rattle.dcv_c.specs.declared.unit.Statement.{Statement}
 use Rattle.dcv_c.specs.declared.unit.Statement.TheVariants.{Assign, When}
 use Rattle.dcv_c.specs.declared.unit.Returned.{Returned}
-use Rattle.dcv_c.specs.declared.unit.Returned.TheVariants.{Fixed, Tested}
+use Rattle.dcv_c.specs.declared.unit.Returned.TheVariants.{Fixed, Read, Tested}
 use Rattle.dcv_c.specs.declared.unit.Assignment.{Assignment}
 use Rattle.dcv_c.specs.Tree.{CUnit}
 use Rattle.dcv_c.specs.Seen.{names_of, seen_assignment, seen_statement, seen_returned}
@@ -45,6 +45,7 @@ tests_selects answer tests = copy answer 0 ∷ map (λ (test : Test). test_selec
 
 abbrev pub returned_selects : ℕ → Returned → List Select
 returned_selects answer (Fixed number) = copy answer (if number == 0 then 0 else 1) ∷ []
+returned_selects answer (Read place) = select answer (slot_of place) 0 0 1 ∷ []
 returned_selects answer (Tested tests) = tests_selects answer tests.items
 
 abbrev pub after_assignment : List ℕ → Assignment → List ℕ
@@ -95,6 +96,7 @@ ArePlacedTests most tests = All (λ (test : Test). test.name < most) tests
 
 abbrev pub IsPlacedReturned : ℕ → Returned → Type 0
 IsPlacedReturned most (Fixed number) = Unit {0}
+IsPlacedReturned most (Read place) = place < most
 IsPlacedReturned most (Tested tests) = ArePlacedTests most tests.items
 
 abbrev pub ArePlacedAssignments : ℕ → List Assignment → Type 0

@@ -1,4 +1,4 @@
-// Observers of behaviours over `p` that is true throughout, and other nodes by their texts.
+// Observers of behaviours over `p` that is true throughout, and other nodes and units by their texts.
 ghost use Rattle.std.specs.Prelude.{◌≡◌, length, IfOk};
 ghost use Rattle.dcv_automaton_text.specs.Rules.{AreNames};
 ghost use Rattle.dcv_automaton_file.specs.File.{texts_of};
@@ -30,6 +30,17 @@ fn node_of(alloc: Global, text: &[u8]) -> Result<Node, Fail> {
     match read(alloc, text) {
         Ok(node) => Ok(node),
         Err(_) => Err(Fail::new("the text is no node")),
+    }
+}
+
+// The replay of a unit with this text.
+pub(crate) fn of_unit_text(alloc: Global, text: &[u8]) -> Result<Replay, Fail> {
+    if text.len() >= 1_000_000 {
+        return Err(Fail::new("a long text"));
+    }
+    match dcv_c_read::read(alloc, text) {
+        Ok(unit) => Ok(Replay::c(alloc, &unit)?),
+        Err(_) => Err(Fail::new("the text is no unit")),
     }
 }
 

@@ -1,7 +1,7 @@
 // Runs over traces.
 ghost use Rattle.std.specs.Prelude.{◌<◌, All};
 
-use crate::observers::{c, lustre, of_text};
+use crate::observers::{c, lustre, of_text, of_unit_text};
 use dcv_io::{MemFiles, MemSink};
 use dcv_replay::{Replay, ReplayFault};
 use dcv_word::Letter;
@@ -86,6 +86,34 @@ const NODES: [(&[u8], &[u8], &[u8]); 6] = [
     ),
 ];
 
+// The text of a unit that returns a number by its name alone, a trace and the answers.
+const UNITS: [(&[u8], &[u8], &[u8]); 4] = [
+    // A local, as 0, 5, 1 and 5.
+    (
+        b"static int s; void r(void) { s = 0; } int t(int a, int b) { int x; x = b; if (a) x = 5; return x; }",
+        b"00\n10\n01\n11\n",
+        b"0\n1\n1\n1\n",
+    ),
+    // A static, as 0, 1, 5 and 0: its number once the statements are made.
+    (
+        b"static int s; void r(void) { s = 7; } int t(int a, int b) { s = a ? 5 : 0; if (b) s = 1; return s; }",
+        b"00\n11\n10\n00\n",
+        b"0\n1\n1\n0\n",
+    ),
+    // A static that no step assigns.
+    (
+        b"static int s; static int u; void r(void) { s = 0; u = 2; } int t(int a) { s = a; return u; }",
+        b"0\n1\n",
+        b"1\n1\n",
+    ),
+    // A parameter.
+    (
+        b"static int s; void r(void) { s = 1; } int t(int a) { return a; }",
+        b"0\n1\n0\n",
+        b"0\n1\n0\n",
+    ),
+];
+
 // Runs over a trace that is held under the name that is asked for.
 fn run_over(
     alloc: Global,
@@ -152,6 +180,18 @@ fn nodes(rt: HostRuntime) -> Result<(), Fail> {
     let alloc = rt.alloc();
     for (text, trace, answers) in NODES {
         let mut replay = of_text(alloc, text)?;
+        let (found, written) = run_over(alloc, &mut replay, trace, &[], &[], 100)?;
+        assert_eq!(rt; found, None);
+        assert_eq!(rt; written.as_slice(), answers);
+    }
+    Ok(())
+}
+
+#[test]
+fn units(rt: HostRuntime) -> Result<(), Fail> {
+    let alloc = rt.alloc();
+    for (text, trace, answers) in UNITS {
+        let mut replay = of_unit_text(alloc, text)?;
         let (found, written) = run_over(alloc, &mut replay, trace, &[], &[], 100)?;
         assert_eq!(rt; found, None);
         assert_eq!(rt; written.as_slice(), answers);

@@ -1,4 +1,4 @@
-use Rattle.std.proofs.Common.{◌≡◌, ◌++◌, ℕ, List, map}
+use Rattle.std.proofs.Common.{◌++◌, map}
 use Rattle.std.specs.Prelude.{codes}
 use Rattle.std.specs.List.{flat_map}
 use Rattle.dcv_c.specs.Layout.{parameters_text, local_lines, statement_line, returned_text}

@@ -1,4 +1,4 @@
-use Rattle.std.proofs.Common.{ℕ, List, sym, subst, ◌≡◌, ◌∙◌}
+use Rattle.std.proofs.Common.{ℕ, List, sym, subst, ◌≡◌}
 use Rattle.std.specs.Prelude.{IfOk}
 use Rattle.std.proofs.lemmas.Result.{IfOk-weaker}
 use Rattle.dcv_io.proofs.Putting.{text_taken}
