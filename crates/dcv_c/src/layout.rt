@@ -148,7 +148,11 @@ fn put_assignments<T: Target>(target: &mut T, names: &Names<'_>, assignments: &[
     }
 }
 
-pub(crate) fn put_assignment<T: Target, N: NamesByPlace>(target: &mut T, names: &N, assignment: Assignment)
+pub(crate) fn put_assignment<T: Target, N: NamesByPlace>(
+    target: &mut T,
+    names: &N,
+    assignment: Assignment,
+)
     ensures { Puts (T.standing target.old) (T.standing target.new) (assignment_line (seen_assignment (N.names names.now) assignment)) }
 {
     put_left(target, names, assignment.name);
@@ -290,7 +294,11 @@ fn put_statements<T: Target>(target: &mut T, names: &Names<'_>, statements: &[St
     }
 }
 
-pub(crate) fn put_statement<T: Target, N: NamesByPlace>(target: &mut T, names: &N, statement: Statement)
+pub(crate) fn put_statement<T: Target, N: NamesByPlace>(
+    target: &mut T,
+    names: &N,
+    statement: Statement,
+)
     ensures { Puts (T.standing target.old) (T.standing target.new) (statement_line (seen_statement (N.names names.now) statement)) }
 {
     match statement {
@@ -406,7 +414,12 @@ fn put_tests<T: Target>(target: &mut T, names: &Names<'_>, tests: &[Test])
 }
 
 // `name == number`, behind what stands between it and the test before.
-pub(crate) fn put_test<T: Target, N: NamesByPlace>(target: &mut T, between: &[u8], names: &N, test: Test)
+pub(crate) fn put_test<T: Target, N: NamesByPlace>(
+    target: &mut T,
+    between: &[u8],
+    names: &N,
+    test: Test,
+)
     ensures { Puts (T.standing target.old) (T.standing target.new) (between.now ++ test_text (seen_test (N.names names.now) test)) }
 {
     target.put(between);

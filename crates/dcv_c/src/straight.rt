@@ -15,8 +15,11 @@ ghost use Rattle.dcv_c.specs.Observer.{parameter_name, state_name, next_name, no
 ghost use Rattle.dcv_c.specs.Observer.{last_statement, accepting_tests, returned_for, observer_of};
 ghost use Rattle.dcv_c.specs.Building.{observer_names, state_lines, Fits};
 
-use crate::layout::{NamesByPlace, put_assignment, put_blank, put_body, put_item, put_local, put_opening, put_parameter};
-use crate::layout::{put_reset_end, put_reset_head, put_return, put_statement, put_static, put_step_end, put_test, put_void};
+use crate::layout::{
+    NamesByPlace, put_assignment, put_blank, put_body, put_item, put_local, put_opening,
+    put_parameter, put_reset_end, put_reset_head, put_return, put_statement, put_static,
+    put_step_end, put_test, put_void,
+};
 use crate::observer::{first_assignment, last_assignment, next_is, node_choice, state_choice};
 use crate::unit::{Assignment, Item};
 use dcv_dfa::{Auto, Child, NodeLine, NodeLines};

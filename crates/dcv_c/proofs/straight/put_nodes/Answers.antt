@@ -1,4 +1,4 @@
-use Rattle.std.proofs.Common.{◌≡◌, ◌<◌, length, get_or, sym, ap, subst, arith, ◌∙◌}
+use Rattle.std.proofs.Common.{◌≡◌, ◌<◌, length, get_or, sym, ap, subst, arith}
 use Rattle.std.proofs.lemmas.List.{take_all, length-map}
 use Rattle.dcv_syntax.specs.declared.names.Name.{Name}
 use Rattle.dcv_dfa.specs.declared.node_lines.Child.TheVariants.{State}

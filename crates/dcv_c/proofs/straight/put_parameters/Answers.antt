@@ -1,4 +1,4 @@
-use Rattle.std.proofs.Common.{◌≡◌, ◌∷◌, ◌++◌, ℕ, List, map, ap, sym, ◌∙◌}
+use Rattle.std.proofs.Common.{◌∷◌, ◌++◌, ℕ, List, map, ap, sym, ◌∙◌}
 use Rattle.std.specs.Prelude.{codes}
 use Rattle.std.specs.List.{join_by}
 use Rattle.dcv_io.proofs.Putting.{puts_one_more, puts_both, puts_same}

@@ -1,11 +1,11 @@
-use Rattle.std.proofs.Common.{◌≡◌, ◌++◌, length, ap, ◌∙◌, sym}
+use Rattle.std.proofs.Common.{◌≡◌, ◌++◌, length}
 use Rattle.std.proofs.lemmas.List.{length-map}
 use Rattle.dcv_io.proofs.Putting.{puts_both, puts_same}
 use Rattle.dcv_syntax.specs.declared.names.Name.{Name}
 use Rattle.dcv_dfa.specs.Raw.{RawValue}
 use Rattle.dcv_automaton_file.specs.File.{texts_of, node_line, state_line}
 use Rattle.dcv_c.specs.Layout.{statement_line}
-use Rattle.dcv_c.specs.Observer.{first_statement, node_statement, state_statement, last_statement}
+use Rattle.dcv_c.specs.Observer.{node_statement, state_statement}
 use Rattle.dcv_c.proofs.PutLines.{lines_text}
 use Rattle.dcv_c.proofs.straight.put_statements.Goals as goal
 

@@ -1,7 +1,0 @@
-use Rattle.dcv_io.proofs.Putting.{puts_both}
-use Rattle.dcv_print.proofs.report.Sections.put.Goals as goal
-
-pub returns : goal.returns
-returns g c =
-    puts_both _ _ _ _ _ c.put.ensures (puts_both _ _ _ _ _ c.put-2.ensures (puts_both _ _ _ _ _ c.put-3.ensures
-    (puts_both _ _ _ _ _ c.put-4.ensures c.put_observers.ensures)))
