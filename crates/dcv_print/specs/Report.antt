@@ -16,7 +16,7 @@ use Rattle.dcv_c.specs.Layout as c
 use Rattle.dcv_c.specs.Observer.{observer_of as unit_of}
 use Rattle.dcv_lustre.specs.Layout as lustre
 use Rattle.dcv_lustre.specs.Observer.{observer_of as node_of}
-use Rattle.dcv_print.specs.Listed.{listed_file, IsListed}
+use Rattle.dcv_print.specs.Listed.{listed_file, lustre_text, c_text, IsLined}
 use Rattle.dcv_print.specs.Printed.{printed_file}
 use Rattle.dcv_print.specs.Sections.{all_text}
 use Rattle.dcv_print.specs.Verdict.{seen_verdict}
@@ -24,7 +24,6 @@ use Rattle.dcv_print.specs.declared.automaton_lines.Listed.{Listed}
 use Rattle.dcv_print.specs.declared.report.Kind.{Kind}
 use Rattle.dcv_print.specs.declared.report.Kind.TheVariants.{Check, Automaton, Lustre, C, All}
 use Rattle.dcv_print.specs.declared.report.Content.{Content}
-use Rattle.dcv_print.specs.declared.report.Sections.{Sections}
 use Rattle.dcv_print.specs.declared.report.Content.TheVariants.{Verdict as TheVerdict, Automaton as TheAutomaton, Lustre as TheNode, C as TheUnit, All as TheSections}
 use Rattle.dcv_print.specs.declared.verdict_lines.Verdict.{Verdict as CodeVerdict}
 
@@ -77,22 +76,22 @@ Says All raw names report = SpellsAll raw names (verdict_text report.verdict) re
 
 -- ---- how a report of the code is seen
 
-abbrev pub text_of_sections : List ℕ → Sections → List ℕ
-text_of_sections verdict sections = all_text verdict (spelled (listed_file sections.listed)) (lustre.text_of sections.node) (c.text_of sections.unit)
+abbrev pub text_of_sections : List ℕ → Listed → List ℕ
+text_of_sections verdict listed = all_text verdict (spelled (listed_file listed)) (lustre_text listed.lined) (c_text listed.lined)
 
 abbrev pub text_of : CodeVerdict → Content → List ℕ
 text_of verdict TheVerdict = verdict_text (seen_verdict verdict)
 text_of verdict (TheAutomaton listed) = spelled (listed_file listed)
-text_of verdict (TheNode node) = lustre.text_of node
-text_of verdict (TheUnit unit) = c.text_of unit
-text_of verdict (TheSections sections) = text_of_sections (verdict_text (seen_verdict verdict)) sections
+text_of verdict (TheNode lined) = lustre_text lined
+text_of verdict (TheUnit lined) = c_text lined
+text_of verdict (TheSections listed) = text_of_sections (verdict_text (seen_verdict verdict)) listed
 
 abbrev pub seen_report : CodeVerdict → Content → ReportValue
 seen_report verdict content = record { verdict = seen_verdict verdict; text = text_of verdict content }
 
 abbrev pub IsContent : Content → Type 0
 IsContent TheVerdict = Unit {0}
-IsContent (TheAutomaton listed) = IsListed listed
-IsContent (TheNode node) = Unit {0}
-IsContent (TheUnit unit) = Unit {0}
-IsContent (TheSections sections) = IsListed sections.listed
+IsContent (TheAutomaton listed) = IsLined listed.lined
+IsContent (TheNode lined) = IsLined lined
+IsContent (TheUnit lined) = IsLined lined
+IsContent (TheSections listed) = IsLined listed.lined

@@ -1,15 +1,17 @@
 // The text of an automaton, line by line.
-ghost use Rattle.std.specs.Prelude.{◌≡◌, ◌∷◌, ◌++◌, ◌<◌, ℕ, List, [], length, codes, decimal, IfOk};
+ghost use Rattle.std.specs.Prelude.{◌≡◌, ◌∷◌, ◌++◌, ◌<◌, ◌≤◌, ℕ, List, [], length, codes, decimal, IfOk};
 ghost use Rattle.std.specs.List.{All};
 ghost use Rattle.std.specs.Str.{byte};
 ghost use Rattle.dcv_io.specs.Putting.{Puts};
+ghost use Rattle.dcv_dfa.specs.Auto.{count_of_nodes};
 ghost use Rattle.dcv_dfa.specs.NodeLines.{node_lines_of};
+ghost use Rattle.dcv_automaton_text.specs.Rules.{AreNames, most_states, most_nodes};
 ghost use Rattle.dcv_automaton_text.specs.Spelled.{answer_word, target_word, name_words, node_words, state_words, how_access};
 ghost use Rattle.dcv_automaton_text.specs.Spelled.{how_suffix, spelled_line, spelled};
 ghost use Rattle.dcv_print.specs.Printed.{texts_of, target_of, node_line, state_line, printed_file};
 ghost use Rattle.dcv_automaton_read.specs.File.{access_from, suffix_from};
 ghost use Rattle.dcv_certificate.specs.Proof.{IsProof};
-ghost use Rattle.dcv_print.specs.Listed.{IsListed, listed_file};
+ghost use Rattle.dcv_print.specs.Listed.{IsLined, listed_file};
 ghost use Rattle.dcv_print.specs.Pushed.{spaced, spelled_lines};
 
 use crate::verdict_lines::{put_letter, put_number};
@@ -37,12 +39,38 @@ pub fn automaton_text(
     text.finish()
 }
 
-// An automaton with what its lines say beside it, in lists.
+// An automaton with the lines of its nodes beside it, in a list.
 #[derive(Drop)]
-pub(crate) struct Listed<'a> {
+pub(crate) struct Lined<'a> {
     pub(crate) auto: &'a Auto,
     pub(crate) names: &'a [Name],
     pub(crate) nodes: NodeLines,
+}
+
+impl<'a> Lined<'a> {
+    // The automaton over variables with these names.
+    pub(crate) fn new(
+        alloc: Global,
+        auto: &'a Auto,
+        names: &'a [Name],
+    ) -> Result<Lined<'a>, AllocError>
+        requires names { AreNames (texts_of names.now) }
+        requires slots { length names.now ≡ auto.now.arena.slots }
+        requires states { length auto.now.rows ≤ most_states }
+        requires nodes { count_of_nodes auto.now ≤ most_nodes }
+        ensures auto { IfOk result (λ lined. lined.auto.now ≡ auto.now) }
+        ensures names { IfOk result (λ lined. lined.names.now ≡ names.now) }
+        ensures lined { IfOk result IsLined }
+    {
+        let nodes = auto.node_lines(alloc)?;
+        Ok(Lined { auto, names, nodes })
+    }
+}
+
+// An automaton with what all its lines say beside it, in lists.
+#[derive(Drop)]
+pub(crate) struct Listed<'a> {
+    pub(crate) lined: Lined<'a>,
     pub(crate) proof: Proof,
 }
 
@@ -53,28 +81,33 @@ impl<'a> Listed<'a> {
         auto: &'a Auto,
         names: &'a [Name],
     ) -> Result<Listed<'a>, AllocError>
-        requires { length names.now ≡ auto.now.arena.slots }
-        ensures auto { IfOk result (λ listed. listed.auto.now ≡ auto.now) }
-        ensures names { IfOk result (λ listed. listed.names.now ≡ names.now) }
+        requires names { AreNames (texts_of names.now) }
+        requires slots { length names.now ≡ auto.now.arena.slots }
+        requires states { length auto.now.rows ≤ most_states }
+        requires nodes { count_of_nodes auto.now ≤ most_nodes }
+        ensures auto { IfOk result (λ listed. listed.lined.auto.now ≡ auto.now) }
+        ensures names { IfOk result (λ listed. listed.lined.names.now ≡ names.now) }
         ensures proof { IfOk result (λ listed. IsProof auto.now listed.proof.access listed.proof.suffixes) }
-        ensures listed { IfOk result IsListed }
+        ensures lined { IfOk result (λ listed. IsLined listed.lined) }
     {
-        let nodes = auto.node_lines(alloc)?;
+        let lined = Lined::new(alloc, auto, names)?;
         let proof = separate(alloc, auto)?;
-        Ok(Listed {
-            auto,
-            names,
-            nodes,
-            proof,
-        })
+        Ok(Listed { lined, proof })
     }
 
     // Puts the automaton's text.
     pub(crate) fn put<T: Target>(&self, target: &mut T)
-        requires { IsListed self.now }
+        requires { IsLined self.now.lined }
         ensures { Puts (T.standing target.old) (T.standing target.new) (spelled (listed_file self.now)) }
     {
-        put_automaton(target, self.auto, self.names, &self.nodes, &self.proof);
+        let lined = &self.lined;
+        put_automaton(
+            target,
+            lined.auto,
+            lined.names,
+            &lined.nodes,
+            &self.proof,
+        );
     }
 }
 

@@ -1,4 +1,4 @@
-// A report on the words of an automaton. It holds words, lists and references, and no text: that is written in pieces.
+// A report on the words of an automaton. It holds words, lists and references, and neither text nor tree: it is written in pieces.
 ghost use Rattle.std.specs.Prelude.{◌≡◌, ◌≤◌, ◌++◌, true, length, codes, is_err, IfOk, OnOk, OnErr};
 ghost use Rattle.dcv_io.specs.Faults.{raised, RisesIf};
 ghost use Rattle.dcv_io.specs.Putting.{Puts};
@@ -9,22 +9,17 @@ ghost use Rattle.dcv_dfa.specs.Raw.{raw_accepts};
 ghost use Rattle.dcv_automaton_text.specs.Rules.{AreNames, most_states, most_nodes};
 ghost use Rattle.dcv_print.specs.Printed.{texts_of};
 ghost use Rattle.dcv_language.specs.VerdictText.{verdict_text};
-ghost use Rattle.dcv_automaton_text.specs.Spelled.{spelled};
-ghost use Rattle.dcv_lustre.specs.Layout as lustre;
-ghost use Rattle.dcv_c.specs.Layout as c;
-ghost use Rattle.dcv_print.specs.Listed.{listed_file, IsListed};
-ghost use Rattle.dcv_print.specs.Report.{Says, SpellsAutomaton, SpellsAllBy, IsLustreObserver, IsCObserver, text_of_sections, seen_report, IsContent};
+ghost use Rattle.dcv_print.specs.Listed.{lustre_text, c_text, IsLined};
+ghost use Rattle.dcv_print.specs.Report.{Says, SpellsAllBy, text_of_sections, seen_report, IsContent};
 ghost use Rattle.dcv_print.specs.Verdict.{seen_verdict};
 ghost use Rattle.dcv_print.specs.declared.verdict_lines.Verdict.{Verdict as CodeVerdict};
 
-use crate::automaton_lines::{Listed, put_automaton};
+use crate::automaton_lines::{Lined, Listed, put_automaton};
 use crate::verdict_lines::Verdict;
 use crate::verdicts::verdict;
-use dcv_c::CUnit;
 use dcv_certificate::Proof;
 use dcv_dfa::Auto;
 use dcv_io::{Block, Failed, Sink, Target, Text};
-use dcv_lustre::Node;
 use dcv_syntax::Name;
 use std::alloc::{AllocError, Global};
 use std::marker::Model;
@@ -44,52 +39,43 @@ pub enum Kind {
     All,
 }
 
-// What is written beside a verdict, or in its place.
+// What is written beside a verdict, or in its place. An observer is put straight from the lines, so no tree of it is held.
 #[derive(Drop)]
 pub(crate) enum Content<'a> {
     Verdict,
     Automaton(Listed<'a>),
-    Lustre(Node),
-    C(CUnit),
-    All(Sections<'a>),
+    Lustre(Lined<'a>),
+    C(Lined<'a>),
+    All(Listed<'a>),
 }
 
-// What stands behind a verdict where all is written.
-#[derive(Drop)]
-pub(crate) struct Sections<'a> {
-    pub(crate) listed: Listed<'a>,
-    pub(crate) node: Node,
-    pub(crate) unit: CUnit,
-}
-
-impl<'a> Sections<'a> {
-    // All that is said of an automaton over variables with these names.
-    fn new(alloc: Global, auto: &'a Auto, names: &'a [Name]) -> Result<Sections<'a>, AllocError>
-        requires names { AreNames (texts_of names.now) }
-        requires slots { length names.now ≡ auto.now.arena.slots }
-        requires states { length auto.now.rows ≤ most_states }
-        requires nodes { count_of_nodes auto.now ≤ most_nodes }
-        ensures automaton { IfOk result (λ sections. SpellsAutomaton auto.now (texts_of names.now) (spelled (listed_file sections.listed))) }
-        ensures node { IfOk result (λ sections. IsLustreObserver auto.now (texts_of names.now) (lustre.text_of sections.node)) }
-        ensures unit { IfOk result (λ sections. IsCObserver auto.now (texts_of names.now) (c.text_of sections.unit)) }
-        ensures listed { IfOk result (λ sections. IsListed sections.listed) }
+impl Lined<'_> {
+    // Puts the text of the observer in Lustre.
+    fn put_lustre<T: Target>(&self, target: &mut T)
+        requires { IsLined self.now }
+        ensures { Puts (T.standing target.old) (T.standing target.new) (lustre_text self.now) }
     {
-        let listed = Listed::new(alloc, auto, names)?;
-        let node = dcv_lustre::of_auto(alloc, auto, names)?;
-        let unit = dcv_c::of_auto(alloc, auto, names)?;
-        Ok(Sections { listed, node, unit })
+        dcv_lustre::put_observer(target, self.auto, self.names, &self.nodes);
     }
 
+    // Puts the text of the observer in C.
+    fn put_c<T: Target>(&self, target: &mut T)
+        requires { IsLined self.now }
+        ensures { Puts (T.standing target.old) (T.standing target.new) (c_text self.now) }
+    {
+        dcv_c::put_observer(target, self.auto, self.names, &self.nodes);
+    }
+}
+
+impl Listed<'_> {
     // Puts the four texts.
-    fn put<T: Target>(&self, verdict: &Verdict, target: &mut T)
-        requires { IsListed self.now.listed }
+    fn put_sections<T: Target>(&self, verdict: &Verdict, target: &mut T)
+        requires { IsLined self.now.lined }
         ensures { Puts (T.standing target.old) (T.standing target.new) (text_of_sections (verdict_text (seen_verdict verdict.now)) self.now) }
     {
-        target.put(b"--- verdict\n");
-        verdict.put(target);
-        target.put(b"--- automaton\n");
-        self.listed.put(target);
-        put_observers(target, &self.node, &self.unit);
+        put_verdict(target, verdict);
+        self.put(target);
+        put_observers(target, &self.lined);
     }
 }
 
@@ -108,27 +94,34 @@ pub fn all_text(
     ensures { IfOk result (λ text. SpellsAllBy auto.now (texts_of names.now) proof.now.access proof.now.suffixes text.items) }
 {
     let verdict = verdict(alloc, auto)?;
-    let nodes = auto.node_lines(alloc)?;
-    let node = dcv_lustre::of_auto(alloc, auto, names)?;
-    let unit = dcv_c::of_auto(alloc, auto, names)?;
+    let lined = Lined::new(alloc, auto, names)?;
     let mut text = Text::new(alloc);
-    text.put(b"--- verdict\n");
-    verdict.put(&mut text);
-    text.put(b"--- automaton\n");
-    put_automaton(&mut text, auto, names, &nodes, proof);
-    put_observers(&mut text, &node, &unit);
+    put_verdict(&mut text, &verdict);
+    put_automaton(&mut text, auto, names, &lined.nodes, proof);
+    put_observers(&mut text, &lined);
     text.finish()
 }
 
-// Puts both observers, each behind its line.
-fn put_observers<T: Target>(target: &mut T, node: &Node, unit: &CUnit)
+// Puts the verdict behind its line, and the line of the automaton.
+fn put_verdict<T: Target>(target: &mut T, verdict: &Verdict)
     ensures { Puts (T.standing target.old) (T.standing target.new)
-        (codes "--- lustre\n" ++ (lustre.text_of node.now ++ (codes "--- c\n" ++ c.text_of unit.now))) }
+        (codes "--- verdict\n" ++ (verdict_text (seen_verdict verdict.now) ++ codes "--- automaton\n")) }
+{
+    target.put(b"--- verdict\n");
+    verdict.put(target);
+    target.put(b"--- automaton\n");
+}
+
+// Puts both observers, each behind its line.
+fn put_observers<T: Target>(target: &mut T, lined: &Lined<'_>)
+    requires { IsLined lined.now }
+    ensures { Puts (T.standing target.old) (T.standing target.new)
+        (codes "--- lustre\n" ++ (lustre_text lined.now ++ (codes "--- c\n" ++ c_text lined.now))) }
 {
     target.put(b"--- lustre\n");
-    dcv_lustre::put(node, target);
+    lined.put_lustre(target);
     target.put(b"--- c\n");
-    dcv_c::put(unit, target);
+    lined.put_c(target);
 }
 
 /// A report on the words that an automaton accepts, before it is written.
@@ -199,9 +192,9 @@ impl<'a> Report<'a> {
         match &self.content {
             Content::Verdict => self.verdict.put(target),
             Content::Automaton(listed) => listed.put(target),
-            Content::Lustre(node) => dcv_lustre::put(node, target),
-            Content::C(unit) => dcv_c::put(unit, target),
-            Content::All(sections) => sections.put(&self.verdict, target),
+            Content::Lustre(lined) => lined.put_lustre(target),
+            Content::C(lined) => lined.put_c(target),
+            Content::All(listed) => listed.put_sections(&self.verdict, target),
         }
     }
 }
@@ -223,8 +216,8 @@ fn content_of<'a>(
     match kind {
         Kind::Check => Ok(Content::Verdict),
         Kind::Automaton => Ok(Content::Automaton(Listed::new(alloc, auto, names)?)),
-        Kind::Lustre => Ok(Content::Lustre(dcv_lustre::of_auto(alloc, auto, names)?)),
-        Kind::C => Ok(Content::C(dcv_c::of_auto(alloc, auto, names)?)),
-        Kind::All => Ok(Content::All(Sections::new(alloc, auto, names)?)),
+        Kind::Lustre => Ok(Content::Lustre(Lined::new(alloc, auto, names)?)),
+        Kind::C => Ok(Content::C(Lined::new(alloc, auto, names)?)),
+        Kind::All => Ok(Content::All(Listed::new(alloc, auto, names)?)),
     }
 }

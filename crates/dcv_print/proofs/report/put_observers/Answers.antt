@@ -2,4 +2,4 @@ use Rattle.dcv_io.proofs.Putting.{puts_both}
 use Rattle.dcv_print.proofs.report.put_observers.Goals as goal
 
 pub returns : goal.returns
-returns g c = puts_both _ _ _ _ _ c.put.ensures (puts_both _ _ _ _ _ c.put-2.ensures (puts_both _ _ _ _ _ c.put-3.ensures c.put-4.ensures))
+returns g c = puts_both _ _ _ _ _ c.put.ensures (puts_both _ _ _ _ _ c.put_lustre.ensures (puts_both _ _ _ _ _ c.put-2.ensures c.put_c.ensures))

@@ -6,5 +6,5 @@ use Rattle.dcv_print.proofs.report.Report.put.Goals as goal
 
 pub returns-in-All : goal.returns-in-All
 returns-in-All g c =
-    puts_same _ _ _ _ c.put-in-All.ensures
+    puts_same _ _ _ _ c.put_sections.ensures
     (ap (λ (content : Content). text_of c.self.inside.verdict content) (sym c.in-All.is) ∙ ap (λ (report : ReportValue). report.text) c.self.view_is)
