@@ -20,7 +20,7 @@ use Rattle.dcv_certificate.specs.Proof.{IsSpelled, suffix_words}
 use Rattle.dcv_automaton_text.specs.Form.{is_visible, IsNameWord, IsTarget, IsNodeLine, IsStateLine, IsAccess, IsAccessLine, IsSuffix, IsSuffixLine}
 use Rattle.dcv_automaton_text.specs.Rules.{IsPlainName, AreNames}
 use Rattle.dcv_automaton_text.proofs.Kept.{both_true, both}
-use Rattle.dcv_print.specs.Printed.{target_of, node_line, state_line, access_line, suffix_line, printed_file, file_of}
+use Rattle.dcv_print.specs.Printed.{target_of, node_line, state_line, access_line, suffix_line, file_of}
 use Rattle.dcv_automaton_read.specs.File.{access_from, suffix_from}
 use Rattle.dcv_print.specs.Laws.{PrintedIsSpellable}
 use Rattle.dcv_print.proofs.PrintedProofs.{length-suffix_words, count_of_words, count_of_access}

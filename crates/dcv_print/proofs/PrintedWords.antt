@@ -10,7 +10,7 @@ use Rattle.dcv_language.specs.declared.certificate.Suffix.TheVariants.{Empty, Th
 use Rattle.dcv_certificate.specs.Proof.{suffix_word, suffix_words, IsSpelled, AreSpelled}
 use Rattle.dcv_automaton_text.specs.File.{Access, AccessLine, SuffixLine}
 use Rattle.dcv_automaton_text.specs.Meaning.{access_word_of, access_words_from, access_words_of, suffix_word_of, suffix_words_of}
-use Rattle.dcv_print.specs.Printed.{access_line, suffix_line, printed_file, file_of}
+use Rattle.dcv_print.specs.Printed.{access_line, suffix_line, file_of}
 use Rattle.dcv_automaton_read.specs.File.{access_from, suffix_from}
 use Rattle.dcv_print.specs.Laws.{PrintedAccess, PrintedSuffixes}
 

@@ -11,9 +11,9 @@ use Rattle.dcv_automaton_read.specs.Laws.{IsReadAs}
 use Rattle.dcv_automaton_text.specs.Form.{IsSpellable}
 use Rattle.dcv_automaton_text.specs.Spelled.{spelled}
 use Rattle.dcv_automaton_text.specs.Meaning.{table_of, access_words_of, suffix_words_of}
-use Rattle.dcv_automaton_text.specs.Rules.{AreNames, most_states, most_nodes, IsGood}
-use Rattle.dcv_dfa.specs.Auto.{IsAuto, count_of_nodes, table_of_states}
-use Rattle.dcv_dfa.specs.Raw.{RawValue, IsRaw, raw_accepts}
+use Rattle.dcv_automaton_text.specs.Rules.{IsGood}
+use Rattle.dcv_dfa.specs.Auto.{table_of_states}
+use Rattle.dcv_dfa.specs.Raw.{RawValue, raw_accepts}
 use Rattle.dcv_language.specs.declared.certificate.Access.{Access}
 use Rattle.dcv_language.specs.declared.certificate.Suffix.{Suffix}
 use Rattle.dcv_certificate.specs.Proof.{AreSpelled, suffix_words, IsProof}

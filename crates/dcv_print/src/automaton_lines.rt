@@ -101,13 +101,7 @@ impl<'a> Listed<'a> {
         ensures { Puts (T.standing target.old) (T.standing target.new) (spelled (listed_file self.now)) }
     {
         let lined = &self.lined;
-        put_automaton(
-            target,
-            lined.auto,
-            lined.names,
-            &lined.nodes,
-            &self.proof,
-        );
+        put_automaton(target, lined.auto, lined.names, &lined.nodes, &self.proof);
     }
 }
 

@@ -1,4 +1,4 @@
-use Rattle.std.proofs.Common.{append_assoc, ◌++◌, ◌∷◌, [], ap, ◌∙◌, codes, List, ℕ}
+use Rattle.std.proofs.Common.{append_assoc, ◌++◌, ap, ◌∙◌, codes, List, ℕ}
 use Rattle.std.specs.Fmt.{decimal}
 use Rattle.dcv_automaton_text.specs.Spelled.{target_word}
 use Rattle.dcv_print.specs.Printed.{target_of}

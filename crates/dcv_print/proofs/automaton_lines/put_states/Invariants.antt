@@ -1,7 +1,6 @@
-use Rattle.std.proofs.Common.{take, ◌∷◌}
-use Rattle.std.specs.Fmt.{decimal}
-use Rattle.dcv_automaton_text.specs.Spelled.{node_words, state_words}
-use Rattle.dcv_print.specs.Printed.{texts_of, node_line, state_line}
+use Rattle.std.proofs.Common.{take}
+use Rattle.dcv_automaton_text.specs.Spelled.{state_words}
+use Rattle.dcv_print.specs.Printed.{state_line}
 use Rattle.dcv_print.specs.Pushed.{spelled_lines}
 use Rattle.dcv_io.specs.Putting.{Puts}
 use Rattle.dcv_print.proofs.automaton_lines.put_states.Given as goal

@@ -1,4 +1,4 @@
-use Rattle.std.proofs.Common.{append_assoc, sym, codes, ◌∙◌}
+use Rattle.std.proofs.Common.{sym, codes}
 use Rattle.dcv_automaton_text.specs.Spelled.{name_words}
 use Rattle.dcv_print.specs.Printed.{texts_of}
 use Rattle.dcv_print.proofs.Spellings.{line_is_spaced}

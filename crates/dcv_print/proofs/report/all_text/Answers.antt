@@ -1,4 +1,3 @@
-use Rattle.std.proofs.Common.{sym, ap, ◌∙◌}
 use Rattle.std.proofs.lemmas.Result.{IfOk-weaker}
 use Rattle.dcv_io.proofs.Putting.{puts_both, puts_same, text_taken}
 use Rattle.dcv_automaton_text.specs.Spelled.{spelled}

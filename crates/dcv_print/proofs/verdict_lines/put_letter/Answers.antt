@@ -1,4 +1,4 @@
-use Rattle.std.proofs.Common.{false, map, take, ◌+◌, ◌∙◌, ◌++◌, ap, sym, arith, slice_index_or, ◌∷◌, []}
+use Rattle.std.proofs.Common.{false, map, take, ◌∙◌, ◌++◌, ap, sym, arith, slice_index_or, ◌∷◌, []}
 use Rattle.std.proofs.lemmas.List.{take_more, map-append}
 use Rattle.dcv_word.specs.TraceLine.{digit_of}
 use Rattle.dcv_io.proofs.Putting.{puts_further, puts_nothing}

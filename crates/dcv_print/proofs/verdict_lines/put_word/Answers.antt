@@ -1,4 +1,4 @@
-use Rattle.std.proofs.Common.{◌≡◌, ◌∙◌, ◌++◌, length, codes, List, Bool, Option, ap, sym}
+use Rattle.std.proofs.Common.{◌∙◌, ◌++◌, length, codes, List, Bool, Option, ap, sym}
 use Rattle.std.specs.Fmt.{decimal}
 use Rattle.dcv_word.specs.TraceLine.{trace_text}
 use Rattle.dcv_word.specs.Word.{WordValue}

@@ -1,5 +1,3 @@
-use Rattle.std.proofs.Common.{◌++◌, append_assoc}
-use Rattle.std.specs.Prelude.{codes}
 use Rattle.dcv_io.proofs.Putting.{puts_both, puts_same}
 use Rattle.dcv_language.specs.VerdictText.{verdict_text}
 use Rattle.dcv_automaton_text.specs.Spelled.{spelled}

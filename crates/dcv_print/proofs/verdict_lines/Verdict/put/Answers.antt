@@ -1,4 +1,4 @@
-use Rattle.std.proofs.Common.{◌≡◌, ◌∙◌, ◌++◌, append-nil, codes}
+use Rattle.std.proofs.Common.{◌∙◌, ◌++◌, append-nil, codes}
 use Rattle.dcv_language.specs.VerdictText.{shown}
 use Rattle.dcv_print.specs.Verdict.{letters_of}
 use Rattle.dcv_io.proofs.Putting.{puts_same, puts_both}
