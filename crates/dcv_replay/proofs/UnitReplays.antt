@@ -82,7 +82,7 @@ module _ (count slots : ℕ) (room : first_name + count < slots) where
       ]
   returned_within answer answer_in (Read place) placed =
       All-from_recursion (IsWithin slots) (returned_selects answer (Read place))
-      (record { target = answer_in; tested = omega (arith, placed, room); when_equal = omega (arith, room); otherwise = omega (arith, room) }, tt)
+      (choosing_within answer (Holds place) 1 0 answer_in placed (omega (arith, room)) (omega (arith, room)), tt)
   returned_within answer answer_in (Tested tests) placed =
       All-from_recursion (IsWithin slots) (tests_selects answer tests.items)
       (copy_within answer 0 answer_in (omega (arith, room)), tests_within answer answer_in tests.items (recursion_from_All (λ (test : Test). test.name < count) tests.items placed))

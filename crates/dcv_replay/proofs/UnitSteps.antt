@@ -116,11 +116,9 @@ module _ (names : List Name) (apart : IsApart names) where
       ∙ both_are (number == 0) (mirrors.literals 0 (omega arith)) (mirrors.literals 1 (omega arith))
       ∙ turned (number == 0) 1 0)
   returned_is {now} {store} mirrors (Read place) placed =
-      selected store (slot_of (length names)) (slot_of place) 0 0 1
-      ∙ ap (λ (n : ℕ). set store (slot_of (length names)) (cond (n == 0) (get_or store 0 0) (get_or store 1 0))) (mirrors.numbers place placed refl)
+      choice_is mirrors (Holds place) placed (slot_of (length names)) 1 0
       ∙ ap (λ (n : ℕ). set store (slot_of (length names)) n)
-      (both_are (now (get_or names place []) == 0) (mirrors.literals 0 (omega arith)) (mirrors.literals 1 (omega arith))
-      ∙ turned (now (get_or names place []) == 0) 1 0)
+      (both_are (not (nat_eq (now (get_or names place [])) 0)) (mirrors.literals 1 (omega arith)) (mirrors.literals 0 (omega arith)))
   returned_is {now} {store} mirrors (Tested tests) placed =
       any_test (λ (test : Test). test.number) (λ (test : Test). passes now (seen_test names test)) store (slot_of (length names))
       (free_slot mirrors (slot_of (length names)) (omega arith) (omega (arith, mirrors.long))) tests.items

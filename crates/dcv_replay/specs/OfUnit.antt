@@ -45,7 +45,7 @@ tests_selects answer tests = copy answer 0 ∷ map (λ (test : Test). test_selec
 
 abbrev pub returned_selects : ℕ → Returned → List Select
 returned_selects answer (Fixed number) = copy answer (if number == 0 then 0 else 1) ∷ []
-returned_selects answer (Read place) = select answer (slot_of place) 0 0 1 ∷ []
+returned_selects answer (Read place) = choosing answer (Holds place) 1 0 ∷ []
 returned_selects answer (Tested tests) = tests_selects answer tests.items
 
 abbrev pub after_assignment : List ℕ → Assignment → List ℕ

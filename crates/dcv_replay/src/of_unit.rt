@@ -1,8 +1,8 @@
 //! The replay of a unit of C.
-ghost use Rattle.std.specs.Prelude.{◌≡◌, ◌≤◌, ◌<◌, [], ◌++◌, length, map, IfOk};
+ghost use Rattle.std.specs.Prelude.{◌≡◌, ◌≤◌, [], ◌++◌, length, map, IfOk};
 ghost use Rattle.std.specs.List.{All};
 ghost use Rattle.dcv_replay.specs.Observer.{C, Follows};
-ghost use Rattle.dcv_replay.specs.Selecting.{select, slot_of, most_names};
+ghost use Rattle.dcv_replay.specs.Selecting.{slot_of, most_names};
 ghost use Rattle.dcv_replay.specs.OfUnit.{item_slot, choosing, right_select, statement_select, tests_selects, returned_selects, IsResetStore, IsStoreOf, AreSelectsOf};
 ghost use Rattle.dcv_c.specs.Seen.{names_of};
 ghost use Rattle.dcv_replay.specs.OfUnit.{IsPlacedItem, IsPlacedCondition, IsPlacedRight, IsPlacedStatement, ArePlacedTests, IsPlacedReturned};
@@ -175,24 +175,10 @@ fn push_returned(
             Ok(())
         }
         Returned::Read(place) => {
-            selects.push(other_than_zero(answer, *place))?;
+            selects.push(choosing(answer, Condition::Holds(*place), 1, 0))?;
             Ok(())
         }
         Returned::Tested(tests) => push_tests(selects, answer, tests),
-    }
-}
-
-// Whether the name at a place has a number other than 0.
-fn other_than_zero(answer: u32, place: u32) -> Select
-    requires { place < most_names }
-    ensures { result ≡ select answer (slot_of place) 0 0 1 }
-{
-    Select {
-        target: answer,
-        tested: slot_of(place),
-        number: 0,
-        when_equal: 0,
-        otherwise: 1,
     }
 }
 
