@@ -4,6 +4,10 @@ use Rattle.dcv_language.specs.Language.{Language}
 use Rattle.dcv_language.specs.Automaton.{Automaton, accepts}
 use Rattle.dcv_synth.specs.Game.{Controller, Environment, Wins, Beats}
 use Rattle.dcv_synth.specs.Winning.{is_held, IsSafe, IsWin, is_beaten, IsRank}
+use Rattle.dcv_synth.specs.Realisable.{IsRealisable}
+use Rattle.dcv_synth.specs.Control.{ControlValue, IsControlOf, controller_by}
+use Rattle.dcv_synth.specs.Outcome.{IsUnrealisable}
+use Rattle.dcv_synth.specs.declared.strategy.Strategy.{Strategy}
 use Rattle.dcv_synth.specs.Play.{Step, controller_of, AnswersSo, environment_of, MovesSo}
 
 -- ---- one of the two at most
@@ -46,3 +50,13 @@ abbrev pub LeastMovesBeat : Type 0
 LeastMovesBeat = (n m : ℕ) (automaton : Automaton ℕ) (moves : ℕ → List Bool) (rank : ℕ)
     → MovesSo n m automaton moves → IsRank n m automaton automaton.start rank
     → Beats n m (accepts automaton) (environment_of automaton moves) rank
+
+-- the controller that the diagrams of least outputs describe
+abbrev pub ControlsWin : Type 0
+ControlsWin = (n m : ℕ) (automaton : Automaton ℕ) (control : ControlValue) → automaton.start ≡ 0 → IsControlOf n m automaton control
+    → Wins n m (accepts automaton) (controller_by m control)
+
+-- ---- one of the two answers
+
+abbrev pub NotBothAreRight : Type 0
+NotBothAreRight = (n m : ℕ) (automaton : Automaton ℕ) (strategy : Strategy) → IsRealisable n m automaton → ¬ IsUnrealisable n m automaton strategy
