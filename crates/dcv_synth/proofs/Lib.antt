@@ -9,6 +9,7 @@ mod LeastMoves
 mod LeastOutputs
 mod Listed
 mod Merges
+mod OneAnswer
 mod RankEnds
 mod Ranking
 mod RowRanks

@@ -95,16 +95,18 @@ module _ (part : Part) (m : ℕ) (old : ArenaValue) (win : List Bool) where
   merged_longer [] ref = refl
   merged_longer (x ∷ merged) ref = ap suc (merged_longer merged ref)
 
-  pub merged_more : (before new : ArenaValue) (merged : List Ref) (place : ℕ) (ref : Ref) → KeepsRefs before new → AreMerged part m old win before merged → length merged ≡ place
-      → IsMerged part m old win new (Place place) ref → AreMerged part m old win new (merged ++ ref ∷ [])
-  merged_more before new merged place ref kept are count here other within = by (ltb other (length merged)) refl
+  pub merged_more : (before new : ArenaValue) (merged more : List Ref) (place : ℕ) (ref : Ref) → KeepsRefs before new → AreMerged part m old win before merged
+      → length merged ≡ place → more ≡ merged ++ ref ∷ [] → IsMerged part m old win new (Place place) ref → AreMerged part m old win new more
+  merged_more before new merged more place ref kept are count grown here =
+      subst (AreMerged part m old win new) (sym grown) (λ other within. by other within (ltb other (length merged)) refl)
     where
-      by : (b : Bool) → ltb other (length merged) ≡ b → IsMerged part m old win new (Place other) (get_or (merged ++ ref ∷ []) other (Leaf 0))
-      by true e =
+      by : (other : ℕ) → other < length (merged ++ ref ∷ []) → (b : Bool) → ltb other (length merged) ≡ b
+          → IsMerged part m old win new (Place other) (get_or (merged ++ ref ∷ []) other (Leaf 0))
+      by other within true e =
           let earlier = ltb-true other (length merged) e in
           subst (IsMerged part m old win new (Place other)) (sym (get_or_append_left merged (ref ∷ []) (Leaf 0) other earlier))
           (merged_kept before new (Place other) (get_or merged other (Leaf 0)) kept (are other earlier))
-      by false e =
+      by other within false e =
           let same : length merged ≡ other = omega (arith, within, merged_longer merged ref, ltb-false other (length merged) e) in
           subst (λ one. IsMerged part m old win new (Place other) one) (sym (get_or_push merged ref (Leaf 0) other same))
           (subst (λ at. IsMerged part m old win new (Place at) ref) (sym count ∙ same) here)

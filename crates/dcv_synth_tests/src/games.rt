@@ -184,13 +184,15 @@ fn has_answers(
     place: u32,
     answers: &[(u32, u32)],
 ) -> Result<bool, Fail> {
-    for (number, (next, output)) in answers.iter().enumerate() {
-        let input = input_of(inputs, number as u32)?;
+    let mut number: u32 = 0;
+    for (next, output) in answers {
+        let input = input_of(inputs, number)?;
         let next_is = value_of(control.next(), place, &input)?;
         let output_is = value_of(control.output(), place, &input)?;
         if next_is != *next || output_is != *output {
             return Ok(false);
         }
+        number = number.saturating_add(1);
     }
     Ok(true)
 }
@@ -200,13 +202,15 @@ fn has_states(control: &Control, inputs: u8, states: &[Answers]) -> Result<bool,
     if control.states().len() != states.len() {
         return Ok(false);
     }
-    for (place, expected) in states.iter().enumerate() {
-        if control.states().get(place).copied() != Some(expected.state) {
+    let mut place: u32 = 0;
+    for expected in states {
+        if control.states().get(place as usize).copied() != Some(expected.state) {
             return Ok(false);
         }
-        if !has_answers(control, inputs, place as u32, expected.answers)? {
+        if !has_answers(control, inputs, place, expected.answers)? {
             return Ok(false);
         }
+        place = place.saturating_add(1);
     }
     Ok(true)
 }

@@ -26,6 +26,5 @@ loop-place-preserved c =
       kept.slots ∙ is.0,
       kept.limit ∙ is.1,
       omega (arith, is.2, ap length items, merged_longer c.args.part m old win c.loop-place.merged.items ref),
-      subst (AreMerged c.args.part m old win new) (sym items)
-          (merged_more c.args.part m old win c.loop-place.arena new c.loop-place.merged.items c.loop-place.place ref kept is.3 is.2 here),
+      merged_more c.args.part m old win c.loop-place.arena new c.loop-place.merged.items c.push.new.self.items c.loop-place.place ref kept is.3 is.2 items here,
     )
