@@ -2,12 +2,10 @@ use Rattle.std.proofs.Common.{◌≡◌, suc, ◌+◌, ◌-◌, ◌<◌, ◌≤�
 use Rattle.dcv_arena.specs.Arena.{IsBefore, level_of}
 use Rattle.dcv_arena.specs.declared.nodes.Ref.{Ref}
 use Rattle.dcv_arena.specs.declared.nodes.Ref.TheVariants.{Leaf, Place}
-use Rattle.dcv_dfa.specs.NodeLines.{lo_of, hi_of}
-use Rattle.dcv_dfa.proofs.Splits.{split_is}
-use Rattle.dcv_dfa.proofs.Visits.{has_children}
 use Rattle.dcv_synth.specs.Answered.{answer_at}
-use Rattle.dcv_synth.specs.Merged.{part_of, IsMerged}
+use Rattle.dcv_synth.specs.Merged.{part_of, IsMerged, merged_at}
 use Rattle.dcv_synth.proofs.Answering.{ref_answer}
+use Rattle.dcv_synth.proofs.Forced.{children_before}
 use Rattle.dcv_synth.proofs.Merges.{leaf_merged, ref_merged, node_merged}
 use Rattle.dcv_synth.proofs.merging.merged_node.Goals as goal
 use Rattle.dcv_synth.proofs.merging.merged_node.Goals.{After-merged_ref-hi}
@@ -26,37 +24,33 @@ returns-then-slot-slots-clause-merged c =
     (leaf_merged c.args.part m old win c.args.arena.now root (answer_at win answers root) slots deep
     (ref_answer old win answers root c.requires.answers.each (subst (λ count. c.args.place < count) (sym c.requires.answers.places) c.requires.place)))
 
-before : (c : After-merged_ref-hi) (ref child : Ref) → ref ≡ child → IsBefore c.args.place child → IsBefore (length c.args.merged.now) ref
-before c ref child e h = subst (λ count. IsBefore count ref) (sym c.requires.before) (subst (IsBefore c.args.place) (sym e) h)
-
-same : (c : After-merged_ref-hi) → (c.split-lo.result.0 ≡ lo_of c.args.answers.now.arena.now c.args.place) × (c.split-lo.result.1 ≡ hi_of c.args.answers.now.arena.now c.args.place)
-same c =
+before : (c : After-merged_ref-hi) → IsBefore (length c.args.merged.now) c.split-lo.result.0 × IsBefore (length c.args.merged.now) c.split-lo.result.1
+before c =
     let split = c.split-lo.ensures in
-    split_is c.args.answers.now.arena.now c.level-slot.ensures.arena.reduced c.args.place c.level-slot.result c.split-lo.result.0 c.split-lo.result.1 c.requires.place
+    children_before c.args.answers.now.arena.now c.args.place c.level-slot.result (length c.args.merged.now) c.split-lo.result.0 c.split-lo.result.1 c.level-slot.ensures.arena.reduced
+    c.requires.place c.requires.before
     (record { slot = c.level-slot.ensures.level; lo_is_ref = split.lo_is_ref; hi_is_ref = split.hi_is_ref; lo_value = split.lo_value; hi_value = split.hi_value })
 
-slots_are : (c : After-merged_ref-hi) → c.args.arena.now.slots + (c.args.answers.now.arena.now.slots - c.args.arena.now.slots) ≡ c.args.answers.now.arena.now.slots
-slots_are c = omega (arith, c.requires.inputs)
+-- what a child became
+child_is : (c : After-merged_ref-hi) (child merged : Ref) → merged ≡ merged_at c.args.part c.args.answers.now.win.now c.args.answers.now.answers.items c.args.merged.now child
+    → IsBefore (length c.args.merged.now) child
+    → IsMerged c.args.part (c.args.answers.now.arena.now.slots - c.args.arena.now.slots) c.args.answers.now.arena.now c.args.answers.now.win.now c.args.arena.now child merged
+child_is c child merged is earlier =
+    let old = c.args.answers.now.arena.now in
+    let m = old.slots - c.args.arena.now.slots in
+    let slots : c.args.arena.now.slots + m ≡ old.slots = omega (arith, c.requires.inputs) in
+    subst (IsMerged c.args.part m old c.args.answers.now.win.now c.args.arena.now child) (sym is)
+    (ref_merged c.args.part m old c.args.answers.now.win.now c.args.arena.now c.args.answers.now.answers.items c.args.merged.now child slots c.requires.merged earlier)
 
 lo_is : (c : After-merged_ref-hi)
     → IsMerged c.args.part (c.args.answers.now.arena.now.slots - c.args.arena.now.slots) c.args.answers.now.arena.now c.args.answers.now.win.now c.args.arena.now
     c.split-lo.result.0 c.merged_ref-lo.result
-lo_is c =
-    let old = c.args.answers.now.arena.now in
-    let children = has_children old c.level-slot.ensures.arena.reduced c.args.place c.requires.place in
-    subst (IsMerged c.args.part (old.slots - c.args.arena.now.slots) old c.args.answers.now.win.now c.args.arena.now c.split-lo.result.0) (sym c.merged_ref-lo.ensures)
-    (ref_merged c.args.part (old.slots - c.args.arena.now.slots) old c.args.answers.now.win.now c.args.arena.now c.args.answers.now.answers.items c.args.merged.now c.split-lo.result.0
-    (slots_are c) c.requires.merged (before c c.split-lo.result.0 _ (same c).0 children.lo_before))
+lo_is c = child_is c c.split-lo.result.0 c.merged_ref-lo.result c.merged_ref-lo.ensures (before c).0
 
 hi_is : (c : After-merged_ref-hi)
     → IsMerged c.args.part (c.args.answers.now.arena.now.slots - c.args.arena.now.slots) c.args.answers.now.arena.now c.args.answers.now.win.now c.args.arena.now
     c.split-lo.result.1 c.merged_ref-hi.result
-hi_is c =
-    let old = c.args.answers.now.arena.now in
-    let children = has_children old c.level-slot.ensures.arena.reduced c.args.place c.requires.place in
-    subst (IsMerged c.args.part (old.slots - c.args.arena.now.slots) old c.args.answers.now.win.now c.args.arena.now c.split-lo.result.1) (sym c.merged_ref-hi.ensures)
-    (ref_merged c.args.part (old.slots - c.args.arena.now.slots) old c.args.answers.now.win.now c.args.arena.now c.args.answers.now.answers.items c.args.merged.now c.split-lo.result.1
-    (slots_are c) c.requires.merged (before c c.split-lo.result.1 _ (same c).1 children.hi_before))
+hi_is c = child_is c c.split-lo.result.1 c.merged_ref-hi.result c.merged_ref-hi.ensures (before c).1
 
 inner : (c : After-merged_ref-hi) → c.level-slot.result < c.args.arena.now.slots
 inner c = omega (arith, c.if-slot-slots.false, c.slots.ensures.slots)

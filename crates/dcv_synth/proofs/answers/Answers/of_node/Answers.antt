@@ -1,37 +1,33 @@
-use Rattle.std.proofs.Common.{◌≡◌, length, sym, ap, subst, ◌∙◌, refl, ◌-◌, ◌^◌}
+use Rattle.std.proofs.Common.{◌≡◌, length, Option, sym, ap, subst, ◌∙◌, refl, ◌-◌, ◌^◌}
 use Rattle.dcv_arena.specs.Arena.{IsBefore}
 use Rattle.dcv_arena.specs.declared.nodes.Ref.{Ref}
 use Rattle.dcv_arena.specs.declared.nodes.Ref.TheVariants.{Place}
-use Rattle.dcv_dfa.specs.NodeLines.{lo_of, hi_of}
-use Rattle.dcv_dfa.proofs.Splits.{split_is}
-use Rattle.dcv_dfa.proofs.Visits.{has_children}
-use Rattle.dcv_synth.specs.Answered.{IsAnswer}
+use Rattle.dcv_synth.specs.Answered.{IsAnswer, answer_at}
+use Rattle.dcv_synth.specs.declared.answers.Answer.{Answer}
 use Rattle.dcv_synth.proofs.Answering.{node_answer, ref_answer, answer_fits}
+use Rattle.dcv_synth.proofs.Forced.{children_before}
 use Rattle.dcv_synth.proofs.answers.Answers.of_node.Goals as goal
 use Rattle.dcv_synth.proofs.answers.Answers.of_node.Goals.{After-of-2}
 
-before : (c : After-of-2) (ref child : Ref) → ref ≡ child → IsBefore c.args.place child → IsBefore (length c.args.self.now.answers.items) ref
-before c ref child e h = subst (λ count. IsBefore count ref) (sym c.requires.before) (subst (IsBefore c.args.place) (sym e) h)
-
-same : (c : After-of-2) → (c.split-lo.result.0 ≡ lo_of c.args.self.now.arena.now c.args.place) × (c.split-lo.result.1 ≡ hi_of c.args.self.now.arena.now c.args.place)
-same c =
+before : (c : After-of-2) → IsBefore (length c.args.self.now.answers.items) c.split-lo.result.0 × IsBefore (length c.args.self.now.answers.items) c.split-lo.result.1
+before c =
     let split = c.split-lo.ensures in
-    split_is c.args.self.now.arena.now c.level-slot.ensures.arena.reduced c.args.place c.level-slot.result c.split-lo.result.0 c.split-lo.result.1 c.requires.place
+    children_before c.args.self.now.arena.now c.args.place c.level-slot.result (length c.args.self.now.answers.items) c.split-lo.result.0 c.split-lo.result.1
+    c.level-slot.ensures.arena.reduced c.requires.place c.requires.before
     (record { slot = c.level-slot.ensures.level; lo_is_ref = split.lo_is_ref; hi_is_ref = split.hi_is_ref; lo_value = split.lo_value; hi_value = split.hi_value })
 
-lo_is : (c : After-of-2) → IsAnswer c.args.self.now.arena.now c.args.self.now.win.now c.split-lo.result.0 c.of.result
-lo_is c =
+-- a child's answer
+child_is : (c : After-of-2) (child : Ref) (answer : Option Answer) → answer ≡ answer_at c.args.self.now.win.now c.args.self.now.answers.items child
+    → IsBefore (length c.args.self.now.answers.items) child → IsAnswer c.args.self.now.arena.now c.args.self.now.win.now child answer
+child_is c child answer is earlier =
     let self = c.args.self.now in
-    let children = has_children self.arena.now c.level-slot.ensures.arena.reduced c.args.place c.requires.place in
-    subst (IsAnswer self.arena.now self.win.now c.split-lo.result.0) (sym c.of.ensures)
-    (ref_answer self.arena.now self.win.now self.answers.items c.split-lo.result.0 c.requires.answers (before c c.split-lo.result.0 _ (same c).0 children.lo_before))
+    subst (IsAnswer self.arena.now self.win.now child) (sym is) (ref_answer self.arena.now self.win.now self.answers.items child c.requires.answers earlier)
+
+lo_is : (c : After-of-2) → IsAnswer c.args.self.now.arena.now c.args.self.now.win.now c.split-lo.result.0 c.of.result
+lo_is c = child_is c c.split-lo.result.0 c.of.result c.of.ensures (before c).0
 
 hi_is : (c : After-of-2) → IsAnswer c.args.self.now.arena.now c.args.self.now.win.now c.split-lo.result.1 c.of-2.result
-hi_is c =
-    let self = c.args.self.now in
-    let children = has_children self.arena.now c.level-slot.ensures.arena.reduced c.args.place c.requires.place in
-    subst (IsAnswer self.arena.now self.win.now c.split-lo.result.1) (sym c.of-2.ensures)
-    (ref_answer self.arena.now self.win.now self.answers.items c.split-lo.result.1 c.requires.answers (before c c.split-lo.result.1 _ (same c).1 children.hi_before))
+hi_is c = child_is c c.split-lo.result.1 c.of-2.result c.of-2.ensures (before c).1
 
 weighs : (c : After-of-2) → c.weight_of-weight.result ≡ 2 ^ (c.args.self.now.arena.now.slots - 1 - c.level-slot.result)
 weighs c = c.weight_of-weight.ensures ∙ ap (λ slots. 2 ^ (slots - 1 - c.level-slot.result)) c.slots.ensures.slots
