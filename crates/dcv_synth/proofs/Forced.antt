@@ -3,9 +3,12 @@ use Rattle.std.proofs.Common.{◌≡◌, ℕ, zero, suc, ◌+◌, ◌-◌, ◌<�
 use Rattle.std.proofs.lemmas.Bool.{ltb-true, ltb-false, lt-ltb, le-ltb}
 use Rattle.std.proofs.lemmas.List.{get_or_append_left, get_or_push}
 use Rattle.dcv_language.specs.Operations.{some_track}
-use Rattle.dcv_arena.specs.Arena.{ArenaValue, IsBefore, level_of, value_of}
+use Rattle.dcv_arena.specs.Arena.{ArenaValue, IsBefore, IsReduced, level_of, value_of}
 use Rattle.dcv_arena.specs.declared.nodes.Ref.{Ref}
 use Rattle.dcv_arena.specs.declared.nodes.Ref.TheVariants.{Leaf, Place}
+use Rattle.dcv_dfa.specs.NodeLines.{lo_of, hi_of}
+use Rattle.dcv_dfa.proofs.Splits.{IsSplit, split_is}
+use Rattle.dcv_dfa.proofs.Visits.{has_children}
 use Rattle.dcv_synth.specs.Tracks.{each_track}
 use Rattle.dcv_synth.specs.Forced.{picked, is_forced, lost_at, forced_at, IsForced, AreForced}
 
@@ -95,6 +98,17 @@ module _ (n : ℕ) (arena : ArenaValue) (lost : List Bool) (place slot : ℕ) (l
   pub forced_node : IsForced n arena lost (Place place) (picked n slot a b)
   forced_node front count size level =
       forced_behind (slot - length front) front count size (omega (arith, level, node.slot_is))
+
+-- both stand before the node
+pub children_before : (arena : ArenaValue) (place slot count : ℕ) (lo hi : Ref) → IsReduced arena → place < length arena.nodes → count ≡ place
+    → IsSplit arena (Place place) slot lo hi → IsBefore count lo × IsBefore count hi
+children_before arena place slot count lo hi reduced within same split =
+    let children = has_children arena reduced place within in
+    let are = split_is arena reduced place slot lo hi within split in
+    (by lo (lo_of arena place) are.0 children.lo_before, by hi (hi_of arena place) are.1 children.hi_before)
+  where
+    by : (ref child : Ref) → ref ≡ child → IsBefore place child → IsBefore count ref
+    by ref child e before = subst (λ n. IsBefore n ref) (sym same) (subst (IsBefore place) (sym e) before)
 
 -- ---- lists
 

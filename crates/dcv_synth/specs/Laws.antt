@@ -1,9 +1,13 @@
 -- The laws that `src/laws.rt` proves.
-use Rattle.std.specs.Prelude.{◌≡◌, ℕ, suc, Bool, not, ◌&&◌, List, IsTrue, IsFalse}
+use Rattle.std.specs.Prelude.{◌≡◌, ℕ, suc, ◌<◌, Bool, not, ◌&&◌, List, length, IsTrue, IsFalse}
 use Rattle.dcv_language.specs.Language.{Language}
 use Rattle.dcv_language.specs.Automaton.{Automaton, accepts}
 use Rattle.dcv_synth.specs.Game.{Controller, Environment, Wins, Beats}
 use Rattle.dcv_synth.specs.Winning.{is_held, IsSafe, IsWin, is_beaten, IsRank}
+use Rattle.dcv_synth.specs.Realisable.{IsRealisable}
+use Rattle.dcv_synth.specs.Control.{RowsValue, ControlValue, IsControlOf, value_in, controller_by}
+use Rattle.dcv_synth.specs.Outcome.{IsUnrealisable}
+use Rattle.dcv_synth.specs.declared.strategy.Strategy.{Strategy}
 use Rattle.dcv_synth.specs.Play.{Step, controller_of, AnswersSo, environment_of, MovesSo}
 
 -- ---- one of the two at most
@@ -46,3 +50,31 @@ abbrev pub LeastMovesBeat : Type 0
 LeastMovesBeat = (n m : ℕ) (automaton : Automaton ℕ) (moves : ℕ → List Bool) (rank : ℕ)
     → MovesSo n m automaton moves → IsRank n m automaton automaton.start rank
     → Beats n m (accepts automaton) (environment_of automaton moves) rank
+
+-- the controller that the diagrams of least outputs describe
+abbrev pub ControlsWin : Type 0
+ControlsWin = (n m : ℕ) (automaton : Automaton ℕ) (control : ControlValue) → automaton.start ≡ 0 → IsControlOf n m automaton control
+    → Wins n m (accepts automaton) (controller_by m control)
+
+-- ---- one of the two answers
+
+abbrev pub NotBothAreRight : Type 0
+NotBothAreRight = (n m : ℕ) (automaton : Automaton ℕ) (strategy : Strategy) → IsRealisable n m automaton → ¬ IsUnrealisable n m automaton strategy
+
+-- which controller, and which strategy
+pub record AreTheSameRows (n : ℕ) (one other : RowsValue) : Type 0 where
+  pub count : length one.rows ≡ length other.rows
+  pub values : (place : ℕ) (input : List Bool) → place < length one.rows → length input ≡ n → value_in one place input ≡ value_in other place input
+
+pub record AreTheSameControl (n : ℕ) (one other : ControlValue) : Type 0 where
+  pub states : one.states ≡ other.states
+  pub next : AreTheSameRows n one.next other.next
+  pub output : AreTheSameRows n one.output other.output
+
+abbrev pub OneControlIsRight : Type 0
+OneControlIsRight = (n m : ℕ) (automaton : Automaton ℕ) (one other : ControlValue) → IsControlOf n m automaton one → IsControlOf n m automaton other
+    → AreTheSameControl n one other
+
+abbrev pub OneStrategyIsRight : Type 0
+OneStrategyIsRight = (n m : ℕ) (automaton : Automaton ℕ) (one other : Strategy) → IsUnrealisable n m automaton one → IsUnrealisable n m automaton other
+    → (one.bound ≡ other.bound) × (one.moves.items ≡ other.moves.items)

@@ -4,6 +4,8 @@ pub mod Tracks
 pub mod Winning
 pub mod Play
 pub mod Moves
+pub mod Realisable
+pub mod Control
 pub mod Outcome
 -- the statements that `src/laws.rt` proves
 pub mod Laws
@@ -11,3 +13,5 @@ pub mod Laws
 pub mod Forced
 pub mod Ranked
 pub mod Listing
+pub mod Answered
+pub mod Merged

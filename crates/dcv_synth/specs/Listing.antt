@@ -2,10 +2,12 @@
 --     AreMovesBelow n m automaton states moves    the moves of the states below the number
 --     IsMoveAt n m automaton state found          the state's move, or none where it has none
 --     with_move moves found                       the moves, and this one behind them
-use Rattle.std.specs.Prelude.{◌≡◌, ℕ, ◌<◌, List, [], ◌∷◌, ◌++◌, Option, Some, None, Contains}
+--     starts_or_wins start win state              whether the state is the start, or in the set
+use Rattle.std.specs.Prelude.{◌≡◌, ℕ, ◌<◌, ◌==◌, ◌||◌, Bool, List, [], ◌∷◌, ◌++◌, Option, Some, None, Contains}
 use Rattle.std.specs.List.{AllPairs}
 use Rattle.dcv_language.specs.Automaton.{Automaton}
 use Rattle.dcv_synth.specs.Moves.{IsMove}
+use Rattle.dcv_synth.specs.Answered.{won_at}
 use Rattle.dcv_synth.specs.declared.strategy.Move.{Move}
 
 pub record AreMovesBelow (n m : ℕ) (automaton : Automaton ℕ) (states : ℕ) (moves : List Move) : Type 0 where
@@ -20,3 +22,6 @@ IsMoveAt n m automaton state (Some move) = IsMove n m automaton move × (move.st
 abbrev pub with_move : List Move → Option Move → List Move
 with_move moves None = moves
 with_move moves (Some move) = moves ++ move ∷ []
+
+abbrev pub starts_or_wins : ℕ → List Bool → ℕ → Bool
+starts_or_wins start win state = (state == start) || won_at win state

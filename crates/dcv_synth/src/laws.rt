@@ -1,6 +1,7 @@
 //! Laws of the game between inputs and outputs. Each function here does nothing: its contract is the law.
 ghost use Rattle.dcv_synth.specs.Laws.{WinnersAreNotBeaten, HeldStatesAreNotBeaten, UnbeatenStatesAreWin, UnbeatenStatesAreHeld};
-ghost use Rattle.dcv_synth.specs.Laws.{LeastOutputsWin, LeastMovesBeat};
+ghost use Rattle.dcv_synth.specs.Laws.{LeastOutputsWin, LeastMovesBeat, ControlsWin, NotBothAreRight};
+ghost use Rattle.dcv_synth.specs.Laws.{OneControlIsRight, OneStrategyIsRight};
 
 /// No environment beats a controller that wins.
 pub fn winners_are_not_beaten()
@@ -18,6 +19,22 @@ pub fn some_player_wins()
 /// The controller of least outputs wins, where each first input can be answered.
 pub fn least_outputs_win()
     ensures { LeastOutputsWin }
+{}
+
+/// The diagrams of least outputs describe a controller that wins.
+pub fn controls_win()
+    ensures { ControlsWin }
+{}
+
+/// Where each first input can be answered by an output that leads into Win, the start has no rank.
+pub fn one_side_is_right()
+    ensures { NotBothAreRight }
+{}
+
+/// The controller of least outputs is determined, and so is the strategy of least moves.
+pub fn answers_are_one()
+    ensures control { OneControlIsRight }
+    ensures strategy { OneStrategyIsRight }
 {}
 
 /// The least moves of the states that have a rank beat every controller within the rank of the start.

@@ -2,11 +2,16 @@
 //! synthesis of A. Church's problem, for safety games as of R. McNaughton, 1993).
 #![tactic(auto)]
 
+mod answers;
+mod control;
+mod controlling;
 mod deciding;
 mod forcing;
 pub mod laws;
+mod merging;
 mod ranks;
 mod strategy;
 
-pub use deciding::winning_strategy;
+pub use control::{Control, Rows};
+pub use deciding::{Outcome, synth};
 pub use strategy::{Move, Strategy};

@@ -50,6 +50,13 @@ struct Standing {
     ranks: Vec<Option<Ranked>>,
 }
 
+// The entry of a state.
+pub(crate) fn rank_of(ranks: &[Option<Ranked>], state: u32) -> Option<Ranked>
+    ensures { result ≡ rank_at ranks.now state }
+{
+    ranks.get(state as usize).copied().unwrap_or(None)
+}
+
 impl Standing {
     // No state is beaten within no letter.
     fn at_first(alloc: Global, auto: &Auto, inputs: u8) -> Result<Standing, AllocError>

@@ -1,4 +1,4 @@
-//! From the text of a formula file to the environment's strategy.
+//! From the text of a formula file to its controller, or to the environment's strategy.
 ghost use Rattle.std.specs.Prelude.{IfOk};
 ghost use Rattle.dcv_build.specs.Given.{IsCore};
 
@@ -9,7 +9,7 @@ use dcv_explore::Limits;
 use dcv_reader::read_file;
 use dcv_scope::expand;
 use dcv_syntax::File;
-use dcv_synth::{Strategy, winning_strategy};
+use dcv_synth::{Outcome, synth};
 use std::alloc::Global;
 use std::test::Fail;
 
@@ -46,14 +46,17 @@ fn auto_of(alloc: Global, text: &str) -> Result<Auto, Fail> {
     Ok(build(alloc, &core, limits)?)
 }
 
-// The strategy against a text whose first variables are inputs, if there is one.
-pub(crate) fn strategy_of(alloc: Global, text: &str, inputs: u8) -> Result<Option<Strategy>, Fail> {
+// What is found for a text whose first variables are inputs.
+pub(crate) fn outcome_of(alloc: Global, text: &str, inputs: u8) -> Result<Outcome, Fail> {
     let auto = auto_of(alloc, text)?;
     if inputs > auto.slots() {
         return Err("there are fewer variables".into());
     }
+    if auto.slots() > inputs.saturating_add(8) {
+        return Err("there are more outputs".into());
+    }
     if auto.states() > 32_000 {
         return Err("there are more states".into());
     }
-    Ok(winning_strategy(alloc, &auto, inputs)?)
+    Ok(synth(alloc, &auto, inputs)?)
 }

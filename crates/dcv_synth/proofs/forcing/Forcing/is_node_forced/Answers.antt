@@ -1,11 +1,7 @@
-use Rattle.std.proofs.Common.{◌≡◌, length, sym, subst, ◌∙◌, refl}
-use Rattle.dcv_arena.specs.Arena.{IsBefore}
-use Rattle.dcv_arena.specs.declared.nodes.Ref.{Ref}
+use Rattle.std.proofs.Common.{length, sym, subst, ◌∙◌, refl}
 use Rattle.dcv_arena.specs.declared.nodes.Ref.TheVariants.{Place}
-use Rattle.dcv_dfa.proofs.Splits.{split_is}
-use Rattle.dcv_dfa.proofs.Visits.{has_children}
 use Rattle.dcv_synth.specs.Forced.{picked, forced_at, IsForced}
-use Rattle.dcv_synth.proofs.Forced.{forced_node, forced_ref}
+use Rattle.dcv_synth.proofs.Forced.{children_before, forced_node, forced_ref}
 use Rattle.dcv_synth.proofs.forcing.Forcing.is_node_forced.Goals as goal
 
 pub returns : goal.returns
@@ -17,14 +13,11 @@ returns c =
     let hi = c.split-lo.result.1 in
     let reduced = c.level-slot.ensures.arena.reduced in
     let inner = c.level-slot.ensures.node c.args.place refl in
-    let children = has_children arena reduced c.args.place c.requires.place in
-    let same = split_is arena reduced c.args.place c.level-slot.result lo hi c.requires.place
+    let before = children_before arena c.args.place c.level-slot.result (length self.forced.items) lo hi reduced c.requires.place c.requires.before
     (record { slot = c.level-slot.ensures.level; lo_is_ref = split.lo_is_ref; hi_is_ref = split.hi_is_ref; lo_value = split.lo_value; hi_value = split.hi_value }) in
-    let before : (ref child : Ref) → ref ≡ child → IsBefore c.args.place child → IsBefore (length self.forced.items) ref = λ ref child e h.
-    subst (λ count. IsBefore count ref) (sym c.requires.before) (subst (IsBefore c.args.place) (sym e) h) in
     subst (IsForced self.inputs arena self.lost.now (Place c.args.place))
     (sym (c.pick.ensures ∙ (λ i. picked self.inputs c.level-slot.result (c.is_forced.ensures i) (c.is_forced-2.ensures i))))
     (forced_node self.inputs arena self.lost.now c.args.place c.level-slot.result lo hi (forced_at self.lost.now self.forced.items lo) (forced_at self.lost.now self.forced.items hi)
     (record { slot_is = c.level-slot.ensures.level; inner = inner; lo_level = split.lo_level inner; hi_level = split.hi_level inner; value = split.value })
-    (forced_ref self.inputs arena self.lost.now self.forced.items lo c.requires.forced (before lo _ same.0 children.lo_before))
-    (forced_ref self.inputs arena self.lost.now self.forced.items hi c.requires.forced (before hi _ same.1 children.hi_before)))
+    (forced_ref self.inputs arena self.lost.now self.forced.items lo c.requires.forced before.0)
+    (forced_ref self.inputs arena self.lost.now self.forced.items hi c.requires.forced before.1))

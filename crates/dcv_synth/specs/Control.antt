@@ -1,0 +1,63 @@
+-- A controller as diagrams: for each of its states two functions of the inputs, the state that comes next and the outputs as a number.
+--     RowsValue, ControlValue             what contracts see of `Rows`, and of a `Control`
+--     IsRows rows, IsControl control      what is true of every one
+--     value_in rows place input           the number that the row at this place has at an input
+--     AreRowsOf n states f rows           a row over n inputs for each state, with the numbers of this function
+--     step_of m control                   from a state, by an input, to the state and to the output whose numbers the state's rows have
+--     controller_by m control             the controller that begins in state 0 and goes on by these steps
+--     IsControlOf n m automaton control   the start can be held, and at it and at each state of Win the rows have the least outputs that lead
+--                                         into Win, and the states to which these lead
+use Rattle.std.specs.Prelude.{◌≡◌, ◌↔◌, ℕ, ◌<◌, nat_eq, Bool, List, length, slice_get, slice_index_or, Some, Contains}
+use Rattle.std.specs.List.{All, AllPairs, position_or_len}
+use Rattle.dcv_word.specs.Letter.{letter_of, bits_of}
+use Rattle.dcv_language.specs.Automaton.{Automaton}
+use Rattle.dcv_arena.specs.Arena.{ArenaValue, IsArena, IsRef, value_of}
+use Rattle.dcv_arena.specs.declared.nodes.Ref.{Ref}
+use Rattle.dcv_arena.specs.declared.nodes.Ref.TheVariants.{Leaf}
+use Rattle.dcv_synth.specs.Game.{Controller}
+use Rattle.dcv_synth.specs.Play.{Step, controller_of, answer_of, IsStartOr}
+use Rattle.dcv_synth.specs.Realisable.{IsRealisable}
+
+pub record RowsValue : Type 0 where
+  pub arena : ArenaValue
+  pub rows : List Ref
+
+pub record ControlValue : Type 0 where
+  pub states : List ℕ
+  pub next : RowsValue
+  pub output : RowsValue
+
+pub record IsRows (rows : RowsValue) : Type 0 where
+  pub arena : IsArena rows.arena
+  pub refs : All (IsRef rows.arena) rows.rows
+
+pub record IsControl (control : ControlValue) : Type 0 where
+  pub next : length control.next.rows ≡ length control.states
+  pub output : length control.output.rows ≡ length control.states
+
+abbrev pub value_in : RowsValue → ℕ → List Bool → ℕ
+value_in rows place input = value_of rows.arena (slice_index_or rows.rows place (Leaf 0)) input
+
+pub record AreRowsOf (n : ℕ) (states : List ℕ) (f : ℕ → List Bool → ℕ) (rows : RowsValue) : Type 0 where
+  pub slots : rows.arena.slots ≡ n
+  pub count : length rows.rows ≡ length states
+  pub values : (place state : ℕ) (input : List Bool) → slice_get states place ≡ Some state → length input ≡ n → value_in rows place input ≡ f state input
+
+-- ---- the controller that they describe
+
+abbrev pub step_of : ℕ → ControlValue → Step
+step_of m control state input =
+    let place = position_or_len (nat_eq state) control.states in
+    (value_in control.next place input, letter_of m (value_in control.output place input))
+
+abbrev pub controller_by : ℕ → ControlValue → Controller
+controller_by m control = controller_of 0 (step_of m control)
+
+-- ---- the one of least outputs
+
+pub record IsControlOf (n m : ℕ) (automaton : Automaton ℕ) (control : ControlValue) : Type 0 where
+  pub realisable : IsRealisable n m automaton
+  pub states : (state : ℕ) → Contains control.states state ↔ IsStartOr automaton realisable.win state
+  pub in_order : AllPairs (λ (one other : ℕ). one < other) control.states
+  pub next : AreRowsOf n control.states (λ state input. (answer_of m automaton realisable.win state input).0) control.next
+  pub output : AreRowsOf n control.states (λ state input. bits_of (answer_of m automaton realisable.win state input).1) control.output
