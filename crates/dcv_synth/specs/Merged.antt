@@ -1,11 +1,12 @@
 -- A controller's diagrams over the inputs, while they are made of the automaton's rows.
---     part_of part answer                the answer's next state, or its output, and 0 where there is no answer
---     told part m win go                 the state to which the least output leads, or its number, where outputs lead so
---     IsMerged part m old win new root ref   the ref of the new arena has these, wherever some output leads into the set
---     AreMerged part m old win new merged    the list has such a ref for each place that it has
---     merged_at part win answers merged root   the leaf's part, or what the list has of the place
---     merged_row part raw win answers merged state   what the row of a state became
---     AreAllMerged part raw win states rows    the rows of these states are such refs
+--     part_of part answer                             the answer's next state, or its output, and 0 where there is no answer
+--     behind old root input                           the state to which a ref leads behind these inputs, for each rest of the letter
+--     told part m win go                              the state to which the least output leads, or its number, where outputs lead so
+--     IsMerged part m old win new root ref            the ref of the new arena has these, wherever some output leads into the set
+--     AreMerged part m old win new merged             the list has such a ref for each place that it has
+--     merged_at part win answers merged root          the leaf's part, or what the list has of the place
+--     merged_row part raw win answers merged state    what the row of a state became
+--     AreAllMerged part raw win states rows           the rows of these states are such refs
 use Rattle.std.specs.Prelude.{◌≡◌, ℕ, ◌<◌, ◌≤◌, Bool, List, ◌++◌, length, ◌-◌, slice_get, slice_index_or, Option, Some, None, IsTrue}
 use Rattle.dcv_word.specs.Letter.{bits_of}
 use Rattle.dcv_language.specs.Operations.{some_track}
@@ -25,7 +26,6 @@ part_of part None = 0
 part_of Next (Some answer) = answer.next
 part_of Output (Some answer) = answer.output
 
--- the state behind these values
 abbrev pub behind : ArenaValue → Ref → List Bool → List Bool → ℕ
 behind old root input rest = value_of old root (input ++ rest)
 
