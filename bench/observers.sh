@@ -6,14 +6,16 @@
 #   bench/observers.sh            files that this script writes: few and many states, and many nodes
 #   bench/observers.sh FILE ..    these
 #
-# The last figures: 28 November 2026, an Intel Xeon at 2.5 GHz with little else to do. Goals for `all`: at most twice the time of `automaton`, which it
-# keeps, and at most a tenth more memory, which it does not: both observers are held as trees while they are written.
+# The last figures: 29 November 2026, an Intel Xeon at 2.5 GHz. The machine had much else to do, so the times are the least processor times of 20 runs; what
+# gcc takes is of the day before, with little else to do. Goals for `all`, both kept: at most twice the time of `automaton`, and at most a tenth more memory.
 #
 #   file                  automaton        c   lustre      all         MB   of all       C kB    gcc s
-#   10002_states               21.0     15.1     14.0     28.8        4.3      4.2      426.9      1.0
-#   23000_states              100.7     63.6     70.8    150.3       10.1     22.3     3131.8      9.2
-#   arbiter_6_4               172.9    119.5    133.5    263.2       15.2     38.7     4922.3     15.5
-#   two_states                  3.3      4.2      4.4      4.2        1.8      1.8        0.2      0.0
+#   10002_states               18.8      9.5      8.3     22.6        4.3      4.3      426.9      1.0
+#   23000_states              108.7     56.6     59.2    132.4       10.0      9.9     3131.8      9.2
+#   arbiter_6_4               188.8    112.9    100.0    200.3       16.1     16.2     4922.3     15.5
+#   two_states                  0.7      0.6      0.6      0.7        1.9      1.8        0.2      0.0
+#
+# Before, both observers were held as trees while they were written, and `all` of 23000_states and of arbiter_6_4 took 153 and 288 ms, in 23.1 and 39.5 MB.
 set -euo pipefail
 here=$(cd "$(dirname "$(readlink -f "${BASH_SOURCE[0]}")")" && pwd)
 program=${PROGRAM:-$here/../crates/dcvalid/out/dcvalid}
