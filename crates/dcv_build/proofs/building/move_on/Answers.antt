@@ -1,0 +1,19 @@
+use Rattle.std.proofs.Common.{◌≡◌, length, take, sym, ap, subst, ◌∙◌, arith}
+use Rattle.dcv_build.specs.Asked.{KnownValue, tables_at, AreThere}
+use Rattle.dcv_build.proofs.Moves.{moved_there, moved_tables, all_taken}
+use Rattle.dcv_build.proofs.building.move_on.Goals as goal
+
+pub loop-number-preserved : goal.loop-number-preserved
+loop-number-preserved c = ?
+
+pub returns-clause-limits : goal.returns-clause-limits
+returns-clause-limits c = ap (λ (known : KnownValue). known.limits) c.begin.ensures ∙ c.loop-number.invariant.limits
+
+pub returns-clause-there : goal.returns-clause-there
+returns-clause-there c = subst (λ (known : KnownValue). AreThere known.tables c.loop-number.numbers.items) (sym c.begin.ensures) c.loop-number.invariant.there
+
+pub returns-clause-waiting : goal.returns-clause-waiting
+returns-clause-waiting c =
+    ap (λ (known : KnownValue). tables_at known.tables c.loop-number.numbers.items) c.begin.ensures
+    ∙ c.loop-number.invariant.same
+    ∙ ap (tables_at c.args.known.now.tables) (all_taken c.args.waiting.now c.loop-number.number-index (omega arith))
