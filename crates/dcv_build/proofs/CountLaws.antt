@@ -1,61 +1,58 @@
--- A machine has one count of states and one of nodes, so a core has one list of counts.
+-- A row has one count of states and one of nodes, so a core has one list of counts.
 use Rattle.std.proofs.Common.{◌≡◌, inl, inr, ℕ, ◌+◌, ◌<◌, ◌≤◌, List, length, get_or, Some, slice_get, sym, ◌∙◌, arith}
 use Rattle.std.proofs.lemmas.Bool.{cases_lt}
 use Rattle.std.proofs.lemmas.List.{ext_get_or}
 use Rattle.std.proofs.lemmas.Option.{slice_get-get_or}
 use Rattle.dcv_count.specs.declared.Count.{Count}
-use Rattle.dcv_language.specs.Automaton.{WorkingMachine}
 use Rattle.dcv_language.specs.Laws.{OneCanonicalTable}
 use Rattle.dcv_language.specs.Table.{Table}
 use Rattle.dcv_core.specs.Core.{CoreTree}
 use Rattle.dcv_core.specs.Laws.{StepsAreOperations}
 use Rattle.dcv_core.specs.Steps.{PlainStep, steps_of}
 use Rattle.dcv_explore.specs.declared.explorer.Limits.{Limits}
-use Rattle.dcv_explore.specs.Budget.{Row}
-use Rattle.dcv_explore.specs.Reached.{IsNumbering, HasCounts}
-use Rattle.dcv_explore.proofs.Exact.{no_more_states, no_more_nodes}
+use Rattle.dcv_explore.specs.Budget.{Row, IsWithin, TooManyStates, TooManyNodes}
+use Rattle.dcv_explore.proofs.Budgets.{within_excludes_exceeding}
 use Rattle.dcv_build.specs.Budget.{row_at}
 use Rattle.dcv_build.specs.Counts.{HasAllCounts, IsCount, AreCounts}
 use Rattle.dcv_build.specs.Laws.{OneListOfCounts}
 use Rattle.dcv_build.proofs.OverLaws.{some_at, done_alike}
 use Rattle.dcv_build.proofs.SameRows.{row_over}
 
--- ---- of a machine
+-- ---- of a row
 
-module _ {S : Type 0} (machine : WorkingMachine S) where
-  no_fewer_states : (states nodes other_states other_nodes : ℕ) → HasCounts machine states nodes → HasCounts machine other_states other_nodes → other_states ≤ states
-  no_fewer_states states nodes other_states other_nodes counts others =
-      elim (cases_lt states other_states) [
-        | inl fewer ↦ absurd (no_more_states machine states nodes counts states (omega arith)
-            (record { list = others.list; are_reached = others.all.are_reached; more = omega (arith, fewer, others.states_are) }))
-        | inr few ↦ few
-      ]
+module _ (row : Row) (states nodes other_states other_nodes : ℕ) (is : HasAllCounts row.machine row.parts states nodes) (its : HasAllCounts row.machine row.parts other_states other_nodes) where
+  -- the counts themselves are limits that the row is within
+  abbrev own : Limits
+  own = record { states = states; nodes = nodes }
 
-  no_fewer_nodes : (number : S → ℕ) → IsNumbering machine number → (states nodes other_states other_nodes : ℕ)
-      → HasCounts machine states nodes → HasCounts machine other_states other_nodes → other_nodes ≤ nodes
-  no_fewer_nodes number numbering states nodes other_states other_nodes counts others =
-      elim (cases_lt nodes other_nodes) [
-        | inl fewer ↦ absurd (no_more_nodes machine states nodes counts number numbering nodes (omega arith)
-            (record { list = others.list; are_reached = others.all.are_reached; more = λ n is. omega (arith, fewer, others.nodes_are n is) }))
-        | inr few ↦ few
-      ]
+  within : IsWithin row own
+  within = record { states = states; nodes = is.of_rows; counts = is.counts; states_within = omega arith; nodes_within = omega (arith, is.nodes_are) }
 
-  one_count : (number : S → ℕ) → IsNumbering machine number → (parts states nodes other_states other_nodes : ℕ)
-      → HasAllCounts machine parts states nodes → HasAllCounts machine parts other_states other_nodes → (states ≡ other_states) × (nodes ≡ other_nodes)
-  one_count number numbering parts states nodes other_states other_nodes is its =
-      let fewer = no_fewer_nodes number numbering states is.of_rows other_states its.of_rows is.counts its.counts in
-      let fewest = no_fewer_nodes number numbering other_states its.of_rows states is.of_rows its.counts is.counts in
-      (
-        omega (arith, no_fewer_states states is.of_rows other_states its.of_rows is.counts its.counts, no_fewer_states other_states its.of_rows states is.of_rows its.counts is.counts),
-        omega (arith, is.nodes_are, its.nodes_are, fewer, fewest),
-      )
+  no_more_states : other_states ≤ states
+  no_more_states = elim (cases_lt states other_states) [
+    | inl fewer ↦ absurd (within_excludes_exceeding row own TooManyStates within
+        (record { list = its.counts.list; are_reached = its.counts.all.are_reached; more = omega (arith, fewer, its.counts.states_are) }))
+    | inr few ↦ few
+  ]
+
+  no_more_nodes : other_nodes ≤ nodes
+  no_more_nodes = elim (cases_lt nodes other_nodes) [
+    | inl fewer ↦ absurd (within_excludes_exceeding row own TooManyNodes within (record {
+        list = its.counts.list;
+        are_reached = its.counts.all.are_reached;
+        more = λ number numbering. omega (arith, fewer, its.nodes_are, its.counts.nodes_are number numbering);
+      }))
+    | inr few ↦ few
+  ]
+
+one_count : (row : Row) (states nodes other_states other_nodes : ℕ) → HasAllCounts row.machine row.parts states nodes → HasAllCounts row.machine row.parts other_states other_nodes
+    → (states ≡ other_states) × (nodes ≡ other_nodes)
+one_count row states nodes other_states other_nodes is its = (
+  omega (arith, no_more_states row states nodes other_states other_nodes is its, no_more_states row other_states other_nodes states nodes its is),
+  omega (arith, no_more_nodes row states nodes other_states other_nodes is its, no_more_nodes row other_states other_nodes states nodes its is),
+)
 
 -- ---- of a core
-
-row_counts : (row : Row) (one other : Count) → HasAllCounts row.machine row.parts one.states one.nodes → HasAllCounts row.machine row.parts other.states other.nodes
-    → (one.states ≡ other.states) × (one.nodes ≡ other.nodes)
-row_counts row one other is its =
-    one_count row.machine row.number (λ first second here there same. row.apart first second same) row.parts one.states one.nodes other.states other.nodes is its
 
 module _ (one_canonical : OneCanonicalTable) (operations : StepsAreOperations) (k : ℕ) (core : CoreTree) (limits : Limits) (counts others : List Count)
     (are : AreCounts (steps_of k core) limits counts) (its : AreCounts (steps_of k core) limits others) where
@@ -69,7 +66,7 @@ module _ (one_canonical : OneCanonicalTable) (operations : StepsAreOperations) (
       (omega (arith, before, within, are.all, are.one_each)) (omega (arith, before, within, are.one_each, its.all)) in
       let moved = row_over (steps_of k core) number step are.tables its.tables tables (λ row. HasAllCounts row.machine row.parts one.states one.nodes) step.op
       (operations k core number step there) here.counts in
-      let same = row_counts (row_at step its.tables) one other moved elsewhere.counts in
+      let same = one_count (row_at step its.tables) one.states one.nodes other.states other.nodes moved elsewhere.counts in
       λ i. record { at = (here.place ∙ sym elsewhere.place) i; states = same.0 i; nodes = same.1 i }
 
   one_list : counts ≡ others

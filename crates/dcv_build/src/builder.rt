@@ -135,10 +135,9 @@ impl Builder {
         let mut building = Building::new(self.alloc, self.limits);
         let taken = building.take_steps(core);
         self.explored = building.explored();
-        match taken {
-            Ok(()) => Ok(building.finish()?),
-            Err(fault) => Err(fault),
-        }
+        taken?;
+        let built = building.finish()?;
+        Ok(built)
     }
 
     /// How many steps of the last build were explored, of which it was not known what their exploration gives.

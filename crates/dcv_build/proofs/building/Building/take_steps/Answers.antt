@@ -1,4 +1,4 @@
-use Rattle.std.proofs.Common.{◌≡◌, ◌×◌, length, Err, ap, subst, ◌∙◌, arith}
+use Rattle.std.proofs.Common.{◌≡◌, length, Err, ap, subst, ◌∙◌, arith}
 use Rattle.std.proofs.lemmas.Result.{err_from_is_err_and}
 use Rattle.dcv_core.specs.Steps.{steps_of}
 use Rattle.dcv_explore.specs.declared.explorer.Limits.{Limits}
@@ -25,13 +25,13 @@ push-requires-clause-goes c =
 
 pub returns-in_err-answer-clause-states : goal.returns-in_err-answer-clause-states
 returns-in_err-answer-clause-states c tree step limit is e =
-    let p = err_from_is_err_and c.from_residual.result c.from_residual.ensures.1 in
+    let p = err_from_is_err_and c.from_residual-in_err-answer.result c.from_residual-in_err-answer.ensures.1 in
     let named = (c.take_step.ensures.goes tree is).states step limit (c.in_err-answer.was ∙ ap Err (same_fault _ _ _ (States step limit) p.1 p.2 e)) in
     subst (λ (l : Limits). (limit ≡ l.states) × IsOver (steps_of c.args.core.now.declared tree) l TooManyStates step) (c.make_room.ensures.limits ∙ c.loop-step.invariant.limits) named
 
 pub returns-in_err-answer-clause-nodes : goal.returns-in_err-answer-clause-nodes
 returns-in_err-answer-clause-nodes c tree step limit is e =
-    let p = err_from_is_err_and c.from_residual.result c.from_residual.ensures.1 in
+    let p = err_from_is_err_and c.from_residual-in_err-answer.result c.from_residual-in_err-answer.ensures.1 in
     let named = (c.take_step.ensures.goes tree is).nodes step limit (c.in_err-answer.was ∙ ap Err (same_fault _ _ _ (Nodes step limit) p.1 p.2 e)) in
     subst (λ (l : Limits). (limit ≡ l.nodes) × IsOver (steps_of c.args.core.now.declared tree) l TooManyNodes step) (c.make_room.ensures.limits ∙ c.loop-step.invariant.limits) named
 
