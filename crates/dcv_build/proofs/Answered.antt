@@ -1,5 +1,5 @@
 -- What is known stays right while the shelf grows, and what is found answers.
-use Rattle.std.proofs.Common.{◌≡◌, ℕ, ◌-◌, ◌<◌, Bool, true, List, [], ◌∷◌, length, map, get_or, Option, None, Some, IfSome, slice_get, Result, Ok, Err, IfOk, OnOk, OnErr, Contains, ◌⊎◌, inl, inr, refl, sym, ap, subst, ◌∙◌, arith}
+use Rattle.std.proofs.Common.{◌≡◌, ℕ, ◌-◌, ◌<◌, true, List, [], length, get_or, Option, None, Some, IfSome, slice_get, Result, Ok, Err, IfOk, OnOk, OnErr, inl, inr, refl, sym, ap, subst, ◌∙◌, arith}
 use Rattle.std.specs.Cmp.{unsigned_Decides}
 use Rattle.std.specs.Map.{lookup}
 use Rattle.std.proofs.lemmas.Bool.{false≢true}

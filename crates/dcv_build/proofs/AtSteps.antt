@@ -1,5 +1,5 @@
 -- What the step of a core asks of the numbers that wait, and what its answer is to the budget, whatever tree the core has the steps of.
-use Rattle.std.proofs.Common.{◌≡◌, ℕ, suc, ◌+◌, ◌-◌, ◌<◌, List, [], ◌∷◌, ◌++◌, length, map, get_or, reverse, Some, slice_get, Result, Ok, Err, refl, sym, ap, subst, ◌∙◌, arith}
+use Rattle.std.proofs.Common.{◌≡◌, ℕ, suc, ◌+◌, ◌-◌, ◌<◌, List, [], ◌∷◌, ◌++◌, length, get_or, reverse, Some, slice_get, Result, Ok, Err, refl, sym, ap, subst, ◌∙◌, arith}
 use Rattle.std.specs.Option.{option_map}
 use Rattle.std.proofs.lemmas.List.{length-map, map-append, append-nil}
 use Rattle.std.proofs.lemmas.Option.{slice_get-map}
@@ -28,11 +28,11 @@ use Rattle.dcv_build.specs.declared.faults.BuildFault.TheVariants.{Memory}
 use Rattle.dcv_build.specs.Asked.{at_number, tables_at, AreThere, plain_tables, asked_row, AreTwo, IsWide, AreOperands, AnswersAsked, IsTurned}
 use Rattle.dcv_build.specs.Building.{AreWaiting, HasBuilt, Goes, ForTree}
 use Rattle.dcv_build.specs.Given.{IsCoreOf, IsCore}
-use Rattle.dcv_build.specs.Rows.{pair_row, chop_row, star_row, set_row, number_row, row_of}
+use Rattle.dcv_build.specs.Rows.{pair_row, chop_row, star_row, set_row, row_of}
 use Rattle.dcv_build.specs.Settled.{IsOwn, IsBuilt, Answers}
 use Rattle.dcv_build.proofs.Answered.{plain_at, answers_ok}
 use Rattle.dcv_build.proofs.Negation.{complement_is_built}
-use Rattle.dcv_build.proofs.Operands.{step_at, IsOperandAt, one_operand, two_operands}
+use Rattle.dcv_build.proofs.Operands.{step_at, one_operand, two_operands}
 use Rattle.dcv_build.proofs.PostOrder.{IsAfterOne, IsAfterTwo, IsAfterOperands, after_operands}
 use Rattle.dcv_build.proofs.Progress.{goes}
 use Rattle.dcv_build.proofs.SameRows.{table_at}

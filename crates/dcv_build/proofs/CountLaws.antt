@@ -1,11 +1,10 @@
 -- A row has one count of states and one of nodes, so a core has one list of counts.
-use Rattle.std.proofs.Common.{◌≡◌, inl, inr, ℕ, ◌+◌, ◌<◌, ◌≤◌, List, length, get_or, Some, slice_get, sym, ◌∙◌, arith}
+use Rattle.std.proofs.Common.{◌≡◌, inl, inr, ℕ, ◌<◌, ◌≤◌, List, length, get_or, Some, slice_get, sym, ◌∙◌, arith}
 use Rattle.std.proofs.lemmas.Bool.{cases_lt}
 use Rattle.std.proofs.lemmas.List.{ext_get_or}
 use Rattle.std.proofs.lemmas.Option.{slice_get-get_or}
 use Rattle.dcv_count.specs.declared.Count.{Count}
 use Rattle.dcv_language.specs.Laws.{OneCanonicalTable}
-use Rattle.dcv_language.specs.Table.{Table}
 use Rattle.dcv_core.specs.Core.{CoreTree}
 use Rattle.dcv_core.specs.Laws.{StepsAreOperations}
 use Rattle.dcv_core.specs.Steps.{PlainStep, steps_of}
@@ -13,7 +12,7 @@ use Rattle.dcv_explore.specs.declared.explorer.Limits.{Limits}
 use Rattle.dcv_explore.specs.Budget.{Row, IsWithin, TooManyStates, TooManyNodes}
 use Rattle.dcv_explore.proofs.Budgets.{within_excludes_exceeding}
 use Rattle.dcv_build.specs.Budget.{row_at}
-use Rattle.dcv_build.specs.Counts.{HasAllCounts, IsCount, AreCounts}
+use Rattle.dcv_build.specs.Counts.{HasAllCounts, AreCounts}
 use Rattle.dcv_build.specs.Laws.{OneListOfCounts}
 use Rattle.dcv_build.proofs.OverLaws.{some_at, done_alike}
 use Rattle.dcv_build.proofs.SameRows.{row_over}
@@ -38,10 +37,10 @@ module _ (row : Row) (states nodes other_states other_nodes : ℕ) (is : HasAllC
   no_more_nodes : other_nodes ≤ nodes
   no_more_nodes = elim (cases_lt nodes other_nodes) [
     | inl fewer ↦ absurd (within_excludes_exceeding row own TooManyNodes within (record {
-        list = its.counts.list;
-        are_reached = its.counts.all.are_reached;
-        more = λ number numbering. omega (arith, fewer, its.nodes_are, its.counts.nodes_are number numbering);
-      }))
+      list = its.counts.list;
+      are_reached = its.counts.all.are_reached;
+      more = λ number numbering. omega (arith, fewer, its.nodes_are, its.counts.nodes_are number numbering);
+    }))
     | inr few ↦ few
   ]
 

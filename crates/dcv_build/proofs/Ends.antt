@@ -1,5 +1,5 @@
 -- A build from its first step to its last.
-use Rattle.std.proofs.Common.{◌≡◌, ℕ, ◌<◌, ◌≤◌, List, [], ◌∷◌, ◌++◌, length, Result, Err, refl, sym, ap, subst, ◌∙◌, arith}
+use Rattle.std.proofs.Common.{◌≡◌, ℕ, ◌<◌, ◌≤◌, List, [], ◌∷◌, ◌++◌, length, refl, sym, subst, arith}
 use Rattle.std.proofs.lemmas.List.{length-map}
 use Rattle.std.proofs.lemmas.List.Elements.{All-nil}
 use Rattle.dcv_count.specs.declared.Count.{Count}
@@ -9,12 +9,10 @@ use Rattle.dcv_core.specs.Steps.{PlainCore, steps_of}
 use Rattle.dcv_dfa.specs.Raw.{RawValue}
 use Rattle.dcv_dfa.specs.Auto.{count_of_nodes}
 use Rattle.dcv_explore.specs.declared.explorer.Limits.{Limits}
-use Rattle.dcv_explore.specs.Budget.{Kind}
 use Rattle.dcv_shelf.specs.Shelf.{ShelfTable, table_of_auto}
 use Rattle.dcv_build.specs.declared.building.Building.{Building}
-use Rattle.dcv_build.specs.declared.faults.BuildFault.{BuildFault}
 use Rattle.dcv_build.specs.Asked.{at_number, tables_at, AreThere}
-use Rattle.dcv_build.specs.Budget.{IsWithinBudget, IsOver, IsAutomatonOf}
+use Rattle.dcv_build.specs.Budget.{IsWithinBudget, IsAutomatonOf}
 use Rattle.dcv_build.specs.Building.{HasBuilt, ForTree, IsBuilding}
 use Rattle.dcv_build.specs.Counts.{AreCounts}
 use Rattle.dcv_build.specs.Given.{IsCoreOf, IsCore}

@@ -1,5 +1,5 @@
 -- Numbers that move to another shelf, and a number that comes to wait.
-use Rattle.std.proofs.Common.{◌≡◌, ℕ, zero, suc, ◌+◌, ◌<◌, ◌≤◌, List, [], ◌∷◌, ◌++◌, length, map, take, get_or, Some, slice_get, All, Result, Ok, IfOk, refl, sym, ap, subst, ◌∙◌, arith}
+use Rattle.std.proofs.Common.{◌≡◌, ℕ, zero, suc, ◌+◌, ◌<◌, ◌≤◌, List, [], ◌∷◌, ◌++◌, length, take, get_or, Some, slice_get, Result, Ok, IfOk, refl, sym, ap, subst, ◌∙◌, arith}
 use Rattle.std.proofs.lemmas.List.{map-append, take_more}
 use Rattle.std.proofs.lemmas.List.Elements.{All-push}
 use Rattle.std.specs.Option.{option_map}
@@ -16,7 +16,7 @@ use Rattle.dcv_build.specs.declared.faults.BuildFault.{BuildFault}
 use Rattle.dcv_build.specs.declared.building.Building.{Building}
 use Rattle.dcv_build.specs.Given.{IsCoreOf}
 use Rattle.dcv_build.specs.declared.asked.Answer.{Answer}
-use Rattle.dcv_build.proofs.ShelfTables.{at_of, are_kept, tables_kept, there_at}
+use Rattle.dcv_build.proofs.ShelfTables.{at_of, are_kept, tables_kept}
 
 pub push_there : (shelf : List ShelfTable) (numbers : List ℕ) (number : ℕ) → AreThere shelf numbers → number < length shelf → AreThere shelf (numbers ++ number ∷ [])
 push_there shelf numbers number all within = All-push (λ n. n < length shelf) numbers number all within

@@ -1,6 +1,6 @@
 -- The complement of a canonical table is the canonical one of the machine that is its own, turned. The machine has just its states and
 -- its nodes.
-use Rattle.std.proofs.Common.{◌≡◌, ℕ, zero, suc, ◌<◌, ◌≤◌, not, List, [], ◌∷◌, length, map, get_or, Some, slice_get, refl, sym, ap, subst, ◌∙◌, arith}
+use Rattle.std.proofs.Common.{◌≡◌, ℕ, zero, suc, ◌<◌, ◌≤◌, List, [], ◌∷◌, length, map, get_or, Some, slice_get, refl, sym, ap, subst, ◌∙◌, arith}
 use Rattle.std.specs.Option.{option_map}
 use Rattle.std.specs.List.{range_with_len}
 use Rattle.std.proofs.lemmas.List.{length-map}
@@ -22,12 +22,12 @@ use Rattle.dcv_language.proofs.Behaviours.{Widths}
 use Rattle.dcv_language.proofs.Canonicals.{canonical_for_same_behaviours}
 use Rattle.dcv_language.proofs.Complements.{complement_is_canonical}
 use Rattle.dcv_language.proofs.OperationRuns.{not_accepts}
-use Rattle.dcv_language.proofs.Runs.{start_is_reached, reached_has}
+use Rattle.dcv_language.proofs.Runs.{start_is_reached}
 use Rattle.dcv_language.proofs.Sameness.{outside_same}
-use Rattle.dcv_dfa.specs.Raw.{RawValue, IsRaw, automaton_of, raw_accepts, next_in, row_of}
+use Rattle.dcv_dfa.specs.Raw.{RawValue, IsRaw, raw_accepts, next_in, row_of}
 use Rattle.dcv_dfa.specs.Auto.{IsAuto, table_of_states, count_of_nodes, complement_of}
 use Rattle.dcv_dfa.proofs.Complements.{table_of_complement, complement_is_raw, still_auto}
-use Rattle.dcv_dfa.proofs.States.{table_has_the_states, table_has_the_flags, table_has_the_steps, table_leads_as_the_states, table_accepts_as_the_states, leads_below}
+use Rattle.dcv_dfa.proofs.States.{table_has_the_states, table_has_the_steps, table_accepts_as_the_states, leads_below}
 use Rattle.dcv_explore.specs.declared.explorer.Limits.{Limits}
 use Rattle.dcv_explore.specs.Exploring.{IsExploring}
 use Rattle.dcv_explore.specs.Reached.{HasCounts}

@@ -22,13 +22,12 @@ use Rattle.dcv_explore.proofs.Places.{pushed_cases}
 use Rattle.dcv_shelf.specs.Shelf.{ShelfTable}
 use Rattle.dcv_build.specs.declared.asked.Answer.{Answer}
 use Rattle.dcv_build.specs.declared.faults.BuildFault.{BuildFault}
-use Rattle.dcv_build.specs.Asked.{at_number}
 use Rattle.dcv_build.specs.Budget.{row_at, IsStepDone, IsDone, IsOver}
-use Rattle.dcv_build.specs.Building.{IsNewest, AreWaiting, HasBuilt, IsCountOf, GoesWith, Goes}
+use Rattle.dcv_build.specs.Building.{IsNewest, AreWaiting, HasBuilt, GoesWith, Goes}
 use Rattle.dcv_build.specs.Counts.{HasAllCounts, IsCount}
 use Rattle.dcv_build.specs.Laws.{AreCanonicalBefore}
 use Rattle.dcv_build.specs.Rows.{row_of}
-use Rattle.dcv_build.specs.Settled.{IsOwn, IsBuilt, IsFor, Answers}
+use Rattle.dcv_build.specs.Settled.{IsOwn, IsFor, Answers}
 use Rattle.dcv_build.proofs.SameRows.{table_at, row_over}
 use Rattle.dcv_build.proofs.ShelfTables.{at_of}
 use Rattle.dcv_build.proofs.StepMachines.{machine_accepts_step}

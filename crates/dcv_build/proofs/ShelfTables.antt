@@ -1,7 +1,7 @@
 -- Tables by their numbers on a shelf, while it grows, and how many nodes the table of an automaton has.
-use Rattle.std.proofs.Common.{◌≡◌, ℕ, suc, ◌<◌, List, [], ◌∷◌, ◌++◌, length, map, get_or, Some, slice_get, All, refl, sym, ap, ◌∙◌, subst, arith}
+use Rattle.std.proofs.Common.{◌≡◌, ℕ, ◌<◌, List, [], ◌∷◌, ◌++◌, length, map, get_or, Some, slice_get, refl, sym, ap, ◌∙◌, arith}
 use Rattle.std.specs.List.{range_with_len}
-use Rattle.std.proofs.lemmas.List.{length-map, ext_get_or, map-append}
+use Rattle.std.proofs.lemmas.List.{ext_get_or}
 use Rattle.std.proofs.lemmas.List.Elements.{All-nil, All-cons, All-head, All-tail, All-weaker}
 use Rattle.std.proofs.lemmas.List.FromFn.{length-map-range_with_len, get_or-map-range_with_len}
 use Rattle.std.proofs.lemmas.Option.{get_or_from_slice_get, slice_get-get_or, slice_get_within}
@@ -10,10 +10,9 @@ use Rattle.dcv_arena.specs.Arena.{table_of}
 use Rattle.dcv_arena.specs.Diagram.{node_count}
 use Rattle.dcv_arena.specs.declared.nodes.Ref.{Ref}
 use Rattle.dcv_arena.specs.declared.nodes.Ref.TheVariants.{Leaf}
-use Rattle.dcv_language.specs.Table.{TableState, Table}
+use Rattle.dcv_language.specs.Table.{TableState}
 use Rattle.dcv_dfa.specs.Raw.{RawValue, row_of}
 use Rattle.dcv_dfa.specs.Auto.{state_of, table_of_states, count_of_nodes}
-use Rattle.dcv_explore.specs.Budget.{Row}
 use Rattle.dcv_shelf.specs.Shelf.{ShelfTable, table_of_auto, nodes_of_table, KeepsNumbers}
 use Rattle.dcv_build.specs.Asked.{no_table, at_number, tables_at, AreThere}
 

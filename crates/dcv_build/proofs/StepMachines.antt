@@ -1,6 +1,5 @@
 -- The machine of each operator, over canonical tables of its operands' words, accepts its step's words.
-use Rattle.std.proofs.Common.{◌≡◌, ℕ, suc, ◌+◌, ◌<◌, List, [], Some, slice_get, slice_index_or, refl, sym, subst, ◌∙◌, arith}
-use Rattle.dcv_word.specs.Behaviour.{Word}
+use Rattle.std.proofs.Common.{◌≡◌, ℕ, suc, ◌<◌, List, Some, slice_get, refl, sym, subst, ◌∙◌, arith}
 use Rattle.dcv_language.specs.Automaton.{Automaton, accepts}
 use Rattle.dcv_language.specs.Language.{Language, outside, HaveSameBehaviours}
 use Rattle.dcv_language.specs.MachineLaws.{JoinsSets}

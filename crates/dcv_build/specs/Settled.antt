@@ -6,7 +6,7 @@
 --     IsFor                             a number on a shelf is that of a machine's table, and the counts beside it are the machine's
 --     Answers                           what a call answers that finds this number for a step
 --     fault_at step limits fault        the fault of a step whose exploration has this fault
-use Rattle.std.specs.Prelude.{◌≡◌, ℕ, ◌+◌, ◌≤◌, List, length, Some, slice_get, Result, Err, IfOk}
+use Rattle.std.specs.Prelude.{◌≡◌, ℕ, ◌≤◌, List, length, Some, slice_get, Result, Err, IfOk}
 use Rattle.dcv_word.specs.Behaviour.{Word}
 use Rattle.dcv_language.specs.Automaton.{WorkingMachine, accepts}
 use Rattle.dcv_language.specs.Canonical.{IsCanonical}

@@ -27,7 +27,10 @@ fn steps_alike_are_explored_once(rt: HostRuntime) -> Result<(), Fail> {
     assert_eq!(rt; builder.explored(), 0);
     for _ in 0..2 {
         let auto = builder.build(&core)?;
-        assert_eq!(rt; (core.steps(), builder.explored(), auto.states()), (32_767, 16_385, 3));
+        assert_eq!(rt;
+            (core.steps(), builder.explored(), auto.states()),
+            (32_767, 16_385, 3)
+        );
     }
     Ok(())
 }
@@ -60,7 +63,10 @@ fn counted(alloc: Global, text: &str) -> Result<String, Fail> {
 #[test]
 fn steps_are_counted(rt: HostRuntime) -> Result<(), Fail> {
     let alloc = rt.alloc();
-    assert_eq!(rt; counted(alloc, "var p; infer [[p]];")?.as_str(), "at 13 states 3 nodes 2;");
+    assert_eq!(rt;
+        counted(alloc, "var p; infer [[p]];")?.as_str(),
+        "at 13 states 3 nodes 2;"
+    );
     let chopped = "at 13 states 1 nodes 0;at 18 states 3 nodes 2;at 13 states 4 nodes 2;";
     assert_eq!(rt; counted(alloc, "var p; infer true^<p>;")?.as_str(), chopped);
     Ok(())
@@ -72,6 +78,9 @@ fn known_steps_are_counted(rt: HostRuntime) -> Result<(), Fail> {
     let alloc = rt.alloc();
     let pair = "at 6 states 3 nodes 0;at 12 states 3 nodes 0;at 6 states 3 nodes 0;";
     let text = format!(in alloc; "{pair}at 18 states 3 nodes 0;at 6 states 3 nodes 0;")?;
-    assert_eq!(rt; counted(alloc, "infer pt && pt && pt;")?.as_str(), text.as_str());
+    assert_eq!(rt;
+        counted(alloc, "infer pt && pt && pt;")?.as_str(),
+        text.as_str()
+    );
     Ok(())
 }

@@ -1,4 +1,4 @@
-use Rattle.std.proofs.Common.{◌≡◌, length, take, sym, ap, subst, ◌∙◌, arith}
+use Rattle.std.proofs.Common.{sym, ap, subst, ◌∙◌, arith}
 use Rattle.dcv_shelf.specs.Shelf.{table_of_auto}
 use Rattle.dcv_build.specs.Asked.{KnownValue, tables_at, AreThere}
 use Rattle.dcv_build.proofs.Moves.{moved_there, moved_tables, all_taken}

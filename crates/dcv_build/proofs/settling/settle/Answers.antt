@@ -1,4 +1,4 @@
-use Rattle.std.proofs.Common.{◌≡◌, ◌+◌, Err, length, sym, ap, subst, ◌∙◌, arith}
+use Rattle.std.proofs.Common.{◌+◌, Err, length, sym, ap, subst, ◌∙◌, arith}
 use Rattle.dcv_shelf.specs.Shelf.{table_of_auto}
 use Rattle.dcv_build.specs.Settled.{IsBuilt, Settles}
 use Rattle.dcv_build.proofs.Settled.{least_is_built, settled_ok, settled_fault}

@@ -1,4 +1,4 @@
-use Rattle.std.proofs.Common.{Err, refl, ap, sym, subst, ◌≡◌, ◌∙◌}
+use Rattle.std.proofs.Common.{Err, ap, subst, ◌≡◌, ◌∙◌}
 use Rattle.std.proofs.lemmas.Result.{err_from_is_err_and}
 use Rattle.dcv_core.specs.Steps.{steps_of}
 use Rattle.dcv_explore.specs.declared.explorer.Limits.{Limits}

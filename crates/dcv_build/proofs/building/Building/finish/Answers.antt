@@ -1,5 +1,5 @@
-use Rattle.std.proofs.Common.{◌≡◌, [], ◌∷◌, ◌++◌, List, ap, subst, ◌∙◌, arith}
-use Rattle.dcv_shelf.specs.Shelf.{ShelfTable, table_of_auto}
+use Rattle.std.proofs.Common.{[], ◌∷◌, ◌++◌, ap, subst, ◌∙◌, arith}
+use Rattle.dcv_shelf.specs.Shelf.{table_of_auto}
 use Rattle.dcv_build.specs.Asked.{tables_at, AreThere}
 use Rattle.dcv_build.proofs.Moves.{push_tables}
 use Rattle.dcv_build.proofs.ShelfTables.{at_of, behind_there}

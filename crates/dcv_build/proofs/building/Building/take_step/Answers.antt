@@ -1,4 +1,4 @@
-use Rattle.std.proofs.Common.{ℕ, List, [], ◌∷◌, IfOk, sym, subst, arith}
+use Rattle.std.proofs.Common.{ℕ, List, [], ◌∷◌, sym, subst, arith}
 use Rattle.std.proofs.lemmas.Option.{slice_get_within}
 use Rattle.dcv_build.specs.Asked.{at_number, tables_at, AreThere}
 use Rattle.dcv_build.specs.Building.{ForTree, Goes}

@@ -5,8 +5,8 @@ use Rattle.dcv_shelf.specs.Stored.{view_table}
 use Rattle.dcv_build.specs.Asked.{KnownValue, AreOperands, SettlesAsked}
 use Rattle.dcv_build.specs.Settled.{Settles}
 use Rattle.dcv_build.specs.declared.asked.Asked.{Asked}
-use Rattle.dcv_build.specs.declared.asked.Asked.TheVariants.{And, Or, Iff, Chop, Star, Exists}
-use Rattle.dcv_build.proofs.Answered.{from_two, from_one, widths_are, width_is}
+use Rattle.dcv_build.specs.declared.asked.Asked.TheVariants.{And}
+use Rattle.dcv_build.proofs.Answered.{from_two, from_one, widths_are}
 use Rattle.dcv_build.proofs.known.Known.explore.Goals as goal
 
 pub conjunction-requires : goal.conjunction-requires
@@ -62,4 +62,3 @@ returns-in-Exists c =
     (subst (λ (asked : Asked). SettlesAsked inside.shelf.tables asked inside.limits c.args.step c.some_track.result) (sym c.in-Exists.is)
     (from_one inside.shelf.tables (λ slots t. Settles (exists_machine (slots - 1) (automaton_of t)) 0 inside.limits c.args.step c.some_track.result)
     c.in-Exists.operand (view_table c.view-in-Exists.result) c.view-in-Exists.ensures.table c.some_track.ensures))
-
