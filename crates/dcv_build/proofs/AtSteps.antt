@@ -1,23 +1,42 @@
--- What the step of a core asks of the automata that wait, and what its own is to the budget, whatever tree the core has the steps of.
-use Rattle.std.proofs.Common.{◌≡◌, ℕ, suc, ◌-◌, ◌<◌, List, [], ◌∷◌, ◌++◌, length, Some, slice_get, Result, Ok, refl, ap, subst, ◌∙◌, arith}
+-- What the step of a core asks of the numbers that wait, and what its answer is to the budget, whatever tree the core has the steps of.
+use Rattle.std.proofs.Common.{◌≡◌, ℕ, suc, ◌+◌, ◌-◌, ◌<◌, List, [], ◌∷◌, ◌++◌, length, get_or, reverse, Some, slice_get, Result, Ok, Err, refl, sym, ap, subst, ◌∙◌, arith}
 use Rattle.std.specs.Option.{option_map}
+use Rattle.std.proofs.lemmas.List.{length-map, map-append, append-nil}
 use Rattle.std.proofs.lemmas.Option.{slice_get-map}
+use Rattle.dcv_count.specs.declared.Count.{Count}
 use Rattle.dcv_language.specs.Language.{Language, outside}
+use Rattle.dcv_language.specs.Laws.{OneCanonicalTable}
 use Rattle.dcv_language.specs.Operations.{intersection, union, agreement, chop, star, projection}
 use Rattle.dcv_language.specs.OperationMachines.{not_machine, and_machine, or_machine, iff_machine, chop_machine, star_machine, exists_machine}
+use Rattle.dcv_language.specs.Table.{Table, automaton_of}
 use Rattle.dcv_core.specs.Core.{CoreTree, PlainBasic}
-use Rattle.dcv_core.specs.Steps.{PlainOp, OpAtom, OpNot, OpAnd, OpOr, OpIff, OpChop, OpStar, OpExists, PlainStep, CoreStep, PlainCore, without_core, steps_of}
+use Rattle.dcv_core.specs.Steps.{PlainOp, OpAtom, OpNot, OpAnd, OpOr, OpIff, OpChop, OpStar, OpExists, PlainStep, CoreStep, PlainCore, without_core, steps_before, steps_of}
 use Rattle.dcv_core.specs.StepWords.{TakesOne, TakesTwo, IsOperation}
 use Rattle.dcv_core.proofs.StepList.{steps_are_operations}
-use Rattle.dcv_dfa.specs.Raw.{RawValue, automaton_of}
+use Rattle.dcv_atoms.specs.AtomRows.{atom_machine}
+use Rattle.dcv_atoms.specs.Laws.{MachineAcceptsStep as MachineAcceptsAtomStep}
+use Rattle.dcv_atoms.specs.Parts.{atom_nodes}
 use Rattle.dcv_atoms.specs.Steps.{IsAtom}
 use Rattle.dcv_explore.specs.declared.explorer.Limits.{Limits}
+use Rattle.dcv_explore.specs.Budget.{Row}
+use Rattle.dcv_shelf.specs.Shelf.{ShelfTable, KeepsNumbers}
+use Rattle.dcv_build.specs.declared.asked.Answer.{Answer}
+use Rattle.dcv_build.specs.declared.asked.Asked.{Asked}
+use Rattle.dcv_build.specs.declared.asked.Asked.TheVariants.{And, Or, Iff, Chop, Star, Exists}
 use Rattle.dcv_build.specs.declared.faults.BuildFault.{BuildFault}
+use Rattle.dcv_build.specs.declared.faults.BuildFault.TheVariants.{Memory}
+use Rattle.dcv_build.specs.Asked.{at_number, tables_at, AreThere, plain_tables, asked_row, AreTwo, IsWide, AreOperands, AnswersAsked, IsTurned}
+use Rattle.dcv_build.specs.Building.{AreWaiting, HasBuilt, Goes, ForTree}
 use Rattle.dcv_build.specs.Given.{IsCoreOf, IsCore}
-use Rattle.dcv_build.specs.Building.{IsOwn, IsBuilt, Settles, HasBuilt, Goes, ForTree}
-use Rattle.dcv_build.proofs.Arms.{goes_and, goes_or, goes_iff, goes_chop, goes_not_by, goes_star, goes_exists, slots_of_and, slots_of_or, slots_of_iff, slots_of_chop, slots_of_exists, operand_is_own}
-use Rattle.dcv_build.proofs.Operands.{step_at}
-use Rattle.dcv_build.proofs.Settled.{settled_ok}
+use Rattle.dcv_build.specs.Rows.{pair_row, chop_row, star_row, set_row, row_of}
+use Rattle.dcv_build.specs.Settled.{IsOwn, IsBuilt, Answers}
+use Rattle.dcv_build.proofs.Answered.{plain_at, answers_ok}
+use Rattle.dcv_build.proofs.Negation.{complement_is_built}
+use Rattle.dcv_build.proofs.Operands.{step_at, one_operand, two_operands}
+use Rattle.dcv_build.proofs.PostOrder.{IsAfterOne, IsAfterTwo, IsAfterOperands, after_operands}
+use Rattle.dcv_build.proofs.Progress.{goes}
+use Rattle.dcv_build.proofs.SameRows.{table_at}
+use Rattle.dcv_build.proofs.ShelfTables.{tables_kept, front_there, behind_there}
 use Rattle.dcv_build.proofs.Waiting.{one_is_there, two_are_there}
 
 pub atom_at : (core : PlainCore) (tree : CoreTree) (n : ℕ) (basic : PlainBasic) (step : PlainStep) → IsCoreOf tree core → slice_get (steps_of core.declared tree) n ≡ Some step
@@ -29,132 +48,276 @@ atom_at core tree n basic step is there form = record {
   width = refl;
 }
 
-module _ (core : PlainCore) (limits : Limits) (n : ℕ) where
+-- ---- an operator of a core, and the same over numbers of the shelf
+
+abbrev pub op_like : Asked → ℕ → ℕ → PlainOp
+op_like (And a b) c d = OpAnd c d
+op_like (Or a b) c d = OpOr c d
+op_like (Iff a b) c d = OpIff c d
+op_like (Chop a b) c d = OpChop c d
+op_like (Star a) c d = OpStar d
+op_like (Exists a) c d = OpExists d
+
+abbrev pub numbers_of : Asked → List ℕ
+numbers_of (And a b) = a ∷ b ∷ []
+numbers_of (Or a b) = a ∷ b ∷ []
+numbers_of (Iff a b) = a ∷ b ∷ []
+numbers_of (Chop a b) = a ∷ b ∷ []
+numbers_of (Star a) = a ∷ []
+numbers_of (Exists a) = a ∷ []
+
+module _ (tables : List Table) (slots : ℕ) (shelf : List ShelfTable) where
+  -- the tables at the numbers are those of the steps, over so many slots
+  record TwoAre (a b c d : ℕ) : Type 0 where
+    pub width : (at_number shelf a).slots ≡ slots
+    pub first : get_or (plain_tables shelf) a [] ≡ table_at tables c
+    pub second : get_or (plain_tables shelf) b [] ≡ table_at tables d
+
+  record OneIs (a d width : ℕ) : Type 0 where
+    pub wide : (at_number shelf a).slots ≡ width
+    pub only : get_or (plain_tables shelf) a [] ≡ table_at tables d
+
+  abbrev TheseAre : Asked → ℕ → ℕ → Type 0
+  TheseAre (And a b) c d = TwoAre a b c d
+  TheseAre (Or a b) c d = TwoAre a b c d
+  TheseAre (Iff a b) c d = TwoAre a b c d
+  TheseAre (Chop a b) c d = TwoAre a b c d
+  TheseAre (Star a) c d = OneIs a d slots
+  TheseAre (Exists a) c d = OneIs a d (suc slots)
+
+  module _ (P : Row → Type 0) where
+    by_two : (row : ℕ → Table → Table → Row) (a b c d : ℕ) → TwoAre a b c d
+        → P (row (at_number shelf a).slots (get_or (plain_tables shelf) a []) (get_or (plain_tables shelf) b []))
+        → P (row slots (table_at tables c) (table_at tables d))
+    by_two row a b c d are here = subst (λ (t : ℕ × (Table × Table)). P (row t.0 t.1.0 t.1.1)) (λ i. (are.width i, (are.first i, are.second i))) here
+
+    by_one : (row : ℕ → Table → Row) (a d width : ℕ) → OneIs a d width
+        → P (row (at_number shelf a).slots (get_or (plain_tables shelf) a [])) → P (row width (table_at tables d))
+    by_one row a d width is here = subst (λ (t : ℕ × Table). P (row t.0 t.1)) (λ i. (is.wide i, is.only i)) here
+
+    row_is : (asked : Asked) (c d : ℕ) → TheseAre asked c d → P (asked_row shelf asked) → P (row_of (op_like asked c d) slots tables)
+    row_is (And a b) c d are here = by_two (λ slots t u. pair_row (and_machine slots (automaton_of t) (automaton_of u))) a b c d are here
+    row_is (Or a b) c d are here = by_two (λ slots t u. pair_row (or_machine slots (automaton_of t) (automaton_of u))) a b c d are here
+    row_is (Iff a b) c d are here = by_two (λ slots t u. pair_row (iff_machine slots (automaton_of t) (automaton_of u))) a b c d are here
+    row_is (Chop a b) c d are here = by_two (λ slots t u. chop_row (chop_machine slots (automaton_of t) (automaton_of u))) a b c d are here
+    row_is (Star a) c d is here = by_one (λ slots t. star_row (star_machine slots (automaton_of t))) a d slots is here
+    row_is (Exists a) c d is here =
+        let one_less : suc slots - 1 ≡ slots = omega arith in
+        subst (λ n. P (set_row (exists_machine n (automaton_of (table_at tables d))))) one_less
+        (by_one (λ slots t. set_row (exists_machine (slots - 1) (automaton_of t))) a d (suc slots) is here)
+
+-- ---- at a step of a tree
+
+module _ (k : ℕ) (tree : CoreTree) (limits : Limits) (n : ℕ) (shelf : List ShelfTable) (rest : List ℕ) (counts : List Count)
+    (step : PlainStep) (there : slice_get (steps_of k tree) n ≡ Some step) where
+  operation_is : (op : PlainOp) → step.op ≡ op → IsOperation (steps_of k tree) n step op
+  operation_is op is = subst (IsOperation (steps_of k tree) n step) is (steps_are_operations k tree n step there)
+
+  after_is : (op : PlainOp) → step.op ≡ op → IsAfterOperands (steps_of k tree) op (steps_before step.core)
+  after_is op is = subst (λ (o : PlainOp). IsAfterOperands (steps_of k tree) o (steps_before step.core)) is (after_operands k tree n step there)
+
+  abbrev Built : List ℕ → Type 0
+  Built numbers = HasBuilt (steps_of k tree) limits n (tables_at shelf rest ++ tables_at shelf numbers) counts
+
+  -- the operands of a step: where its own steps begin, what waits then, and what is true of the operands
+  record Takes (tables : List Table) (Own These : Type 0) : Type 0 where
+    pub begin : ℕ
+    pub begins : begin + steps_before step.core ≡ n
+    pub waits : AreWaiting (steps_of k tree) limits tables begin (reverse (tables_at shelf rest))
+    pub operands : Own
+    pub these : These
+
+  takes_two : (a b c d : ℕ) (operation : Language → Language → Language) → TakesTwo (steps_of k tree) n step c d operation → IsAfterTwo (steps_of k tree) c d (steps_before step.core)
+      → a < length shelf → b < length shelf → (built : Built (a ∷ b ∷ [])) → Takes built.tables (AreTwo shelf a b) (TwoAre built.tables step.slots shelf a b c d)
+  takes_two a b c d operation takes after first_there second_there built =
+      let at = two_operands (steps_of k tree) limits n (tables_at shelf rest) step (at_number shelf a) (at_number shelf b) counts built c d operation takes after in
+      record {
+        begin = at.begin;
+        begins = at.begins;
+        waits = at.waits;
+        operands = record { first = first_there; second = second_there; slots = at.of_first.width ∙ sym at.of_second.width };
+        these = record {
+          width = at.of_first.width;
+          first = plain_at shelf a first_there ∙ sym at.of_first.table;
+          second = plain_at shelf b second_there ∙ sym at.of_second.table;
+        };
+      }
+
+  takes_one : (a d width : ℕ) (operation : Language → Language) → TakesOne (steps_of k tree) n step d width operation → IsAfterOne (steps_of k tree) d (steps_before step.core)
+      → a < length shelf → (built : Built (a ∷ [])) → Takes built.tables (IsOwn limits (at_number shelf a)) (OneIs built.tables step.slots shelf a d width)
+  takes_one a d width operation takes after own_there built =
+      let at = one_operand (steps_of k tree) limits n (tables_at shelf rest) step (at_number shelf a) counts built d width operation takes after in
+      record {
+        begin = at.begin;
+        begins = at.begins;
+        waits = at.waits;
+        operands = at.is.own;
+        these = record { wide = at.is.width; only = plain_at shelf a own_there ∙ sym at.is.table };
+      }
+
+  takes_wide : (a d : ℕ) → TakesOne (steps_of k tree) n step d (suc step.slots) projection → IsAfterOne (steps_of k tree) d (steps_before step.core)
+      → a < length shelf → (built : Built (a ∷ [])) → Takes built.tables (IsWide shelf a) (OneIs built.tables step.slots shelf a d (suc step.slots))
+  takes_wide a d takes after own_there built =
+      let is = takes_one a d (suc step.slots) projection takes after own_there built in
+      record { begin = is.begin; begins = is.begins; waits = is.waits; operands = record { there = own_there; some = omega (arith, is.these.wide) }; these = is.these }
+
+  takes_star : (a d : ℕ) → TakesOne (steps_of k tree) n step d step.slots star → IsAfterOne (steps_of k tree) d (steps_before step.core)
+      → a < length shelf → (built : Built (a ∷ [])) → Takes built.tables (a < length shelf) (OneIs built.tables step.slots shelf a d step.slots)
+  takes_star a d takes after own_there built =
+      let is = takes_one a d step.slots star takes after own_there built in
+      record { begin = is.begin; begins = is.begins; waits = is.waits; operands = own_there; these = is.these }
+
+  -- by the operator
+  takes : (asked : Asked) (c d : ℕ) → step.op ≡ op_like asked c d → AreThere shelf (numbers_of asked) → (built : Built (numbers_of asked))
+      → Takes built.tables (AreOperands shelf asked) (TheseAre built.tables step.slots shelf asked c d)
+  takes (And a b) c d is all built = takes_two a b c d intersection (operation_is (OpAnd c d) is) (after_is (OpAnd c d) is) (all 0 0 (omega arith)) (all 1 0 (omega arith)) built
+  takes (Or a b) c d is all built = takes_two a b c d union (operation_is (OpOr c d) is) (after_is (OpOr c d) is) (all 0 0 (omega arith)) (all 1 0 (omega arith)) built
+  takes (Iff a b) c d is all built = takes_two a b c d agreement (operation_is (OpIff c d) is) (after_is (OpIff c d) is) (all 0 0 (omega arith)) (all 1 0 (omega arith)) built
+  takes (Chop a b) c d is all built = takes_two a b c d chop (operation_is (OpChop c d) is) (after_is (OpChop c d) is) (all 0 0 (omega arith)) (all 1 0 (omega arith)) built
+  takes (Star a) c d is all built = takes_star a d (operation_is (OpStar d) is) (after_is (OpStar d) is) (all 0 0 (omega arith)) built
+  takes (Exists a) c d is all built = takes_wide a d (operation_is (OpExists d) is) (after_is (OpExists d) is) (all 0 0 (omega arith)) built
+
+  pub asked_operands : (asked : Asked) (c d : ℕ) → step.op ≡ op_like asked c d → AreThere shelf (numbers_of asked) → Built (numbers_of asked) → AreOperands shelf asked
+  asked_operands asked c d is all built = (takes asked c d is all built).operands
+
+  module _ (atoms : MachineAcceptsAtomStep) (after : List ShelfTable) (kept : KeepsNumbers shelf after) (rest_there : AreThere shelf rest) where
+    -- what waits does so on the shelf that has grown
+    grown : (result : Result Answer BuildFault) → Goes (steps_of k tree) limits n (tables_at shelf rest) counts after result → Goes (steps_of k tree) limits n (tables_at after rest) counts after result
+    grown result goes_on = subst (λ (w : List ShelfTable). Goes (steps_of k tree) limits n w counts after result) (sym (tables_kept shelf after kept rest rest_there)) goes_on
+
+    pub asked_goes : (asked : Asked) (c d : ℕ) → step.op ≡ op_like asked c d → AreThere shelf (numbers_of asked) → Built (numbers_of asked)
+        → (result : Result Answer BuildFault) → AnswersAsked shelf asked limits n after result → Goes (steps_of k tree) limits n (tables_at after rest) counts after result
+    asked_goes asked c d is all built result answers =
+        let has = takes asked c d is all built in
+        let own = row_is built.tables step.slots shelf (λ (row : Row). Answers row.machine row.parts limits n after result) asked c d has.these answers in
+        let row = subst (λ (o : PlainOp). Answers (row_of o step.slots built.tables).machine (row_of o step.slots built.tables).parts limits n after result) (sym is) own in
+        grown result
+        (goes k tree limits n built.tables built.count built.done step there (tables_at shelf rest) counts built.one_each built.each has.begin has.begins has.waits atoms after result row)
+
+    pub atom_goes : (basic : PlainBasic) → step.op ≡ OpAtom basic → Built [] → (result : Result Answer BuildFault)
+        → Answers (atom_machine step.slots basic) (atom_nodes step.slots basic) limits n after result → Goes (steps_of k tree) limits n (tables_at after rest) counts after result
+    atom_goes basic is built result answers =
+        let none : steps_before step.core ≡ 0 = after_is (OpAtom basic) is in
+        let row = subst (λ (o : PlainOp). Answers (row_of o step.slots built.tables).machine (row_of o step.slots built.tables).parts limits n after result) (sym is) answers in
+        grown result
+        (goes k tree limits n built.tables built.count built.done step there (tables_at shelf rest) counts built.one_each built.each n (omega (arith, none))
+        (subst (λ (w : List ShelfTable). AreWaiting (steps_of k tree) limits built.tables n (reverse w)) (append-nil (tables_at shelf rest)) built.waits) atoms after result row)
+
+    pub not_goes : OneCanonicalTable → (a d : ℕ) → step.op ≡ OpNot d → a < length shelf → Built (a ∷ []) → (answer : Answer) → IsTurned (at_number shelf a) after answer
+        → Goes (steps_of k tree) limits n (tables_at after rest) counts after (Ok answer)
+    not_goes one_canonical a d is own_there built answer turned =
+        let has = takes_one a d step.slots outside (operation_is (OpNot d) is) (after_is (OpNot d) is) own_there built in
+        let one = at_number shelf a in
+        let own = complement_is_built one_canonical limits one turned.turned has.operands turned.complement answer.states answer.nodes turned.states turned.nodes in
+        let moved = subst (λ (t : ℕ × Table). IsBuilt (not_machine t.0 (automaton_of t.1)) 0 limits turned.turned answer.states answer.nodes)
+        (λ i. (has.these.wide i, (sym (plain_at shelf a own_there) ∙ has.these.only) i)) own in
+        let answers = answers_ok (not_machine step.slots (automaton_of (table_at built.tables d))) 0 limits n after answer
+        (record { one = turned.turned; there = turned.there; built = moved }) in
+        let row = subst (λ (o : PlainOp). Answers (row_of o step.slots built.tables).machine (row_of o step.slots built.tables).parts limits n after (Ok answer)) (sym is) answers in
+        grown (Ok answer)
+        (goes k tree limits n built.tables built.count built.done step there (tables_at shelf rest) counts built.one_each built.each has.begin has.begins has.waits atoms after (Ok answer) row)
+
+pub memory_goes : (steps : List PlainStep) (limits : Limits) (n : ℕ) (waiting : List ShelfTable) (counts : List Count) (shelf : List ShelfTable)
+    → Goes steps limits n waiting counts shelf (Err Memory)
+memory_goes steps limits n waiting counts shelf = record { built = tt; states = λ at limit same. absurd cc; nodes = λ at limit same. absurd cc }
+
+-- ---- at a step of a core
+
+module _ (core : PlainCore) (limits : Limits) (n : ℕ) (counts : List Count) where
   -- the core has this operator there
-  abbrev Here : PlainOp → Type 0
+  abbrev pub Here : PlainOp → Type 0
   Here op = option_map (λ (s : CoreStep). s.op) (slice_get core.steps n) ≡ Some op
 
-  abbrev AreBuilt : List RawValue → Type 0
-  AreBuilt waiting = ForTree core (λ steps. HasBuilt steps limits n waiting)
+  abbrev AreBuilt : List ShelfTable → Type 0
+  AreBuilt waiting = ForTree core (λ steps. HasBuilt steps limits n waiting counts)
 
-  abbrev GoesOn : List RawValue → Result RawValue BuildFault → Type 0
-  GoesOn rest result = ForTree core (λ steps. Goes steps limits n rest result)
+  abbrev GoesOn : List ShelfTable → List ShelfTable → Result Answer BuildFault → Type 0
+  GoesOn rest shelf result = ForTree core (λ steps. Goes steps limits n rest counts shelf result)
 
   -- ---- how many wait
 
   one_waits : (op : PlainOp) (d : ℕ) (slots : PlainStep → ℕ) (operation : Language → Language)
       → ((tree : CoreTree) (step : PlainStep) → IsOperation (steps_of core.declared tree) n step op → TakesOne (steps_of core.declared tree) n step d (slots step) operation)
-      → IsCore core → Here op → (waiting : List RawValue) → AreBuilt waiting → 0 < length waiting
-  one_waits op d slots operation takes known here waiting built =
+      → IsCore core → Here op → (shelf : List ShelfTable) (waiting : List ℕ) → AreBuilt (tables_at shelf waiting) → 0 < length waiting
+  one_waits op d slots operation takes known here shelf waiting built =
       let tree = known.tree in
       let found = step_at core tree n op known.is here in
       let operand = takes tree found.0 (subst (IsOperation (steps_of core.declared tree) n found.0) found.2 (steps_are_operations core.declared tree n found.0 found.1)) in
-      one_is_there (steps_of core.declared tree) limits n waiting (built tree known.is) (omega (arith, operand.is_before))
+      let some = one_is_there (steps_of core.declared tree) limits n (tables_at shelf waiting) counts (built tree known.is) (omega (arith, operand.is_before)) in
+      omega (arith, some, length-map waiting (at_number shelf))
 
   two_wait : (op : PlainOp) (c d : ℕ) (operation : Language → Language → Language)
       → ((tree : CoreTree) (step : PlainStep) → IsOperation (steps_of core.declared tree) n step op → TakesTwo (steps_of core.declared tree) n step c d operation)
-      → IsCore core → Here op → (waiting : List RawValue) → AreBuilt waiting → 1 < length waiting
-  two_wait op c d operation takes known here waiting built =
+      → IsCore core → Here op → (shelf : List ShelfTable) (waiting : List ℕ) → AreBuilt (tables_at shelf waiting) → 1 < length waiting
+  two_wait op c d operation takes known here shelf waiting built =
       let tree = known.tree in
       let found = step_at core tree n op known.is here in
       let operands = takes tree found.0 (subst (IsOperation (steps_of core.declared tree) n found.0) found.2 (steps_are_operations core.declared tree n found.0 found.1)) in
-      two_are_there (steps_of core.declared tree) limits n waiting (built tree known.is) found.0 c d operation operands
+      let more = two_are_there (steps_of core.declared tree) limits n (tables_at shelf waiting) counts (built tree known.is) found.0 c d operation operands in
+      omega (arith, more, length-map waiting (at_number shelf))
 
-  pub not_waits : (d : ℕ) → IsCore core → Here (OpNot d) → (waiting : List RawValue) → AreBuilt waiting → 0 < length waiting
+  pub not_waits : (d : ℕ) → IsCore core → Here (OpNot d) → (shelf : List ShelfTable) (waiting : List ℕ) → AreBuilt (tables_at shelf waiting) → 0 < length waiting
   not_waits d = one_waits (OpNot d) d (λ step. step.slots) outside (λ tree step is. is)
 
-  pub star_waits : (d : ℕ) → IsCore core → Here (OpStar d) → (waiting : List RawValue) → AreBuilt waiting → 0 < length waiting
+  pub star_waits : (d : ℕ) → IsCore core → Here (OpStar d) → (shelf : List ShelfTable) (waiting : List ℕ) → AreBuilt (tables_at shelf waiting) → 0 < length waiting
   star_waits d = one_waits (OpStar d) d (λ step. step.slots) star (λ tree step is. is)
 
-  pub exists_waits : (d : ℕ) → IsCore core → Here (OpExists d) → (waiting : List RawValue) → AreBuilt waiting → 0 < length waiting
+  pub exists_waits : (d : ℕ) → IsCore core → Here (OpExists d) → (shelf : List ShelfTable) (waiting : List ℕ) → AreBuilt (tables_at shelf waiting) → 0 < length waiting
   exists_waits d = one_waits (OpExists d) d (λ step. suc step.slots) projection (λ tree step is. is)
 
-  pub and_waits : (c d : ℕ) → IsCore core → Here (OpAnd c d) → (waiting : List RawValue) → AreBuilt waiting → 1 < length waiting
+  pub and_waits : (c d : ℕ) → IsCore core → Here (OpAnd c d) → (shelf : List ShelfTable) (waiting : List ℕ) → AreBuilt (tables_at shelf waiting) → 1 < length waiting
   and_waits c d = two_wait (OpAnd c d) c d intersection (λ tree step is. is)
 
-  pub or_waits : (c d : ℕ) → IsCore core → Here (OpOr c d) → (waiting : List RawValue) → AreBuilt waiting → 1 < length waiting
+  pub or_waits : (c d : ℕ) → IsCore core → Here (OpOr c d) → (shelf : List ShelfTable) (waiting : List ℕ) → AreBuilt (tables_at shelf waiting) → 1 < length waiting
   or_waits c d = two_wait (OpOr c d) c d union (λ tree step is. is)
 
-  pub iff_waits : (c d : ℕ) → IsCore core → Here (OpIff c d) → (waiting : List RawValue) → AreBuilt waiting → 1 < length waiting
+  pub iff_waits : (c d : ℕ) → IsCore core → Here (OpIff c d) → (shelf : List ShelfTable) (waiting : List ℕ) → AreBuilt (tables_at shelf waiting) → 1 < length waiting
   iff_waits c d = two_wait (OpIff c d) c d agreement (λ tree step is. is)
 
-  pub chop_waits : (c d : ℕ) → IsCore core → Here (OpChop c d) → (waiting : List RawValue) → AreBuilt waiting → 1 < length waiting
+  pub chop_waits : (c d : ℕ) → IsCore core → Here (OpChop c d) → (shelf : List ShelfTable) (waiting : List ℕ) → AreBuilt (tables_at shelf waiting) → 1 < length waiting
   chop_waits c d = two_wait (OpChop c d) c d chop (λ tree step is. is)
 
   -- ---- with these taken
 
-  module _ (old rest : List RawValue) (built : AreBuilt old) where
-    taken : (more : List RawValue) → old ≡ rest ++ more → (tree : CoreTree) → IsCoreOf tree core → HasBuilt (steps_of core.declared tree) limits n (rest ++ more)
-    taken more same tree is = subst (HasBuilt (steps_of core.declared tree) limits n) same (built tree is)
+  module _ (shelf : List ShelfTable) (old rest : List ℕ) (built : AreBuilt (tables_at shelf old)) (old_there : AreThere shelf old) where
+    taken : (numbers : List ℕ) → old ≡ rest ++ numbers → (tree : CoreTree) → IsCoreOf tree core
+        → HasBuilt (steps_of core.declared tree) limits n (tables_at shelf rest ++ tables_at shelf numbers) counts
+    taken numbers same tree is =
+        subst (λ (w : List ShelfTable). HasBuilt (steps_of core.declared tree) limits n w counts) (ap (tables_at shelf) same ∙ map-append (at_number shelf) rest numbers) (built tree is)
 
-    module _ (c d : ℕ) (first second : RawValue) (same : old ≡ rest ++ first ∷ second ∷ []) where
-      pub and_slots : IsCore core → Here (OpAnd c d) → first.arena.slots ≡ second.arena.slots
-      and_slots known here =
-          let found = step_at core known.tree n (OpAnd c d) known.is here in
-          slots_of_and core.declared known.tree limits n rest found.0 found.1 c d first second (taken (first ∷ second ∷ []) same known.tree known.is) found.2
+    pub rest_are : (numbers : List ℕ) → old ≡ rest ++ numbers → AreThere shelf rest
+    rest_are numbers same = front_there shelf rest numbers (subst (AreThere shelf) same old_there)
 
-      pub or_slots : IsCore core → Here (OpOr c d) → first.arena.slots ≡ second.arena.slots
-      or_slots known here =
-          let found = step_at core known.tree n (OpOr c d) known.is here in
-          slots_of_or core.declared known.tree limits n rest found.0 found.1 c d first second (taken (first ∷ second ∷ []) same known.tree known.is) found.2
+    pub numbers_are : (numbers : List ℕ) → old ≡ rest ++ numbers → AreThere shelf numbers
+    numbers_are numbers same = behind_there shelf rest numbers (subst (AreThere shelf) same old_there)
 
-      pub iff_slots : IsCore core → Here (OpIff c d) → first.arena.slots ≡ second.arena.slots
-      iff_slots known here =
-          let found = step_at core known.tree n (OpIff c d) known.is here in
-          slots_of_iff core.declared known.tree limits n rest found.0 found.1 c d first second (taken (first ∷ second ∷ []) same known.tree known.is) found.2
+    module _ (asked : Asked) (c d : ℕ) (same : old ≡ rest ++ numbers_of asked) where
+      pub operands_at : IsCore core → Here (op_like asked c d) → AreOperands shelf asked
+      operands_at known here =
+          let found = step_at core known.tree n (op_like asked c d) known.is here in
+          asked_operands core.declared known.tree limits n shelf rest counts found.0 found.1 asked c d found.2 (numbers_are (numbers_of asked) same) (taken (numbers_of asked) same known.tree known.is)
 
-      pub chop_slots : IsCore core → Here (OpChop c d) → first.arena.slots ≡ second.arena.slots
-      chop_slots known here =
-          let found = step_at core known.tree n (OpChop c d) known.is here in
-          slots_of_chop core.declared known.tree limits n rest found.0 found.1 c d first second (taken (first ∷ second ∷ []) same known.tree known.is) found.2
+      pub goes_on : MachineAcceptsAtomStep → Here (op_like asked c d) → (after : List ShelfTable) → KeepsNumbers shelf after
+          → (result : Result Answer BuildFault) → AnswersAsked shelf asked limits n after result → GoesOn (tables_at after rest) after result
+      goes_on atoms here after kept result answers tree is =
+          let found = step_at core tree n (op_like asked c d) is here in
+          asked_goes core.declared tree limits n shelf rest counts found.0 found.1 atoms after kept (rest_are (numbers_of asked) same) asked c d found.2
+          (numbers_are (numbers_of asked) same) (taken (numbers_of asked) same tree is) result answers
 
-      pub and_goes : Here (OpAnd c d) → (result : Result RawValue BuildFault)
-          → Settles (and_machine first.arena.slots (automaton_of first) (automaton_of second)) 0 limits n result → GoesOn rest result
-      and_goes here result settles tree is =
-          let found = step_at core tree n (OpAnd c d) is here in
-          goes_and core.declared tree limits n rest found.0 found.1 c d first second (taken (first ∷ second ∷ []) same tree is) result found.2 settles
-
-      pub or_goes : Here (OpOr c d) → (result : Result RawValue BuildFault)
-          → Settles (or_machine first.arena.slots (automaton_of first) (automaton_of second)) 0 limits n result → GoesOn rest result
-      or_goes here result settles tree is =
-          let found = step_at core tree n (OpOr c d) is here in
-          goes_or core.declared tree limits n rest found.0 found.1 c d first second (taken (first ∷ second ∷ []) same tree is) result found.2 settles
-
-      pub iff_goes : Here (OpIff c d) → (result : Result RawValue BuildFault)
-          → Settles (iff_machine first.arena.slots (automaton_of first) (automaton_of second)) 0 limits n result → GoesOn rest result
-      iff_goes here result settles tree is =
-          let found = step_at core tree n (OpIff c d) is here in
-          goes_iff core.declared tree limits n rest found.0 found.1 c d first second (taken (first ∷ second ∷ []) same tree is) result found.2 settles
-
-      pub chop_goes : Here (OpChop c d) → (result : Result RawValue BuildFault)
-          → Settles (chop_machine first.arena.slots (automaton_of first) (automaton_of second)) 0 limits n result → GoesOn rest result
-      chop_goes here result settles tree is =
-          let found = step_at core tree n (OpChop c d) is here in
-          goes_chop core.declared tree limits n rest found.0 found.1 c d first second (taken (first ∷ second ∷ []) same tree is) result found.2 settles
-
-    module _ (d : ℕ) (operand : RawValue) (same : old ≡ rest ++ operand ∷ []) where
-      pub not_goes : Here (OpNot d) → (auto : RawValue)
-          → ((own : Limits) → IsOwn own operand → IsBuilt (not_machine operand.arena.slots (automaton_of operand)) 0 own auto) → GoesOn rest (Ok auto)
-      not_goes here auto turned tree is =
+    module _ (a d : ℕ) (same : old ≡ rest ++ a ∷ []) where
+      pub not_goes_on : MachineAcceptsAtomStep → OneCanonicalTable → Here (OpNot d) → (after : List ShelfTable) → KeepsNumbers shelf after
+          → (answer : Answer) → IsTurned (at_number shelf a) after answer → GoesOn (tables_at after rest) after (Ok answer)
+      not_goes_on atoms one_canonical here after kept answer turned tree is =
           let found = step_at core tree n (OpNot d) is here in
-          let waits = taken (operand ∷ []) same tree is in
-          goes_not_by core.declared tree limits n rest found.0 found.1 d operand waits (Ok auto) found.2
-          (settled_ok (not_machine operand.arena.slots (automaton_of operand)) 0 limits n auto
-          (turned limits (operand_is_own core.declared tree limits n rest found.0 found.1 operand waits)))
+          not_goes core.declared tree limits n shelf rest counts found.0 found.1 atoms after kept (rest_are (a ∷ []) same) one_canonical a d found.2
+          (numbers_are (a ∷ []) same 0 0 (omega arith)) (taken (a ∷ []) same tree is) answer turned
 
-      pub star_goes : Here (OpStar d) → (result : Result RawValue BuildFault)
-          → Settles (star_machine operand.arena.slots (automaton_of operand)) 0 limits n result → GoesOn rest result
-      star_goes here result settles tree is =
-          let found = step_at core tree n (OpStar d) is here in
-          goes_star core.declared tree limits n rest found.0 found.1 d operand (taken (operand ∷ []) same tree is) result found.2 settles
-
-      pub exists_slots : IsCore core → Here (OpExists d) → 0 < operand.arena.slots
-      exists_slots known here =
-          let found = step_at core known.tree n (OpExists d) known.is here in
-          slots_of_exists core.declared known.tree limits n rest found.0 found.1 d operand (taken (operand ∷ []) same known.tree known.is) found.2
-
-      pub exists_goes : Here (OpExists d) → (result : Result RawValue BuildFault)
-          → Settles (exists_machine (operand.arena.slots - 1) (automaton_of operand)) 0 limits n result → GoesOn rest result
-      exists_goes here result settles tree is =
-          let found = step_at core tree n (OpExists d) is here in
-          goes_exists core.declared tree limits n rest found.0 found.1 d operand (taken (operand ∷ []) same tree is) result found.2 settles
+  -- nothing is taken
+  pub atom_goes_on : (shelf : List ShelfTable) (old : List ℕ) (built : AreBuilt (tables_at shelf old)) (old_there : AreThere shelf old) (basic : PlainBasic)
+      → MachineAcceptsAtomStep → Here (OpAtom basic) → (after : List ShelfTable) → KeepsNumbers shelf after → (result : Result Answer BuildFault)
+      → ((slots : ℕ) → IsAtom core n basic slots → Answers (atom_machine slots basic) (atom_nodes slots basic) limits n after result) → GoesOn (tables_at after old) after result
+  atom_goes_on shelf old built old_there basic atoms here after kept result answers tree is =
+      let found = step_at core tree n (OpAtom basic) is here in
+      atom_goes core.declared tree limits n shelf old counts found.0 found.1 atoms after kept old_there basic found.2
+      (subst (λ (w : List ShelfTable). HasBuilt (steps_of core.declared tree) limits n w counts) (sym (append-nil (tables_at shelf old))) (built tree is)) result
+      (answers found.0.slots (atom_at core tree n basic found.0 is found.1 found.2))

@@ -1,7 +1,10 @@
-mod Agreement
-mod Arms
+mod Answered
 mod AtSteps
+mod Ends
+mod CountLaws
 mod FaultFacts
+mod Insertions
+mod Moves
 mod Negation
 mod Operands
 mod OverLaws
@@ -9,5 +12,6 @@ mod PostOrder
 mod Progress
 mod SameRows
 mod Settled
+mod ShelfTables
 mod StepMachines
 mod Waiting

@@ -1,6 +1,6 @@
--- A canonical automaton with turned flags is the canonical one of the machine that is its own, turned. The machine has just its states
--- and its nodes.
-use Rattle.std.proofs.Common.{◌≡◌, ℕ, zero, suc, ◌<◌, List, [], ◌∷◌, length, map, get_or, Some, slice_get, refl, sym, ap, subst, ◌∙◌, arith}
+-- The complement of a canonical table is the canonical one of the machine that is its own, turned. The machine has just its states and
+-- its nodes.
+use Rattle.std.proofs.Common.{◌≡◌, ℕ, zero, suc, ◌<◌, ◌≤◌, List, [], ◌∷◌, length, map, get_or, Some, slice_get, refl, sym, ap, subst, ◌∙◌, arith}
 use Rattle.std.specs.Option.{option_map}
 use Rattle.std.specs.List.{range_with_len}
 use Rattle.std.proofs.lemmas.List.{length-map}
@@ -16,21 +16,25 @@ use Rattle.dcv_language.specs.Canonical.{IsCanonical}
 use Rattle.dcv_language.specs.Complement.{stands_alone}
 use Rattle.dcv_language.specs.Language.{outside}
 use Rattle.dcv_language.specs.OperationMachines.{not_machine}
-use Rattle.dcv_language.specs.Table.{Table, leads_to}
+use Rattle.dcv_language.specs.Laws.{OneCanonicalTable}
+use Rattle.dcv_language.specs.Table.{Table, leads_to, table_accepts, automaton_of as table_automaton}
 use Rattle.dcv_language.proofs.Behaviours.{Widths}
 use Rattle.dcv_language.proofs.Canonicals.{canonical_for_same_behaviours}
 use Rattle.dcv_language.proofs.Complements.{complement_is_canonical}
 use Rattle.dcv_language.proofs.OperationRuns.{not_accepts}
 use Rattle.dcv_language.proofs.Runs.{start_is_reached}
-use Rattle.dcv_dfa.specs.Raw.{RawValue, IsRaw, automaton_of, raw_accepts, next_in, row_of}
+use Rattle.dcv_language.proofs.Sameness.{outside_same}
+use Rattle.dcv_dfa.specs.Raw.{RawValue, IsRaw, raw_accepts, next_in, row_of}
 use Rattle.dcv_dfa.specs.Auto.{IsAuto, table_of_states, count_of_nodes, complement_of}
-use Rattle.dcv_dfa.proofs.Complements.{table_of_complement}
-use Rattle.dcv_dfa.proofs.States.{table_has_the_states, table_leads_as_the_states, leads_below}
+use Rattle.dcv_dfa.proofs.Complements.{table_of_complement, complement_is_raw, still_auto}
+use Rattle.dcv_dfa.proofs.States.{table_has_the_states, table_has_the_steps, table_accepts_as_the_states, leads_below}
 use Rattle.dcv_explore.specs.declared.explorer.Limits.{Limits}
 use Rattle.dcv_explore.specs.Exploring.{IsExploring}
 use Rattle.dcv_explore.specs.Reached.{HasCounts}
 use Rattle.dcv_explore.proofs.Finished.{counts}
-use Rattle.dcv_build.specs.Building.{IsOwn, IsBuilt}
+use Rattle.dcv_shelf.specs.Shelf.{ShelfTable, table_of_auto, nodes_of_table, IsComplement}
+use Rattle.dcv_build.specs.Settled.{IsOwn, IsBuilt}
+use Rattle.dcv_build.proofs.ShelfTables.{nodes_by_table}
 
 -- ---- the numbers below a number
 
@@ -58,7 +62,7 @@ module _ (slots : ℕ) (operand : Automaton ℕ) where
 
 module _ (raw : RawValue) (is : IsRaw raw) (auto : IsAuto raw) where
   abbrev turned_machine : WorkingMachine ℕ
-  turned_machine = not_machine raw.arena.slots (automaton_of raw)
+  turned_machine = not_machine raw.arena.slots (table_automaton (table_of_states raw))
 
   abbrev states : List ℕ
   states = range_with_len 0 (length raw.rows)
@@ -67,11 +71,11 @@ module _ (raw : RawValue) (is : IsRaw raw) (auto : IsAuto raw) where
   reached_by state word widths leads = record {
     word = word;
     widths = widths;
-    leads = steps_alike raw.arena.slots (automaton_of raw) word raw.start ∙ sym (table_leads_as_the_states raw word is auto.start widths) ∙ leads;
+    leads = steps_alike raw.arena.slots (table_automaton (table_of_states raw)) word 0 ∙ leads;
   }
 
   each_is_reached : (state : ℕ) → state < length raw.rows → IsReached turned_machine state
-  each_is_reached zero below = subst (IsReached turned_machine) auto.start (start_is_reached turned_machine)
+  each_is_reached zero below = start_is_reached turned_machine
   each_is_reached (suc state) below =
       let count = table_has_the_states raw in
       let least = auto.canonical.least (suc state) (omega arith) (omega (arith, below, count)) in
@@ -93,7 +97,7 @@ module _ (raw : RawValue) (is : IsRaw raw) (auto : IsAuto raw) where
       within = omega (arith, length-range_with_len 0 (length raw.rows));
       bound = is.states;
     };
-    start = in_range (length raw.rows) 0 (omega (arith, is.start)) ∙ ap Some (sym auto.start);
+    start = in_range (length raw.rows) 0 (omega (arith, is.start));
     arena_is = is.arena;
     slots = refl;
     behind = omega (arith, length-range_with_len 0 (length raw.rows));
@@ -103,7 +107,9 @@ module _ (raw : RawValue) (is : IsRaw raw) (auto : IsAuto raw) where
         let here = place_in_range (length raw.rows) place state at_state in
         let same : row_of raw state ≡ row = ap (row_of raw) (sym here.0) ∙ get_or_from_slice_get raw.rows place row (Leaf 0) at_row in
         let below = leads_below raw is state here.1 letter size in
-        ap (λ (r : Ref). slice_get states (value_of raw.arena r letter)) (sym same) ∙ in_range (length raw.rows) (next_in raw state letter) below;
+        ap (λ (r : Ref). slice_get states (value_of raw.arena r letter)) (sym same)
+        ∙ in_range (length raw.rows) (next_in raw state letter) below
+        ∙ ap Some (sym (table_has_the_steps raw state letter here.1 size));
     flags = λ place flag state at_flag at_state.
         same_Some flag (turned_machine.accepting state) (sym at_flag ∙ slice_get-map turned_machine.accepting states place ∙ ap (option_map turned_machine.accepting) at_state);
     nodes = auto.nodes;
@@ -112,32 +118,67 @@ module _ (raw : RawValue) (is : IsRaw raw) (auto : IsAuto raw) where
   turned_counts : HasCounts turned_machine (length raw.rows) (length raw.arena.nodes)
   turned_counts = counts turned_machine (length raw.rows) states raw.arena raw.rows (map turned_machine.accepting states) exploring (sym (length-range_with_len 0 (length raw.rows)))
 
-  nodes_are : length raw.arena.nodes ≡ count_of_nodes raw
-  nodes_are = count_exact raw.arena is.arena.reduced raw.rows is.rows auto.nodes
+  nodes_are : length raw.arena.nodes ≡ nodes_of_table (table_of_auto raw)
+  nodes_are = count_exact raw.arena is.arena.reduced raw.rows is.rows auto.nodes ∙ nodes_by_table raw
 
-  -- the complement, which has the same rows
-  pub complement_is_built : (limits : Limits) → IsOwn limits raw → (result : RawValue) → IsRaw result → IsAuto result → result ≡ complement_of (stands_alone auto.access) raw
-      → IsBuilt turned_machine 0 limits result
-  complement_is_built limits own result result_is_raw result_is_auto same = record {
-    fits = record {
-      states = length raw.rows;
-      nodes = length raw.arena.nodes;
-      counts = turned_counts;
-      states_within = own.states;
-      nodes_within = omega (arith, own.nodes, nodes_are);
-    };
-    slots = ap (λ (r : RawValue). r.arena.slots) same;
-    access = auto.access;
-    canonical =
-        canonical_for_same_behaviours raw.arena.slots (outside (raw_accepts raw)) (accepts turned_machine.automaton) (table_of_states result) auto.access
-        (λ word behaves. sym (not_accepts raw.arena.slots (automaton_of raw) word behaves.nonempty))
-        (subst (λ (table : Table). IsCanonical raw.arena.slots (outside (raw_accepts raw)) table auto.access)
-        (sym (ap table_of_states same ∙ table_of_complement raw auto.access is.flags))
-        (complement_is_canonical raw.arena.slots (raw_accepts raw) (table_of_states raw) auto.access auto.canonical));
-    own = record {
-      raw = result_is_raw;
-      auto_is = result_is_auto;
-      states = omega (arith, own.states, ap (λ (r : RawValue). length r.rows) same);
-      nodes = omega (arith, own.nodes, ap count_of_nodes same);
-    };
-  }
+  -- ---- the complement
+
+  abbrev other : RawValue
+  other = complement_of (stands_alone auto.access) raw
+
+  other_is_auto : IsAuto other
+  other_is_auto = (still_auto complement_is_canonical canonical_for_same_behaviours raw (stands_alone auto.access) is (record { auto = auto; alone = refl })).auto
+
+  outside_is : IsCanonical raw.arena.slots (outside (raw_accepts raw)) (table_of_states other) auto.access
+  outside_is =
+      subst (λ (table : Table). IsCanonical raw.arena.slots (outside (raw_accepts raw)) table auto.access)
+      (sym (table_of_complement raw auto.access is.flags))
+      (complement_is_canonical raw.arena.slots (raw_accepts raw) (table_of_states raw) auto.access auto.canonical)
+
+  module _ (one_canonical : OneCanonicalTable) (limits : Limits) (own_states : length raw.rows ≤ limits.states) (own_nodes : count_of_nodes raw ≤ limits.nodes)
+      (turned : ShelfTable) (complement : IsComplement (table_of_auto raw) turned) where
+    -- which is the table of the turned automaton
+    turned_is : table_of_auto other ≡ turned
+    turned_is =
+        let moved = canonical_for_same_behaviours raw.arena.slots (outside (raw_accepts raw)) (outside (table_accepts (table_of_states raw))) (table_of_states other) auto.access
+        (outside_same raw.arena.slots (raw_accepts raw) (table_accepts (table_of_states raw)) (λ word behaves. sym (table_accepts_as_the_states raw is auto.start word behaves))) outside_is in
+        let same = (one_canonical raw.arena.slots (outside (table_accepts (table_of_states raw))) (table_of_states other) turned.table auto.access complement.access moved complement.canonical).0 in
+        λ i. record { slots = sym complement.slots i; table = same i }
+
+    complement_is : (many nodes : ℕ) → many ≡ length (table_of_states raw) → nodes ≡ nodes_of_table (table_of_auto raw)
+        → IsBuilt turned_machine 0 limits turned many nodes
+    complement_is many nodes many_are nodes_same =
+        let count : length raw.rows ≡ many = omega (arith, many_are, table_has_the_states raw) in
+        record {
+          counts = record {
+            of_rows = length raw.arena.nodes;
+            counts = subst (λ n. HasCounts turned_machine n (length raw.arena.nodes)) count turned_counts;
+            nodes_are = omega (arith, nodes_same, nodes_are);
+          };
+          states_within = omega (arith, count, own_states);
+          nodes_within = omega (arith, nodes_same, own_nodes, nodes_by_table raw);
+          slots = complement.slots;
+          access = complement.access;
+          canonical = canonical_for_same_behaviours raw.arena.slots (outside (table_accepts (table_of_states raw)))
+              (accepts turned_machine.automaton) turned.table complement.access
+              (λ word behaves. sym (not_accepts raw.arena.slots (table_automaton (table_of_states raw)) word behaves.nonempty)) complement.canonical;
+          own = record {
+            auto = other;
+            raw = complement_is_raw (stands_alone auto.access) raw is;
+            auto_is = other_is_auto;
+            table = turned_is;
+            states = own_states;
+            nodes = own_nodes;
+          };
+        }
+
+-- the complement of a table that stands on a shelf
+pub complement_is_built : OneCanonicalTable → (limits : Limits) (one turned : ShelfTable) → IsOwn limits one → IsComplement one turned
+    → (states nodes : ℕ) → states ≡ length one.table → nodes ≡ nodes_of_table one
+    → IsBuilt (not_machine one.slots (table_automaton one.table)) 0 limits turned states nodes
+complement_is_built one_canonical limits one turned own complement states nodes states_are nodes_are =
+    let As : ShelfTable → Type 0 = λ (one : ShelfTable). IsComplement one turned → states ≡ length one.table → nodes ≡ nodes_of_table one
+    → IsBuilt (not_machine one.slots (table_automaton one.table)) 0 limits turned states nodes in
+    subst As own.table
+    (λ complement states_are nodes_are. complement_is own.auto own.raw own.auto_is one_canonical limits own.states own.nodes turned complement states nodes states_are nodes_are)
+    complement states_are nodes_are

@@ -1,23 +1,19 @@
--- The automata that wait last are those of a step's operands.
-use Rattle.std.proofs.Common.{◌≡◌, ℕ, suc, ◌+◌, List, [], ◌∷◌, ◌++◌, length, reverse, Option, None, Some, slice_get, refl, sym, ap, subst, ◌∙◌, arith}
+-- The tables that wait last are those of a step's operands.
+use Rattle.std.proofs.Common.{◌≡◌, ℕ, suc, ◌+◌, List, [], ◌∷◌, ◌++◌, reverse, Option, None, Some, slice_get, refl, sym, ap, subst, ◌∙◌, arith}
 use Rattle.std.specs.Option.{option_map}
 use Rattle.std.proofs.lemmas.Option.{slice_get-map, get_or_from_slice_get, same_Some}
-use Rattle.dcv_language.specs.Automaton.{accepts}
-use Rattle.dcv_language.specs.Language.{Language, HaveSameBehaviours}
-use Rattle.dcv_language.specs.Table.{Table, automaton_of as table_automaton}
+use Rattle.dcv_language.specs.Language.{Language}
+use Rattle.dcv_language.specs.Table.{Table}
 use Rattle.dcv_core.specs.Core.{CoreTree}
-use Rattle.dcv_core.specs.Holds.{words_of}
 use Rattle.dcv_core.specs.Steps.{PlainOp, PlainStep, CoreStep, PlainCore, without_core, steps_before, steps_of}
 use Rattle.dcv_core.specs.StepWords.{TakesOne, TakesTwo}
 use Rattle.dcv_core.proofs.StepList.{some_same}
-use Rattle.dcv_dfa.specs.Raw.{RawValue, IsRaw, automaton_of}
-use Rattle.dcv_dfa.specs.Auto.{table_of_states}
-use Rattle.dcv_dfa.proofs.States.{table_has_the_flags, table_has_the_steps, leads_below}
 use Rattle.dcv_explore.specs.declared.explorer.Limits.{Limits}
-use Rattle.dcv_build.specs.Budget.{IsDone}
-use Rattle.dcv_build.specs.Building.{IsOwn, IsNewest, AreWaiting, HasBuilt}
+use Rattle.dcv_count.specs.declared.Count.{Count}
+use Rattle.dcv_shelf.specs.Shelf.{ShelfTable}
+use Rattle.dcv_build.specs.Building.{IsNewest, AreWaiting, HasBuilt}
+use Rattle.dcv_build.specs.Settled.{IsOwn}
 use Rattle.dcv_build.specs.Given.{IsCoreOf}
-use Rattle.dcv_build.proofs.Agreement.{AgreesBelow}
 use Rattle.dcv_build.proofs.PostOrder.{IsAfterOne, IsAfterTwo}
 use Rattle.dcv_build.proofs.Progress.{newest_first, two_newest_first}
 use Rattle.dcv_build.proofs.SameRows.{table_at}
@@ -36,54 +32,40 @@ step_at core tree n op of_tree is =
     step_by steps n op (slice_get steps n) refl
     (ap (option_map (λ (s : CoreStep). s.op)) (sym (slice_get-map without_core steps n)) ∙ ap (λ (listed : List CoreStep). option_map (λ (s : CoreStep). s.op) (slice_get listed n)) (sym of_tree) ∙ is)
 
--- an automaton does as its table does
-pub as_its_table : (raw : RawValue) → IsRaw raw → raw.start ≡ 0
-    → AgreesBelow (length raw.rows) raw.arena.slots (automaton_of raw) (table_automaton (table_of_states raw))
-as_its_table raw is start = record {
-  has = record { start = is.start; steps = λ state letter below width. leads_below raw is state below letter width };
-  start = start;
-  steps = λ state letter below width. sym (table_has_the_steps raw state letter below width);
-  flags = λ state below. sym (table_has_the_flags raw state below);
-}
-
--- what an automaton that waits is to the step that takes it
-pub record IsOperandAt (limits : Limits) (tables : List Table) (operand : ℕ) (step : PlainStep) (slots : ℕ) (auto : RawValue) (begin : ℕ) : Type 0 where
-  pub table : table_at tables operand ≡ table_of_states auto
-  pub width : auto.arena.slots ≡ slots
-  pub exact : HaveSameBehaviours slots (accepts (table_automaton (table_of_states auto))) (words_of step.core)
+-- what a table that waits is to the step that takes it
+pub record IsOperandAt (limits : Limits) (tables : List Table) (operand : ℕ) (step : PlainStep) (slots : ℕ) (one : ShelfTable) (begin : ℕ) : Type 0 where
+  pub table : table_at tables operand ≡ one.table
+  pub width : one.slots ≡ slots
   pub begins : begin + steps_before step.core ≡ operand
-  pub own : IsOwn limits auto
+  pub own : IsOwn limits one
 
-operand_at : (steps : List PlainStep) (limits : Limits) (tables : List Table) → IsDone steps limits tables → (m : ℕ) (auto : RawValue) (begin : ℕ) → IsNewest steps limits tables m auto begin
+operand_at : (steps : List PlainStep) (limits : Limits) (tables : List Table) (m : ℕ) (one : ShelfTable) (begin : ℕ) → IsNewest steps limits tables m one begin
     → (operand : ℕ) (step : PlainStep) (slots : ℕ) → suc operand ≡ m → slice_get steps operand ≡ Some step → step.slots ≡ slots
-    → IsOperandAt limits tables operand step slots auto begin
-operand_at steps limits tables done m auto begin newest operand step slots before there width =
+    → IsOperandAt limits tables operand step slots one begin
+operand_at steps limits tables m one begin newest operand step slots before there width =
     let place : newest.number ≡ operand = omega (arith, newest.last, before) in
     let same : newest.step ≡ step = some_same newest.step step (sym newest.is_there ∙ ap (slice_get steps) place ∙ there) in
-    let is = done.each newest.number newest.step (table_of_states auto) newest.is_there newest.table in
-    let exact = subst (λ (s : PlainStep). HaveSameBehaviours s.slots (accepts (table_automaton (table_of_states auto))) (words_of s.core)) same is.canonical.exact in
     record {
-      table = ap (table_at tables) (sym place) ∙ get_or_from_slice_get tables newest.number (table_of_states auto) [] newest.table;
+      table = ap (table_at tables) (sym place) ∙ get_or_from_slice_get tables newest.number one.table [] newest.table;
       width = newest.slots ∙ ap (λ (s : PlainStep). s.slots) same ∙ width;
-      exact = subst (λ k. HaveSameBehaviours k (accepts (table_automaton (table_of_states auto))) (words_of step.core)) width exact;
       begins = subst (λ (s : PlainStep). begin + steps_before s.core ≡ newest.number) same newest.begins ∙ place;
       own = newest.own;
     }
 
 -- ---- the operands of a step
 
-module _ (steps : List PlainStep) (limits : Limits) (n : ℕ) (rest : List RawValue) (step : PlainStep) where
-  pub record HasOneOperand (tables : List Table) (operand : ℕ) (before : PlainStep) (slots : ℕ) (auto : RawValue) : Type 0 where
+module _ (steps : List PlainStep) (limits : Limits) (n : ℕ) (rest : List ShelfTable) (step : PlainStep) where
+  pub record HasOneOperand (tables : List Table) (operand : ℕ) (before : PlainStep) (slots : ℕ) (one : ShelfTable) : Type 0 where
     pub begin : ℕ
-    pub is : IsOperandAt limits tables operand before slots auto begin
+    pub is : IsOperandAt limits tables operand before slots one begin
     pub begins : begin + steps_before step.core ≡ n
     pub waits : AreWaiting steps limits tables begin (reverse rest)
 
-  pub one_operand : (auto : RawValue) (built : HasBuilt steps limits n (rest ++ auto ∷ [])) (d slots : ℕ) (operation : Language → Language)
-      (takes : TakesOne steps n step d slots operation) → IsAfterOne steps d (steps_before step.core) → HasOneOperand built.tables d takes.step_before slots auto
-  one_operand auto built d slots operation takes after =
-      let waits = subst (AreWaiting steps limits built.tables n) (newest_first rest auto) built.waits in
-      let is = operand_at steps limits built.tables built.done n auto waits.0 waits.1 d takes.step_before slots takes.is_before takes.is_there takes.width in
+  pub one_operand : (one : ShelfTable) (counts : List Count) (built : HasBuilt steps limits n (rest ++ one ∷ []) counts) (d slots : ℕ) (operation : Language → Language)
+      (takes : TakesOne steps n step d slots operation) → IsAfterOne steps d (steps_before step.core) → HasOneOperand built.tables d takes.step_before slots one
+  one_operand one counts built d slots operation takes after =
+      let waits = subst (AreWaiting steps limits built.tables n) (newest_first rest one) built.waits in
+      let is = operand_at steps limits built.tables n one waits.0 waits.1 d takes.step_before slots takes.is_before takes.is_there takes.width in
       let same = ap (λ (s : PlainStep). steps_before s.core) (some_same after.step takes.step_before (sym after.is_there ∙ takes.is_there)) in
       record {
         begin = waits.0;
@@ -92,7 +74,7 @@ module _ (steps : List PlainStep) (limits : Limits) (n : ℕ) (rest : List RawVa
         waits = waits.2;
       }
 
-  pub record HasTwoOperands (tables : List Table) (c d : ℕ) (first_step second_step : PlainStep) (first second : RawValue) : Type 0 where
+  pub record HasTwoOperands (tables : List Table) (c d : ℕ) (first_step second_step : PlainStep) (first second : ShelfTable) : Type 0 where
     pub begin : ℕ
     pub between : ℕ
     pub of_first : IsOperandAt limits tables c first_step step.slots first begin
@@ -100,14 +82,14 @@ module _ (steps : List PlainStep) (limits : Limits) (n : ℕ) (rest : List RawVa
     pub begins : begin + steps_before step.core ≡ n
     pub waits : AreWaiting steps limits tables begin (reverse rest)
 
-  pub two_operands : (first second : RawValue) (built : HasBuilt steps limits n (rest ++ first ∷ second ∷ [])) (c d : ℕ) (operation : Language → Language → Language)
+  pub two_operands : (first second : ShelfTable) (counts : List Count) (built : HasBuilt steps limits n (rest ++ first ∷ second ∷ []) counts) (c d : ℕ) (operation : Language → Language → Language)
       (takes : TakesTwo steps n step c d operation) → IsAfterTwo steps c d (steps_before step.core)
       → HasTwoOperands built.tables c d takes.first_step takes.second_step first second
-  two_operands first second built c d operation takes after =
+  two_operands first second counts built c d operation takes after =
       let waits = subst (AreWaiting steps limits built.tables n) (two_newest_first rest first second) built.waits in
-      let of_second = operand_at steps limits built.tables built.done n second waits.0 waits.1 d takes.second_step step.slots takes.second_is_before takes.second_is_there takes.second_width in
+      let of_second = operand_at steps limits built.tables n second waits.0 waits.1 d takes.second_step step.slots takes.second_is_before takes.second_is_there takes.second_width in
       let earlier : suc c ≡ waits.0 = omega (arith, of_second.begins, takes.first_is_before) in
-      let of_first = operand_at steps limits built.tables built.done waits.0 first waits.2.0 waits.2.1 c takes.first_step step.slots earlier takes.first_is_there takes.first_width in
+      let of_first = operand_at steps limits built.tables waits.0 first waits.2.0 waits.2.1 c takes.first_step step.slots earlier takes.first_is_there takes.first_width in
       let first_same = ap (λ (s : PlainStep). steps_before s.core) (some_same after.first_step takes.first_step (sym after.first_is_there ∙ takes.first_is_there)) in
       let second_same = ap (λ (s : PlainStep). steps_before s.core) (some_same after.second_step takes.second_step (sym after.second_is_there ∙ takes.second_is_there)) in
       record {

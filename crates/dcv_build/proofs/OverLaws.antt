@@ -22,7 +22,7 @@ some_at (x ∷ xs) (suc place) within = some_at xs place (omega arith)
 
 module _ (one_canonical : OneCanonicalTable) (steps : List PlainStep) (limits : Limits) where
   -- two lists of canonical tables have the same ones
-  done_alike : (one other : List Table) → IsDone steps limits one → IsDone steps limits other → (number : ℕ) → number < length one → number < length other
+  pub done_alike : (one other : List Table) → IsDone steps limits one → IsDone steps limits other → (number : ℕ) → number < length one → number < length other
       → table_at one number ≡ table_at other number
   done_alike one other here there number in_one in_other =
       let step = some_at steps number (omega (arith, here.no_more)) in

@@ -1,27 +1,36 @@
--- One step more is built: its table stands behind the others, and its automaton waits behind those that it did not take.
+-- One step more is built: its table stands behind the others and waits behind those that it did not take, and its counts stand behind
+-- the others.
 use Rattle.std.proofs.Common.{◌≡◌, ℕ, zero, suc, ◌+◌, ◌<◌, ◌≤◌, List, [], ◌∷◌, ◌++◌, length, reverse, Some, slice_get, Result, Ok, Err, IfOk, inl, inr, refl, sym, ap, subst, ◌∙◌, arith, length-append}
 use Rattle.std.proofs.lemmas.List.{reverse-append}
-use Rattle.std.proofs.lemmas.Option.{slice_get_within}
-use Rattle.dcv_word.specs.Behaviour.{Word, IsBehaviour}
-use Rattle.dcv_language.specs.Automaton.{WorkingMachine, accepts}
+use Rattle.std.proofs.lemmas.Option.{slice_get_within, slice_get-get_or}
+use Rattle.dcv_count.specs.declared.Count.{Count}
+use Rattle.dcv_word.specs.Behaviour.{Word}
+use Rattle.dcv_language.specs.Automaton.{accepts}
 use Rattle.dcv_language.specs.Canonical.{IsCanonical}
 use Rattle.dcv_language.specs.Language.{HaveSameBehaviours}
 use Rattle.dcv_language.specs.Table.{Table}
 use Rattle.dcv_language.proofs.Canonicals.{canonical_for_same_behaviours}
-use Rattle.dcv_core.specs.Core.{CoreTree}
+use Rattle.dcv_core.specs.Core.{CoreTree, PlainBasic, BasicConstant, BasicPoint, BasicRun, BasicEvery, BasicUnit, BasicSlen, BasicScount, BasicSdur}
 use Rattle.dcv_core.specs.Holds.{words_of}
-use Rattle.dcv_core.specs.Steps.{PlainStep, steps_before, steps_of}
+use Rattle.dcv_core.specs.Steps.{PlainOp, OpAtom, OpNot, OpAnd, OpOr, OpIff, OpChop, OpStar, OpExists, PlainStep, steps_before, steps_of}
 use Rattle.dcv_core.proofs.StepList.{steps_are_operations, some_same}
-use Rattle.dcv_dfa.specs.Raw.{RawValue}
-use Rattle.dcv_dfa.specs.Auto.{table_of_states}
+use Rattle.dcv_atoms.specs.AtomRows.{atom_machine}
+use Rattle.dcv_atoms.specs.Laws.{MachineAcceptsStep as MachineAcceptsAtomStep}
 use Rattle.dcv_explore.specs.declared.explorer.Limits.{Limits}
-use Rattle.dcv_explore.specs.Budget.{FitsIn, IsWithin, Kind, TooManyStates, TooManyNodes, Passes, Exceeds, AgreeWhereReached}
-use Rattle.dcv_explore.proofs.Budgets.{fits_there, passes_there, accept_the_same}
+use Rattle.dcv_explore.specs.Budget.{IsWithin, Kind, TooManyStates, TooManyNodes, Exceeds}
 use Rattle.dcv_explore.proofs.Places.{pushed_cases}
+use Rattle.dcv_shelf.specs.Shelf.{ShelfTable}
+use Rattle.dcv_build.specs.declared.asked.Answer.{Answer}
 use Rattle.dcv_build.specs.declared.faults.BuildFault.{BuildFault}
 use Rattle.dcv_build.specs.Budget.{row_at, IsStepDone, IsDone, IsOver}
-use Rattle.dcv_build.specs.Building.{IsOwn, IsBuilt, Settles, IsNewest, AreWaiting, HasBuilt, Goes}
+use Rattle.dcv_build.specs.Building.{IsNewest, AreWaiting, HasBuilt, GoesWith, Goes}
+use Rattle.dcv_build.specs.Counts.{HasAllCounts, IsCount}
+use Rattle.dcv_build.specs.Laws.{AreCanonicalBefore}
+use Rattle.dcv_build.specs.Rows.{row_of}
+use Rattle.dcv_build.specs.Settled.{IsOwn, IsFor, Answers}
 use Rattle.dcv_build.proofs.SameRows.{table_at, row_over}
+use Rattle.dcv_build.proofs.ShelfTables.{at_of}
+use Rattle.dcv_build.proofs.StepMachines.{machine_accepts_step}
 
 -- ---- lists
 
@@ -47,10 +56,10 @@ table_kept (table ∷ tables) more (suc number) within = table_kept tables more 
 
 -- ---- what waits, where there are more tables
 
-waiting_grown : (steps : List PlainStep) (limits : Limits) (tables more : List Table) (autos : List RawValue) (n : ℕ)
-    → AreWaiting steps limits tables n autos → AreWaiting steps limits (tables ++ more) n autos
+waiting_grown : (steps : List PlainStep) (limits : Limits) (tables more : List Table) (waiting : List ShelfTable) (n : ℕ)
+    → AreWaiting steps limits tables n waiting → AreWaiting steps limits (tables ++ more) n waiting
 waiting_grown steps limits tables more [] n waits = waits
-waiting_grown steps limits tables more (auto ∷ autos) n waits =
+waiting_grown steps limits tables more (one ∷ others) n waits =
     let newest = waits.1 in (
       waits.0,
       record {
@@ -59,107 +68,163 @@ waiting_grown steps limits tables more (auto ∷ autos) n waits =
         last = newest.last;
         is_there = newest.is_there;
         begins = newest.begins;
-        table = still_there tables more newest.number (table_of_states auto) newest.table;
+        table = still_there tables more newest.number one.table newest.table;
         slots = newest.slots;
         own = newest.own;
       },
-      waiting_grown steps limits tables more autos waits.0 waits.2,
+      waiting_grown steps limits tables more others waits.0 waits.2,
     )
+
+-- ---- the slots of a row
+
+row_slots : (op : PlainOp) (slots : ℕ) (tables : List Table) → (row_of op slots tables).machine.slots ≡ slots
+row_slots (OpAtom basic) slots tables = own_slots basic
+  where
+    own_slots : (form : PlainBasic) → (atom_machine slots form).slots ≡ slots
+    own_slots (BasicConstant truth) = refl
+    own_slots (BasicPoint p) = refl
+    own_slots (BasicRun p) = refl
+    own_slots (BasicEvery p) = refl
+    own_slots (BasicUnit p) = refl
+    own_slots (BasicSlen relation m) = refl
+    own_slots (BasicScount p relation m) = refl
+    own_slots (BasicSdur p relation m) = refl
+row_slots (OpNot d) slots tables = refl
+row_slots (OpAnd c d) slots tables = refl
+row_slots (OpOr c d) slots tables = refl
+row_slots (OpIff c d) slots tables = refl
+row_slots (OpChop c d) slots tables = refl
+row_slots (OpStar d) slots tables = refl
+row_slots (OpExists d) slots tables = refl
 
 -- ---- one step more
 
-module _ (k : ℕ) (tree : CoreTree) (limits : Limits) (n : ℕ) (tables : List Table) (count : length tables ≡ n) (done : IsDone (steps_of k tree) limits tables)
+module _ (k : ℕ) (tree : CoreTree) (limits : Limits) (n : ℕ) (tables : List Table) (size : length tables ≡ n) (done : IsDone (steps_of k tree) limits tables)
     (step : PlainStep) (there : slice_get (steps_of k tree) n ≡ Some step) where
   -- the row of a step up to this one does not change
-  row_grown : (more : List Table) (number : ℕ) (other : PlainStep) → slice_get (steps_of k tree) number ≡ Some other → number ≤ n
+  within_grown : (more : List Table) (number : ℕ) (other : PlainStep) → slice_get (steps_of k tree) number ≡ Some other → number ≤ n
       → IsWithin (row_at other tables) limits → IsWithin (row_at other (tables ++ more)) limits
-  row_grown more number other at early here =
+  within_grown more number other at early here =
       row_over (steps_of k tree) number other tables (tables ++ more)
-      (λ earlier before. table_kept tables more earlier (omega (arith, count)))
+      (λ earlier before. table_kept tables more earlier (omega (arith, size)))
       (λ row. IsWithin row limits) other.op (steps_are_operations k tree number other at) here
+
+  count_grown : (more : List Table) (number : ℕ) (other : PlainStep) (count : Count) → slice_get (steps_of k tree) number ≡ Some other → number ≤ n
+      → IsCount tables other count → IsCount (tables ++ more) other count
+  count_grown more number other count at early is = record {
+    place = is.place;
+    counts = row_over (steps_of k tree) number other tables (tables ++ more)
+        (λ earlier before. table_kept tables more earlier (omega (arith, size)))
+        (λ row. HasAllCounts row.machine row.parts count.states count.nodes) other.op (steps_are_operations k tree number other at) is.counts;
+  }
 
   done_with : (table : Table) (access : List Word) → IsCanonical step.slots (words_of step.core) table access → IsWithin (row_at step tables) limits
       → IsDone (steps_of k tree) limits (tables ++ table ∷ [])
   done_with table access canonical within = record {
-    no_more = let inside = slice_get_within (steps_of k tree) n step there in omega (arith, count, inside, length-append tables (table ∷ []));
+    no_more = let inside = slice_get_within (steps_of k tree) n step there in omega (arith, size, inside, length-append tables (table ∷ []));
     each = λ number other found at here. elim (pushed_cases tables table number found here) [
       | inl before ↦
           let old = done.each number other found at before in
           record {
             access = old.access;
             canonical = old.canonical;
-            within = row_grown (table ∷ []) number other at (omega (arith, count, slice_get_within tables number found before)) old.within;
+            within = within_grown (table ∷ []) number other at (omega (arith, size, slice_get_within tables number found before)) old.within;
           }
       | inr last ↦
-          let same : step ≡ other = some_same step other (sym there ∙ ap (slice_get (steps_of k tree)) (sym (last.0 ∙ count)) ∙ at) in
+          let same : step ≡ other = some_same step other (sym there ∙ ap (slice_get (steps_of k tree)) (sym (last.0 ∙ size)) ∙ at) in
           let own : IsStepDone limits (tables ++ table ∷ []) step table =
-          record { access = access; canonical = canonical; within = row_grown (table ∷ []) n step there (omega arith) within } in
+          record { access = access; canonical = canonical; within = within_grown (table ∷ []) n step there (omega arith) within } in
           subst (λ (one : PlainStep). IsStepDone limits (tables ++ table ∷ []) one found) same
           (subst (λ (one : Table). IsStepDone limits (tables ++ table ∷ []) step one) last.1 own)
     ];
   }
 
-  -- the automaton waits behind those that the step did not take
-  module _ (rest : List RawValue) (begin : ℕ) (begins : begin + steps_before step.core ≡ n) (waits : AreWaiting (steps_of k tree) limits tables begin (reverse rest)) where
-    built_next : (auto : RawValue) (access : List Word) → IsCanonical step.slots (words_of step.core) (table_of_states auto) access → IsWithin (row_at step tables) limits
-        → auto.arena.slots ≡ step.slots → IsOwn limits auto → HasBuilt (steps_of k tree) limits (n + 1) (rest ++ auto ∷ [])
-    built_next auto access canonical within slots own =
-        let table = table_of_states auto in
-        let newest : IsNewest (steps_of k tree) limits (tables ++ table ∷ []) (n + 1) auto begin = record {
+  -- the table waits behind those that the step did not take
+  module _ (rest : List ShelfTable) (counts : List Count) (one_each : length counts ≡ n)
+      (each : (number : ℕ) (other : PlainStep) (count : Count) → slice_get (steps_of k tree) number ≡ Some other → slice_get counts number ≡ Some count → IsCount tables other count)
+      (begin : ℕ) (begins : begin + steps_before step.core ≡ n) (waits : AreWaiting (steps_of k tree) limits tables begin (reverse rest)) where
+    counted : (table : Table) (count : Count) → IsCount tables step count
+        → (number : ℕ) (other : PlainStep) (found : Count) → slice_get (steps_of k tree) number ≡ Some other → slice_get (counts ++ count ∷ []) number ≡ Some found
+        → IsCount (tables ++ table ∷ []) other found
+    counted table count is number other found at here = elim (pushed_cases counts count number found here) [
+      | inl before ↦
+          count_grown (table ∷ []) number other found at (omega (arith, one_each, slice_get_within counts number found before)) (each number other found at before)
+      | inr last ↦
+          let same : step ≡ other = some_same step other (sym there ∙ ap (slice_get (steps_of k tree)) (sym (last.0 ∙ one_each)) ∙ at) in
+          let own = count_grown (table ∷ []) n step count there (omega arith) is in
+          subst (λ (one : PlainStep). IsCount (tables ++ table ∷ []) one found) same
+          (subst (λ (one : Count). IsCount (tables ++ table ∷ []) step one) last.1 own)
+    ]
+
+    built_next : (one : ShelfTable) (access : List Word) (count : Count) → IsCanonical step.slots (words_of step.core) one.table access → IsWithin (row_at step tables) limits
+        → one.slots ≡ step.slots → IsOwn limits one → IsCount tables step count → HasBuilt (steps_of k tree) limits (n + 1) (rest ++ one ∷ []) (counts ++ count ∷ [])
+    built_next one access count canonical within slots own is =
+        let newest : IsNewest (steps_of k tree) limits (tables ++ one.table ∷ []) (n + 1) one begin = record {
           number = n;
           step = step;
           last = omega arith;
           is_there = there;
           begins = begins;
-          table = subst (λ place. slice_get (tables ++ table ∷ []) place ≡ Some table) count (last_there tables table);
+          table = subst (λ place. slice_get (tables ++ one.table ∷ []) place ≡ Some one.table) size (last_there tables one.table);
           slots = slots;
           own = own;
         } in
         record {
-          tables = tables ++ table ∷ [];
-          count = omega (arith, count, length-append tables (table ∷ []));
-          done = done_with table access canonical within;
-          waits = subst (AreWaiting (steps_of k tree) limits (tables ++ table ∷ []) (n + 1)) (sym (newest_first rest auto))
-              (begin, newest, waiting_grown (steps_of k tree) limits tables (table ∷ []) (reverse rest) begin waits);
+          tables = tables ++ one.table ∷ [];
+          count = omega (arith, size, length-append tables (one.table ∷ []));
+          done = done_with one.table access canonical within;
+          waits = subst (AreWaiting (steps_of k tree) limits (tables ++ one.table ∷ []) (n + 1)) (sym (newest_first rest one))
+              (begin, newest, waiting_grown (steps_of k tree) limits tables (one.table ∷ []) (reverse rest) begin waits);
+          one_each = omega (arith, one_each, length-append counts (count ∷ []));
+          each = counted one.table count is;
         }
 
     over_here : (kind : Kind) (at : ℕ) → at ≡ n → Exceeds kind (row_at step tables) limits → IsOver (steps_of k tree) limits kind at
     over_here kind at same exceeds =
         subst (IsOver (steps_of k tree) limits kind) (sym same)
-        (record { tables = tables; done = done; before = count; step = step; is_there = there; exceeds = exceeds })
+        (record { tables = tables; done = done; before = size; step = step; is_there = there; exceeds = exceeds })
 
-    -- a machine was explored that does as the step's row does, and accepts the step's words
-    module _ {S : Type 0} (machine row_machine : WorkingMachine S) (parts : ℕ) (agree : AgreeWhereReached machine row_machine) (width : row_machine.slots ≡ step.slots)
-        (same : HaveSameBehaviours step.slots (accepts row_machine.automaton) (words_of step.core))
-        (within : FitsIn row_machine parts limits → IsWithin (row_at step tables) limits)
-        (exceeds : (kind : Kind) → Passes kind row_machine parts limits → Exceeds kind (row_at step tables) limits) where
-      slots_are : machine.slots ≡ step.slots
-      slots_are = agree.slots ∙ width
+    -- the step's row accepts the step's words
+    before : AreCanonicalBefore (steps_of k tree) n tables
+    before number earlier below at =
+        let is = done.each number earlier (table_at tables number) at (slice_get-get_or tables number [] (omega (arith, below, size))) in
+        (is.access, is.canonical)
 
-      accepts_words : HaveSameBehaviours step.slots (accepts machine.automaton) (words_of step.core)
-      accepts_words word behaves =
-          accept_the_same agree word (subst (λ slots. IsBehaviour slots word) (sym slots_are) behaves) ∙ same word behaves
+    module _ (atoms : MachineAcceptsAtomStep) (shelf : List ShelfTable) where
+      accepts_words : HaveSameBehaviours step.slots (accepts (row_at step tables).machine.automaton) (words_of step.core)
+      accepts_words = machine_accepts_step steps_are_operations atoms k tree n step tables there before
 
-      built_of : (auto : RawValue) → IsBuilt machine parts limits auto → HasBuilt (steps_of k tree) limits (n + 1) (rest ++ auto ∷ [])
-      built_of auto is =
-          built_next auto is.access
-          (canonical_for_same_behaviours step.slots (accepts machine.automaton) (words_of step.core) (table_of_states auto) is.access accepts_words
-          (subst (λ slots. IsCanonical slots (accepts machine.automaton) (table_of_states auto) is.access) slots_are is.canonical))
-          (within (fits_there agree parts limits is.fits))
-          (is.slots ∙ slots_are) is.own
+      built_of : (answer : Answer) → IsFor (row_at step tables).machine (row_at step tables).parts limits shelf answer → GoesWith (steps_of k tree) limits n rest counts shelf answer
+      built_of answer is count own =
+          let built = is.built in
+          let width = row_slots step.op step.slots tables in
+          let machine = (row_at step tables).machine in
+          subst (λ (one : ShelfTable). HasBuilt (steps_of k tree) limits (n + 1) (rest ++ one ∷ []) (counts ++ count ∷ [])) (sym (at_of shelf answer.number is.one is.there))
+          (built_next is.one built.access count
+          (canonical_for_same_behaviours step.slots (accepts machine.automaton) (words_of step.core) is.one.table built.access accepts_words
+          (subst (λ slots. IsCanonical slots (accepts machine.automaton) is.one.table built.access) width built.canonical))
+          (record {
+            states = answer.states;
+            nodes = built.counts.of_rows;
+            counts = built.counts.counts;
+            states_within = built.states_within;
+            nodes_within = omega (arith, built.counts.nodes_are, built.nodes_within);
+          })
+          (built.slots ∙ width) built.own
+          (record {
+            place = own.place step there;
+            counts = subst (λ m. HasAllCounts machine (row_at step tables).parts m count.nodes) (sym own.states)
+                (subst (HasAllCounts machine (row_at step tables).parts answer.states) (sym own.nodes) built.counts);
+          }))
 
-      built_where_ok : (result : Result RawValue BuildFault) → IfOk result (IsBuilt machine parts limits)
-          → IfOk result (λ auto. HasBuilt (steps_of k tree) limits (n + 1) (rest ++ auto ∷ []))
-      built_where_ok (Ok auto) is = built_of auto is
-      built_where_ok (Err fault) is = tt
+      goes_where_ok : (result : Result Answer BuildFault) → IfOk result (IsFor (row_at step tables).machine (row_at step tables).parts limits shelf)
+          → IfOk result (GoesWith (steps_of k tree) limits n rest counts shelf)
+      goes_where_ok (Ok answer) is = built_of answer is
+      goes_where_ok (Err fault) is = tt
 
-      pub goes : (result : Result RawValue BuildFault) → Settles machine parts limits n result → Goes (steps_of k tree) limits n rest result
-      goes result settles = record {
-        built = built_where_ok result settles.built;
-        states = λ at limit is.
-            let named = settles.states at limit is in
-            (named.1, over_here TooManyStates at named.0 (exceeds TooManyStates (passes_there agree TooManyStates parts limits named.2)));
-        nodes = λ at limit is.
-            let named = settles.nodes at limit is in
-            (named.1, over_here TooManyNodes at named.0 (exceeds TooManyNodes (passes_there agree TooManyNodes parts limits named.2)));
+      pub goes : (result : Result Answer BuildFault) → Answers (row_at step tables).machine (row_at step tables).parts limits n shelf result → Goes (steps_of k tree) limits n rest counts shelf result
+      goes result answers = record {
+        built = goes_where_ok result answers.built;
+        states = λ at limit is. let named = answers.states at limit is in (named.1, over_here TooManyStates at named.0 named.2);
+        nodes = λ at limit is. let named = answers.nodes at limit is in (named.1, over_here TooManyNodes at named.0 named.2);
       }

@@ -1,5 +1,5 @@
 -- What is explored within the limits and minimised is the canonical automaton of the machine.
-use Rattle.std.proofs.Common.{◌≡◌, ℕ, ◌-◌, ◌<◌, ◌≤◌, length, Result, Ok, Err, subst, ◌∙◌, arith}
+use Rattle.std.proofs.Common.{◌≡◌, ℕ, ◌+◌, ◌-◌, ◌<◌, ◌≤◌, length, Result, Ok, Err, refl, subst, ◌∙◌, arith}
 use Rattle.dcv_arena.proofs.Counts.{count_exact}
 use Rattle.dcv_language.specs.Automaton.{WorkingMachine, accepts}
 use Rattle.dcv_language.specs.Canonical.{IsCanonical}
@@ -13,10 +13,12 @@ use Rattle.dcv_explore.specs.declared.faults.ExploreFault.TheVariants.{States as
 use Rattle.dcv_explore.specs.Budget.{HasMoreNodes}
 use Rattle.dcv_explore.specs.Explored.{IsExplored}
 use Rattle.dcv_explore.specs.Reached.{HasCounts, MoreStates, MoreNodes}
-use Rattle.dcv_explore.proofs.Budgets.{counted_fits, more_with_parts, more_by_parts}
+use Rattle.dcv_explore.proofs.Budgets.{more_with_parts, more_by_parts}
+use Rattle.dcv_shelf.specs.Shelf.{table_of_auto}
 use Rattle.dcv_build.specs.declared.faults.BuildFault.{BuildFault}
 use Rattle.dcv_build.specs.declared.faults.BuildFault.TheVariants.{States, Nodes}
-use Rattle.dcv_build.specs.Building.{IsLeastOf, IsBuilt, Settles, fault_at}
+use Rattle.dcv_build.specs.Settled.{IsLeastOf, IsBuilt, Settles, fault_at}
+use Rattle.dcv_build.specs.declared.settling.Made.{Made}
 
 -- what the explorer gives where the parts of a proposition leave it less room
 pub record IsExploredWithin {S : Type 0} (machine : WorkingMachine S) (parts : ℕ) (limits : Limits) (found : RawValue) : Type 0 where
@@ -28,19 +30,24 @@ pub record IsExploredWithin {S : Type 0} (machine : WorkingMachine S) (parts : �
   pub nodes : length found.arena.nodes ≤ limits.nodes - parts
 
 pub least_is_built : {S : Type 0} (machine : WorkingMachine S) (parts : ℕ) (limits : Limits) (found auto : RawValue) → parts ≤ limits.nodes
-    → IsExploredWithin machine parts limits found → IsLeastOf found auto → IsBuilt machine parts limits auto
+    → IsExploredWithin machine parts limits found → IsLeastOf found auto
+    → IsBuilt machine parts limits (table_of_auto auto) (length found.rows) (parts + length found.arena.nodes)
 least_is_built machine parts limits found auto few is least =
     let minimal = least.minimal in
     let own = count_exact found.arena is.raw.arena.reduced found.rows is.raw.rows is.explored.nodes in
     let canonical = subst (λ k. IsCanonical k (raw_accepts found) (table_of_states auto) minimal.access) is.explored.slots minimal.canonical in
     record {
-      fits = counted_fits machine parts limits (length found.rows) (length found.arena.nodes) is.counts is.states few is.nodes;
+      counts = record { of_rows = length found.arena.nodes; counts = is.counts; nodes_are = refl };
+      states_within = is.states;
+      nodes_within = omega (arith, few, is.nodes);
       slots = minimal.slots ∙ is.explored.slots;
       access = minimal.access;
       canonical = canonical_for_same_behaviours machine.slots (raw_accepts found) (accepts machine.automaton) (table_of_states auto) minimal.access is.alike canonical;
       own = record {
+        auto = auto;
         raw = least.raw_is;
         auto_is = least.auto_is;
+        table = refl;
         states = omega (arith, minimal.states, is.states);
         nodes = omega (arith, minimal.nodes, own, is.nodes);
       };
@@ -49,8 +56,8 @@ least_is_built machine parts limits found auto few is least =
 -- ---- what the call answers
 
 module _ {S : Type 0} (machine : WorkingMachine S) (parts : ℕ) (limits : Limits) (step : ℕ) where
-  pub settled_ok : (auto : RawValue) → IsBuilt machine parts limits auto → Settles machine parts limits step (Ok auto)
-  settled_ok auto is = record { built = is; states = λ at limit same. absurd cc; nodes = λ at limit same. absurd cc }
+  pub settled_ok : (made : Made) → IsBuilt machine parts limits (table_of_auto made.auto) made.states made.nodes → Settles machine parts limits step (Ok made)
+  settled_ok made is = record { built = is; states = λ at limit same. absurd cc; nodes = λ at limit same. absurd cc }
 
   settled_states : MoreStates machine limits.states → Settles machine parts limits step (Err (States step limits.states))
   settled_states more = record {
@@ -92,7 +99,7 @@ module _ {S : Type 0} (machine : WorkingMachine S) (parts : ℕ) (limits : Limit
   settled_parts many = settled_nodes (more_by_parts machine parts limits many)
 
 -- the same of an equal machine, with as many parts
-pub settled_same : {S : Type 0} (machine other : WorkingMachine S) (parts more : ℕ) (limits : Limits) (step : ℕ) (result : Result RawValue BuildFault)
+pub settled_same : {S : Type 0} (machine other : WorkingMachine S) (parts more : ℕ) (limits : Limits) (step : ℕ) (result : Result Made BuildFault)
     → machine ≡ other → parts ≡ more → Settles machine parts limits step result → Settles other more limits step result
 settled_same {S = S} machine other parts more limits step result same alike settles =
     subst (λ (m : WorkingMachine S). Settles m more limits step result) same (subst (λ p. Settles machine p limits step result) alike settles)

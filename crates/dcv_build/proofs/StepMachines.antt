@@ -1,10 +1,13 @@
 -- The machine of each operator, over canonical tables of its operands' words, accepts its step's words.
-use Rattle.std.proofs.Common.{◌≡◌, ℕ, suc, ◌+◌, ◌<◌, List, [], Some, slice_get, slice_index_or, refl, sym, subst, ◌∙◌, arith}
-use Rattle.dcv_word.specs.Behaviour.{Word}
+use Rattle.std.proofs.Common.{◌≡◌, ℕ, suc, ◌<◌, List, Some, slice_get, refl, sym, subst, ◌∙◌, arith}
 use Rattle.dcv_language.specs.Automaton.{Automaton, accepts}
 use Rattle.dcv_language.specs.Language.{Language, outside, HaveSameBehaviours}
 use Rattle.dcv_language.specs.MachineLaws.{JoinsSets}
 use Rattle.dcv_language.specs.Operations.{intersection, union, agreement, chop, star, projection}
+use Rattle.dcv_language.specs.OperationMachines.{not_machine, and_machine, or_machine, iff_machine, chop_machine, star_machine, exists_machine}
+use Rattle.dcv_language.proofs.OperationRuns.{not_accepts, and_accepts, or_accepts, iff_accepts, chop_accepts, star_accepts, exists_accepts}
+use Rattle.dcv_language.proofs.OperationSets.{of_set}
+use Rattle.dcv_language.proofs.Sameness.{outside_same, intersection_same, union_same, agreement_same, chop_same, star_same, projection_same}
 use Rattle.dcv_core.specs.Core.{CoreTree}
 use Rattle.dcv_core.specs.Holds.{words_of}
 use Rattle.dcv_core.specs.Laws.{StepsAreOperations}
@@ -14,7 +17,43 @@ use Rattle.dcv_language.specs.Table.{Table}
 use Rattle.dcv_atoms.specs.Laws.{MachineAcceptsStep as MachineAcceptsAtomStep}
 use Rattle.dcv_build.specs.Rows.{row_of, operand_at}
 use Rattle.dcv_build.specs.Laws.{AreCanonicalBefore, MachineAcceptsStep}
-use Rattle.dcv_build.proofs.Arms.{and_sets, or_sets, iff_sets, chop_sets, not_set, star_set, exists_set}
+
+-- ---- what the machines accept of operands that accept the behaviours of given sets
+
+and_sets : (slots : ℕ) → JoinsSets (and_machine slots) intersection
+and_sets slots k first second L M one two =
+    of_set (and_machine slots first second).automaton k (intersection (accepts first) (accepts second)) (intersection L M) (and_accepts slots first second)
+    (intersection_same k (accepts first) L (accepts second) M one two)
+
+or_sets : (slots : ℕ) → JoinsSets (or_machine slots) union
+or_sets slots k first second L M one two =
+    of_set (or_machine slots first second).automaton k (union (accepts first) (accepts second)) (union L M) (or_accepts slots first second)
+    (union_same k (accepts first) L (accepts second) M one two)
+
+iff_sets : (slots : ℕ) → JoinsSets (iff_machine slots) agreement
+iff_sets slots k first second L M one two =
+    of_set (iff_machine slots first second).automaton k (agreement (accepts first) (accepts second)) (agreement L M) (iff_accepts slots first second)
+    (agreement_same k (accepts first) L (accepts second) M one two)
+
+chop_sets : (slots : ℕ) → JoinsSets (chop_machine slots) chop
+chop_sets slots k first second L M one two =
+    of_set (chop_machine slots first second).automaton k (chop (accepts first) (accepts second)) (chop L M) (chop_accepts slots first second)
+    (chop_same k (accepts first) L (accepts second) M one two)
+
+not_set : (slots : ℕ) (operand : Automaton ℕ) (L : Language) → HaveSameBehaviours slots (accepts operand) L → HaveSameBehaviours slots (accepts (not_machine slots operand).automaton) (outside L)
+not_set slots operand L same =
+    of_set (not_machine slots operand).automaton slots (outside (accepts operand)) (outside L) (not_accepts slots operand) (outside_same slots (accepts operand) L same)
+
+star_set : (slots : ℕ) (operand : Automaton ℕ) (L : Language) → HaveSameBehaviours slots (accepts operand) L → HaveSameBehaviours slots (accepts (star_machine slots operand).automaton) (star L)
+star_set slots operand L same =
+    of_set (star_machine slots operand).automaton slots (star (accepts operand)) (star L) (star_accepts slots operand) (star_same slots (accepts operand) L same)
+
+exists_set : (slots : ℕ) (operand : Automaton ℕ) (L : Language) → HaveSameBehaviours (suc slots) (accepts operand) L
+    → HaveSameBehaviours slots (accepts (exists_machine slots operand).automaton) (projection L)
+exists_set slots operand L same =
+    of_set (exists_machine slots operand).automaton slots (projection (accepts operand)) (projection L) (exists_accepts slots operand) (projection_same slots (accepts operand) L same)
+
+-- ---- by the operator
 
 module _ (k : ℕ) (core : CoreTree) (n : ℕ) (step : PlainStep) (tables : List Table) (before : AreCanonicalBefore (steps_of k core) n tables) where
   -- the table of an earlier step accepts that step's words

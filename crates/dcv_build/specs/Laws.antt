@@ -1,5 +1,6 @@
 -- The laws that `src/laws.rt` proves.
 use Rattle.std.specs.Prelude.{◌≡◌, ℕ, ◌<◌, List, [], Some, slice_get, slice_index_or}
+use Rattle.dcv_count.specs.declared.Count.{Count}
 use Rattle.dcv_word.specs.Behaviour.{Word}
 use Rattle.dcv_language.specs.Automaton.{accepts}
 use Rattle.dcv_language.specs.Canonical.{IsCanonical}
@@ -11,6 +12,7 @@ use Rattle.dcv_core.specs.Steps.{PlainStep, steps_of}
 use Rattle.dcv_explore.specs.declared.explorer.Limits.{Limits}
 use Rattle.dcv_explore.specs.Budget.{Kind}
 use Rattle.dcv_build.specs.Budget.{row_at, IsWithinBudget, IsOver}
+use Rattle.dcv_build.specs.Counts.{AreCounts}
 
 -- one step at most is the first that is over the limits, whatever it has too many of
 abbrev pub OneStepIsOver : Type 0
@@ -21,6 +23,11 @@ OneStepIsOver = (k : ℕ) (core : CoreTree) (limits : Limits) (kind other_kind :
 abbrev pub WithinExcludesOver : Type 0
 WithinExcludesOver = (k : ℕ) (core : CoreTree) (limits : Limits) (kind : Kind) (number : ℕ)
     → IsWithinBudget (steps_of k core) limits → ¬ IsOver (steps_of k core) limits kind number
+
+-- a core has one list of counts
+abbrev pub OneListOfCounts : Type 0
+OneListOfCounts = (k : ℕ) (core : CoreTree) (limits : Limits) (counts others : List Count)
+    → AreCounts (steps_of k core) limits counts → AreCounts (steps_of k core) limits others → counts ≡ others
 
 -- ---- what is explored for a step
 

@@ -1,6 +1,5 @@
-// The steps of a core, built one after another. A step takes the automata of its operands from the end of those that wait, and its
-// own waits in their place.
-ghost use Rattle.std.specs.Prelude.{◌≡◌, ◌≤◌, ◌<◌, ◌+◌, ◌++◌, ◌∷◌, [], ℕ, Err, length, IfOk, OnOk};
+// Builds of cores: each begins with nothing known, and explores no operator twice over the same automata.
+ghost use Rattle.std.specs.Prelude.{◌≡◌, ◌≤◌, ℕ, Err, length, IfOk, OnOk};
 ghost use Rattle.dcv_core.specs.Core.{CoreTree};
 ghost use Rattle.dcv_core.specs.Holds.{words_of};
 ghost use Rattle.dcv_core.specs.Steps.{steps_of};
@@ -9,15 +8,39 @@ ghost use Rattle.dcv_explore.specs.Budget.{TooManyStates, TooManyNodes};
 ghost use Rattle.dcv_build.specs.declared.faults.BuildFault.TheVariants.{States, Nodes};
 ghost use Rattle.dcv_build.specs.Given.{IsCoreOf, IsCore};
 ghost use Rattle.dcv_build.specs.Budget.{IsWithinBudget, IsOver, IsAutomatonOf};
-ghost use Rattle.dcv_build.specs.Building.{HasBuilt, Goes, ForTree};
+ghost use Rattle.dcv_build.specs.Counts.{AreCounts};
 
+use crate::building::Building;
 use crate::faults::BuildFault;
-use crate::operations;
-use dcv_atoms::laws::machines_accept_forms;
-use dcv_core::{Core, Op};
+use dcv_core::Core;
+use dcv_count::Count;
 use dcv_dfa::Auto;
 use dcv_explore::Limits;
 use std::alloc::Global;
+use std::marker::Model;
+
+/// The canonical automaton of a goal's words, and what each step took, in the order of the steps.
+#[derive(Debug, Drop)]
+pub struct Built {
+    pub auto: Auto,
+    pub counts: Vec<Count>,
+}
+
+/// Builds cores within limits, each from nothing.
+#[derive(Debug, Drop)]
+pub struct Builder {
+    alloc: Global,
+    limits: Limits,
+    explored: u32,
+}
+
+impl Model for Builder {
+    ghost use Rattle.dcv_explore.specs.declared.explorer.Limits.{Limits as OwnLimits};
+
+    ghost Value = { OwnLimits };
+
+    ghost view = { λ builder. builder.limits };
+}
 
 /// The canonical automaton of the goal's words: the words on the whole of which the core holds.
 ///
@@ -39,68 +62,86 @@ pub fn build(alloc: Global, core: &Core, limits: Limits) -> Result<Auto, BuildFa
     ensures nodes { (tree : CoreTree) (step limit : ℕ) → IsCoreOf tree core.now → result ≡ Err (Nodes step limit)
         → (limit ≡ limits.nodes) × IsOver (steps_of core.now.declared tree) limits TooManyNodes step }
 {
-    let mut waiting = Vec::new(alloc);
-    for step in 0..core.steps() {
-        let auto = build_step(alloc, core, step, limits, &mut waiting)?;
-        waiting.push(auto)?;
+    let mut builder = Builder::new(alloc, limits);
+    builder.build(core)
+}
+
+/// The automaton of `build`, and beside it what each step took.
+pub fn build_counted(alloc: Global, core: &Core, limits: Limits) -> Result<Built, BuildFault>
+    requires { IsCore core.now }
+    ensures canonical { (tree : CoreTree) → IsCoreOf tree core.now → IfOk result (λ built. IsAutomatonOf core.now.declared (words_of tree) built.auto) }
+    ensures few_states { IfOk result (λ built. length built.auto.rows ≤ limits.states) }
+    ensures few_nodes { IfOk result (λ built. count_of_nodes built.auto ≤ limits.nodes) }
+
+    // There is one count for each step, in order: the start of its span, and how many states and nodes its row has exactly.
+    ensures counts { (tree : CoreTree) → IsCoreOf tree core.now → IfOk result (λ built. AreCounts (steps_of core.now.declared tree) limits built.counts.items) }
+
+    // The faults are those of `build`.
+    ensures within { (tree : CoreTree) → IsCoreOf tree core.now → OnOk result (IsWithinBudget (steps_of core.now.declared tree) limits) }
+    ensures states { (tree : CoreTree) (step limit : ℕ) → IsCoreOf tree core.now → result ≡ Err (States step limit)
+        → (limit ≡ limits.states) × IsOver (steps_of core.now.declared tree) limits TooManyStates step }
+    ensures nodes { (tree : CoreTree) (step limit : ℕ) → IsCoreOf tree core.now → result ≡ Err (Nodes step limit)
+        → (limit ≡ limits.nodes) × IsOver (steps_of core.now.declared tree) limits TooManyNodes step }
+{
+    let mut builder = Builder::new(alloc, limits);
+    builder.build_counted(core)
+}
+
+impl Builder {
+    /// A builder within these limits. It takes no memory.
+    pub fn new(alloc: Global, limits: Limits) -> Builder
+        ensures { result ≡ limits }
+    {
+        Builder {
+            alloc,
+            limits,
+            explored: 0,
+        }
     }
-    Ok(newest(&mut waiting))
-}
 
-// The automaton of a step, where those before it are built.
-fn build_step(
-    alloc: Global,
-    core: &Core,
-    step: u32,
-    limits: Limits,
-    waiting: &mut Vec<Auto>,
-) -> Result<Auto, BuildFault>
-    requires core { IsCore core.now }
-    requires step { step < length core.now.steps }
-    requires built { ForTree core.now (λ steps. HasBuilt steps limits step waiting.old.items) }
-    ensures { ForTree core.now (λ steps. Goes steps limits step waiting.new.items result) }
-{
-    match core.op(step) {
-        Op::Atom(_) => {
-            machines_accept_forms();
-            operations::atom(alloc, core, step, limits)
+    /// The canonical automaton of the goal's words, as `build` gives it. Nothing is known from an earlier build.
+    pub fn build(&mut self, core: &Core) -> Result<Auto, BuildFault>
+        requires { IsCore core.now }
+        ensures same { self.new ≡ self.old }
+        ensures canonical { (tree : CoreTree) → IsCoreOf tree core.now → IfOk result (IsAutomatonOf core.now.declared (words_of tree)) }
+        ensures few_states { IfOk result (λ auto. length auto.rows ≤ self.old.states) }
+        ensures few_nodes { IfOk result (λ auto. count_of_nodes auto ≤ self.old.nodes) }
+        ensures within { (tree : CoreTree) → IsCoreOf tree core.now → OnOk result (IsWithinBudget (steps_of core.now.declared tree) self.old) }
+        ensures states { (tree : CoreTree) (step limit : ℕ) → IsCoreOf tree core.now → result ≡ Err (States step limit)
+            → (limit ≡ self.old.states) × IsOver (steps_of core.now.declared tree) self.old TooManyStates step }
+        ensures nodes { (tree : CoreTree) (step limit : ℕ) → IsCoreOf tree core.now → result ≡ Err (Nodes step limit)
+            → (limit ≡ self.old.nodes) × IsOver (steps_of core.now.declared tree) self.old TooManyNodes step }
+    {
+        match self.build_counted(core) {
+            Ok(built) => Ok(built.auto),
+            Err(fault) => Err(fault),
         }
-        Op::Not(_) => Ok(operations::negation(newest(waiting))),
-        Op::And(_, _) => {
-            let (first, second) = two_newest(waiting);
-            operations::conjunction(alloc, first, second, limits, step)
-        }
-        Op::Or(_, _) => {
-            let (first, second) = two_newest(waiting);
-            operations::disjunction(alloc, first, second, limits, step)
-        }
-        Op::Iff(_, _) => {
-            let (first, second) = two_newest(waiting);
-            operations::agreement(alloc, first, second, limits, step)
-        }
-        Op::Chop(_, _) => {
-            let (first, second) = two_newest(waiting);
-            operations::chop(alloc, first, second, limits, step)
-        }
-        Op::Star(_) => operations::star(alloc, newest(waiting), limits, step),
-        Op::Exists(_) => operations::some_track(alloc, newest(waiting), limits, step),
     }
-}
 
-// The automaton that waits last, which waits no more.
-fn newest(waiting: &mut Vec<Auto>) -> Auto
-    requires { 0 < length waiting.old.items }
-    ensures { waiting.old.items ≡ waiting.new.items ++ result ∷ [] }
-{
-    waiting.pop().unwrap()
-}
+    /// The same with what each step took, as `build_counted` gives it.
+    pub fn build_counted(&mut self, core: &Core) -> Result<Built, BuildFault>
+        requires { IsCore core.now }
+        ensures same { self.new ≡ self.old }
+        ensures canonical { (tree : CoreTree) → IsCoreOf tree core.now → IfOk result (λ built. IsAutomatonOf core.now.declared (words_of tree) built.auto) }
+        ensures few_states { IfOk result (λ built. length built.auto.rows ≤ self.old.states) }
+        ensures few_nodes { IfOk result (λ built. count_of_nodes built.auto ≤ self.old.nodes) }
+        ensures counts { (tree : CoreTree) → IsCoreOf tree core.now → IfOk result (λ built. AreCounts (steps_of core.now.declared tree) self.old built.counts.items) }
+        ensures within { (tree : CoreTree) → IsCoreOf tree core.now → OnOk result (IsWithinBudget (steps_of core.now.declared tree) self.old) }
+        ensures states { (tree : CoreTree) (step limit : ℕ) → IsCoreOf tree core.now → result ≡ Err (States step limit)
+            → (limit ≡ self.old.states) × IsOver (steps_of core.now.declared tree) self.old TooManyStates step }
+        ensures nodes { (tree : CoreTree) (step limit : ℕ) → IsCoreOf tree core.now → result ≡ Err (Nodes step limit)
+            → (limit ≡ self.old.nodes) × IsOver (steps_of core.now.declared tree) self.old TooManyNodes step }
+    {
+        let mut building = Building::new(self.alloc, self.limits);
+        let taken = building.take_steps(core);
+        self.explored = building.explored();
+        taken?;
+        let built = building.finish()?;
+        Ok(built)
+    }
 
-// The two that wait last, the older one first.
-fn two_newest(waiting: &mut Vec<Auto>) -> (Auto, Auto)
-    requires { 1 < length waiting.old.items }
-    ensures { waiting.old.items ≡ waiting.new.items ++ result.0 ∷ result.1 ∷ [] }
-{
-    let newer = newest(waiting);
-    let older = newest(waiting);
-    (older, newer)
+    /// How many steps of the last build were explored, of which it was not known what their exploration gives.
+    pub fn explored(&self) -> u32 {
+        self.explored
+    }
 }

@@ -1,5 +1,5 @@
 //! Laws of the budget, and of the machines that are explored. Each function here does nothing: its contract is the law.
-ghost use Rattle.dcv_build.specs.Laws.{MachineAcceptsStep, OneStepIsOver, WithinExcludesOver};
+ghost use Rattle.dcv_build.specs.Laws.{MachineAcceptsStep, OneListOfCounts, OneStepIsOver, WithinExcludesOver};
 
 use dcv_atoms::laws::machines_accept_steps as atoms_accept_steps;
 use dcv_core::laws::steps_are_operations;
@@ -9,6 +9,14 @@ use dcv_language::laws::one_canonical_table;
 pub fn one_step_is_over()
     ensures one { OneStepIsOver }
     ensures within { WithinExcludesOver }
+{
+    one_canonical_table();
+    steps_are_operations();
+}
+
+/// A core has one list of counts: what its steps take is determined.
+pub fn one_list_of_counts()
+    ensures { OneListOfCounts }
 {
     one_canonical_table();
     steps_are_operations();

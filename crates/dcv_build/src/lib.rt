@@ -2,19 +2,25 @@
 //!
 //! ```text
 //! let core = expand(alloc, &file)?;
-//! let auto = build(alloc, &core, Limits { states: 32_000, nodes: 1_000_000 })?;
+//! let limits = Limits { states: 32_000, nodes: 1_000_000 };
+//! let auto = build(alloc, &core, limits)?;
 //! auto.states() // the least number for the words of the goal
+//! build_counted(alloc, &core, limits)?.counts // what each step took
 //! ```
 //!
 //! What a step may need is defined in `specs/`: the machine that is explored for it is a function of its operator and of the canonical
-//! tables of its operands, which are determined, and `laws` has that at most one step is over.
+//! tables of its operands, which are determined, and `laws` has that at most one step is over. In one build an operator is explored once
+//! over the same tables: what it gave is found again by the numbers that its operands have on a shelf.
 #![tactic(auto)]
 
+mod asked;
 mod builder;
+mod building;
 mod faults;
+mod known;
 pub mod laws;
 mod operations;
 mod settling;
 
-pub use builder::build;
+pub use builder::{Builder, Built, build, build_counted};
 pub use faults::BuildFault;

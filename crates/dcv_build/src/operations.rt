@@ -1,23 +1,23 @@
-// The automaton of each operator, of the automata of its operands.
+// The automaton of each operator, of the automata of its operands where they stand on the shelf.
 ghost use Rattle.std.specs.Prelude.{◌≡◌, ◌<◌, ◌-◌, ℕ};
-ghost use Rattle.dcv_language.specs.OperationMachines.{not_machine, and_machine, or_machine, iff_machine, chop_machine, star_machine, exists_machine};
+ghost use Rattle.dcv_language.specs.OperationMachines.{and_machine, or_machine, iff_machine, chop_machine, star_machine, exists_machine};
+ghost use Rattle.dcv_language.specs.Table.{automaton_of};
 ghost use Rattle.dcv_core.specs.Core.{PlainBasic};
-ghost use Rattle.dcv_dfa.specs.Raw.{automaton_of};
 ghost use Rattle.dcv_atoms.specs.AtomRows.{atom_machine};
 ghost use Rattle.dcv_atoms.specs.Parts.{atom_nodes};
 ghost use Rattle.dcv_atoms.specs.Steps.{IsAtom};
-ghost use Rattle.dcv_explore.specs.declared.explorer.Limits.{Limits as OwnLimits};
-ghost use Rattle.dcv_build.specs.Building.{IsOwn, IsBuilt, Settles};
+ghost use Rattle.dcv_shelf.specs.Stored.{view_table};
+ghost use Rattle.dcv_build.specs.Settled.{Settles};
 
 use crate::faults::BuildFault;
-use crate::settling::settle;
+use crate::settling::{Made, settle};
 use dcv_atoms::{Atom, AtomFault};
 use dcv_chop::{Chop, Star};
 use dcv_core::Core;
-use dcv_dfa::Auto;
 use dcv_explore::Limits;
 use dcv_product::{And, Iff, Or};
 use dcv_project::Exists;
+use dcv_shelf::View;
 use std::alloc::Global;
 
 // A form without a formula in it, with the nodes of its proposition's parts.
@@ -26,7 +26,7 @@ pub(crate) fn atom(
     core: &Core,
     step: u32,
     limits: Limits,
-) -> Result<Auto, BuildFault>
+) -> Result<Made, BuildFault>
     requires { (basic : PlainBasic) × (slots : ℕ) × IsAtom core.now step basic slots }
     ensures { (basic : PlainBasic) (slots : ℕ) → IsAtom core.now step basic slots
         → Settles (atom_machine slots basic) (atom_nodes slots basic) limits step result }
@@ -41,28 +41,16 @@ pub(crate) fn atom(
     }
 }
 
-// The words that the operand does not accept. Its own states and nodes are those of its machine, so nothing is explored.
-pub(crate) fn negation(operand: Auto) -> Auto
-    ensures { (limits : OwnLimits) → IsOwn limits operand
-        → IsBuilt (not_machine operand.arena.slots (automaton_of operand)) 0 limits result }
-{
-    // for the prover: what is true of every canonical automaton.
-    let _operand_states = operand.states();
-    let turned = operand.complement();
-    let _states = turned.states();
-    turned
-}
-
 // The words that both accept.
 pub(crate) fn conjunction(
     alloc: Global,
-    first: Auto,
-    second: Auto,
+    first: View<'_>,
+    second: View<'_>,
     limits: Limits,
     step: u32,
-) -> Result<Auto, BuildFault>
-    requires { first.arena.slots ≡ second.arena.slots }
-    ensures { Settles (and_machine first.arena.slots (automaton_of first) (automaton_of second)) 0 limits step result }
+) -> Result<Made, BuildFault>
+    requires { first.stored.slots ≡ second.stored.slots }
+    ensures { Settles (and_machine first.entry.stored.slots (automaton_of (view_table first.entry).table) (automaton_of (view_table second.entry).table)) 0 limits step result }
 {
     settle(alloc, &And::new(&first, &second), 0, limits, step)
 }
@@ -70,13 +58,13 @@ pub(crate) fn conjunction(
 // The words that one or the other accepts.
 pub(crate) fn disjunction(
     alloc: Global,
-    first: Auto,
-    second: Auto,
+    first: View<'_>,
+    second: View<'_>,
     limits: Limits,
     step: u32,
-) -> Result<Auto, BuildFault>
-    requires { first.arena.slots ≡ second.arena.slots }
-    ensures { Settles (or_machine first.arena.slots (automaton_of first) (automaton_of second)) 0 limits step result }
+) -> Result<Made, BuildFault>
+    requires { first.stored.slots ≡ second.stored.slots }
+    ensures { Settles (or_machine first.entry.stored.slots (automaton_of (view_table first.entry).table) (automaton_of (view_table second.entry).table)) 0 limits step result }
 {
     settle(alloc, &Or::new(&first, &second), 0, limits, step)
 }
@@ -84,13 +72,13 @@ pub(crate) fn disjunction(
 // The words that both accept, or neither does.
 pub(crate) fn agreement(
     alloc: Global,
-    first: Auto,
-    second: Auto,
+    first: View<'_>,
+    second: View<'_>,
     limits: Limits,
     step: u32,
-) -> Result<Auto, BuildFault>
-    requires { first.arena.slots ≡ second.arena.slots }
-    ensures { Settles (iff_machine first.arena.slots (automaton_of first) (automaton_of second)) 0 limits step result }
+) -> Result<Made, BuildFault>
+    requires { first.stored.slots ≡ second.stored.slots }
+    ensures { Settles (iff_machine first.entry.stored.slots (automaton_of (view_table first.entry).table) (automaton_of (view_table second.entry).table)) 0 limits step result }
 {
     settle(alloc, &Iff::new(&first, &second), 0, limits, step)
 }
@@ -98,13 +86,13 @@ pub(crate) fn agreement(
 // The words of the first, and from their last letter on words of the second.
 pub(crate) fn chop(
     alloc: Global,
-    first: Auto,
-    second: Auto,
+    first: View<'_>,
+    second: View<'_>,
     limits: Limits,
     step: u32,
-) -> Result<Auto, BuildFault>
-    requires { first.arena.slots ≡ second.arena.slots }
-    ensures { Settles (chop_machine first.arena.slots (automaton_of first) (automaton_of second)) 0 limits step result }
+) -> Result<Made, BuildFault>
+    requires { first.stored.slots ≡ second.stored.slots }
+    ensures { Settles (chop_machine first.entry.stored.slots (automaton_of (view_table first.entry).table) (automaton_of (view_table second.entry).table)) 0 limits step result }
 {
     settle(alloc, &Chop::new(&first, &second), 0, limits, step)
 }
@@ -112,11 +100,11 @@ pub(crate) fn chop(
 // Words of the operand one behind the other.
 pub(crate) fn star(
     alloc: Global,
-    operand: Auto,
+    operand: View<'_>,
     limits: Limits,
     step: u32,
-) -> Result<Auto, BuildFault>
-    ensures { Settles (star_machine operand.arena.slots (automaton_of operand)) 0 limits step result }
+) -> Result<Made, BuildFault>
+    ensures { Settles (star_machine operand.entry.stored.slots (automaton_of (view_table operand.entry).table)) 0 limits step result }
 {
     settle(alloc, &Star::new(&operand), 0, limits, step)
 }
@@ -124,12 +112,12 @@ pub(crate) fn star(
 // The words that some track in the last slot brings into those of the operand.
 pub(crate) fn some_track(
     alloc: Global,
-    operand: Auto,
+    operand: View<'_>,
     limits: Limits,
     step: u32,
-) -> Result<Auto, BuildFault>
-    requires { 0 < operand.arena.slots }
-    ensures { Settles (exists_machine (operand.arena.slots - 1) (automaton_of operand)) 0 limits step result }
+) -> Result<Made, BuildFault>
+    requires { 0 < operand.stored.slots }
+    ensures { Settles (exists_machine (operand.entry.stored.slots - 1) (automaton_of (view_table operand.entry).table)) 0 limits step result }
 {
     settle(alloc, &Exists::new(&operand), 0, limits, step)
 }

@@ -2,7 +2,7 @@
 ghost use Rattle.std.specs.Prelude.{◌≡◌, ◌≤◌, ◌-◌, IfOk};
 ghost use Rattle.dcv_dfa.specs.Raw.{IsRaw};
 ghost use Rattle.dcv_explore.specs.Explored.{Explores};
-ghost use Rattle.dcv_build.specs.Building.{IsLeastOf, Settles, fault_at};
+ghost use Rattle.dcv_build.specs.Settled.{IsLeastOf, Settles, fault_at};
 
 use crate::faults::BuildFault;
 use dcv_apply::Memo;
@@ -15,20 +15,37 @@ use std::alloc::{AllocError, Global};
 // in the step's rows. So it is above the most nodes that a step may have, since what a memo forgets is gone through again.
 const MOST_REMEMBERED: usize = 1_048_576;
 
-// The canonical automaton of what the machine of a step accepts. The parts of its proposition, if it has one, have so many nodes,
-// which count towards the limit.
+// An automaton, and what was counted as its machine was explored.
+#[derive(Drop)]
+pub(crate) struct Made {
+    pub(crate) auto: Auto,
+    pub(crate) states: u32,
+    pub(crate) nodes: u32,
+}
+
+// The canonical automaton of what the machine of a step accepts, with its counts. The parts of its proposition, if it has one, have so
+// many nodes, which count towards the limit.
 pub(crate) fn settle<M: Machine>(
     alloc: Global,
     machine: &M,
     parts: u32,
     limits: Limits,
     step: u32,
-) -> Result<Auto, BuildFault>
+) -> Result<Made, BuildFault>
     requires { parts ≤ limits.nodes }
     ensures { Settles (M.machine machine.now) parts limits step result }
 {
     match explored(alloc, machine, without_parts(limits, parts)) {
-        Ok(raw) => Ok(least(alloc, raw)?),
+        Ok(raw) => {
+            let states = raw.states();
+            let nodes = parts + raw.arena().len();
+            let auto = least(alloc, raw)?;
+            Ok(Made {
+                auto,
+                states,
+                nodes,
+            })
+        }
         Err(fault) => Err(at_step(step, limits, fault)),
     }
 }

@@ -5,6 +5,8 @@
 #[cfg(test)]
 mod atoms;
 #[cfg(test)]
+mod builders;
+#[cfg(test)]
 mod canonical;
 #[cfg(test)]
 mod goals;

@@ -1,16 +1,20 @@
-use Rattle.std.proofs.Common.{Err, sym, subst, arith}
-use Rattle.dcv_build.specs.Building.{Settles}
+use Rattle.std.proofs.Common.{◌+◌, Err, length, sym, ap, subst, ◌∙◌, arith}
+use Rattle.dcv_shelf.specs.Shelf.{table_of_auto}
+use Rattle.dcv_build.specs.Settled.{IsBuilt, Settles}
 use Rattle.dcv_build.proofs.Settled.{least_is_built, settled_ok, settled_fault}
 use Rattle.dcv_build.proofs.settling.settle.Goals as goal
 
-pub returns-in_ok-least-in-Ok : goal.returns-in_ok-least-in-Ok
-returns-in_ok-least-in-Ok g c =
+pub returns-in_ok-auto-in-Ok : goal.returns-in_ok-auto-in-Ok
+returns-in_ok-auto-in-Ok g c =
     let machine = g.M.Machine.machine c.args.machine.now in
     let found = c.in-Ok.ensures in
     let left = c.without_parts.ensures in
-    let auto = c.in_ok-least-in-Ok.field-0 in
-    settled_ok machine c.args.parts c.args.limits c.args.step auto
-    (least_is_built machine c.args.parts c.args.limits c.in-Ok.raw auto c.requires
+    let auto = c.in_ok-auto-in-Ok.auto in
+    let raw = c.in-Ok.raw in
+    settled_ok machine c.args.parts c.args.limits c.args.step _
+    (subst (λ n. IsBuilt machine c.args.parts c.args.limits (table_of_auto auto) n (c.args.parts + c.len.result)) (sym c.states-states.ensures.states)
+    (subst (λ n. IsBuilt machine c.args.parts c.args.limits (table_of_auto auto) (length raw.rows) (c.args.parts + n)) (sym (c.len.ensures.len ∙ ap (λ a. length a.nodes) c.arena.ensures.arena))
+    (least_is_built machine c.args.parts c.args.limits raw auto c.requires
     (record {
       raw = c.least.ensures.raw;
       explored = found.explored;
@@ -19,7 +23,7 @@ returns-in_ok-least-in-Ok g c =
       states = omega (arith, found.states_within, left.states);
       nodes = omega (arith, found.nodes_within, left.nodes);
     })
-    c.in_ok-least-in-Ok.ensures.least)
+    c.in_ok-auto-in-Ok.ensures.least)))
 
 pub returns-in-Err : goal.returns-in-Err
 returns-in-Err g c =

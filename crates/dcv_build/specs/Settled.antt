@@ -1,0 +1,71 @@
+-- For the proofs alone: what the exploration of one machine gives within the limits.
+--     IsOwn limits one                  what the table of a machine that was explored has of its own: it is an automaton's, and within the limits
+--     IsBuilt                           the canonical table of a machine that is within the limits, with its exact counts
+--     IsLeastOf raw auto                the canonical automaton of what a raw one accepts
+--     Settles                           what a call answers that makes the automaton of a machine for a step
+--     IsFor                             a number on a shelf is that of a machine's table, and the counts beside it are the machine's
+--     Answers                           what a call answers that finds this number for a step
+--     fault_at step limits fault        the fault of a step whose exploration has this fault
+use Rattle.std.specs.Prelude.{◌≡◌, ℕ, ◌≤◌, List, length, Some, slice_get, Result, Err, IfOk}
+use Rattle.dcv_word.specs.Behaviour.{Word}
+use Rattle.dcv_language.specs.Automaton.{WorkingMachine, accepts}
+use Rattle.dcv_language.specs.Canonical.{IsCanonical}
+use Rattle.dcv_dfa.specs.Raw.{RawValue, IsRaw}
+use Rattle.dcv_dfa.specs.Auto.{IsAuto, count_of_nodes}
+use Rattle.dcv_minimise.specs.Minimal.{IsMinimalOf}
+use Rattle.dcv_explore.specs.declared.explorer.Limits.{Limits}
+use Rattle.dcv_explore.specs.declared.faults.ExploreFault.{ExploreFault}
+use Rattle.dcv_explore.specs.declared.faults.ExploreFault.TheVariants.{States as TooMany, Nodes as TooLarge, Memory as NoMemory}
+use Rattle.dcv_explore.specs.Budget.{TooManyStates, TooManyNodes, Passes}
+use Rattle.dcv_shelf.specs.Shelf.{ShelfTable, table_of_auto}
+use Rattle.dcv_build.specs.Counts.{HasAllCounts}
+use Rattle.dcv_build.specs.declared.asked.Answer.{Answer}
+use Rattle.dcv_build.specs.declared.faults.BuildFault.{BuildFault}
+use Rattle.dcv_build.specs.declared.faults.BuildFault.TheVariants.{States, Nodes, Memory}
+use Rattle.dcv_build.specs.declared.settling.Made.{Made}
+
+pub record IsOwn (limits : Limits) (one : ShelfTable) : Type 0 where
+  pub auto : RawValue
+  pub raw : IsRaw auto
+  pub auto_is : IsAuto auto
+  pub table : table_of_auto auto ≡ one
+  pub states : length auto.rows ≤ limits.states
+  pub nodes : count_of_nodes auto ≤ limits.nodes
+
+pub record IsBuilt {S : Type 0} (machine : WorkingMachine S) (parts : ℕ) (limits : Limits) (one : ShelfTable) (states nodes : ℕ) : Type 0 where
+  pub counts : HasAllCounts machine parts states nodes
+  pub states_within : states ≤ limits.states
+  pub nodes_within : nodes ≤ limits.nodes
+  pub slots : one.slots ≡ machine.slots
+  pub access : List Word
+  pub canonical : IsCanonical machine.slots (accepts machine.automaton) one.table access
+  pub own : IsOwn limits one
+
+-- the canonical automaton of what a raw one accepts
+pub record IsLeastOf (raw auto : RawValue) : Type 0 where
+  pub minimal : IsMinimalOf raw auto
+  pub raw_is : IsRaw auto
+  pub auto_is : IsAuto auto
+
+pub record Settles {S : Type 0} (machine : WorkingMachine S) (parts : ℕ) (limits : Limits) (step : ℕ) (result : Result Made BuildFault) : Type 0 where
+  pub built : IfOk result (λ made. IsBuilt machine parts limits (table_of_auto made.auto) made.states made.nodes)
+  pub states : (at limit : ℕ) → result ≡ Err (States at limit) → (at ≡ step) × (limit ≡ limits.states) × Passes TooManyStates machine parts limits
+  pub nodes : (at limit : ℕ) → result ≡ Err (Nodes at limit) → (at ≡ step) × (limit ≡ limits.nodes) × Passes TooManyNodes machine parts limits
+
+-- ---- on a shelf
+
+pub record IsFor {S : Type 0} (machine : WorkingMachine S) (parts : ℕ) (limits : Limits) (shelf : List ShelfTable) (answer : Answer) : Type 0 where
+  pub one : ShelfTable
+  pub there : slice_get shelf answer.number ≡ Some one
+  pub built : IsBuilt machine parts limits one answer.states answer.nodes
+
+pub record Answers {S : Type 0} (machine : WorkingMachine S) (parts : ℕ) (limits : Limits) (step : ℕ) (shelf : List ShelfTable) (result : Result Answer BuildFault) : Type 0 where
+  pub built : IfOk result (IsFor machine parts limits shelf)
+  pub states : (at limit : ℕ) → result ≡ Err (States at limit) → (at ≡ step) × (limit ≡ limits.states) × Passes TooManyStates machine parts limits
+  pub nodes : (at limit : ℕ) → result ≡ Err (Nodes at limit) → (at ≡ step) × (limit ≡ limits.nodes) × Passes TooManyNodes machine parts limits
+
+-- what a fault of the explorer is at a step, with the whole limits
+abbrev pub fault_at : ℕ → Limits → ExploreFault → BuildFault
+fault_at step limits (TooMany limit) = States step limits.states
+fault_at step limits (TooLarge limit) = Nodes step limits.nodes
+fault_at step limits NoMemory = Memory

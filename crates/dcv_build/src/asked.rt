@@ -1,0 +1,20 @@
+// What is explored once in a build, and what is known of it from then on.
+
+// An operator with the numbers of its operands on the shelf.
+#[derive(Clone, Copy, Debug, PartialEq, Eq, Hash)]
+pub(crate) enum Asked {
+    And(u32, u32),
+    Or(u32, u32),
+    Iff(u32, u32),
+    Chop(u32, u32),
+    Star(u32),
+    Exists(u32),
+}
+
+// The number of its automaton there, and what was counted as its machine was explored.
+#[derive(Clone, Copy, Debug)]
+pub(crate) struct Answer {
+    pub(crate) number: u32,
+    pub(crate) states: u32,
+    pub(crate) nodes: u32,
+}

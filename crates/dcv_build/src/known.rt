@@ -1,0 +1,223 @@
+// What is known in a build: its automata, which share one shelf, and which of them answers an operator that was explored. So an operator
+// is explored once for all steps that have it over the same tables.
+ghost use Rattle.std.specs.Prelude.{◌≡◌, ◌<◌, [], length, Some, slice_get, IfOk, IfSome};
+ghost use Rattle.dcv_shelf.specs.Shelf.{ShelfTable, table_of_auto, KeepsNumbers};
+ghost use Rattle.dcv_build.specs.Asked.{AreOperands, SettlesAsked, AnswersAsked, IsAnswer, IsPut, IsTurned};
+
+use crate::asked::{Answer, Asked};
+use crate::faults::BuildFault;
+use crate::operations;
+use crate::settling::Made;
+use dcv_dfa::{Auto, Table};
+use dcv_explore::Limits;
+use dcv_shelf::Shelf;
+use indexmap::IndexMap;
+use std::alloc::{AllocError, Global};
+use std::marker::Model;
+
+// As many slots as letters may have. A shelf of this width takes every automaton.
+const SLOTS: u8 = 32;
+
+// How many states and nodes the automata of a shelf may always have.
+const MOST_HELD: u64 = 16_777_216;
+
+// How many times as many as waited when the shelf was begun, where these were more.
+const TIMES_HELD: u64 = 4;
+
+#[derive(Drop)]
+pub(crate) struct Known {
+    alloc: Global,
+    limits: Limits,
+    shelf: Shelf,
+    found: IndexMap<Asked, Answer>,
+    explored: u32,
+    // How many states and nodes the automata had that were put on the shelf, and how many may come before they move on.
+    held: u64,
+    most: u64,
+}
+
+impl Model for Known {
+    ghost use Rattle.std.specs.Prelude.{◌≡◌};
+    ghost use Rattle.dcv_build.specs.Asked.{KnownValue, AreAnswers};
+
+    ghost Value = { KnownValue };
+
+    ghost view = { λ known. record { tables = known.shelf.tables; limits = known.limits } };
+
+    ghost invariant = { λ known. (known.shelf.slots ≡ 32) × AreAnswers known.shelf.tables known.limits known.found.entries };
+}
+
+impl Known {
+    // Nothing yet, but for how often was explored before.
+    pub(crate) fn new(alloc: Global, limits: Limits, explored: u32) -> Known
+        ensures tables { result.tables ≡ [] }
+        ensures limits { result.limits ≡ limits }
+    {
+        Known {
+            alloc,
+            limits,
+            shelf: Shelf::new(alloc, SLOTS),
+            found: IndexMap::new(alloc),
+            explored,
+            held: 0,
+            most: MOST_HELD,
+        }
+    }
+
+    // Within which limits is explored.
+    pub(crate) fn limits(&self) -> Limits
+        ensures { result ≡ self.now.limits }
+    {
+        self.limits
+    }
+
+    // How often was explored.
+    pub(crate) fn explored(&self) -> u32 {
+        self.explored
+    }
+
+    // Whether what waits is to move to a new shelf: this one has too little room, or holds many times what it began with.
+    pub(crate) fn is_full(&self) -> bool {
+        self.shelf.room() < self.limits.nodes || self.held > self.most
+    }
+
+    // From here on the shelf may hold many times what it holds now.
+    pub(crate) fn begin(&mut self)
+        ensures { self.new ≡ self.old }
+    {
+        self.most = MOST_HELD.max(self.held.saturating_mul(TIMES_HELD));
+    }
+
+    // The answer to an operator over automata of the shelf, which is explored where it is not known.
+    pub(crate) fn ask(&mut self, asked: Asked, step: u32) -> Result<Answer, BuildFault>
+        requires { AreOperands self.old.tables asked }
+        ensures answers { AnswersAsked self.old.tables asked self.old.limits step self.new.tables result }
+        ensures kept { KeepsNumbers self.old.tables self.new.tables }
+        ensures limits { self.new.limits ≡ self.old.limits }
+    {
+        if let Some(answer) = self.find(asked) {
+            return Ok(answer);
+        }
+        let made = self.explore(asked, step)?;
+        let answer = self.put(made)?;
+        self.remember(asked, answer)?;
+        Ok(answer)
+    }
+
+    // What is known of an operator.
+    fn find(&self, asked: Asked) -> Option<Answer>
+        ensures { IfSome result (IsAnswer self.now.tables self.now.limits asked) }
+    {
+        self.found.get(&asked).copied()
+    }
+
+    // From here on this is known of it.
+    fn remember(&mut self, asked: Asked, answer: Answer) -> Result<(), AllocError>
+        requires { IsAnswer self.old.tables self.old.limits asked answer }
+        ensures { self.new ≡ self.old }
+    {
+        self.found.insert(asked, answer)?;
+        Ok(())
+    }
+
+    // The automaton of an operator over automata of the shelf.
+    fn explore(&self, asked: Asked, step: u32) -> Result<Made, BuildFault>
+        requires { AreOperands self.now.tables asked }
+        ensures { SettlesAsked self.now.tables asked self.now.limits step result }
+    {
+        let (alloc, limits, shelf) = (self.alloc, self.limits, &self.shelf);
+        match asked {
+            Asked::And(first, second) => operations::conjunction(
+                alloc,
+                shelf.view(first),
+                shelf.view(second),
+                limits,
+                step,
+            ),
+            Asked::Or(first, second) => operations::disjunction(
+                alloc,
+                shelf.view(first),
+                shelf.view(second),
+                limits,
+                step,
+            ),
+            Asked::Iff(first, second) => operations::agreement(
+                alloc,
+                shelf.view(first),
+                shelf.view(second),
+                limits,
+                step,
+            ),
+            Asked::Chop(first, second) => operations::chop(
+                alloc,
+                shelf.view(first),
+                shelf.view(second),
+                limits,
+                step,
+            ),
+            Asked::Star(operand) => operations::star(alloc, shelf.view(operand), limits, step),
+            Asked::Exists(operand) => {
+                operations::some_track(alloc, shelf.view(operand), limits, step)
+            }
+        }
+    }
+
+    // The number of an automaton that was explored, beside its counts.
+    pub(crate) fn put(&mut self, made: Made) -> Result<Answer, AllocError>
+        ensures put { IfOk result (IsPut made self.new.tables) }
+        ensures kept { KeepsNumbers self.old.tables self.new.tables }
+        ensures limits { self.new.limits ≡ self.old.limits }
+    {
+        let number = self.add(&made.auto)?;
+        self.explored = self.explored.saturating_add(1);
+        Ok(Answer {
+            number,
+            states: made.states,
+            nodes: made.nodes,
+        })
+    }
+
+    // The number of an automaton.
+    pub(crate) fn add(&mut self, auto: &Auto) -> Result<u32, AllocError>
+        ensures added { IfOk result (λ number. slice_get self.new.tables number ≡ Some (table_of_auto auto.now)) }
+        ensures kept { KeepsNumbers self.old.tables self.new.tables }
+        ensures limits { self.new.limits ≡ self.old.limits }
+    {
+        // for the prover: letters have no more slots than a shelf.
+        let _ = auto.slots();
+        self.held = held_with(self.held, auto.states(), auto.nodes());
+        self.shelf.add(auto)
+    }
+
+    // The number of the complement of an automaton. It has the states and nodes of its own machine, so nothing is explored.
+    pub(crate) fn not(&mut self, operand: u32) -> Result<Answer, AllocError>
+        requires { operand < length self.old.tables }
+        ensures turned { (one : ShelfTable) → slice_get self.old.tables operand ≡ Some one → IfOk result (IsTurned one self.new.tables) }
+        ensures kept { KeepsNumbers self.old.tables self.new.tables }
+        ensures limits { self.new.limits ≡ self.old.limits }
+    {
+        let view = self.shelf.view(operand);
+        let (states, nodes) = (view.states(), view.nodes());
+        self.held = held_with(self.held, states, 0);
+        let number = self.shelf.not(operand)?;
+        Ok(Answer {
+            number,
+            states,
+            nodes,
+        })
+    }
+
+    // The automaton with this number, in an arena of its own.
+    pub(crate) fn copy_out(&self, number: u32) -> Result<Auto, AllocError>
+        requires { number < length self.now.tables }
+        ensures { IfOk result (λ auto. slice_get self.now.tables number ≡ Some (table_of_auto auto)) }
+    {
+        self.shelf.copy_out(number)
+    }
+}
+
+// How many states and nodes a shelf holds with so many more.
+fn held_with(held: u64, states: u32, nodes: u32) -> u64 {
+    held.saturating_add(u64::from(states))
+        .saturating_add(u64::from(nodes))
+}
