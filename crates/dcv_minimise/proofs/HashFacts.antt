@@ -1,5 +1,5 @@
 -- Refs that have one block at each letter have one hash.
-use Rattle.std.proofs.Common.{◌≡◌, ℕ, zero, suc, ◌+◌, ◌-◌, ◌<◌, ◌≤◌, Bool, true, false, if◌then◌else◌, List, [], ◌∷◌, ◌++◌, length, eqb, set, get_or, replicate, inl, inr, refl, sym, ap, ◌∙◌, arith}
+use Rattle.std.proofs.Common.{◌≡◌, ℕ, zero, suc, ◌+◌, ◌-◌, ◌<◌, ◌≤◌, Bool, true, false, if◌then◌else◌, List, [], ◌∷◌, ◌++◌, length, eqb, set, replicate, inl, inr, refl, sym, ap, ◌∙◌, arith}
 use Rattle.std.proofs.lemmas.Bool.{cases_order, eq-eqb}
 use Rattle.std.proofs.lemmas.List.{length-set, length-replicate, length_push, get_or_append_left, get_or_push}
 use Rattle.dcv_arena.specs.Arena.{ArenaValue, IsReduced, IsRef, IsBefore, level_of, value_of}

@@ -1,14 +1,13 @@
 -- Blocks that are split by hashes stay told apart.
-use Rattle.std.proofs.Common.{◌≡◌, ◌≢◌, ℕ, ◌<◌, List, length, get_or, inl, inr, sym, ap, ◌∙◌, Some, slice_get, arith}
+use Rattle.std.proofs.Common.{◌≡◌, ◌≢◌, ℕ, List, length, inl, inr, sym, ap, ◌∙◌, Some, slice_get, arith}
 use Rattle.std.proofs.lemmas.Bool.{cases_eq}
 use Rattle.std.proofs.lemmas.Option.{slice_get_within, same_Some}
-use Rattle.std.proofs.lemmas.List.{get_or_default}
 use Rattle.dcv_arena.specs.declared.nodes.Ref.TheVariants.{Leaf}
 use Rattle.dcv_language.specs.Folding.{AreApartFrom}
 use Rattle.dcv_dfa.specs.Raw.{RawValue, IsRaw, row_of, next_in, automaton_of}
 use Rattle.dcv_minimise.specs.Partition.{block_of}
 use Rattle.dcv_minimise.specs.Rounds.{IsState, AreAlike, IsWitnessed, IsTold}
-use Rattle.dcv_minimise.specs.Hashes.{hash_at, AreHashes, alike_of, AreDivided, Splits}
+use Rattle.dcv_minimise.specs.Hashes.{AreHashes, alike_of, AreDivided, Splits}
 use Rattle.dcv_minimise.specs.declared.refine.hashes.Alike.{Alike}
 use Rattle.dcv_minimise.proofs.Letters.{differ_or_agree}
 use Rattle.dcv_minimise.proofs.RoundFacts.{next_state, apart_before}

@@ -1,11 +1,11 @@
-use Rattle.std.proofs.Common.{◌≡◌, ◌<◌, ◌^◌, ℕ, List, suc, length, get_or, Some, sym, ap, subst, ◌∙◌, arith}
+use Rattle.std.proofs.Common.{◌≡◌, length, sym, ap, subst, ◌∙◌, arith}
 use Rattle.std.proofs.lemmas.Option.{get_or_from_slice_get}
 use Rattle.dcv_arena.specs.declared.nodes.Ref.TheVariants.{Leaf}
 use Rattle.dcv_dfa.specs.Raw.{row_of}
 use Rattle.dcv_minimise.specs.Partition.{block_of}
 use Rattle.dcv_minimise.specs.Hashes.{hash_at, alike_of, IsPut, AreDivided, AreHashes}
 use Rattle.dcv_minimise.specs.declared.refine.hashes.Alike.{Alike}
-use Rattle.dcv_minimise.proofs.HashParts.{none_divided, one_more_divided}
+use Rattle.dcv_minimise.proofs.HashParts.{one_more_divided}
 use Rattle.dcv_minimise.proofs.HashRounds.{divided_witnessed, divided_splits, told_split}
 use Rattle.dcv_minimise.proofs.refine.hashes.divided.Goals as goal
 use Rattle.dcv_minimise.proofs.refine.hashes.divided.Goals.{After-loop-state}

@@ -1,4 +1,4 @@
-use Rattle.std.proofs.Common.{true, false, length, set, ap, ◌∙◌}
+use Rattle.std.proofs.Common.{true, false, set, ap, ◌∙◌}
 use Rattle.dcv_arena.specs.Arena.{value_of}
 use Rattle.dcv_arena.specs.declared.nodes.Ref.TheVariants.{Place}
 use Rattle.dcv_minimise.specs.Hashes.{mixed, hash_at}
