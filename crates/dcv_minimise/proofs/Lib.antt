@@ -10,6 +10,9 @@ pub mod KeyFacts
 pub mod PartFacts
 pub mod Settling
 pub mod FirstBlocks
+pub mod HashFacts
+pub mod HashRounds
+pub mod HashParts
 pub mod Pushed
 pub mod DivisionStart
 pub mod LeadFacts

@@ -15,7 +15,7 @@ pub next_state : (raw : RawValue) → IsRaw raw → (state : ℕ) (letter : List
 next_state raw is state letter inside size = is.numbers state (Leaf 0) inside letter size
 
 -- states are apart where a letter leads to states that are
-apart_before : (raw : RawValue) (first second : ℕ) (letter : List Bool) → length letter ≡ raw.arena.slots
+pub apart_before : (raw : RawValue) (first second : ℕ) (letter : List Bool) → length letter ≡ raw.arena.slots
     → AreApartFrom raw.arena.slots (automaton_of raw) (next_in raw first letter) (next_in raw second letter) → AreApartFrom raw.arena.slots (automaton_of raw) first second
 apart_before raw first second letter size later = record {
   suffix = letter ∷ later.suffix;

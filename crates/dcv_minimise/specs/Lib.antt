@@ -3,6 +3,7 @@ pub mod Minimal
 -- for proofs alone: states in blocks, and how they are divided further
 pub mod Partition
 pub mod Rounds
+pub mod Hashes
 pub mod Keys
 pub mod Division
 pub mod Listing

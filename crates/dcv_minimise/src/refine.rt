@@ -9,6 +9,7 @@ ghost use Rattle.dcv_minimise.specs.Refining.{IsRefining};
 
 mod counts;
 mod division;
+mod hashes;
 pub(crate) mod keys;
 mod listing;
 mod partition;
@@ -19,6 +20,7 @@ use dcv_dfa::Raw;
 use dcv_index::{Above, Index};
 use dcv_members::Members;
 use dcv_renumber::Places;
+use hashes::by_hashes;
 use listing::{Listed, follow};
 use partition::Partition;
 use std::alloc::{AllocError, Global};
@@ -65,7 +67,7 @@ impl Refining {
             (list_of refining.members) refining.moved.items) }
     {
         let all = every_state(alloc, raw.states())?;
-        let partition = Partition::by_flags(alloc, raw)?;
+        let partition = by_hashes(alloc, raw)?;
         let mut members = Members::new(alloc);
         follow(alloc, &mut members, &partition.blocks, &all)?;
         let moved = partition.outside_first(alloc)?;
