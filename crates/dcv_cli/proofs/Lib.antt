@@ -18,6 +18,7 @@ pub mod TwoFiles
 pub mod Pieces
 pub mod Printed
 pub mod SomeOutcome
+pub mod Sweeps
 pub mod LongTexts
 pub mod VariableNames
 mod Texts

@@ -14,6 +14,7 @@ use dcv_print::laws::{
 };
 use dcv_reader::laws::{one_fault, one_tree, some_reading};
 use dcv_replay::laws::{letters_have_one_text_of_answers, traces_have_one_verdict};
+use dcv_sweep::laws::one_summary;
 
 /// One outcome at most is right for the words and the texts that are held. So each status, report and message that
 /// the clauses of [`run`](crate::run) call right is the only one.
@@ -35,6 +36,7 @@ pub fn one_outcome()
     texts_are_units_or_at_fault();
     traces_have_one_verdict();
     letters_have_one_text_of_answers();
+    one_summary();
 }
 
 /// Some outcome is right for all words, where the files that they name are held, unless they ask for a report and name a formula file, or ask for
