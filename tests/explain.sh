@@ -89,5 +89,12 @@ STUB_ERR='fault observer names at 56' STUB_STATUS=9 DCVALID=$work/stub "$here/ex
 [ $? -eq 9 ] || fail 'the status of an observer'
 grep -q 'line 3' "$work/err" || fail "the line of an observer: $(cat "$work/err")"
 
+# Counts over drawn formulas, which are read from no file.
+got=$(STUB_OUT='formulas 1\nvalid 0\nsatisfiable 1\nover 0\nstates 3\n' STUB_STATUS=0 DCVALID=$work/stub "$here/explain" sweep 0 1 2>&1)
+[ $? -eq 0 ] || fail 'the status of a summary'
+[ "$(wc -l <<<"$got")" -eq 5 ] || fail "the lines of a summary: $got"
+grep -q '^1 formula over x, y and z' <<<"$got" || fail "what is said of the formulas: $got"
+grep -q '^3 states in the minimal automata' <<<"$got" || fail "what is said of the states: $got"
+
 [ "$failed" -eq 0 ] && echo 'all passed'
 exit "$failed"

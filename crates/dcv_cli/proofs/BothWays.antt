@@ -1,5 +1,5 @@
 -- Formula files of which each implies the other mean the same.
-use Rattle.std.proofs.Common.{◌≡◌, ◌≢◌, ℕ, List, length, Option, None, Some, refl, sym, ap, ◌∙◌, subst}
+use Rattle.std.proofs.Common.{◌≡◌, ℕ, List, length, Option, None, Some, refl, sym, ap, ◌∙◌, subst}
 use Rattle.std.specs.Prelude.{IsSomeAnd}
 use Rattle.std.proofs.lemmas.List.{length-map}
 use Rattle.dcv_word.specs.Behaviour.{Word}
@@ -12,10 +12,10 @@ use Rattle.dcv_implies.specs.Laws.{IncludedBothWays}
 use Rattle.dcv_print.specs.Printed.{texts_of}
 use Rattle.dcv_reader.specs.Spelling.{SpellsOne}
 use Rattle.dcv_cli.specs.Budget.{OverBudget, WithinBudget, limit_of}
-use Rattle.dcv_cli.specs.Comparison.{IsCompared, Undeclared, Declared, IsComparison, IsDifference, OverProduct, WithinProduct, compared, status_of_least}
+use Rattle.dcv_cli.specs.Comparison.{IsCompared, Undeclared, Declared, IsComparison, OverProduct, WithinProduct, compared, status_of_least}
 use Rattle.dcv_cli.specs.FormulaFile.{IsFormulaFile, OnText, Refused, Read}
 use Rattle.dcv_cli.specs.Held.{OnHeld}
-use Rattle.dcv_cli.specs.Laws.{Implied, AreOneRequirement, ImpliesBothWays}
+use Rattle.dcv_cli.specs.Laws.{Implied, ImpliesBothWays}
 use Rattle.dcv_cli.specs.Outcome.{Outcome, refused}
 use Rattle.dcv_cli.specs.Status.{is_answer}
 use Rattle.dcv_cli.specs.declared.refusal.Refusal.{Refusal}

@@ -17,7 +17,9 @@ pub mod TraceEnds
 pub mod TwoFiles
 pub mod Pieces
 pub mod Printed
+pub mod PrintedLengths
 pub mod SomeOutcome
+pub mod Sweeps
 pub mod LongTexts
 pub mod VariableNames
 mod Texts

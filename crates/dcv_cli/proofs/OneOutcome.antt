@@ -43,10 +43,13 @@ use Rattle.dcv_cli.proofs.OneCertificate.{same_agrees, one_held_certificate}
 use Rattle.dcv_cli.proofs.OneReplay.{AreSubsets, one_held_replay}
 use Rattle.dcv_cli.specs.Comparison.{IsCompared, Undeclared, Declared, IsDifference, OverProduct, WithinProduct, compared}
 use Rattle.dcv_cli.specs.Held.{OnHeld}
-use Rattle.dcv_command.specs.Request.{Request, Report, Certify, Implies, Replay}
+use Rattle.dcv_command.specs.Request.{Request, Report, Certify, Implies, Replay, Sweep}
 use Rattle.dcv_implies.specs.Comparison.{TooMany, Least}
 use Rattle.dcv_implies.specs.Laws.{OneAnswer as OneComparison}
 use Rattle.dcv_replay.specs.Laws.{OneVerdict as OneTraceVerdict, OneText as OneTextOfAnswers}
+use Rattle.dcv_sweep.specs.Laws.{OneSummary}
+use Rattle.dcv_sweep.specs.SummaryText.{summary_text}
+use Rattle.dcv_cli.specs.Swept.{IsSwept, default_limits}
 use Rattle.dcv_cli.specs.Request.{AsksFor}
 use Rattle.dcv_print.specs.Printed.{texts_of}
 use Rattle.dcv_cli.specs.Right.{Fulfils, IsRight, Misused, Fulfilled}
@@ -100,7 +103,7 @@ one_some first second e = cc
 
 module _ (one_tree : SpellsOne) (one_fault : FaultIsUnique) (one_verdict : OneVerdict) (one_step : OneStepIsOver) (none_over : WithinExcludesOver) (one_automaton : OneAutomaton) (one_automaton_file : OneFile)
     (one_automaton_text : OneAutomatonText) (one_answer : OneAnswer) (one_comparison : OneComparison) (subsets : AreSubsets) (one_trace_verdict : OneTraceVerdict)
-    (one_text_of_answers : OneTextOfAnswers) where
+    (one_text_of_answers : OneTextOfAnswers) (one_summary : OneSummary) where
   one_sentence : (text : List ℕ) (f g : PlainFile) → IsSentence text f → IsSentence text g → f ≡ g
   one_sentence text f g s t = one_tree text f g s.spelled t.spelled
 
@@ -275,6 +278,15 @@ module _ (one_tree : SpellsOne) (one_fault : FaultIsUnique) (one_verdict : OneVe
       one_budgeted limits First (λ first. IsBudgeted limits Second (IsDifference limits first) other)
       (λ first a b p q. one_budgeted limits Second (IsDifference limits first) (one_difference limits first) other a b p q) one a b is is'
 
+  one_swept : (seed count : ℕ) (a b : Outcome) → IsSwept seed count a → IsSwept seed count b → Agrees a b
+  one_swept seed count a b p q =
+      let same = one_summary default_limits seed count p.summary q.summary p.is q.is in
+      record {
+        status = p.status ∙ sym q.status;
+        report = inl (p.says ∙ ap summary_text same ∙ sym q.says);
+        message = λ taken within. p.no_message ∙ sym q.no_message;
+      }
+
   one_fulfilled : (request : Request) (held : Texts) (a b : Outcome) → Fulfils request held a → Fulfils request held b → Agrees a b
   one_fulfilled (Report kind name limits) held a b p q =
       one_on_file (held 0 name) Only (IsBudgeted limits Only (IsReport kind)) (one_budgeted limits Only (IsReport kind) (one_report kind)) a b p q
@@ -284,6 +296,7 @@ module _ (one_tree : SpellsOne) (one_fault : FaultIsUnique) (one_verdict : OneVe
       (λ one a b p q. one_on_file (held 1 second) Second (IsCompared limits one) (one_compared limits one) a b p q) a b p q
   one_fulfilled (Replay subset observer trace) held a b p q =
       one_held_replay subsets one_trace_verdict one_text_of_answers subset (held 0 observer) (held 1 trace) a b p q
+  one_fulfilled (Sweep seed count) held a b p q = one_swept seed count a b p q
 
   -- words ask for one thing
   one_request : (words : List (List ℕ)) (r s : Request) → AsksFor words r → AsksFor words s → r ≡ s

@@ -1,23 +1,23 @@
 -- Texts of automata that are printed are certified.
-use Rattle.std.proofs.Common.{◌≡◌, ℕ, ◌≤◌, List, length, Option, None, Some, refl, sym, ap, ◌∙◌, subst}
+use Rattle.std.proofs.Common.{◌≡◌, ℕ, ◌≤◌, List, length, Option, None, Some, sym, ap, ◌∙◌, subst, arith}
 use Rattle.std.specs.Prelude.{IsTrue, IsSomeAnd}
 use Rattle.std.proofs.lemmas.List.{length-map}
 use Rattle.dcv_automaton_text.specs.File.{AutomatonFile}
 use Rattle.dcv_automaton_text.specs.Form.{HasForm}
 use Rattle.dcv_automaton_text.specs.Laws.{OneFile}
 use Rattle.dcv_automaton_text.specs.Meaning.{access_words_of, suffix_words_of, table_of}
+use Rattle.dcv_automaton_text.specs.Rules.{AreNames}
 use Rattle.dcv_certify.specs.Certified.{IsCertified}
 use Rattle.dcv_certify.specs.Laws.{OneAnswer, PrintedIsCertified as GoodWordsAreCertified}
 use Rattle.dcv_certify.specs.declared.answer.Answer.TheVariants.{Minimal}
 use Rattle.dcv_explore.specs.declared.explorer.Limits.{Limits}
 use Rattle.dcv_language.specs.Canonical.{IsCanonical}
 use Rattle.dcv_language.specs.Certificate.{IsCertificate as IsCertificateOf}
-use Rattle.dcv_language.specs.Language.{Language}
 use Rattle.dcv_logic.specs.Models.{models}
-use Rattle.dcv_print.specs.Automaton.{IsAutomatonOf}
 use Rattle.dcv_print.specs.Printed.{texts_of}
 use Rattle.dcv_print.specs.declared.report.Kind.{Kind}
 use Rattle.dcv_print.specs.declared.report.Kind.TheVariants.{Automaton, All}
+use Rattle.dcv_reader.specs.Laws.{NamesAreShort}
 use Rattle.dcv_syntax.specs.Plain.{PlainFile}
 use Rattle.dcv_syntax.specs.declared.names.Name.{Name}
 use Rattle.dcv_cli.specs.Automaton.{SaysAutomaton}
@@ -34,30 +34,34 @@ use Rattle.dcv_cli.specs.declared.refused.Which.TheVariants.{Only}
 use Rattle.dcv_cli.specs.declared.status.Status.TheVariants.{Done, Budget as StatusBudget}
 use Rattle.dcv_cli.proofs.EqualMeanings.{answers_as, no_refusal_answers}
 use Rattle.dcv_cli.proofs.OneCertificate.{refused_or_read}
+use Rattle.dcv_cli.proofs.PrintedLengths.{printed_fits}
+use Rattle.dcv_cli.proofs.VariableNames.{are_names}
 
 -- ---- a right answer is a report on some file
 
 record IsReported (kind : Kind) (outcome : Outcome) : Type 0 where
   file : PlainFile
+  names : AreNames (texts_of file.variables)
   report : IsReport kind file outcome
 
-reported : (kind : Kind) (limits : Limits) (found : Option (List ℕ)) (outcome : Outcome) → IsTrue (is_answer outcome.status)
+reported : NamesAreShort → (kind : Kind) (limits : Limits) (found : Option (List ℕ)) (outcome : Outcome) → IsTrue (is_answer outcome.status)
     → IsSomeAnd found (λ text. OnText text Only (IsBudgeted limits Only (IsReport kind)) outcome) → IsReported kind outcome
-reported kind limits None outcome answers right = absurd right
-reported kind limits (Some text) outcome answers (Refused refusal is e) =
+reported short kind limits None outcome answers right = absurd right
+reported short kind limits (Some text) outcome answers (Refused refusal is e) =
     absurd (no_refusal_answers refusal (answers_as outcome (status_of refusal) (ap (λ (o : Outcome). o.status) e) answers))
-reported kind limits (Some text) outcome answers (Read file is (OverBudget over first e)) =
+reported short kind limits (Some text) outcome answers (Read file is (OverBudget over first e)) =
     let wrong : IsTrue (is_answer StatusBudget) = answers_as outcome StatusBudget (ap (λ (o : Outcome). o.status) e) answers in cc
-reported kind limits (Some text) outcome answers (Read file is (WithinBudget within report)) = record { file = file; report = report }
+reported short kind limits (Some text) outcome answers (Read file is (WithinBudget within report)) =
+    record { file = file; names = are_names short text file is; report = report }
 
-report_of : (kind : Kind) (text : List ℕ) → (is : IsPrinted kind text) → IsReported kind is.outcome
-report_of kind text is = reported kind is.limits (is.held 0 is.name) is.outcome is.answers is.right
+report_of : NamesAreShort → (kind : Kind) (text : List ℕ) → (is : IsPrinted kind text) → IsReported kind is.outcome
+report_of short kind text is = reported short kind is.limits (is.held 0 is.name) is.outcome is.answers is.right
 
 -- ---- its text is certified
 
-module _ (one_file : OneFile) (one_answer : OneAnswer) (certified : GoodWordsAreCertified) where
-  says_certifiable : (file : PlainFile) (text : List ℕ) → SaysAutomaton (length file.variables) (models file) (texts_of file.variables) text → IsCertifiable text
-  says_certifiable plain text says name held outcome there short right =
+module _ (short : NamesAreShort) (one_file : OneFile) (one_answer : OneAnswer) (certified : GoodWordsAreCertified) where
+  says_certifiable : (file : PlainFile) (text : List ℕ) → AreNames (texts_of file.variables) → SaysAutomaton (length file.variables) (models file) (texts_of file.variables) text → IsCertifiable text
+  says_certifiable plain text names says name held outcome there right =
       on_held (held 0 name) there right
     where
       file : AutomatonFile
@@ -75,8 +79,14 @@ module _ (one_file : OneFile) (one_answer : OneAnswer) (certified : GoodWordsAre
       form : HasForm text file
       form = record { spellable = says.is.form; spelled = says.says }
 
+      few : length plain.variables ≤ 16
+      few = let count = names.count in omega (arith, length-map plain.variables (λ (name : Name). name.text))
+
+      fits : length text ≤ most_automaton_bytes
+      fits = subst (λ (bytes : List ℕ). length bytes ≤ most_automaton_bytes) (sym says.says) (printed_fits (length plain.variables) (models plain) (texts_of plain.variables) file few names says.is)
+
       is_text : IsAutomatonText text file
-      is_text = record { fits = short; form = form; good = says.is.rules }
+      is_text = record { fits = fits; form = form; good = says.is.rules }
 
       on_text : OnAutomaton text IsCertificate outcome → outcome.status ≡ Done
       on_text (RefusedAutomaton refusal is e) = absurd (refused_or_read one_file text refusal file is is_text)
@@ -92,10 +102,10 @@ module _ (one_file : OneFile) (one_answer : OneAnswer) (certified : GoodWordsAre
   pub printed_is_certified : PrintedIsCertified
   printed_is_certified = record {
     automaton = λ text is.
-        let reported = report_of Automaton text is in
-        subst IsCertifiable (sym is.says) (says_certifiable reported.file is.outcome.out reported.report.says);
+        let reported = report_of short Automaton text is in
+        subst IsCertifiable (sym is.says) (says_certifiable reported.file is.outcome.out reported.names reported.report.says);
     all = λ text is.
-        let reported = report_of All text is in
+        let reported = report_of short All text is in
         let parts = reported.report.says in
-        (_, parts.automaton, parts.node, parts.unit, is.says ∙ parts.says, says_certifiable reported.file parts.automaton parts.says_automaton);
+        (_, parts.automaton, parts.node, parts.unit, is.says ∙ parts.says, says_certifiable reported.file parts.automaton reported.names parts.says_automaton);
   }

@@ -1,5 +1,5 @@
 -- The laws that `src/laws.rt` proves.
-use Rattle.std.specs.Prelude.{◌≡◌, ◌≢◌, ◌≤◌, ◌⊎◌, ℕ, List, Bool, true, false, Some, IsSome, IsTrue, IsFalse, length, map}
+use Rattle.std.specs.Prelude.{◌≡◌, ◌≢◌, ◌⊎◌, ℕ, List, Bool, true, false, Some, IsSome, IsTrue, IsFalse, length, map}
 use Rattle.std.specs.List.{All}
 use Rattle.std.specs.List.Sorted.{IsStrictlyIncreasing}
 use Rattle.dcv_syntax.specs.Plain.{PlainFile}
@@ -15,7 +15,7 @@ use Rattle.dcv_cli.specs.declared.budget_line.Over.{Over}
 use Rattle.dcv_cli.specs.declared.refusal.Refusal.TheVariants.{Budget}
 use Rattle.dcv_cli.specs.declared.status.Status.TheVariants.{Done, Valid, Budget as StatusBudget}
 use Rattle.dcv_cli.specs.Budget.{steps_of_file, IsFirstOver}
-use Rattle.dcv_cli.specs.Refusal.{message_of, most_automaton_bytes, only}
+use Rattle.dcv_cli.specs.Refusal.{message_of, only}
 use Rattle.dcv_cli.specs.FormulaFile.{IsFormulaFile}
 use Rattle.dcv_cli.specs.Held.{Texts}
 use Rattle.dcv_cli.specs.Outcome.{Outcome, Agrees}
@@ -109,8 +109,7 @@ EqualMeanings = (kind : Kind) (name other_name : List ℕ) (limits other_limits 
 
 -- whatever is right where the text is to be certified says that it is
 abbrev pub IsCertifiable : List ℕ → Type 0
-IsCertifiable text = (name : List ℕ) (held : Texts) (outcome : Outcome) → held 0 name ≡ Some text → length text ≤ most_automaton_bytes
-    → Fulfils (Certify name) held outcome → outcome.status ≡ Done
+IsCertifiable text = (name : List ℕ) (held : Texts) (outcome : Outcome) → held 0 name ≡ Some text → Fulfils (Certify name) held outcome → outcome.status ≡ Done
 
 -- the text of a right answer of this kind
 pub record IsPrinted (kind : Kind) (text : List ℕ) : Type 0 where

@@ -14,6 +14,7 @@ pub mod Certificate
 pub mod Comparison
 pub mod ObserverFile
 pub mod Replayed
+pub mod Swept
 pub mod Right
 pub mod Ending
 pub mod Performed

@@ -12,8 +12,9 @@ use dcv_lustre::laws::{texts_are_nodes_or_at_fault, texts_spell_nodes};
 use dcv_print::laws::{
     automaton_of_same_behaviours, one_automaton, one_file, printed_observers_observe,
 };
-use dcv_reader::laws::{one_fault, one_tree, some_reading};
+use dcv_reader::laws::{names_are_short, one_fault, one_tree, some_reading};
 use dcv_replay::laws::{letters_have_one_text_of_answers, traces_have_one_verdict};
+use dcv_sweep::laws::one_summary;
 
 /// One outcome at most is right for the words and the texts that are held. So each status, report and message that
 /// the clauses of [`run`](crate::run) call right is the only one.
@@ -35,6 +36,7 @@ pub fn one_outcome()
     texts_are_units_or_at_fault();
     traces_have_one_verdict();
     letters_have_one_text_of_answers();
+    one_summary();
 }
 
 /// Some outcome is right for all words, where the files that they name are held, unless they ask for a report and name a formula file, or ask for
@@ -64,11 +66,11 @@ pub fn equal_meanings()
     printed_observers_observe();
 }
 
-/// Each text of an automaton that is printed is certified when it is read back, and so is that part of the text of `all`, as long as it is no
-/// longer than such a text may be.
+/// Each text of an automaton that is printed is certified when it is read back, and so is that part of the text of `all`.
 pub fn printed_is_certified()
     ensures { PrintedIsCertified }
 {
+    names_are_short();
     one_automaton_text();
     one_answer();
     good_words_are_certified();

@@ -12,7 +12,7 @@
 //! `not valid`, `satisfiable`, a counterexample of the one instant `0` and an example of the one instant `1`. With `automaton` in place
 //! of `check` there stands the minimal automaton of the formula, with two states, in the text that `dcv_automaton_text` shows.
 //! `certify` reads such a text back and judges its words by themselves, `implies` compares two formula files, and `replay-lustre` and
-//! `replay-c` run an observer over a trace.
+//! `replay-c` run an observer over a trace. `sweep` counts what holds of formulas that are drawn.
 #![tactic(auto)]
 
 mod automaton;
@@ -30,6 +30,7 @@ mod replaying;
 mod reporting;
 mod running;
 mod status;
+mod sweeping;
 mod taking;
 mod telling;
 mod words;

@@ -10,6 +10,7 @@ use crate::refused::Refused;
 use crate::replaying::replay_file;
 use crate::reporting::report_on_file;
 use crate::status::Status;
+use crate::sweeping::sweep_formulas;
 use dcv_command::Request;
 use dcv_io::{Files, Sink};
 use std::alloc::Global;
@@ -41,5 +42,6 @@ pub(crate) fn perform<F: Files, O: Sink>(
             observer,
             trace,
         } => replay_file(alloc, subset, observer, trace, files, out),
+        Request::Sweep { seed, count } => sweep_formulas(alloc, seed, count, out),
     }
 }

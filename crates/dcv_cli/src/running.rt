@@ -35,6 +35,7 @@ use std::alloc::Global;
 /// write that automaton as an observer. `certify FILE` judges the words of an automaton's text, and `implies FILE FILE` says
 /// whether each behaviour that satisfies the first formula satisfies the second, or writes a shortest that does not.
 /// `replay-lustre OBSERVER TRACE` and `replay-c OBSERVER TRACE` write what an observer answers at each instant of a trace.
+/// `sweep SEED COUNT` writes how many of the formulas that are drawn from the seed are valid, and what else is counted over them.
 #[tactic(auto, using(crate::proofs::Endings::ends))]
 pub fn run<F: Files, O: Sink, E: Sink>(
     alloc: Global,

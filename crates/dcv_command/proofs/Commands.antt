@@ -11,7 +11,7 @@ use Rattle.clap.specs.Simple.{built_leaf, entered, names_of}
 use Rattle.clap.specs.Faults.{check_fault, defaults_fault, entered_fault, level_fault, settle_fault, turn_fault, walk_fault}
 use Rattle.clap.specs.Takes.{default_passes, entered_passes, is_valid, level_passes, settle_passes, turn_passes, walk_passes}
 use Rattle.clap.proofs.OnLiterals.{clap_on_literals}
-use Rattle.dcv_command.specs.Program.{over_a_formula, over_a_trace, over_an_automaton, over_two_formulas, program}
+use Rattle.dcv_command.specs.Program.{over_a_formula, over_a_seed, over_a_trace, over_an_automaton, over_two_formulas, program}
 
 -- ---- behind the name
 
@@ -143,3 +143,7 @@ replay_lustre_is_one = record { met = refl; no_fault = refl; faults = λ rest. r
 pub replay_c_is_one : IsSubcommand (codes "replay-c") (over_a_trace (codes "replay-c"))
 unfolding clap_on_literals
 replay_c_is_one = record { met = refl; no_fault = refl; faults = λ rest. refl; passes = refl; takes = λ rest. refl; found = λ rest. refl }
+
+pub sweep_is_one : IsSubcommand (codes "sweep") over_a_seed
+unfolding clap_on_literals
+sweep_is_one = record { met = refl; no_fault = refl; faults = λ rest. refl; passes = refl; takes = λ rest. refl; found = λ rest. refl }

@@ -5,7 +5,7 @@ use Rattle.clap.proofs.OnLiterals.{clap_on_literals}
 use Rattle.dcv_command.specs.Program.{program}
 use Rattle.dcv_print.specs.declared.report.Kind.TheVariants.{Check, Automaton}
 use Rattle.dcv_command.specs.declared.words.Subset.TheVariants.{C as CText}
-use Rattle.dcv_command.specs.Request.{Report, Certify, Implies, Replay, request_of}
+use Rattle.dcv_command.specs.Request.{Report, Certify, Implies, Replay, Sweep, request_of}
 
 program_is_simple : is_simple program ≡ true
 program_is_simple = refl
@@ -60,3 +60,14 @@ replay_taken = refl
 replay_asked : request_of replayed ≡ Some (Replay CText (codes "door.c") (codes "door.trace"))
 unfolding clap_on_literals
 replay_asked = refl
+
+abbrev drawn : List (List ℕ)
+drawn = codes "sweep" ∷ codes "0" ∷ codes "1000" ∷ []
+
+sweep_taken : fault_of program drawn ≡ []
+unfolding clap_on_literals
+sweep_taken = refl
+
+sweep_asked : request_of drawn ≡ Some (Sweep 0 1000)
+unfolding clap_on_literals
+sweep_asked = refl

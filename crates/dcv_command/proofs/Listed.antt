@@ -1,5 +1,5 @@
--- The words behind a subcommand's name: files' names, and options with their numbers.
-use Rattle.std.proofs.Common.{◌≡◌, refl, sym, ap, ◌∙◌, subst, true, false, List, ℕ, ◌<◌, ◌^◌, [], ◌∷◌, ◌++◌, Option, codes, arith, ne_eqb}
+-- The words behind a subcommand's name: files' names, numbers, and options with their numbers.
+use Rattle.std.proofs.Common.{◌≡◌, refl, sym, ap, ◌∙◌, subst, true, false, List, ℕ, ◌<◌, ◌≤◌, ◌^◌, [], ◌∷◌, ◌++◌, Option, codes, arith, ne_eqb, zero-le}
 use Rattle.std.specs.Prelude.{◌==◌}
 use Rattle.std.specs.Fmt.{decimal}
 use Rattle.std.specs.Str.Parse.{IsNumeral, digits_value, without_leading_plus}
@@ -14,15 +14,15 @@ use Rattle.clap.proofs.OnLiterals.{clap_on_literals}
 use Rattle.dcv_explore.specs.declared.explorer.Limits.{Limits}
 use Rattle.dcv_print.specs.declared.report.Kind.{Kind}
 use Rattle.dcv_print.specs.declared.report.Kind.TheVariants.{Check, Automaton, Lustre, C, All}
-use Rattle.dcv_command.specs.Program.{most_states, most_nodes, over_a_formula, over_a_trace, over_an_automaton, over_two_formulas}
+use Rattle.dcv_command.specs.Program.{most_count, most_states, most_nodes, most_seed, over_a_formula, over_a_seed, over_a_trace, over_an_automaton, over_two_formulas}
 use Rattle.dcv_command.specs.declared.words.Subset.{Subset}
 use Rattle.dcv_command.specs.declared.words.Subset.TheVariants.{Lustre as LustreText, C as CText}
 use Rattle.dcv_command.specs.Laws.{ListedWordsAreTaken}
 use Rattle.dcv_command.specs.Listed.{AreAllowed, AskFor, IsAllowed, IsFileName, Options, Neither, States, Nodes, StatesThenNodes, NodesThenStates}
 use Rattle.dcv_command.specs.Listed.{limits_given, option_words, replay_name, report_name}
-use Rattle.dcv_command.specs.Request.{Certify, Implies, Replay, Report, Request, implies_in, limits_of, replay_in, report_in, request_in}
+use Rattle.dcv_command.specs.Request.{Certify, Implies, Replay, Report, Request, Sweep, implies_in, limits_of, replay_in, report_in, request_in}
 use Rattle.dcv_command.proofs.Commands.{IsSubcommand, leaf}
-use Rattle.dcv_command.proofs.Commands.{check_is_one, automaton_is_one, lustre_is_one, c_is_one, all_is_one, certify_is_one, implies_is_one, replay_lustre_is_one, replay_c_is_one}
+use Rattle.dcv_command.proofs.Commands.{check_is_one, automaton_is_one, lustre_is_one, c_is_one, all_is_one, certify_is_one, implies_is_one, replay_lustre_is_one, replay_c_is_one, sweep_is_one}
 use Rattle.dcv_command.proofs.Plain.{HasNoDash, going}
 use Rattle.dcv_command.proofs.Runs.{EndsWell, Goes, Runs, at_end, more, ask_for, holding, plain_goes, row, waiting_for}
 
@@ -32,10 +32,10 @@ has_no_dash (first ∷ rest) is = ne_eqb first 45 is
 
 -- ---- numbers
 
--- the text is a number from 1 to the most
-record IsNumberText (most number : ℕ) (text : Text) : Type 0 where
+-- the text is a number from the least to the most
+record IsNumberText (least most number : ℕ) (text : Text) : Type 0 where
   no_dash : HasNoDash text
-  fits : is_unsigned_in 1 most text ≡ true
+  fits : is_unsigned_in least most text ≡ true
   value : digits_value 10 (without_leading_plus text) ≡ number
 
 numeral_has_no_plus : (text : Text) → IsNumeral 10 text → without_leading_plus text ≡ text
@@ -47,8 +47,8 @@ numeral_has_no_dash : (text : Text) → IsNumeral 10 text → HasNoDash text
 numeral_has_no_dash [] is = absurd (omega (arith, is.0))
 numeral_has_no_dash (first ∷ rest) is = ne_eqb first 45 (λ same. omega (arith, digit_from_value first is.1.0))
 
-decimal_is_one : (most number : ℕ) → most < 2 ^ 64 → IsAllowed most number → IsNumberText most number (decimal number)
-decimal_is_one most number few (low, high) =
+decimal_is_one : (least most number : ℕ) → most < 2 ^ 64 → (least ≤ number) × (number ≤ most) → IsNumberText least most number (decimal number)
+decimal_is_one least most number few (low, high) =
     let small : number < 2 ^ 64 = omega arith in
     let numeral = decimal_is_IsNumeral number small in
     let no_plus = numeral_has_no_plus (decimal number) numeral.0 in
@@ -56,7 +56,7 @@ decimal_is_one most number few (low, high) =
     let is_numeral : IsNumeral 10 (without_leading_plus (decimal number)) = subst (IsNumeral 10) (sym no_plus) numeral.0 in
     record {
       no_dash = numeral_has_no_dash (decimal number) numeral.0;
-      fits = Accepts-accepts false (Unsigned 1 most) (decimal number) (is_numeral, omega (arith, value), omega (arith, value), omega (arith, value));
+      fits = Accepts-accepts false (Unsigned least most) (decimal number) (is_numeral, omega (arith, value), omega (arith, value), omega (arith, value));
       value = value;
     }
 
@@ -81,13 +81,13 @@ record TakesLimits (shape : Shape) (asks : List Row → Option Request) (behind 
       → Goes shape (going (holding rows (codes "nodes") text) idle place) (codes "--states")
       (going (waiting_for (rows ++ row (codes "nodes") text ∷ []) (codes "states")) (option (codes "states")) place)
   neither : EndsWell shape asks held (request (limits_of 30000 1000000))
-  states : (text : Text) (number : ℕ) → IsNumberText most_states number text
+  states : (text : Text) (number : ℕ) → IsNumberText 1 most_states number text
       → EndsWell shape asks (holding rows (codes "states") text) (request (limits_of number 1000000))
-  nodes : (text : Text) (number : ℕ) → IsNumberText most_nodes number text
+  nodes : (text : Text) (number : ℕ) → IsNumberText 1 most_nodes number text
       → EndsWell shape asks (holding rows (codes "nodes") text) (request (limits_of 30000 number))
-  nodes_last : (first last : Text) (some others : ℕ) → IsNumberText most_states some first → IsNumberText most_nodes others last
+  nodes_last : (first last : Text) (some others : ℕ) → IsNumberText 1 most_states some first → IsNumberText 1 most_nodes others last
       → EndsWell shape asks (holding (rows ++ row (codes "states") first ∷ []) (codes "nodes") last) (request (limits_of some others))
-  states_last : (first last : Text) (others some : ℕ) → IsNumberText most_nodes others first → IsNumberText most_states some last
+  states_last : (first last : Text) (others some : ℕ) → IsNumberText 1 most_nodes others first → IsNumberText 1 most_states some last
       → EndsWell shape asks (holding (rows ++ row (codes "nodes") first ∷ []) (codes "states") last) (request (limits_of some others))
 
 -- then each list of options is taken
@@ -96,24 +96,24 @@ module _ {name : Text} {shape : Shape} {asks : List Row → Option Request} {beh
   abbrev Asks : List Text → Limits → Type 0
   Asks words limits = AskFor (name ∷ behind words) (request limits)
 
-  states_alone : (text : Text) (number : ℕ) → IsNumberText most_states number text → Asks (codes "--states" ∷ text ∷ []) (limits_of number 1000000)
+  states_alone : (text : Text) (number : ℕ) → IsNumberText 1 most_states number text → Asks (codes "--states" ∷ text ∷ []) (limits_of number 1000000)
   states_alone text number is_one =
       ask_for is named (takes.operands _ _ (more takes.states_flag (more (takes.states_value takes.rows text is_one.no_dash) at_end)))
       (takes.states text number is_one)
 
-  nodes_alone : (text : Text) (number : ℕ) → IsNumberText most_nodes number text → Asks (codes "--nodes" ∷ text ∷ []) (limits_of 30000 number)
+  nodes_alone : (text : Text) (number : ℕ) → IsNumberText 1 most_nodes number text → Asks (codes "--nodes" ∷ text ∷ []) (limits_of 30000 number)
   nodes_alone text number is_one =
       ask_for is named (takes.operands _ _ (more takes.nodes_flag (more (takes.nodes_value takes.rows text is_one.no_dash) at_end)))
       (takes.nodes text number is_one)
 
-  states_first : (first last : Text) (some others : ℕ) → IsNumberText most_states some first → IsNumberText most_nodes others last
+  states_first : (first last : Text) (some others : ℕ) → IsNumberText 1 most_states some first → IsNumberText 1 most_nodes others last
       → Asks (codes "--states" ∷ first ∷ codes "--nodes" ∷ last ∷ []) (limits_of some others)
   states_first first last some others one other =
       let last_runs = more (takes.nodes_value (takes.rows ++ row (codes "states") first ∷ []) last other.no_dash) at_end in
       let runs = more (takes.states_value takes.rows first one.no_dash) (more (takes.nodes_after_states first one.fits) last_runs) in
       ask_for is named (takes.operands _ _ (more takes.states_flag runs)) (takes.nodes_last first last some others one other)
 
-  nodes_first : (first last : Text) (others some : ℕ) → IsNumberText most_nodes others first → IsNumberText most_states some last
+  nodes_first : (first last : Text) (others some : ℕ) → IsNumberText 1 most_nodes others first → IsNumberText 1 most_states some last
       → Asks (codes "--nodes" ∷ first ∷ codes "--states" ∷ last ∷ []) (limits_of some others)
   nodes_first first last others some one other =
       let last_runs = more (takes.states_value (takes.rows ++ row (codes "nodes") first ∷ []) last other.no_dash) at_end in
@@ -122,14 +122,14 @@ module _ {name : Text} {shape : Shape} {asks : List Row → Option Request} {beh
 
   each_list : (options : Options) → AreAllowed options → Asks (option_words options) (limits_given options)
   each_list Neither allowed = ask_for is named (takes.operands _ _ at_end) takes.neither
-  each_list (States states) allowed = states_alone (decimal states) states (decimal_is_one most_states states (omega arith) allowed)
-  each_list (Nodes nodes) allowed = nodes_alone (decimal nodes) nodes (decimal_is_one most_nodes nodes (omega arith) allowed)
+  each_list (States states) allowed = states_alone (decimal states) states (decimal_is_one 1 most_states states (omega arith) allowed)
+  each_list (Nodes nodes) allowed = nodes_alone (decimal nodes) nodes (decimal_is_one 1 most_nodes nodes (omega arith) allowed)
   each_list (StatesThenNodes states nodes) (some, others) =
-      states_first (decimal states) (decimal nodes) states nodes (decimal_is_one most_states states (omega arith) some)
-      (decimal_is_one most_nodes nodes (omega arith) others)
+      states_first (decimal states) (decimal nodes) states nodes (decimal_is_one 1 most_states states (omega arith) some)
+      (decimal_is_one 1 most_nodes nodes (omega arith) others)
   each_list (NodesThenStates nodes states) (some, others) =
-      nodes_first (decimal nodes) (decimal states) nodes states (decimal_is_one most_nodes nodes (omega arith) some)
-      (decimal_is_one most_states states (omega arith) others)
+      nodes_first (decimal nodes) (decimal states) nodes states (decimal_is_one 1 most_nodes nodes (omega arith) some)
+      (decimal_is_one 1 most_states states (omega arith) others)
 
 -- ---- over a formula file
 
@@ -228,5 +228,23 @@ each_replay : (subset : Subset) (observer trace : Text) → IsFileName observer 
 each_replay LustreText = each_replay_of replay_lustre_is_one LustreText (λ rows. refl)
 each_replay CText = each_replay_of replay_c_is_one CText (λ rows. refl)
 
+-- ---- over a seed and a count
+
+sweep_of : (one other : Text) (seed count : ℕ) → IsNumberText 0 most_seed seed one → IsNumberText 1 most_count count other
+    → AskFor (codes "sweep" ∷ one ∷ other ∷ []) (Sweep seed count)
+unfolding clap_on_literals
+sweep_of one other seed count first second =
+    let middle = going (holding [] (codes "seed") one) idle 2 in
+    let end = going (holding (row (codes "seed") one ∷ []) (codes "count") other) idle 3 in
+    let last = more (plain_goes (leaf over_a_seed) (holding [] (codes "seed") one) idle 2 other end second.no_dash (rw first.fits refl) (rw first.fits refl) refl) at_end in
+    let runs = more (plain_goes (leaf over_a_seed) nothing_held idle 1 one middle first.no_dash refl refl refl) last in
+    ask_for sweep_is_one (λ rows. refl) runs
+    (record { no_fault = rw second.fits refl; passes = rw second.fits refl; asked = rw (first.fits, first.value, second.fits, second.value) refl })
+
+each_sweep : (seed count : ℕ) → seed ≤ most_seed → IsAllowed most_count count → AskFor (codes "sweep" ∷ decimal seed ∷ decimal count ∷ []) (Sweep seed count)
+each_sweep seed count small allowed =
+    sweep_of (decimal seed) (decimal count) seed count (decimal_is_one 0 most_seed seed (omega arith) (zero-le, small))
+    (decimal_is_one 1 most_count count (omega arith) allowed)
+
 pub listed_words_are_taken : ListedWordsAreTaken
-listed_words_are_taken = record { report = each_report; certify = certify_alone; implies = each_comparison; replay = each_replay }
+listed_words_are_taken = record { report = each_report; certify = certify_alone; implies = each_comparison; replay = each_replay; sweep = each_sweep }

@@ -1,4 +1,4 @@
--- The limits of a request are in the ranges of their options.
+-- The numbers of a request are in the ranges of their options and operands.
 use Rattle.std.proofs.Common.{◌≡◌, ◌≤◌, refl, subst, ℕ, Bool, true, false, List, Option, None, Some, codes, option_map, option_and_then}
 use Rattle.std.specs.Prelude.{if◌then◌else◌}
 use Rattle.std.specs.Str.{bytes_eq}
@@ -9,22 +9,23 @@ use Rattle.clap.specs.declared.builder.value_parser.ValueParser.TheVariants.{Uns
 use Rattle.clap.proofs.ValueTestLemmas.{accepts-Accepts}
 use Rattle.dcv_explore.specs.declared.explorer.Limits.{Limits}
 use Rattle.dcv_print.specs.declared.report.Kind.{Kind}
-use Rattle.dcv_command.specs.Program.{most_states, most_nodes}
+use Rattle.dcv_command.specs.Program.{most_states, most_nodes, most_seed, most_count}
 use Rattle.dcv_print.specs.declared.report.Kind.TheVariants.{Check, Automaton, Lustre, C, All}
 use Rattle.dcv_command.specs.declared.words.Subset.{Subset}
 use Rattle.dcv_command.specs.declared.words.Subset.TheVariants.{Lustre as LustreText, C as CText}
-use Rattle.dcv_command.specs.Request.{AreInRange, IsInRange, Request, Report, Certify, Implies, Replay, replay_in, implies_in, limits_among, limits_of, number_in, number_of, report_in, request_in, request_of_subcommand}
+use Rattle.dcv_command.specs.Request.{AreInRange, IsInRange, Request, Report, Certify, Implies, Replay, Sweep, replay_in, sweep_in, implies_in, limits_among, limits_of, number_in, number_of, report_in, request_in, request_of_subcommand}
 
-number_is_in_range : (most : ℕ) (text : Option Text) (number : ℕ) → option_and_then (number_of most) text ≡ Some number → (1 ≤ number) × (number ≤ most)
-number_is_in_range most None number is = let wrong : None ≡ Some number = is in cc
-number_is_in_range most (Some text) number is = by (is_unsigned_in 1 most text) refl is
+number_is_in_range : (least most : ℕ) (text : Option Text) (number : ℕ) → option_and_then (number_of least most) text ≡ Some number
+    → (least ≤ number) × (number ≤ most)
+number_is_in_range least most None number is = let wrong : None ≡ Some number = is in cc
+number_is_in_range least most (Some text) number is = by (is_unsigned_in least most text) refl is
   where
-    by : (fits : Bool) → is_unsigned_in 1 most text ≡ fits → (if fits then Some (digits_value 10 (without_leading_plus text)) else None) ≡ Some number
-        → (1 ≤ number) × (number ≤ most)
+    by : (fits : Bool) → is_unsigned_in least most text ≡ fits → (if fits then Some (digits_value 10 (without_leading_plus text)) else None) ≡ Some number
+        → (least ≤ number) × (number ≤ most)
     by true fits is =
         let same : digits_value 10 (without_leading_plus text) ≡ number = cc in
-        let within = accepts-Accepts false (Unsigned 1 most) text fits in
-        subst (λ one. (1 ≤ one) × (one ≤ most)) same (within.2, within.3)
+        let within = accepts-Accepts false (Unsigned least most) text fits in
+        subst (λ one. (least ≤ one) × (one ≤ most)) same (within.2, within.3)
     by false fits is = let wrong : None ≡ Some number = is in cc
 
 both_are_in_range : (states nodes : Option ℕ) (limits : Limits) → ((number : ℕ) → states ≡ Some number → (1 ≤ number) × (number ≤ most_states))
@@ -40,8 +41,8 @@ both_are_in_range (Some states) (Some nodes) limits one other is =
 
 limits_are_in_range : (rows : List Row) (limits : Limits) → limits_among rows ≡ Some limits → AreInRange limits
 limits_are_in_range rows limits is =
-    both_are_in_range (number_in most_states (codes "states") rows) (number_in most_nodes (codes "nodes") rows) limits
-    (number_is_in_range most_states (one_of (codes "states") rows)) (number_is_in_range most_nodes (one_of (codes "nodes") rows)) is
+    both_are_in_range (number_in 1 most_states (codes "states") rows) (number_in 1 most_nodes (codes "nodes") rows) limits
+    (number_is_in_range 1 most_states (one_of (codes "states") rows)) (number_is_in_range 1 most_nodes (one_of (codes "nodes") rows)) is
 
 report_is_in_range : (kind : Kind) (rows : List Row) (request : Request) → report_in kind rows ≡ Some request → IsInRange request
 report_is_in_range kind rows request is = by (first_of (codes "file") rows) (limits_among rows) refl is
@@ -76,6 +77,20 @@ replay_is_in_range subset rows request is = by (first_of (codes "observer") rows
     by (Some observer) None is = let wrong : None ≡ Some request = is in cc
     by (Some observer) (Some trace) is = let same : Replay subset observer trace ≡ request = cc in subst IsInRange same tt
 
+sweep_is_in_range : (rows : List Row) (request : Request) → sweep_in rows ≡ Some request → IsInRange request
+sweep_is_in_range rows request is =
+    by (number_in 0 most_seed (codes "seed") rows) (number_in 1 most_count (codes "count") rows) refl refl is
+  where
+    by : (seed count : Option ℕ) → number_in 0 most_seed (codes "seed") rows ≡ seed → number_in 1 most_count (codes "count") rows ≡ count
+        → option_and_then (λ one. option_map (Sweep one) count) seed ≡ Some request → IsInRange request
+    by None count found also is = let wrong : None ≡ Some request = is in cc
+    by (Some seed) None found also is = let wrong : None ≡ Some request = is in cc
+    by (Some seed) (Some count) found also is =
+        let small = number_is_in_range 0 most_seed (one_of (codes "seed") rows) seed found in
+        let few = number_is_in_range 1 most_count (one_of (codes "count") rows) count also in
+        let same : Sweep seed count ≡ request = cc in
+        subst IsInRange same (record { small = small.1; some = few.0; few = few.1 })
+
 -- what the subcommand asks for that a chain of tests finds
 module _ (rows : List Row) (request : Request) where
   -- each of some requests that may be read is in range
@@ -102,7 +117,8 @@ module _ (rows : List Row) (request : Request) where
       (either_fine (bytes_eq name (codes "certify")) _ _ (certify_is_in_range (first_of (codes "automaton") rows) request)
       (either_fine (bytes_eq name (codes "implies")) _ _ (implies_is_in_range rows request)
       (either_fine (bytes_eq name (codes "replay-lustre")) _ _ (replay_is_in_range LustreText rows request)
-      (either_fine (bytes_eq name (codes "replay-c")) _ _ (replay_is_in_range CText rows request) none_fine))))))))
+      (either_fine (bytes_eq name (codes "replay-c")) _ _ (replay_is_in_range CText rows request)
+      (either_fine (bytes_eq name (codes "sweep")) _ _ (sweep_is_in_range rows request) none_fine)))))))))
 
 pub request_is_in_range : (subcommand : Option (Text × List Row)) (request : Request) → request_of_subcommand subcommand ≡ Some request → IsInRange request
 request_is_in_range None request is = let wrong : None ≡ Some request = is in cc

@@ -1,6 +1,6 @@
--- Rows that a request can be read from: each has a first value, and where it is a limit's, a number in its range.
+-- Rows that a request can be read from: each has a first value, and where the argument is a number, it is in its range.
 use Rattle.std.proofs.Common.{◌≡◌, refl, sym, ap, ◌∙◌, ℕ, Bool, true, false, List, [], ◌∷◌, ◌++◌, None, Some, codes}
-use Rattle.std.specs.Prelude.{find, fold, slice_get, ◌||◌, if◌then◌else◌, option_and_then, option_map}
+use Rattle.std.specs.Prelude.{find, fold, slice_get, ◌||◌, if◌then◌else◌, Option, option_and_then, option_map}
 use Rattle.std.specs.Option.{option_map_or}
 use Rattle.std.specs.Str.{bytes_eq}
 use Rattle.std.specs.Str.Parse.{digits_value, without_leading_plus}
@@ -16,15 +16,22 @@ use Rattle.clap.specs.declared.builder.value_parser.Reading.{Reading}
 use Rattle.clap.specs.declared.builder.value_parser.Reading.TheVariants.{AsWritten}
 use Rattle.clap.specs.declared.parser.matches.ValueSource.{ValueSource}
 use Rattle.clap.specs.declared.parser.matches.ValueSource.TheVariants.{DefaultValue}
-use Rattle.dcv_command.specs.Program.{most_states, most_nodes}
+use Rattle.dcv_command.specs.Program.{most_states, most_nodes, most_seed, most_count}
 use Rattle.dcv_command.specs.Request.{limits_among, limits_of, number_in, number_of}
+
+-- the range of the argument of this name, where it is a number
+abbrev pub range_of : Text → Option (ℕ × ℕ)
+range_of id =
+    if bytes_eq id (codes "states") then Some (1, most_states)
+    else (if bytes_eq id (codes "nodes") then Some (1, most_nodes)
+    else (if bytes_eq id (codes "seed") then Some (0, most_seed)
+    else (if bytes_eq id (codes "count") then Some (1, most_count) else None)))
 
 pub record IsReadable (row : Row) : Type 0 where
   pub text : Text
   pub first : slice_get row.values 0 ≡ Some text
   pub as_written : row.reading ≡ AsWritten
-  pub states : bytes_eq row.id (codes "states") ≡ true → is_unsigned_in 1 most_states text ≡ true
-  pub nodes : bytes_eq row.id (codes "nodes") ≡ true → is_unsigned_in 1 most_nodes text ≡ true
+  pub in_range : (least most : ℕ) → range_of row.id ≡ Some (least, most) → is_unsigned_in least most text ≡ true
 
 abbrev pub AreReadable : List Row → Type 0
 AreReadable [] = Unit {0}
@@ -53,7 +60,7 @@ with_more row source values = record row { values = row.values ++ values; source
 
 readable_with_more : (row : Row) (source : ValueSource) (values : List Text) → IsReadable row → IsReadable (with_more row source values)
 readable_with_more row source values is =
-    record { text = is.text; first = first_stays row.values values is.text is.first; as_written = is.as_written; states = is.states; nodes = is.nodes }
+    record { text = is.text; first = first_stays row.values values is.text is.first; as_written = is.as_written; in_range = is.in_range }
 
 pub readable_with : (id : Text) (how : Reading) (source : ValueSource) (values : List Text) (rows : List Row) → IsReadable (new_row id how source values) → AreReadable rows
     → AreReadable (with_values id how source values rows)
@@ -192,17 +199,19 @@ module _ (id : Text) (rows : List Row) (is : IsFound id rows) where
       ap (option_and_then row_text) is.found ∙ ap (λ how. option_map (read_as how) (slice_get is.row.values 0)) is.readable.as_written
       ∙ ap (option_map (read_as AsWritten)) is.readable.first
 
-  number_is_there : (most : ℕ) → is_unsigned_in 1 most is.readable.text ≡ true
-      → number_in most id rows ≡ Some (digits_value 10 (without_leading_plus is.readable.text))
-  number_is_there most fits =
-      ap (option_and_then (number_of most)) one_is_there
+  pub number_is_there : (least most : ℕ) → range_of id ≡ Some (least, most)
+      → number_in least most id rows ≡ Some (digits_value 10 (without_leading_plus is.readable.text))
+  number_is_there least most range =
+      let fits : is_unsigned_in least most is.readable.text ≡ true =
+      is.readable.in_range least most (ap range_of ((bytes_eq-Decides is.row.id id).0 is.named) ∙ range) in
+      ap (option_and_then (number_of least most)) one_is_there
       ∙ ap (λ (kept : Bool). if kept then Some (digits_value 10 (without_leading_plus is.readable.text)) else None) fits
 
 module _ (rows : List Row) (states : IsFound (codes "states") rows) (nodes : IsFound (codes "nodes") rows) where
   pub limits_are_there : limits_among rows
       ≡ Some (limits_of (digits_value 10 (without_leading_plus states.readable.text)) (digits_value 10 (without_leading_plus nodes.readable.text)))
   limits_are_there =
-      ap (option_and_then (λ some. option_map (limits_of some) (number_in most_nodes (codes "nodes") rows)))
-      (number_is_there (codes "states") rows states most_states (states.readable.states states.named))
+      ap (option_and_then (λ some. option_map (limits_of some) (number_in 1 most_nodes (codes "nodes") rows)))
+      (number_is_there (codes "states") rows states 1 most_states refl)
       ∙ ap (option_map (limits_of (digits_value 10 (without_leading_plus states.readable.text))))
-      (number_is_there (codes "nodes") rows nodes most_nodes (nodes.readable.nodes nodes.named))
+      (number_is_there (codes "nodes") rows nodes 1 most_nodes refl)

@@ -1,7 +1,7 @@
 -- Subcommands of each shape: words in which one has no fault ask for something.
-use Rattle.std.proofs.Common.{◌≡◌, refl, sym, ap, ◌∙◌, subst, Bool, true, false, ℕ, suc, length, arith, List, [], ◌∷◌, codes}
+use Rattle.std.proofs.Common.{◌≡◌, refl, sym, ap, ◌∙◌, subst, Bool, true, false, ℕ, suc, length, arith, List, [], ◌∷◌, None, Some, codes}
 use Rattle.std.specs.Prelude.{IsSome, ◌==◌, if◌then◌else◌, option_and_then, option_map}
-use Rattle.std.specs.Str.{bytes_eq}
+use Rattle.std.specs.Str.Parse.{digits_value, without_leading_plus}
 use Rattle.std.proofs.lemmas.Bool.{eqb-true}
 use Rattle.clap.specs.Words.{Kinds, Row, Text, first_of}
 use Rattle.clap.specs.Kinds.{or_else, range_kinds}
@@ -14,32 +14,32 @@ use Rattle.clap.specs.declared.error.kind.ErrorKind.{ErrorKind}
 use Rattle.clap.specs.declared.parser.matches.ValueSource.{ValueSource}
 use Rattle.clap.specs.declared.parser.matches.ValueSource.TheVariants.{CommandLine}
 use Rattle.dcv_print.specs.declared.report.Kind.{Kind}
-use Rattle.dcv_command.specs.Program.{file_operand, limit_option, most_nodes, most_states, nodes_option, over_a_formula, over_a_trace, over_an_automaton, over_two_formulas, states_option}
+use Rattle.dcv_command.specs.Program.{file_operand, limit_option, most_count, most_nodes, most_seed, most_states, nodes_option, over_a_formula, number_operand, over_a_seed, over_a_trace, over_an_automaton, over_two_formulas, states_option}
 use Rattle.dcv_command.specs.declared.words.Subset.{Subset}
-use Rattle.dcv_command.specs.Request.{Certify, Implies, Replay, Report, certify_in, implies_in, limits_among, replay_in, report_in}
+use Rattle.dcv_command.specs.Request.{Certify, Implies, Replay, Report, Sweep, certify_in, implies_in, limits_among, number_in, replay_in, report_in, sweep_in}
 use Rattle.dcv_command.proofs.Commands.{leaf}
 use Rattle.dcv_command.proofs.Leaves.{IsReadableShape, all_found}
-use Rattle.dcv_command.proofs.Rows.{AreReadable, IsFound, IsReadable, first_is_there, limits_are_there, new_row, readable_with, readable_without}
+use Rattle.dcv_command.proofs.Rows.{AreReadable, IsFound, IsReadable, first_is_there, limits_are_there, new_row, number_is_there, range_of, readable_with, readable_without}
 use Rattle.dcv_command.proofs.Steps.{Keeps, last_is_empty}
 
 -- ---- each use of an argument leaves rows that can be read
 
-operand_is_readable : (id : Text) → bytes_eq id (codes "states") ≡ false → bytes_eq id (codes "nodes") ≡ false → (text : Text)
-    → IsReadable (new_row id AsWritten CommandLine (text ∷ []))
-operand_is_readable id no_states no_nodes text =
+operand_is_readable : (id : Text) → range_of id ≡ None → (text : Text) → IsReadable (new_row id AsWritten CommandLine (text ∷ []))
+operand_is_readable id none text =
     record {
       text = text;
       first = refl;
       as_written = refl;
-      states = λ same. let wrong : true ≡ false = sym same ∙ no_states in cc;
-      nodes = λ same. let wrong : true ≡ false = sym same ∙ no_nodes in cc;
+      in_range = λ least most is. let wrong : None ≡ Some (least, most) = sym none ∙ is in cc;
     }
 
-states_are_readable : (source : ValueSource) (text : Text) → is_unsigned_in 1 most_states text ≡ true → IsReadable (new_row (codes "states") AsWritten source (text ∷ []))
-states_are_readable source text fits = record { text = text; first = refl; as_written = refl; states = λ same. fits; nodes = λ same. cc }
+same_range : (text : Text) (one other : ℕ × ℕ) → Some one ≡ Some other → is_unsigned_in one.0 one.1 text ≡ true → is_unsigned_in other.0 other.1 text ≡ true
+same_range text one other e fits = let same : one ≡ other = cc in subst (λ (range : ℕ × ℕ). is_unsigned_in range.0 range.1 text ≡ true) same fits
 
-nodes_are_readable : (source : ValueSource) (text : Text) → is_unsigned_in 1 most_nodes text ≡ true → IsReadable (new_row (codes "nodes") AsWritten source (text ∷ []))
-nodes_are_readable source text fits = record { text = text; first = refl; as_written = refl; states = λ same. cc; nodes = λ same. fits }
+number_is_readable : (id : Text) (least most : ℕ) → range_of id ≡ Some (least, most) → (source : ValueSource) (text : Text)
+    → is_unsigned_in least most text ≡ true → IsReadable (new_row id AsWritten source (text ∷ []))
+number_is_readable id least most range source text fits =
+    record { text = text; first = refl; as_written = refl; in_range = λ low high is. same_range text (least, most) (low, high) (sym range ∙ is) fits }
 
 no_fault_is_one : (kind : ErrorKind) → kind ∷ [] ≡ [] → ⊥
 no_fault_is_one kind none = cc
@@ -55,32 +55,39 @@ two_are_refused number kinds none =
     let same : 1 ≡ suc (suc number) = eqb-true 1 (suc (suc number)) (range_kept (suc (suc number) == 0) (1 == suc (suc number)) _ _ kinds none) in omega (arith, same)
 
 -- an operand at this place
-operand_keeps : (place : ℕ) (id : Text) → bytes_eq id (codes "states") ≡ false → bytes_eq id (codes "nodes") ≡ false
-    → Keeps false AreReadable (with_index place (filled (file_operand id)))
-operand_keeps place id no_states no_nodes [] rows all none = absurd (no_fault_is_one _ none)
-operand_keeps place id no_states no_nodes (text ∷ []) rows all none =
-    readable_with id AsWritten CommandLine (text ∷ []) (without id rows) (operand_is_readable id no_states no_nodes text) (readable_without id rows all)
-operand_keeps place id no_states no_nodes (text ∷ other ∷ more) rows all none = absurd (two_are_refused (length more) _ none)
+operand_keeps : (place : ℕ) (id : Text) → range_of id ≡ None → Keeps false AreReadable (with_index place (filled (file_operand id)))
+operand_keeps place id no_range [] rows all none = absurd (no_fault_is_one _ none)
+operand_keeps place id no_range (text ∷ []) rows all none =
+    readable_with id AsWritten CommandLine (text ∷ []) (without id rows) (operand_is_readable id no_range text) (readable_without id rows all)
+operand_keeps place id no_range (text ∷ other ∷ more) rows all none = absurd (two_are_refused (length more) _ none)
 
 it_passes : (passes : Bool) (kind : ErrorKind) → or_else (if passes then [] else kind ∷ []) [] ≡ [] → passes ≡ true
 it_passes true kind none = refl
 it_passes false kind none = cc
 
+-- an operand at this place, which is a number
+number_keeps : (place : ℕ) (id : Text) (least most : ℕ) → range_of id ≡ Some (least, most)
+    → Keeps false AreReadable (with_index place (filled (number_operand id least most)))
+number_keeps place id least most range [] rows all none = absurd (no_fault_is_one _ none)
+number_keeps place id least most range (text ∷ []) rows all none =
+    readable_with id AsWritten CommandLine (text ∷ []) (without id rows)
+    (number_is_readable id least most range CommandLine text (it_passes (is_unsigned_in least most text) _ (last_is_empty _ _ none))) (readable_without id rows all)
+number_keeps place id least most range (text ∷ other ∷ more) rows all none = absurd (two_are_refused (length more) _ none)
+
 -- (an option has no place: the number that is counted on beside it says nothing)
-limit_keeps : (place : ℕ) (name : Text) (most : ℕ) (default : Text)
-    → ((text : Text) → is_unsigned_in 1 most text ≡ true → IsReadable (new_row name AsWritten CommandLine (text ∷ [])))
+limit_keeps : (place : ℕ) (name : Text) (most : ℕ) (default : Text) → range_of name ≡ Some (1, most)
     → Keeps false AreReadable (with_index place (filled (limit_option name most default)))
-limit_keeps place name most default readable [] rows all none = absurd (no_fault_is_one _ none)
-limit_keeps place name most default readable (text ∷ []) rows all none =
+limit_keeps place name most default range [] rows all none = absurd (no_fault_is_one _ none)
+limit_keeps place name most default range (text ∷ []) rows all none =
     readable_with name AsWritten CommandLine (text ∷ []) (without name rows)
-    (readable text (it_passes (is_unsigned_in 1 most text) _ (last_is_empty _ _ none))) (readable_without name rows all)
-limit_keeps place name most default readable (text ∷ other ∷ more) rows all none = absurd (two_are_refused (length more) _ none)
+    (number_is_readable name 1 most range CommandLine text (it_passes (is_unsigned_in 1 most text) _ (last_is_empty _ _ none))) (readable_without name rows all)
+limit_keeps place name most default range (text ∷ other ∷ more) rows all none = absurd (two_are_refused (length more) _ none)
 
 states_keep : (place : ℕ) → Keeps false AreReadable (with_index place (filled states_option))
-states_keep place = limit_keeps place (codes "states") most_states (codes "30000") (states_are_readable CommandLine)
+states_keep place = limit_keeps place (codes "states") most_states (codes "30000") refl
 
 nodes_keep : (place : ℕ) → Keeps false AreReadable (with_index place (filled nodes_option))
-nodes_keep place = limit_keeps place (codes "nodes") most_nodes (codes "1000000") (nodes_are_readable CommandLine)
+nodes_keep place = limit_keeps place (codes "nodes") most_nodes (codes "1000000") refl
 
 help_keeps : (place : ℕ) → Keeps false AreReadable (with_index place (filled help_rule))
 help_keeps place values rows all none = all
@@ -90,8 +97,8 @@ help_keeps place values rows all none = all
 formula_is_readable : (name : Text) → IsReadableShape (leaf (over_a_formula name))
 formula_is_readable name =
     record {
-      uses = (operand_keeps 1 (codes "file") refl refl, (states_keep 2, (nodes_keep 2, (help_keeps 2, tt))));
-      defaults = (tt, (states_are_readable _ (codes "30000") refl, (nodes_are_readable _ (codes "1000000") refl, (tt, tt))));
+      uses = (operand_keeps 1 (codes "file") refl, (states_keep 2, (nodes_keep 2, (help_keeps 2, tt))));
+      defaults = (tt, (number_is_readable (codes "states") 1 most_states refl _ (codes "30000") refl, (number_is_readable (codes "nodes") 1 most_nodes refl _ (codes "1000000") refl, (tt, tt))));
     }
 
 report_is_some : (kind : Kind) (rows : List Row) → IsFound (codes "file") rows → IsFound (codes "states") rows → IsFound (codes "nodes") rows → IsSome (report_in kind rows)
@@ -110,7 +117,7 @@ report_asks name kind words none =
 -- ---- over an automaton's text
 
 automaton_is_readable : IsReadableShape (leaf over_an_automaton)
-automaton_is_readable = record { uses = (operand_keeps 1 (codes "automaton") refl refl, (help_keeps 2, tt)); defaults = (tt, (tt, tt)) }
+automaton_is_readable = record { uses = (operand_keeps 1 (codes "automaton") refl, (help_keeps 2, tt)); defaults = (tt, (tt, tt)) }
 
 pub certify_asks : (words : List Text) → level_fault (leaf over_an_automaton) [] nothing_held words false [] ≡ []
     → IsSome (certify_in (rows_after (leaf over_an_automaton).rules [] words))
@@ -123,8 +130,8 @@ certify_asks words none =
 formulas_are_readable : IsReadableShape (leaf over_two_formulas)
 formulas_are_readable =
     record {
-      uses = (operand_keeps 1 (codes "first") refl refl, (operand_keeps 2 (codes "second") refl refl, (states_keep 3, (nodes_keep 3, (help_keeps 3, tt)))));
-      defaults = (tt, (tt, (states_are_readable _ (codes "30000") refl, (nodes_are_readable _ (codes "1000000") refl, (tt, tt)))));
+      uses = (operand_keeps 1 (codes "first") refl, (operand_keeps 2 (codes "second") refl, (states_keep 3, (nodes_keep 3, (help_keeps 3, tt)))));
+      defaults = (tt, (tt, (number_is_readable (codes "states") 1 most_states refl _ (codes "30000") refl, (number_is_readable (codes "nodes") 1 most_nodes refl _ (codes "1000000") refl, (tt, tt)))));
     }
 
 implies_is_some : (rows : List Row) → IsFound (codes "first") rows → IsFound (codes "second") rows → IsFound (codes "states") rows → IsFound (codes "nodes") rows
@@ -149,7 +156,7 @@ implies_asks words none =
 trace_is_readable : (name : Text) → IsReadableShape (leaf (over_a_trace name))
 trace_is_readable name =
     record {
-      uses = (operand_keeps 1 (codes "observer") refl refl, (operand_keeps 2 (codes "trace") refl refl, (help_keeps 3, tt)));
+      uses = (operand_keeps 1 (codes "observer") refl, (operand_keeps 2 (codes "trace") refl, (help_keeps 3, tt)));
       defaults = (tt, (tt, (tt, tt)));
     }
 
@@ -165,3 +172,26 @@ pub replay_asks : (name : Text) (subset : Subset) (words : List Text) → level_
 replay_asks name subset words none =
     let found = all_found (leaf (over_a_trace name)) (trace_is_readable name) words none in
     replay_is_some subset (rows_after (leaf (over_a_trace name)).rules [] words) (found.0.required refl) (found.1.0.required refl)
+
+-- ---- over a seed and a count
+
+seed_is_readable : IsReadableShape (leaf over_a_seed)
+seed_is_readable =
+    record {
+      uses = (number_keeps 1 (codes "seed") 0 most_seed refl, (number_keeps 2 (codes "count") 1 most_count refl, (help_keeps 3, tt)));
+      defaults = (tt, (tt, (tt, tt)));
+    }
+
+sweep_is_some : (rows : List Row) → IsFound (codes "seed") rows → IsFound (codes "count") rows → IsSome (sweep_in rows)
+sweep_is_some rows seed count =
+    subst IsSome
+    (sym (ap (option_and_then (λ one. option_map (Sweep one) (number_in 1 most_count (codes "count") rows)))
+    (number_is_there (codes "seed") rows seed 0 most_seed refl)
+    ∙ ap (option_map (Sweep (digits_value 10 (without_leading_plus seed.readable.text)))) (number_is_there (codes "count") rows count 1 most_count refl)))
+    refl
+
+pub sweep_asks : (words : List Text) → level_fault (leaf over_a_seed) [] nothing_held words false [] ≡ []
+    → IsSome (sweep_in (rows_after (leaf over_a_seed).rules [] words))
+sweep_asks words none =
+    let found = all_found (leaf over_a_seed) seed_is_readable words none in
+    sweep_is_some (rows_after (leaf over_a_seed).rules [] words) (found.0.required refl) (found.1.0.required refl)

@@ -1,4 +1,4 @@
--- Words that are always taken: a subcommand's name, files' names, and options with their numbers.
+-- Words that are always taken: a subcommand's name, files' names or numbers, and options with their numbers.
 --     report_name kind           the name of the subcommand that reports this
 --     replay_name subset         the name of the subcommand that replays a trace through an observer of this subset
 --     Options                    the options that stand in the words, in order, with their numbers

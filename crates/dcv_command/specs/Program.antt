@@ -7,7 +7,10 @@
 --     over_an_automaton     the one over an automaton's text
 --     over_two_formulas     the one over two formula files, with both limits
 --     over_a_trace name     a subcommand over an observer's text and a trace
+--     number_operand id     a whole number from the least to the most
+--     over_a_seed           the one over a seed and a count
 --     most_states           the most states of a step that may be asked for, and the most diagram nodes
+--     most_seed             the greatest seed that may be asked for, and the most formulas
 use Rattle.std.specs.Prelude.{ℕ, true, false, List, [], ◌∷◌, Some, codes}
 use Rattle.clap.specs.Words.{App, Shape, Rule, new_rule}
 use Rattle.clap.specs.Simple.{new_shape}
@@ -50,10 +53,25 @@ over_two_formulas = record (new_shape (codes "implies")) {
 abbrev pub over_a_trace : List ℕ → Shape
 over_a_trace name = record (new_shape name) { rules = file_operand (codes "observer") ∷ file_operand (codes "trace") ∷ [] }
 
+abbrev pub most_seed : ℕ
+most_seed = 2147483647
+
+abbrev pub most_count : ℕ
+most_count = 1000
+
+abbrev pub number_operand : List ℕ → ℕ → ℕ → Rule
+number_operand id least most = record (new_rule id) { required = true; parser = Some (Unsigned least most); value_names = 1 }
+
+abbrev pub over_a_seed : Shape
+over_a_seed = record (new_shape (codes "sweep")) {
+  rules = number_operand (codes "seed") 0 most_seed ∷ number_operand (codes "count") 1 most_count ∷ [];
+}
+
 abbrev pub subcommands : List Shape
 subcommands =
     over_a_formula (codes "check") ∷ over_a_formula (codes "automaton") ∷ over_a_formula (codes "lustre") ∷ over_a_formula (codes "c")
-    ∷ over_a_formula (codes "all") ∷ over_an_automaton ∷ over_two_formulas ∷ over_a_trace (codes "replay-lustre") ∷ over_a_trace (codes "replay-c") ∷ []
+    ∷ over_a_formula (codes "all") ∷ over_an_automaton ∷ over_two_formulas ∷ over_a_trace (codes "replay-lustre") ∷ over_a_trace (codes "replay-c")
+    ∷ over_a_seed ∷ []
 
 -- without its subcommands, of which one is required
 abbrev pub bare_app : App

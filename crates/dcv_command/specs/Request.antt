@@ -1,8 +1,9 @@
 -- What the words of the command line ask for, by `clap`'s matches of them.
 --     Request                 a thing that the program does
 --     files_of request        the names of the files that it reads, in the order in which it asks for them
---     IsInRange request       its limits, if it has some, are within those of the options
---     number_in most id rows  the value of an option, a number from 1 to the most
+--     IsInRange request       its numbers, if it has some, are within the ranges of the options and operands
+--     number_in least most id rows
+--                             the value of an option or an operand, a number from the least to the most
 --     limits_among rows       the values of both options
 --     request_of words        what the words ask for
 --     IsTaken words           `clap` finds no fault in the words
@@ -16,7 +17,7 @@ use Rattle.dcv_print.specs.declared.report.Kind.{Kind}
 use Rattle.dcv_print.specs.declared.report.Kind.TheVariants.{Check, Automaton, Lustre, C, All}
 use Rattle.dcv_command.specs.declared.words.Subset.{Subset}
 use Rattle.dcv_command.specs.declared.words.Subset.TheVariants.{Lustre as LustreText, C as CText}
-use Rattle.dcv_command.specs.Program.{program, most_states, most_nodes}
+use Rattle.dcv_command.specs.Program.{program, most_states, most_nodes, most_seed, most_count}
 
 pub data Request : Type 0 where
   -- a report on the formula in the file with this name
@@ -27,12 +28,15 @@ pub data Request : Type 0 where
   Implies : (first second : List ℕ) → (limits : Limits) → Request
   -- what the observer in the first file, a text of this subset, answers at each instant of the trace in the second
   Replay : (subset : Subset) → (observer trace : List ℕ) → Request
+  -- a summary over so many formulas that are drawn from the seed
+  Sweep : (seed count : ℕ) → Request
 
 abbrev pub files_of : Request → List (List ℕ)
 files_of (Report kind name limits) = name ∷ []
 files_of (Certify name) = name ∷ []
 files_of (Implies first second limits) = first ∷ second ∷ []
 files_of (Replay subset observer trace) = observer ∷ trace ∷ []
+files_of (Sweep seed count) = []
 
 pub record AreInRange (limits : Limits) : Type 0 where
   pub some_states : 1 ≤ limits.states
@@ -40,26 +44,32 @@ pub record AreInRange (limits : Limits) : Type 0 where
   pub some_nodes : 1 ≤ limits.nodes
   pub few_nodes : limits.nodes ≤ most_nodes
 
+pub record CanBeDrawn (seed count : ℕ) : Type 0 where
+  pub small : seed ≤ most_seed
+  pub some : 1 ≤ count
+  pub few : count ≤ most_count
+
 abbrev pub IsInRange : Request → Type 0
 IsInRange (Report kind name limits) = AreInRange limits
 IsInRange (Certify name) = Unit {0}
 IsInRange (Implies first second limits) = AreInRange limits
 IsInRange (Replay subset observer trace) = Unit {0}
+IsInRange (Sweep seed count) = CanBeDrawn seed count
 
--- ---- the values of a subcommand's options
+-- ---- the numbers among a subcommand's values
 
-abbrev pub number_of : ℕ → Text → Option ℕ
-number_of most text = if is_unsigned_in 1 most text then Some (digits_value 10 (without_leading_plus text)) else None
+abbrev pub number_of : ℕ → ℕ → Text → Option ℕ
+number_of least most text = if is_unsigned_in least most text then Some (digits_value 10 (without_leading_plus text)) else None
 
-abbrev pub number_in : ℕ → Text → List Row → Option ℕ
-number_in most id rows = option_and_then (number_of most) (one_of id rows)
+abbrev pub number_in : ℕ → ℕ → Text → List Row → Option ℕ
+number_in least most id rows = option_and_then (number_of least most) (one_of id rows)
 
 abbrev pub limits_of : ℕ → ℕ → Limits
 limits_of states nodes = record { states = states; nodes = nodes }
 
 abbrev pub limits_among : List Row → Option Limits
 limits_among rows =
-    option_and_then (λ states. option_map (limits_of states) (number_in most_nodes (codes "nodes") rows)) (number_in most_states (codes "states") rows)
+    option_and_then (λ states. option_map (limits_of states) (number_in 1 most_nodes (codes "nodes") rows)) (number_in 1 most_states (codes "states") rows)
 
 -- ---- what each subcommand asks for, by its matches
 
@@ -77,6 +87,10 @@ implies_in rows =
 abbrev pub replay_in : Subset → List Row → Option Request
 replay_in subset rows = option_and_then (λ observer. option_map (Replay subset observer) (first_of (codes "trace") rows)) (first_of (codes "observer") rows)
 
+abbrev pub sweep_in : List Row → Option Request
+sweep_in rows =
+    option_and_then (λ seed. option_map (Sweep seed) (number_in 1 most_count (codes "count") rows)) (number_in 0 most_seed (codes "seed") rows)
+
 abbrev pub request_in : Text → List Row → Option Request
 request_in name rows =
     if bytes_eq name (codes "check") then report_in Check rows
@@ -87,7 +101,8 @@ request_in name rows =
     else (if bytes_eq name (codes "certify") then certify_in rows
     else (if bytes_eq name (codes "implies") then implies_in rows
     else (if bytes_eq name (codes "replay-lustre") then replay_in LustreText rows
-    else (if bytes_eq name (codes "replay-c") then replay_in CText rows else None))))))))
+    else (if bytes_eq name (codes "replay-c") then replay_in CText rows
+    else (if bytes_eq name (codes "sweep") then sweep_in rows else None)))))))))
 
 -- of the subcommand that the words name, with its matches
 abbrev pub request_of_subcommand : Option (Text × List Row) → Option Request

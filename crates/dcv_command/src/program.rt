@@ -4,6 +4,7 @@ ghost use Rattle.clap.specs.Words.{rule_of, app_of, new_app, with_subcommand};
 ghost use Rattle.clap.specs.declared.builder.Command.TheViews.{out-Command as fields_of};
 ghost use Rattle.dcv_command.specs.Program.{file_operand as file_rule, limit_option, states_option, nodes_option, program as the_program, bare_app};
 ghost use Rattle.dcv_command.specs.Program.{over_a_formula as formula_shape, over_an_automaton as automaton_shape, over_two_formulas as formulas_shape, over_a_trace as trace_shape};
+ghost use Rattle.dcv_command.specs.Program.{number_operand as number_rule, over_a_seed as seed_shape};
 
 use clap::builder::ValueParser;
 use clap::{Arg, Command};
@@ -13,7 +14,7 @@ const ABOUT: &str =
     "Decides whether a requirement about stretches of time, a formula of Quantified Discrete-time Duration Calculus, always holds. \
 Shows a shortest behaviour that breaks it, or the minimal automaton of the behaviours that satisfy it, or an observer of these. \
 Tells whether one requirement implies another, and whether an automaton's text shows by its own words that it is minimal. \
-Replays traces through observers.";
+Replays traces through observers. Counts what holds of formulas that are drawn.";
 
 const EXAMPLE_AND_STATUS: &str =
     "Example, with `var door_closed; infer [[door_closed]];` in the file door.dc:
@@ -23,9 +24,11 @@ const EXAMPLE_AND_STATUS: &str =
   dcvalid implies door.dc other.dc
   dcvalid c door.dc > door.c
   dcvalid replay-c door.c door.trace
+  dcvalid sweep 7 200
 
 Status:
-  0  each behaviour satisfies the formula; the automaton is shown to be minimal; A implies B; the trace was read to its end
+  0  each behaviour satisfies the formula; the automaton is shown to be minimal; A implies B; the trace was read to its end;
+     the drawn formulas are counted
   1  some behaviour does not; the automaton is not shown to be minimal; A does not imply B
   2  the words are no command, or ask for help
   3  a file holds no formula, for the fault that is named, at its offset in bytes; A and B declare different variables
@@ -42,6 +45,12 @@ pub(crate) const MOST_STATES: u32 = 32_000;
 
 /// The most diagram nodes of a step that may be asked for.
 pub(crate) const MOST_NODES: u32 = 1_000_000;
+
+/// The greatest seed that formulas may be drawn from.
+pub(crate) const MOST_SEED: u32 = 2_147_483_647;
+
+/// The most formulas that may be drawn.
+pub(crate) const MOST_COUNT: u32 = 1_000;
 
 // The command of the program.
 pub(crate) fn program<'a>(alloc: Global) -> Result<Command<'a>, AllocError>
@@ -86,12 +95,13 @@ pub(crate) fn program<'a>(alloc: Global) -> Result<Command<'a>, AllocError>
         "replay-lustre",
         "Writes what an observer, as the command lustre writes it, answers at each instant of a trace",
     )?;
-    with_replay(
+    let replay_c = with_replay(
         alloc,
         replay_lustre,
         "replay-c",
         "Writes what an observer, as the command c writes it, answers at each instant of a trace",
-    )
+    )?;
+    with_sweep(alloc, replay_c)
 }
 
 // The command without its subcommands, of which one is required.
@@ -143,6 +153,13 @@ fn with_replay<'a>(
     ensures { IfOk result (λ more. app_of more ≡ with_subcommand (app_of command.entry) (trace_shape name.entry.now)) }
 {
     command.subcommand(over_a_trace(alloc, name, about)?)
+}
+
+// The command with the subcommand that counts over drawn formulas.
+fn with_sweep<'a>(alloc: Global, command: Command<'a>) -> Result<Command<'a>, AllocError>
+    ensures { IfOk result (λ more. app_of more ≡ with_subcommand (app_of command.entry) seed_shape) }
+{
+    command.subcommand(over_a_seed(alloc)?)
 }
 
 // A command with no words yet, which usage calls by its name.
@@ -230,6 +247,53 @@ fn over_a_trace<'a>(alloc: Global, name: &'a str, about: &'a str) -> Result<Comm
             "TRACE",
             "The trace: a line for each instant, with a digit 0 or 1 for each variable, or - where there is none",
         ))
+}
+
+// The subcommand over a seed and a count.
+fn over_a_seed<'a>(alloc: Global) -> Result<Command<'a>, AllocError>
+    ensures app { IfOk result (λ command. app_of command ≡ record { top = seed_shape; subs = [] }) }
+    ensures local { IfOk result (λ command. (fields_of command).has_globals ≡ false) }
+{
+    Command::new(alloc, "sweep")
+        .about(
+            "Draws formulas over x, y and z, and writes how many are valid, how many satisfiable, how many are over the limits of 30000 \
+states and 1000000 nodes, and how many states the minimal automata of the others have together",
+        )
+        .arg(number_operand(
+            alloc,
+            "seed",
+            0,
+            MOST_SEED,
+            "SEED",
+            "The number that the drawing begins from, up to 2147483647",
+        ))?
+        .arg(number_operand(
+            alloc,
+            "count",
+            1,
+            MOST_COUNT,
+            "COUNT",
+            "How many formulas are drawn, from 1 to 1000",
+        ))
+}
+
+// A whole number from the least to the most.
+fn number_operand<'a>(
+    alloc: Global,
+    id: &'a str,
+    least: u32,
+    most: u32,
+    value_name: &'a str,
+    help: &'a str,
+) -> Arg<'a>
+    ensures rule { rule_of result ≡ number_rule id.entry.now least most }
+    ensures local { result.global ≡ false }
+{
+    Arg::new(alloc, id)
+        .required(true)
+        .value_parser(ValueParser::unsigned(u64::from(least), u64::from(most)))
+        .value_name(value_name)
+        .help(help)
 }
 
 // The name of a file.

@@ -4,12 +4,12 @@ ghost use Rattle.clap.specs.Words.{fault_of, first_of, found_of, rows_of, subcom
 ghost use Rattle.dcv_command.specs.Program.{program as the_program};
 ghost use Rattle.dcv_command.specs.Request.{IsInRange, IsTaken, request_of, request_of_subcommand};
 ghost use Rattle.dcv_command.specs.Request.{report_in as report_among, certify_in as certify_among, implies_in as implies_among, request_in as request_among};
-ghost use Rattle.dcv_command.specs.Request.{replay_in as replay_among};
+ghost use Rattle.dcv_command.specs.Request.{replay_in as replay_among, sweep_in as sweep_among};
 ghost use Rattle.dcv_command.specs.Request.{limits_among as limits_among_rows, number_in as number_in_rows};
 ghost use Rattle.dcv_command.specs.declared.words.WordsFault.TheVariants.{Memory};
 ghost use Rattle.dcv_command.specs.Seen.{asked_by, IsUsageOnlyWhere};
 
-use crate::program::{MOST_NODES, MOST_STATES, program};
+use crate::program::{MOST_COUNT, MOST_NODES, MOST_SEED, MOST_STATES, program};
 use clap::ArgMatches;
 use clap::error::ErrorKind;
 use dcv_explore::Limits;
@@ -42,6 +42,11 @@ pub enum Request<'a> {
         subset: Subset,
         observer: &'a str,
         trace: &'a str,
+    },
+    /// A summary over so many formulas that are drawn from the seed.
+    Sweep {
+        seed: u32,
+        count: u32,
     },
 }
 
@@ -121,6 +126,7 @@ fn request_named<'a>(name: &str, matches: &ArgMatches<'a>) -> Option<Request<'a>
         "implies" => implies_in(matches),
         "replay-lustre" => replay_in(matches, Subset::Lustre),
         "replay-c" => replay_in(matches, Subset::C),
+        "sweep" => sweep_in(matches),
         _ => None,
     }
 }
@@ -169,6 +175,15 @@ fn replay_in<'a>(matches: &ArgMatches<'a>, subset: Subset) -> Option<Request<'a>
     })
 }
 
+// The summary that is asked for.
+fn sweep_in<'a>(matches: &ArgMatches<'a>) -> Option<Request<'a>>
+    ensures { option_map asked_by result ≡ sweep_among (rows_of (found_of matches.now)) }
+{
+    let seed = number_in(matches, "seed", 0, MOST_SEED)?;
+    let count = number_in(matches, "count", 1, MOST_COUNT)?;
+    Some(Request::Sweep { seed, count })
+}
+
 // The value of an operand.
 fn operand_in<'a>(matches: &ArgMatches<'a>, id: &str) -> Option<&'a str>
     ensures { option_map (λ operand. operand.now) result ≡ first_of id.now (rows_of (found_of matches.now)) }
@@ -180,17 +195,17 @@ fn operand_in<'a>(matches: &ArgMatches<'a>, id: &str) -> Option<&'a str>
 fn limits_among(matches: &ArgMatches<'_>) -> Option<Limits>
     ensures { result ≡ limits_among_rows (rows_of (found_of matches.now)) }
 {
-    let states = number_in(matches, "states", MOST_STATES)?;
-    let nodes = number_in(matches, "nodes", MOST_NODES)?;
+    let states = number_in(matches, "states", 1, MOST_STATES)?;
+    let nodes = number_in(matches, "nodes", 1, MOST_NODES)?;
     Some(Limits { states, nodes })
 }
 
-// The value of an option, a number from 1 to the most.
-fn number_in(matches: &ArgMatches<'_>, id: &str, most: u32) -> Option<u32>
-    ensures { result ≡ number_in_rows most id.now (rows_of (found_of matches.now)) }
+// The value of an option or of an operand, a number from the least to the most.
+fn number_in(matches: &ArgMatches<'_>, id: &str, least: u32, most: u32) -> Option<u32>
+    ensures { result ≡ number_in_rows least most id.now (rows_of (found_of matches.now)) }
 {
     let number = matches.get_one::<u32>(id)?;
-    if 1 <= number && number <= most {
+    if least <= number && number <= most {
         Some(number)
     } else {
         None

@@ -12,5 +12,5 @@ mod PrintedWords
 mod Reports
 mod SameBehaviours
 mod Spellings
-mod SuffixCounts
+pub mod SuffixCounts
 mod Texts

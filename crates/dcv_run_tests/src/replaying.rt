@@ -11,11 +11,18 @@ const UNKNOWN_NAME: &str = "node f(a: bool) returns (ok: bool); let ok = b; tel"
 
 const INPUT: &str = "node f(a: bool) returns (ok: bool); let ok = a; tel";
 
+// A node with a number that is too large, one whose condition is a number, and one with an equation twice.
+const LARGE_NUMBER: &str = "node f(a: bool) returns (ok: bool); let ok = 32768; tel";
+
+const NUMBER: &str = "node f(a: bool) returns (ok: bool); let ok = 1; tel";
+
+const TWICE: &str = "node f(a: bool) returns (ok: bool); let ok = true; ok = false; tel";
+
 // A unit whose function that sets the statics sets none.
 const NEVER_SET: &str = "static int s;void r(void){}int t(void){return 0;}";
 
 // A command, an observer, a trace, and what is answered.
-const REPLAYS: [(&str, &str, Option<&str>, (u8, &str, &str)); 16] = [
+const REPLAYS: [(&str, &str, Option<&str>, (u8, &str, &str)); 19] = [
     (
         "replay-lustre",
         ALWAYS_P,
@@ -90,6 +97,24 @@ const REPLAYS: [(&str, &str, Option<&str>, (u8, &str, &str)); 16] = [
         UNKNOWN_NAME,
         None,
         (9, "", "fault observer names at 45\n"),
+    ),
+    (
+        "replay-lustre",
+        LARGE_NUMBER,
+        None,
+        (9, "", "fault observer syntax at 45\n"),
+    ),
+    (
+        "replay-lustre",
+        NUMBER,
+        None,
+        (9, "", "fault observer names at 45\n"),
+    ),
+    (
+        "replay-lustre",
+        TWICE,
+        None,
+        (9, "", "fault observer names at 51\n"),
     ),
     (
         "replay-c",

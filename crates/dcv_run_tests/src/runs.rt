@@ -555,7 +555,7 @@ fn faults_of_long_texts(rt: HostRuntime) -> Result<(), Fail> {
 }
 
 // Lists of words that no command takes.
-const NO_COMMANDS: [&[&str]; 10] = [
+const NO_COMMANDS: [&[&str]; 14] = [
     &[],
     &["check"],
     &["check", "-f"],
@@ -566,6 +566,10 @@ const NO_COMMANDS: [&[&str]; 10] = [
     &["check", "f", "--nodes", "1000001"],
     &["automaton"],
     &["automaton", "f", "--nodes"],
+    &["sweep", "0"],
+    &["sweep", "0", "0"],
+    &["sweep", "0", "1001"],
+    &["sweep", "2147483648", "1"],
 ];
 
 // What is on the messages is left to the reader of the command line.

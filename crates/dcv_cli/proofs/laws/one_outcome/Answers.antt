@@ -14,4 +14,4 @@ returns c =
       one_unit_fault = c.texts_are_units_or_at_fault.ensures.one;
       no_unit_fault = c.texts_are_units_or_at_fault.ensures.none;
     })
-    c.traces_have_one_verdict.ensures.one c.letters_have_one_text_of_answers.ensures.one
+    c.traces_have_one_verdict.ensures.one c.letters_have_one_text_of_answers.ensures.one c.one_summary.ensures

@@ -2,7 +2,7 @@
 use Rattle.std.proofs.Common.{ap, ◌∙◌, codes}
 use Rattle.std.proofs.lemmas.Result.{IfOk-weaker}
 use Rattle.clap.specs.Words.{App, with_subcommand}
-use Rattle.dcv_command.specs.Program.{over_a_formula, over_a_trace, over_an_automaton, over_two_formulas}
+use Rattle.dcv_command.specs.Program.{over_a_formula, over_a_seed, over_a_trace, over_an_automaton, over_two_formulas}
 use Rattle.dcv_command.proofs.program.program.Goals as goal
 
 pub returns : goal.returns
@@ -15,5 +15,5 @@ returns c =
     let certify = c.in_ok-certify.ensures ∙ ap (λ (app : App). with_subcommand app over_an_automaton) all in
     let implies = c.in_ok-implies.ensures ∙ ap (λ (app : App). with_subcommand app over_two_formulas) certify in
     let replay_lustre = c.in_ok-replay_lustre.ensures ∙ ap (λ (app : App). with_subcommand app (over_a_trace (codes "replay-lustre"))) implies in
-    IfOk-weaker c.with_replay-2.result _ _ (λ command is. is ∙ ap (λ (app : App). with_subcommand app (over_a_trace (codes "replay-c"))) replay_lustre)
-    c.with_replay-2.ensures
+    let replay_c = c.in_ok-replay_c.ensures ∙ ap (λ (app : App). with_subcommand app (over_a_trace (codes "replay-c"))) replay_lustre in
+    IfOk-weaker c.with_sweep.result _ _ (λ command is. is ∙ ap (λ (app : App). with_subcommand app over_a_seed) replay_c) c.with_sweep.ensures

@@ -8,16 +8,16 @@ pub returns-in_err-number : goal.returns-in_err-number
 returns-in_err-number c =
     c.from_residual.ensures
     ∙ nothing_read (λ text read. ParsesUnsigned 32 10 text read × ExplainsUnsignedError 10 text read × HasUnsignedDigitsIfOk text read) (λ text read parsed. parsed.0)
-    c.args.most (omega (arith, c.ranges.most)) (found_of c.args.matches.now) c.args.id.now c.get_one.result c.get_one.ensures.none c.get_one.ensures.value c.in_err-number.was
+    c.args.least c.args.most (omega (arith, c.ranges.most)) (found_of c.args.matches.now) c.args.id.now c.get_one.result c.get_one.ensures.none c.get_one.ensures.value c.in_err-number.was
 
 pub returns-then-number-most : goal.returns-then-number-most
 returns-then-number-most c =
     in_range (λ text read. ParsesUnsigned 32 10 text read × ExplainsUnsignedError 10 text read × HasUnsignedDigitsIfOk text read) (λ text read parsed. parsed.0)
-    c.args.most (omega (arith, c.ranges.most)) (found_of c.args.matches.now) c.args.id.now c.get_one.result c.get_one.ensures.none c.get_one.ensures.value
-    c.in_ok-number.number c.in_ok-number.was c.if-number-ge1.true c.if-number-most.true
+    c.args.least c.args.most (omega (arith, c.ranges.most)) (found_of c.args.matches.now) c.args.id.now c.get_one.result c.get_one.ensures.none c.get_one.ensures.value
+    c.in_ok-number.number c.in_ok-number.was c.if-least-number.true c.if-number-most.true
 
-pub returns-else-number-ge1 : goal.returns-else-number-ge1
-returns-else-number-ge1 c =
+pub returns-else-least-number : goal.returns-else-least-number
+returns-else-least-number c =
     out_of_range (λ text read. ParsesUnsigned 32 10 text read × ExplainsUnsignedError 10 text read × HasUnsignedDigitsIfOk text read) (λ text read parsed. parsed.0)
-    c.args.most (omega (arith, c.ranges.most)) (found_of c.args.matches.now) c.args.id.now c.get_one.result c.get_one.ensures.none c.get_one.ensures.value
-    c.in_ok-number.number c.in_ok-number.was (λ some few. omega (arith, c.else-number-ge1.either))
+    c.args.least c.args.most (omega (arith, c.ranges.most)) (found_of c.args.matches.now) c.args.id.now c.get_one.result c.get_one.ensures.none c.get_one.ensures.value
+    c.in_ok-number.number c.in_ok-number.was (λ some few. omega (arith, c.else-least-number.either))

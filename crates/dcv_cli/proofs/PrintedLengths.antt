@@ -1,0 +1,268 @@
+-- A printed text of an automaton is no longer than one that is read may be: a bound for the lines of each kind, times how many there are.
+use Rattle.std.proofs.Common.{◌≡◌, ℕ, zero, suc, ◌+◌, ◌*◌, ◌<◌, ◌≤◌, Bool, true, false, List, [], ◌∷◌, ◌++◌, length, map, fold, get_or, refl, sym, ap, ◌∙◌, subst, arith, codes}
+use Rattle.std.specs.List.{All, flat_map, join_with_byte}
+use Rattle.std.specs.Fmt.{decimal}
+use Rattle.std.specs.Str.{bytes_eq}
+use Rattle.std.proofs.lemmas.Fmt.{length-decimal-le}
+use Rattle.std.proofs.lemmas.List.{length-append, length-map, append_assoc, append-nil}
+use Rattle.std.proofs.lemmas.List.Folds.{Any-from_list_any}
+use Rattle.std.specs.Cmp.{unsigned_Decides}
+use Rattle.std.proofs.lemmas.Slice.Eq.{bytes_eq-Decides}
+use Rattle.dcv_word.specs.TraceLine.{trace_line, digit_of}
+use Rattle.dcv_automaton_text.specs.File.{Target, ToState, ToNode, NodeLine, StateLine, Access, EmptyAccess, StartAccess, AfterAccess}
+use Rattle.dcv_automaton_text.specs.File.{Suffix, EmptySuffix, ThenSuffix, SuffixLine, AutomatonFile}
+use Rattle.dcv_automaton_text.specs.Form.{IsNumber, IsTarget, IsNodeLine, IsStateLine, IsAccess, IsSuffix}
+use Rattle.dcv_automaton_text.specs.Rules.{IsPlainName, AreNames, is_listed, keeps_how_access}
+use Rattle.dcv_automaton_text.specs.Spelled.{target_word, answer_word, name_words, node_words, state_words, access_words, suffix_words, head_lines, end_lines, lines_of, spelled_line, spelled}
+use Rattle.dcv_automaton_text.proofs.GoodFiles.{IsGoodFile, good_file}
+use Rattle.dcv_automaton_text.proofs.Kept.{AreKept}
+use Rattle.dcv_automaton_text.proofs.GoodTables.{table_has_the_files_states}
+use Rattle.dcv_automaton_text.specs.Meaning.{access_words_of, suffix_word_of, suffix_words_of}
+use Rattle.dcv_language.specs.Certificate.{GrowsInTurn, IsCertificate}
+use Rattle.dcv_language.specs.Language.{Language}
+use Rattle.dcv_print.specs.Automaton.{IsAutomatonOf}
+use Rattle.dcv_print.proofs.SuffixCounts.{suffixes_are_few}
+use Rattle.dcv_word.specs.Behaviour.{Word}
+use Rattle.dcv_cli.specs.Refusal.{most_automaton_bytes}
+
+-- ---- words of a line
+
+-- one byte stands behind each word
+abbrev room : List (List ℕ) → ℕ
+room [] = 0
+room (word ∷ words) = length word + 1 + room words
+
+length-joined : (word : List ℕ) (words : List (List ℕ)) → length (join_with_byte 32 (word ∷ words)) + 1 ≡ room (word ∷ words)
+length-joined word [] = omega arith
+length-joined word (next ∷ words) =
+    omega (arith, length-append word (32 ∷ join_with_byte 32 (next ∷ words)), length-joined next words)
+
+-- so a line is no longer than its words ask for
+within : (words : List (List ℕ)) (most : ℕ) → 0 < length words → room words ≤ most → length (spelled_line words) ≤ most
+within [] most some few = absurd (omega arith)
+within (word ∷ words) most some few = omega (arith, few, length-append (join_with_byte 32 (word ∷ words)) (10 ∷ []), length-joined word words)
+
+number_is_short : (number : ℕ) → IsNumber number → length (decimal number) ≤ 7
+number_is_short number is = length-decimal-le 7 number (omega arith) is (omega arith)
+
+target_is_short : (target : Target) → IsTarget target → length (target_word target) ≤ 8
+target_is_short (ToState number) is = omega (arith, number_is_short number is)
+target_is_short (ToNode number) is = omega (arith, number_is_short number is)
+
+answer_is_short : (accepting : Bool) → length (answer_word accepting) ≤ 6
+answer_is_short true = omega arith
+answer_is_short false = omega arith
+
+letter_is_short : (letter : List Bool) → length letter ≤ 16 → length (trace_line letter) ≤ 16
+letter_is_short [] few = omega arith
+letter_is_short (value ∷ values) few = omega (arith, length-map (value ∷ values) digit_of)
+
+-- ---- lines of each kind
+
+node_is_short : (line : NodeLine) → IsNodeLine line → length line.name ≤ 24 → length (spelled_line (node_words line)) ≤ 61
+node_is_short line is short =
+    within (node_words line) 61 (omega arith) (omega (arith, short, number_is_short line.number is.number, target_is_short line.hi is.hi, target_is_short line.lo is.lo))
+
+state_is_short : (line : StateLine) → IsStateLine line → length (spelled_line (state_words line)) ≤ 30
+state_is_short line is = within (state_words line) 30 (omega arith) (omega (arith, number_is_short line.number is.number, answer_is_short line.accepting, target_is_short line.row is.row))
+
+-- the letter of a line has this width
+abbrev HasWidth : ℕ → Access → Type 0
+HasWidth width EmptyAccess = Unit {0}
+HasWidth width (StartAccess letter) = length letter ≡ width
+HasWidth width (AfterAccess state letter) = length letter ≡ width
+
+access_is_short : (width number : ℕ) (access : Access) → width ≤ 16 → IsNumber number → IsAccess access → HasWidth width access
+    → length (spelled_line (access_words (record { number = number; access = access }))) ≤ 40
+access_is_short width number EmptyAccess few is how has =
+    within (access_words (record { number = number; access = EmptyAccess })) 40 (omega arith) (omega (arith, number_is_short number is))
+access_is_short width number (StartAccess letter) few is how has =
+    within (access_words (record { number = number; access = StartAccess letter })) 40 (omega arith)
+    (omega (arith, number_is_short number is, letter_is_short letter (omega (arith, few, has))))
+access_is_short width number (AfterAccess state letter) few is how has =
+    within (access_words (record { number = number; access = AfterAccess state letter })) 40 (omega arith)
+    (omega (arith, number_is_short number is, number_is_short state how, letter_is_short letter (omega (arith, few, has))))
+
+abbrev HasWidthToo : ℕ → Suffix → Type 0
+HasWidthToo width EmptySuffix = Unit {0}
+HasWidthToo width (ThenSuffix letter suffix) = length letter ≡ width
+
+suffix_is_short : (width number : ℕ) (suffix : Suffix) → width ≤ 16 → IsNumber number → IsSuffix suffix → HasWidthToo width suffix
+    → length (spelled_line (suffix_words (record { number = number; suffix = suffix }))) ≤ 40
+suffix_is_short width number EmptySuffix few is how has =
+    within (suffix_words (record { number = number; suffix = EmptySuffix })) 40 (omega arith) (omega (arith, number_is_short number is))
+suffix_is_short width number (ThenSuffix letter suffix) few is how has =
+    within (suffix_words (record { number = number; suffix = ThenSuffix letter suffix })) 40 (omega arith)
+    (omega (arith, number_is_short number is, number_is_short suffix how, letter_is_short letter (omega (arith, few, has))))
+
+-- ---- so many lines
+
+sum_of : {Line : Type 0} (words : Line → List (List ℕ)) (most : ℕ) (lines : List Line)
+    → ((k : ℕ) (d : Line) → k < length lines → length (spelled_line (words (get_or lines k d))) ≤ most)
+    → length (flat_map spelled_line (map words lines)) ≤ most * length lines
+sum_of words most [] short = omega arith
+sum_of words most (line ∷ lines) short =
+    let first = short 0 line (omega arith) in
+    let rest = sum_of words most lines (λ k d within. short (suc k) d (omega arith)) in
+    let joined = length-append (spelled_line (words line)) (flat_map spelled_line (map words lines)) in
+    more (length (spelled_line (words line))) (length (flat_map spelled_line (map words lines))) most (length lines) first rest joined
+  where
+    more : (one others most count : ℕ) → one ≤ most → others ≤ most * count → {all : ℕ} → all ≡ one + others → all ≤ most * suc count
+    more one others most count first rest e = omega (arith, first, rest, e)
+
+flat_of_both : (one other : List (List (List ℕ))) → flat_map spelled_line (one ++ other) ≡ flat_map spelled_line one ++ flat_map spelled_line other
+flat_of_both [] other = refl
+flat_of_both (line ∷ one) other =
+    ap (λ rest. spelled_line line ++ rest) (flat_of_both one other) ∙ sym (append_assoc (spelled_line line) (flat_map spelled_line one) (flat_map spelled_line other))
+
+length_of_both : (one other : List (List (List ℕ))) → length (flat_map spelled_line (one ++ other)) ≡ length (flat_map spelled_line one) + length (flat_map spelled_line other)
+length_of_both one other = ap length (flat_of_both one other) ∙ length-append (flat_map spelled_line one) (flat_map spelled_line other)
+
+-- ---- names
+
+listed_is_short : (names : List (List ℕ)) (name : List ℕ) → All IsPlainName names → is_listed names name ≡ true → length name ≤ 24
+listed_is_short names name each listed =
+    let found = Any-from_list_any (bytes_eq name) names listed in
+    let same : name ≡ found.1 = (bytes_eq-Decides name found.1).0 found.4 in
+    let short = (each found.0 found.1 found.2).short in
+    omega (arith, short, ap length found.3, ap length same)
+
+names_are_short : (names : List (List ℕ)) → All IsPlainName names → room names ≤ 25 * length names
+names_are_short [] each = omega arith
+names_are_short (name ∷ names) each =
+    let first = (each 0 name (omega arith)).short in
+    omega (arith, first, names_are_short names (λ k d within. each (suc k) d (omega arith)))
+
+words_are_short : (names : List (List ℕ)) → AreNames names → room (codes "variables" ∷ name_words names) ≤ 410
+words_are_short [] are = omega arith
+words_are_short (name ∷ names) are = omega (arith, are.count, names_are_short (name ∷ names) are.each)
+
+head_is_short : (file : AutomatonFile) → AreNames file.names → IsNumber file.states → length (flat_map spelled_line (head_lines file)) ≤ 437
+head_is_short file are is =
+    let first = spelled_line (codes "automaton" ∷ codes "1" ∷ []) in
+    let second = spelled_line (codes "variables" ∷ name_words file.names) in
+    let third = spelled_line (codes "states" ∷ decimal file.states ∷ []) in
+    let short = within (codes "variables" ∷ name_words file.names) 410 (omega arith) (words_are_short file.names are) in
+    let last = within (codes "states" ∷ decimal file.states ∷ []) 15 (omega arith) (omega (arith, number_is_short file.states is)) in
+    omega (arith, short, last, length-append first (second ++ (third ++ [])), length-append second (third ++ []), length-append third [])
+
+-- ---- letters of words
+
+has_its_width : (file : AutomatonFile) (place : ℕ) (access : Access) → AreKept (keeps_how_access file place access) → HasWidth (length file.names) access
+has_its_width file place EmptyAccess are = tt
+has_its_width file place (StartAccess letter) are = (unsigned_Decides (length letter) (length file.names)).0 are.1.0
+has_its_width file place (AfterAccess state letter) are = (unsigned_Decides (length letter) (length file.names)).0 are.1.0
+
+abbrev spelt : List Word → SuffixLine → List Word
+spelt earlier line = earlier ++ suffix_word_of earlier line.suffix ∷ []
+
+-- what more lines spell stands behind
+record StandsBehind (lines : List SuffixLine) (earlier : List Word) : Type 0 where
+  later : List Word
+  behind : fold spelt earlier lines ≡ earlier ++ later
+  size : length later ≡ length lines
+
+stands_behind : (lines : List SuffixLine) (earlier : List Word) → StandsBehind lines earlier
+stands_behind [] earlier = record { later = []; behind = sym (append-nil earlier); size = refl }
+stands_behind (line ∷ lines) earlier =
+    let word = suffix_word_of earlier line.suffix in
+    let rest = stands_behind lines (spelt earlier line) in
+    record { later = word ∷ rest.later; behind = rest.behind ∙ append_assoc earlier (word ∷ []) rest.later; size = ap suc rest.size }
+
+width_of : (k : ℕ) (earlier : List Word) (letter : List Bool) (rest : Word) → GrowsInTurn k earlier (letter ∷ rest) → length letter ≡ k
+width_of k [] letter rest grows = absurd (let wrong : letter ∷ rest ≡ [] = grows in cc)
+width_of k (first ∷ others) letter rest grows =
+    let whole : letter ∷ rest ≡ grows.letter ∷ grows.shorter = grows.grown in
+    let same : letter ≡ grows.letter = cc in
+    ap length same ∙ grows.width
+
+module _ (k : ℕ) (L : Language) (access all : List Word) (certificate : IsCertificate k L access all) where
+  suffix_has_width : (earlier later : List Word) (suffix : Suffix) → all ≡ earlier ++ suffix_word_of earlier suffix ∷ later → HasWidthToo k suffix
+  suffix_has_width earlier later EmptySuffix same = tt
+  suffix_has_width earlier later (ThenSuffix letter from) same =
+      width_of k earlier letter _ (certificate.each earlier later (suffix_word_of earlier (ThenSuffix letter from)) same).grows
+
+  each_has_width : (lines : List SuffixLine) (earlier : List Word) → all ≡ fold spelt earlier lines → (place : ℕ) (d : SuffixLine) → place < length lines
+      → HasWidthToo k (get_or lines place d).suffix
+  each_has_width [] earlier same place d within = absurd (omega arith)
+  each_has_width (line ∷ lines) earlier same zero d within =
+      let rest = stands_behind lines (spelt earlier line) in
+      suffix_has_width earlier rest.later line.suffix (same ∙ rest.behind ∙ append_assoc earlier (suffix_word_of earlier line.suffix ∷ []) rest.later)
+  each_has_width (line ∷ lines) earlier same (suc place) d within = each_has_width lines (spelt earlier line) same place d (omega arith)
+
+-- ---- the file
+
+module _ (k : ℕ) (L : Language) (names : List (List ℕ)) (file : AutomatonFile) (few : k ≤ 16) (are_names : AreNames names) (is : IsAutomatonOf k L names file) where
+  good : IsGoodFile file
+  good = good_file file is.rules
+
+  are : AreNames file.names
+  are = subst AreNames (sym is.variables) are_names
+
+  few_suffixes : length file.suffix_lines ≤ 32000
+  unfolding suffix_words_of
+  few_suffixes =
+      let words = access_words_of file in
+      let size = table_has_the_files_states file is.rules in
+      let count = is.canonical.words in
+      let rest = stands_behind file.suffix_lines [] in
+      let some = good.some in
+      let most = good.few in
+      let fewer = suffixes_are_few k L words (suffix_words_of file) (omega arith) is.certificate in
+      omega (arith, fewer, size, count, most, rest.size, ap length rest.behind)
+
+  nodes_are_short : length (flat_map spelled_line (map node_words file.node_lines)) ≤ 61 * length file.node_lines
+  nodes_are_short =
+      sum_of node_words 61 file.node_lines
+      (λ place d within. node_is_short (get_or file.node_lines place d) (is.form.node_lines place d within) (listed_is_short file.names _ are.each (good.node place d within).listed))
+
+  states_are_short : length (flat_map spelled_line (map state_words file.state_lines)) ≤ 30 * length file.state_lines
+  states_are_short = sum_of state_words 30 file.state_lines (λ place d within. state_is_short (get_or file.state_lines place d) (is.form.state_lines place d within))
+
+  accesses_are_short : length (flat_map spelled_line (map access_words file.access_lines)) ≤ 40 * length file.access_lines
+  accesses_are_short =
+      sum_of access_words 40 file.access_lines
+      (λ place d within.
+      let line = is.form.access_lines place d within in
+      access_is_short (length file.names) _ (get_or file.access_lines place d).access are.count line.number line.access
+      (has_its_width file place (get_or file.access_lines place d).access (good.access place d within).how))
+
+  suffixes_are_short : length (flat_map spelled_line (map suffix_words file.suffix_lines)) ≤ 40 * length file.suffix_lines
+  unfolding suffix_words_of
+  suffixes_are_short =
+      sum_of suffix_words 40 file.suffix_lines
+      (λ place d within.
+      let line = is.form.suffix_lines place d within in
+      suffix_is_short k _ (get_or file.suffix_lines place d).suffix few line.number line.suffix
+      (each_has_width k L (access_words_of file) (suffix_words_of file) is.certificate file.suffix_lines [] refl place d within))
+
+  pub printed_fits : length (spelled file) ≤ most_automaton_bytes
+  unfolding spelled lines_of
+  printed_fits =
+      let nodes = map node_words file.node_lines in
+      let states = map state_words file.state_lines in
+      let accesses = map access_words file.access_lines in
+      let suffixes = map suffix_words file.suffix_lines in
+      let one = length_of_both (head_lines file) (nodes ++ (states ++ (accesses ++ (suffixes ++ end_lines)))) in
+      let two = length_of_both nodes (states ++ (accesses ++ (suffixes ++ end_lines))) in
+      let three = length_of_both states (accesses ++ (suffixes ++ end_lines)) in
+      let four = length_of_both accesses (suffixes ++ end_lines) in
+      let five = length_of_both suffixes end_lines in
+      omega (
+        arith,
+        one,
+        two,
+        three,
+        four,
+        five,
+        head_is_short file are is.form.states,
+        nodes_are_short,
+        states_are_short,
+        accesses_are_short,
+        suffixes_are_short,
+        good.nodes,
+        good.few,
+        good.states,
+        good.words,
+        few_suffixes,
+      )

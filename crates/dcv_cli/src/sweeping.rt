@@ -1,0 +1,51 @@
+// The command that counts what holds of formulas that are drawn.
+ghost use Rattle.std.specs.Prelude.{◌≡◌, ℕ, List, Option, is_err, OnOk, OnErr};
+ghost use Rattle.dcv_io.specs.Disk.{Disk};
+ghost use Rattle.dcv_io.specs.Faults.{RisesIf};
+ghost use Rattle.dcv_io.specs.Written.{Appends, AppendsStrictPrefix};
+ghost use Rattle.dcv_sweep.specs.SummaryText.{summary_text};
+ghost use Rattle.dcv_command.specs.Request.{Sweep, CanBeDrawn};
+ghost use Rattle.dcv_cli.specs.Outside.{outside};
+ghost use Rattle.dcv_cli.specs.Performed.{PerformsRequest};
+
+use crate::refused::Refused;
+use crate::status::Status;
+use dcv_explore::Limits;
+use dcv_io::{Block, Failed, Sink};
+use dcv_sweep::{Summary, sweep};
+use std::alloc::Global;
+
+// Each formula is built within these.
+const LIMITS: Limits = Limits {
+    states: 30_000,
+    nodes: 1_000_000,
+};
+
+/// Writes the counts over so many formulas that are drawn from the seed. The files stay as they are.
+pub(crate) fn sweep_formulas<O: Sink>(
+    alloc: Global,
+    seed: u32,
+    count: u32,
+    out: &mut O,
+) -> Result<Status, Refused>
+    requires { CanBeDrawn seed count }
+    ensures { (told : Option Disk) (asked : Option (List (List ℕ))) (open_faults read_faults : ℕ)
+        → PerformsRequest (Sweep seed count) result
+        (outside told asked open_faults read_faults (O.written out.old) (O.faults out.old))
+        (outside told asked open_faults read_faults (O.written out.new) (O.faults out.new)) }
+{
+    let summary = sweep(alloc, seed, count, LIMITS)?;
+    send(&summary, out)?;
+    Ok(Status::Done)
+}
+
+// Writes the lines of the summary.
+fn send<S: Sink>(summary: &Summary, sink: &mut S) -> Result<(), Failed>
+    ensures ok { OnOk result (Appends (S.written sink.old) (S.written sink.new) (summary_text summary.now)) }
+    ensures failed { OnErr result (AppendsStrictPrefix (S.written sink.old) (S.written sink.new) (summary_text summary.now)) }
+    ensures faults { RisesIf (is_err result) (S.faults sink.old) (S.faults sink.new) }
+{
+    let mut block = Block::new(sink);
+    summary.put(&mut block);
+    block.finish()
+}
