@@ -23,21 +23,23 @@
 #   response 13             85.8      98.1   0.87        14.1      16.9   0.84  not valid
 #   separation 300           6.8     154.9   0.04         2.1       4.7   0.45  not valid
 #   geometric mean of the times: 0.279
-# Instructions of one run (callgrind, millions), which no other load disturbs, of a program that is built without its proofs: before the minimiser divided by
-# hashes, with them, and MONA's.
+# Instructions of one run (callgrind, millions), which no other load disturbs, of a program that is built without its proofs (`bench/unproved.py`): before
+# the minimiser divided by hashes, with them, with a builder that also puts each automaton on a shelf and explores nothing twice, and MONA's. The shelf
+# costs most where the last automaton is large, since it is put there and copied out.
 #
-#   arbiter 5 6        610     401     629
-#   arbiter 6 5       1636    1145    1312
-#   arbiter 8 3       1482    1233     891
-#   chain 700          4.1     4.2    2514
-#   count 8            0.4     0.4     159
-#   handshake 40      52.4    53.2     398
-#   layers 120         103     107     879
-#   mixture 12         342     285     202
-#   past 12            181     135     103
-#   quantified 8       0.8     0.7     160
-#   response 13        608     494     421
-#   separation 300    13.3    13.6    1234
+#   arbiter 5 6        610     401     490     629
+#   arbiter 6 5       1636    1145    1421    1312
+#   arbiter 8 3       1482    1233    1472     891
+#   chain 700          4.1     4.2     4.4    2514
+#   count 8            0.4     0.4     0.4     159
+#   handshake 40      52.4    53.2    54.2     398
+#   layers 120         103     107      78     879
+#   mixture 12         342     285     335     202
+#   past 12            181     135     139     103
+#   quantified 8       0.8     0.7     0.8     160
+#   response 13        608     494     505     421
+#   separation 300    13.3    13.6    14.2    1234
+#   15 macros that double their number of conjunctions (`m14`): 574 before, 298 with the shelf, which explores 16,385 steps in place of 32,767
 set -euo pipefail
 here=$(cd "$(dirname "$(readlink -f "${BASH_SOURCE[0]}")")" && pwd)
 program=${PROGRAM:-$here/../crates/dcvalid/out/dcvalid}
