@@ -7,22 +7,22 @@
 #   bench/families.sh CASE..     these, as `bench/families.sh 'past 12'`
 #
 # What is valid for one must be valid for the other; where MONA's question takes over a minute, no quotient is told.
-# The last figures: 28 November 2026, an Intel Xeon with nothing else to do, the least of seven runs.
+# The last figures: 29 November 2026, an Intel Xeon at 2.5 GHz with nothing else to do, the least of seven runs. None is above MONA's, in time or in memory.
 #
 #   case                      ms      MONA  times          MB      MONA  times  answer
-#   arbiter 5 6             95.4     170.4   0.56        14.8      42.1   0.35  not valid
-#   arbiter 6 5            338.3     466.0   0.73        43.2      81.7   0.53  not valid
-#   arbiter 8 3            300.0     347.4   0.86        38.6      82.1   0.47  not valid
-#   chain 700                5.6     352.0   0.02         1.9       5.4   0.36  not valid
-#   count 8                  4.9      32.1   0.15         1.9       5.0   0.37  not valid
-#   handshake 40            12.8      55.5   0.23         3.6       5.8   0.61  valid
-#   layers 120              19.9     130.5   0.15         2.8      12.7   0.22  not valid
-#   mixture 12              59.9      60.0   1.00        11.7      15.7   0.75  not valid
-#   past 12                 27.0      21.6   1.25         5.8       6.3   0.91  not valid
-#   quantified 8             4.9      31.6   0.15         1.9       5.2   0.36  not valid
-#   response 13             85.8      98.1   0.87        14.1      16.9   0.84  not valid
-#   separation 300           6.8     154.9   0.04         2.1       4.7   0.45  not valid
-#   geometric mean of the times: 0.279
+#   arbiter 5 6             63.9     125.8   0.51        16.1      42.0   0.38  not valid
+#   arbiter 6 5            276.2     464.2   0.60        46.7      81.7   0.57  not valid
+#   arbiter 8 3            224.2     291.2   0.77        46.2      82.2   0.56  not valid
+#   chain 700                2.9     181.2   0.02         2.1       5.4   0.40  not valid
+#   count 8                  2.6      18.4   0.14         2.0       5.1   0.39  not valid
+#   handshake 40             9.0      29.7   0.30         3.7       5.8   0.63  valid
+#   layers 120              10.8      69.9   0.16         2.9      12.7   0.23  not valid
+#   mixture 12              40.3      42.2   0.96        12.1      15.7   0.77  not valid
+#   past 12                 15.0      16.8   0.89         5.9       6.4   0.93  not valid
+#   quantified 8             3.1      21.2   0.15         1.9       5.2   0.37  not valid
+#   response 13             49.4      70.5   0.70        14.1      16.9   0.84  not valid
+#   separation 300           3.7     105.7   0.04         2.3       4.7   0.48  not valid
+#   geometric mean of the times: 0.255 (0.279 the day before)
 # Instructions of one run (callgrind, millions), which no other load disturbs, of a program that is built without its proofs (`bench/unproved.py`): before
 # the minimiser divided by hashes, with them, with a builder that also puts each automaton on a shelf and explores nothing twice, and MONA's. The shelf
 # costs most where the last automaton is large, since it is put there and copied out.
