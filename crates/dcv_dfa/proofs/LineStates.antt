@@ -12,7 +12,7 @@ use Rattle.dcv_dfa.specs.declared.node_lines.Child.{Child}
 use Rattle.dcv_dfa.specs.declared.node_lines.Child.TheVariants.{State}
 use Rattle.dcv_dfa.specs.declared.node_lines.NodeLine.{NodeLine}
 use Rattle.dcv_dfa.specs.NodeLines.{lo_of, hi_of, numbered, number_of, child_of, line_of, state_at, states_at}
-use Rattle.dcv_dfa.specs.Laws.{LinesLeadAsTheRows}
+use Rattle.dcv_dfa.specs.Laws.{LinesHaveTheNumbersOfTheRows, LinesLeadAsTheRows}
 use Rattle.dcv_dfa.proofs.Numberings.{HasNumber, IsNumbering, has_child, there_numbered, rows_numbered}
 use Rattle.dcv_dfa.proofs.Reduced.{number_below, number_within, number_at}
 use Rattle.dcv_dfa.proofs.Visits.{has_children}
@@ -97,14 +97,16 @@ module _ (arena : ArenaValue) (is : IsReduced arena) (places : List ℕ) (number
       ap (λ states. state_at states (child_of places ref)) (sym (take_all count values (omega (arith, length-map places value_at))))
       ∙ child_stands count ref (subst (λ all. HasNumber all ref) (sym (take_all count places (omega arith))) has) has
 
-pub lines_lead_as_the_rows : LinesLeadAsTheRows
-lines_lead_as_the_rows raw state letter is below =
-    let arena = raw.arena in
-    let reduced = is.arena.reduced in
-    let places = numbered arena raw.rows in
-    let facts = rows_numbered arena reduced raw.rows is.rows in
-    let row = get_or raw.rows state (Leaf 0) in
+pub lines_have_the_numbers_of_the_rows : LinesHaveTheNumbersOfTheRows
+lines_have_the_numbers_of_the_rows arena rows place letter is ones below =
+    let reduced = is.reduced in
+    let places = numbered arena rows in
+    let facts = rows_numbered arena reduced rows ones in
+    let row = get_or rows place (Leaf 0) in
     let values = map (λ place. value_of arena (Place place) letter) places in
-    ap (λ states. state_at states (get_or (map (child_of places) raw.rows) state (State 0))) (lines_stand arena reduced places facts.0 letter)
-    ∙ ap (state_at values) (get_or-map (child_of places) raw.rows state (Leaf 0) (State 0) below)
-    ∙ row_stands arena reduced places facts.0 letter row (facts.1 state (Leaf 0) below)
+    ap (λ states. state_at states (get_or (map (child_of places) rows) place (State 0))) (lines_stand arena reduced places facts.0 letter)
+    ∙ ap (state_at values) (get_or-map (child_of places) rows place (Leaf 0) (State 0) below)
+    ∙ row_stands arena reduced places facts.0 letter row (facts.1 place (Leaf 0) below)
+
+pub lines_lead_as_the_rows : LinesLeadAsTheRows
+lines_lead_as_the_rows raw state letter is below = lines_have_the_numbers_of_the_rows raw.arena raw.rows state letter is.arena is.rows below

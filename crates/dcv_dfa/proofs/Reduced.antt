@@ -1,5 +1,5 @@
 -- The lines are a reduced diagram: children differ, come before their nodes and have later variables, and no line stands twice.
-use Rattle.std.proofs.Common.{◌≡◌, ◌≢◌, ℕ, zero, suc, ◌+◌, ◌^◌, ◌<◌, Bool, true, false, cond, not, ◌||◌, nat_eq, List, [], ◌∷◌, length, map, take, set, replicate, Some, slice_get, get_or, Contains, sym, ap, subst, ◌∙◌, arith}
+use Rattle.std.proofs.Common.{◌≡◌, ◌≢◌, ℕ, zero, suc, ◌+◌, ◌^◌, ◌<◌, ◌≤◌, Bool, true, false, cond, not, ◌||◌, nat_eq, List, [], ◌∷◌, length, map, take, set, replicate, Some, slice_get, get_or, Contains, sym, ap, subst, ◌∙◌, arith}
 use Rattle.std.specs.Cmp.{unsigned_Decides}
 use Rattle.std.specs.List.{All, AllPairs}
 use Rattle.std.proofs.lemmas.Bool.{false≢true}
@@ -7,14 +7,14 @@ use Rattle.std.proofs.lemmas.List.{length-map, length-set, length-replicate, get
 use Rattle.std.proofs.lemmas.List.Elements.{All-map, All-contains, Contains-get_or}
 use Rattle.std.proofs.lemmas.List.Sums.{passes_at_first}
 use Rattle.std.proofs.lemmas.Option.{slice_get_within, slice_get-get_or, get_or_from_slice_get}
-use Rattle.dcv_arena.specs.Arena.{ArenaValue, IsReduced, level_of, value_of, HasOnlyNodesOf}
+use Rattle.dcv_arena.specs.Arena.{ArenaValue, IsArena, IsReduced, IsRef, level_of, value_of, HasOnlyNodesOf}
 use Rattle.dcv_arena.specs.declared.nodes.Ref.{Ref}
 use Rattle.dcv_arena.specs.declared.nodes.Ref.TheVariants.{Leaf, Place}
 use Rattle.dcv_arena.proofs.Refs.{value_of-leaf, same_ref}
 use Rattle.dcv_dfa.specs.declared.node_lines.NodeLine.{NodeLine}
 use Rattle.dcv_dfa.specs.Raw.{RawValue, IsRaw, LeadsBelow}
 use Rattle.dcv_dfa.specs.Auto.{count_of_nodes}
-use Rattle.dcv_dfa.specs.NodeLines.{lo_of, hi_of, is_numbered, numbered, number_of, child_of, line_of, lines_and_rows, IsBelow, ComesAfter, IsLine, AreReduced}
+use Rattle.dcv_dfa.specs.NodeLines.{lo_of, hi_of, is_numbered, numbered, number_of, child_of, line_of, lines_and_rows, node_lines_of, IsBelow, ComesAfter, IsLine, AreReducedRows}
 use Rattle.dcv_dfa.proofs.NodeCounts.{few_numbered, count_numbered}
 use Rattle.dcv_dfa.proofs.Numberings.{HasNumber, IsNumbering, has_child, there_numbered, rows_numbered, numbered_hold}
 use Rattle.dcv_dfa.proofs.Visits.{has_children}
@@ -144,34 +144,46 @@ module _ (arena : ArenaValue) (is : IsReduced arena) (states : ℕ) where
         child_below places count (get_or rows i d) (leads i d below)
         (subst (λ front. HasNumber front (get_or rows i d)) (sym (take_all count places (omega (arith, size)))) (has i d below)))
 
--- ---- an automaton's
+-- ---- all lines
 
 -- what is true of the places and of what is made of them
-pub record HasNodeLines (raw : RawValue) (places : List ℕ) : Type 0 where
-  pub within : All (λ place. place < length raw.arena.nodes) places
+pub record HasLines (arena : ArenaValue) (rows : List Ref) (places : List ℕ) : Type 0 where
+  pub within : All (λ place. place < length arena.nodes) places
   pub few : length places < 2 ^ 32
-  pub count : length (map (line_of raw.arena places) places) ≡ count_of_nodes raw
-  pub reduced : AreReduced raw.arena.slots (length raw.rows) (lines_and_rows (map (line_of raw.arena places) places) (map (child_of places) raw.rows))
+  pub fits : length (map (line_of arena places) places) ≤ length arena.nodes
+  pub reduced : (bound : ℕ) → All (LeadsBelow arena bound) rows
+      → AreReducedRows arena.slots bound (length rows) (lines_and_rows (map (line_of arena places) places) (map (child_of places) rows))
 
-pub has_node_lines : (raw : RawValue) → IsRaw raw → HasOnlyNodesOf raw.arena raw.rows → (places : List ℕ) → places ≡ numbered raw.arena raw.rows → HasNodeLines raw places
-has_node_lines raw is only places same =
+pub has_lines : (arena : ArenaValue) (rows : List Ref) → IsArena arena → All (IsRef arena) rows → (places : List ℕ) → places ≡ numbered arena rows → HasLines arena rows places
+has_lines arena rows is ones places same =
+    let reduced = is.reduced in
+    let all = numbered arena rows in
+    let facts = rows_numbered arena reduced rows ones in
+    let numbering = facts.0 in
+    let has = facts.1 in
+    let size = length-map all (line_of arena all) in
+    let few = few_numbered arena reduced all numbering in
+    subst (HasLines arena rows) (sym same) (record {
+      within = numbering.within;
+      few = omega (arith, few, is.within, is.limit);
+      fits = omega (arith, few, size);
+      reduced = λ bound leads.
+          let lead = numbered_hold arena reduced (LeadsBelow arena bound) (children_lead arena reduced bound) rows ones leads in
+          record {
+            lines = each_line arena reduced bound all numbering lead;
+            once = each_once arena reduced bound all numbering lead;
+            count = length-map rows (child_of all);
+            rows = rows_below arena reduced bound all numbering lead (length (map (line_of arena all) all)) rows size leads has;
+          };
+    })
+
+-- ---- an automaton's
+
+-- each of its nodes has a line
+pub count_of_lines : (raw : RawValue) → IsRaw raw → HasOnlyNodesOf raw.arena raw.rows → length (node_lines_of raw).lines ≡ count_of_nodes raw
+count_of_lines raw is only =
     let arena = raw.arena in
     let reduced = is.arena.reduced in
     let all = numbered arena raw.rows in
-    let states = length raw.rows in
     let facts = rows_numbered arena reduced raw.rows is.rows in
-    let numbering = facts.0 in
-    let has = facts.1 in
-    let lead = numbered_hold arena reduced (LeadsBelow arena states) (children_lead arena reduced states) raw.rows is.rows is.numbers in
-    let size = length-map all (line_of arena all) in
-    subst (HasNodeLines raw) (sym same) (record {
-      within = numbering.within;
-      few = omega (arith, few_numbered arena reduced all numbering, is.arena.within, is.arena.limit);
-      count = size ∙ count_numbered arena reduced all numbering raw.rows is.rows has only;
-      reduced = record {
-        lines = each_line arena reduced states all numbering lead;
-        once = each_once arena reduced states all numbering lead;
-        count = length-map raw.rows (child_of all);
-        rows = rows_below arena reduced states all numbering lead (length (map (line_of arena all) all)) raw.rows size is.numbers has;
-      };
-    })
+    length-map all (line_of arena all) ∙ count_numbered arena reduced all facts.0 raw.rows is.rows facts.1 only

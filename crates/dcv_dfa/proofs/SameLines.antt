@@ -17,7 +17,7 @@ use Rattle.dcv_dfa.specs.declared.node_lines.Child.TheVariants.{State, Node}
 use Rattle.dcv_dfa.specs.Raw.{RawValue, row_of}
 use Rattle.dcv_dfa.specs.Auto.{state_of, table_of_states}
 use Rattle.dcv_dfa.specs.NodeLines.{lo_of, hi_of, is_numbered, visit, numbered, number_of, child_of, line_of, lines_and_rows}
-use Rattle.dcv_dfa.specs.Laws.{OneTableHasOneListOfLines}
+use Rattle.dcv_dfa.specs.Laws.{SameRowsHaveOneListOfLines, OneTableHasOneListOfLines}
 use Rattle.dcv_dfa.proofs.States.{table_has_the_states, state-at}
 use Rattle.dcv_dfa.proofs.Visits.{has_children, visit-node}
 
@@ -204,6 +204,29 @@ module _ (first second : ArenaValue) (is : IsReduced first) (is' : IsReduced sec
         let hi = same_child (hi_of first place) (hi_of second other) (same_hi place other s) in
         λ i. record { slot = slot i; hi = hi i; lo = lo i }
 
+-- ---- rows
+
+pub same_rows_have_one_list_of_lines : SameRowsHaveOneListOfLines
+same_rows_have_one_list_of_lines first second rows others is is' ones others_are slots size same =
+    let reduced = is.reduced in
+    let reduced' = is'.reduced in
+    let zip_of_rows = zip_from (AreSame first second) rows others size (λ place d e below.
+    let below' : place < length others = omega arith in
+    record {
+      one = ones place d below;
+      two = others_are place e below';
+      same = λ letter width.
+          ap (λ row. value_of first row letter) (get_or_default rows place d (Leaf 0) below)
+          ∙ same place letter below width
+          ∙ sym (ap (λ row. value_of second row letter) (get_or_default others place e (Leaf 0) below'));
+    }) in
+    let places = numbered first rows in
+    let their = numbered second others in
+    let zip = same_numberings first second reduced reduced' slots rows others zip_of_rows [] [] tt in
+    let lines = map-same (SamePlaces first second) (line_of first places) (line_of second their) (same_line first second reduced reduced' slots places their zip) places their zip in
+    let children = map-same (AreSame first second) (child_of places) (child_of their) (same_child first second reduced reduced' slots places their zip) rows others zip_of_rows in
+    λ i. lines_and_rows (lines i) (children i)
+
 -- ---- automata
 
 same_row : (one other : RawValue) → one.arena.slots ≡ other.arena.slots → table_of_states one ≡ table_of_states other → (state : ℕ) → state < length one.rows → state < length other.rows
@@ -218,23 +241,5 @@ same_row one other slots same state below below' =
 pub one_table_has_one_list_of_lines : OneTableHasOneListOfLines
 one_table_has_one_list_of_lines one other is is' slots same =
     let size : length one.rows ≡ length other.rows = sym (table_has_the_states one) ∙ ap length same ∙ table_has_the_states other in
-    let rows = zip_from (AreSame one.arena other.arena) one.rows other.rows size (λ state d e below.
-    let below' : state < length other.rows = omega arith in
-    record {
-      one = is.rows state d below;
-      two = is'.rows state e below';
-      same = λ letter width.
-          ap (λ row. value_of one.arena row letter) (get_or_default one.rows state d (Leaf 0) below)
-          ∙ same_row one other slots same state below below' letter width
-          ∙ sym (ap (λ row. value_of other.arena row letter) (get_or_default other.rows state e (Leaf 0) below'));
-    }) in
-    let first = one.arena in
-    let second = other.arena in
-    let reduced = is.arena.reduced in
-    let reduced' = is'.arena.reduced in
-    let places = numbered first one.rows in
-    let others = numbered second other.rows in
-    let zip = same_numberings first second reduced reduced' slots one.rows other.rows rows [] [] tt in
-    let lines = map-same (SamePlaces first second) (line_of first places) (line_of second others) (same_line first second reduced reduced' slots places others zip) places others zip in
-    let children = map-same (AreSame first second) (child_of places) (child_of others) (same_child first second reduced reduced' slots places others zip) one.rows other.rows rows in
-    λ i. lines_and_rows (lines i) (children i)
+    same_rows_have_one_list_of_lines one.arena other.arena one.rows other.rows is.arena is'.arena is.rows is'.rows slots size
+    (λ state letter below width. same_row one other slots same state below (omega arith) letter width)

@@ -2,13 +2,16 @@
 use Rattle.std.specs.Prelude.{◌≡◌, ℕ, ◌<◌, Bool, List, length, slice_index_or}
 use Rattle.std.specs.List.{All}
 use Rattle.dcv_word.specs.Behaviour.{Word}
+use Rattle.dcv_arena.specs.Arena.{ArenaValue, IsArena, IsRef, value_of}
+use Rattle.dcv_arena.specs.declared.nodes.Ref.{Ref}
+use Rattle.dcv_arena.specs.declared.nodes.Ref.TheVariants.{Leaf}
 use Rattle.dcv_language.specs.Language.{HaveSameBehaviours}
 use Rattle.dcv_language.specs.Automaton.{state_after}
 use Rattle.dcv_language.specs.Table.{IsTable, leads_to, table_accepts, is_accepting as accepts_in_table, next_in as next_in_table}
 use Rattle.dcv_language.specs.Complement.{stands_alone, complement}
 use Rattle.dcv_dfa.specs.Raw.{RawValue, IsRaw, is_accepting, next_in, automaton_of, raw_accepts}
 use Rattle.dcv_dfa.specs.Auto.{IsAuto, table_of_states, complement_of}
-use Rattle.dcv_dfa.specs.NodeLines.{node_lines_of, state_at, states_at}
+use Rattle.dcv_dfa.specs.NodeLines.{lines_of_rows, node_lines_of, state_at, states_at}
 use Rattle.dcv_dfa.specs.declared.node_lines.Child.TheVariants.{State}
 
 -- ---- the table of the states
@@ -51,7 +54,21 @@ OneListOfAccessWords = (raw : RawValue) (one other : IsAuto raw) → one.access 
 
 -- ---- node lines
 
--- automata with one table have the same lines, in whatever order their arenas have the nodes
+-- rows of the same numbers have the same lines, in whatever order their arenas have the nodes
+abbrev pub SameRowsHaveOneListOfLines : Type 0
+SameRowsHaveOneListOfLines = (first second : ArenaValue) (rows others : List Ref) → IsArena first → IsArena second
+    → All (IsRef first) rows → All (IsRef second) others → first.slots ≡ second.slots → length rows ≡ length others
+    → ((place : ℕ) (letter : List Bool) → place < length rows → length letter ≡ first.slots
+    → value_of first (slice_index_or rows place (Leaf 0)) letter ≡ value_of second (slice_index_or others place (Leaf 0)) letter)
+    → lines_of_rows first rows ≡ lines_of_rows second others
+
+-- a row stands, at each letter, for the number that it has there
+abbrev pub LinesHaveTheNumbersOfTheRows : Type 0
+LinesHaveTheNumbersOfTheRows = (arena : ArenaValue) (rows : List Ref) (place : ℕ) (letter : List Bool) → IsArena arena → All (IsRef arena) rows → place < length rows
+    → let all = lines_of_rows arena rows in
+    state_at (states_at letter all.lines) (slice_index_or all.rows place (State 0)) ≡ value_of arena (slice_index_or rows place (Leaf 0)) letter
+
+-- automata with one table have the same lines
 abbrev pub OneTableHasOneListOfLines : Type 0
 OneTableHasOneListOfLines = (one other : RawValue) → IsRaw one → IsRaw other → one.arena.slots ≡ other.arena.slots
     → table_of_states one ≡ table_of_states other → node_lines_of one ≡ node_lines_of other

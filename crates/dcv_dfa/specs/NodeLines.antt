@@ -7,9 +7,12 @@
 --     numbered arena rows           and after these rows are visited one after another, where at first none has
 --     child_of places ref           a leaf as its state, a node as its number
 --     line_of arena places place    the line of the node at this place
---     node_lines_of raw             the lines in the order of their numbers, and for each state what its row is
+--     lines_of_rows arena rows      the lines in the order of their numbers, and what each row is
+--     node_lines_of raw             those of an automaton's rows
 --     states_at letter lines        the states for which the lines stand at a letter
---     AreReduced slots states all   they are a reduced diagram, in which children come before their nodes
+--     AreReducedRows slots bound size all     they are a reduced diagram of so many rows, with numbers below the bound, in which children come
+--                                   before their nodes
+--     AreReduced slots states all   and so they are for an automaton with so many states
 use Rattle.std.specs.Prelude.{◌≡◌, ◌≢◌, ℕ, ◌<◌, Bool, false, nat_eq, if◌then◌else◌, List, [], ◌∷◌, ◌++◌, length, map, fold, Some, slice_get, slice_index_or}
 use Rattle.std.specs.List.{All, AllPairs, list_any, position_or_len}
 use Rattle.dcv_arena.specs.Arena.{ArenaValue, level_of}
@@ -77,10 +80,13 @@ pub record NodeLinesValue : Type 0 where
 abbrev pub lines_and_rows : List NodeLine → List Child → NodeLinesValue
 lines_and_rows lines rows = record { lines = lines; rows = rows }
 
+abbrev pub lines_of_rows : ArenaValue → List Ref → NodeLinesValue
+lines_of_rows arena rows =
+    let places = numbered arena rows in
+    lines_and_rows (map (line_of arena places) places) (map (child_of places) rows)
+
 abbrev pub node_lines_of : RawValue → NodeLinesValue
-node_lines_of raw =
-    let places = numbered raw.arena raw.rows in
-    lines_and_rows (map (line_of raw.arena places) places) (map (child_of places) raw.rows)
+node_lines_of raw = lines_of_rows raw.arena raw.rows
 
 -- ---- what they stand for
 
@@ -115,10 +121,14 @@ pub record IsLine (slots states : ℕ) (lines : List NodeLine) (number : ℕ) (l
   pub lo_after : ComesAfter lines line.slot line.lo
   pub hi_after : ComesAfter lines line.slot line.hi
 
-pub record AreReduced (slots states : ℕ) (all : NodeLinesValue) : Type 0 where
-  pub lines : (number : ℕ) (line : NodeLine) → slice_get all.lines number ≡ Some line → IsLine slots states all.lines number line
+pub record AreReducedRows (slots bound size : ℕ) (all : NodeLinesValue) : Type 0 where
+  pub lines : (number : ℕ) (line : NodeLine) → slice_get all.lines number ≡ Some line → IsLine slots bound all.lines number line
   -- no line stands twice
   pub once : AllPairs (λ first second. first ≢ second) all.lines
-  -- a row for each state, which is a state or a node that there is
-  pub count : length all.rows ≡ states
-  pub rows : All (IsBelow states (length all.lines)) all.rows
+  -- each row is a number below the bound, or a node that there is
+  pub count : length all.rows ≡ size
+  pub rows : All (IsBelow bound (length all.lines)) all.rows
+
+-- a row for each state
+abbrev pub AreReduced : ℕ → ℕ → NodeLinesValue → Type 0
+AreReduced slots states all = AreReducedRows slots states states all

@@ -2,6 +2,7 @@
 ghost use Rattle.dcv_dfa.specs.Laws.{TableHasTheStates, TableHasTheFlags, TableHasTheSteps, StatesMakeATable};
 ghost use Rattle.dcv_dfa.specs.Laws.{TableLeadsAsTheStates, TableAcceptsAsTheStates, TableOfComplement, OneListOfAccessWords};
 ghost use Rattle.dcv_dfa.specs.Laws.{OneTableHasOneListOfLines, LinesLeadAsTheRows};
+ghost use Rattle.dcv_dfa.specs.Laws.{SameRowsHaveOneListOfLines, LinesHaveTheNumbersOfTheRows};
 
 use dcv_language::laws::one_canonical_table;
 
@@ -35,4 +36,10 @@ pub fn access_words_are_one()
 pub fn lines_are_of_tables()
     ensures one { OneTableHasOneListOfLines }
     ensures lead { LinesLeadAsTheRows }
+{}
+
+/// The node lines of rows are determined by the rows' numbers, and have these numbers.
+pub fn lines_are_of_rows()
+    ensures one { SameRowsHaveOneListOfLines }
+    ensures numbers { LinesHaveTheNumbersOfTheRows }
 {}

@@ -1,11 +1,12 @@
-// The nodes of an automaton's rows, numbered for its text and for what is printed of it: children before their nodes, the child
+// The nodes of rows, numbered for an automaton's text and for what is printed of it: children before their nodes, the child
 // where the variable is false first. Each node is visited once, and its number is found by its place's hash, so the time is
 // linear in the nodes and the states.
-ghost use Rattle.std.specs.Prelude.{◌≡◌, ◌^◌, ◌<◌, [], length, map, IfOk, OnOk};
+ghost use Rattle.std.specs.Prelude.{◌≡◌, ◌^◌, ◌<◌, ◌≤◌, ℕ, [], length, map, IfOk, OnOk};
 ghost use Rattle.std.specs.List.{All};
 ghost use Rattle.dcv_arena.specs.Arena.{IsArena, IsRef};
 ghost use Rattle.dcv_dfa.specs.Auto.{count_of_nodes};
-ghost use Rattle.dcv_dfa.specs.NodeLines.{visit, numbered, number_of, child_of, line_of, node_lines_of, AreReduced};
+ghost use Rattle.dcv_dfa.specs.Raw.{LeadsBelow};
+ghost use Rattle.dcv_dfa.specs.NodeLines.{visit, numbered, number_of, child_of, line_of, lines_of_rows, node_lines_of, AreReducedRows, AreReduced};
 
 use crate::auto::Auto;
 use dcv_arena::{Arena, Ref};
@@ -48,6 +49,24 @@ impl Model for NodeLines {
 }
 
 impl NodeLines {
+    /// The nodes of some rows with their numbers. Only memory can be wanting.
+    ///
+    /// The rows are visited in order. To visit a node that has no number, its child where the variable is false is visited, then
+    /// its child where it is true, and then the node gets the next number.
+    pub fn of(alloc: Global, arena: &Arena, rows: &[Ref]) -> Result<NodeLines, AllocError>
+        requires arena { IsArena arena.now }
+        requires rows { All (IsRef arena.now) rows.now }
+        ensures exact { IfOk result (λ all. all ≡ lines_of_rows arena.now rows.now) }
+        ensures few { IfOk result (λ all. length all.lines ≤ length arena.now.nodes) }
+        ensures reduced { IfOk result (λ all. (bound : ℕ) → All (LeadsBelow arena.now bound) rows.now
+            → AreReducedRows arena.now.slots bound (length rows.now) all) }
+    {
+        let numbering = Numbering::of(alloc, arena, rows)?;
+        let lines = numbering.lines(alloc)?;
+        let rows = numbering.children(alloc, rows)?;
+        Ok(NodeLines { lines, rows })
+    }
+
     /// The nodes. A node's number is its place here.
     pub fn lines(&self) -> &[NodeLine]
         ensures { result.now ≡ self.now.lines }
@@ -64,20 +83,14 @@ impl NodeLines {
 }
 
 impl Auto {
-    /// The nodes of the rows with their numbers. Only memory can be wanting.
-    ///
-    /// The rows are visited in the order of the states. To visit a node that has no number, its child where the variable is
-    /// false is visited, then its child where it is true, and then the node gets the next number.
+    /// The nodes of the rows with their numbers, as [`NodeLines::of`] gives them. Only memory can be wanting.
     pub fn node_lines(&self, alloc: Global) -> Result<NodeLines, AllocError>
         ensures exact { IfOk result (λ all. all ≡ node_lines_of self.now) }
         ensures count { IfOk result (λ all. length all.lines ≡ count_of_nodes self.now) }
         ensures reduced { IfOk result (AreReduced self.now.arena.slots (length self.now.rows)) }
     {
-        let rows = self.raw().rows();
-        let numbering = Numbering::of(alloc, self.arena(), rows)?;
-        let lines = numbering.lines(alloc)?;
-        let rows = numbering.children(alloc, rows)?;
-        Ok(NodeLines { lines, rows })
+        let raw = self.raw();
+        NodeLines::of(alloc, raw.arena(), raw.rows())
     }
 }
 
