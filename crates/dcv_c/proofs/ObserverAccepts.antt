@@ -44,13 +44,13 @@ some_below (one ∷ letters) (suc place) letter is = omega (arith, some_below le
 
 -- ---- parameters
 
-number_at : (letter : List Bool) (k : ℕ) → get_or (map truth_number letter) k 0 ≡ truth_number (get_or letter k false)
+pub number_at : (letter : List Bool) (k : ℕ) → get_or (map truth_number letter) k 0 ≡ truth_number (get_or letter k false)
 number_at [] zero = refl
 number_at [] (suc k) = refl
 number_at (truth ∷ letter) zero = refl
 number_at (truth ∷ letter) (suc k) = number_at letter k
 
-place_of_parameter : (names : List Name) (name : Name) → position_or_len (bytes_eq (parameter_name name)) (map parameter_name names) ≡ slot_of names name
+pub place_of_parameter : (names : List Name) (name : Name) → position_or_len (bytes_eq (parameter_name name)) (map parameter_name names) ≡ slot_of names name
 place_of_parameter [] name = refl
 place_of_parameter (n ∷ names) name = ap (λ k. cond (not (bytes_eq name n)) (1 + k) 0) (place_of_parameter names name)
 

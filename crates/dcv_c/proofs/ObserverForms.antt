@@ -25,17 +25,17 @@ use Rattle.dcv_c.proofs.ObservedFiles.{IsBelow, GoodLines, GoodRows, IsObservabl
 -- ---- names
 
 -- a word that is short and not reserved
-plain_word : (bytes : List ℕ) → is_word bytes ≡ true → length bytes ≤ 32 → word_class lexicon bytes ≡ plain_name → IsName bytes
+pub plain_word : (bytes : List ℕ) → is_word bytes ≡ true → length bytes ≤ 32 → word_class lexicon bytes ≡ plain_name → IsName bytes
 plain_word bytes word short free =
     let is_short : is_short_word bytes ≡ true = and_from (is_word bytes) _ word (le-leb (length bytes) 32 short) in
     let class : class_of lexicon bytes ≡ plain_name = short_word lexicon bytes is_short ∙ free in
     and_from (is_short_word bytes) _ is_short (ap (λ k. nat_eq k plain_name) class)
 
-state_is : IsName state_name
+pub state_is : IsName state_name
 unfolding lexicon
 state_is = refl
 
-next_is : IsName next_name
+pub next_is : IsName next_name
 unfolding lexicon
 next_is = refl
 
@@ -47,7 +47,7 @@ step_is : IsName step_name
 unfolding lexicon
 step_is = refl
 
-parameter_is : (name : List ℕ) → is_word name ≡ true → length name ≤ 24 → IsName (parameter_name name)
+pub parameter_is : (name : List ℕ) → is_word name ≡ true → length name ≤ 24 → IsName (parameter_name name)
 unfolding lexicon
 parameter_is [] word short = refl
 parameter_is (b ∷ bytes) word short =
@@ -55,20 +55,20 @@ parameter_is (b ∷ bytes) word short =
     let all : list_all is_word_byte (b ∷ bytes) ≡ true = and_from (is_word_byte b) _ (or_left _ _ (or_left _ _ parts.0)) parts.1 in
     plain_word (parameter_name (b ∷ bytes)) all (omega arith) refl
 
-digits_are_word_bytes : (digits : List ℕ) → list_all is_ascii_digit digits ≡ true → list_all is_word_byte digits ≡ true
+pub digits_are_word_bytes : (digits : List ℕ) → list_all is_ascii_digit digits ≡ true → list_all is_word_byte digits ≡ true
 digits_are_word_bytes [] h = refl
 digits_are_word_bytes (d ∷ digits) h =
     let parts = and_parts (is_ascii_digit d) (list_all is_ascii_digit digits) h in
     and_from (is_word_byte d) _ (or_left (is_ascii_alphabetic d || is_ascii_digit d) _ (or_right (is_ascii_alphabetic d) _ parts.0)) (digits_are_word_bytes digits parts.1)
 
-node_is : (n : ℕ) → n < 1000000 → IsName (node_name n)
+pub node_is : (n : ℕ) → n < 1000000 → IsName (node_name n)
 unfolding lexicon
 node_is n small =
     plain_word (node_name n) (digits_are_word_bytes (decimal n) (digits_are n (omega arith)))
     (omega (arith, length-decimal-le 7 n (omega arith) (omega arith) (omega arith)))
     refl
 
-parameters_are : (names : List (List ℕ)) → AllByRecursion IsPlainName names → AllByRecursion IsName (map parameter_name names)
+pub parameters_are : (names : List (List ℕ)) → AllByRecursion IsPlainName names → AllByRecursion IsName (map parameter_name names)
 parameters_are [] are = tt
 parameters_are (name ∷ names) are = (parameter_is name (and_parts (is_word name) _ are.0.form).0 are.0.short, parameters_are names are.1)
 
@@ -129,7 +129,7 @@ module _ (most : ℕ) (few : most ≤ 32000) where
     locals_are number (line ∷ lines) small good =
         (node_is line.number (omega (arith, small, good.0.number_is)), locals_are (number + 1) lines (omega (arith, small)) good.1)
 
-behind : (xs ys : List Statement) → AllByRecursion IsStatement xs → AllByRecursion IsStatement ys → AllByRecursion IsStatement (xs ++ ys)
+pub behind : (xs ys : List Statement) → AllByRecursion IsStatement xs → AllByRecursion IsStatement ys → AllByRecursion IsStatement (xs ++ ys)
 behind [] ys h k = k
 behind (x ∷ xs) ys h k = (h.0, behind xs ys h.1 k)
 

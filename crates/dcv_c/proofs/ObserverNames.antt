@@ -36,7 +36,7 @@ each_node P all number (line ∷ lines) name among =
 
 -- ---- two names that differ
 
-no_decimal : (number : ℕ) → number < 2 ^ 64 → bytes_eq (120 ∷ []) (decimal number) ≡ false
+pub no_decimal : (number : ℕ) → number < 2 ^ 64 → bytes_eq (120 ∷ []) (decimal number) ≡ false
 no_decimal number small =
     differs (120 ∷ []) (decimal number) (λ same.
     omega (arith, digit_from_value 120 (subst (AllDigits 10) (sym same) (decimal_is_IsNumeral number small).0.1).0))
@@ -89,7 +89,7 @@ rest_of [] = []
 rest_of (a ∷ []) = []
 rest_of (a ∷ b ∷ bytes) = bytes
 
-parameter_injective : (name other : Name) → parameter_name name ≡ parameter_name other → name ≡ other
+pub parameter_injective : (name other : Name) → parameter_name name ≡ parameter_name other → name ≡ other
 parameter_injective name other same = ap rest_of same
 
 -- a name that begins with another letter than `v` is no name of a parameter

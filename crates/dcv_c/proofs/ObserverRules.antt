@@ -24,7 +24,7 @@ use Rattle.dcv_c.proofs.ObserverNames.{among_no_parameters, parameters_are_disti
 -- no name of the others is that one, or among the earlier ones
 module _ (n : Name) (names : List Name) (once : is_among names n ≡ false) (earlier : List Name)
     (apart : (name : Name) → is_among (n ∷ names) name ≡ true → is_among earlier name ≡ false) where
-  still_apart : (name : Name) → is_among names name ≡ true → is_among (earlier ++ n ∷ []) name ≡ false
+  pub still_apart : (name : Name) → is_among names name ≡ true → is_among (earlier ++ n ∷ []) name ≡ false
   still_apart name among =
       false_from_ne_true (is_among (earlier ++ n ∷ []) name) (λ there.
       elim (among_append_cases earlier (n ∷ []) name there) [
@@ -35,17 +35,17 @@ module _ (n : Name) (names : List Name) (once : is_among names n ≡ false) (ear
         ]
       ])
 
-  is_new : keeps_new earlier n ≡ true
+  pub is_new : keeps_new earlier n ≡ true
   is_new = ap not (apart n (among_here names n))
 
-apart_keep : (names earlier : List Name) → AreDistinct names → ((name : Name) → is_among names name ≡ true → is_among earlier name ≡ false)
+pub apart_keep : (names earlier : List Name) → AreDistinct names → ((name : Name) → is_among names name ≡ true → is_among earlier name ≡ false)
     → all_kept (keeps_apart earlier names) ≡ true
 apart_keep [] earlier distinct apart = refl
 apart_keep (n ∷ names) earlier distinct apart =
     and_from (keeps_new earlier n) _ (is_new n names distinct.0 earlier apart)
     (apart_keep names (earlier ++ n ∷ []) distinct.1 (still_apart n names distinct.0 earlier apart))
 
-parameters_keep : (names earlier : List Name) (place : ℕ) → place + length names ≤ 16 → AreDistinct names
+pub parameters_keep : (names earlier : List Name) (place : ℕ) → place + length names ≤ 16 → AreDistinct names
     → ((name : Name) → is_among names name ≡ true → is_among earlier name ≡ false) → all_kept (keeps_parameters earlier place names) ≡ true
 parameters_keep [] earlier place few distinct apart = refl
 parameters_keep (n ∷ names) earlier place few distinct apart =

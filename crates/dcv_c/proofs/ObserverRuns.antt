@@ -17,10 +17,10 @@ use Rattle.dcv_c.proofs.ObservedFiles.{IsBelow, GoodLines, GoodRows, no_row}
 use Rattle.dcv_c.proofs.Names.{Name, is_itself}
 use Rattle.dcv_c.proofs.ObserverNames.{node_is_not_next, node_is_no_other}
 
-same_number : (n : ℕ) → nat_eq n n ≡ true
+pub same_number : (n : ℕ) → nat_eq n n ≡ true
 same_number n = grind arith
 
-other_number : (n m : ℕ) → (n ≡ m → ⊥) → nat_eq n m ≡ false
+pub other_number : (n m : ℕ) → (n ≡ m → ⊥) → nat_eq n m ≡ false
 other_number n m differ = grind (arith, differ)
 
 -- ---- assignments
@@ -74,7 +74,7 @@ module _ (names : List Name) (letter : List Bool) (state : ℕ) where
   abbrev step : List ℕ → NodeLine → List ℕ
   step states line = states ++ state_at states (cond (get_or letter (slot_of names line.name) false) line.hi line.lo) ∷ []
 
-  truth_stands : (truth : Bool) → not (nat_eq (truth_number truth) 0) ≡ truth
+  pub truth_stands : (truth : Bool) → not (nat_eq (truth_number truth) 0) ≡ truth
   truth_stands true = refl
   truth_stands false = refl
 

@@ -27,7 +27,7 @@ locals_more count =
     (ap (map node_name) (range_more 0 count) ∙ map_push node_name (range_with_len 0 count) (0 + count)
     ∙ ap (λ n. map node_name (range_with_len 0 count) ++ node_name n ∷ []) e)
 
-enumerate_more : {X : Type 0} (first : ℕ) (xs : List X) (x : X) → enumerate_from first (xs ++ x ∷ []) ≡ enumerate_from first xs ++ (first + length xs, x) ∷ []
+pub enumerate_more : {X : Type 0} (first : ℕ) (xs : List X) (x : X) → enumerate_from first (xs ++ x ∷ []) ≡ enumerate_from first xs ++ (first + length xs, x) ∷ []
 enumerate_more first [] x = let e : first ≡ first + 0 = omega arith in ap (λ n. (n, x) ∷ []) e
 enumerate_more first (y ∷ xs) x =
     let e : first + 1 + length xs ≡ first + suc (length xs) = omega arith in
