@@ -14,7 +14,7 @@ use Rattle.dcv_arena.proofs.Refs.{value_of-leaf, same_ref}
 use Rattle.dcv_dfa.specs.declared.node_lines.NodeLine.{NodeLine}
 use Rattle.dcv_dfa.specs.Raw.{RawValue, IsRaw, LeadsBelow}
 use Rattle.dcv_dfa.specs.Auto.{count_of_nodes}
-use Rattle.dcv_dfa.specs.NodeLines.{lo_of, hi_of, is_numbered, numbered, number_of, child_of, line_of, lines_and_rows, node_lines_of, IsBelow, ComesAfter, IsLine, AreReducedRows}
+use Rattle.dcv_dfa.specs.NodeLines.{lo_of, hi_of, is_numbered, numbered, number_of, child_of, line_of, lines_and_rows, node_lines_of, IsBelow, ComesAfter, IsLine, AreReducedRows, AreReduced}
 use Rattle.dcv_dfa.proofs.NodeCounts.{few_numbered, count_numbered}
 use Rattle.dcv_dfa.proofs.Numberings.{HasNumber, IsNumbering, has_child, there_numbered, rows_numbered, numbered_hold}
 use Rattle.dcv_dfa.proofs.Visits.{has_children}
@@ -187,3 +187,19 @@ count_of_lines raw is only =
     let all = numbered arena raw.rows in
     let facts = rows_numbered arena reduced raw.rows is.rows in
     length-map all (line_of arena all) ∙ count_numbered arena reduced all facts.0 raw.rows is.rows facts.1 only
+
+pub record HasNodeLines (raw : RawValue) (places : List ℕ) : Type 0 where
+  pub within : All (λ place. place < length raw.arena.nodes) places
+  pub few : length places < 2 ^ 32
+  pub count : length (map (line_of raw.arena places) places) ≡ count_of_nodes raw
+  pub reduced : AreReduced raw.arena.slots (length raw.rows) (lines_and_rows (map (line_of raw.arena places) places) (map (child_of places) raw.rows))
+
+pub has_node_lines : (raw : RawValue) → IsRaw raw → HasOnlyNodesOf raw.arena raw.rows → (places : List ℕ) → places ≡ numbered raw.arena raw.rows → HasNodeLines raw places
+has_node_lines raw is only places same =
+    let facts = has_lines raw.arena raw.rows is.arena is.rows places same in
+    record {
+      within = facts.within;
+      few = facts.few;
+      count = (λ i. length (map (line_of raw.arena (same i)) (same i))) ∙ count_of_lines raw is only;
+      reduced = facts.reduced (length raw.rows) is.numbers;
+    }
