@@ -13,6 +13,8 @@ mod OneAnswer
 mod RankEnds
 mod Ranking
 mod RowRanks
+mod SameSets
+mod SameSteps
 mod Tracks
 mod Unbeaten
 mod Winners

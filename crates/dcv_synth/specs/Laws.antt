@@ -1,13 +1,18 @@
 -- The laws that `src/laws.rt` proves.
-use Rattle.std.specs.Prelude.{◌≡◌, ℕ, suc, ◌<◌, Bool, not, ◌&&◌, List, length, IsTrue, IsFalse}
-use Rattle.dcv_language.specs.Language.{Language}
+use Rattle.std.specs.Prelude.{◌≡◌, ℕ, suc, ◌+◌, ◌<◌, Bool, not, ◌&&◌, List, length, IsTrue, IsFalse}
+use Rattle.dcv_language.specs.Language.{Language, HaveSameBehaviours}
 use Rattle.dcv_language.specs.Automaton.{Automaton, accepts}
+use Rattle.dcv_language.specs.Table.{automaton_of as table_automaton}
+use Rattle.dcv_dfa.specs.Raw.{RawValue, IsRaw, automaton_of}
+use Rattle.dcv_dfa.specs.Auto.{table_of_states}
 use Rattle.dcv_synth.specs.Game.{Controller, Environment, Wins, Beats}
 use Rattle.dcv_synth.specs.Winning.{is_held, IsSafe, IsWin, is_beaten, IsRank}
 use Rattle.dcv_synth.specs.Realisable.{IsRealisable}
 use Rattle.dcv_synth.specs.Control.{RowsValue, ControlValue, IsControlOf, value_in, controller_by}
 use Rattle.dcv_synth.specs.Outcome.{IsUnrealisable}
 use Rattle.dcv_synth.specs.declared.strategy.Strategy.{Strategy}
+use Rattle.dcv_synth.specs.Moves.{input_at}
+use Rattle.dcv_synth.specs.SameSteps.{GoOnAlike}
 use Rattle.dcv_synth.specs.Play.{Step, controller_of, AnswersSo, environment_of, MovesSo}
 
 -- ---- one of the two at most
@@ -78,3 +83,31 @@ OneControlIsRight = (n m : ℕ) (automaton : Automaton ℕ) (one other : Control
 abbrev pub OneStrategyIsRight : Type 0
 OneStrategyIsRight = (n m : ℕ) (automaton : Automaton ℕ) (one other : Strategy) → IsUnrealisable n m automaton one → IsUnrealisable n m automaton other
     → (one.bound ≡ other.bound) × (one.moves.items ≡ other.moves.items)
+
+-- ---- games that are played alike
+
+-- which answer is right depends on where letters over the variables lead, and on nothing else
+abbrev pub ControlsOfLikeAutomata : Type 0
+ControlsOfLikeAutomata = (n m : ℕ) (one other : Automaton ℕ) (control : ControlValue) → GoOnAlike (n + m) one other
+    → IsControlOf n m one control → IsControlOf n m other control
+
+abbrev pub StrategiesOfLikeAutomata : Type 0
+StrategiesOfLikeAutomata = (n m : ℕ) (one other : Automaton ℕ) (strategy : Strategy) → GoOnAlike (n + m) one other
+    → IsUnrealisable n m one strategy → IsUnrealisable n m other strategy
+
+-- a raw automaton goes on as its table does
+abbrev pub TablesGoOnAlike : Type 0
+TablesGoOnAlike = (raw : RawValue) → IsRaw raw → raw.start ≡ 0 → GoOnAlike raw.arena.slots (automaton_of raw) (table_automaton (table_of_states raw))
+
+-- the strategy of least moves beats every controller
+abbrev pub StrategiesBeat : Type 0
+StrategiesBeat = (n m : ℕ) (automaton : Automaton ℕ) (strategy : Strategy) → IsUnrealisable n m automaton strategy
+    → Beats n m (accepts automaton) (environment_of automaton (input_at n strategy.moves.items)) strategy.bound
+
+-- who wins depends on the behaviours of the set alone
+abbrev pub WinsOverSameBehaviours : Type 0
+WinsOverSameBehaviours = (n m : ℕ) (L M : Language) (controller : Controller) → HaveSameBehaviours (n + m) L M → Wins n m L controller → Wins n m M controller
+
+abbrev pub BeatsOverSameBehaviours : Type 0
+BeatsOverSameBehaviours = (n m : ℕ) (L M : Language) (environment : Environment) (bound : ℕ) → HaveSameBehaviours (n + m) L M
+    → Beats n m L environment bound → Beats n m M environment bound

@@ -2,6 +2,10 @@
 ghost use Rattle.dcv_synth.specs.Laws.{WinnersAreNotBeaten, HeldStatesAreNotBeaten, UnbeatenStatesAreWin, UnbeatenStatesAreHeld};
 ghost use Rattle.dcv_synth.specs.Laws.{LeastOutputsWin, LeastMovesBeat, ControlsWin, NotBothAreRight};
 ghost use Rattle.dcv_synth.specs.Laws.{OneControlIsRight, OneStrategyIsRight};
+ghost use Rattle.dcv_synth.specs.Laws.{ControlsOfLikeAutomata, StrategiesOfLikeAutomata, TablesGoOnAlike};
+ghost use Rattle.dcv_synth.specs.Laws.{StrategiesBeat, WinsOverSameBehaviours, BeatsOverSameBehaviours};
+
+use dcv_dfa::laws::tables_have_the_states;
 
 /// No environment beats a controller that wins.
 pub fn winners_are_not_beaten()
@@ -40,4 +44,27 @@ pub fn answers_are_one()
 /// The least moves of the states that have a rank beat every controller within the rank of the start.
 pub fn least_moves_beat()
     ensures { LeastMovesBeat }
+{}
+
+/// Automata that go on alike at the letters over the variables have the same controllers and strategies. A raw automaton goes on as
+/// its table does, so which answer is right is a question of the table alone.
+pub fn answers_are_of_tables()
+    ensures controls { ControlsOfLikeAutomata }
+    ensures strategies { StrategiesOfLikeAutomata }
+    ensures tables { TablesGoOnAlike }
+{
+    tables_have_the_states();
+}
+
+/// The strategy of least moves beats every controller.
+pub fn strategies_beat()
+    ensures { StrategiesBeat }
+{
+    least_moves_beat();
+}
+
+/// Who wins depends on the behaviours of the set alone.
+pub fn winners_of_same_behaviours()
+    ensures wins { WinsOverSameBehaviours }
+    ensures beats { BeatsOverSameBehaviours }
 {}
