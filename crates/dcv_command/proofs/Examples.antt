@@ -5,7 +5,7 @@ use Rattle.clap.proofs.OnLiterals.{clap_on_literals}
 use Rattle.dcv_command.specs.Program.{program}
 use Rattle.dcv_print.specs.declared.report.Kind.TheVariants.{Check, Automaton}
 use Rattle.dcv_command.specs.declared.words.Subset.TheVariants.{C as CText}
-use Rattle.dcv_command.specs.Request.{Report, Certify, Implies, Replay, Sweep, request_of}
+use Rattle.dcv_command.specs.Request.{Report, Certify, Implies, Synth, Replay, Sweep, request_of}
 
 program_is_simple : is_simple program ≡ true
 program_is_simple = refl
@@ -49,6 +49,17 @@ implies_taken = refl
 implies_asked : request_of compared ≡ Some (Implies (codes "door.dc") (codes "other.dc") (record { states = 30000; nodes = 7 }))
 unfolding clap_on_literals
 implies_asked = refl
+
+abbrev controlled : List (List ℕ)
+controlled = codes "synth" ∷ codes "door.dc" ∷ codes "--states" ∷ codes "7" ∷ codes "--inputs" ∷ codes "2" ∷ []
+
+synth_taken : fault_of program controlled ≡ []
+unfolding clap_on_literals
+synth_taken = refl
+
+synth_asked : request_of controlled ≡ Some (Synth (codes "door.dc") 2 (record { states = 7; nodes = 1000000 }))
+unfolding clap_on_literals
+synth_asked = refl
 
 abbrev replayed : List (List ℕ)
 replayed = codes "replay-c" ∷ codes "door.c" ∷ codes "door.trace" ∷ []

@@ -3,6 +3,8 @@ pub mod Faults
 pub mod Commands
 pub mod Runs
 pub mod Listed
+pub mod ListedInputs
+pub mod NumberTexts
 pub mod Plain
 pub mod Numbers
 pub mod Requests

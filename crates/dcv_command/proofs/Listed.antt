@@ -1,13 +1,7 @@
--- The words behind a subcommand's name: files' names, numbers, and options with their numbers.
-use Rattle.std.proofs.Common.{◌≡◌, refl, sym, ap, ◌∙◌, subst, true, false, List, ℕ, ◌<◌, ◌≤◌, ◌^◌, [], ◌∷◌, ◌++◌, Option, codes, arith, ne_eqb, zero-le}
-use Rattle.std.specs.Prelude.{◌==◌}
+-- The words behind a subcommand's name: files' names, numbers, and options with their numbers (`synth` has a file of its own).
+use Rattle.std.proofs.Common.{◌≡◌, refl, true, List, ℕ, ◌≤◌, [], ◌∷◌, ◌++◌, Option, codes, arith, zero-le}
 use Rattle.std.specs.Fmt.{decimal}
-use Rattle.std.specs.Str.Parse.{IsNumeral, digits_value, without_leading_plus}
-use Rattle.std.proofs.lemmas.Fmt.{decimal_is_IsNumeral}
-use Rattle.std.proofs.lemmas.Str.Parse.{digit_from_value}
 use Rattle.clap.specs.Words.{Row, Shape, Text}
-use Rattle.clap.specs.declared.builder.value_parser.ValueParser.TheVariants.{Unsigned}
-use Rattle.clap.proofs.ValueTestLemmas.{Accepts-accepts}
 use Rattle.clap.specs.ValueTests.{is_unsigned_in}
 use Rattle.clap.specs.Walk.{Held, Walk, idle, option, nothing_held, walk_from}
 use Rattle.clap.proofs.OnLiterals.{clap_on_literals}
@@ -23,42 +17,10 @@ use Rattle.dcv_command.specs.Listed.{limits_given, option_words, replay_name, re
 use Rattle.dcv_command.specs.Request.{Certify, Implies, Replay, Report, Request, Sweep, implies_in, limits_of, replay_in, report_in, request_in}
 use Rattle.dcv_command.proofs.Commands.{IsSubcommand, leaf}
 use Rattle.dcv_command.proofs.Commands.{check_is_one, automaton_is_one, lustre_is_one, c_is_one, all_is_one, certify_is_one, implies_is_one, replay_lustre_is_one, replay_c_is_one, sweep_is_one}
+use Rattle.dcv_command.proofs.ListedInputs.{each_game}
+use Rattle.dcv_command.proofs.NumberTexts.{IsNumberText, decimal_is_one, has_no_dash}
 use Rattle.dcv_command.proofs.Plain.{HasNoDash, going}
 use Rattle.dcv_command.proofs.Runs.{EndsWell, Goes, Runs, at_end, more, ask_for, holding, plain_goes, row, waiting_for}
-
-has_no_dash : (name : Text) → IsFileName name → HasNoDash name
-has_no_dash [] is = absurd is
-has_no_dash (first ∷ rest) is = ne_eqb first 45 is
-
--- ---- numbers
-
--- the text is a number from the least to the most
-record IsNumberText (least most number : ℕ) (text : Text) : Type 0 where
-  no_dash : HasNoDash text
-  fits : is_unsigned_in least most text ≡ true
-  value : digits_value 10 (without_leading_plus text) ≡ number
-
-numeral_has_no_plus : (text : Text) → IsNumeral 10 text → without_leading_plus text ≡ text
-numeral_has_no_plus [] is = refl
-numeral_has_no_plus (first ∷ rest) is =
-    let plus : (first == 43) ≡ false = ne_eqb first 43 (λ same. omega (arith, digit_from_value first is.1.0)) in rw plus refl
-
-numeral_has_no_dash : (text : Text) → IsNumeral 10 text → HasNoDash text
-numeral_has_no_dash [] is = absurd (omega (arith, is.0))
-numeral_has_no_dash (first ∷ rest) is = ne_eqb first 45 (λ same. omega (arith, digit_from_value first is.1.0))
-
-decimal_is_one : (least most number : ℕ) → most < 2 ^ 64 → (least ≤ number) × (number ≤ most) → IsNumberText least most number (decimal number)
-decimal_is_one least most number few (low, high) =
-    let small : number < 2 ^ 64 = omega arith in
-    let numeral = decimal_is_IsNumeral number small in
-    let no_plus = numeral_has_no_plus (decimal number) numeral.0 in
-    let value : digits_value 10 (without_leading_plus (decimal number)) ≡ number = ap (digits_value 10) no_plus ∙ numeral.1 in
-    let is_numeral : IsNumeral 10 (without_leading_plus (decimal number)) = subst (IsNumeral 10) (sym no_plus) numeral.0 in
-    record {
-      no_dash = numeral_has_no_dash (decimal number) numeral.0;
-      fits = Accepts-accepts false (Unsigned least most) (decimal number) (is_numeral, omega (arith, value), omega (arith, value), omega (arith, value));
-      value = value;
-    }
 
 -- ---- with both limits
 
@@ -247,4 +209,4 @@ each_sweep seed count small allowed =
     (decimal_is_one 1 most_count count (omega arith) allowed)
 
 pub listed_words_are_taken : ListedWordsAreTaken
-listed_words_are_taken = record { report = each_report; certify = certify_alone; implies = each_comparison; replay = each_replay; sweep = each_sweep }
+listed_words_are_taken = record { report = each_report; certify = certify_alone; implies = each_comparison; synth = each_game; replay = each_replay; sweep = each_sweep }

@@ -9,11 +9,11 @@ use Rattle.clap.specs.declared.builder.value_parser.ValueParser.TheVariants.{Uns
 use Rattle.clap.proofs.ValueTestLemmas.{accepts-Accepts}
 use Rattle.dcv_explore.specs.declared.explorer.Limits.{Limits}
 use Rattle.dcv_print.specs.declared.report.Kind.{Kind}
-use Rattle.dcv_command.specs.Program.{most_states, most_nodes, most_seed, most_count}
+use Rattle.dcv_command.specs.Program.{most_states, most_nodes, most_inputs, most_seed, most_count}
 use Rattle.dcv_print.specs.declared.report.Kind.TheVariants.{Check, Automaton, Lustre, C, All}
 use Rattle.dcv_command.specs.declared.words.Subset.{Subset}
 use Rattle.dcv_command.specs.declared.words.Subset.TheVariants.{Lustre as LustreText, C as CText}
-use Rattle.dcv_command.specs.Request.{AreInRange, IsInRange, Request, Report, Certify, Implies, Replay, Sweep, replay_in, sweep_in, implies_in, limits_among, limits_of, number_in, number_of, report_in, request_in, request_of_subcommand}
+use Rattle.dcv_command.specs.Request.{AreInRange, IsInRange, Request, Report, Certify, Implies, Synth, Replay, Sweep, replay_in, sweep_in, implies_in, synth_in, limits_among, limits_of, number_in, number_of, report_in, request_in, request_of_subcommand}
 
 number_is_in_range : (least most : ℕ) (text : Option Text) (number : ℕ) → option_and_then (number_of least most) text ≡ Some number
     → (least ≤ number) × (number ≤ most)
@@ -69,6 +69,20 @@ implies_is_in_range rows request is = by (first_of (codes "first") rows) (first_
     by (Some first) (Some second) (Some limits) found is =
         let same : Implies first second limits ≡ request = cc in subst IsInRange same (limits_are_in_range rows limits found)
 
+synth_is_in_range : (rows : List Row) (request : Request) → synth_in rows ≡ Some request → IsInRange request
+synth_is_in_range rows request is =
+    by (first_of (codes "file") rows) (number_in 0 most_inputs (codes "inputs") rows) (limits_among rows) refl refl is
+  where
+    by : (file : Option Text) (inputs : Option ℕ) (limits : Option Limits) → number_in 0 most_inputs (codes "inputs") rows ≡ inputs → limits_among rows ≡ limits
+        → option_and_then (λ one. option_and_then (λ count. option_map (Synth one count) limits) inputs) file ≡ Some request → IsInRange request
+    by None inputs limits found also is = let wrong : None ≡ Some request = is in cc
+    by (Some file) None limits found also is = let wrong : None ≡ Some request = is in cc
+    by (Some file) (Some inputs) None found also is = let wrong : None ≡ Some request = is in cc
+    by (Some file) (Some inputs) (Some limits) found also is =
+        let few = number_is_in_range 0 most_inputs (one_of (codes "inputs") rows) inputs found in
+        let same : Synth file inputs limits ≡ request = cc in
+        subst IsInRange same (record { few_inputs = few.1; within = limits_are_in_range rows limits also })
+
 replay_is_in_range : (subset : Subset) (rows : List Row) (request : Request) → replay_in subset rows ≡ Some request → IsInRange request
 replay_is_in_range subset rows request is = by (first_of (codes "observer") rows) (first_of (codes "trace") rows) is
   where
@@ -116,9 +130,10 @@ module _ (rows : List Row) (request : Request) where
       (either_fine (bytes_eq name (codes "all")) _ _ (report_fine All)
       (either_fine (bytes_eq name (codes "certify")) _ _ (certify_is_in_range (first_of (codes "automaton") rows) request)
       (either_fine (bytes_eq name (codes "implies")) _ _ (implies_is_in_range rows request)
+      (either_fine (bytes_eq name (codes "synth")) _ _ (synth_is_in_range rows request)
       (either_fine (bytes_eq name (codes "replay-lustre")) _ _ (replay_is_in_range LustreText rows request)
       (either_fine (bytes_eq name (codes "replay-c")) _ _ (replay_is_in_range CText rows request)
-      (either_fine (bytes_eq name (codes "sweep")) _ _ (sweep_is_in_range rows request) none_fine)))))))))
+      (either_fine (bytes_eq name (codes "sweep")) _ _ (sweep_is_in_range rows request) none_fine))))))))))
 
 pub request_is_in_range : (subcommand : Option (Text × List Row)) (request : Request) → request_of_subcommand subcommand ≡ Some request → IsInRange request
 request_is_in_range None request is = let wrong : None ≡ Some request = is in cc

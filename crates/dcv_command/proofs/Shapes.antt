@@ -14,9 +14,9 @@ use Rattle.clap.specs.declared.error.kind.ErrorKind.{ErrorKind}
 use Rattle.clap.specs.declared.parser.matches.ValueSource.{ValueSource}
 use Rattle.clap.specs.declared.parser.matches.ValueSource.TheVariants.{CommandLine}
 use Rattle.dcv_print.specs.declared.report.Kind.{Kind}
-use Rattle.dcv_command.specs.Program.{file_operand, limit_option, most_count, most_nodes, most_seed, most_states, nodes_option, over_a_formula, number_operand, over_a_seed, over_a_trace, over_an_automaton, over_two_formulas, states_option}
+use Rattle.dcv_command.specs.Program.{file_operand, inputs_option, limit_option, most_count, most_inputs, most_nodes, most_seed, most_states, nodes_option, over_a_formula, number_operand, over_a_game, over_a_seed, over_a_trace, over_an_automaton, over_two_formulas, states_option}
 use Rattle.dcv_command.specs.declared.words.Subset.{Subset}
-use Rattle.dcv_command.specs.Request.{Certify, Implies, Replay, Report, Sweep, certify_in, implies_in, limits_among, number_in, replay_in, report_in, sweep_in}
+use Rattle.dcv_command.specs.Request.{Certify, Implies, Replay, Report, Sweep, Synth, certify_in, implies_in, limits_among, number_in, replay_in, report_in, sweep_in, synth_in}
 use Rattle.dcv_command.proofs.Commands.{leaf}
 use Rattle.dcv_command.proofs.Leaves.{IsReadableShape, all_found}
 use Rattle.dcv_command.proofs.Rows.{AreReadable, IsFound, IsReadable, first_is_there, limits_are_there, new_row, number_is_there, range_of, readable_with, readable_without}
@@ -89,6 +89,14 @@ states_keep place = limit_keeps place (codes "states") most_states (codes "30000
 nodes_keep : (place : ℕ) → Keeps false AreReadable (with_index place (filled nodes_option))
 nodes_keep place = limit_keeps place (codes "nodes") most_nodes (codes "1000000") refl
 
+inputs_keep : (place : ℕ) → Keeps false AreReadable (with_index place (filled inputs_option))
+inputs_keep place [] rows all none = absurd (no_fault_is_one _ none)
+inputs_keep place (text ∷ []) rows all none =
+    readable_with (codes "inputs") AsWritten CommandLine (text ∷ []) (without (codes "inputs") rows)
+    (number_is_readable (codes "inputs") 0 most_inputs refl CommandLine text (it_passes (is_unsigned_in 0 most_inputs text) _ (last_is_empty _ _ none)))
+    (readable_without (codes "inputs") rows all)
+inputs_keep place (text ∷ other ∷ more) rows all none = absurd (two_are_refused (length more) _ none)
+
 help_keeps : (place : ℕ) → Keeps false AreReadable (with_index place (filled help_rule))
 help_keeps place values rows all none = all
 
@@ -149,6 +157,32 @@ pub implies_asks : (words : List Text) → level_fault (leaf over_two_formulas) 
 implies_asks words none =
     let found = all_found (leaf over_two_formulas) formulas_are_readable words none in
     implies_is_some (rows_after (leaf over_two_formulas).rules [] words) (found.0.required refl) (found.1.0.required refl) (found.1.1.0.default tt)
+    (found.1.1.1.0.default tt)
+
+-- ---- over a formula file of which some variables are inputs
+
+game_is_readable : IsReadableShape (leaf over_a_game)
+game_is_readable =
+    record {
+      uses = (operand_keeps 1 (codes "file") refl, (inputs_keep 2, (states_keep 2, (nodes_keep 2, (help_keeps 2, tt)))));
+      defaults = (tt, (tt, (number_is_readable (codes "states") 1 most_states refl _ (codes "30000") refl, (number_is_readable (codes "nodes") 1 most_nodes refl _ (codes "1000000") refl, (tt, tt)))));
+    }
+
+synth_is_some : (rows : List Row) → IsFound (codes "file") rows → IsFound (codes "inputs") rows → IsFound (codes "states") rows → IsFound (codes "nodes") rows
+    → IsSome (synth_in rows)
+synth_is_some rows file inputs states nodes =
+    subst IsSome
+    (sym (ap (option_and_then (λ one. option_and_then (λ count. option_map (Synth one count) (limits_among rows)) (number_in 0 most_inputs (codes "inputs") rows)))
+    (first_is_there (codes "file") rows file)
+    ∙ ap (option_and_then (λ count. option_map (Synth file.readable.text count) (limits_among rows))) (number_is_there (codes "inputs") rows inputs 0 most_inputs refl)
+    ∙ ap (option_map (Synth file.readable.text (digits_value 10 (without_leading_plus inputs.readable.text)))) (limits_are_there rows states nodes)))
+    refl
+
+pub synth_asks : (words : List Text) → level_fault (leaf over_a_game) [] nothing_held words false [] ≡ []
+    → IsSome (synth_in (rows_after (leaf over_a_game).rules [] words))
+synth_asks words none =
+    let found = all_found (leaf over_a_game) game_is_readable words none in
+    synth_is_some (rows_after (leaf over_a_game).rules [] words) (found.0.required refl) (found.1.0.required refl) (found.1.1.0.default tt)
     (found.1.1.1.0.default tt)
 
 -- ---- over an observer's text and a trace

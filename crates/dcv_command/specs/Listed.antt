@@ -4,10 +4,12 @@
 --     Options                    the options that stand in the words, in order, with their numbers
 --     option_words options       their words
 --     limits_given options       the limits that they ask for
+--     with_inputs place inputs options
+--                                their words, with a number of inputs at this place among them
 --     AreAllowed options         each number is in its range
 --     IsFileName name            the name is not empty, and does not begin with a dash
 --     AskFor words request       the words are taken, and ask for the request
-use Rattle.std.specs.Prelude.{◌≡◌, ◌≢◌, ℕ, ◌≤◌, true, List, [], ◌∷◌, Some, codes}
+use Rattle.std.specs.Prelude.{◌≡◌, ◌≢◌, ℕ, ◌≤◌, true, List, [], ◌∷◌, ◌++◌, Some, take, drop, codes}
 use Rattle.std.specs.Fmt.{decimal}
 use Rattle.std.specs.Str.{byte}
 use Rattle.clap.specs.Words.{Text, takes}
@@ -43,6 +45,20 @@ option_words (States states) = codes "--states" ∷ decimal states ∷ []
 option_words (Nodes nodes) = codes "--nodes" ∷ decimal nodes ∷ []
 option_words (StatesThenNodes states nodes) = codes "--states" ∷ decimal states ∷ codes "--nodes" ∷ decimal nodes ∷ []
 option_words (NodesThenStates nodes states) = codes "--nodes" ∷ decimal nodes ∷ codes "--states" ∷ decimal states ∷ []
+
+-- where a further option stands among the others: before all of them, behind the first, or behind all
+pub data Place : Type 0 where
+  BeforeAll : Place
+  BehindTheFirst : Place
+  BehindAll : Place
+
+abbrev pub inputs_words : ℕ → List Text
+inputs_words inputs = codes "--inputs" ∷ decimal inputs ∷ []
+
+abbrev pub with_inputs : Place → ℕ → Options → List Text
+with_inputs BeforeAll inputs options = inputs_words inputs ++ option_words options
+with_inputs BehindTheFirst inputs options = take 2 (option_words options) ++ inputs_words inputs ++ drop 2 (option_words options)
+with_inputs BehindAll inputs options = option_words options ++ inputs_words inputs
 
 -- 30,000 states and 1,000,000 nodes where nothing else is asked for
 abbrev pub limits_given : Options → Limits

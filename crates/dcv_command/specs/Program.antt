@@ -6,12 +6,16 @@
 --     over_a_formula name   a subcommand over one formula file, with both limits
 --     over_an_automaton     the one over an automaton's text
 --     over_two_formulas     the one over two formula files, with both limits
+--     inputs_option         how many of the declared variables are inputs, which has to be said
+--     over_a_game           the one over a formula file of which some variables are inputs, with both limits
 --     over_a_trace name     a subcommand over an observer's text and a trace
 --     number_operand id     a whole number from the least to the most
 --     over_a_seed           the one over a seed and a count
 --     most_states           the most states of a step that may be asked for, and the most diagram nodes
+--     most_inputs           the most inputs that may be asked for
 --     most_seed             the greatest seed that may be asked for, and the most formulas
-use Rattle.std.specs.Prelude.{ℕ, true, false, List, [], ◌∷◌, Some, codes}
+--     reports               the subcommands that report on a formula
+use Rattle.std.specs.Prelude.{ℕ, true, false, List, [], ◌∷◌, ◌++◌, Some, codes}
 use Rattle.clap.specs.Words.{App, Shape, Rule, new_rule}
 use Rattle.clap.specs.Simple.{new_shape}
 use Rattle.clap.specs.declared.builder.value_parser.ValueParser.TheVariants.{Unsigned}
@@ -50,6 +54,22 @@ over_two_formulas = record (new_shape (codes "implies")) {
   rules = file_operand (codes "first") ∷ file_operand (codes "second") ∷ states_option ∷ nodes_option ∷ [];
 }
 
+abbrev pub most_inputs : ℕ
+most_inputs = 16
+
+abbrev pub inputs_option : Rule
+inputs_option = record (new_rule (codes "inputs")) {
+  long = Some (codes "inputs");
+  required = true;
+  parser = Some (Unsigned 0 most_inputs);
+  value_names = 1;
+}
+
+abbrev pub over_a_game : Shape
+over_a_game = record (new_shape (codes "synth")) {
+  rules = file_operand (codes "file") ∷ inputs_option ∷ states_option ∷ nodes_option ∷ [];
+}
+
 abbrev pub over_a_trace : List ℕ → Shape
 over_a_trace name = record (new_shape name) { rules = file_operand (codes "observer") ∷ file_operand (codes "trace") ∷ [] }
 
@@ -67,11 +87,15 @@ over_a_seed = record (new_shape (codes "sweep")) {
   rules = number_operand (codes "seed") 0 most_seed ∷ number_operand (codes "count") 1 most_count ∷ [];
 }
 
+abbrev pub reports : List Shape
+reports =
+    over_a_formula (codes "check") ∷ over_a_formula (codes "automaton") ∷ over_a_formula (codes "lustre") ∷ over_a_formula (codes "c")
+    ∷ over_a_formula (codes "all") ∷ []
+
 abbrev pub subcommands : List Shape
 subcommands =
-    over_a_formula (codes "check") ∷ over_a_formula (codes "automaton") ∷ over_a_formula (codes "lustre") ∷ over_a_formula (codes "c")
-    ∷ over_a_formula (codes "all") ∷ over_an_automaton ∷ over_two_formulas ∷ over_a_trace (codes "replay-lustre") ∷ over_a_trace (codes "replay-c")
-    ∷ over_a_seed ∷ []
+    reports
+    ++ over_an_automaton ∷ over_two_formulas ∷ over_a_game ∷ over_a_trace (codes "replay-lustre") ∷ over_a_trace (codes "replay-c") ∷ over_a_seed ∷ []
 
 -- without its subcommands, of which one is required
 abbrev pub bare_app : App

@@ -17,7 +17,7 @@ use Rattle.dcv_print.specs.declared.report.Kind.{Kind}
 use Rattle.dcv_print.specs.declared.report.Kind.TheVariants.{Check, Automaton, Lustre, C, All}
 use Rattle.dcv_command.specs.declared.words.Subset.{Subset}
 use Rattle.dcv_command.specs.declared.words.Subset.TheVariants.{Lustre as LustreText, C as CText}
-use Rattle.dcv_command.specs.Program.{program, most_states, most_nodes, most_seed, most_count}
+use Rattle.dcv_command.specs.Program.{program, most_states, most_nodes, most_inputs, most_seed, most_count}
 
 pub data Request : Type 0 where
   -- a report on the formula in the file with this name
@@ -26,6 +26,8 @@ pub data Request : Type 0 where
   Certify : (name : List ℕ) → Request
   -- whether the formula in the first file implies that in the second
   Implies : (first second : List ℕ) → (limits : Limits) → Request
+  -- a controller for the formula in the file, of which so many variables, the first, are inputs
+  Synth : (name : List ℕ) → (inputs : ℕ) → (limits : Limits) → Request
   -- what the observer in the first file, a text of this subset, answers at each instant of the trace in the second
   Replay : (subset : Subset) → (observer trace : List ℕ) → Request
   -- a summary over so many formulas that are drawn from the seed
@@ -35,6 +37,7 @@ abbrev pub files_of : Request → List (List ℕ)
 files_of (Report kind name limits) = name ∷ []
 files_of (Certify name) = name ∷ []
 files_of (Implies first second limits) = first ∷ second ∷ []
+files_of (Synth name inputs limits) = name ∷ []
 files_of (Replay subset observer trace) = observer ∷ trace ∷ []
 files_of (Sweep seed count) = []
 
@@ -43,6 +46,10 @@ pub record AreInRange (limits : Limits) : Type 0 where
   pub few_states : limits.states ≤ most_states
   pub some_nodes : 1 ≤ limits.nodes
   pub few_nodes : limits.nodes ≤ most_nodes
+
+pub record AreInputsInRange (inputs : ℕ) (limits : Limits) : Type 0 where
+  pub few_inputs : inputs ≤ most_inputs
+  pub within : AreInRange limits
 
 pub record CanBeDrawn (seed count : ℕ) : Type 0 where
   pub small : seed ≤ most_seed
@@ -53,6 +60,7 @@ abbrev pub IsInRange : Request → Type 0
 IsInRange (Report kind name limits) = AreInRange limits
 IsInRange (Certify name) = Unit {0}
 IsInRange (Implies first second limits) = AreInRange limits
+IsInRange (Synth name inputs limits) = AreInputsInRange inputs limits
 IsInRange (Replay subset observer trace) = Unit {0}
 IsInRange (Sweep seed count) = CanBeDrawn seed count
 
@@ -84,6 +92,11 @@ implies_in rows =
     option_and_then (λ first. option_and_then (λ second. option_map (Implies first second) (limits_among rows)) (first_of (codes "second") rows))
     (first_of (codes "first") rows)
 
+abbrev pub synth_in : List Row → Option Request
+synth_in rows =
+    option_and_then (λ file. option_and_then (λ inputs. option_map (Synth file inputs) (limits_among rows)) (number_in 0 most_inputs (codes "inputs") rows))
+    (first_of (codes "file") rows)
+
 abbrev pub replay_in : Subset → List Row → Option Request
 replay_in subset rows = option_and_then (λ observer. option_map (Replay subset observer) (first_of (codes "trace") rows)) (first_of (codes "observer") rows)
 
@@ -100,9 +113,10 @@ request_in name rows =
     else (if bytes_eq name (codes "all") then report_in All rows
     else (if bytes_eq name (codes "certify") then certify_in rows
     else (if bytes_eq name (codes "implies") then implies_in rows
+    else (if bytes_eq name (codes "synth") then synth_in rows
     else (if bytes_eq name (codes "replay-lustre") then replay_in LustreText rows
     else (if bytes_eq name (codes "replay-c") then replay_in CText rows
-    else (if bytes_eq name (codes "sweep") then sweep_in rows else None)))))))))
+    else (if bytes_eq name (codes "sweep") then sweep_in rows else None))))))))))
 
 -- of the subcommand that the words name, with its matches
 abbrev pub request_of_subcommand : Option (Text × List Row) → Option Request

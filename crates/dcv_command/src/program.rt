@@ -1,10 +1,11 @@
 //! What `clap` is given: the subcommands with their operands and options, and the texts of their help.
-ghost use Rattle.std.specs.Prelude.{◌≡◌, [], false, codes, IfOk};
+ghost use Rattle.std.specs.Prelude.{◌≡◌, [], false, codes, fold, IfOk};
 ghost use Rattle.clap.specs.Words.{rule_of, app_of, new_app, with_subcommand};
 ghost use Rattle.clap.specs.declared.builder.Command.TheViews.{out-Command as fields_of};
 ghost use Rattle.dcv_command.specs.Program.{file_operand as file_rule, limit_option, states_option, nodes_option, program as the_program, bare_app};
 ghost use Rattle.dcv_command.specs.Program.{over_a_formula as formula_shape, over_an_automaton as automaton_shape, over_two_formulas as formulas_shape, over_a_trace as trace_shape};
 ghost use Rattle.dcv_command.specs.Program.{number_operand as number_rule, over_a_seed as seed_shape};
+ghost use Rattle.dcv_command.specs.Program.{inputs_option, over_a_game as game_shape, reports};
 
 use clap::builder::ValueParser;
 use clap::{Arg, Command};
@@ -14,6 +15,7 @@ const ABOUT: &str =
     "Decides whether a requirement about stretches of time, a formula of Quantified Discrete-time Duration Calculus, always holds. \
 Shows a shortest behaviour that breaks it, or the minimal automaton of the behaviours that satisfy it, or an observer of these. \
 Tells whether one requirement implies another, and whether an automaton's text shows by its own words that it is minimal. \
+Makes a controller that keeps to a requirement whatever its inputs are, or shows how the inputs beat every controller. \
 Replays traces through observers. Counts what holds of formulas that are drawn.";
 
 const EXAMPLE_AND_STATUS: &str =
@@ -22,16 +24,18 @@ const EXAMPLE_AND_STATUS: &str =
   dcvalid automaton door.dc --states 1000 > door.auto
   dcvalid certify door.auto
   dcvalid implies door.dc other.dc
+  dcvalid synth door.dc --inputs 0 > controller.c
   dcvalid c door.dc > door.c
   dcvalid replay-c door.c door.trace
   dcvalid sweep 7 200
 
 Status:
-  0  each behaviour satisfies the formula; the automaton is shown to be minimal; A implies B; the trace was read to its end;
-     the drawn formulas are counted
-  1  some behaviour does not; the automaton is not shown to be minimal; A does not imply B
+  0  each behaviour satisfies the formula; the automaton is shown to be minimal; A implies B; there is a controller;
+     the trace was read to its end; the drawn formulas are counted
+  1  some behaviour does not; the automaton is not shown to be minimal; A does not imply B; there is no controller
   2  the words are no command, or ask for help
-  3  a file holds no formula, for the fault that is named, at its offset in bytes; A and B declare different variables
+  3  a file holds no formula, for the fault that is named, at its offset in bytes; A and B declare different variables;
+     there are fewer variables than inputs, or more than 8 outputs
   4  a step of a formula, or the product of A and B, has more states or nodes than the limit
   5  a file could not be opened or read
   6  the report could not be written
@@ -46,6 +50,9 @@ pub(crate) const MOST_STATES: u32 = 32_000;
 /// The most diagram nodes of a step that may be asked for.
 pub(crate) const MOST_NODES: u32 = 1_000_000;
 
+/// The most inputs that may be asked for.
+pub(crate) const MOST_INPUTS: u32 = 16;
+
 /// The greatest seed that formulas may be drawn from.
 pub(crate) const MOST_SEED: u32 = 2_147_483_647;
 
@@ -57,9 +64,32 @@ pub(crate) fn program<'a>(alloc: Global) -> Result<Command<'a>, AllocError>
     ensures { IfOk result (λ command. app_of command ≡ the_program) }
 {
     let bare = bare_program(alloc)?;
+    let reports = with_reports(alloc, bare)?;
+    let certify = with_certify(alloc, reports)?;
+    let implies = with_implies(alloc, certify)?;
+    let synth = with_synth(alloc, implies)?;
+    let replay_lustre = with_replay(
+        alloc,
+        synth,
+        "replay-lustre",
+        "Writes what an observer, as the command lustre writes it, answers at each instant of a trace",
+    )?;
+    let replay_c = with_replay(
+        alloc,
+        replay_lustre,
+        "replay-c",
+        "Writes what an observer, as the command c writes it, answers at each instant of a trace",
+    )?;
+    with_sweep(alloc, replay_c)
+}
+
+// The command with the subcommands that report on a formula file.
+fn with_reports<'a>(alloc: Global, command: Command<'a>) -> Result<Command<'a>, AllocError>
+    ensures { IfOk result (λ more. app_of more ≡ fold with_subcommand (app_of command.entry) reports) }
+{
     let check = with_report(
         alloc,
-        bare,
+        command,
         "check",
         "Writes the verdict, with a shortest counterexample and a shortest example",
     )?;
@@ -81,27 +111,12 @@ pub(crate) fn program<'a>(alloc: Global) -> Result<Command<'a>, AllocError>
         "c",
         "Writes such an observer in a flat subset of C",
     )?;
-    let all = with_report(
+    with_report(
         alloc,
         c,
         "all",
         "Writes the verdict, the automaton and both observers, each behind a line that names it",
-    )?;
-    let certify = with_certify(alloc, all)?;
-    let implies = with_implies(alloc, certify)?;
-    let replay_lustre = with_replay(
-        alloc,
-        implies,
-        "replay-lustre",
-        "Writes what an observer, as the command lustre writes it, answers at each instant of a trace",
-    )?;
-    let replay_c = with_replay(
-        alloc,
-        replay_lustre,
-        "replay-c",
-        "Writes what an observer, as the command c writes it, answers at each instant of a trace",
-    )?;
-    with_sweep(alloc, replay_c)
+    )
 }
 
 // The command without its subcommands, of which one is required.
@@ -141,6 +156,13 @@ fn with_implies<'a>(alloc: Global, command: Command<'a>) -> Result<Command<'a>, 
     ensures { IfOk result (λ more. app_of more ≡ with_subcommand (app_of command.entry) formulas_shape) }
 {
     command.subcommand(over_two_formulas(alloc)?)
+}
+
+// The command with the subcommand that makes a controller.
+fn with_synth<'a>(alloc: Global, command: Command<'a>) -> Result<Command<'a>, AllocError>
+    ensures { IfOk result (λ more. app_of more ≡ with_subcommand (app_of command.entry) game_shape) }
+{
+    command.subcommand(over_a_game(alloc)?)
 }
 
 // The command with a subcommand more, which replays a trace through an observer.
@@ -228,6 +250,22 @@ fn over_two_formulas<'a>(alloc: Global) -> Result<Command<'a>, AllocError>
         .arg(nodes_limit(alloc))
 }
 
+// The subcommand over a formula file of which some variables are inputs.
+fn over_a_game<'a>(alloc: Global) -> Result<Command<'a>, AllocError>
+    ensures app { IfOk result (λ command. app_of command ≡ record { top = game_shape; subs = [] }) }
+    ensures local { IfOk result (λ command. (fields_of command).has_globals ≡ false) }
+{
+    Command::new(alloc, "synth")
+        .about(
+            "Writes a controller in a flat subset of C, whose outputs keep to the formula whatever its inputs are, or else moves of the \
+inputs that beat every controller",
+        )
+        .arg(file_operand(alloc, "file", "FILE", "The formula file"))?
+        .arg(inputs_count(alloc))?
+        .arg(states_limit(alloc))?
+        .arg(nodes_limit(alloc))
+}
+
 // A subcommand over an observer's text and a trace.
 fn over_a_trace<'a>(alloc: Global, name: &'a str, about: &'a str) -> Result<Command<'a>, AllocError>
     ensures app { IfOk result (λ command. app_of command ≡ record { top = trace_shape name.entry.now; subs = [] }) }
@@ -305,6 +343,21 @@ fn file_operand<'a>(alloc: Global, id: &'a str, value_name: &'a str, help: &'a s
         .required(true)
         .value_name(value_name)
         .help(help)
+}
+
+// How many of the variables are inputs.
+fn inputs_count<'a>(alloc: Global) -> Arg<'a>
+    ensures rule { rule_of result ≡ inputs_option }
+    ensures local { result.global ≡ false }
+{
+    Arg::new(alloc, "inputs")
+        .long("inputs")
+        .required(true)
+        .value_parser(ValueParser::unsigned(0, u64::from(MOST_INPUTS)))
+        .value_name("N")
+        .help(
+            "How many of the declared variables, from the first on, are inputs, from 0 to 16; the others, at most 8, are outputs",
+        )
 }
 
 // The limit on the states of a step.

@@ -3,13 +3,13 @@ ghost use Rattle.std.specs.Prelude.{◌≡◌, ◌≢◌, true, [], map, option_
 ghost use Rattle.clap.specs.Words.{fault_of, first_of, found_of, rows_of, subcommand_of, subcommand_rows_of, takes};
 ghost use Rattle.dcv_command.specs.Program.{program as the_program};
 ghost use Rattle.dcv_command.specs.Request.{IsInRange, IsTaken, request_of, request_of_subcommand};
-ghost use Rattle.dcv_command.specs.Request.{report_in as report_among, certify_in as certify_among, implies_in as implies_among, request_in as request_among};
+ghost use Rattle.dcv_command.specs.Request.{report_in as report_among, certify_in as certify_among, implies_in as implies_among, synth_in as synth_among, request_in as request_among};
 ghost use Rattle.dcv_command.specs.Request.{replay_in as replay_among, sweep_in as sweep_among};
 ghost use Rattle.dcv_command.specs.Request.{limits_among as limits_among_rows, number_in as number_in_rows};
 ghost use Rattle.dcv_command.specs.declared.words.WordsFault.TheVariants.{Memory};
 ghost use Rattle.dcv_command.specs.Seen.{asked_by, IsUsageOnlyWhere};
 
-use crate::program::{MOST_COUNT, MOST_NODES, MOST_SEED, MOST_STATES, program};
+use crate::program::{MOST_COUNT, MOST_INPUTS, MOST_NODES, MOST_SEED, MOST_STATES, program};
 use clap::ArgMatches;
 use clap::error::ErrorKind;
 use dcv_explore::Limits;
@@ -35,6 +35,12 @@ pub enum Request<'a> {
     Implies {
         first: &'a str,
         second: &'a str,
+        limits: Limits,
+    },
+    /// A controller for the formula in the file of this name, of which so many variables, the first, are inputs and the others outputs.
+    Synth {
+        file: &'a str,
+        inputs: u32,
         limits: Limits,
     },
     /// What the observer in the first file, a text of this subset, answers at each instant of the trace in the second.
@@ -124,6 +130,7 @@ fn request_named<'a>(name: &str, matches: &ArgMatches<'a>) -> Option<Request<'a>
         "all" => report_in(matches, Kind::All),
         "certify" => certify_in(matches),
         "implies" => implies_in(matches),
+        "synth" => synth_in(matches),
         "replay-lustre" => replay_in(matches, Subset::Lustre),
         "replay-c" => replay_in(matches, Subset::C),
         "sweep" => sweep_in(matches),
@@ -158,6 +165,20 @@ fn implies_in<'a>(matches: &ArgMatches<'a>) -> Option<Request<'a>>
     Some(Request::Implies {
         first,
         second,
+        limits,
+    })
+}
+
+// The controller that is asked for.
+fn synth_in<'a>(matches: &ArgMatches<'a>) -> Option<Request<'a>>
+    ensures { option_map asked_by result ≡ synth_among (rows_of (found_of matches.now)) }
+{
+    let file = operand_in(matches, "file")?;
+    let inputs = number_in(matches, "inputs", 0, MOST_INPUTS)?;
+    let limits = limits_among(matches)?;
+    Some(Request::Synth {
+        file,
+        inputs,
         limits,
     })
 }
