@@ -1,4 +1,5 @@
 mod Answering
+mod ControlBounds
 mod Controlled
 mod Controls
 mod Descents
@@ -9,13 +10,21 @@ mod LeastMoves
 mod LeastOutputs
 mod Listed
 mod Merges
+mod NodeNames
 mod OneAnswer
+mod OneUnit
 mod RankEnds
 mod Ranking
 mod RowRanks
+mod SameJoins
 mod SameSets
 mod SameSteps
 mod Tracks
 mod Unbeaten
+mod UnitForms
+mod UnitLines
+mod UnitRules
+mod UnitRuns
+mod UnitSteps
 mod Winners
 mod Won

@@ -8,6 +8,7 @@ pub mod Realisable
 pub mod Control
 pub mod Outcome
 pub mod SameSteps
+pub mod Units
 -- the statements that `src/laws.rt` proves
 pub mod Laws
 -- for proofs alone: what the search goes through

@@ -4,8 +4,9 @@ ghost use Rattle.dcv_synth.specs.Laws.{LeastOutputsWin, LeastMovesBeat, Controls
 ghost use Rattle.dcv_synth.specs.Laws.{OneControlIsRight, OneStrategyIsRight};
 ghost use Rattle.dcv_synth.specs.Laws.{ControlsOfLikeAutomata, StrategiesOfLikeAutomata, TablesGoOnAlike};
 ghost use Rattle.dcv_synth.specs.Laws.{StrategiesBeat, WinsOverSameBehaviours, BeatsOverSameBehaviours};
+ghost use Rattle.dcv_synth.specs.Laws.{SameControlsHaveOneUnit, OneUnitIsRight};
 
-use dcv_dfa::laws::tables_have_the_states;
+use dcv_dfa::laws::{lines_are_of_rows, tables_have_the_states};
 
 /// No environment beats a controller that wins.
 pub fn winners_are_not_beaten()
@@ -68,3 +69,11 @@ pub fn winners_of_same_behaviours()
     ensures wins { WinsOverSameBehaviours }
     ensures beats { BeatsOverSameBehaviours }
 {}
+
+/// Controllers that do the same have one unit. So a requirement has one controller's unit.
+pub fn units_are_one()
+    ensures same { SameControlsHaveOneUnit }
+    ensures right { OneUnitIsRight }
+{
+    lines_are_of_rows();
+}

@@ -11,6 +11,7 @@ pub mod laws;
 mod merging;
 mod ranks;
 mod strategy;
+mod units;
 
 pub use control::{Control, Rows};
 pub use deciding::{Outcome, synth};
