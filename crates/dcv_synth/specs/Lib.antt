@@ -16,3 +16,4 @@ pub mod Ranked
 pub mod Listing
 pub mod Answered
 pub mod Merged
+pub mod Placing
