@@ -23,6 +23,8 @@ mod Tracks
 mod Unbeaten
 mod UnitForms
 mod UnitLines
+mod UnitMade
+mod UnitOf
 mod UnitRules
 mod UnitRuns
 mod UnitSteps

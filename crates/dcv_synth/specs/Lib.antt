@@ -17,3 +17,4 @@ pub mod Ranked
 pub mod Listing
 pub mod Answered
 pub mod Merged
+pub mod Placing

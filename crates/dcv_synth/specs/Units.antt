@@ -93,6 +93,13 @@ all_state_choices states nexts outputs = flat_map state_choices (zip states (zip
 abbrev pub last_statement : Statement
 last_statement = Assign state_name (Plain (Named next_name))
 
+abbrev pub statements_of : ControlLines → List Statement
+statements_of all =
+    cleared next_name ∷ cleared output_name
+    ∷ choices node_name all.names all.next.lines
+    ++ (choices output_node_name all.names all.output.lines
+    ++ (all_state_choices all.states all.next.rows all.output.rows ++ last_statement ∷ []))
+
 -- ---- the unit
 
 unfoldable pub unit_of_lines : ControlLines → CUnit
@@ -104,11 +111,7 @@ unit_of_lines all =
       step = step_name;
       parameters = map parameter_name all.names;
       locals = local_names (length all.next.lines) (length all.output.lines);
-      statements =
-          cleared next_name ∷ cleared output_name
-          ∷ choices node_name all.names all.next.lines
-          ++ (choices output_node_name all.names all.output.lines
-          ++ (all_state_choices all.states all.next.rows all.output.rows ++ last_statement ∷ []));
+      statements = statements_of all;
       returned = Read output_name;
     }
 
