@@ -79,11 +79,11 @@ fn step_of(
     ensures name { IfOk result (λ step. step.name ≡ step_name) }
     ensures parameters { IfOk result (λ step. step.parameters.items ≡ map parameter_name (texts_of names.now)) }
     ensures locals { IfOk result (λ step. step.locals.items ≡ local_names (length next.now.lines) (length output.now.lines)) }
+    ensures returned { IfOk result (λ step.
+        seen_returned (unit_names (texts_of names.now) (length next.now.lines) (length output.now.lines)) step.returned ≡ ReadByName output_name) }
     ensures statements { IfOk result (λ step.
         map (seen_statement (unit_names (texts_of names.now) (length next.now.lines) (length output.now.lines))) step.statements.items
         ≡ statements_of (record { names = texts_of names.now; states = states.now; next = next.now; output = output.now })) }
-    ensures returned { IfOk result (λ step.
-        seen_returned (unit_names (texts_of names.now) (length next.now.lines) (length output.now.lines)) step.returned ≡ ReadByName output_name) }
 {
     let places = Places {
         inputs: names.len() as u32,
