@@ -4,7 +4,7 @@ ghost use Rattle.dcv_synth.specs.Laws.{LeastOutputsWin, LeastMovesBeat, Controls
 ghost use Rattle.dcv_synth.specs.Laws.{OneControlIsRight, OneStrategyIsRight};
 ghost use Rattle.dcv_synth.specs.Laws.{ControlsOfLikeAutomata, StrategiesOfLikeAutomata, TablesGoOnAlike};
 ghost use Rattle.dcv_synth.specs.Laws.{StrategiesBeat, WinsOverSameBehaviours, BeatsOverSameBehaviours};
-ghost use Rattle.dcv_synth.specs.Laws.{SameControlsHaveOneUnit, OneUnitIsRight};
+ghost use Rattle.dcv_synth.specs.Laws.{UnitsKeepTheRules, UnitsAnswer, UnitsWin, SameControlsHaveOneUnit, OneUnitIsRight};
 
 use dcv_dfa::laws::{lines_are_of_rows, tables_have_the_states};
 
@@ -69,6 +69,15 @@ pub fn winners_of_same_behaviours()
     ensures wins { WinsOverSameBehaviours }
     ensures beats { BeatsOverSameBehaviours }
 {}
+
+/// The unit of a controller is one of the C subset, and its steps return what the controller answers. So it wins where the controller does.
+pub fn units_answer()
+    ensures rules { UnitsKeepTheRules }
+    ensures answers { UnitsAnswer }
+    ensures wins { UnitsWin }
+{
+    lines_are_of_rows();
+}
 
 /// Controllers that do the same have one unit. So a requirement has one controller's unit.
 pub fn units_are_one()
