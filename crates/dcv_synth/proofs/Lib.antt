@@ -8,10 +8,13 @@ mod Keeping
 mod LeastMoves
 mod LeastOutputs
 mod Listed
+mod Losing
 mod Merges
 mod OneAnswer
+mod OneRound
 mod RankEnds
 mod Ranking
+mod Rounds
 mod RowRanks
 mod Tracks
 mod Unbeaten
