@@ -1,6 +1,7 @@
 -- A controller as diagrams: for each of its states two functions of the inputs, the state that comes next and the outputs as a number.
 --     RowsValue, ControlValue             what contracts see of `Rows`, and of a `Control`
 --     IsRows rows, IsControl control      what is true of every one
+--     AreRowsBelow bound states rows      a row for each state, with numbers below the bound
 --     value_in rows place input           the number that the row at this place has at an input
 --     AreRowsOf n states f rows           a row over n inputs for each state, with the numbers of this function
 --     step_of m control                   from a state, by an input, to the state and to the output whose numbers the state's rows have
@@ -14,6 +15,7 @@ use Rattle.dcv_language.specs.Automaton.{Automaton}
 use Rattle.dcv_arena.specs.Arena.{ArenaValue, IsArena, IsRef, value_of}
 use Rattle.dcv_arena.specs.declared.nodes.Ref.{Ref}
 use Rattle.dcv_arena.specs.declared.nodes.Ref.TheVariants.{Leaf}
+use Rattle.dcv_dfa.specs.Raw.{LeadsBelow}
 use Rattle.dcv_synth.specs.Game.{Controller}
 use Rattle.dcv_synth.specs.Play.{Step, controller_of, answer_of, IsStartOr}
 use Rattle.dcv_synth.specs.Realisable.{IsRealisable}
@@ -31,9 +33,18 @@ pub record IsRows (rows : RowsValue) : Type 0 where
   pub arena : IsArena rows.arena
   pub refs : All (IsRef rows.arena) rows.rows
 
+-- a row for each state, with numbers below the bound
+pub record AreRowsBelow (bound : ℕ) (states : List ℕ) (rows : RowsValue) : Type 0 where
+  pub are : IsRows rows
+  pub count : length rows.rows ≡ length states
+  pub below : All (LeadsBelow rows.arena bound) rows.rows
+
 pub record IsControl (control : ControlValue) : Type 0 where
-  pub next : length control.next.rows ≡ length control.states
-  pub output : length control.output.rows ≡ length control.states
+  pub in_order : AllPairs (λ (one other : ℕ). one < other) control.states
+  pub below : All (λ state. state < 32768) control.states
+  pub next : AreRowsBelow 32768 control.states control.next
+  pub output : AreRowsBelow 256 control.states control.output
+  pub inputs : control.output.arena.slots ≡ control.next.arena.slots
 
 abbrev pub value_in : RowsValue → ℕ → List Bool → ℕ
 value_in rows place input = value_of rows.arena (slice_index_or rows.rows place (Leaf 0)) input

@@ -5,7 +5,8 @@ use Rattle.dcv_language.specs.Automaton.{Automaton, accepts}
 use Rattle.dcv_synth.specs.Game.{Controller, Environment, Wins, Beats}
 use Rattle.dcv_synth.specs.Winning.{is_held, IsSafe, IsWin, is_beaten, IsRank}
 use Rattle.dcv_synth.specs.Realisable.{IsRealisable}
-use Rattle.dcv_synth.specs.Control.{RowsValue, ControlValue, IsControlOf, value_in, controller_by}
+use Rattle.dcv_synth.specs.Control.{RowsValue, ControlValue, IsControl, IsControlOf, value_in, controller_by}
+use Rattle.dcv_synth.specs.Units.{unit_of}
 use Rattle.dcv_synth.specs.Outcome.{IsUnrealisable}
 use Rattle.dcv_synth.specs.declared.strategy.Strategy.{Strategy}
 use Rattle.dcv_synth.specs.Play.{Step, controller_of, AnswersSo, environment_of, MovesSo}
@@ -78,3 +79,15 @@ OneControlIsRight = (n m : ℕ) (automaton : Automaton ℕ) (one other : Control
 abbrev pub OneStrategyIsRight : Type 0
 OneStrategyIsRight = (n m : ℕ) (automaton : Automaton ℕ) (one other : Strategy) → IsUnrealisable n m automaton one → IsUnrealisable n m automaton other
     → (one.bound ≡ other.bound) × (one.moves.items ≡ other.moves.items)
+
+-- ---- units
+
+-- controllers that do the same have one unit
+abbrev pub SameControlsHaveOneUnit : Type 0
+SameControlsHaveOneUnit = (names : List (List ℕ)) (one other : ControlValue) → IsControl one → IsControl other
+    → one.next.arena.slots ≡ other.next.arena.slots → AreTheSameControl one.next.arena.slots one other → unit_of names one ≡ unit_of names other
+
+-- so a requirement has one controller's unit
+abbrev pub OneUnitIsRight : Type 0
+OneUnitIsRight = (names : List (List ℕ)) (n m : ℕ) (automaton : Automaton ℕ) (one other : ControlValue) → IsControl one → IsControl other
+    → IsControlOf n m automaton one → IsControlOf n m automaton other → unit_of names one ≡ unit_of names other

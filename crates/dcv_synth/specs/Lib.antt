@@ -7,6 +7,7 @@ pub mod Moves
 pub mod Realisable
 pub mod Control
 pub mod Outcome
+pub mod Units
 -- the statements that `src/laws.rt` proves
 pub mod Laws
 -- for proofs alone: what the search goes through
@@ -15,3 +16,4 @@ pub mod Ranked
 pub mod Listing
 pub mod Answered
 pub mod Merged
+pub mod Placing

@@ -25,6 +25,7 @@ pub(crate) fn control(
 ) -> Result<Control, AllocError>
     requires inputs { inputs ≤ auto.now.arena.slots }
     requires outputs { auto.now.arena.slots ≤ inputs + 8 }
+    requires few { length auto.now.rows ≤ 32000 }
     requires count { length ranks.now ≡ length auto.now.rows }
     requires win { IsWin inputs (auto.now.arena.slots - inputs) (automaton_of auto.now) (win_by (automaton_of auto.now) ranks.now) }
     requires held { IsTrue (is_held inputs (auto.now.arena.slots - inputs) (automaton_of auto.now) (win_by (automaton_of auto.now) ranks.now) auto.now.start) }

@@ -2,6 +2,9 @@
 ghost use Rattle.dcv_synth.specs.Laws.{WinnersAreNotBeaten, HeldStatesAreNotBeaten, UnbeatenStatesAreWin, UnbeatenStatesAreHeld};
 ghost use Rattle.dcv_synth.specs.Laws.{LeastOutputsWin, LeastMovesBeat, ControlsWin, NotBothAreRight};
 ghost use Rattle.dcv_synth.specs.Laws.{OneControlIsRight, OneStrategyIsRight};
+ghost use Rattle.dcv_synth.specs.Laws.{SameControlsHaveOneUnit, OneUnitIsRight};
+
+use dcv_dfa::laws::lines_are_of_rows;
 
 /// No environment beats a controller that wins.
 pub fn winners_are_not_beaten()
@@ -41,3 +44,11 @@ pub fn answers_are_one()
 pub fn least_moves_beat()
     ensures { LeastMovesBeat }
 {}
+
+/// Controllers that do the same have one unit. So a requirement has one controller's unit.
+pub fn units_are_one()
+    ensures same { SameControlsHaveOneUnit }
+    ensures right { OneUnitIsRight }
+{
+    lines_are_of_rows();
+}

@@ -10,7 +10,10 @@ mod forcing;
 pub mod laws;
 mod merging;
 mod ranks;
+mod statements;
 mod strategy;
+mod unit_names;
+mod units;
 
 pub use control::{Control, Rows};
 pub use deciding::{Outcome, synth};

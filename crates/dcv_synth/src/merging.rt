@@ -6,6 +6,7 @@ ghost use Rattle.dcv_arena.specs.Arena.{IsArena, IsRef, KeepsRefs};
 ghost use Rattle.dcv_arena.specs.declared.nodes.Ref.TheVariants.{Place as AnyPlace, Leaf as AnyLeaf};
 ghost use Rattle.dcv_dfa.specs.Auto.{count_of_nodes};
 ghost use Rattle.dcv_synth.specs.Answered.{AreAnswers, AreAllAnswers};
+ghost use Rattle.dcv_synth.specs.Control.{IsRows};
 ghost use Rattle.dcv_synth.specs.Merged.{part_of, IsMerged, AreMerged, AreAllMerged, merged_at, merged_row};
 
 use crate::answers::{Answer, Answers};
@@ -52,6 +53,7 @@ pub(crate) fn rows_of(
     ensures slots { IfOk result (λ rows. rows.arena.slots ≡ inputs) }
     ensures nodes { IfOk result (λ rows. length rows.arena.nodes ≤ count_of_nodes auto.now) }
     ensures count { IfOk result (λ rows. length rows.rows ≡ length states.now) }
+    ensures are { IfOk result IsRows }
     ensures merged { IfOk result (AreAllMerged part auto.now answers.now.win.now states.now) }
 {
     // for the prover: of an automaton that was asked it is known that letters have 32 slots at most.

@@ -1,0 +1,27 @@
+use Rattle.std.proofs.Common.{ℕ, ◌<◌, ◌++◌, List, length, map, ◌∙◌, arith}
+use Rattle.std.proofs.lemmas.List.{take_all}
+use Rattle.dcv_dfa.specs.declared.node_lines.Child.TheVariants.{State}
+use Rattle.dcv_c.specs.Seen.{seen_statement}
+use Rattle.dcv_synth.specs.Units.{all_state_choices}
+use Rattle.dcv_synth.proofs.UnitMade.{row_pushed}
+use Rattle.dcv_synth.proofs.statements.push_rows.Goals as goal
+
+pub loop-place-preserved : goal.loop-place-preserved
+loop-place-preserved c = λ (all names : List (List ℕ)) (count : ℕ) has next_below output_below.
+    let states = c.args.states.now in
+    let k = c.loop-place.place in
+    let within : k < length states = omega (arith, c.loop-place-test.true) in
+    row_pushed (seen_statement all) states c.args.nexts.now c.args.outputs.now k c.requires.next_count c.requires.output_count within
+    c.args.statements.now.items c.loop-place.statements.items c.push_row.new.statements.items
+    (c.loop-place.invariant all names count has next_below output_below)
+    (c.in_ok-push_row.ensures all names count has (next_below k (State 0) (omega (arith, within, c.requires.next_count)))
+    (output_below k (State 0) (omega (arith, within, c.requires.output_count))))
+
+pub returns : goal.returns
+returns c = λ (all names : List (List ℕ)) (count : ℕ) has next_below output_below.
+    let past = c.loop-place-test.false in
+    let states = take_all c.loop-place.place c.args.states.now (omega (arith, past)) in
+    let nexts = take_all c.loop-place.place c.args.nexts.now (omega (arith, past, c.requires.next_count)) in
+    let outputs = take_all c.loop-place.place c.args.outputs.now (omega (arith, past, c.requires.output_count)) in
+    c.loop-place.invariant all names count has next_below output_below
+    ∙ (λ i. map (seen_statement all) c.args.statements.now.items ++ all_state_choices (states i) (nexts i) (outputs i))
