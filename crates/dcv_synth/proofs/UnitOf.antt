@@ -1,45 +1,87 @@
--- The lines of a controller are good for a unit.
-use Rattle.std.proofs.Common.{◌≡◌, ℕ, ◌≤◌, List, length, ap, subst, ◌∙◌, arith}
+-- The unit of a controller keeps the rules of the subset, and answers as the controller does.
+use Rattle.std.proofs.Common.{◌≡◌, ℕ, ◌≤◌, List, length, refl, sym, subst, ◌∙◌, arith}
 use Rattle.std.specs.List.{All}
 use Rattle.dcv_automaton_text.specs.Rules.{AreNames}
-use Rattle.dcv_arena.specs.Arena.{ArenaValue}
-use Rattle.dcv_arena.specs.declared.nodes.Ref.{Ref}
 use Rattle.dcv_dfa.specs.Raw.{LeadsBelow}
-use Rattle.dcv_dfa.specs.NodeLines.{NodeLinesValue, AreReducedRows, lines_of_rows}
-use Rattle.dcv_synth.specs.Control.{RowsValue, ControlValue, AreRowsBelow, IsControl}
-use Rattle.dcv_synth.specs.Units.{lines_of}
-use Rattle.dcv_synth.proofs.UnitLines.{AreGoodRows, AreGoodUnitLines, good_rows}
+use Rattle.dcv_dfa.specs.NodeLines.{AreReducedRows, numbered, lines_of_rows}
+use Rattle.dcv_dfa.specs.Laws.{LinesHaveTheNumbersOfTheRows}
+use Rattle.dcv_dfa.proofs.Reduced.{has_lines}
+use Rattle.dcv_synth.specs.Control.{RowsValue, ControlValue, AreRowsBelow, IsControl, controller_by}
+use Rattle.dcv_synth.specs.Units.{lines_of, unit_of, controller_in}
+use Rattle.dcv_synth.specs.Laws.{HasUnit, UnitsKeepTheRules, UnitsAnswer, UnitsWin}
+use Rattle.dcv_synth.specs.Placing.{AreFitting}
+use Rattle.dcv_synth.proofs.UnitLines.{AreGoodUnitLines, good_rows}
+use Rattle.dcv_synth.proofs.UnitMade.{lines_fit}
+use Rattle.dcv_synth.proofs.UnitForms.{unit_is_spellable}
+use Rattle.dcv_synth.proofs.UnitRules.{unit_is_well_named}
+use Rattle.dcv_synth.proofs.UnitSteps.{unit_answers}
+use Rattle.dcv_synth.proofs.SameJoins.{wins_so}
 
--- the lines of some rows, as the call that gives them says
-pub record AreLinesOf (slots : ℕ) (states : List ℕ) (rows : RowsValue) (all : NodeLinesValue) : Type 0 where
-  pub are : all ≡ lines_of_rows rows.arena rows.rows
-  pub few : length all.lines ≤ 1000000
-  pub reduced : AreReducedRows slots 32768 (length states) all
+-- ---- the lines of rows
 
-pub are_lines_of : (arena : ArenaValue) (refs : List Ref) (bound slots : ℕ) (states : List ℕ) (rows : RowsValue) (all : NodeLinesValue)
-    → arena ≡ rows.arena → refs ≡ rows.rows → rows.arena.slots ≡ slots → bound ≤ 32768 → length rows.arena.nodes ≤ 1000000 → AreRowsBelow bound states rows
-    → all ≡ lines_of_rows arena refs → length all.lines ≤ length arena.nodes
-    → ((bound : ℕ) → All (LeadsBelow arena bound) refs → AreReducedRows arena.slots bound (length refs) all) → AreLinesOf slots states rows all
-are_lines_of arena refs bound slots states rows all arena_is refs_are width least few below exact count reduced =
-    let again : (bound : ℕ) → All (LeadsBelow rows.arena bound) rows.rows → AreReducedRows rows.arena.slots bound (length rows.rows) all =
-    subst (λ (parts : ArenaValue × List Ref). (bound : ℕ) → All (LeadsBelow parts.0 bound) parts.1 → AreReducedRows parts.0.slots bound (length parts.1) all)
-    (λ i. (arena_is i, refs_are i)) reduced in
-    let small : All (LeadsBelow rows.arena 32768) rows.rows = λ k d within letter wide. omega (arith, below.below k d within letter wide, least) in
-    let nodes : length arena.nodes ≡ length rows.arena.nodes = ap (λ (a : ArenaValue). length a.nodes) arena_is in
+module _ (bound : ℕ) (states : List ℕ) (rows : RowsValue) (least : bound ≤ 32768) (are : AreRowsBelow bound states rows) where
+  rows_reduced : AreReducedRows rows.arena.slots 32768 (length states) (lines_of_rows rows.arena rows.rows)
+  rows_reduced =
+      let small : All (LeadsBelow rows.arena 32768) rows.rows = λ k d within letter wide. omega (arith, are.below k d within letter wide, least) in
+      subst (λ size. AreReducedRows rows.arena.slots 32768 size (lines_of_rows rows.arena rows.rows)) are.count
+      ((has_lines rows.arena rows.rows are.are.arena are.are.refs (numbered rows.arena rows.rows) refl).reduced 32768 small)
+
+  -- there are no more of them than nodes
+  few_lines : length (lines_of_rows rows.arena rows.rows).lines ≤ length rows.arena.nodes
+  few_lines = (has_lines rows.arena rows.rows are.are.arena are.are.refs (numbered rows.arena rows.rows) refl).fits
+
+-- the names of the inputs, and few nodes, are enough for a unit
+pub has_unit : (names : List (List ℕ)) (control : ControlValue) → IsControl control → AreNames names → length names ≡ control.next.arena.slots
+    → length control.next.arena.nodes ≤ 1000000 → length control.output.arena.nodes ≤ 1000000 → HasUnit names control
+has_unit names control is are inputs next output =
     record {
-      are = exact ∙ (λ i. lines_of_rows (arena_is i) (refs_are i));
-      few = omega (arith, count, nodes, few);
-      reduced = subst (λ (sizes : ℕ × ℕ). AreReducedRows sizes.0 32768 sizes.1 all) (λ i. (width i, below.count i)) (again 32768 small);
+      is_control = is;
+      are_names = are;
+      inputs = inputs;
+      next_lines = omega (arith, few_lines 32768 control.states control.next (omega arith) is.next, next);
+      output_lines = omega (arith, few_lines 256 control.states control.output (omega arith) is.output, output);
     }
 
-pub good_unit_lines : (names : List (List ℕ)) (control : ControlValue) (next output : NodeLinesValue) → IsControl control → AreNames names
-    → AreLinesOf (length names) control.states control.next next → AreLinesOf (length names) control.states control.output output
-    → AreGoodUnitLines (lines_of names control)
-good_unit_lines names control next output is are first second =
-    record {
-      names = are;
-      states = is.below;
-      in_order = is.in_order;
-      next = subst (AreGoodRows (length names) (length control.states)) first.are (good_rows (length names) (length control.states) next first.few first.reduced);
-      output = subst (AreGoodRows (length names) (length control.states)) second.are (good_rows (length names) (length control.states) output second.few second.reduced);
-    }
+-- ---- those of a controller
+
+module _ (names : List (List ℕ)) (control : ControlValue) (has : HasUnit names control) where
+  abbrev is : IsControl control
+  is = has.is_control
+
+  next_reduced : AreReducedRows (length names) 32768 (length control.states) (lines_of names control).next
+  next_reduced =
+      subst (λ slots. AreReducedRows slots 32768 (length control.states) (lines_of names control).next) (sym has.inputs)
+      (rows_reduced 32768 control.states control.next (omega arith) is.next)
+
+  output_reduced : AreReducedRows (length names) 32768 (length control.states) (lines_of names control).output
+  output_reduced =
+      subst (λ slots. AreReducedRows slots 32768 (length control.states) (lines_of names control).output) (is.inputs ∙ sym has.inputs)
+      (rows_reduced 256 control.states control.output (omega arith) is.output)
+
+  pub next_fits : AreFitting (length names) (lines_of names control).next
+  next_fits = lines_fit (length names) (length control.states) (lines_of names control).next has.next_lines next_reduced
+
+  pub output_fits : AreFitting (length names) (lines_of names control).output
+  output_fits = lines_fit (length names) (length control.states) (lines_of names control).output has.output_lines output_reduced
+
+  good : AreGoodUnitLines (lines_of names control)
+  good =
+      record {
+        names = has.are_names;
+        states = is.below;
+        in_order = is.in_order;
+        next = good_rows (length names) (length control.states) (lines_of names control).next has.next_lines next_reduced;
+        output = good_rows (length names) (length control.states) (lines_of names control).output has.output_lines output_reduced;
+      }
+
+-- ---- the laws
+
+pub units_keep_the_rules : UnitsKeepTheRules
+units_keep_the_rules names control has = (unit_is_well_named (lines_of names control) (good names control has), unit_is_spellable (lines_of names control) (good names control has))
+
+pub units_answer : LinesHaveTheNumbersOfTheRows → UnitsAnswer
+units_answer law names control has = unit_answers law names control has.is_control (good names control has)
+
+pub units_win : LinesHaveTheNumbersOfTheRows → UnitsWin
+units_win law names control has m L wins =
+    wins_so control.next.arena.slots m (controller_in m (unit_of names control)) (controller_by m control) (units_answer law names control has m) L wins

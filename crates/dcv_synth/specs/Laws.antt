@@ -1,12 +1,16 @@
 -- The laws that `src/laws.rt` proves.
-use Rattle.std.specs.Prelude.{◌≡◌, ℕ, suc, ◌<◌, Bool, not, ◌&&◌, List, length, IsTrue, IsFalse}
+use Rattle.std.specs.Prelude.{◌≡◌, ℕ, suc, ◌<◌, ◌≤◌, Bool, not, ◌&&◌, List, length, IsTrue, IsFalse}
 use Rattle.dcv_language.specs.Language.{Language}
 use Rattle.dcv_language.specs.Automaton.{Automaton, accepts}
 use Rattle.dcv_synth.specs.Game.{Controller, Environment, Wins, Beats}
 use Rattle.dcv_synth.specs.Winning.{is_held, IsSafe, IsWin, is_beaten, IsRank}
 use Rattle.dcv_synth.specs.Realisable.{IsRealisable}
 use Rattle.dcv_synth.specs.Control.{RowsValue, ControlValue, IsControl, IsControlOf, value_in, controller_by}
-use Rattle.dcv_synth.specs.Units.{unit_of}
+use Rattle.dcv_synth.specs.Units.{lines_of, unit_of, controller_in}
+use Rattle.dcv_word.specs.Behaviour.{Word, IsBehaviour}
+use Rattle.dcv_automaton_text.specs.Rules.{AreNames, most_nodes}
+use Rattle.dcv_c.specs.Rules.{IsWellNamed}
+use Rattle.dcv_c.specs.Form.{IsSpellable}
 use Rattle.dcv_synth.specs.Outcome.{IsUnrealisable}
 use Rattle.dcv_synth.specs.declared.strategy.Strategy.{Strategy}
 use Rattle.dcv_synth.specs.Play.{Step, controller_of, AnswersSo, environment_of, MovesSo}
@@ -81,6 +85,28 @@ OneStrategyIsRight = (n m : ℕ) (automaton : Automaton ℕ) (one other : Strate
     → (one.bound ≡ other.bound) × (one.moves.items ≡ other.moves.items)
 
 -- ---- units
+
+-- what a unit asks of the names of its inputs, and of the lines of its rows
+pub record HasUnit (names : List (List ℕ)) (control : ControlValue) : Type 0 where
+  pub is_control : IsControl control
+  pub are_names : AreNames names
+  pub inputs : length names ≡ control.next.arena.slots
+  pub next_lines : length (lines_of names control).next.lines ≤ most_nodes
+  pub output_lines : length (lines_of names control).output.lines ≤ most_nodes
+
+-- it is a unit of the subset
+abbrev pub UnitsKeepTheRules : Type 0
+UnitsKeepTheRules = (names : List (List ℕ)) (control : ControlValue) → HasUnit names control → IsWellNamed (unit_of names control) × IsSpellable (unit_of names control)
+
+-- asked with the inputs, its steps return the controller's outputs
+abbrev pub UnitsAnswer : Type 0
+UnitsAnswer = (names : List (List ℕ)) (control : ControlValue) → HasUnit names control → (m : ℕ) (inputs : Word) → IsBehaviour control.next.arena.slots inputs
+    → controller_in m (unit_of names control) inputs ≡ controller_by m control inputs
+
+-- so it wins where the controller does
+abbrev pub UnitsWin : Type 0
+UnitsWin = (names : List (List ℕ)) (control : ControlValue) → HasUnit names control → (m : ℕ) (L : Language)
+    → Wins control.next.arena.slots m L (controller_by m control) → Wins control.next.arena.slots m L (controller_in m (unit_of names control))
 
 -- controllers that do the same have one unit
 abbrev pub SameControlsHaveOneUnit : Type 0

@@ -5,7 +5,7 @@
 --     lines_of names control     those of a controller
 --     unit_of names control      its unit
 --     choices name names lines   the statements of nodes, whose names are these by their numbers
---     state_choices state        both statements of a state
+--     state_choices row          both statements of a state, by its number and its rows
 --     controller_in m unit       the controller that gives what a unit's steps return, as a letter over m outputs
 use Rattle.std.specs.Prelude.{ℕ, List, [], ◌∷◌, ◌++◌, length, map, codes, slice_index_or}
 use Rattle.std.specs.Fmt.{decimal}
@@ -80,11 +80,16 @@ choice name names numbered =
 abbrev pub choices : (ℕ → List ℕ) → List (List ℕ) → List NodeLine → List Statement
 choices name names lines = map (choice name names) (enumerate_from 0 lines)
 
--- `if (st == I) nx = R`, `if (st == I) y = R`
+-- `if (st == I) nx = R`
+abbrev pub next_choice : ℕ → Child → Statement
+next_choice state child = When (Equals state_name state) next_name (target node_name child)
+
+-- `if (st == I) y = R`
+abbrev pub output_choice : ℕ → Child → Statement
+output_choice state child = When (Equals state_name state) output_name (target output_node_name child)
+
 abbrev pub state_choices : ℕ × (Child × Child) → List Statement
-state_choices row =
-    When (Equals state_name row.0) next_name (target node_name row.1.0)
-    ∷ When (Equals state_name row.0) output_name (target output_node_name row.1.1) ∷ []
+state_choices row = next_choice row.0 row.1.0 ∷ output_choice row.0 row.1.1 ∷ []
 
 abbrev pub all_state_choices : List ℕ → List Child → List Child → List Statement
 all_state_choices states nexts outputs = flat_map state_choices (zip states (zip nexts outputs))

@@ -2,7 +2,7 @@
 ghost use Rattle.dcv_synth.specs.Laws.{WinnersAreNotBeaten, HeldStatesAreNotBeaten, UnbeatenStatesAreWin, UnbeatenStatesAreHeld};
 ghost use Rattle.dcv_synth.specs.Laws.{LeastOutputsWin, LeastMovesBeat, ControlsWin, NotBothAreRight};
 ghost use Rattle.dcv_synth.specs.Laws.{OneControlIsRight, OneStrategyIsRight};
-ghost use Rattle.dcv_synth.specs.Laws.{SameControlsHaveOneUnit, OneUnitIsRight};
+ghost use Rattle.dcv_synth.specs.Laws.{UnitsKeepTheRules, UnitsAnswer, UnitsWin, SameControlsHaveOneUnit, OneUnitIsRight};
 
 use dcv_dfa::laws::lines_are_of_rows;
 
@@ -44,6 +44,15 @@ pub fn answers_are_one()
 pub fn least_moves_beat()
     ensures { LeastMovesBeat }
 {}
+
+/// The unit of a controller is one of the C subset, and its steps return what the controller answers. So it wins where the controller does.
+pub fn units_answer()
+    ensures rules { UnitsKeepTheRules }
+    ensures answers { UnitsAnswer }
+    ensures wins { UnitsWin }
+{
+    lines_are_of_rows();
+}
 
 /// Controllers that do the same have one unit. So a requirement has one controller's unit.
 pub fn units_are_one()

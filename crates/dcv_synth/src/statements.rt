@@ -1,13 +1,12 @@
 // The statements of a controller's unit. A name stands in them by its place: the static first, then the inputs, then the locals.
-ghost use Rattle.std.specs.Prelude.{◌≡◌, ◌+◌, ◌<◌, ◌≤◌, ◌++◌, ℕ, List, length, map, IfOk, OnOk};
+ghost use Rattle.std.specs.Prelude.{◌≡◌, ◌+◌, ◌<◌, ◌≤◌, ◌++◌, ℕ, List, length, map, slice_index_or, IfOk, OnOk};
 ghost use Rattle.std.specs.List.{All};
+ghost use Rattle.dcv_dfa.specs.declared.node_lines.Child.TheVariants.{State as AnyState};
 ghost use Rattle.dcv_dfa.specs.NodeLines.{IsBelow};
-ghost use Rattle.dcv_c.specs.Tree.{Equals as EqualsByName, When as WhenByName};
 ghost use Rattle.dcv_c.specs.Seen.{name_at, seen_item, seen_statement};
 ghost use Rattle.dcv_c.specs.Building.{Fits};
-ghost use Rattle.dcv_c.specs.Observer.{state_name};
 ghost use Rattle.dcv_synth.specs.Units.{input_name, target, choice, choices, cleared as cleared_name, state_choices, all_state_choices};
-ghost use Rattle.dcv_synth.specs.Units.{last_statement, statements_of};
+ghost use Rattle.dcv_synth.specs.Units.{next_choice as next_choice_of, output_choice as output_choice_of, last_statement, statements_of};
 ghost use Rattle.dcv_synth.specs.Placing.{StandAt, HasNames, AreFew, AreFitting};
 
 use dcv_c::{Condition, Item, Right, Statement};
@@ -147,6 +146,14 @@ fn child_item(first: u32, child: Child) -> Item
     }
 }
 
+// A state with its rows.
+#[derive(Clone, Copy)]
+struct StateRow {
+    state: u32,
+    next: Child,
+    output: Child,
+}
+
 // The statements of the states, behind the others.
 fn push_rows(
     statements: &mut Vec<Statement>,
@@ -166,41 +173,68 @@ fn push_rows(
         → map (seen_statement all) statements.new.items
         ≡ map (seen_statement all) statements.old.items ++ all_state_choices states.now nexts.now outputs.now) }
 {
-    for (place, state) in states.iter().enumerate() {
-        push_row(statements, places, *state, nexts[place], outputs[place])?;
+    for place in 0..states.len() {
+        push_row(statements, places, row_at(states, nexts, outputs, place))?;
     }
     Ok(())
 }
 
-// `if (st == I) nx = R` and `if (st == I) y = R`, behind the others.
+// The state at a place, with its rows.
+fn row_at(states: &[u32], nexts: &[Child], outputs: &[Child], place: usize) -> StateRow
+    requires state { place < length states.now }
+    requires next { place < length nexts.now }
+    requires output { place < length outputs.now }
+    ensures state { result.state ≡ slice_index_or states.now place 0 }
+    ensures next { result.next ≡ slice_index_or nexts.now place (AnyState 0) }
+    ensures output { result.output ≡ slice_index_or outputs.now place (AnyState 0) }
+{
+    StateRow {
+        state: states[place],
+        next: nexts[place],
+        output: outputs[place],
+    }
+}
+
+// Both statements of a state, behind the others.
 fn push_row(
     statements: &mut Vec<Statement>,
     places: Places,
-    state: u32,
-    next: Child,
-    output: Child,
+    row: StateRow,
 ) -> Result<(), AllocError>
     requires few { AreFew places }
-    requires state { state < 32768 }
-    requires next { IsBelow 32768 1000000 next }
-    requires output { IsBelow 32768 1000000 output }
+    requires state { row.state < 32768 }
+    requires next { IsBelow 32768 1000000 row.next }
+    requires output { IsBelow 32768 1000000 row.output }
     ensures { OnOk result ((all names : List (List ℕ)) (count : ℕ) → HasNames names count places all
-        → IsBelow 32768 places.nexts next → IsBelow 32768 count output
+        → IsBelow 32768 places.nexts row.next → IsBelow 32768 count row.output
         → map (seen_statement all) statements.new.items
-        ≡ map (seen_statement all) statements.old.items ++ state_choices (state, (next, output))) }
+        ≡ map (seen_statement all) statements.old.items ++ state_choices (row.state, (row.next, row.output))) }
 {
-    let next = child_item(places.next_nodes(), next);
-    let output = child_item(places.output_nodes(), output);
-    statements.push(state_choice(state, places.next(), next))?;
-    statements.push(state_choice(state, places.output(), output))?;
+    statements.push(next_choice(places, row.state, row.next))?;
+    statements.push(output_choice(places, row.state, row.output))?;
     Ok(())
 }
 
-// `if (st == I) left = item`.
-fn state_choice(state: u32, left: u32, item: Item) -> Statement
-    requires { state < 32768 }
-    ensures { (all : List (List ℕ)) → name_at all 0 ≡ state_name
-        → seen_statement all result ≡ WhenByName (EqualsByName state_name state) (name_at all left) (seen_item all item) }
+// `if (st == I) nx = R`.
+fn next_choice(places: Places, state: u32, next: Child) -> Statement
+    requires few { AreFew places }
+    requires state { state < 32768 }
+    requires next { IsBelow 32768 1000000 next }
+    ensures { (all names : List (List ℕ)) (count : ℕ) → HasNames names count places all → IsBelow 32768 places.nexts next
+        → seen_statement all result ≡ next_choice_of state next }
 {
-    Statement::When(Condition::Equals(0, state as u16), left, item)
+    let item = child_item(places.next_nodes(), next);
+    Statement::When(Condition::Equals(0, state as u16), places.next(), item)
+}
+
+// `if (st == I) y = R`.
+fn output_choice(places: Places, state: u32, output: Child) -> Statement
+    requires few { AreFew places }
+    requires state { state < 32768 }
+    requires output { IsBelow 32768 1000000 output }
+    ensures { (all names : List (List ℕ)) (count : ℕ) → HasNames names count places all → IsBelow 32768 count output
+        → seen_statement all result ≡ output_choice_of state output }
+{
+    let item = child_item(places.output_nodes(), output);
+    Statement::When(Condition::Equals(0, state as u16), places.output(), item)
 }

@@ -14,11 +14,11 @@ ghost use Rattle.dcv_synth.specs.Units.{reset_name, step_name, output_name, loca
 ghost use Rattle.dcv_synth.specs.Placing.{unit_names, AreFitting};
 
 use crate::control::Control;
+use crate::laws::units_answer;
 use crate::statements::{Places, statements};
 use crate::unit_names::{locals, parameters};
 use dcv_c::{Assignment, CUnit, Reset, Returned, Step};
 use dcv_dfa::NodeLines;
-use dcv_dfa::laws::lines_are_of_rows;
 use dcv_syntax::{Name, Text};
 use std::alloc::{AllocError, Global};
 
@@ -40,7 +40,7 @@ impl Control {
         ensures wins { IfOk result (λ unit. (m : ℕ) (L : Language) → Wins self.now.next.arena.slots m L (controller_by m self.now)
             → Wins self.now.next.arena.slots m L (controller_in m unit)) }
     {
-        lines_are_of_rows();
+        units_answer();
         let next = NodeLines::of(alloc, self.next().arena(), self.next().rows())?;
         let output = NodeLines::of(alloc, self.output().arena(), self.output().rows())?;
         let step = step_of(alloc, names, self.states(), &next, &output)?;
@@ -79,11 +79,11 @@ fn step_of(
     ensures name { IfOk result (λ step. step.name ≡ step_name) }
     ensures parameters { IfOk result (λ step. step.parameters.items ≡ map parameter_name (texts_of names.now)) }
     ensures locals { IfOk result (λ step. step.locals.items ≡ local_names (length next.now.lines) (length output.now.lines)) }
+    ensures returned { IfOk result (λ step.
+        seen_returned (unit_names (texts_of names.now) (length next.now.lines) (length output.now.lines)) step.returned ≡ ReadByName output_name) }
     ensures statements { IfOk result (λ step.
         map (seen_statement (unit_names (texts_of names.now) (length next.now.lines) (length output.now.lines))) step.statements.items
         ≡ statements_of (record { names = texts_of names.now; states = states.now; next = next.now; output = output.now })) }
-    ensures returned { IfOk result (λ step.
-        seen_returned (unit_names (texts_of names.now) (length next.now.lines) (length output.now.lines)) step.returned ≡ ReadByName output_name) }
 {
     let places = Places {
         inputs: names.len() as u32,

@@ -5,3 +5,5 @@
 mod games;
 #[cfg(test)]
 mod goals;
+#[cfg(test)]
+mod units;
