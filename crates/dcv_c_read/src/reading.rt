@@ -12,11 +12,9 @@ ghost use Rattle.dcv_c_read.specs.Seen.{seen_unit};
 use crate::names::named;
 use crate::parts::Part;
 use crate::placed::PlacedUnit;
-use crate::tables;
 use crate::translation::UnitTranslation;
 use dcv_c::laws::texts_are_units_or_at_fault;
 use dcv_c::{CUnit, ObsFault};
-use dcv_observer::syntax_fault;
 use dcv_translation::translate;
 use std::alloc::Global;
 
@@ -41,9 +39,6 @@ pub(crate) fn placed_unit<'a>(alloc: Global, text: &'a [u8]) -> Result<PlacedUni
     ensures spelled { IfOk result (λ placed. Spells text.now (seen_unit placed)) }
     ensures fault { IfErr result (λ fault. fault ≢ Memory → (at : ℕ) × (fault ≡ Syntax at) × IsSyntaxFault lexicon language text.now at) }
 {
-    if let Some(at) = syntax_fault(alloc, tables::lexicon(), tables::grammar(), text)? {
-        return Err(ObsFault::Syntax { at });
-    }
     match translate(alloc, &UnitTranslation { alloc }, text)? {
         Part::Unit(placed) => Ok(Box::into_inner(placed)),
         _ => unreachable!(),

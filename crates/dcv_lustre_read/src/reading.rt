@@ -12,11 +12,9 @@ ghost use Rattle.dcv_lustre_read.specs.Seen.{seen_node};
 use crate::names::named;
 use crate::parts::Part;
 use crate::placed::PlacedNode;
-use crate::tables;
 use crate::translation::NodeTranslation;
 use dcv_lustre::laws::texts_are_nodes_or_at_fault;
 use dcv_lustre::{Node, ObsFault};
-use dcv_observer::syntax_fault;
 use dcv_translation::translate;
 use std::alloc::Global;
 
@@ -41,9 +39,6 @@ pub(crate) fn placed_node<'a>(alloc: Global, text: &'a [u8]) -> Result<PlacedNod
     ensures spelled { IfOk result (λ placed. Spells text.now (seen_node placed)) }
     ensures fault { IfErr result (λ fault. fault ≢ Memory → (at : ℕ) × (fault ≡ Syntax at) × IsSyntaxFault lexicon language text.now at) }
 {
-    if let Some(at) = syntax_fault(alloc, tables::lexicon(), tables::grammar(), text)? {
-        return Err(ObsFault::Syntax { at });
-    }
     match translate(alloc, &NodeTranslation { alloc }, text)? {
         Part::Node(placed) => Ok(Box::into_inner(placed)),
         _ => unreachable!(),

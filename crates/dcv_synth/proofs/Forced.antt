@@ -10,7 +10,7 @@ use Rattle.dcv_dfa.specs.NodeLines.{lo_of, hi_of}
 use Rattle.dcv_dfa.proofs.Splits.{IsSplit, split_is}
 use Rattle.dcv_dfa.proofs.Visits.{has_children}
 use Rattle.dcv_synth.specs.Tracks.{each_track}
-use Rattle.dcv_synth.specs.Forced.{picked, is_forced, lost_at, forced_at, IsForced, AreForced}
+use Rattle.dcv_synth.specs.Forced.{picked, is_forced, lost_at, forced_at, IsForced, AreForcedBefore}
 
 picked_same : (n slot : ℕ) (b : Bool) → picked n slot b b ≡ b
 picked_same n slot b = by (ltb slot n) b
@@ -112,26 +112,26 @@ children_before arena place slot count lo hi reduced within same split =
 
 -- ---- lists
 
-pub forced_ref : (n : ℕ) (arena : ArenaValue) (lost forced : List Bool) (root : Ref) → AreForced n arena lost forced → IsBefore (length forced) root
+pub forced_ref : (n : ℕ) (arena : ArenaValue) (lost forced : List Bool) (count : ℕ) (root : Ref) → AreForcedBefore count n arena lost forced → IsBefore count root
     → IsForced n arena lost root (forced_at lost forced root)
-forced_ref n arena lost forced (Leaf state) are before = forced_leaf n arena lost state
-forced_ref n arena lost forced (Place place) are before = are place before
+forced_ref n arena lost forced count (Leaf state) are before = forced_leaf n arena lost state
+forced_ref n arena lost forced count (Place place) are before = are place before
 
-pub forced_none : (n : ℕ) (arena : ArenaValue) (lost forced : List Bool) → forced ≡ [] → AreForced n arena lost forced
-forced_none n arena lost forced none place within = absurd (omega (arith, within, ap length none))
+pub forced_none : (n : ℕ) (arena : ArenaValue) (lost forced : List Bool) → AreForcedBefore 0 n arena lost forced
+forced_none n arena lost forced place within = absurd (omega (arith, within))
 
-pub forced_more : (n : ℕ) (arena : ArenaValue) (lost forced : List Bool) (place : ℕ) (is : Bool) → AreForced n arena lost forced → length forced ≡ place
-    → IsForced n arena lost (Place place) is → AreForced n arena lost (forced ++ is ∷ [])
-forced_more n arena lost forced place is are count here other within = by (ltb other (length forced)) refl
+pub forced_more : (n : ℕ) (arena : ArenaValue) (lost forced : List Bool) (place : ℕ) (is : Bool) → AreForcedBefore place n arena lost forced → length forced ≡ place
+    → IsForced n arena lost (Place place) is → AreForcedBefore (suc place) n arena lost (forced ++ is ∷ [])
+forced_more n arena lost forced place is are count here other within = by (ltb other place) refl
   where
-    by : (b : Bool) → ltb other (length forced) ≡ b → IsForced n arena lost (Place other) (get_or (forced ++ is ∷ []) other false)
+    by : (b : Bool) → ltb other place ≡ b → IsForced n arena lost (Place other) (get_or (forced ++ is ∷ []) other false)
     by true e =
-        let earlier = ltb-true other (length forced) e in
-        subst (IsForced n arena lost (Place other)) (sym (get_or_append_left forced (is ∷ []) false other earlier)) (are other earlier)
+        let earlier = ltb-true other place e in
+        subst (IsForced n arena lost (Place other)) (sym (get_or_append_left forced (is ∷ []) false other (omega (arith, earlier, count)))) (are other earlier)
     by false e =
-        let same : length forced ≡ other = omega (arith, within, length-push forced is, ltb-false other (length forced) e) in
-        subst (λ truth. IsForced n arena lost (Place other) truth) (sym (get_or_push forced is false other same))
-        (subst (λ at. IsForced n arena lost (Place at) is) (sym count ∙ same) here)
+        let same : place ≡ other = omega (arith, within, ltb-false other place e) in
+        subst (λ truth. IsForced n arena lost (Place other) truth) (sym (get_or_push forced is false other (count ∙ same)))
+        (subst (λ at. IsForced n arena lost (Place at) is) same here)
 
 -- ---- rows
 

@@ -9,12 +9,15 @@ mod Keeping
 mod LeastMoves
 mod LeastOutputs
 mod Listed
+mod Losing
 mod Merges
 mod NodeNames
 mod OneAnswer
+mod OneRound
 mod OneUnit
 mod RankEnds
 mod Ranking
+mod Rounds
 mod RowRanks
 mod SameJoins
 mod SameSets

@@ -1,12 +1,16 @@
 // The ranks of an automaton's states, round by round: in each round one letter more may be played (the attractor of the states that reject,
-// as W. Thomas has it, 1995).
-ghost use Rattle.std.specs.Prelude.{◌≡◌, ◌-◌, ◌+◌, ◌<◌, ◌≤◌, ℕ, suc, None, length, IfOk, IsTrue};
-ghost use Rattle.dcv_dfa.specs.Raw.{automaton_of};
-ghost use Rattle.dcv_synth.specs.Winning.{IsWin, is_held, is_lost, is_beaten};
+// as W. Thomas has it, 1995). A round looks only at the rows that lead to states that the round before has beaten.
+ghost use Rattle.std.specs.Prelude.{◌≡◌, ◌≢◌, ◌↔◌, ◌-◌, ◌<◌, ◌≤◌, ℕ, suc, None, length, IfOk, OnOk, IsTrue, Contains};
+ghost use Rattle.std.specs.List.{All, range_with_len};
+ghost use Rattle.dcv_dfa.specs.Raw.{automaton_of, IsRaw};
+ghost use Rattle.dcv_index.specs.Leads.{index_of};
+ghost use Rattle.dcv_synth.specs.Winning.{IsWin, is_held, is_beaten};
 ghost use Rattle.dcv_synth.specs.Ranked.{rank_at, AreRanked, win_by, IsRankedWithin, AreRankedWithin, lost_within, IsStanding, HasForced};
+ghost use Rattle.dcv_synth.specs.Ranked.{IsJustNew, AreNew, IsDecided, AreUnranked};
 
 use crate::forcing::Forcing;
 use dcv_dfa::Auto;
+use dcv_index::{Above, Index};
 use dcv_word::Letter;
 use std::alloc::{AllocError, Global};
 
@@ -30,24 +34,25 @@ pub(crate) fn ranks(
     ensures held { IfOk result (λ ranks. (state : ℕ) → state < length auto.now.rows → rank_at ranks.items state ≡ None
         → IsTrue (is_held inputs (auto.now.arena.slots - inputs) (automaton_of auto.now) (win_by (automaton_of auto.now) ranks.items) state)) }
 {
+    let index = Index::new(alloc, auto.arena(), auto.raw().rows())?;
+    let mut found = Above::new(alloc);
     let mut standing = Standing::at_first(alloc, auto, inputs)?;
-    'rounds: loop {
-        let next = standing.advance(alloc, auto, inputs)?;
-        if next.lost == standing.lost {
-            return Ok(next.ranks);
-        }
-        standing = next;
+    'rounds: while !standing.beaten.is_empty() {
+        standing.advance(alloc, auto, &index, &mut found)?;
     }
+    Ok(standing.ranks)
 }
 
-// What is known within so many letters.
+// What is known within one letter more than the bound.
 #[derive(Drop)]
-struct Standing {
+struct Standing<'a> {
     bound: u32,
-    // For each state whether it rejects, or is beaten within the bound.
-    lost: Vec<bool>,
-    // For each state its rank, where that is within the bound.
+    // What is forced while those states are lost that reject, or are beaten within the bound.
+    forcing: Forcing<'a>,
+    // For each state its rank, where that is no more than one above the bound.
     ranks: Vec<Option<Ranked>>,
+    // The states that accept and have the rank above the bound.
+    beaten: Vec<u32>,
 }
 
 // The entry of a state.
@@ -57,112 +62,137 @@ pub(crate) fn rank_of(ranks: &[Option<Ranked>], state: u32) -> Option<Ranked>
     ranks.get(state as usize).copied().unwrap_or(None)
 }
 
-impl Standing {
-    // No state is beaten within no letter.
-    fn at_first(alloc: Global, auto: &Auto, inputs: u8) -> Result<Standing, AllocError>
+impl<'a> Standing<'a> {
+    // Within one letter those states are beaten whose inputs force a state that rejects.
+    fn at_first(alloc: Global, auto: &'a Auto, inputs: u8) -> Result<Standing<'a>, AllocError>
         requires { inputs ≤ auto.now.arena.slots }
         ensures bound { IfOk result (λ first. first.bound ≡ 0) }
-        ensures standing { IfOk result (λ first. IsStanding inputs auto.now 0 first.lost.items first.ranks.items) }
+        ensures inputs { IfOk result (λ first. first.forcing.inputs ≡ inputs) }
+        ensures standing { IfOk result (λ first. IsStanding auto.now 0 first.forcing first.ranks.items first.beaten.items) }
     {
-        let mut lost = Vec::new(alloc);
-        let mut ranks = Vec::new(alloc);
-        for state in 0..auto.states() {
-            lost.push(!auto.accepting(state))?;
-            ranks.push(None)?;
-        }
+        let lost = rejecting(alloc, auto)?;
+        let forcing = Forcing::new(alloc, auto.arena(), inputs, lost)?;
+        let mut ranks = vec![in alloc; None; auto.states() as usize]?;
+        let all = all_states(alloc, auto)?;
+        let beaten = rank_each(alloc, auto, &forcing, 0, &all, &mut ranks)?;
         Ok(Standing {
             bound: 0,
-            lost,
+            forcing,
             ranks,
-        })
-    }
-
-    // The same within one letter more.
-    fn advance(&self, alloc: Global, auto: &Auto, inputs: u8) -> Result<Standing, AllocError>
-        requires bound { self.now.bound ≤ 32000 }
-        requires standing { IsStanding inputs auto.now self.now.bound self.now.lost.items self.now.ranks.items }
-        ensures bound { IfOk result (λ next. next.bound ≡ self.now.bound + 1) }
-        ensures standing { IfOk result (λ next. IsStanding inputs auto.now (suc self.now.bound) next.lost.items next.ranks.items) }
-    {
-        let forcing = Forcing::new(alloc, auto.arena(), inputs, &self.lost)?;
-        let lost = lost_after(alloc, auto, &forcing)?;
-        let ranks = ranks_after(alloc, auto, &forcing, self.bound, &self.ranks)?;
-        Ok(Standing {
-            bound: self.bound + 1,
-            lost,
-            ranks,
+            beaten,
         })
     }
 }
 
-// For each state whether it rejects, or is beaten by inputs that force one of the lost states.
-fn lost_after(alloc: Global, auto: &Auto, forcing: &Forcing) -> Result<Vec<bool>, AllocError>
-    ensures { IfOk result (λ lost. (bound : ℕ) → HasForced auto.now bound forcing.now
-        → lost.items ≡ lost_within forcing.now.inputs (auto.now.arena.slots - forcing.now.inputs) (automaton_of auto.now) (length auto.now.rows) (suc bound)) }
+impl Standing<'_> {
+    // The same within one letter more.
+    fn advance(
+        &mut self,
+        alloc: Global,
+        auto: &Auto,
+        index: &Index<'_>,
+        found: &mut Above,
+    ) -> Result<(), AllocError>
+        requires bound { self.old.bound ≤ 32000 }
+        requires index { index.now ≡ index_of auto.now.arena auto.now.rows }
+        requires standing { IsStanding auto.now self.old.bound self.old.forcing self.old.ranks.items self.old.beaten.items }
+        ensures bound { OnOk result (self.new.bound ≡ suc self.old.bound) }
+        ensures inputs { OnOk result (self.new.forcing.inputs ≡ self.old.forcing.inputs) }
+        ensures standing { OnOk result (IsStanding auto.now (suc self.old.bound) self.new.forcing self.new.ranks.items self.new.beaten.items) }
+    {
+        index.above(&self.beaten, found)?;
+        self.forcing
+            .lose(alloc, &self.beaten, found.marked.as_slice())?;
+        self.bound += 1;
+        self.beaten = rank_each(
+            alloc,
+            auto,
+            &self.forcing,
+            self.bound,
+            &found.looked,
+            &mut self.ranks,
+        )?;
+        Ok(())
+    }
+}
+
+// For each state whether it rejects.
+fn rejecting(alloc: Global, auto: &Auto) -> Result<Vec<bool>, AllocError>
+    ensures { IfOk result (λ lost. (n m : ℕ) → lost.items ≡ lost_within n m (automaton_of auto.now) (length auto.now.rows) 0) }
 {
     let mut lost = Vec::new(alloc);
     for state in 0..auto.states() {
-        lost.push(is_lost_after(auto, forcing, state))?;
+        lost.push(!auto.accepting(state))?;
     }
     Ok(lost)
 }
 
-fn is_lost_after(auto: &Auto, forcing: &Forcing, state: u32) -> bool
-    requires { state < length auto.now.rows }
-    ensures { (bound : ℕ) → HasForced auto.now bound forcing.now
-        → result ≡ is_lost (automaton_of auto.now) (is_beaten forcing.now.inputs (auto.now.arena.slots - forcing.now.inputs) (automaton_of auto.now) (suc bound)) state }
+fn all_states(alloc: Global, auto: &Auto) -> Result<Vec<u32>, AllocError>
+    ensures { IfOk result (λ states. states.items ≡ range_with_len 0 (length auto.now.rows)) }
 {
-    if auto.accepting(state) {
-        forcing.is_forced(auto.row(state))
-    } else {
-        true
+    let mut states = Vec::new(alloc);
+    for state in 0..auto.states() {
+        states.push(state)?;
     }
+    Ok(states)
 }
 
-// The ranks so far, and this one with its move for each further state that is beaten by inputs that force one of the lost states.
-fn ranks_after(
+// Ranks those of the states that are beaten within one letter more than the bound, and gives those of them that accept.
+fn rank_each(
     alloc: Global,
     auto: &Auto,
     forcing: &Forcing,
     bound: u32,
-    before: &[Option<Ranked>],
-) -> Result<Vec<Option<Ranked>>, AllocError>
-    requires few { bound ≤ 32000 }
+    looked: &[u32],
+    ranks: &mut [Option<Ranked>],
+) -> Result<Vec<u32>, AllocError>
+    requires few { bound ≤ 32001 }
     requires forced { HasForced auto.now bound forcing.now }
-    requires before { AreRankedWithin forcing.now.inputs (auto.now.arena.slots - forcing.now.inputs) (automaton_of auto.now)
-        (length auto.now.rows) bound before.now }
-    ensures { IfOk result (λ ranks. AreRankedWithin forcing.now.inputs (auto.now.arena.slots - forcing.now.inputs) (automaton_of auto.now)
-        (length auto.now.rows) (suc bound) ranks.items) }
+    requires looked { All (λ state. state < length auto.now.rows) looked.now }
+    requires others { AreUnranked forcing.now.inputs (auto.now.arena.slots - forcing.now.inputs) (automaton_of auto.now) (length auto.now.rows) bound looked.now }
+    requires ranks { AreRankedWithin forcing.now.inputs (auto.now.arena.slots - forcing.now.inputs) (automaton_of auto.now)
+        (length auto.now.rows) bound ranks.old }
+    ensures ranks { OnOk result (AreRankedWithin forcing.now.inputs (auto.now.arena.slots - forcing.now.inputs) (automaton_of auto.now)
+        (length auto.now.rows) (suc bound) ranks.new) }
+    ensures beaten { IfOk result (λ beaten. AreNew forcing.now.inputs (auto.now.arena.slots - forcing.now.inputs) (automaton_of auto.now) bound beaten.items) }
 {
-    let mut ranks = Vec::new(alloc);
-    for state in 0..auto.states() {
-        ranks.push(rank_after(auto, forcing, bound, state, before[state as usize]))?;
+    let mut beaten = Vec::new(alloc);
+    for state in looked {
+        if rank_one(auto, forcing, bound, *state, ranks) {
+            beaten.push(*state)?;
+        }
     }
-    Ok(ranks)
+    Ok(beaten)
 }
 
-fn rank_after(
+// Ranks a state if it has no rank and is beaten within one letter more than the bound, and says whether it is so and accepts.
+fn rank_one(
     auto: &Auto,
     forcing: &Forcing,
     bound: u32,
     state: u32,
-    before: Option<Ranked>,
-) -> Option<Ranked>
-    requires few { bound ≤ 32000 }
+    ranks: &mut [Option<Ranked>],
+) -> bool
+    requires few { bound ≤ 32001 }
     requires state { state < length auto.now.rows }
     requires forced { HasForced auto.now bound forcing.now }
-    requires before { IsRankedWithin forcing.now.inputs (auto.now.arena.slots - forcing.now.inputs) (automaton_of auto.now) bound state before }
-    ensures { IsRankedWithin forcing.now.inputs (auto.now.arena.slots - forcing.now.inputs) (automaton_of auto.now) (suc bound) state result }
+    requires count { length ranks.old ≡ length auto.now.rows }
+    requires before { IsDecided forcing.now.inputs (auto.now.arena.slots - forcing.now.inputs) (automaton_of auto.now) bound state (rank_at ranks.old state) }
+    ensures count { length ranks.new ≡ length ranks.old }
+    ensures others { (other : ℕ) → other ≢ state → rank_at ranks.new other ≡ rank_at ranks.old other }
+    ensures own { IsRankedWithin forcing.now.inputs (auto.now.arena.slots - forcing.now.inputs) (automaton_of auto.now) (suc bound) state (rank_at ranks.new state) }
+    ensures result { IsTrue result ↔ IsJustNew forcing.now.inputs (auto.now.arena.slots - forcing.now.inputs) (automaton_of auto.now) bound state (rank_at ranks.old state) }
 {
     let row = auto.row(state);
-    if before.is_some() {
-        before
-    } else if forcing.is_forced(row) {
-        Some(Ranked {
-            rank: bound + 1,
-            input: forcing.least_input(row),
-        })
-    } else {
-        None
+    if ranks[state as usize].is_some() {
+        return false;
     }
+    if !forcing.is_forced(row) {
+        return false;
+    }
+    ranks[state as usize] = Some(Ranked {
+        rank: bound + 1,
+        input: forcing.least_input(row),
+    });
+    auto.accepting(state)
 }

@@ -1,25 +1,47 @@
 -- The steps of a translation, over plain lists of steps and parts.
-use Rattle.std.proofs.Common.{◌≡◌, ℕ, ◌+◌, ◌*◌, ◌<◌, ◌≤◌, List, [], ◌∷◌, ◌++◌, length, map, drop, reverse, Option, Some, None, refl, sym, ap, ◌∙◌, subst, arith}
+use Rattle.std.proofs.Common.{◌≡◌, ℕ, zero, suc, Bool, true, false, cond, ◌+◌, ◌*◌, ◌<◌, ◌≤◌, List, [], ◌∷◌, ◌++◌, length, map, take, drop, reverse, Option, Some, None, refl, sym, ap, ◌∙◌, subst, arith}
 use Rattle.std.proofs.Common.{append_assoc, append-nil, length-append}
-use Rattle.std.specs.Prelude.{slice_get}
-use Rattle.std.proofs.lemmas.List.{map-append, reverse-append, reverse-reverse}
+use Rattle.std.specs.Prelude.{◌==◌, slice_get, is_some, Contains, option_map, IfSome}
+use Rattle.std.specs.Option.{option_to_list}
+use Rattle.std.specs.List.{list_any}
+use Rattle.std.proofs.lemmas.List.{length-map, map-append, reverse-append, reverse-reverse}
 use Rattle.std.proofs.Math.Seq.{take-append_seam, drop-append_seam}
 use Rattle.dcv_grammar.specs.declared.grammar.Symbol.{Symbol}
 use Rattle.dcv_grammar.specs.declared.grammar.Symbol.TheVariants.{Class as ClassSymbol, Rule as RuleSymbol}
-use Rattle.dcv_grammar.specs.Grammar.{ContextFree, Production, IsBody, IsReached, at_start, in_body, past_class}
-use Rattle.dcv_grammar.specs.Picked.{body_for}
+use Rattle.dcv_grammar.specs.Grammar.{ContextFree, Alternative, Production, bodies, IsBody, IsReached, IsSentence, IsViable, at_start, in_body, past_class}
+use Rattle.dcv_grammar.specs.Machine.{Follows, Wants}
+use Rattle.dcv_grammar.specs.Picked.{picked, body_for}
 use Rattle.dcv_grammar.specs.Predictive.{IsPredictive}
 use Rattle.dcv_grammar.specs.Trees.{Nodes, done, leaf, node, leaves, join, AreTrees, IsTree}
 use Rattle.dcv_grammar.proofs.Facts.{facts, hints}
-use Rattle.dcv_grammar.proofs.Derivations.{rule_at, body_picked, reached_guarded}
-use Rattle.dcv_grammar.proofs.Steps.{stack_weight, in_table, weight_less}
+use Rattle.dcv_grammar.proofs.Derivations.{rule_at, body_in, body_picked, reached_guarded}
+use Rattle.dcv_grammar.proofs.Steps.{IsStackFor, stack_weight, in_table, weight_less, stack_step, stack_for_itself, wants_class, wants_nothing, follows_class, no_more_viable, sentence_at_end}
 use Rattle.dcv_grammar.proofs.TreeLaws.{leaves_join, trees_join, derives_leaves}
 use Rattle.dcv_lexer.specs.Cuts.{Token}
 use Rattle.dcv_observer.specs.Items.{token_class}
 use Rattle.dcv_translation.specs.declared.machine.Step.{Step}
 use Rattle.dcv_translation.specs.declared.machine.Step.TheVariants.{Class, Rule, Close}
 use Rattle.dcv_translation.specs.Scheme.{Scheme, parts_of, IsOfBody}
-use Rattle.dcv_translation.specs.UnderWay.{step_of, symbols_of, Runs, IsUnderWay, IsSomewhere, GoesOn, with_class}
+use Rattle.dcv_translation.specs.UnderWay.{step_of, symbols_of, Runs, IsUnderWay, Fits, IsReady, with_class, Advances, Takes}
+
+-- ---- the body that is picked
+
+picked_contained : (choices : List Alternative) (otherwise : List Symbol) (c : ℕ)
+    → Contains (otherwise ∷ map (λ choice. choice.body) choices) (picked choices otherwise c)
+picked_contained [] otherwise c = (0, omega arith, refl)
+picked_contained (choice ∷ choices) otherwise c =
+    by_test (list_any (λ k. k == c) choice.classes) choice.body (map (λ choice. choice.body) choices) otherwise (picked choices otherwise c)
+    (picked_contained choices otherwise c)
+  where
+    by_test : (b : Bool) (body : List Symbol) (bodies : List (List Symbol)) (otherwise later : List Symbol) → Contains (otherwise ∷ bodies) later
+        → Contains (otherwise ∷ body ∷ bodies) (cond b body later)
+    by_test true body bodies otherwise later h = (1, omega arith, refl)
+    by_test false body bodies otherwise later (zero, lt, e) = (0, omega arith, e)
+    by_test false body bodies otherwise later (suc k, lt, e) = (suc (suc k), omega arith, e)
+
+body_contained : (rule : Production) (next : Option ℕ) → Contains (bodies rule) (body_for rule next)
+body_contained rule None = (0, omega arith, refl)
+body_contained rule (Some c) = picked_contained rule.alternatives rule.otherwise c
 
 -- ---- steps
 
@@ -100,6 +122,21 @@ module _ {Part : Type 0} (scheme : Scheme Part) where
             (subst (λ (l : List Part). Runs scheme steps next l all) (sym (append_assoc parts (part ∷ []) (parts_of scheme trees))) runs),
       )
 
+  -- whatever trees come for symbols, the steps behind them have the parts that they need
+  fits_through : (symbols : List Symbol) (steps : List Step) (parts : List Part)
+      → ((trees : Nodes Token) → AreTrees scheme.grammar class_of symbols trees → Fits scheme steps (parts ++ parts_of scheme trees))
+      → Fits scheme (map step_of symbols ++ steps) parts
+  fits_through [] steps parts behind = subst (λ (l : List Part). Fits scheme steps l) (append-nil parts) (behind done tt)
+  fits_through (ClassSymbol class ∷ symbols) steps parts behind = λ token is.
+      let part = scheme.of_token token in
+      fits_through symbols steps (parts ++ part ∷ []) (λ trees are.
+      subst (λ (l : List Part). Fits scheme steps l) (sym (append_assoc parts (part ∷ []) (parts_of scheme trees))) (behind (leaf token trees) (is, are)))
+  fits_through (RuleSymbol number ∷ symbols) steps parts behind = λ body inner is are_inner.
+      let part = scheme.action number (parts_of scheme inner) in
+      fits_through symbols steps (parts ++ part ∷ []) (λ trees are.
+      subst (λ (l : List Part). Fits scheme steps l) (sym (append_assoc parts (part ∷ []) (parts_of scheme trees)))
+      (behind (node number inner trees) (refl, (body, is, are_inner), are)))
+
   -- ---- one step
 
   -- at the end of a body its parts are there, and become that of its rule
@@ -113,6 +150,27 @@ module _ {Part : Type 0} (scheme : Scheme Part) where
         record { body = body; is_body = is; trees = inner; derived = are; stand = sym own },
         subst (λ (l : List Part). Runs scheme steps next l all) (λ i. sym before i ++ scheme.action rule (sym own i) ∷ []) runs,
       )
+
+  fits_close : (rule : ℕ) (body : List Symbol) (inner : Nodes Token) (steps : List Step) (parts : List Part) → IsBody scheme.grammar rule body
+      → AreTrees scheme.grammar class_of body inner → Fits scheme steps (parts ++ scheme.action rule (parts_of scheme inner) ∷ [])
+      → Fits scheme (Close rule (length parts) ∷ steps) (parts ++ parts_of scheme inner)
+  fits_close rule body inner steps parts is are fits =
+      let own = drop-append_seam parts (parts_of scheme inner) in
+      let before = take-append_seam parts (parts_of scheme inner) in (
+        omega (arith, length-append parts (parts_of scheme inner)),
+        record { body = body; is_body = is; trees = inner; derived = are; stand = sym own },
+        subst (λ (l : List Part). Fits scheme steps l) (λ i. sym before i ++ scheme.action rule (sym own i) ∷ []) fits,
+      )
+
+  -- a body in the place of its rule
+  pub fits_opened : (number : ℕ) (body : List Symbol) (steps : List Step) (parts : List Part) → IsBody scheme.grammar number body
+      → Fits scheme (Rule number ∷ steps) parts → Fits scheme (map step_of body ++ Close number (length parts) ∷ steps) parts
+  fits_opened number body steps parts is fits =
+      fits_through body (Close number (length parts) ∷ steps) parts
+      (λ trees are. fits_close number body trees steps parts is are (fits body trees is are))
+
+  pub start_fits : (number : ℕ) → Fits scheme (Rule number ∷ []) []
+  start_fits number = λ body trees is are. tt
 
   pub start_under_way : (tokens : List Token) (tree : Nodes Token) → IsTree scheme.grammar class_of tokens tree
       → IsUnderWay scheme (Rule scheme.grammar.start ∷ []) [] tokens (parts_of scheme tree)
@@ -137,10 +195,6 @@ module _ {Part : Type 0} (scheme : Scheme Part) where
   one_part (node rule inner (node other within next)) are = absurd are.2
 
   module _ (p : IsPredictive scheme.grammar) where
-    pub rule_there : (number : ℕ) (steps : List Step) (parts all : List Part) (left : List Token) → IsUnderWay scheme (Rule number ∷ steps) parts left all
-        → number < length scheme.grammar.productions
-    rule_there number steps parts all left under = in_table scheme.grammar p number (symbols_of steps) under.reached
-
     -- a body is taken in the place of its rule
     pub opened : (number : ℕ) (steps : List Step) (rule : Production) (next : Option ℕ) (parts all : List Part) (left : List Token)
         → slice_get scheme.grammar.productions number ≡ Some rule → slice_get (map class_of left) 0 ≡ next → IsUnderWay scheme (Rule number ∷ steps) parts left all
@@ -170,6 +224,12 @@ module _ {Part : Type 0} (scheme : Scheme Part) where
               runs = runs_through body inner runs.1.2 closing follows parts all (runs_close number body inner follows steps parts all runs.1.1 runs.1.2 runs_on);
               leaves_left = same_leaves;
             })
+
+  -- a body ends
+  pub closed : (rule first : ℕ) (steps : List Step) (parts all : List Part) (left : List Token) → IsUnderWay scheme (Close rule first ∷ steps) parts left all
+      → IsUnderWay scheme steps (take first parts ++ scheme.action rule (drop first parts) ∷ []) left all
+  closed rule first steps parts all left under =
+      record { reached = under.reached; trees = under.trees; runs = under.runs.2; leaves_left = under.leaves_left }
 
   -- the token is there
   pub taken : (class : ℕ) (steps : List Step) (parts all : List Part) (token : Token) (left : List Token)
@@ -247,66 +307,156 @@ steps_pushed old step symbols =
 pub next_is : (steps before : List Step) (popped step : Step) → steps ≡ before ++ popped ∷ [] → popped ≡ step → reverse steps ≡ step ∷ reverse before
 next_is steps before popped step e is = ap reverse e ∙ (reverse-append before (popped ∷ []) ∙ ap (λ x. x ∷ reverse before) is)
 
+pub empty_list : {A : Type 0} (list : List A) → length list ≡ 0 → list ≡ []
+empty_list [] none = refl
+empty_list (x ∷ list) none = absurd (omega (arith, none))
+
 -- ---- one turn of the machine
 
-module _ {Part : Type 0} (scheme : Scheme Part) (p : IsPredictive scheme.grammar) (next : Option ℕ) (begun : List Step) (begun_parts : List Part)
-    (some : IsSomewhere scheme next begun begun_parts) where
-  -- what the loop keeps
-  abbrev pub Keeps : List Step → List Part → Type 0
-  Keeps steps parts = GoesOn scheme next begun begun_parts steps parts
+-- what the loop keeps
+pub record Keeps {Part : Type 0} (scheme : Scheme Part) (next : Option ℕ) (begun : List Step) (begun_parts : List Part) (steps : List Step)
+    (parts : List Part) : Type 0 where
+  pub stack : IsStackFor scheme.grammar next (symbols_of begun) (symbols_of steps)
+  pub fits : Fits scheme steps parts
+  pub goes : (left : List Token) (all : List Part) → slice_get (map (token_class scheme.lexicon) left) 0 ≡ next
+      → IsUnderWay scheme begun begun_parts left all → IsUnderWay scheme steps parts left all
 
-  pub still : (steps : List Step) (parts : List Part) → Keeps steps parts → IsUnderWay scheme steps parts some.left some.all
-  still steps parts keeps = keeps.goes some.left some.all some.comes some.under_way
+module _ {Part : Type 0} (scheme : Scheme Part) (next : Option ℕ) (begun : List Step) (begun_parts : List Part) where
+  pub begins : IsReady scheme begun begun_parts → Keeps scheme next begun begun_parts begun begun_parts
+  begins ready = record {
+    stack = stack_for_itself scheme.grammar next (symbols_of begun) ready.reached;
+    fits = ready.fits;
+    goes = λ left all comes under. under;
+  }
 
-  module _ (number : ℕ) (steps : List Step) (parts : List Part) (keeps : Keeps (Rule number ∷ steps) parts) where
-    pub rule_is_there : number < length scheme.grammar.productions
-    rule_is_there = rule_there scheme p number steps parts some.all some.left (still (Rule number ∷ steps) parts keeps)
-
-    pub turned_to_body : (rule : Production) → slice_get scheme.grammar.productions number ≡ Some rule
-        → Keeps (map step_of (body_for rule next) ++ Close number (length parts) ∷ steps) parts
-    turned_to_body rule at = record { goes = λ left all comes under. opened scheme p number steps rule next parts all left at comes (keeps.goes left all comes under) }
-
-  module _ (rule first : ℕ) (steps : List Step) (parts : List Part) (keeps : Keeps (Close rule first ∷ steps) parts) where
-    pub parts_there : first ≤ length parts
-    parts_there = (still (Close rule first ∷ steps) parts keeps).runs.0
-
-    pub body_there : IsOfBody scheme rule (drop first parts)
-    body_there = (still (Close rule first ∷ steps) parts keeps).runs.1
-
-  -- the same of the steps that the code keeps
-  module _ (before after : List Step) (parts new_parts : List Part) (keeps : Keeps before parts) where
-    module _ (number first : ℕ) (steps : List Step) (top : before ≡ Rule number ∷ steps) where
-      kept : Keeps (Rule number ∷ steps) parts
-      kept = subst (λ (l : List Step). Keeps l parts) top keeps
+  -- of the steps as the code keeps them
+  module _ (before after : List Step) (parts new_parts : List Part) (keeps : Keeps scheme next begun begun_parts before parts) where
+    module _ (p : IsPredictive scheme.grammar) (number first : ℕ) (steps : List Step) (top : before ≡ Rule number ∷ steps) where
+      kept : Keeps scheme next begun begun_parts (Rule number ∷ steps) parts
+      kept = subst (λ (l : List Step). Keeps scheme next begun begun_parts l parts) top keeps
 
       pub known_rule : number < length scheme.grammar.productions
-      known_rule = rule_is_there number steps parts kept
+      known_rule = in_table scheme.grammar p number (symbols_of steps) kept.stack.reached
+
+      turned_to_body : (rule : Production) → slice_get scheme.grammar.productions number ≡ Some rule
+          → Keeps scheme next begun begun_parts (map step_of (body_for rule next) ++ Close number (length parts) ∷ steps) parts
+      turned_to_body rule at =
+          let body = body_for rule next in
+          let closing = Close number (length parts) ∷ steps in
+          record {
+            stack = subst (IsStackFor scheme.grammar next (symbols_of begun)) (sym (symbols_opened body closing))
+                (stack_step scheme.grammar p next (symbols_of begun) number (symbols_of steps) rule at kept.stack);
+            fits = fits_opened scheme number body steps parts (body_in scheme.grammar number rule body at (body_contained rule next)) kept.fits;
+            goes = λ left all comes under. opened scheme p number steps rule next parts all left at comes (kept.goes left all comes under);
+          }
 
       pub body_turn : (first ≡ length parts) → new_parts ≡ parts
           → ((rule : Production) → slice_get scheme.grammar.productions number ≡ Some rule → after ≡ map step_of (body_for rule next) ++ Close number first ∷ steps)
-          → Keeps after new_parts × (steps_weight scheme.grammar after < steps_weight scheme.grammar before)
+          → Keeps scheme next begun begun_parts after new_parts × (steps_weight scheme.grammar after < steps_weight scheme.grammar before)
       body_turn size same told =
           let (rule, at) = rule_at scheme.grammar number known_rule in
           let is = told rule at ∙ ap (λ n. map step_of (body_for rule next) ++ Close number n ∷ steps) size in
           let less = opened_is_less scheme.grammar p number (length parts) steps rule next at in (
-            subst (λ (both : List Step × List Part). Keeps both.0 both.1) (λ i. (sym is i, sym same i)) (turned_to_body number steps parts kept rule at),
+            subst (λ (both : List Step × List Part). Keeps scheme next begun begun_parts both.0 both.1) (λ i. (sym is i, sym same i)) (turned_to_body rule at),
             omega (arith, less, ap (steps_weight scheme.grammar) is, ap (steps_weight scheme.grammar) top),
           )
 
     module _ (rule first : ℕ) (steps : List Step) (top : before ≡ Close rule first ∷ steps) where
-      kept_end : Keeps (Close rule first ∷ steps) parts
-      kept_end = subst (λ (l : List Step). Keeps l parts) top keeps
+      kept_end : Keeps scheme next begun begun_parts (Close rule first ∷ steps) parts
+      kept_end = subst (λ (l : List Step). Keeps scheme next begun begun_parts l parts) top keeps
 
       pub first_there : first ≤ length parts
-      first_there = parts_there rule first steps parts kept_end
+      first_there = kept_end.fits.0
 
       pub own_parts : IsOfBody scheme rule (drop first parts)
-      own_parts = body_there rule first steps parts kept_end
+      own_parts = kept_end.fits.1
+
+      pub close_turn : after ≡ steps → new_parts ≡ take first parts ++ scheme.action rule (drop first parts) ∷ []
+          → Keeps scheme next begun begun_parts after new_parts × (steps_weight scheme.grammar after < steps_weight scheme.grammar before)
+      close_turn is same = (
+        subst (λ (both : List Step × List Part). Keeps scheme next begun begun_parts both.0 both.1) (λ i. (sym is i, sym same i)) (record {
+          stack = kept_end.stack;
+          fits = kept_end.fits.2;
+          goes = λ left all comes under. closed scheme rule first steps parts all left (kept_end.goes left all comes under);
+        }),
+        omega (arith, ap (steps_weight scheme.grammar) is, ap (steps_weight scheme.grammar) top),
+      )
+
+    -- the machine stops at a class, or behind the last step
+    pub stops_at_class : (class : ℕ) → before ≡ Class class ∷ after → Advances scheme next begun begun_parts (Some class) after parts
+    stops_at_class class top =
+        let kept = subst (λ (l : List Step). Keeps scheme next begun begun_parts l parts) top keeps in
+        record {
+          wants = wants_class scheme.grammar next (symbols_of begun) class (symbols_of after) kept.stack;
+          fits = kept.fits;
+          goes = kept.goes;
+        }
+
+    pub stops_at_end : before ≡ [] → after ≡ [] → Advances scheme next begun begun_parts None after parts
+    stops_at_end none same =
+        let kept = subst (λ (l : List Step). Keeps scheme next begun begun_parts l parts) none keeps in
+        subst (λ (l : List Step). Advances scheme next begun begun_parts None l parts) (sym same) (record {
+          wants = wants_nothing scheme.grammar next (symbols_of begun) kept.stack;
+          fits = kept.fits;
+          goes = kept.goes;
+        })
+
+-- ---- one token, and the end
+
+module _ {Part : Type 0} (scheme : Scheme Part) (old new : List Step) (old_parts parts : List Part) (wanted : Option ℕ) where
+  pub takes : (token : Token) (class : ℕ) → class ≡ token_class scheme.lexicon token → Advances scheme (Some class) old old_parts wanted new parts
+      → wanted ≡ Some class → (new_parts : List Part) → new_parts ≡ parts ++ scheme.of_token token ∷ [] → Takes scheme token true old old_parts new new_parts
+  takes token class is advances same new_parts made =
+      let g = scheme.grammar in
+      let one = subst (λ w. Wants g (Some class) (symbols_of old) w (symbols_of new)) same advances.wants in
+      let fits : Fits scheme (Class class ∷ new) parts = subst (λ w. Fits scheme (with_class w new) parts) same advances.fits in
+      record {
+        follows = λ passed f. subst (λ k. Follows g (passed ++ k ∷ []) (symbols_of new)) is (follows_class g passed (symbols_of old) class (symbols_of new) f one);
+        fits = subst (λ (l : List Part). Fits scheme new l) (sym made) (fits token (sym is));
+        goes = λ left all under. subst (λ (l : List Part). IsUnderWay scheme new l left all) (sym made)
+            (token_taken scheme wanted new parts all token left (advances.goes (token ∷ left) all (ap Some (sym is)) under));
+      }
+
+  pub sticks : (token : Token) (class : ℕ) → class ≡ token_class scheme.lexicon token → Advances scheme (Some class) old old_parts wanted new parts
+      → (wanted ≡ Some class → ⊥) → (new_parts : List Part) → Takes scheme token false old old_parts new new_parts
+  sticks token class is advances other new_parts = record {
+    none = λ passed f. subst (λ k. ¬ IsViable scheme.grammar (passed ++ k ∷ [])) is
+        (no_more_viable scheme.grammar passed (symbols_of old) class wanted (symbols_of new) f advances.wants other);
+  }
+
+  -- nothing is wanted at the end of a sentence
+  pub ends : Advances scheme None old old_parts wanted new parts → is_some wanted ≡ false → (passed : List ℕ) → Follows scheme.grammar passed (symbols_of old)
+      → IsSentence scheme.grammar passed
+  ends advances none passed f = sentence_at_end scheme.grammar passed (symbols_of old) wanted (symbols_of new) f advances.wants none
+
+  pub no_whole : Advances scheme None old old_parts wanted new parts → is_some wanted ≡ true → (whole : Part) → IsUnderWay scheme old old_parts [] (whole ∷ []) → ⊥
+  no_whole advances some whole under = stuck wanted some (advances.goes [] (whole ∷ []) refl under)
+    where
+      stuck : (wanted : Option ℕ) → is_some wanted ≡ true → IsUnderWay scheme (with_class wanted new) parts [] (whole ∷ []) → ⊥
+      stuck None some under = cc
+      stuck (Some class) some under = no_class scheme class new parts (whole ∷ []) under
+
+  pub whole_made : Advances scheme None old old_parts wanted new parts → (whole : Part) → IsUnderWay scheme old old_parts [] (whole ∷ []) → parts ≡ whole ∷ []
+  whole_made advances whole under = end_reached scheme wanted new parts (whole ∷ []) (advances.goes [] (whole ∷ []) refl under)
 
 -- ---- the last part
 
-pub last_is : {A : Type 0} (before : List A) (last only : A) → before ++ last ∷ [] ≡ only ∷ [] → last ≡ only
-last_is [] last only e = cc
-last_is (x ∷ before) last only e =
-    let none : before ++ last ∷ [] ≡ [] = cc in
-    absurd (omega (arith, length-append before (last ∷ []), ap length none))
+pub whatever_was_popped : {A : Type 0} {Fact : Type 0} (popped : Option A) → Fact → IfSome popped (λ _. Fact)
+whatever_was_popped None fact = tt
+whatever_was_popped (Some part) fact = fact
+
+-- the one part that was there is popped
+pub only_popped : {A B : Type 0} (f : A → B) (old new : List A) (popped : Option A) (only : B) → old ≡ new ++ option_to_list popped
+    → (0 < length old → is_some popped ≡ true) → map f old ≡ only ∷ [] → option_map f popped ≡ Some only
+only_popped f old new None only split some made =
+    let size : length old ≡ 1 = sym (length-map old f) ∙ ap length made in
+    let never : false ≡ true = some (omega (arith, size)) in
+    cc
+only_popped f old new (Some part) only split some made =
+    ap Some (last_is (map f new) (f part) only (sym (map-append f new (part ∷ [])) ∙ sym (ap (map f) split) ∙ made))
+  where
+    last_is : {A : Type 0} (before : List A) (last only : A) → before ++ last ∷ [] ≡ only ∷ [] → last ≡ only
+    last_is [] last only e = cc
+    last_is (x ∷ before) last only e =
+        let none : before ++ last ∷ [] ≡ [] = cc in
+        absurd (omega (arith, length-append before (last ∷ []), ap length none))

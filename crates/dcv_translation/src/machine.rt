@@ -1,19 +1,20 @@
 // The machine: a reader's stack that also has the ends of the bodies that are open, and the parts that were made.
-ghost use Rattle.std.specs.Prelude.{◌≡◌, ◌^◌, ◌<◌, ◌≤◌, ◌++◌, ◌∷◌, [], List, ℕ, Some, None, length, map, take, drop, reverse, slice_get, IfOk, OnOk};
-ghost use Rattle.dcv_grammar.specs.Grammar.{grammar_of, Production};
+ghost use Rattle.std.specs.Prelude.{◌≡◌, ◌≢◌, ◌^◌, ◌<◌, ◌≤◌, ◌++◌, ◌∷◌, [], List, ℕ, Some, None, length, map, take, drop, reverse, slice_get, IfOk, IfErr, IfSome, OnOk, option_map};
+ghost use Rattle.dcv_grammar.specs.Grammar.{grammar_of, Production, IsSentence};
+ghost use Rattle.dcv_grammar.specs.Machine.{Follows};
 ghost use Rattle.dcv_grammar.specs.Picked.{body_for};
 ghost use Rattle.dcv_grammar.specs.Predictive.{IsPredictive};
-ghost use Rattle.dcv_observer.specs.Items.{IsSentenceText, token_class};
+ghost use Rattle.dcv_observer.specs.Items.{IsSyntaxFault, token_class};
 ghost use Rattle.dcv_observer.specs.Left.{seen};
-ghost use Rattle.dcv_lexer.specs.Cuts.{Token};
+ghost use Rattle.dcv_observer.specs.declared.fault.ObsFault.TheVariants.{Syntax, Memory};
 ghost use Rattle.dcv_translation.specs.Scheme.{IsOfBody, StandsFor};
-ghost use Rattle.dcv_translation.specs.UnderWay.{step_of, IsUnderWay, IsSomewhere, GoesOn, with_class};
+ghost use Rattle.dcv_translation.specs.UnderWay.{step_of, symbols_of, IsUnderWay, IsReady, Advances, Takes};
 ghost use Rattle.dcv_translation.specs.declared.machine.Step.TheVariants.{Rule as RuleStep, Close as CloseStep};
 
 use crate::body::Body;
 use crate::translation::Translation;
 use dcv_grammar::grammar::{ContextFree, Symbol};
-use dcv_observer::{Item, Items};
+use dcv_observer::{Item, Items, ObsFault};
 use std::alloc::{AllocError, Global};
 
 // What is still to be done.
@@ -38,22 +39,31 @@ pub(crate) struct Machine<'a, 't, T: Translation<'a>> {
     body: Body<T::Part>,
 }
 
-/// What the text stands for: the part of its one derivation tree. It goes through the text once.
+/// What a text stands for: the part of its one derivation tree. Where it is no sentence, the fault is where its syntax is at fault. It goes through the text
+/// once, up to the fault.
 pub fn translate<'a, T: Translation<'a>>(
     alloc: Global,
     translation: &T,
     text: &'a [u8],
-) -> Result<T::Part, AllocError>
-    requires in_range { length text.now < 2 ^ 32 }
-    requires sentence { IsSentenceText T.scheme.lexicon T.scheme.grammar text.now }
-    ensures { IfOk result (λ part. StandsFor T.scheme text.now (T.meaning part)) }
+) -> Result<T::Part, ObsFault>
+    requires { length text.now < 2 ^ 32 }
+    ensures part { IfOk result (λ part. StandsFor T.scheme text.now (T.meaning part)) }
+    ensures fault { IfErr result (λ fault. fault ≢ Memory → (at : ℕ) × (fault ≡ Syntax at)
+        × IsSyntaxFault T.scheme.lexicon T.scheme.grammar text.now at) }
 {
     let mut machine = Machine::new(alloc, translation)?;
     let mut items = Items::new(translation.lexicon(), text);
     while let Some(item) = items.next() {
-        machine.take(item)?;
+        if !machine.take(item)? {
+            return Err(ObsFault::Syntax { at: item.start });
+        }
     }
-    machine.finish()
+    if let Some(part) = machine.finish()? {
+        return Ok(part);
+    }
+    Err(ObsFault::Syntax {
+        at: text.len() as u32,
+    })
 }
 
 impl<'a, 't, T: Translation<'a>> Machine<'a, 't, T> {
@@ -76,46 +86,49 @@ impl<'a, 't, T: Translation<'a>> Machine<'a, 't, T> {
         })
     }
 
-    // The next token.
-    fn take(&mut self, item: Item<'a>) -> Result<(), AllocError>
+    // Takes the next token, and tells whether a sentence may go on with it.
+    fn take(&mut self, item: Item<'a>) -> Result<bool, AllocError>
         requires grammar { grammar_of self.old.grammar ≡ T.scheme.grammar }
         requires predictive { IsPredictive T.scheme.grammar }
         requires class { item.class ≡ token_class T.scheme.lexicon (seen item) }
-        requires some { (left : List Token) × (all : List T.Meaning)
-            × IsUnderWay T.scheme (reverse self.old.steps.items) (map T.meaning self.old.parts.items) (seen item ∷ left) all }
+        requires ready { IsReady T.scheme (reverse self.old.steps.items) (map T.meaning self.old.parts.items) }
         ensures grammar { self.new.grammar ≡ self.old.grammar }
-        ensures taken { OnOk result ((left : List Token) (all : List T.Meaning)
-            → IsUnderWay T.scheme (reverse self.old.steps.items) (map T.meaning self.old.parts.items) (seen item.entry ∷ left) all
-            → IsUnderWay T.scheme (reverse self.new.steps.items) (map T.meaning self.new.parts.items) left all) }
+        ensures taken { IfOk result (λ taken. Takes T.scheme (seen item.entry) taken (reverse self.old.steps.items) (map T.meaning self.old.parts.items)
+            (reverse self.new.steps.items) (map T.meaning self.new.parts.items)) }
     {
-        self.advance(Some(item.class))?;
+        let wanted = self.advance(Some(item.class))?;
+        if wanted != Some(item.class) {
+            return Ok(false);
+        }
         self.parts.push(self.translation.token(item))?;
-        Ok(())
+        Ok(true)
     }
 
-    // The part of the whole, behind the last token.
-    fn finish(mut self) -> Result<T::Part, AllocError>
+    // The part of the whole behind the last token, where it ends a sentence.
+    fn finish(mut self) -> Result<Option<T::Part>, AllocError>
         requires grammar { grammar_of self.grammar ≡ T.scheme.grammar }
         requires predictive { IsPredictive T.scheme.grammar }
-        requires some { (whole : T.Meaning) × IsUnderWay T.scheme (reverse self.steps.items) (map T.meaning self.parts.items) [] (whole ∷ []) }
-        ensures { IfOk result (λ part. (whole : T.Meaning)
-            → IsUnderWay T.scheme (reverse self.entry.steps.items) (map T.meaning self.entry.parts.items) [] (whole ∷ []) → T.meaning part ≡ whole) }
+        requires ready { IsReady T.scheme (reverse self.steps.items) (map T.meaning self.parts.items) }
+        ensures ended { IfOk result (λ found. IfSome found (λ _. (done : List ℕ)
+            → Follows T.scheme.grammar done (symbols_of (reverse self.entry.steps.items)) → IsSentence T.scheme.grammar done)) }
+        ensures whole { IfOk result (λ found. (whole : T.Meaning)
+            → IsUnderWay T.scheme (reverse self.entry.steps.items) (map T.meaning self.entry.parts.items) [] (whole ∷ [])
+            → option_map T.meaning found ≡ Some whole) }
     {
-        self.advance(None)?;
-        let Some(part) = self.parts.pop() else {
-            unreachable!()
-        };
-        Ok(part)
+        if self.advance(None)?.is_some() {
+            return Ok(None);
+        }
+        Ok(self.parts.pop())
     }
 
     // Takes steps until a class comes, which is taken off, or until there is none.
     fn advance(&mut self, next: Option<u8>) -> Result<Option<u8>, AllocError>
         requires grammar { grammar_of self.old.grammar ≡ T.scheme.grammar }
         requires predictive { IsPredictive T.scheme.grammar }
-        requires some { IsSomewhere T.scheme next (reverse self.old.steps.items) (map T.meaning self.old.parts.items) }
+        requires ready { IsReady T.scheme (reverse self.old.steps.items) (map T.meaning self.old.parts.items) }
         ensures grammar { self.new.grammar ≡ self.old.grammar }
-        ensures goes { IfOk result (λ wanted. GoesOn T.scheme next (reverse self.old.steps.items) (map T.meaning self.old.parts.items)
-            (with_class wanted (reverse self.new.steps.items)) (map T.meaning self.new.parts.items)) }
+        ensures advances { IfOk result (λ wanted. Advances T.scheme next (reverse self.old.steps.items) (map T.meaning self.old.parts.items)
+            wanted (reverse self.new.steps.items) (map T.meaning self.new.parts.items)) }
     {
         while let Some(step) = self.steps.pop() {
             match step {

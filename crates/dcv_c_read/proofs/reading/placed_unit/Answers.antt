@@ -7,12 +7,12 @@ use Rattle.dcv_c_read.proofs.reading.placed_unit.Goals as goal
 
 pub unreachable-requires : goal.unreachable-requires
 unreachable-requires c =
-    let (placed, is, spelled) = unit_spelled c.args.text.now (seen_part c.in_ok-placed.field-0) c.in_ok-placed.ensures in
-    unit_in c.in_ok-placed.field-0 placed is c.in_default-2.not-Unit
+    let (placed, is, spelled) = unit_spelled c.args.text.now (seen_part c.in_ok-placed.field-0) c.in_ok-placed.ensures.part in
+    unit_in c.in_ok-placed.field-0 placed is c.in_default.not-Unit
 
 pub returns-clause-spelled : goal.returns-clause-spelled
 returns-clause-spelled c =
-    let (placed, is, spelled) = unit_spelled c.args.text.now (seen_part c.in_ok-placed.field-0) c.in_ok-placed.ensures in
+    let (placed, is, spelled) = unit_spelled c.args.text.now (seen_part c.in_ok-placed.field-0) c.in_ok-placed.ensures.part in
     let both : AUnit (seen_unit c.in-Unit.placed.value) ≡ AUnit placed = sym (ap seen_part c.in-Unit.is) ∙ is in
     let same : seen_unit c.in-Unit.placed.value ≡ placed = cc in
     let whole : seen_unit c.into_inner.result ≡ placed = ap seen_unit c.into_inner.ensures ∙ same in

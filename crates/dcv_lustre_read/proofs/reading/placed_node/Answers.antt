@@ -7,12 +7,12 @@ use Rattle.dcv_lustre_read.proofs.reading.placed_node.Goals as goal
 
 pub unreachable-requires : goal.unreachable-requires
 unreachable-requires c =
-    let (placed, is, spelled) = node_spelled c.args.text.now (seen_part c.in_ok-placed.field-0) c.in_ok-placed.ensures in
-    node_in c.in_ok-placed.field-0 placed is c.in_default-2.not-Node
+    let (placed, is, spelled) = node_spelled c.args.text.now (seen_part c.in_ok-placed.field-0) c.in_ok-placed.ensures.part in
+    node_in c.in_ok-placed.field-0 placed is c.in_default.not-Node
 
 pub returns-clause-spelled : goal.returns-clause-spelled
 returns-clause-spelled c =
-    let (placed, is, spelled) = node_spelled c.args.text.now (seen_part c.in_ok-placed.field-0) c.in_ok-placed.ensures in
+    let (placed, is, spelled) = node_spelled c.args.text.now (seen_part c.in_ok-placed.field-0) c.in_ok-placed.ensures.part in
     let both : ANode (seen_node c.in-Node.placed.value) ≡ ANode placed = sym (ap seen_part c.in-Node.is) ∙ is in
     let same : seen_node c.in-Node.placed.value ≡ placed = cc in
     let whole : seen_node c.into_inner.result ≡ placed = ap seen_node c.into_inner.ensures ∙ same in

@@ -1,10 +1,7 @@
-use Rattle.std.proofs.Common.{◌∷◌, [], map, reverse, refl, sym, ap, ◌∙◌, subst}
-use Rattle.std.proofs.lemmas.Result.{IfOk-weaker}
+use Rattle.std.proofs.Common.{length, map, reverse, refl, ap, ◌∙◌}
 use Rattle.dcv_grammar.specs.Grammar.{grammar_of}
 use Rattle.dcv_lexer.specs.Lexicon.{lexicon_of}
-use Rattle.dcv_observer.specs.Left.{left}
-use Rattle.dcv_translation.specs.Scheme.{StandsFor}
-use Rattle.dcv_translation.proofs.Within.{begun, class_is, item_left, item_passed, none_is_left}
+use Rattle.dcv_translation.proofs.Within.{begun, ready, class_is, item_refused, item_taken, part_found, end_refused}
 use Rattle.dcv_translation.proofs.machine.translate.Goals as goal
 
 pub loop-item-init : goal.loop-item-init
@@ -13,46 +10,12 @@ loop-item-init g c =
     let machine = c.in_ok-machine.machine in (
       c.in_ok-machine.ensures.grammar,
       begun scheme c.args.text.now (reverse machine.steps.items) (map g.T.Translation.meaning machine.parts.items) c.new-items.result (lexicon_of c.lexicon.result.now)
-          c.requires.sentence (ap reverse c.in_ok-machine.ensures.steps) (ap (map g.T.Translation.meaning) c.in_ok-machine.ensures.parts)
+          (ap reverse c.in_ok-machine.ensures.steps) (ap (map g.T.Translation.meaning) c.in_ok-machine.ensures.parts)
           c.lexicon.ensures.lexicon c.new-items.ensures.lexicon c.new-items.ensures.all,
     )
 
 pub take-requires : goal.take-requires
 take-requires g c κs =
-    let scheme = g.T.Translation.scheme in
-    let machine = c.loop-item.machine in
-    let steps = reverse machine.steps.items in
-    let parts = map g.T.Translation.meaning machine.parts.items in
-    let within = c.loop-item.invariant.1 in
-    let item = c.in-Some.item in
-    let next = c.next.new.self in
-    let gives = c.in-Some.ensures.steps in (
-      (refl, tt),
-      (
-        c.loop-item.invariant.0,
-        (
-          c.in_ok-machine.ensures.predictive,
-          (
-            class_is scheme c.args.text.now steps parts c.loop-item.items within item next gives,
-            (left next, within.whole ∷ [], item_left scheme c.args.text.now steps parts c.loop-item.items within item next gives),
-          ),
-        ),
-      ),
-    )
-
-pub loop-item-preserved : goal.loop-item-preserved
-loop-item-preserved g c =
-    let scheme = g.T.Translation.scheme in
-    let meaning = g.T.Translation.meaning in
-    let machine = c.loop-item.machine in
-    let new = c.take.new.self in (
-      ap grammar_of c.take.ensures.grammar ∙ c.loop-item.invariant.0,
-      item_passed scheme c.args.text.now (reverse machine.steps.items) (map meaning machine.parts.items) c.loop-item.items c.loop-item.invariant.1
-          c.in-Some.item c.next.new.self c.in-Some.ensures.steps (reverse new.steps.items) (map meaning new.parts.items) c.in_ok-take.ensures.taken,
-    )
-
-pub finish-requires : goal.finish-requires
-finish-requires g c κs =
     let scheme = g.T.Translation.scheme in
     let machine = c.loop-item.machine in
     let steps = reverse machine.steps.items in
@@ -63,17 +26,61 @@ finish-requires g c κs =
         c.loop-item.invariant.0,
         (
           c.in_ok-machine.ensures.predictive,
-          (within.whole, none_is_left scheme c.args.text.now steps parts c.loop-item.items within c.in_default.ensures.steps),
+          (
+            class_is scheme c.args.text.now steps parts c.loop-item.items within c.in-Some.item c.next.new.self c.in-Some.ensures.steps,
+            ready scheme c.args.text.now steps parts c.loop-item.items within,
+          ),
         ),
       ),
     )
 
-pub returns : goal.returns
-returns g c =
+pub returns-then-not-branch-clause-fault : goal.returns-then-not-branch-clause-fault
+returns-then-not-branch-clause-fault g c = λ other.
     let scheme = g.T.Translation.scheme in
+    let meaning = g.T.Translation.meaning in
     let machine = c.loop-item.machine in
     let steps = reverse machine.steps.items in
-    let parts = map g.T.Translation.meaning machine.parts.items in
+    let parts = map meaning machine.parts.items in
     let within = c.loop-item.invariant.1 in
-    let all = none_is_left scheme c.args.text.now steps parts c.loop-item.items within c.in_default.ensures.steps in
-    IfOk-weaker c.finish.result _ _ (λ part told. subst (StandsFor scheme c.args.text.now) (sym (told within.whole all)) within.stands) c.finish.ensures
+    let new = c.take.new.self in
+    let is = item_refused scheme c.args.text.now steps parts c.loop-item.items within c.in-Some.item c.next.new.self c.in-Some.ensures.steps
+    c.in_ok-take.field-0 (reverse new.steps.items) (map meaning new.parts.items) c.in_ok-take.ensures.taken c.in_ok-machine.ensures.predictive
+    c.if-not-branch.true in
+    (c.in-Some.item.start, refl, is)
+
+pub loop-item-preserved : goal.loop-item-preserved
+loop-item-preserved g c =
+    let scheme = g.T.Translation.scheme in
+    let meaning = g.T.Translation.meaning in
+    let machine = c.loop-item.machine in
+    let steps = reverse machine.steps.items in
+    let parts = map meaning machine.parts.items in
+    let within = c.loop-item.invariant.1 in
+    let new = c.take.new.self in (
+      ap grammar_of c.take.ensures.grammar ∙ c.loop-item.invariant.0,
+      item_taken scheme c.args.text.now steps parts c.loop-item.items within c.in-Some.item c.next.new.self c.in-Some.ensures.steps
+          c.in_ok-take.field-0 (reverse new.steps.items) (map meaning new.parts.items) c.in_ok-take.ensures.taken c.if-not-branch.false,
+    )
+
+pub returns-in-Some-2-clause-part : goal.returns-in-Some-2-clause-part
+returns-in-Some-2-clause-part g c =
+    let scheme = g.T.Translation.scheme in
+    let meaning = g.T.Translation.meaning in
+    let machine = c.loop-item.machine in
+    let steps = reverse machine.steps.items in
+    let parts = map meaning machine.parts.items in
+    let within = c.loop-item.invariant.1 in
+    part_found scheme c.args.text.now steps parts c.loop-item.items within c.in_default.ensures.steps meaning c.in_ok-part.field-0 c.in_ok-part.ensures.whole
+    c.in-Some-2.part c.in-Some-2.is c.in_ok-part.ensures.ended
+
+pub returns-clause-fault : goal.returns-clause-fault
+returns-clause-fault g c = λ other.
+    let scheme = g.T.Translation.scheme in
+    let meaning = g.T.Translation.meaning in
+    let machine = c.loop-item.machine in
+    let steps = reverse machine.steps.items in
+    let parts = map meaning machine.parts.items in
+    let within = c.loop-item.invariant.1 in
+    let is = end_refused scheme c.args.text.now steps parts c.loop-item.items within c.in_default.ensures.steps meaning c.in_ok-part.field-0
+    c.in_ok-part.ensures.whole c.in_ok-machine.ensures.predictive c.in_default-2.is in
+    (length c.args.text.now, refl, is)

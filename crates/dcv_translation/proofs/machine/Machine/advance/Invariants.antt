@@ -1,6 +1,5 @@
 use Rattle.std.proofs.Common.{◌≡◌, map, reverse}
-use Rattle.dcv_translation.specs.UnderWay.{GoesOn}
-use Rattle.dcv_translation.proofs.Running.{steps_weight}
+use Rattle.dcv_translation.proofs.Running.{Keeps, steps_weight}
 use Rattle.dcv_translation.proofs.machine.Machine.advance.Given as goal
 
 -- whatever was made from the first steps on is made from these on
@@ -8,7 +7,7 @@ abbrev pub invariant-loop-step : goal.invariant-loop-step
 invariant-loop-step g l =
     let meaning = g.T.Translation.meaning in
     (l.self.grammar ≡ l.fn.self.grammar)
-    × GoesOn g.T.Translation.scheme l.next (reverse l.fn.self.steps.items) (map meaning l.fn.self.parts.items)
+    × Keeps g.T.Translation.scheme l.next (reverse l.fn.self.steps.items) (map meaning l.fn.self.parts.items)
     (reverse l.self.steps.items) (map meaning l.self.parts.items)
 
 abbrev pub decreases-loop-step : goal.decreases-loop-step

@@ -1,20 +1,30 @@
-use Rattle.std.proofs.Common.{◌∷◌, [], length, map, reverse, refl, sym, ap, ◌∙◌, arith}
-use Rattle.std.proofs.lemmas.List.{map-append, length-map}
-use Rattle.dcv_translation.proofs.Running.{end_reached, last_is}
+use Rattle.std.proofs.Common.{◌∙◌, map, reverse, sym, arith}
+use Rattle.dcv_translation.proofs.Running.{ends, no_whole, whole_made, whatever_was_popped, only_popped}
 use Rattle.dcv_translation.proofs.machine.Machine.finish.Goals as goal
 
-pub unreachable-requires : goal.unreachable-requires
-unreachable-requires g c =
+pub returns-then-is_some-clause-whole : goal.returns-then-is_some-clause-whole
+returns-then-is_some-clause-whole g c = λ whole under.
     let meaning = g.T.Translation.meaning in
-    let (whole, under) = c.requires.some in
-    let here = c.in_ok-advance.ensures.goes.goes [] (whole ∷ []) refl under in
-    let all = end_reached g.T.Translation.scheme c.in_ok-advance.field-0 (reverse c.advance.new.self.steps.items) (map meaning c.advance.new.self.parts.items) (whole ∷ []) here in
-    absurd (grind (arith, ap length all, length-map c.advance.new.self.parts.items meaning, c.in_default.ensures.variant))
+    let old = c.args.self in
+    let new = c.advance.new.self in
+    absurd (no_whole g.T.Translation.scheme (reverse old.steps.items) (reverse new.steps.items) (map meaning old.parts.items) (map meaning new.parts.items)
+    c.in_ok-advance.field-0 c.in_ok-advance.ensures.advances (sym c.is_some.ensures ∙ c.if-is_some.true) whole under)
 
-pub returns : goal.returns
-returns g c = λ whole under.
+pub returns-clause-ended : goal.returns-clause-ended
+returns-clause-ended g c =
     let meaning = g.T.Translation.meaning in
-    let here = c.in_ok-advance.ensures.goes.goes [] (whole ∷ []) refl under in
-    last_is (map meaning c.pop.new.self.items) (meaning c.in-Some.part) whole
-    (sym (ap (map meaning) c.in-Some.ensures.items ∙ map-append meaning c.pop.new.self.items (c.in-Some.part ∷ []))
-    ∙ end_reached g.T.Translation.scheme c.in_ok-advance.field-0 (reverse c.advance.new.self.steps.items) (map meaning c.advance.new.self.parts.items) (whole ∷ []) here)
+    let old = c.args.self in
+    let new = c.advance.new.self in
+    whatever_was_popped c.pop.result
+    (ends g.T.Translation.scheme (reverse old.steps.items) (reverse new.steps.items) (map meaning old.parts.items) (map meaning new.parts.items)
+    c.in_ok-advance.field-0 c.in_ok-advance.ensures.advances (sym c.is_some.ensures ∙ c.if-is_some.false))
+
+pub returns-clause-whole : goal.returns-clause-whole
+returns-clause-whole g c = λ whole under.
+    let meaning = g.T.Translation.meaning in
+    let old = c.args.self in
+    let new = c.advance.new.self in
+    let parts = new.parts.items in
+    let made = whole_made g.T.Translation.scheme (reverse old.steps.items) (reverse new.steps.items) (map meaning old.parts.items) (map meaning parts)
+    c.in_ok-advance.field-0 c.in_ok-advance.ensures.advances whole under in
+    only_popped meaning parts c.pop.new.self.items c.pop.result whole c.pop.ensures.items (λ some. c.pop.ensures.variant.1 (omega (arith, some))) made
