@@ -24,22 +24,22 @@
 #   separation 300           3.7     105.7   0.04         2.3       4.7   0.48  not valid
 #   geometric mean of the times: 0.255 (0.279 the day before)
 # Instructions of one run (callgrind, millions), which no other load disturbs, of a program that is built without its proofs (`bench/unproved.py`): before
-# the minimiser divided by hashes, with them, with a builder that also puts each automaton on a shelf and explores nothing twice, and MONA's. The shelf
-# costs most where the last automaton is large, since it is put there and copied out.
+# the minimiser divided by hashes, with them, with a builder that also puts each automaton on a shelf and explores nothing twice, with one that does so but
+# for the automaton of the last operator, which is handed out as it is, and MONA's.
 #
-#   arbiter 5 6        610     401     490     629
-#   arbiter 6 5       1636    1145    1421    1312
-#   arbiter 8 3       1482    1233    1472     891
-#   chain 700          4.1     4.2     4.4    2514
-#   count 8            0.4     0.4     0.4     159
-#   handshake 40      52.4    53.2    54.2     398
-#   layers 120         103     107      78     879
-#   mixture 12         342     285     335     202
-#   past 12            181     135     139     103
-#   quantified 8       0.8     0.7     0.8     160
-#   response 13        608     494     505     421
-#   separation 300    13.3    13.6    14.2    1234
-#   15 macros that double their number of conjunctions (`m14`): 574 before, 298 with the shelf, which explores 16,385 steps in place of 32,767
+#   arbiter 5 6        610     401     490     410     629
+#   arbiter 6 5       1636    1145    1421    1179    1312
+#   arbiter 8 3       1482    1233    1472    1288     891
+#   chain 700          4.1     4.2     4.4     4.3    2514
+#   count 8            0.4     0.4     0.4     0.4     159
+#   handshake 40      52.4    53.2    54.2    54.1     398
+#   layers 120         103     107      78      77     879
+#   mixture 12         342     285     335     305     202
+#   past 12            181     135     139     135     103
+#   quantified 8       0.8     0.7     0.8     0.8     160
+#   response 13        608     494     505     504     421
+#   separation 300    13.3    13.6    14.2    13.9    1234
+#   15 macros that double their number of conjunctions (`m14`): 574 before, 297 with the shelf, which explores 16,385 steps in place of 32,767
 set -euo pipefail
 here=$(cd "$(dirname "$(readlink -f "${BASH_SOURCE[0]}")")" && pwd)
 program=${PROGRAM:-$here/../crates/dcvalid/out/dcvalid}

@@ -10,6 +10,7 @@ use Rattle.indexmap.specs.IndexMap.{insert_entry}
 use Rattle.lru.proofs.CallerLemmas.{Contains-lookup}
 use Rattle.dcv_build.proofs.FaultFacts.{same_fault}
 use Rattle.dcv_build.proofs.Insertions.{insert_cases}
+use Rattle.dcv_build.proofs.Settled.{settled_ok}
 use Rattle.dcv_language.specs.Automaton.{WorkingMachine}
 use Rattle.dcv_language.specs.OperationMachines.{and_machine, or_machine, iff_machine, chop_machine, star_machine, exists_machine}
 use Rattle.dcv_language.specs.Table.{Table, automaton_of}
@@ -65,6 +66,13 @@ module _ {S : Type 0} (machine : WorkingMachine S) (parts : ℕ) (limits : Limit
     built = subst (λ n. IsBuilt machine parts limits (table_of_auto made.auto) n answer.nodes) (sym put.states)
         (subst (λ n. IsBuilt machine parts limits (table_of_auto made.auto) made.states n) (sym put.nodes) built);
   }
+
+  -- what answered, in an arena of its own
+  pub settled_found : (answer : Answer) (made : Made) → IsFor machine parts limits shelf answer → IsPut made shelf answer → Settles machine parts limits step (Ok made)
+  settled_found answer made is put =
+      let one : is.one ≡ table_of_auto made.auto = same_Some is.one (table_of_auto made.auto) (sym is.there ∙ put.there) in
+      settled_ok machine parts limits step made
+      (subst (λ (t : ShelfTable × (ℕ × ℕ)). IsBuilt machine parts limits t.0 t.1.0 t.1.1) (λ i. (one i, (put.states i, put.nodes i))) is.built)
 
 -- ---- a shelf that has grown
 

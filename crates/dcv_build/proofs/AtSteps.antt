@@ -19,24 +19,26 @@ use Rattle.dcv_atoms.specs.Parts.{atom_nodes}
 use Rattle.dcv_atoms.specs.Steps.{IsAtom}
 use Rattle.dcv_explore.specs.declared.explorer.Limits.{Limits}
 use Rattle.dcv_explore.specs.Budget.{Row}
-use Rattle.dcv_shelf.specs.Shelf.{ShelfTable, KeepsNumbers}
+use Rattle.dcv_shelf.specs.Shelf.{ShelfTable, nodes_of_table, KeepsNumbers, IsComplement}
 use Rattle.dcv_build.specs.declared.asked.Answer.{Answer}
 use Rattle.dcv_build.specs.declared.asked.Asked.{Asked}
 use Rattle.dcv_build.specs.declared.asked.Asked.TheVariants.{And, Or, Iff, Chop, Star, Exists}
 use Rattle.dcv_build.specs.declared.faults.BuildFault.{BuildFault}
 use Rattle.dcv_build.specs.declared.faults.BuildFault.TheVariants.{Memory}
-use Rattle.dcv_build.specs.Asked.{at_number, tables_at, AreThere, plain_tables, asked_row, AreTwo, IsWide, AreOperands, AnswersAsked, IsTurned}
-use Rattle.dcv_build.specs.Building.{AreWaiting, HasBuilt, Goes, ForTree}
+use Rattle.dcv_build.specs.declared.settling.Made.{Made}
+use Rattle.dcv_build.specs.Asked.{at_number, tables_at, AreThere, plain_tables, asked_row, AreTwo, IsWide, AreOperands, SettlesAsked, AnswersAsked, IsTurned}
+use Rattle.dcv_build.specs.Building.{AreWaiting, HasBuilt, IsNext, Goes, Makes, ForTree}
 use Rattle.dcv_build.specs.Given.{IsCoreOf, IsCore}
 use Rattle.dcv_build.specs.Rows.{pair_row, chop_row, star_row, set_row, row_of}
-use Rattle.dcv_build.specs.Settled.{IsOwn, IsBuilt, Answers}
-use Rattle.dcv_build.proofs.Answered.{plain_at, answers_ok}
+use Rattle.dcv_build.specs.Tasks.{Here, op_like, numbers_of}
+use Rattle.dcv_build.specs.Settled.{IsOwn, IsBuilt, Settles, Answers}
+use Rattle.dcv_build.proofs.Answered.{plain_at}
 use Rattle.dcv_build.proofs.Negation.{complement_is_built}
 use Rattle.dcv_build.proofs.Operands.{step_at, one_operand, two_operands}
 use Rattle.dcv_build.proofs.PostOrder.{IsAfterOne, IsAfterTwo, IsAfterOperands, after_operands}
-use Rattle.dcv_build.proofs.Progress.{goes}
+use Rattle.dcv_build.proofs.Progress.{next_of, goes, makes}
 use Rattle.dcv_build.proofs.SameRows.{table_at}
-use Rattle.dcv_build.proofs.ShelfTables.{tables_kept, front_there, behind_there}
+use Rattle.dcv_build.proofs.ShelfTables.{at_of, tables_kept, front_there, behind_there}
 use Rattle.dcv_build.proofs.Waiting.{one_is_there, two_are_there}
 
 pub atom_at : (core : PlainCore) (tree : CoreTree) (n : ℕ) (basic : PlainBasic) (step : PlainStep) → IsCoreOf tree core → slice_get (steps_of core.declared tree) n ≡ Some step
@@ -48,23 +50,12 @@ atom_at core tree n basic step is there form = record {
   width = refl;
 }
 
+pub atom_here : (core : PlainCore) (n : ℕ) (basic : PlainBasic) → IsCore core → Here core n (OpAtom basic) → (basic : PlainBasic) × (slots : ℕ) × IsAtom core n basic slots
+atom_here core n basic known here =
+    let found = step_at core known.tree n (OpAtom basic) known.is here in
+    (basic, found.0.slots, atom_at core known.tree n basic found.0 known.is found.1 found.2)
+
 -- ---- an operator of a core, and the same over numbers of the shelf
-
-abbrev pub op_like : Asked → ℕ → ℕ → PlainOp
-op_like (And a b) c d = OpAnd c d
-op_like (Or a b) c d = OpOr c d
-op_like (Iff a b) c d = OpIff c d
-op_like (Chop a b) c d = OpChop c d
-op_like (Star a) c d = OpStar d
-op_like (Exists a) c d = OpExists d
-
-abbrev pub numbers_of : Asked → List ℕ
-numbers_of (And a b) = a ∷ b ∷ []
-numbers_of (Or a b) = a ∷ b ∷ []
-numbers_of (Iff a b) = a ∷ b ∷ []
-numbers_of (Chop a b) = a ∷ b ∷ []
-numbers_of (Star a) = a ∷ []
-numbers_of (Exists a) = a ∷ []
 
 module _ (tables : List Table) (slots : ℕ) (shelf : List ShelfTable) where
   -- the tables at the numbers are those of the steps, over so many slots
@@ -105,6 +96,21 @@ module _ (tables : List Table) (slots : ℕ) (shelf : List ShelfTable) where
         let one_less : suc slots - 1 ≡ slots = omega arith in
         subst (λ n. P (set_row (exists_machine n (automaton_of (table_at tables d))))) one_less
         (by_one (λ slots t. set_row (exists_machine (slots - 1) (automaton_of t))) a d (suc slots) is here)
+
+-- ---- the complement of the newest
+
+module _ (k : ℕ) (tree : CoreTree) (limits : Limits) (n : ℕ) (rest : List ShelfTable) (one : ShelfTable) (counts : List Count)
+    (built : HasBuilt (steps_of k tree) limits n (rest ++ one ∷ []) counts) (step : PlainStep) (there : slice_get (steps_of k tree) n ≡ Some step) where
+  pub not_next : MachineAcceptsAtomStep → OneCanonicalTable → (d : ℕ) → step.op ≡ OpNot d → (turned : ShelfTable) → IsComplement one turned
+      → (states nodes : ℕ) → states ≡ length one.table → nodes ≡ nodes_of_table one → IsNext (steps_of k tree) limits n rest counts turned states nodes
+  not_next atoms one_canonical d is turned complement states nodes states_are nodes_are =
+      let takes = subst (IsOperation (steps_of k tree) n step) is (steps_are_operations k tree n step there) in
+      let after = subst (λ (o : PlainOp). IsAfterOperands (steps_of k tree) o (steps_before step.core)) is (after_operands k tree n step there) in
+      let at = one_operand (steps_of k tree) limits n rest step one counts built d step.slots outside takes after in
+      let own = complement_is_built one_canonical limits one turned at.is.own complement states nodes states_are nodes_are in
+      let moved = subst (λ (t : ℕ × Table). IsBuilt (not_machine t.0 (automaton_of t.1)) 0 limits turned states nodes) (λ i. (at.is.width i, sym at.is.table i)) own in
+      let row = subst (λ (o : PlainOp). IsBuilt (row_of o step.slots built.tables).machine (row_of o step.slots built.tables).parts limits turned states nodes) (sym is) moved in
+      next_of k tree limits n built.tables built.count built.done step there rest counts built.one_each built.each at.begin at.begins at.waits atoms turned states nodes row
 
 -- ---- at a step of a tree
 
@@ -180,42 +186,66 @@ module _ (k : ℕ) (tree : CoreTree) (limits : Limits) (n : ℕ) (shelf : List S
   pub asked_operands : (asked : Asked) (c d : ℕ) → step.op ≡ op_like asked c d → AreThere shelf (numbers_of asked) → Built (numbers_of asked) → AreOperands shelf asked
   asked_operands asked c d is all built = (takes asked c d is all built).operands
 
-  module _ (atoms : MachineAcceptsAtomStep) (after : List ShelfTable) (kept : KeepsNumbers shelf after) (rest_there : AreThere shelf rest) where
-    -- what waits does so on the shelf that has grown
-    grown : (result : Result Answer BuildFault) → Goes (steps_of k tree) limits n (tables_at shelf rest) counts after result → Goes (steps_of k tree) limits n (tables_at after rest) counts after result
-    grown result goes_on = subst (λ (w : List ShelfTable). Goes (steps_of k tree) limits n w counts after result) (sym (tables_kept shelf after kept rest rest_there)) goes_on
+  -- what is true of the row over the numbers is true of that of the step
+  own_row : (P : Row → Type 0) (asked : Asked) (c d : ℕ) → step.op ≡ op_like asked c d → AreThere shelf (numbers_of asked) → (built : Built (numbers_of asked)) → P (asked_row shelf asked)
+      → P (row_of step.op step.slots built.tables)
+  own_row P asked c d is all built here =
+      subst (λ (o : PlainOp). P (row_of o step.slots built.tables)) (sym is) (row_is built.tables step.slots shelf P asked c d (takes asked c d is all built).these here)
 
-    pub asked_goes : (asked : Asked) (c d : ℕ) → step.op ≡ op_like asked c d → AreThere shelf (numbers_of asked) → Built (numbers_of asked)
-        → (result : Result Answer BuildFault) → AnswersAsked shelf asked limits n after result → Goes (steps_of k tree) limits n (tables_at after rest) counts after result
-    asked_goes asked c d is all built result answers =
+  -- no operand is taken
+  none_begins : (basic : PlainBasic) → step.op ≡ OpAtom basic → n + steps_before step.core ≡ n
+  none_begins basic is = let none : steps_before step.core ≡ 0 = after_is (OpAtom basic) is in omega (arith, none)
+
+  all_wait : (built : Built []) → AreWaiting (steps_of k tree) limits built.tables n (reverse (tables_at shelf rest))
+  all_wait built = subst (λ (w : List ShelfTable). AreWaiting (steps_of k tree) limits built.tables n (reverse w)) (append-nil (tables_at shelf rest)) built.waits
+
+  module _ (atoms : MachineAcceptsAtomStep) where
+    -- the automaton of the step, on no shelf
+    pub asked_makes : (asked : Asked) (c d : ℕ) → step.op ≡ op_like asked c d → AreThere shelf (numbers_of asked) → Built (numbers_of asked)
+        → (result : Result Made BuildFault) → SettlesAsked shelf asked limits n result → Makes (steps_of k tree) limits n (tables_at shelf rest) counts result
+    asked_makes asked c d is all built result settles =
         let has = takes asked c d is all built in
-        let own = row_is built.tables step.slots shelf (λ (row : Row). Answers row.machine row.parts limits n after result) asked c d has.these answers in
-        let row = subst (λ (o : PlainOp). Answers (row_of o step.slots built.tables).machine (row_of o step.slots built.tables).parts limits n after result) (sym is) own in
-        grown result
-        (goes k tree limits n built.tables built.count built.done step there (tables_at shelf rest) counts built.one_each built.each has.begin has.begins has.waits atoms after result row)
+        makes k tree limits n built.tables built.count built.done step there (tables_at shelf rest) counts built.one_each built.each has.begin has.begins has.waits atoms result
+        (own_row (λ (row : Row). Settles row.machine row.parts limits n result) asked c d is all built settles)
 
-    pub atom_goes : (basic : PlainBasic) → step.op ≡ OpAtom basic → Built [] → (result : Result Answer BuildFault)
-        → Answers (atom_machine step.slots basic) (atom_nodes step.slots basic) limits n after result → Goes (steps_of k tree) limits n (tables_at after rest) counts after result
-    atom_goes basic is built result answers =
-        let none : steps_before step.core ≡ 0 = after_is (OpAtom basic) is in
-        let row = subst (λ (o : PlainOp). Answers (row_of o step.slots built.tables).machine (row_of o step.slots built.tables).parts limits n after result) (sym is) answers in
-        grown result
-        (goes k tree limits n built.tables built.count built.done step there (tables_at shelf rest) counts built.one_each built.each n (omega (arith, none))
-        (subst (λ (w : List ShelfTable). AreWaiting (steps_of k tree) limits built.tables n (reverse w)) (append-nil (tables_at shelf rest)) built.waits) atoms after result row)
+    pub atom_makes : (basic : PlainBasic) → step.op ≡ OpAtom basic → Built [] → (result : Result Made BuildFault)
+        → Settles (atom_machine step.slots basic) (atom_nodes step.slots basic) limits n result → Makes (steps_of k tree) limits n (tables_at shelf rest) counts result
+    atom_makes basic is built result settles =
+        makes k tree limits n built.tables built.count built.done step there (tables_at shelf rest) counts built.one_each built.each n (none_begins basic is) (all_wait built) atoms result
+        (subst (λ (o : PlainOp). Settles (row_of o step.slots built.tables).machine (row_of o step.slots built.tables).parts limits n result) (sym is) settles)
 
-    pub not_goes : OneCanonicalTable → (a d : ℕ) → step.op ≡ OpNot d → a < length shelf → Built (a ∷ []) → (answer : Answer) → IsTurned (at_number shelf a) after answer
-        → Goes (steps_of k tree) limits n (tables_at after rest) counts after (Ok answer)
-    not_goes one_canonical a d is own_there built answer turned =
-        let has = takes_one a d step.slots outside (operation_is (OpNot d) is) (after_is (OpNot d) is) own_there built in
-        let one = at_number shelf a in
-        let own = complement_is_built one_canonical limits one turned.turned has.operands turned.complement answer.states answer.nodes turned.states turned.nodes in
-        let moved = subst (λ (t : ℕ × Table). IsBuilt (not_machine t.0 (automaton_of t.1)) 0 limits turned.turned answer.states answer.nodes)
-        (λ i. (has.these.wide i, (sym (plain_at shelf a own_there) ∙ has.these.only) i)) own in
-        let answers = answers_ok (not_machine step.slots (automaton_of (table_at built.tables d))) 0 limits n after answer
-        (record { one = turned.turned; there = turned.there; built = moved }) in
-        let row = subst (λ (o : PlainOp). Answers (row_of o step.slots built.tables).machine (row_of o step.slots built.tables).parts limits n after (Ok answer)) (sym is) answers in
-        grown (Ok answer)
-        (goes k tree limits n built.tables built.count built.done step there (tables_at shelf rest) counts built.one_each built.each has.begin has.begins has.waits atoms after (Ok answer) row)
+    module _ (after : List ShelfTable) (kept : KeepsNumbers shelf after) (rest_there : AreThere shelf rest) where
+      -- what waits does so on the shelf that has grown
+      grown : (result : Result Answer BuildFault) → Goes (steps_of k tree) limits n (tables_at shelf rest) counts after result → Goes (steps_of k tree) limits n (tables_at after rest) counts after result
+      grown result goes_on = subst (λ (w : List ShelfTable). Goes (steps_of k tree) limits n w counts after result) (sym (tables_kept shelf after kept rest rest_there)) goes_on
+
+      pub asked_goes : (asked : Asked) (c d : ℕ) → step.op ≡ op_like asked c d → AreThere shelf (numbers_of asked) → Built (numbers_of asked)
+          → (result : Result Answer BuildFault) → AnswersAsked shelf asked limits n after result → Goes (steps_of k tree) limits n (tables_at after rest) counts after result
+      asked_goes asked c d is all built result answers =
+          let has = takes asked c d is all built in
+          grown result
+          (goes k tree limits n built.tables built.count built.done step there (tables_at shelf rest) counts built.one_each built.each has.begin has.begins has.waits atoms after result
+          (own_row (λ (row : Row). Answers row.machine row.parts limits n after result) asked c d is all built answers))
+
+      pub atom_goes : (basic : PlainBasic) → step.op ≡ OpAtom basic → Built [] → (result : Result Answer BuildFault)
+          → Answers (atom_machine step.slots basic) (atom_nodes step.slots basic) limits n after result → Goes (steps_of k tree) limits n (tables_at after rest) counts after result
+      atom_goes basic is built result answers =
+          grown result
+          (goes k tree limits n built.tables built.count built.done step there (tables_at shelf rest) counts built.one_each built.each n (none_begins basic is) (all_wait built) atoms after result
+          (subst (λ (o : PlainOp). Answers (row_of o step.slots built.tables).machine (row_of o step.slots built.tables).parts limits n after result) (sym is) answers))
+
+      pub not_goes : OneCanonicalTable → (a d : ℕ) → step.op ≡ OpNot d → Built (a ∷ []) → (answer : Answer) → IsTurned (at_number shelf a) after answer
+          → Goes (steps_of k tree) limits n (tables_at after rest) counts after (Ok answer)
+      not_goes one_canonical a d is built answer turned =
+          let next = not_next k tree limits n (tables_at shelf rest) (at_number shelf a) counts built step there atoms one_canonical d is turned.turned turned.complement
+          answer.states answer.nodes turned.states turned.nodes in
+          grown (Ok answer)
+          (record {
+            built = subst (λ (one : ShelfTable). IsNext (steps_of k tree) limits n (tables_at shelf rest) counts one answer.states answer.nodes)
+                (sym (at_of after answer.number turned.turned turned.there)) next;
+            states = λ at limit same. absurd cc;
+            nodes = λ at limit same. absurd cc;
+          })
 
 pub memory_goes : (steps : List PlainStep) (limits : Limits) (n : ℕ) (waiting : List ShelfTable) (counts : List Count) (shelf : List ShelfTable)
     → Goes steps limits n waiting counts shelf (Err Memory)
@@ -224,21 +254,20 @@ memory_goes steps limits n waiting counts shelf = record { built = tt; states = 
 -- ---- at a step of a core
 
 module _ (core : PlainCore) (limits : Limits) (n : ℕ) (counts : List Count) where
-  -- the core has this operator there
-  abbrev pub Here : PlainOp → Type 0
-  Here op = option_map (λ (s : CoreStep). s.op) (slice_get core.steps n) ≡ Some op
-
   abbrev AreBuilt : List ShelfTable → Type 0
   AreBuilt waiting = ForTree core (λ steps. HasBuilt steps limits n waiting counts)
 
   abbrev GoesOn : List ShelfTable → List ShelfTable → Result Answer BuildFault → Type 0
   GoesOn rest shelf result = ForTree core (λ steps. Goes steps limits n rest counts shelf result)
 
+  abbrev MakesOn : List ShelfTable → Result Made BuildFault → Type 0
+  MakesOn rest result = ForTree core (λ steps. Makes steps limits n rest counts result)
+
   -- ---- how many wait
 
   one_waits : (op : PlainOp) (d : ℕ) (slots : PlainStep → ℕ) (operation : Language → Language)
       → ((tree : CoreTree) (step : PlainStep) → IsOperation (steps_of core.declared tree) n step op → TakesOne (steps_of core.declared tree) n step d (slots step) operation)
-      → IsCore core → Here op → (shelf : List ShelfTable) (waiting : List ℕ) → AreBuilt (tables_at shelf waiting) → 0 < length waiting
+      → IsCore core → Here core n op → (shelf : List ShelfTable) (waiting : List ℕ) → AreBuilt (tables_at shelf waiting) → 0 < length waiting
   one_waits op d slots operation takes known here shelf waiting built =
       let tree = known.tree in
       let found = step_at core tree n op known.is here in
@@ -248,7 +277,7 @@ module _ (core : PlainCore) (limits : Limits) (n : ℕ) (counts : List Count) wh
 
   two_wait : (op : PlainOp) (c d : ℕ) (operation : Language → Language → Language)
       → ((tree : CoreTree) (step : PlainStep) → IsOperation (steps_of core.declared tree) n step op → TakesTwo (steps_of core.declared tree) n step c d operation)
-      → IsCore core → Here op → (shelf : List ShelfTable) (waiting : List ℕ) → AreBuilt (tables_at shelf waiting) → 1 < length waiting
+      → IsCore core → Here core n op → (shelf : List ShelfTable) (waiting : List ℕ) → AreBuilt (tables_at shelf waiting) → 1 < length waiting
   two_wait op c d operation takes known here shelf waiting built =
       let tree = known.tree in
       let found = step_at core tree n op known.is here in
@@ -256,25 +285,25 @@ module _ (core : PlainCore) (limits : Limits) (n : ℕ) (counts : List Count) wh
       let more = two_are_there (steps_of core.declared tree) limits n (tables_at shelf waiting) counts (built tree known.is) found.0 c d operation operands in
       omega (arith, more, length-map waiting (at_number shelf))
 
-  pub not_waits : (d : ℕ) → IsCore core → Here (OpNot d) → (shelf : List ShelfTable) (waiting : List ℕ) → AreBuilt (tables_at shelf waiting) → 0 < length waiting
+  pub not_waits : (d : ℕ) → IsCore core → Here core n (OpNot d) → (shelf : List ShelfTable) (waiting : List ℕ) → AreBuilt (tables_at shelf waiting) → 0 < length waiting
   not_waits d = one_waits (OpNot d) d (λ step. step.slots) outside (λ tree step is. is)
 
-  pub star_waits : (d : ℕ) → IsCore core → Here (OpStar d) → (shelf : List ShelfTable) (waiting : List ℕ) → AreBuilt (tables_at shelf waiting) → 0 < length waiting
+  pub star_waits : (d : ℕ) → IsCore core → Here core n (OpStar d) → (shelf : List ShelfTable) (waiting : List ℕ) → AreBuilt (tables_at shelf waiting) → 0 < length waiting
   star_waits d = one_waits (OpStar d) d (λ step. step.slots) star (λ tree step is. is)
 
-  pub exists_waits : (d : ℕ) → IsCore core → Here (OpExists d) → (shelf : List ShelfTable) (waiting : List ℕ) → AreBuilt (tables_at shelf waiting) → 0 < length waiting
+  pub exists_waits : (d : ℕ) → IsCore core → Here core n (OpExists d) → (shelf : List ShelfTable) (waiting : List ℕ) → AreBuilt (tables_at shelf waiting) → 0 < length waiting
   exists_waits d = one_waits (OpExists d) d (λ step. suc step.slots) projection (λ tree step is. is)
 
-  pub and_waits : (c d : ℕ) → IsCore core → Here (OpAnd c d) → (shelf : List ShelfTable) (waiting : List ℕ) → AreBuilt (tables_at shelf waiting) → 1 < length waiting
+  pub and_waits : (c d : ℕ) → IsCore core → Here core n (OpAnd c d) → (shelf : List ShelfTable) (waiting : List ℕ) → AreBuilt (tables_at shelf waiting) → 1 < length waiting
   and_waits c d = two_wait (OpAnd c d) c d intersection (λ tree step is. is)
 
-  pub or_waits : (c d : ℕ) → IsCore core → Here (OpOr c d) → (shelf : List ShelfTable) (waiting : List ℕ) → AreBuilt (tables_at shelf waiting) → 1 < length waiting
+  pub or_waits : (c d : ℕ) → IsCore core → Here core n (OpOr c d) → (shelf : List ShelfTable) (waiting : List ℕ) → AreBuilt (tables_at shelf waiting) → 1 < length waiting
   or_waits c d = two_wait (OpOr c d) c d union (λ tree step is. is)
 
-  pub iff_waits : (c d : ℕ) → IsCore core → Here (OpIff c d) → (shelf : List ShelfTable) (waiting : List ℕ) → AreBuilt (tables_at shelf waiting) → 1 < length waiting
+  pub iff_waits : (c d : ℕ) → IsCore core → Here core n (OpIff c d) → (shelf : List ShelfTable) (waiting : List ℕ) → AreBuilt (tables_at shelf waiting) → 1 < length waiting
   iff_waits c d = two_wait (OpIff c d) c d agreement (λ tree step is. is)
 
-  pub chop_waits : (c d : ℕ) → IsCore core → Here (OpChop c d) → (shelf : List ShelfTable) (waiting : List ℕ) → AreBuilt (tables_at shelf waiting) → 1 < length waiting
+  pub chop_waits : (c d : ℕ) → IsCore core → Here core n (OpChop c d) → (shelf : List ShelfTable) (waiting : List ℕ) → AreBuilt (tables_at shelf waiting) → 1 < length waiting
   chop_waits c d = two_wait (OpChop c d) c d chop (λ tree step is. is)
 
   -- ---- with these taken
@@ -292,32 +321,47 @@ module _ (core : PlainCore) (limits : Limits) (n : ℕ) (counts : List Count) wh
     numbers_are numbers same = behind_there shelf rest numbers (subst (AreThere shelf) same old_there)
 
     module _ (asked : Asked) (c d : ℕ) (same : old ≡ rest ++ numbers_of asked) where
-      pub operands_at : IsCore core → Here (op_like asked c d) → AreOperands shelf asked
+      pub operands_at : IsCore core → Here core n (op_like asked c d) → AreOperands shelf asked
       operands_at known here =
           let found = step_at core known.tree n (op_like asked c d) known.is here in
           asked_operands core.declared known.tree limits n shelf rest counts found.0 found.1 asked c d found.2 (numbers_are (numbers_of asked) same) (taken (numbers_of asked) same known.tree known.is)
 
-      pub goes_on : MachineAcceptsAtomStep → Here (op_like asked c d) → (after : List ShelfTable) → KeepsNumbers shelf after
+      pub goes_on : MachineAcceptsAtomStep → Here core n (op_like asked c d) → (after : List ShelfTable) → KeepsNumbers shelf after
           → (result : Result Answer BuildFault) → AnswersAsked shelf asked limits n after result → GoesOn (tables_at after rest) after result
       goes_on atoms here after kept result answers tree is =
           let found = step_at core tree n (op_like asked c d) is here in
           asked_goes core.declared tree limits n shelf rest counts found.0 found.1 atoms after kept (rest_are (numbers_of asked) same) asked c d found.2
           (numbers_are (numbers_of asked) same) (taken (numbers_of asked) same tree is) result answers
 
+      pub makes_on : MachineAcceptsAtomStep → Here core n (op_like asked c d) → (result : Result Made BuildFault) → SettlesAsked shelf asked limits n result → MakesOn (tables_at shelf rest) result
+      makes_on atoms here result settles tree is =
+          let found = step_at core tree n (op_like asked c d) is here in
+          asked_makes core.declared tree limits n shelf rest counts found.0 found.1 atoms asked c d found.2
+          (numbers_are (numbers_of asked) same) (taken (numbers_of asked) same tree is) result settles
+
     module _ (a d : ℕ) (same : old ≡ rest ++ a ∷ []) where
-      pub not_goes_on : MachineAcceptsAtomStep → OneCanonicalTable → Here (OpNot d) → (after : List ShelfTable) → KeepsNumbers shelf after
+      pub not_goes_on : MachineAcceptsAtomStep → OneCanonicalTable → Here core n (OpNot d) → (after : List ShelfTable) → KeepsNumbers shelf after
           → (answer : Answer) → IsTurned (at_number shelf a) after answer → GoesOn (tables_at after rest) after (Ok answer)
       not_goes_on atoms one_canonical here after kept answer turned tree is =
           let found = step_at core tree n (OpNot d) is here in
           not_goes core.declared tree limits n shelf rest counts found.0 found.1 atoms after kept (rest_are (a ∷ []) same) one_canonical a d found.2
-          (numbers_are (a ∷ []) same 0 0 (omega arith)) (taken (a ∷ []) same tree is) answer turned
+          (taken (a ∷ []) same tree is) answer turned
 
   -- nothing is taken
   pub atom_goes_on : (shelf : List ShelfTable) (old : List ℕ) (built : AreBuilt (tables_at shelf old)) (old_there : AreThere shelf old) (basic : PlainBasic)
-      → MachineAcceptsAtomStep → Here (OpAtom basic) → (after : List ShelfTable) → KeepsNumbers shelf after → (result : Result Answer BuildFault)
+      → MachineAcceptsAtomStep → Here core n (OpAtom basic) → (after : List ShelfTable) → KeepsNumbers shelf after → (result : Result Answer BuildFault)
       → ((slots : ℕ) → IsAtom core n basic slots → Answers (atom_machine slots basic) (atom_nodes slots basic) limits n after result) → GoesOn (tables_at after old) after result
   atom_goes_on shelf old built old_there basic atoms here after kept result answers tree is =
       let found = step_at core tree n (OpAtom basic) is here in
       atom_goes core.declared tree limits n shelf old counts found.0 found.1 atoms after kept old_there basic found.2
       (subst (λ (w : List ShelfTable). HasBuilt (steps_of core.declared tree) limits n w counts) (sym (append-nil (tables_at shelf old))) (built tree is)) result
       (answers found.0.slots (atom_at core tree n basic found.0 is found.1 found.2))
+
+  pub atom_makes_on : (shelf : List ShelfTable) (old : List ℕ) (built : AreBuilt (tables_at shelf old)) (basic : PlainBasic)
+      → MachineAcceptsAtomStep → Here core n (OpAtom basic) → (result : Result Made BuildFault)
+      → ((slots : ℕ) → IsAtom core n basic slots → Settles (atom_machine slots basic) (atom_nodes slots basic) limits n result) → MakesOn (tables_at shelf old) result
+  atom_makes_on shelf old built basic atoms here result settles tree is =
+      let found = step_at core tree n (OpAtom basic) is here in
+      atom_makes core.declared tree limits n shelf old counts found.0 found.1 atoms basic found.2
+      (subst (λ (w : List ShelfTable). HasBuilt (steps_of core.declared tree) limits n w counts) (sym (append-nil (tables_at shelf old))) (built tree is)) result
+      (settles found.0.slots (atom_at core tree n basic found.0 is found.1 found.2))

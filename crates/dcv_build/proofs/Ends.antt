@@ -1,6 +1,5 @@
 -- A build from its first step to its last.
-use Rattle.std.proofs.Common.{◌≡◌, ℕ, ◌<◌, ◌≤◌, List, [], ◌∷◌, ◌++◌, length, refl, sym, subst, arith}
-use Rattle.std.proofs.lemmas.List.{length-map}
+use Rattle.std.proofs.Common.{◌≡◌, ℕ, ◌<◌, ◌≤◌, List, [], ◌∷◌, ◌++◌, length, refl, sym, subst}
 use Rattle.std.proofs.lemmas.List.Elements.{All-nil}
 use Rattle.dcv_count.specs.declared.Count.{Count}
 use Rattle.dcv_core.specs.Core.{CoreTree}
@@ -11,12 +10,12 @@ use Rattle.dcv_dfa.specs.Auto.{count_of_nodes}
 use Rattle.dcv_explore.specs.declared.explorer.Limits.{Limits}
 use Rattle.dcv_shelf.specs.Shelf.{ShelfTable, table_of_auto}
 use Rattle.dcv_build.specs.declared.building.Building.{Building}
-use Rattle.dcv_build.specs.Asked.{at_number, tables_at, AreThere}
+use Rattle.dcv_build.specs.Asked.{tables_at, AreThere}
 use Rattle.dcv_build.specs.Budget.{IsWithinBudget, IsAutomatonOf}
-use Rattle.dcv_build.specs.Building.{HasBuilt, ForTree, IsBuilding}
+use Rattle.dcv_build.specs.Building.{HasBuilt, IsBuilding, IsGoal}
 use Rattle.dcv_build.specs.Counts.{AreCounts}
-use Rattle.dcv_build.specs.Given.{IsCoreOf, IsCore}
-use Rattle.dcv_build.proofs.Waiting.{none_built, goal_waits, goal_is, goal_within, goal_counts, goal_states, goal_nodes}
+use Rattle.dcv_build.specs.Given.{IsCoreOf}
+use Rattle.dcv_build.proofs.Waiting.{none_built, goal_is, goal_within, goal_counts, goal_states, goal_nodes}
 
 pub fresh_building : (core : PlainCore) (new : Building) → new.known.tables ≡ [] → new.waiting.items ≡ [] → new.counts.items ≡ [] → IsBuilding core 0 new
 fresh_building core new tables waiting counts = record {
@@ -27,31 +26,21 @@ fresh_building core new tables waiting counts = record {
       (subst (HasBuilt steps new.known.limits 0 []) (sym counts) (none_built steps new.known.limits));
 }
 
-module _ (core : PlainCore) (limits : Limits) (done : Building) (same : done.known.limits ≡ limits) (is : IsBuilding core (length core.steps) done) where
+module _ (core : PlainCore) (limits : Limits) (auto : RawValue) (counts : List Count) (is : IsGoal core limits (length core.steps) auto counts) (tree : CoreTree) (of_core : IsCoreOf tree core) where
   abbrev waits : List ShelfTable
-  waits = tables_at done.known.tables done.waiting.items
+  waits = is.rest ++ table_of_auto auto ∷ []
 
-  built : ForTree core (λ steps. HasBuilt steps limits (length core.steps) waits done.counts.items)
-  built tree of_core = subst (λ (l : Limits). HasBuilt (steps_of core.declared tree) l (length core.steps) waits done.counts.items) same (is.built tree of_core)
+  pub built_is : IsAutomatonOf core.declared (words_of tree) auto
+  built_is = goal_is core limits (length core.steps) waits counts is.built refl is.rest auto refl tree of_core
 
-  pub some_waits : IsCore core → 0 < length done.waiting.items
-  some_waits known =
-      let some = goal_waits core limits (length core.steps) waits done.counts.items built refl known in
-      omega (arith, some, length-map done.waiting.items (at_number done.known.tables))
+  pub built_within : IsWithinBudget (steps_of core.declared tree) limits
+  built_within = goal_within core limits (length core.steps) waits counts is.built refl is.rest auto refl tree of_core
 
-  module _ (auto : RawValue) (last : (rest : List ShelfTable) × (waits ≡ rest ++ table_of_auto auto ∷ [])) (tree : CoreTree) (of_core : IsCoreOf tree core) where
-    pub built_is : IsAutomatonOf core.declared (words_of tree) auto
-    built_is = goal_is core limits (length core.steps) waits done.counts.items built refl last.0 auto last.1 tree of_core
+  pub built_counts : AreCounts (steps_of core.declared tree) limits counts
+  built_counts = goal_counts core limits (length core.steps) waits counts is.built refl is.rest auto refl tree of_core
 
-    pub built_within : IsWithinBudget (steps_of core.declared tree) limits
-    built_within = goal_within core limits (length core.steps) waits done.counts.items built refl last.0 auto last.1 tree of_core
+  pub built_states : length auto.rows ≤ limits.states
+  built_states = goal_states core limits (length core.steps) waits counts is.built refl is.rest auto refl tree of_core
 
-    pub built_counts : (counts : List Count) → counts ≡ done.counts.items → AreCounts (steps_of core.declared tree) limits counts
-    built_counts counts alike =
-        subst (AreCounts (steps_of core.declared tree) limits) (sym alike) (goal_counts core limits (length core.steps) waits done.counts.items built refl last.0 auto last.1 tree of_core)
-
-    pub built_states : length auto.rows ≤ limits.states
-    built_states = goal_states core limits (length core.steps) waits done.counts.items built refl last.0 auto last.1 tree of_core
-
-    pub built_nodes : count_of_nodes auto ≤ limits.nodes
-    built_nodes = goal_nodes core limits (length core.steps) waits done.counts.items built refl last.0 auto last.1 tree of_core
+  pub built_nodes : count_of_nodes auto ≤ limits.nodes
+  built_nodes = goal_nodes core limits (length core.steps) waits counts is.built refl is.rest auto refl tree of_core

@@ -14,4 +14,5 @@ mod SameRows
 mod Settled
 mod ShelfTables
 mod StepMachines
+mod Turning
 mod Waiting

@@ -11,7 +11,7 @@ use Rattle.dcv_syntax.specs.declared.names.Span.{Span}
 use Rattle.dcv_explore.specs.declared.explorer.Limits.{Limits}
 use Rattle.dcv_shelf.specs.Shelf.{ShelfTable, KeepsNumbers}
 use Rattle.dcv_build.specs.Asked.{at_number, tables_at, AreThere}
-use Rattle.dcv_build.specs.Building.{HasBuilt, IsCountOf, GoesWith, Goes, ForTree, IsBuilding}
+use Rattle.dcv_build.specs.Building.{HasBuilt, GoesWith, Goes, ForTree, IsBuilding, IsNoted}
 use Rattle.dcv_build.specs.declared.faults.BuildFault.{BuildFault}
 use Rattle.dcv_build.specs.declared.building.Building.{Building}
 use Rattle.dcv_build.specs.Given.{IsCoreOf}
@@ -38,7 +38,7 @@ module _ (shelf before after : List ShelfTable) (kept : KeepsNumbers before afte
       ∙ sym (push_tables shelf (take index waiting) (get_or waiting index d))
       ∙ ap (tables_at shelf) (sym (take_more waiting index d within))
 
--- ---- what answers a step comes to wait
+-- ---- the count of a step is noted, and what answers it comes to wait
 
 module _ (core : PlainCore) (step : ℕ) (span : Span) (here : option_map (λ (s : CoreStep). s.span) (slice_get core.steps step) ≡ Some span) where
   -- the span is that of each tree's step
@@ -48,20 +48,27 @@ module _ (core : PlainCore) (step : ℕ) (span : Span) (here : option_map (λ (s
       (sym here ∙ ap (λ (listed : List CoreStep). option_map (λ (s : CoreStep). s.span) (slice_get listed step)) is
       ∙ ap (option_map (λ (s : CoreStep). s.span)) (slice_get-map without_core (steps_of core.declared tree) step ∙ ap (option_map without_core) at))
 
-  module _ (limits : Limits) (shelf : List ShelfTable) (waiting : List ℕ) (counts : List Count) (answer : Answer) (count : Count) (place : count.at ≡ span.start)
-      (states : count.states ≡ answer.states) (nodes : count.nodes ≡ answer.nodes)
-      (goes : ForTree core (λ steps. GoesWith steps limits step (tables_at shelf waiting) counts shelf answer)) where
-    pub is_pushed : (new_waiting : List ℕ) (new_counts : List Count) → new_waiting ≡ waiting ++ answer.number ∷ [] → new_counts ≡ counts ++ count ∷ []
-        → ForTree core (λ steps. HasBuilt steps limits (step + 1) (tables_at shelf new_waiting) new_counts)
-    is_pushed new_waiting new_counts waits counted tree is =
-        let steps = steps_of core.declared tree in
-        let own : IsCountOf steps step answer count = record {
-          place = λ one at. place ∙ ap (λ (s : Span). s.start) (span_is tree is one at);
-          states = states;
-          nodes = nodes;
-        } in
-        subst (λ (w : List ShelfTable). HasBuilt steps limits (step + 1) w new_counts) (sym (ap (tables_at shelf) waits ∙ push_tables shelf waiting answer.number))
-        (subst (HasBuilt steps limits (step + 1) (tables_at shelf waiting ++ at_number shelf answer.number ∷ [])) (sym counted) (goes tree is count own))
+  pub noted : (states nodes : ℕ) (old new : List Count) (count : Count) → count.at ≡ span.start → count.states ≡ states → count.nodes ≡ nodes → new ≡ old ++ count ∷ []
+      → IsNoted core step states nodes old new
+  noted states nodes old new count place states_are nodes_are added = record {
+    count = count;
+    added = added;
+    is = λ tree is. record {
+      place = λ own at. place ∙ ap (λ (s : Span). s.start) (span_is tree is own at);
+      states_are = states_are;
+      nodes_are = nodes_are;
+    };
+  }
+
+pub is_pushed : (core : PlainCore) (step : ℕ) (limits : Limits) (shelf : List ShelfTable) (waiting new_waiting : List ℕ) (counts new_counts : List Count) (answer : Answer)
+    → new_waiting ≡ waiting ++ answer.number ∷ [] → IsNoted core step answer.states answer.nodes counts new_counts
+    → ForTree core (λ steps. GoesWith steps limits step (tables_at shelf waiting) counts shelf answer)
+    → ForTree core (λ steps. HasBuilt steps limits (step + 1) (tables_at shelf new_waiting) new_counts)
+is_pushed core step limits shelf waiting new_waiting counts new_counts answer waits is_noted goes tree is =
+    let steps = steps_of core.declared tree in
+    subst (λ (w : List ShelfTable). HasBuilt steps limits (step + 1) w new_counts) (sym (ap (tables_at shelf) waits ∙ push_tables shelf waiting answer.number))
+    (subst (HasBuilt steps limits (step + 1) (tables_at shelf waiting ++ at_number shelf answer.number ∷ [])) (sym is_noted.added)
+    (goes tree is is_noted.count (is_noted.is tree is)))
 
 pub all_taken : (numbers : List ℕ) (index : ℕ) → length numbers ≤ index → take index numbers ≡ numbers
 all_taken [] zero few = refl

@@ -135,14 +135,28 @@ module _ (raw : RawValue) (is : IsRaw raw) (auto : IsAuto raw) where
       (sym (table_of_complement raw auto.access is.flags))
       (complement_is_canonical raw.arena.slots (raw_accepts raw) (table_of_states raw) auto.access auto.canonical)
 
+  -- for the words that the table does not accept
+  outside_table : IsCanonical raw.arena.slots (outside (table_accepts (table_of_states raw))) (table_of_states other) auto.access
+  outside_table =
+      canonical_for_same_behaviours raw.arena.slots (outside (raw_accepts raw)) (outside (table_accepts (table_of_states raw))) (table_of_states other) auto.access
+      (outside_same raw.arena.slots (raw_accepts raw) (table_accepts (table_of_states raw)) (λ word behaves. sym (table_accepts_as_the_states raw is auto.start word behaves))) outside_is
+
+  pub is_complement : IsComplement (table_of_auto raw) (table_of_auto other)
+  is_complement = record {
+    slots = refl;
+    access = auto.access;
+    canonical = outside_table;
+    states = omega (arith, table_has_the_states other, table_has_the_states raw);
+    nodes = sym (nodes_by_table other) ∙ nodes_by_table raw;
+  }
+
   module _ (one_canonical : OneCanonicalTable) (limits : Limits) (own_states : length raw.rows ≤ limits.states) (own_nodes : count_of_nodes raw ≤ limits.nodes)
       (turned : ShelfTable) (complement : IsComplement (table_of_auto raw) turned) where
     -- which is the table of the turned automaton
     turned_is : table_of_auto other ≡ turned
     turned_is =
-        let moved = canonical_for_same_behaviours raw.arena.slots (outside (raw_accepts raw)) (outside (table_accepts (table_of_states raw))) (table_of_states other) auto.access
-        (outside_same raw.arena.slots (raw_accepts raw) (table_accepts (table_of_states raw)) (λ word behaves. sym (table_accepts_as_the_states raw is auto.start word behaves))) outside_is in
-        let same = (one_canonical raw.arena.slots (outside (table_accepts (table_of_states raw))) (table_of_states other) turned.table auto.access complement.access moved complement.canonical).0 in
+        let same = (one_canonical raw.arena.slots (outside (table_accepts (table_of_states raw))) (table_of_states other) turned.table auto.access complement.access
+        outside_table complement.canonical).0 in
         λ i. record { slots = sym complement.slots i; table = same i }
 
     complement_is : (many nodes : ℕ) → many ≡ length (table_of_states raw) → nodes ≡ nodes_of_table (table_of_auto raw)

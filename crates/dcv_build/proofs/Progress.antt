@@ -19,15 +19,16 @@ use Rattle.dcv_atoms.specs.Laws.{MachineAcceptsStep as MachineAcceptsAtomStep}
 use Rattle.dcv_explore.specs.declared.explorer.Limits.{Limits}
 use Rattle.dcv_explore.specs.Budget.{IsWithin, Kind, TooManyStates, TooManyNodes, Exceeds}
 use Rattle.dcv_explore.proofs.Places.{pushed_cases}
-use Rattle.dcv_shelf.specs.Shelf.{ShelfTable}
+use Rattle.dcv_shelf.specs.Shelf.{ShelfTable, table_of_auto}
 use Rattle.dcv_build.specs.declared.asked.Answer.{Answer}
 use Rattle.dcv_build.specs.declared.faults.BuildFault.{BuildFault}
+use Rattle.dcv_build.specs.declared.settling.Made.{Made}
 use Rattle.dcv_build.specs.Budget.{row_at, IsStepDone, IsDone, IsOver}
-use Rattle.dcv_build.specs.Building.{IsNewest, AreWaiting, HasBuilt, GoesWith, Goes}
+use Rattle.dcv_build.specs.Building.{IsNewest, AreWaiting, HasBuilt, IsNext, GoesWith, MakesNext, Goes, Makes}
 use Rattle.dcv_build.specs.Counts.{HasAllCounts, IsCount}
 use Rattle.dcv_build.specs.Laws.{AreCanonicalBefore}
 use Rattle.dcv_build.specs.Rows.{row_of}
-use Rattle.dcv_build.specs.Settled.{IsOwn, IsFor, Answers}
+use Rattle.dcv_build.specs.Settled.{IsOwn, IsBuilt, Settles, IsFor, Answers}
 use Rattle.dcv_build.proofs.SameRows.{table_at, row_over}
 use Rattle.dcv_build.proofs.ShelfTables.{at_of}
 use Rattle.dcv_build.proofs.StepMachines.{machine_accepts_step}
@@ -190,21 +191,20 @@ module _ (k : ℕ) (tree : CoreTree) (limits : Limits) (n : ℕ) (tables : List 
         let is = done.each number earlier (table_at tables number) at (slice_get-get_or tables number [] (omega (arith, below, size))) in
         (is.access, is.canonical)
 
-    module _ (atoms : MachineAcceptsAtomStep) (shelf : List ShelfTable) where
+    module _ (atoms : MachineAcceptsAtomStep) where
       accepts_words : HaveSameBehaviours step.slots (accepts (row_at step tables).machine.automaton) (words_of step.core)
       accepts_words = machine_accepts_step steps_are_operations atoms k tree n step tables there before
 
-      built_of : (answer : Answer) → IsFor (row_at step tables).machine (row_at step tables).parts limits shelf answer → GoesWith (steps_of k tree) limits n rest counts shelf answer
-      built_of answer is count own =
-          let built = is.built in
+      pub next_of : (one : ShelfTable) (states nodes : ℕ) → IsBuilt (row_at step tables).machine (row_at step tables).parts limits one states nodes
+          → IsNext (steps_of k tree) limits n rest counts one states nodes
+      next_of one states nodes built count own =
           let width = row_slots step.op step.slots tables in
           let machine = (row_at step tables).machine in
-          subst (λ (one : ShelfTable). HasBuilt (steps_of k tree) limits (n + 1) (rest ++ one ∷ []) (counts ++ count ∷ [])) (sym (at_of shelf answer.number is.one is.there))
-          (built_next is.one built.access count
-          (canonical_for_same_behaviours step.slots (accepts machine.automaton) (words_of step.core) is.one.table built.access accepts_words
-          (subst (λ slots. IsCanonical slots (accepts machine.automaton) is.one.table built.access) width built.canonical))
+          built_next one built.access count
+          (canonical_for_same_behaviours step.slots (accepts machine.automaton) (words_of step.core) one.table built.access accepts_words
+          (subst (λ slots. IsCanonical slots (accepts machine.automaton) one.table built.access) width built.canonical))
           (record {
-            states = answer.states;
+            states = states;
             nodes = built.counts.of_rows;
             counts = built.counts.counts;
             states_within = built.states_within;
@@ -213,18 +213,39 @@ module _ (k : ℕ) (tree : CoreTree) (limits : Limits) (n : ℕ) (tables : List 
           (built.slots ∙ width) built.own
           (record {
             place = own.place step there;
-            counts = subst (λ m. HasAllCounts machine (row_at step tables).parts m count.nodes) (sym own.states)
-                (subst (HasAllCounts machine (row_at step tables).parts answer.states) (sym own.nodes) built.counts);
-          }))
+            counts = subst (λ m. HasAllCounts machine (row_at step tables).parts m count.nodes) (sym own.states_are)
+                (subst (HasAllCounts machine (row_at step tables).parts states) (sym own.nodes_are) built.counts);
+          })
 
-      goes_where_ok : (result : Result Answer BuildFault) → IfOk result (IsFor (row_at step tables).machine (row_at step tables).parts limits shelf)
-          → IfOk result (GoesWith (steps_of k tree) limits n rest counts shelf)
-      goes_where_ok (Ok answer) is = built_of answer is
-      goes_where_ok (Err fault) is = tt
+      -- the answer stands on a shelf
+      module _ (shelf : List ShelfTable) where
+        built_of : (answer : Answer) → IsFor (row_at step tables).machine (row_at step tables).parts limits shelf answer → GoesWith (steps_of k tree) limits n rest counts shelf answer
+        built_of answer is =
+            subst (λ (one : ShelfTable). IsNext (steps_of k tree) limits n rest counts one answer.states answer.nodes) (sym (at_of shelf answer.number is.one is.there))
+            (next_of is.one answer.states answer.nodes is.built)
 
-      pub goes : (result : Result Answer BuildFault) → Answers (row_at step tables).machine (row_at step tables).parts limits n shelf result → Goes (steps_of k tree) limits n rest counts shelf result
-      goes result answers = record {
-        built = goes_where_ok result answers.built;
-        states = λ at limit is. let named = answers.states at limit is in (named.1, over_here TooManyStates at named.0 named.2);
-        nodes = λ at limit is. let named = answers.nodes at limit is in (named.1, over_here TooManyNodes at named.0 named.2);
+        goes_where_ok : (result : Result Answer BuildFault) → IfOk result (IsFor (row_at step tables).machine (row_at step tables).parts limits shelf)
+            → IfOk result (GoesWith (steps_of k tree) limits n rest counts shelf)
+        goes_where_ok (Ok answer) is = built_of answer is
+        goes_where_ok (Err fault) is = tt
+
+        pub goes : (result : Result Answer BuildFault) → Answers (row_at step tables).machine (row_at step tables).parts limits n shelf result → Goes (steps_of k tree) limits n rest counts shelf result
+        goes result answers = record {
+          built = goes_where_ok result answers.built;
+          states = λ at limit is. let named = answers.states at limit is in (named.1, over_here TooManyStates at named.0 named.2);
+          nodes = λ at limit is. let named = answers.nodes at limit is in (named.1, over_here TooManyNodes at named.0 named.2);
+        }
+
+      -- it stands on none
+      makes_where_ok : (result : Result Made BuildFault)
+          → IfOk result (λ made. IsBuilt (row_at step tables).machine (row_at step tables).parts limits (table_of_auto made.auto) made.states made.nodes)
+          → IfOk result (MakesNext (steps_of k tree) limits n rest counts)
+      makes_where_ok (Ok made) is = next_of (table_of_auto made.auto) made.states made.nodes is
+      makes_where_ok (Err fault) is = tt
+
+      pub makes : (result : Result Made BuildFault) → Settles (row_at step tables).machine (row_at step tables).parts limits n result → Makes (steps_of k tree) limits n rest counts result
+      makes result settles = record {
+        built = makes_where_ok result settles.built;
+        states = λ at limit is. let named = settles.states at limit is in (named.1, over_here TooManyStates at named.0 named.2);
+        nodes = λ at limit is. let named = settles.nodes at limit is in (named.1, over_here TooManyNodes at named.0 named.2);
       }

@@ -18,7 +18,7 @@ use Rattle.dcv_shelf.specs.Shelf.{ShelfTable, table_of_auto, nodes_of_table}
 use Rattle.dcv_build.specs.Budget.{IsWithinBudget, IsAutomatonOf}
 use Rattle.dcv_build.specs.Building.{AreWaiting, HasBuilt, ForTree}
 use Rattle.dcv_build.specs.Counts.{AreCounts}
-use Rattle.dcv_build.specs.Given.{IsCoreOf, IsCore}
+use Rattle.dcv_build.specs.Given.{IsCoreOf}
 use Rattle.dcv_build.specs.Settled.{IsOwn}
 use Rattle.dcv_build.proofs.Progress.{newest_first}
 use Rattle.dcv_build.proofs.ShelfTables.{nodes_by_table}
@@ -111,15 +111,10 @@ few_nodes limits one auto own same =
 
 -- ---- of a core
 
-all_steps : (core : PlainCore) (tree : CoreTree) → IsCoreOf tree core → length core.steps ≡ length (steps_of core.declared tree)
+pub all_steps : (core : PlainCore) (tree : CoreTree) → IsCoreOf tree core → length core.steps ≡ length (steps_of core.declared tree)
 all_steps core tree is = ap (length {A = CoreStep}) is ∙ length-map (steps_of core.declared tree) without_core
 
 module _ (core : PlainCore) (limits : Limits) (n : ℕ) (waiting : List ShelfTable) (counts : List Count) (built : ForTree core (λ steps. HasBuilt steps limits n waiting counts)) (all : n ≡ length core.steps) where
-  pub goal_waits : IsCore core → 0 < length waiting
-  goal_waits known =
-      let last = last_step_is_core core.declared known.tree in
-      one_is_there (steps_of core.declared known.tree) limits n waiting counts (built known.tree known.is) (omega (arith, all, all_steps core known.tree known.is, last.2))
-
   module _ (rest : List ShelfTable) (auto : RawValue) (same : waiting ≡ rest ++ table_of_auto auto ∷ []) (tree : CoreTree) (is : IsCoreOf tree core) where
     ends : HasBuilt (steps_of core.declared tree) limits n (rest ++ table_of_auto auto ∷ []) counts
     ends = subst (λ (w : List ShelfTable). HasBuilt (steps_of core.declared tree) limits n w counts) same (built tree is)

@@ -2,23 +2,27 @@
 --     IsNewest, AreWaiting              the tables that wait before a step, the newest first: each is that of a step, and where its own
 --                                       steps begin, those of the next end
 --     HasBuilt steps limits n           the steps before step n are built, these tables wait, and these are the counts
---     IsCountOf                         the count of a step, by what answers it
---     GoesWith                          with this answer a step is built
---     Goes steps limits n               what a call answers that builds step n
+--     IsCountOf                         the count of a step that took so many states and nodes
+--     IsNext                            with this table and these counts a step is built
+--     GoesTo steps limits IsGiven       what a call answers that builds a step: what is so, or the first step that is over
+--     Goes, Makes                       the same, where the table stands on the shelf, and where it stands on none
 --     ForTree core P                    so it is, whatever tree the core has the steps of
 --     IsBuilding core n building        so it is with what waits as numbers on the shelf
+--     IsGoal core limits n auto counts  so it is with this automaton, on no shelf, as the newest
 use Rattle.std.specs.Prelude.{◌≡◌, ℕ, ◌+◌, suc, List, [], ◌∷◌, ◌++◌, length, reverse, Some, slice_get, Result, Err, IfOk}
 use Rattle.dcv_count.specs.declared.Count.{Count}
 use Rattle.dcv_language.specs.Table.{Table}
 use Rattle.dcv_core.specs.Core.{CoreTree}
 use Rattle.dcv_core.specs.Steps.{PlainStep, PlainCore, steps_before, steps_of}
+use Rattle.dcv_dfa.specs.Raw.{RawValue}
 use Rattle.dcv_explore.specs.declared.explorer.Limits.{Limits}
 use Rattle.dcv_explore.specs.Budget.{TooManyStates, TooManyNodes}
-use Rattle.dcv_shelf.specs.Shelf.{ShelfTable}
+use Rattle.dcv_shelf.specs.Shelf.{ShelfTable, table_of_auto}
 use Rattle.dcv_build.specs.declared.asked.Answer.{Answer}
 use Rattle.dcv_build.specs.declared.building.Building.{Building}
 use Rattle.dcv_build.specs.declared.faults.BuildFault.{BuildFault}
 use Rattle.dcv_build.specs.declared.faults.BuildFault.TheVariants.{States, Nodes}
+use Rattle.dcv_build.specs.declared.settling.Made.{Made}
 use Rattle.dcv_build.specs.Asked.{at_number, tables_at, AreThere}
 use Rattle.dcv_build.specs.Budget.{IsDone, IsOver}
 use Rattle.dcv_build.specs.Counts.{IsCount}
@@ -50,20 +54,32 @@ pub record HasBuilt (steps : List PlainStep) (limits : Limits) (n : ℕ) (waitin
   pub each : (number : ℕ) (step : PlainStep) (count : Count) → slice_get steps number ≡ Some step → slice_get counts number ≡ Some count
       → IsCount tables step count
 
-pub record IsCountOf (steps : List PlainStep) (n : ℕ) (answer : Answer) (count : Count) : Type 0 where
+pub record IsCountOf (steps : List PlainStep) (n states nodes : ℕ) (count : Count) : Type 0 where
   pub place : (step : PlainStep) → slice_get steps n ≡ Some step → count.at ≡ step.span.start
-  pub states : count.states ≡ answer.states
-  pub nodes : count.nodes ≡ answer.nodes
+  pub states_are : count.states ≡ states
+  pub nodes_are : count.nodes ≡ nodes
 
--- with this answer the step is built
+-- with this table the step is built
+abbrev pub IsNext : List PlainStep → Limits → ℕ → List ShelfTable → List Count → ShelfTable → ℕ → ℕ → Type 0
+IsNext steps limits n waiting counts one states nodes = (count : Count) → IsCountOf steps n states nodes count
+    → HasBuilt steps limits (n + 1) (waiting ++ one ∷ []) (counts ++ count ∷ [])
+
 abbrev pub GoesWith : List PlainStep → Limits → ℕ → List ShelfTable → List Count → List ShelfTable → Answer → Type 0
-GoesWith steps limits n waiting counts shelf answer = (count : Count) → IsCountOf steps n answer count
-    → HasBuilt steps limits (n + 1) (waiting ++ at_number shelf answer.number ∷ []) (counts ++ count ∷ [])
+GoesWith steps limits n waiting counts shelf answer = IsNext steps limits n waiting counts (at_number shelf answer.number) answer.states answer.nodes
 
-pub record Goes (steps : List PlainStep) (limits : Limits) (n : ℕ) (waiting : List ShelfTable) (counts : List Count) (shelf : List ShelfTable) (result : Result Answer BuildFault) : Type 0 where
-  pub built : IfOk result (GoesWith steps limits n waiting counts shelf)
+abbrev pub MakesNext : List PlainStep → Limits → ℕ → List ShelfTable → List Count → Made → Type 0
+MakesNext steps limits n waiting counts made = IsNext steps limits n waiting counts (table_of_auto made.auto) made.states made.nodes
+
+pub record GoesTo {X : Type 0} (steps : List PlainStep) (limits : Limits) (IsGiven : X → Type 0) (result : Result X BuildFault) : Type 0 where
+  pub built : IfOk result IsGiven
   pub states : (at limit : ℕ) → result ≡ Err (States at limit) → (limit ≡ limits.states) × IsOver steps limits TooManyStates at
   pub nodes : (at limit : ℕ) → result ≡ Err (Nodes at limit) → (limit ≡ limits.nodes) × IsOver steps limits TooManyNodes at
+
+abbrev pub Goes : List PlainStep → Limits → ℕ → List ShelfTable → List Count → List ShelfTable → Result Answer BuildFault → Type 0
+Goes steps limits n waiting counts shelf result = GoesTo steps limits (GoesWith steps limits n waiting counts shelf) result
+
+abbrev pub Makes : List PlainStep → Limits → ℕ → List ShelfTable → List Count → Result Made BuildFault → Type 0
+Makes steps limits n waiting counts result = GoesTo steps limits (MakesNext steps limits n waiting counts) result
 
 abbrev pub ForTree : PlainCore → (List PlainStep → Type 0) → Type 0
 ForTree core P = (tree : CoreTree) → IsCoreOf tree core → P (steps_of core.declared tree)
@@ -71,3 +87,15 @@ ForTree core P = (tree : CoreTree) → IsCoreOf tree core → P (steps_of core.d
 pub record IsBuilding (core : PlainCore) (n : ℕ) (building : Building) : Type 0 where
   pub there : AreThere building.known.tables building.waiting.items
   pub built : ForTree core (λ steps. HasBuilt steps building.known.limits n (tables_at building.known.tables building.waiting.items) building.counts.items)
+
+pub record IsGoal (core : PlainCore) (limits : Limits) (n : ℕ) (auto : RawValue) (counts : List Count) : Type 0 where
+  pub rest : List ShelfTable
+  pub built : ForTree core (λ steps. HasBuilt steps limits n (rest ++ table_of_auto auto ∷ []) counts)
+
+-- ---- counts
+
+-- the count of a step has come
+pub record IsNoted (core : PlainCore) (n states nodes : ℕ) (old new : List Count) : Type 0 where
+  pub count : Count
+  pub added : new ≡ old ++ count ∷ []
+  pub is : ForTree core (λ steps. IsCountOf steps n states nodes count)

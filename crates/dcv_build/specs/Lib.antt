@@ -10,3 +10,4 @@ pub mod Given
 pub mod Settled
 pub mod Asked
 pub mod Building
+pub mod Tasks

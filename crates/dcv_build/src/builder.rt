@@ -1,4 +1,4 @@
-// Builds of cores: each begins with nothing known, and explores no operator twice over the same automata.
+// Builds of cores: each begins with nothing known, and explores no operator twice over the same automata of one shelf.
 ghost use Rattle.std.specs.Prelude.{◌≡◌, ◌≤◌, ℕ, Err, length, IfOk, OnOk};
 ghost use Rattle.dcv_core.specs.Core.{CoreTree};
 ghost use Rattle.dcv_core.specs.Holds.{words_of};
@@ -133,11 +133,13 @@ impl Builder {
             → (limit ≡ self.old.nodes) × IsOver (steps_of core.now.declared tree) self.old TooManyNodes step }
     {
         let mut building = Building::new(self.alloc, self.limits);
-        let taken = building.take_steps(core);
+        let taken = building.take_all(core);
         self.explored = building.explored();
-        taken?;
-        let built = building.finish()?;
-        Ok(built)
+        let auto = taken?;
+        Ok(Built {
+            auto,
+            counts: building.into_counts(),
+        })
     }
 
     /// How many steps of the last build were explored, of which it was not known what their exploration gives.

@@ -1,28 +1,32 @@
 // The steps of a core, built one after another. A step takes the automata of its operands from the end of those that wait, and its own
-// waits in their place.
-ghost use Rattle.std.specs.Prelude.{◌≡◌, ◌<◌, ◌+◌, ◌++◌, ◌∷◌, [], ℕ, List, Err, length, IfOk, OnOk};
+// waits in their place. That of the last operator goes on no shelf: it is turned where it is by the `!` behind it, and handed out.
+ghost use Rattle.std.specs.Prelude.{◌≡◌, ◌<◌, ◌≤◌, ◌+◌, [], ℕ, Err, length, IfOk, OnOk};
 ghost use Rattle.dcv_atoms.specs.AtomRows.{atom_machine};
 ghost use Rattle.dcv_atoms.specs.Parts.{atom_nodes};
 ghost use Rattle.dcv_atoms.specs.Steps.{IsAtom};
 ghost use Rattle.dcv_core.specs.Core.{CoreTree, PlainBasic};
-ghost use Rattle.dcv_core.specs.Steps.{steps_of};
+ghost use Rattle.dcv_core.specs.Steps.{OpNot, steps_of};
 ghost use Rattle.dcv_explore.specs.Budget.{TooManyStates, TooManyNodes};
-ghost use Rattle.dcv_shelf.specs.Shelf.{ShelfTable, table_of_auto, KeepsNumbers};
+ghost use Rattle.dcv_explore.specs.declared.explorer.Limits.{Limits as AnyLimits};
+ghost use Rattle.dcv_shelf.specs.Shelf.{KeepsNumbers};
 ghost use Rattle.dcv_build.specs.declared.faults.BuildFault.TheVariants.{States, Nodes};
 ghost use Rattle.dcv_build.specs.Asked.{tables_at, AreThere};
 ghost use Rattle.dcv_build.specs.Budget.{IsOver};
-ghost use Rattle.dcv_build.specs.Building.{IsBuilding, ForTree, Goes, GoesWith};
-ghost use Rattle.dcv_build.specs.Settled.{Answers};
+ghost use Rattle.dcv_build.specs.Building.{IsBuilding, ForTree, Goes, GoesWith, Makes, IsGoal, IsNoted};
+ghost use Rattle.dcv_build.specs.Tasks.{Here, TurnFrom, IsNoComplement};
+ghost use Rattle.dcv_build.specs.Settled.{Answers, Settles};
 ghost use Rattle.dcv_build.specs.Given.{IsCoreOf, IsCore};
 
-use crate::asked::{Answer, Asked};
-use crate::builder::Built;
+use crate::asked::Answer;
 use crate::faults::BuildFault;
 use crate::known::Known;
 use crate::operations;
+use crate::settling::Made;
+use crate::tasks::{Task, last_operator, task_of};
 use dcv_atoms::laws::machines_accept_steps as atoms_accept_steps;
-use dcv_core::{Core, Op};
+use dcv_core::Core;
 use dcv_count::Count;
+use dcv_dfa::Auto;
 use dcv_explore::Limits;
 use dcv_language::laws::one_canonical_table;
 use std::alloc::{AllocError, Global};
@@ -64,18 +68,36 @@ impl Building {
         self.known.explored()
     }
 
-    // Builds all steps.
-    pub(crate) fn take_steps(&mut self, core: &Core) -> Result<(), BuildFault>
+    // Builds all steps, and gives the automaton of the last one.
+    pub(crate) fn take_all(&mut self, core: &Core) -> Result<Auto, BuildFault>
         requires core { IsCore core.now }
         requires begun { IsBuilding core.now 0 self.old }
-        ensures limits { self.new.known.limits ≡ self.old.known.limits }
-        ensures built { OnOk result (IsBuilding core.now (length core.now.steps) self.new) }
+        ensures goal { IfOk result (λ auto. IsGoal core.now self.old.known.limits (length core.now.steps) auto self.new.counts.items) }
         ensures states { (tree : CoreTree) (step limit : ℕ) → IsCoreOf tree core.now → result ≡ Err (States step limit)
             → (limit ≡ self.old.known.limits.states) × IsOver (steps_of core.now.declared tree) self.old.known.limits TooManyStates step }
         ensures nodes { (tree : CoreTree) (step limit : ℕ) → IsCoreOf tree core.now → result ≡ Err (Nodes step limit)
             → (limit ≡ self.old.known.limits.nodes) × IsOver (steps_of core.now.declared tree) self.old.known.limits TooManyNodes step }
     {
-        for step in 0..core.steps() {
+        let last = last_operator(core);
+        self.take_steps(core, last)?;
+        let made = self.make(core, last)?;
+        note(core, last, made.states, made.nodes, &mut self.counts)?;
+        Ok(turn(core, last + 1, made.auto, &mut self.counts)?)
+    }
+
+    // Builds the steps before this one.
+    fn take_steps(&mut self, core: &Core, end: u32) -> Result<(), BuildFault>
+        requires core { IsCore core.now }
+        requires end { end ≤ length core.now.steps }
+        requires begun { IsBuilding core.now 0 self.old }
+        ensures limits { self.new.known.limits ≡ self.old.known.limits }
+        ensures built { OnOk result (IsBuilding core.now end self.new) }
+        ensures states { (tree : CoreTree) (step limit : ℕ) → IsCoreOf tree core.now → result ≡ Err (States step limit)
+            → (limit ≡ self.old.known.limits.states) × IsOver (steps_of core.now.declared tree) self.old.known.limits TooManyStates step }
+        ensures nodes { (tree : CoreTree) (step limit : ℕ) → IsCoreOf tree core.now → result ≡ Err (Nodes step limit)
+            → (limit ≡ self.old.known.limits.nodes) × IsOver (steps_of core.now.declared tree) self.old.known.limits TooManyNodes step }
+    {
+        for step in 0..end {
             self.make_room()?;
             let answer = self.take_step(core, step)?;
             self.push(core, step, answer)?;
@@ -83,19 +105,44 @@ impl Building {
         Ok(())
     }
 
-    // The automaton of the last step, which alone waits at the end, and the counts.
-    pub(crate) fn finish(mut self) -> Result<Built, AllocError>
-        requires some { 0 < length self.waiting.items }
-        requires there { AreThere self.known.tables self.waiting.items }
-        ensures auto { IfOk result (λ built. (rest : List ShelfTable) × (tables_at self.known.tables self.waiting.items ≡ rest ++ table_of_auto built.auto ∷ [])) }
-        ensures counts { IfOk result (λ built. built.counts ≡ self.counts) }
+    // The automaton of a step that is no `!`, where those before it are built. Its operands wait no more, and it goes on no shelf.
+    fn make(&mut self, core: &Core, step: u32) -> Result<Made, BuildFault>
+        requires core { IsCore core.now }
+        requires step { step < length core.now.steps }
+        requires operator { IsNoComplement core.now step }
+        requires built { IsBuilding core.now step self.old }
+        ensures counts { self.new.counts ≡ self.old.counts }
+        ensures makes { ForTree core.now (λ steps. Makes steps self.old.known.limits step
+            (tables_at self.new.known.tables self.new.waiting.items) self.old.counts.items result) }
     {
-        let last = newest(&mut self.waiting);
-        let auto = self.known.copy_out(last)?;
-        Ok(Built {
-            auto,
-            counts: self.counts,
-        })
+        atoms_accept_steps();
+        one_canonical_table();
+        match task_of(core, step, &mut self.waiting) {
+            Task::Atom => self.make_atom(core, step),
+            Task::Complement(_) => unreachable!(),
+            Task::Operator(asked) => self.known.make(asked, step),
+        }
+    }
+
+    // The automaton of a form without a formula in it, which is explored always.
+    fn make_atom(&mut self, core: &Core, step: u32) -> Result<Made, BuildFault>
+        requires { (basic : PlainBasic) × (slots : ℕ) × IsAtom core.now step basic slots }
+        ensures known { self.new.known ≡ self.old.known }
+        ensures waiting { self.new.waiting ≡ self.old.waiting }
+        ensures counts { self.new.counts ≡ self.old.counts }
+        ensures settles { (basic : PlainBasic) (slots : ℕ) → IsAtom core.now step basic slots
+            → Settles (atom_machine slots basic) (atom_nodes slots basic) self.old.known.limits step result }
+    {
+        let made = operations::atom(self.alloc, core, step, self.known.limits())?;
+        self.known.count();
+        Ok(made)
+    }
+
+    // What each step took.
+    pub(crate) fn into_counts(self) -> Vec<Count>
+        ensures { result ≡ self.counts }
+    {
+        self.counts
     }
 
     // The answer to a form without a formula in it, which is explored always.
@@ -109,7 +156,7 @@ impl Building {
             → Answers (atom_machine slots basic) (atom_nodes slots basic) self.old.known.limits step self.new.known.tables result }
     {
         let made = operations::atom(self.alloc, core, step, self.known.limits())?;
-        Ok(self.known.put(made)?)
+        Ok(self.known.put(&made)?)
     }
 
     // The answer to a step, where those before it are built. Its operands wait no more.
@@ -125,36 +172,10 @@ impl Building {
     {
         atoms_accept_steps();
         one_canonical_table();
-        match core.op(step) {
-            Op::Atom(_) => self.take_atom(core, step),
-            Op::Not(_) => {
-                let operand = newest(&mut self.waiting);
-                Ok(self.known.not(operand)?)
-            }
-            Op::And(_, _) => {
-                let (first, second) = two_newest(&mut self.waiting);
-                self.known.ask(Asked::And(first, second), step)
-            }
-            Op::Or(_, _) => {
-                let (first, second) = two_newest(&mut self.waiting);
-                self.known.ask(Asked::Or(first, second), step)
-            }
-            Op::Iff(_, _) => {
-                let (first, second) = two_newest(&mut self.waiting);
-                self.known.ask(Asked::Iff(first, second), step)
-            }
-            Op::Chop(_, _) => {
-                let (first, second) = two_newest(&mut self.waiting);
-                self.known.ask(Asked::Chop(first, second), step)
-            }
-            Op::Star(_) => {
-                let operand = newest(&mut self.waiting);
-                self.known.ask(Asked::Star(operand), step)
-            }
-            Op::Exists(_) => {
-                let operand = newest(&mut self.waiting);
-                self.known.ask(Asked::Exists(operand), step)
-            }
+        match task_of(core, step, &mut self.waiting) {
+            Task::Atom => self.take_atom(core, step),
+            Task::Complement(operand) => Ok(self.known.not(operand)?),
+            Task::Operator(asked) => self.known.ask(asked, step),
         }
     }
 
@@ -167,14 +188,8 @@ impl Building {
         ensures limits { self.new.known.limits ≡ self.old.known.limits }
         ensures built { OnOk result (IsBuilding core.now (step + 1) self.new) }
     {
-        let at = core.span(step).start;
         self.waiting.push(answer.number)?;
-        self.counts.push(Count {
-            at,
-            states: answer.states,
-            nodes: answer.nodes,
-        })?;
-        Ok(())
+        note(core, step, answer.states, answer.nodes, &mut self.counts)
     }
 
     // Where the shelf is full, what waits moves to a new one, and all else that is known goes with the old.
@@ -216,20 +231,49 @@ fn move_on(alloc: Global, known: &Known, waiting: &[u32]) -> Result<Moved, Alloc
     })
 }
 
-// The number that waits last, which waits no more.
-fn newest(waiting: &mut Vec<u32>) -> u32
-    requires { 0 < length waiting.old.items }
-    ensures { waiting.old.items ≡ waiting.new.items ++ result ∷ [] }
+// The automaton of the last step, given that of the step before this one: from here on each is the complement of the one before, with the
+// states and nodes of its own machine.
+fn turn(core: &Core, from: u32, first: Auto, counts: &mut Vec<Count>) -> Result<Auto, AllocError>
+    requires within { from ≤ length core.now.steps }
+    requires turn { TurnFrom core.now from }
+    ensures { (limits : AnyLimits) → IsGoal core.now limits from first counts.old.items
+        → IfOk result (λ last. IsGoal core.now limits (length core.now.steps) last counts.new.items) }
 {
-    waiting.pop().unwrap()
+    let mut auto = first;
+    for step in from..core.steps() {
+        auto = turned(core, step, auto, counts)?;
+    }
+    Ok(auto)
 }
 
-// The two that wait last, the older one first.
-fn two_newest(waiting: &mut Vec<u32>) -> (u32, u32)
-    requires { 1 < length waiting.old.items }
-    ensures { waiting.old.items ≡ waiting.new.items ++ result.0 ∷ result.1 ∷ [] }
+// The automaton of a step, given that of the step before, of which it is the complement.
+fn turned(core: &Core, step: u32, auto: Auto, counts: &mut Vec<Count>) -> Result<Auto, AllocError>
+    requires step { step < length core.now.steps }
+    requires turn { (operand : ℕ) × Here core.now step (OpNot operand) }
+    ensures { (limits : AnyLimits) → IsGoal core.now limits step auto counts.old.items
+        → IfOk result (λ turned. IsGoal core.now limits (step + 1) turned counts.new.items) }
 {
-    let newer = newest(waiting);
-    let older = newest(waiting);
-    (older, newer)
+    atoms_accept_steps();
+    one_canonical_table();
+    note(core, step, auto.states(), auto.nodes(), counts)?;
+    Ok(auto.complement())
+}
+
+// The counts of a step are noted.
+fn note(
+    core: &Core,
+    step: u32,
+    states: u32,
+    nodes: u32,
+    counts: &mut Vec<Count>,
+) -> Result<(), AllocError>
+    requires { step < length core.now.steps }
+    ensures { OnOk result (IsNoted core.now step states nodes counts.old.items counts.new.items) }
+{
+    counts.push(Count {
+        at: core.span(step).start,
+        states,
+        nodes,
+    })?;
+    Ok(())
 }

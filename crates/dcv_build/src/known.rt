@@ -1,5 +1,5 @@
 // What is known in a build: its automata, which share one shelf, and which of them answers an operator that was explored. So an operator
-// is explored once for all steps that have it over the same tables.
+// is explored once for all steps that have it over the same tables of one shelf.
 ghost use Rattle.std.specs.Prelude.{◌≡◌, ◌<◌, [], length, Some, slice_get, IfOk, IfSome};
 ghost use Rattle.dcv_shelf.specs.Shelf.{ShelfTable, table_of_auto, KeepsNumbers};
 ghost use Rattle.dcv_build.specs.Asked.{AreOperands, SettlesAsked, AnswersAsked, IsAnswer, IsPut, IsTurned};
@@ -99,9 +99,23 @@ impl Known {
             return Ok(answer);
         }
         let made = self.explore(asked, step)?;
-        let answer = self.put(made)?;
+        let answer = self.put(&made)?;
         self.remember(asked, answer)?;
         Ok(answer)
+    }
+
+    // The automaton of an operator over automata of the shelf, which does not go there. It is explored where it is not known.
+    pub(crate) fn make(&mut self, asked: Asked, step: u32) -> Result<Made, BuildFault>
+        requires { AreOperands self.old.tables asked }
+        ensures settles { SettlesAsked self.old.tables asked self.old.limits step result }
+        ensures same { self.new ≡ self.old }
+    {
+        if let Some(answer) = self.find(asked) {
+            return Ok(self.take_out(answer)?);
+        }
+        let made = self.explore(asked, step)?;
+        self.count();
+        Ok(made)
     }
 
     // What is known of an operator.
@@ -162,14 +176,21 @@ impl Known {
         }
     }
 
+    // Once more was explored.
+    pub(crate) fn count(&mut self)
+        ensures { self.new ≡ self.old }
+    {
+        self.explored = self.explored.saturating_add(1);
+    }
+
     // The number of an automaton that was explored, beside its counts.
-    pub(crate) fn put(&mut self, made: Made) -> Result<Answer, AllocError>
-        ensures put { IfOk result (IsPut made self.new.tables) }
+    pub(crate) fn put(&mut self, made: &Made) -> Result<Answer, AllocError>
+        ensures put { IfOk result (IsPut made.now self.new.tables) }
         ensures kept { KeepsNumbers self.old.tables self.new.tables }
         ensures limits { self.new.limits ≡ self.old.limits }
     {
         let number = self.add(&made.auto)?;
-        self.explored = self.explored.saturating_add(1);
+        self.count();
         Ok(Answer {
             number,
             states: made.states,
@@ -213,6 +234,19 @@ impl Known {
         ensures { IfOk result (λ auto. slice_get self.now.tables number ≡ Some (table_of_auto auto)) }
     {
         self.shelf.copy_out(number)
+    }
+
+    // What answered an operator, in an arena of its own.
+    fn take_out(&self, answer: Answer) -> Result<Made, AllocError>
+        requires { answer.number < length self.now.tables }
+        ensures { IfOk result (λ made. IsPut made self.now.tables answer) }
+    {
+        let auto = self.copy_out(answer.number)?;
+        Ok(Made {
+            auto,
+            states: answer.states,
+            nodes: answer.nodes,
+        })
     }
 }
 

@@ -10,7 +10,7 @@
 //!
 //! What a step may need is defined in `specs/`: the machine that is explored for it is a function of its operator and of the canonical
 //! tables of its operands, which are determined, and `laws` has that at most one step is over. In one build an operator is explored once
-//! over the same tables: what it gave is found again by the numbers that its operands have on a shelf.
+//! over the same tables of one shelf: what it gave is found again by the numbers that its operands have there.
 #![tactic(auto)]
 
 mod asked;
@@ -21,6 +21,7 @@ mod known;
 pub mod laws;
 mod operations;
 mod settling;
+mod tasks;
 
 pub use builder::{Builder, Built, build, build_counted};
 pub use faults::BuildFault;

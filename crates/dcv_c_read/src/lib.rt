@@ -4,8 +4,8 @@
 //! let unit = read(alloc, bytes)?;  // the tree, whose names stand for places; or the one fault of the text
 //! ```
 //!
-//! The syntax is judged first, over the whole text. Then the rules of the grammar are translated into a unit with a token at each place,
-//! and last its names are judged in the order of the text.
+//! The syntax of the whole text is judged before any name: in one pass the rules of the grammar are translated into a unit with a token at each
+//! place, up to the first token with which no sentence goes on. Then its names are judged in the order of the text.
 #![tactic(auto)]
 
 mod assignments;

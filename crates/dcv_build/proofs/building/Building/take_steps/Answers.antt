@@ -1,4 +1,4 @@
-use Rattle.std.proofs.Common.{◌≡◌, length, Err, ap, subst, ◌∙◌, arith}
+use Rattle.std.proofs.Common.{◌≡◌, Err, ap, subst, ◌∙◌, arith}
 use Rattle.std.proofs.lemmas.Result.{err_from_is_err_and}
 use Rattle.dcv_core.specs.Steps.{steps_of}
 use Rattle.dcv_explore.specs.declared.explorer.Limits.{Limits}
@@ -37,5 +37,5 @@ returns-in_err-answer-clause-nodes c tree step limit is e =
 
 pub returns-clause-built : goal.returns-clause-built
 returns-clause-built c =
-    let all : c.loop-step.step ≡ length c.args.core.now.steps = omega arith in
+    let all : c.loop-step.step ≡ c.args.end = omega arith in
     subst (λ n. IsBuilding c.args.core.now n c.loop-step.self) all c.loop-step.invariant.is
