@@ -10,6 +10,7 @@ pub mod NamesRead
 pub mod OneCertificate
 pub mod OneOutcome
 pub mod OneReplay
+pub mod OneSynthesis
 pub mod Outcomes
 pub mod Replays
 pub mod ThreeEnds
@@ -20,6 +21,7 @@ pub mod Printed
 pub mod PrintedLengths
 pub mod SomeOutcome
 pub mod Sweeps
+pub mod Syntheses
 pub mod LongTexts
 pub mod VariableNames
 mod Texts

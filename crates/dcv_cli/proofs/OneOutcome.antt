@@ -2,6 +2,7 @@
 use Rattle.std.proofs.Common.{◌≡◌, ◌≢◌, inl, refl, ℕ, ◌<◌, Bool, true, false, List, length, Option, None, Some, sym, ap, ◌∙◌, subst, arith}
 use Rattle.std.specs.Prelude.{IsSomeAnd, is_none, slice_get, if◌then◌else◌}
 use Rattle.std.specs.Option.{option_map}
+use mathlib.Core.Bool.{true≢false}
 use Rattle.dcv_syntax.specs.Plain.{PlainFile}
 use Rattle.dcv_logic.specs.Models.{models}
 use Rattle.dcv_language.specs.Laws.{OneVerdict}
@@ -43,13 +44,14 @@ use Rattle.dcv_cli.proofs.OneCertificate.{same_agrees, one_held_certificate}
 use Rattle.dcv_cli.proofs.OneReplay.{AreSubsets, one_held_replay}
 use Rattle.dcv_cli.specs.Comparison.{IsCompared, Undeclared, Declared, IsDifference, OverProduct, WithinProduct, compared}
 use Rattle.dcv_cli.specs.Held.{OnHeld}
-use Rattle.dcv_command.specs.Request.{Request, Report, Certify, Implies, Replay, Sweep}
+use Rattle.dcv_command.specs.Request.{Request, Report, Certify, Implies, Synth, Replay, Sweep}
 use Rattle.dcv_implies.specs.Comparison.{TooMany, Least}
 use Rattle.dcv_implies.specs.Laws.{OneAnswer as OneComparison}
 use Rattle.dcv_replay.specs.Laws.{OneVerdict as OneTraceVerdict, OneText as OneTextOfAnswers}
 use Rattle.dcv_sweep.specs.Laws.{OneSummary}
 use Rattle.dcv_sweep.specs.SummaryText.{summary_text}
 use Rattle.dcv_cli.specs.Swept.{IsSwept, default_limits}
+use Rattle.dcv_cli.specs.Synthesis.{IsSynthesised, Undivided, Divided, IsSynthesisOf}
 use Rattle.dcv_cli.specs.Request.{AsksFor}
 use Rattle.dcv_print.specs.Printed.{texts_of}
 use Rattle.dcv_cli.specs.Right.{Fulfils, IsRight, Misused, Fulfilled}
@@ -103,7 +105,8 @@ one_some first second e = cc
 
 module _ (one_tree : SpellsOne) (one_fault : FaultIsUnique) (one_verdict : OneVerdict) (one_step : OneStepIsOver) (none_over : WithinExcludesOver) (one_automaton : OneAutomaton) (one_automaton_file : OneFile)
     (one_automaton_text : OneAutomatonText) (one_answer : OneAnswer) (one_comparison : OneComparison) (subsets : AreSubsets) (one_trace_verdict : OneTraceVerdict)
-    (one_text_of_answers : OneTextOfAnswers) (one_summary : OneSummary) where
+    (one_text_of_answers : OneTextOfAnswers) (one_summary : OneSummary)
+    (one_synthesis_of : (inputs : ℕ) (file : PlainFile) (a b : Outcome) → IsSynthesisOf inputs file a → IsSynthesisOf inputs file b → Agrees a b) where
   one_sentence : (text : List ℕ) (f g : PlainFile) → IsSentence text f → IsSentence text g → f ≡ g
   one_sentence text f g s t = one_tree text f g s.spelled t.spelled
 
@@ -278,6 +281,12 @@ module _ (one_tree : SpellsOne) (one_fault : FaultIsUnique) (one_verdict : OneVe
       one_budgeted limits First (λ first. IsBudgeted limits Second (IsDifference limits first) other)
       (λ first a b p q. one_budgeted limits Second (IsDifference limits first) (one_difference limits first) other a b p q) one a b is is'
 
+  one_synthesised : (inputs : ℕ) (limits : Limits) (file : PlainFile) (a b : Outcome) → IsSynthesised inputs limits file a → IsSynthesised inputs limits file b → Agrees a b
+  one_synthesised inputs limits file a b (Undivided not e) (Undivided not' e') = same_agrees a b (e ∙ sym e')
+  one_synthesised inputs limits file a b (Undivided not e) (Divided fits is) = absurd (true≢false (sym fits ∙ not))
+  one_synthesised inputs limits file a b (Divided fits is) (Undivided not e) = absurd (true≢false (sym fits ∙ not))
+  one_synthesised inputs limits file a b (Divided fits is) (Divided fits' is') = one_budgeted limits Only (IsSynthesisOf inputs) (one_synthesis_of inputs) file a b is is'
+
   one_swept : (seed count : ℕ) (a b : Outcome) → IsSwept seed count a → IsSwept seed count b → Agrees a b
   one_swept seed count a b p q =
       let same = one_summary default_limits seed count p.summary q.summary p.is q.is in
@@ -294,6 +303,7 @@ module _ (one_tree : SpellsOne) (one_fault : FaultIsUnique) (one_verdict : OneVe
   one_fulfilled (Implies first second limits) held a b p q =
       one_on_file (held 0 first) First (λ one. OnHeld (held 1) second (λ text. OnText text Second (IsCompared limits one)))
       (λ one a b p q. one_on_file (held 1 second) Second (IsCompared limits one) (one_compared limits one) a b p q) a b p q
+  one_fulfilled (Synth name inputs limits) held a b p q = one_on_file (held 0 name) Only (IsSynthesised inputs limits) (one_synthesised inputs limits) a b p q
   one_fulfilled (Replay subset observer trace) held a b p q =
       one_held_replay subsets one_trace_verdict one_text_of_answers subset (held 0 observer) (held 1 trace) a b p q
   one_fulfilled (Sweep seed count) held a b p q = one_swept seed count a b p q

@@ -31,7 +31,7 @@ use Rattle.dcv_command.specs.Program.{program}
 use Rattle.dcv_explore.specs.declared.explorer.Limits.{Limits}
 use Rattle.dcv_print.specs.declared.report.Kind.{Kind}
 use Rattle.std.specs.List.{All}
-use Rattle.dcv_command.specs.Request.{Request, Report, Certify, Implies, Replay, Sweep, IsTaken, request_of, files_of}
+use Rattle.dcv_command.specs.Request.{Request, Report, Certify, Implies, Synth, Replay, Sweep, IsTaken, request_of, files_of}
 use Rattle.dcv_cli.specs.Request.{AsksFor}
 use Rattle.dcv_cli.specs.Right.{IsRight, Misused, Fulfilled}
 use Rattle.dcv_cli.proofs.OneReplay.{some_replay}
@@ -96,6 +96,7 @@ module _ (some_reading : SomeReading) (words_ask : TakenWordsAsk) (some_node : S
       some_for_replay words held subset observer trace (held 0 observer) (held 1 trace) asked refl refl first.0 second.1.0
   some_for_request words held (Certify name) asked there = inr (inr (Certify name, asked, refl))
   some_for_request words held (Implies first second limits) asked there = inr (inr (Implies first second limits, asked, refl))
+  some_for_request words held (Synth name inputs limits) asked there = inr (inr (Synth name inputs limits, asked, refl))
   some_for_request words held (Sweep seed count) asked there = inr (inr (Sweep seed count, asked, refl))
 
   some_for_taken : (words : List (List ℕ)) (held : Texts) → AreHeld words held → IsTaken words → (request : Option Request)

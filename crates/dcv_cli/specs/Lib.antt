@@ -14,6 +14,7 @@ pub mod Certificate
 pub mod Comparison
 pub mod ObserverFile
 pub mod Replayed
+pub mod Synthesis
 pub mod Swept
 pub mod Right
 pub mod Ending
@@ -22,4 +23,5 @@ pub mod Laws
 -- what clauses within the crate cite
 pub mod Expanded
 pub mod Judged
+pub mod Synthesised
 pub mod Replaying

@@ -30,7 +30,7 @@ use Rattle.dcv_cli.specs.declared.budget_line.Over.{Over}
 use Rattle.dcv_cli.specs.declared.refusal.Refusal.{Refusal}
 use Rattle.dcv_cli.specs.declared.refusal.Refusal.TheVariants.{Open, Read, Formula, Automaton, Observer, Trace, Budget, Product, Write, Memory}
 use Rattle.dcv_cli.specs.declared.faults.FormulaFault.{FormulaFault}
-use Rattle.dcv_cli.specs.declared.faults.FormulaFault.TheVariants.{Length as FormulaLength, Text, Declarations}
+use Rattle.dcv_cli.specs.declared.faults.FormulaFault.TheVariants.{Length as FormulaLength, Text, Declarations, Outputs}
 use Rattle.dcv_cli.specs.declared.faults.AutomatonFault.{AutomatonFault}
 use Rattle.dcv_cli.specs.declared.faults.AutomatonFault.TheVariants.{Length as AutomatonLength, Syntax as AutomatonSyntax, Table as AutomatonTable}
 use Rattle.dcv_cli.specs.declared.faults.ObserverFault.{ObserverFault}
@@ -98,6 +98,7 @@ abbrev pub formula_words : FormulaFault → List ℕ
 formula_words FormulaLength = fault_words_at (codes "length") most_bytes
 formula_words (Text fault at) = fault_words_at (text_word_of fault) at
 formula_words Declarations = fault_words (codes "declarations")
+formula_words Outputs = fault_words (codes "outputs")
 
 abbrev pub automaton_words : AutomatonFault → List ℕ
 automaton_words AutomatonLength = fault_words (codes "automaton length")

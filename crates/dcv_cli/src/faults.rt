@@ -84,6 +84,8 @@ pub enum FormulaFault {
     Text { fault: TextFault, at: u32 },
     /// Its variables are not those of the file with which it is compared.
     Declarations,
+    /// It declares fewer variables than are to be inputs, or too many others.
+    Outputs,
 }
 
 impl FormulaFault {
@@ -97,6 +99,7 @@ impl FormulaFault {
             FormulaFault::Length => tell_fault_at(sink, b"length", MOST_BYTES),
             FormulaFault::Text { fault, at } => tell_fault_at(sink, fault.word(), u64::from(at)),
             FormulaFault::Declarations => tell_fault(sink, b"declarations"),
+            FormulaFault::Outputs => tell_fault(sink, b"outputs"),
         }
     }
 }

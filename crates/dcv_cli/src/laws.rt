@@ -7,7 +7,7 @@ use dcv_c::laws::{texts_are_units_or_at_fault, texts_spell_units};
 use dcv_certify::laws::{one_answer, printed_is_certified as good_words_are_certified};
 use dcv_command::laws::taken_words_ask;
 use dcv_implies::laws::{none_is_inclusion, one_answer as one_comparison};
-use dcv_language::laws::{one_verdict, verdict_of_same_behaviours};
+use dcv_language::laws::{one_canonical_table, one_verdict, verdict_of_same_behaviours};
 use dcv_lustre::laws::{texts_are_nodes_or_at_fault, texts_spell_nodes};
 use dcv_print::laws::{
     automaton_of_same_behaviours, one_automaton, one_file, printed_observers_observe,
@@ -15,6 +15,7 @@ use dcv_print::laws::{
 use dcv_reader::laws::{names_are_short, one_fault, one_tree, some_reading};
 use dcv_replay::laws::{letters_have_one_text_of_answers, traces_have_one_verdict};
 use dcv_sweep::laws::one_summary;
+use dcv_synth::laws::{answers_are_one, one_side_is_right, units_are_one};
 
 /// One outcome at most is right for the words and the texts that are held. So each status, report and message that
 /// the clauses of [`run`](crate::run) call right is the only one.
@@ -37,6 +38,10 @@ pub fn one_outcome()
     traces_have_one_verdict();
     letters_have_one_text_of_answers();
     one_summary();
+    one_canonical_table();
+    answers_are_one();
+    one_side_is_right();
+    units_are_one();
 }
 
 /// Some outcome is right for all words, where the files that they name are held, unless they ask for a report and name a formula file, or ask for

@@ -11,6 +11,7 @@ use crate::replaying::replay_file;
 use crate::reporting::report_on_file;
 use crate::status::Status;
 use crate::sweeping::sweep_formulas;
+use crate::synthesising::synthesise_file;
 use dcv_command::Request;
 use dcv_io::{Files, Sink};
 use std::alloc::Global;
@@ -37,6 +38,11 @@ pub(crate) fn perform<F: Files, O: Sink>(
             second,
             limits,
         } => compare_files(alloc, first, second, limits, files, out),
+        Request::Synth {
+            file,
+            inputs,
+            limits,
+        } => synthesise_file(alloc, file, inputs, limits, files, out),
         Request::Replay {
             subset,
             observer,

@@ -1,5 +1,5 @@
 // The commands that report on one formula file: from its name to the report.
-ghost use Rattle.std.specs.Prelude.{◌≤◌, ℕ, List, IfOk, IfErr};
+ghost use Rattle.std.specs.Prelude.{◌≡◌, ◌≤◌, ℕ, List, IfOk, IfErr};
 ghost use Rattle.dcv_syntax.specs.Plain.{PlainFile};
 ghost use Rattle.dcv_build.specs.Given.{IsCore};
 ghost use Rattle.dcv_command.specs.Request.{Report as ReportRequest, AreInRange};
@@ -43,11 +43,12 @@ pub(crate) fn report_on_file<F: Files, O: Sink>(
 }
 
 // The automaton of the file.
-fn judge(alloc: Global, expanded: Expanded, limits: Limits) -> Result<Judged, Refusal>
+pub(crate) fn judge(alloc: Global, expanded: Expanded, limits: Limits) -> Result<Judged, Refusal>
     requires core { IsCore expanded.core }
     requires limits { AreInRange limits }
     ensures judged { (text : List ℕ) (file : PlainFile) → IsFormulaFile text file → IsExpanded file expanded → IfOk result (IsJudged text limits) }
     ensures over { (file : PlainFile) → IsExpanded file expanded → IfErr result (NamesFirstOver (steps_of_file file) limits) }
+    ensures names { IfOk result (λ judged. judged.names.items ≡ expanded.names.items) }
 {
     names_are_short();
     let auto = built(alloc, &expanded, limits)?;

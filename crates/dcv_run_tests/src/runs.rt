@@ -555,7 +555,7 @@ fn faults_of_long_texts(rt: HostRuntime) -> Result<(), Fail> {
 }
 
 // Lists of words that no command takes.
-const NO_COMMANDS: [&[&str]; 14] = [
+const NO_COMMANDS: [&[&str]; 19] = [
     &[],
     &["check"],
     &["check", "-f"],
@@ -570,6 +570,11 @@ const NO_COMMANDS: [&[&str]; 14] = [
     &["sweep", "0", "0"],
     &["sweep", "0", "1001"],
     &["sweep", "2147483648", "1"],
+    &["synth", "f"],
+    &["synth", "--inputs", "1"],
+    &["synth", "f", "--inputs"],
+    &["synth", "f", "--inputs", "17"],
+    &["synth", "f", "--inputs", "1", "--inputs", "1"],
 ];
 
 // What is on the messages is left to the reader of the command line.

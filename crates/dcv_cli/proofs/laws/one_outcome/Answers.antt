@@ -1,5 +1,6 @@
 -- A text has one first fault or holds one file, one step is the first over the limits, and a set of behaviours has one verdict, so one outcome is right.
 use Rattle.dcv_cli.proofs.OneOutcome.{one_outcome}
+use Rattle.dcv_cli.proofs.OneSynthesis.{one_synthesis_of}
 use Rattle.dcv_cli.proofs.laws.one_outcome.Goals as goal
 
 pub returns : goal.returns
@@ -15,3 +16,4 @@ returns c =
       no_unit_fault = c.texts_are_units_or_at_fault.ensures.none;
     })
     c.traces_have_one_verdict.ensures.one c.letters_have_one_text_of_answers.ensures.one c.one_summary.ensures
+    (one_synthesis_of c.one_canonical_table.ensures c.units_are_one.ensures.right c.answers_are_one.ensures.strategy c.one_side_is_right.ensures)

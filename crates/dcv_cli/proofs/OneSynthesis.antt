@@ -1,0 +1,53 @@
+-- One controller, or one strategy, is right for a file.
+use Rattle.std.proofs.Common.{◌≡◌, ℕ, ◌+◌, ◌-◌, List, ◌++◌, codes, inl, length, sym, ap, ◌∙◌, subst, take}
+use Rattle.std.specs.Fmt.{decimal}
+use Rattle.std.specs.List.{flat_map}
+use Rattle.dcv_syntax.specs.Plain.{PlainFile}
+use Rattle.dcv_logic.specs.Models.{models}
+use Rattle.dcv_language.specs.Language.{Language}
+use Rattle.dcv_language.specs.Laws.{OneCanonicalTable}
+use Rattle.dcv_language.specs.Table.{Table, automaton_of}
+use Rattle.dcv_language.specs.VerdictText.{line}
+use Rattle.dcv_automaton_file.specs.File.{texts_of}
+use Rattle.dcv_c.specs.Layout.{text_of}
+use Rattle.dcv_c.specs.Tree.{CUnit}
+use Rattle.dcv_synth.specs.Control.{IsControlOf}
+use Rattle.dcv_synth.specs.Laws.{NotBothAreRight, OneStrategyIsRight, OneUnitIsRight}
+use Rattle.dcv_synth.specs.Outcome.{IsUnrealisable}
+use Rattle.dcv_cli.specs.Outcome.{Outcome, Agrees}
+use Rattle.dcv_cli.specs.Synthesis.{controller_text, move_line, strategy_text, SaysController, SaysStrategy, IsSynthesis, Realisable, Unrealisable, IsSynthesisOf}
+
+module _ (one_table : OneCanonicalTable) (one_unit : OneUnitIsRight) (one_strategy : OneStrategyIsRight) (not_both : NotBothAreRight) where
+  module _ (n m : ℕ) (L : Language) (names : List (List ℕ)) where
+    -- which controller is right, or which strategy, is a question of the one canonical table
+    one_controller : (text other : List ℕ) → SaysController n m L names text → SaysController n m L names other → text ≡ other
+    one_controller text other x y =
+        let table = (one_table (n + m) L x.table y.table x.access y.access x.canonical y.canonical).0 in
+        let least = subst (λ (table : Table). IsControlOf n m (automaton_of table) x.control) table x.least in
+        let unit = one_unit names n m (automaton_of y.table) x.control y.control x.rows y.rows least y.least in
+        x.says ∙ ap (λ (unit : CUnit). controller_text (text_of unit)) unit ∙ sym y.says
+
+    one_list_of_moves : (text other : List ℕ) → SaysStrategy n m L text → SaysStrategy n m L other → text ≡ other
+    one_list_of_moves text other x y =
+        let table = (one_table (n + m) L x.table y.table x.access y.access x.canonical y.canonical).0 in
+        let least = subst (λ (table : Table). IsUnrealisable n m (automaton_of table) x.strategy) table x.least in
+        let same = one_strategy n m (automaton_of y.table) x.strategy y.strategy least y.least in
+        let says : strategy_text x.strategy ≡ strategy_text y.strategy =
+        λ i. line (codes "unrealisable") ++ line (codes "bound " ++ decimal (same.0 i)) ++ flat_map move_line (same.1 i) ++ line (codes "end") in
+        x.says ∙ says ∙ sym y.says
+
+    not_both_are_said : (text other : List ℕ) → SaysController n m L names text → SaysStrategy n m L other → ⊥
+    not_both_are_said text other x y =
+        let table = (one_table (n + m) L x.table y.table x.access y.access x.canonical y.canonical).0 in
+        not_both n m (automaton_of y.table) y.strategy (subst (λ (table : Table). IsControlOf n m (automaton_of table) x.control) table x.least).realisable y.least
+
+    one_synthesis : (a b : Outcome) → IsSynthesis n m L names a → IsSynthesis n m L names b → Agrees a b
+    one_synthesis a b (Realisable x status message) (Realisable y status' message') =
+        record { status = status ∙ sym status'; report = inl (one_controller a.out b.out x y); message = λ told within. message ∙ sym message' }
+    one_synthesis a b (Realisable x status message) (Unrealisable y status' message') = absurd (not_both_are_said a.out b.out x y)
+    one_synthesis a b (Unrealisable x status message) (Realisable y status' message') = absurd (not_both_are_said b.out a.out y x)
+    one_synthesis a b (Unrealisable x status message) (Unrealisable y status' message') =
+        record { status = status ∙ sym status'; report = inl (one_list_of_moves a.out b.out x y); message = λ told within. message ∙ sym message' }
+
+  pub one_synthesis_of : (inputs : ℕ) (file : PlainFile) (a b : Outcome) → IsSynthesisOf inputs file a → IsSynthesisOf inputs file b → Agrees a b
+  one_synthesis_of inputs file a b x y = one_synthesis inputs (length file.variables - inputs) (models file) (take inputs (texts_of file.variables)) a b x y

@@ -1,0 +1,230 @@
+// The command that asks for a controller which keeps to the requirement of a formula file.
+ghost use Rattle.std.specs.Prelude.{◌≡◌, ◌≤◌, ◌<◌, ◌-◌, ◌∷◌, [], ℕ, length, take, is_err, slice_index_or, false, IfOk, OnOk, OnErr, IsTrue};
+ghost use Rattle.std.specs.List.{flat_map};
+ghost use Rattle.dcv_io.specs.Faults.{RisesIf};
+ghost use Rattle.dcv_io.specs.Putting.{Puts};
+ghost use Rattle.dcv_io.specs.Written.{Appends, AppendsStrictPrefix};
+ghost use Rattle.dcv_word.specs.TraceLine.{digit_of, trace_line};
+ghost use Rattle.dcv_language.specs.Language.{Language};
+ghost use Rattle.dcv_automaton_text.specs.Rules.{most_nodes};
+ghost use Rattle.dcv_dfa.specs.Raw.{automaton_of};
+ghost use Rattle.dcv_build.specs.Budget.{IsAutomatonOf};
+ghost use Rattle.dcv_automaton_file.specs.File.{texts_of};
+ghost use Rattle.dcv_synth.specs.Control.{IsControlOf};
+ghost use Rattle.dcv_command.specs.Request.{Synth, AreInputsInRange};
+ghost use Rattle.dcv_cli.specs.Judged.{CanBePrinted};
+ghost use Rattle.dcv_cli.specs.Outside.{outside};
+ghost use Rattle.dcv_cli.specs.Performed.{PerformsRequest};
+ghost use Rattle.dcv_cli.specs.Synthesis.{can_be_divided as can_be_divided_so, move_line, strategy_text, IsSynthesis};
+ghost use Rattle.dcv_cli.specs.Synthesised.{status_of_synthesis, synthesis_text, synthesised};
+
+use crate::expanded::expanded_file;
+use crate::faults::FormulaFault;
+use crate::judged::Judged;
+use crate::refusal::Refusal;
+use crate::refused::{Refused, Which};
+use crate::reporting::judge;
+use crate::status::Status;
+use dcv_c::laws::texts_spell_units;
+use dcv_c::{CUnit, put as put_unit};
+use dcv_explore::Limits;
+use dcv_io::{Block, Failed, Files, Sink, Target, put_pieces};
+use dcv_syntax::Name;
+use dcv_synth::laws::{
+    answers_are_of_tables, controls_win, strategies_beat, winners_of_same_behaviours,
+};
+use dcv_synth::{Control, Move, Outcome, Strategy, synth};
+use dcv_word::Letter;
+use itoa::Buffer;
+use std::alloc::{AllocError, Global};
+
+// The most outputs that a controller has.
+const MOST_OUTPUTS: u64 = 8;
+
+/// What is found for a requirement of which some variables are inputs.
+#[derive(Debug, Drop)]
+pub(crate) enum Synthesis {
+    /// A controller that wins.
+    Controller(CUnit),
+    /// How the inputs beat every controller.
+    Strategy(Strategy),
+}
+
+/// Writes a controller for the requirement in the file of this name, of which so many variables are inputs, or how these beat every
+/// controller.
+pub(crate) fn synthesise_file<F: Files, O: Sink>(
+    alloc: Global,
+    name: &str,
+    inputs: u32,
+    limits: Limits,
+    files: &mut F,
+    out: &mut O,
+) -> Result<Status, Refused>
+    requires { AreInputsInRange inputs limits }
+    ensures { PerformsRequest (Synth name.entry.now inputs limits) result
+        (outside (F.told files.old) (F.asked files.old) (F.open_faults files.old) (F.read_faults files.old) (O.written out.old) (O.faults out.old))
+        (outside (F.told files.new) (F.asked files.new) (F.open_faults files.new) (F.read_faults files.new) (O.written out.new) (O.faults out.new)) }
+{
+    let expanded = expanded_file(alloc, files, name)?;
+    if !can_be_divided(inputs, &expanded.names) {
+        return Err(Refusal::Formula(FormulaFault::Outputs).of(Which::Only));
+    }
+    let judged = judge(alloc, expanded, limits)?;
+    let found = synthesise(alloc, &judged, inputs as u8)?;
+    found.send(out)?;
+    Ok(found.status())
+}
+
+// Whether there are as many variables as inputs, and no more outputs than a controller may have.
+fn can_be_divided(inputs: u32, names: &[Name]) -> bool
+    ensures { result ≡ can_be_divided_so inputs (length names.now) }
+{
+    let variables = names.len() as u64;
+    u64::from(inputs) <= variables && variables <= u64::from(inputs) + MOST_OUTPUTS
+}
+
+// The controller, or the strategy, of the automaton.
+fn synthesise(alloc: Global, judged: &Judged, inputs: u8) -> Result<Synthesis, AllocError>
+    requires printable { CanBePrinted judged.now }
+    requires divided { IsTrue (can_be_divided_so inputs (length judged.now.names.items)) }
+    ensures { (k : ℕ) (L : Language) → IsAutomatonOf k L judged.now.auto
+        → IfOk result (λ found. IsSynthesis inputs (k - inputs) L (take inputs (texts_of judged.now.names.items)) (synthesised found)) }
+{
+    answers_are_of_tables();
+    strategies_beat();
+    winners_of_same_behaviours();
+    // for the prover: what is true of every canonical automaton.
+    let _ = judged.auto.states();
+    match synth(alloc, &judged.auto, inputs)? {
+        Outcome::Controller(control) => controller(alloc, judged, inputs, &control),
+        Outcome::Strategy(strategy) => Ok(Synthesis::Strategy(strategy)),
+    }
+}
+
+// The controller as a unit of the subset of C, by the names of the inputs.
+fn controller(
+    alloc: Global,
+    judged: &Judged,
+    inputs: u8,
+    control: &Control,
+) -> Result<Synthesis, AllocError>
+    requires printable { CanBePrinted judged.now }
+    requires inputs { inputs ≤ judged.now.auto.arena.slots }
+    requires control { IsControlOf inputs (judged.now.auto.arena.slots - inputs) (automaton_of judged.now.auto) control.now }
+    requires next_nodes { length control.now.next.arena.nodes ≤ most_nodes }
+    requires output_nodes { length control.now.output.arena.nodes ≤ most_nodes }
+    ensures { (k : ℕ) (L : Language) → IsAutomatonOf k L judged.now.auto
+        → IfOk result (λ found. IsSynthesis inputs (k - inputs) L (take inputs (texts_of judged.now.names.items)) (synthesised found)) }
+{
+    answers_are_of_tables();
+    controls_win();
+    winners_of_same_behaviours();
+    texts_spell_units();
+    // for the prover: what is true of every canonical automaton, and of every controller.
+    let _ = judged.auto.states();
+    let _ = control.states().len();
+    let unit = control.unit(alloc, &judged.names[..inputs as usize])?;
+    // for the prover: what is true of every unit.
+    unit.keeps_the_rules();
+    Ok(Synthesis::Controller(unit))
+}
+
+impl Synthesis {
+    fn status(&self) -> Status
+        ensures { result ≡ status_of_synthesis self.now }
+    {
+        match self {
+            Synthesis::Controller(_) => Status::Valid,
+            Synthesis::Strategy(_) => Status::NotValid,
+        }
+    }
+
+    // Writes the lines that say it.
+    fn send<S: Sink>(&self, sink: &mut S) -> Result<(), Failed>
+        ensures ok { OnOk result (Appends (S.written sink.old) (S.written sink.new) (synthesis_text self.now)) }
+        ensures failed { OnErr result (AppendsStrictPrefix (S.written sink.old) (S.written sink.new) (synthesis_text self.now)) }
+        ensures faults { RisesIf (is_err result) (S.faults sink.old) (S.faults sink.new) }
+    {
+        let mut block = Block::new(sink);
+        self.put(&mut block);
+        block.finish()
+    }
+
+    fn put<T: Target>(&self, target: &mut T)
+        ensures { Puts (T.standing target.old) (T.standing target.new) (synthesis_text self.now) }
+    {
+        match self {
+            Synthesis::Controller(unit) => {
+                target.put(b"realisable\n");
+                put_unit(unit, target);
+            }
+            Synthesis::Strategy(strategy) => put_strategy(target, strategy),
+        }
+    }
+}
+
+// The lines of a strategy.
+fn put_strategy<T: Target>(target: &mut T, strategy: &Strategy)
+    ensures { Puts (T.standing target.old) (T.standing target.new) (strategy_text strategy.now) }
+{
+    let mut digits = Buffer::new();
+    put_pieces(
+        target,
+        &[
+            b"unrealisable\nbound ",
+            digits.format(strategy.bound).as_bytes(),
+            b"\n",
+        ],
+    );
+    put_moves(target, &strategy.moves);
+    target.put(b"end\n");
+}
+
+// A line for each move.
+fn put_moves<T: Target>(target: &mut T, moves: &[Move])
+    ensures { Puts (T.standing target.old) (T.standing target.new) (flat_map move_line moves.now) }
+{
+    for one in moves {
+        put_move(target, *one);
+    }
+}
+
+// What is picked in a state.
+fn put_move<T: Target>(target: &mut T, one: Move)
+    ensures { Puts (T.standing target.old) (T.standing target.new) (move_line one) }
+{
+    let (mut state, mut rank) = (Buffer::new(), Buffer::new());
+    put_pieces(
+        target,
+        &[
+            b"state ",
+            state.format(one.state).as_bytes(),
+            b" rank ",
+            rank.format(one.rank).as_bytes(),
+            b" input ",
+        ],
+    );
+    put_letter(target, one.input);
+    target.put(b"\n");
+}
+
+// A letter, as in a trace.
+fn put_letter<T: Target>(target: &mut T, letter: Letter)
+    ensures { Puts (T.standing target.old) (T.standing target.new) (trace_line letter) }
+{
+    if letter.width() == 0 {
+        target.put(b"-");
+        return;
+    }
+    for slot in 0..letter.width() {
+        target.put(digit(letter, slot));
+    }
+}
+
+// The truth of the variable in this slot.
+fn digit(letter: Letter, slot: u8) -> &'static [u8]
+    requires { slot < length letter }
+    ensures { result.now ≡ digit_of (slice_index_or letter slot false) ∷ [] }
+{
+    if letter.get(slot) { b"1" } else { b"0" }
+}
