@@ -97,8 +97,12 @@ def separation(apart):
 FAMILIES = {one.__name__: one for one in (arbiter, layers, past, mixture, handshake, response, chain, count, quantified, separation)}
 
 # the sizes at which each takes MONA some 0.05 to 2 s
-CASES = ["arbiter 8 3", "arbiter 6 5", "arbiter 5 6", "layers 120", "past 12", "mixture 12", "handshake 40", "response 13",
+LARGE = ["arbiter 8 3", "arbiter 6 5", "arbiter 5 6", "layers 120", "past 12", "mixture 12", "handshake 40", "response 13",
          "chain 700", "count 8", "quantified 8", "separation 300"]
+# and smaller or larger ones of the same families
+OTHERS = ["arbiter 2 4", "arbiter 3 4", "arbiter 4 4", "layers 30", "layers 60", "past 6", "past 9", "mixture 6", "mixture 9", "handshake 14", "handshake 25",
+          "response 8", "response 11", "chain 200", "chain 1500", "count 4", "count 6", "quantified 4", "quantified 6", "separation 100", "separation 600"]
+CASES = LARGE + OTHERS
 
 if __name__ == "__main__":
     family, *sizes = sys.argv[1:] or sys.exit(__doc__)

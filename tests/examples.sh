@@ -1,6 +1,6 @@
 #!/usr/bin/env bash
 # Runs ./dcvalid on every file of examples/ and compares the exit status and the first line: which of them always hold. Then each of their
-# automata is certified, and two of them are compared, both ways. Run it by hand: tests/examples.sh
+# automata is certified, and two of them are compared, both ways, and controllers are synthesised and run. Run it by hand: tests/examples.sh
 here=$(dirname "$(dirname "$(readlink -f "${BASH_SOURCE[0]}")")") || exit 1
 failed=0
 
@@ -43,4 +43,26 @@ done
 tell 'response_2 implies response' implies "$("$here/dcvalid" implies "$here/examples/response_2.dc" "$here/examples/response.dc")"
 tell 'response implies response_2' $'does not imply\ncounterexample 3\n10\n00\n00' \
   "$("$here/dcvalid" implies "$here/examples/response.dc" "$here/examples/response_2.dc")"
+
+# synthesised NAME INPUTS WANTED: the first line of what is found
+synthesised() {
+  local text
+  text=$("$here/dcvalid" synth "$here/examples/$1.dc" --inputs "$2")
+  tell "$1 with $2 inputs" "$3" "${text%%$'\n'*}"
+}
+synthesised arbiter 2 realisable
+synthesised lift_door 2 realisable
+synthesised crossing_warned 2 realisable
+synthesised crossing 1 unrealisable
+
+# The arbiter, compiled, keeps to its requirement for as long as it is asked.
+work=$(mktemp -d) || exit 1
+trap 'rm -rf "$work"' EXIT
+"$here/dcvalid" synth "$here/examples/arbiter.dc" --inputs 2 | tail -n +2 >"$work/controller.c"
+"$here/dcvalid" c "$here/examples/arbiter.dc" >"$work/observer.c"
+if cc -std=c99 -Wall -Wextra -pedantic -Werror -o "$work/arbiter" "$here/examples/controller_use.c" "$work/controller.c" "$work/observer.c"; then
+  tell 'the arbiter' 'kept for 100000 instants' "$("$work/arbiter" 100000 | tail -n 1)"
+else
+  tell 'the arbiter' compiled 'not compiled'
+fi
 exit "$failed"

@@ -96,5 +96,23 @@ got=$(STUB_OUT='formulas 1\nvalid 0\nsatisfiable 1\nover 0\nstates 3\n' STUB_STA
 grep -q '^1 formula over x, y and z' <<<"$got" || fail "what is said of the formulas: $got"
 grep -q '^3 states in the minimal automata' <<<"$got" || fail "what is said of the states: $got"
 
+# A strategy as a play, of a requirement by which the output of an instant has to be the input of the next.
+cat >"$work/game" <<'END'
+#!/usr/bin/env bash
+case $1 in
+  synth) printf 'unrealisable\nbound 2\nstate 0 rank 2 input 0\nstate 1 rank 1 input 1\nstate 2 rank 1 input 0\nend\n'; exit 1 ;;
+  *) printf 'automaton 1\nvariables a b\nstates 4\nnode n0 b ? t2 : t1\nnode n1 a ? t3 : n0\nnode n2 a ? n0 : t3\nstate 0 reject n0\nstate 1 accept n1\nstate 2 accept n2\nstate 3 reject t3\nend\n' ;;
+esac
+END
+chmod +x "$work/game"
+printf 'var a, b;\ninfer []({{b}} => true ^ <a>) && []({{!b}} => true ^ <!a>);\n' >"$work/text.dc"
+got=$(DCVALID=$work/game "$here/explain" synth "$work/text.dc" --inputs 1 2>&1)
+[ $? -eq 1 ] || fail 'the status of a strategy'
+grep -q 'broken within 2 instants' <<<"$got" || fail "the bound of a strategy: $got"
+[ "$(tail -n 4 <<<"$got" | head -n 3)" = $'  instant  a  b\n        0  0  0\n        1  1  ?' ] || fail "the play of a strategy: $got"
+STUB_ERR='fault outputs' STUB_STATUS=3 DCVALID=$work/stub "$here/explain" synth "$work/text.dc" --inputs 3 >"$work/out" 2>"$work/err"
+[ $? -eq 3 ] || fail 'the status of too many inputs'
+grep -q 'more than 8 outputs' "$work/err" || fail "what is said of too many inputs: $(cat "$work/err")"
+
 [ "$failed" -eq 0 ] && echo 'all passed'
 exit "$failed"
