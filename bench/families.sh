@@ -7,22 +7,45 @@
 #   bench/families.sh CASE..     these, as `bench/families.sh 'past 12'`
 #
 # What is valid for one must be valid for the other; where MONA's question takes over a minute, no quotient is told.
-# The last figures: 29 November 2026, an Intel Xeon at 2.5 GHz with nothing else to do, the least of seven runs. None is above MONA's, in time or in memory.
+# The last figures: 29 November 2026, an Intel Xeon with nothing else of ours to do, but with neighbours: the least of twelve runs, and of `past 12` of two hundred, since its quotient
+# went from 0.93 to 1.46 from minute to minute. `past 12` alone is above MONA's time (in the night before, on another such machine, it took 15.0 ms to 16.8), and none is above its memory. What takes
+# a few milliseconds here takes 2 to 3 on a quieter one, most of it the start of the process.
 #
 #   case                      ms      MONA  times          MB      MONA  times  answer
-#   arbiter 5 6             63.9     125.8   0.51        16.1      42.0   0.38  not valid
-#   arbiter 6 5            276.2     464.2   0.60        46.7      81.7   0.57  not valid
-#   arbiter 8 3            224.2     291.2   0.77        46.2      82.2   0.56  not valid
-#   chain 700                2.9     181.2   0.02         2.1       5.4   0.40  not valid
-#   count 8                  2.6      18.4   0.14         2.0       5.1   0.39  not valid
-#   handshake 40             9.0      29.7   0.30         3.7       5.8   0.63  valid
-#   layers 120              10.8      69.9   0.16         2.9      12.7   0.23  not valid
-#   mixture 12              40.3      42.2   0.96        12.1      15.7   0.77  not valid
-#   past 12                 15.0      16.8   0.89         5.9       6.4   0.93  not valid
-#   quantified 8             3.1      21.2   0.15         1.9       5.2   0.37  not valid
-#   response 13             49.4      70.5   0.70        14.1      16.9   0.84  not valid
-#   separation 300           3.7     105.7   0.04         2.3       4.7   0.48  not valid
-#   geometric mean of the times: 0.255 (0.279 the day before)
+#   arbiter 2 4              3.7       5.6   0.65         2.0       4.5   0.45  not valid
+#   arbiter 3 4              3.8       5.5   0.69         2.2       4.7   0.46  not valid
+#   arbiter 4 4              5.3       7.1   0.75         2.4       4.9   0.50  not valid
+#   arbiter 5 6             57.2     148.0   0.39        15.5      42.0   0.37  not valid
+#   arbiter 6 5            242.1     504.2   0.48        43.6      81.7   0.53  not valid
+#   arbiter 8 3            279.5     382.9   0.73        43.2      82.1   0.53  not valid
+#   chain 1500               4.4     896.7   0.00         2.1       6.5   0.32  not valid
+#   chain 200                3.6      23.5   0.15         2.0       4.7   0.43  not valid
+#   chain 700                3.3     184.0   0.02         2.1       5.4   0.38  not valid
+#   count 4                  3.0       4.8   0.62         2.0       4.4   0.46  not valid
+#   count 6                  3.0       6.1   0.48         2.0       4.6   0.44  not valid
+#   count 8                  3.6      21.1   0.17         2.0       5.0   0.40  not valid
+#   handshake 14             5.7      12.2   0.47         2.3       4.9   0.47  valid
+#   handshake 25             6.2      18.1   0.34         2.7       4.9   0.55  valid
+#   handshake 40            11.7      44.8   0.26         4.0       5.9   0.67  valid
+#   layers 120              11.2      76.3   0.15         3.0      12.8   0.24  not valid
+#   layers 30                8.2      19.4   0.42         2.5       5.7   0.44  not valid
+#   layers 60               12.9      32.0   0.40         2.5       7.2   0.35  not valid
+#   mixture 12              47.3      52.8   0.90        12.4      15.8   0.79  not valid
+#   mixture 6                4.2       5.5   0.76         2.2       4.6   0.47  not valid
+#   mixture 9               16.5      36.6   0.45         5.6      13.8   0.41  not valid
+#   past 12                 16.0      14.5   1.11         6.0       6.4   0.93  not valid
+#   past 6                   3.6       4.9   0.73         2.0       4.4   0.46  not valid
+#   past 9                   5.0       5.7   0.87         2.5       4.6   0.54  not valid
+#   quantified 4             3.6       5.7   0.63         2.0       4.6   0.43  not valid
+#   quantified 6             3.7       7.7   0.48         2.0       4.6   0.44  not valid
+#   quantified 8             4.2      29.8   0.14         2.0       5.3   0.39  not valid
+#   response 11             18.3      19.5   0.94         4.9       7.5   0.65  not valid
+#   response 13             68.5     101.6   0.67        14.2      16.9   0.84  not valid
+#   response 8               5.9       6.9   0.86         2.4       5.1   0.48  not valid
+#   separation 100           4.7      16.1   0.29         2.2       4.6   0.47  not valid
+#   separation 300           5.3     113.5   0.05         2.3       4.6   0.49  not valid
+#   separation 600           6.5     369.7   0.02         2.4       5.2   0.46  not valid
+#   geometric mean of the times: 0.32; of the twelve large ones that were measured alone before, on the other machine, 0.255
 # Instructions of one run (callgrind, millions), which no other load disturbs, of a program that is built without its proofs (`bench/unproved.py`): before
 # the minimiser divided by hashes, with them, with a builder that also puts each automaton on a shelf and explores nothing twice, with one that does so but
 # for the automaton of the last operator, which is handed out as it is, and MONA's.
