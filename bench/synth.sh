@@ -5,7 +5,7 @@
 #   arbiter N K    N clients, each granted within K instants of asking in a row; with K at least N there is a controller, with fewer there is none
 #   chain N        at most N instants, so that the inputs win from each state of a chain: as many rounds as states
 #
-# The last figures: 29 November 2026, an Intel Xeon with nothing else of ours to do. The game takes what `check` takes for the search of its words, at the most a fifth of it more; the chain of 29,988
+# The last figures: 29 November 2026, an Intel Xeon with nothing else of ours to do. The game takes what `check` takes for the search of its words, at the most a quarter of it more; the chain of 29,988
 # spends its time on the chop that makes it.
 #
 #   arbiter 2 2   check      2.5 ms    2.0 MB   synth      2.9 ms    2.0 MB   realisable, 521 bytes
