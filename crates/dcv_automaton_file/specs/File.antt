@@ -3,8 +3,8 @@
 --     target_of child                       a state or a node, as a line names it
 --     node_line names (number, line)        the line of the node with this number
 --     state_line raw (number, row)          the line of the state with this number
---     file_of raw names access suffixes     the file, where its access words and its suffixes are spelled so
-use Rattle.std.specs.Prelude.{ℕ, List, [], length, map, slice_index_or}
+--     file_of raw names access suffixes     the file of version 1, where its access words and its suffixes are spelled so
+use Rattle.std.specs.Prelude.{ℕ, List, [], None, length, map, slice_index_or}
 use Rattle.std.specs.List.{enumerate_from}
 use Rattle.dcv_syntax.specs.declared.names.Name.{Name}
 use Rattle.dcv_dfa.specs.declared.node_lines.Child.{Child}
@@ -45,4 +45,5 @@ file_of raw names access suffixes =
       state_lines = map (state_line raw) (enumerate_from 0 all.rows);
       access_lines = access;
       suffix_lines = suffixes;
+      steps = None;
     }

@@ -5,8 +5,10 @@
 --     StateLine        a state: its number, whether it accepts, and its row
 --     AccessLine       how the access word of a state is spelled
 --     SuffixLine       how a suffix is spelled
---     AutomatonFile    the variables, the number of states, and the lines of each kind
-use Rattle.std.specs.Prelude.{ℕ, Bool, List}
+--     StepLine         what a step of the requirement took: its number, where it stands in the source, and how many states and nodes
+--     StepPart         how many steps there are, and the line of each
+--     AutomatonFile    the variables, the number of states, the lines of each kind, and the step part, if there is one
+use Rattle.std.specs.Prelude.{ℕ, Bool, List, Option}
 
 pub data Target : Type 0 where
   ToState : (number : ℕ) → Target
@@ -44,6 +46,17 @@ pub record SuffixLine : Type 0 where
   pub number : ℕ
   pub suffix : Suffix
 
+pub record StepLine : Type 0 where
+  pub number : ℕ
+  -- the byte of the source at which the step's span starts
+  pub at : ℕ
+  pub states : ℕ
+  pub nodes : ℕ
+
+pub record StepPart : Type 0 where
+  pub count : ℕ
+  pub lines : List StepLine
+
 pub record AutomatonFile : Type 0 where
   -- of the variables, in order
   pub names : List (List ℕ)
@@ -52,3 +65,5 @@ pub record AutomatonFile : Type 0 where
   pub state_lines : List StateLine
   pub access_lines : List AccessLine
   pub suffix_lines : List SuffixLine
+  -- a text of version 1 has none
+  pub steps : Option StepPart

@@ -3,10 +3,10 @@
 --     HasForm text file         the text has the form, and this is its file
 --     IsViable text             the text is the beginning of one that has the form, or a whole one
 --     IsSyntaxFault text at     the text is viable up to this byte, and no further
-use Rattle.std.specs.Prelude.{◌≡◌, ◌≢◌, ℕ, ◌+◌, ◌^◌, ◌<◌, Bool, false, ◌&&◌, nat_le, List, [], ◌∷◌, ◌++◌, ◌⊎◌, length, take, codes, IsTrue}
+use Rattle.std.specs.Prelude.{◌≡◌, ◌≢◌, ℕ, ◌+◌, ◌^◌, ◌<◌, Bool, false, ◌&&◌, nat_le, List, [], ◌∷◌, ◌++◌, ◌⊎◌, length, take, codes, IsTrue, IfSome}
 use Rattle.std.specs.List.{All, list_all}
 use Rattle.dcv_automaton_text.specs.File.{Target, ToState, ToNode, NodeLine, StateLine, Access, EmptyAccess, StartAccess, AfterAccess, AccessLine}
-use Rattle.dcv_automaton_text.specs.File.{Suffix, EmptySuffix, ThenSuffix, SuffixLine, AutomatonFile}
+use Rattle.dcv_automaton_text.specs.File.{Suffix, EmptySuffix, ThenSuffix, SuffixLine, StepLine, StepPart, AutomatonFile}
 use Rattle.dcv_automaton_text.specs.Spelled.{spelled}
 
 -- at most seven digits
@@ -55,6 +55,16 @@ pub record IsSuffixLine (line : SuffixLine) : Type 0 where
   pub number : IsNumber line.number
   pub suffix : IsSuffix line.suffix
 
+pub record IsStepLine (line : StepLine) : Type 0 where
+  pub number : IsNumber line.number
+  pub at : IsNumber line.at
+  pub states : IsNumber line.states
+  pub nodes : IsNumber line.nodes
+
+pub record IsStepPart (part : StepPart) : Type 0 where
+  pub count : IsNumber part.count
+  pub lines : All IsStepLine part.lines
+
 pub record IsSpellable (file : AutomatonFile) : Type 0 where
   pub names : All IsNameWord file.names
   -- a dash alone says that there are no variables
@@ -64,6 +74,7 @@ pub record IsSpellable (file : AutomatonFile) : Type 0 where
   pub state_lines : All IsStateLine file.state_lines
   pub access_lines : All IsAccessLine file.access_lines
   pub suffix_lines : All IsSuffixLine file.suffix_lines
+  pub steps : IfSome file.steps IsStepPart
 
 pub record HasForm (text : List ℕ) (file : AutomatonFile) : Type 0 where
   pub spellable : IsSpellable file

@@ -1,12 +1,14 @@
 -- The laws that `src/laws.rt` proves, of the text of an automaton.
-use Rattle.std.specs.Prelude.{◌≡◌, ℕ, ◌≤◌, List, length}
+use Rattle.std.specs.Prelude.{◌≡◌, ℕ, ◌≤◌, List, None, length}
 use Rattle.dcv_language.specs.Certificate.{IsCertificate}
 use Rattle.dcv_language.specs.Language.{Language}
 use Rattle.dcv_language.specs.Table.{Table, IsTable, AcceptsExactly}
 use Rattle.dcv_automaton_text.specs.File.{AutomatonFile}
-use Rattle.dcv_automaton_text.specs.Form.{HasForm}
+use Rattle.dcv_automaton_text.specs.Form.{HasForm, IsSpellable}
 use Rattle.dcv_automaton_text.specs.Meaning.{table_of, access_words_of, suffix_words_of}
 use Rattle.dcv_automaton_text.specs.Rules.{IsGood}
+use Rattle.dcv_automaton_text.specs.Spelled.{spelled}
+use Rattle.dcv_automaton_text.specs.Versions.{first_version, second_version}
 
 -- a text has one file at most
 abbrev pub OneFile : Type 0
@@ -25,3 +27,21 @@ abbrev pub WordsShowFewestStates : Type 0
 WordsShowFewestStates = (k : ℕ) (L : Language) (file : AutomatonFile) (table : Table)
     → IsGood file → IsCertificate k L (access_words_of file) (suffix_words_of file)
     → IsTable k table → AcceptsExactly k table L → file.states ≤ length table
+
+-- ---- both versions
+
+-- each version of a file that keeps the rules has the form and keeps them too, and stands for the same table, access words and suffixes
+pub record IsOfOtherVersion (file other : AutomatonFile) : Type 0 where
+  pub form : IsSpellable other
+  pub good : IsGood other
+  pub table : table_of other ≡ table_of file
+  pub access : access_words_of other ≡ access_words_of file
+  pub suffixes : suffix_words_of other ≡ suffix_words_of file
+
+pub record VersionsStandForTheSame : Type 0 where
+  pub first : (file : AutomatonFile) → IsSpellable file → IsGood file → IsOfOtherVersion file (first_version file)
+  pub second : (file : AutomatonFile) → IsSpellable file → IsGood file → IsOfOtherVersion file (second_version file)
+
+-- to version 2 and back is the text itself, where it is of version 1
+abbrev pub SecondAndBackIsTheText : Type 0
+SecondAndBackIsTheText = (text : List ℕ) (file : AutomatonFile) → HasForm text file → file.steps ≡ None → spelled (first_version (second_version file)) ≡ text

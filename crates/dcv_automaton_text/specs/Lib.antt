@@ -1,10 +1,11 @@
--- what public clauses cite: the file as plain data, its text, the form, the table rules, how nodes are numbered, and what a good file
--- stands for
+-- what public clauses cite: the file as plain data, its text, the form, the table rules, how nodes are numbered, what a good file
+-- stands for, and both versions
 pub mod File
 pub mod Spelled
 pub mod Form
 pub mod Rules
 pub mod Numbering
 pub mod Meaning
+pub mod Versions
 -- the statements that `src/laws.rt` proves
 pub mod Laws

@@ -1,5 +1,6 @@
 -- The table rules, by which a file of the form stands for an automaton. Each word of the text keeps them or breaks one of them.
 --     most_names, most_states, most_nodes    how many there may be
+--     most_steps, most_start                 how many steps there may be, and where the last of them may start
 --     AreNames names                         these may be the names of the variables
 --     keeps_name file place name ..          whether each word of a line at this place keeps the rules, in the order of its words
 --     judged_words file                      each word of the text, and whether it keeps the rules
@@ -12,8 +13,8 @@ use Rattle.std.specs.List.{All, AllPairs, flat_map, list_any, position_or_len, e
 use Rattle.dcv_tokens.specs.Tokens.{is_name}
 use Rattle.dcv_tokens.specs.Limits.{longest_word}
 use Rattle.dcv_automaton_text.specs.File.{Target, ToState, ToNode, NodeLine, StateLine, Access, EmptyAccess, StartAccess, AfterAccess, AccessLine}
-use Rattle.dcv_automaton_text.specs.File.{Suffix, EmptySuffix, ThenSuffix, SuffixLine, AutomatonFile}
-use Rattle.dcv_automaton_text.specs.Spelled.{node_words, state_words, access_words, suffix_words, head_lines, end_lines}
+use Rattle.dcv_automaton_text.specs.File.{Suffix, EmptySuffix, ThenSuffix, SuffixLine, StepLine, StepPart, AutomatonFile}
+use Rattle.dcv_automaton_text.specs.Spelled.{node_words, state_words, access_words, suffix_words, step_words, steps_words, head_lines, end_lines}
 
 abbrev pub most_names : ℕ
 most_names = 16
@@ -23,6 +24,13 @@ most_states = 32000
 
 abbrev pub most_nodes : ℕ
 most_nodes = 1000000
+
+-- as many as a requirement of the greatest size has, and a place in a source of 262,144 bytes
+abbrev pub most_steps : ℕ
+most_steps = 131168
+
+abbrev pub most_start : ℕ
+most_start = 262143
 
 -- ---- variables
 
@@ -128,6 +136,29 @@ keeps_suffix file place line =
     has_all_access file
     ∷ nat_eq line.number place ∷ keeps_how_suffix file place line.suffix
 
+-- ---- steps
+
+abbrev pub keeps_steps : AutomatonFile → StepPart → List Bool
+keeps_steps file part =
+    -- `steps`: there are enough states and access words
+    has_all_access file
+    ∷ nat_le part.count most_steps ∷ []
+
+abbrev pub keeps_step : StepPart → ℕ → StepLine → List Bool
+keeps_step part place line =
+    -- `step`: there are not too many
+    nat_lt place part.count
+    ∷ nat_eq line.number place
+    -- `at`, and where the step stands
+    ∷ true ∷ nat_le line.at most_start
+    -- `states`, of which there is a start, and `nodes`
+    ∷ true ∷ (nat_lt 0 line.states && nat_le line.states most_states)
+    ∷ true ∷ nat_le line.nodes most_nodes ∷ []
+
+abbrev pub has_all_steps : Option StepPart → Bool
+has_all_steps None = true
+has_all_steps (Some part) = nat_le part.count (length part.lines)
+
 -- ---- the file
 
 -- the words of lines, each with whether it keeps the rules
@@ -138,9 +169,13 @@ abbrev pub keeps_names : List (List ℕ) → List Bool
 keeps_names [] = true ∷ []
 keeps_names (name ∷ names) = map (λ numbered. keeps_name (name ∷ names) numbered.0 numbered.1) (enumerate_from 0 (name ∷ names))
 
--- `automaton 1`, `variables` with the names, and `states` with their number
+-- `automaton` and the version, `variables` with the names, and `states` with their number
 abbrev pub keeps_head : AutomatonFile → List (List Bool)
 keeps_head file = (true ∷ true ∷ []) ∷ (true ∷ keeps_names file.names) ∷ (true ∷ (nat_lt 0 file.states && nat_le file.states most_states) ∷ []) ∷ []
+
+abbrev pub judged_steps : AutomatonFile → Option StepPart → List (List ℕ × Bool)
+judged_steps file None = []
+judged_steps file (Some part) = zip (steps_words part) (keeps_steps file part) ++ judged step_words (keeps_step part) part.lines
 
 unfoldable pub judged_words : AutomatonFile → List (List ℕ × Bool)
 judged_words file =
@@ -149,8 +184,9 @@ judged_words file =
     ++ (judged state_words (keeps_state file) file.state_lines
     ++ (judged access_words (keeps_access file) file.access_lines
     ++ (judged suffix_words (keeps_suffix file) file.suffix_lines
-    -- `end`: there are enough states and access words
-    ++ flat_map (λ line. zip line (has_all_access file ∷ [])) end_lines))))
+    ++ (judged_steps file file.steps
+    -- `end`: there are enough states, access words and steps
+    ++ flat_map (λ line. zip line ((has_all_access file && has_all_steps file.steps) ∷ [])) end_lines)))))
 
 -- one byte stands behind each word, a space or a line feed
 abbrev pub first_broken : ℕ → List (List ℕ × Bool) → Option ℕ

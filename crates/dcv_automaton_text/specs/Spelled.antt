@@ -1,15 +1,18 @@
 -- How a file is spelled: words with one space between every two, and a line feed at the end of each line.
 --     node_words line ..      the words of a line
---     lines_of file           the lines of a file, each as its words
+--     version_word file       the version of a file's text, by whether it has a step part
+--     front_lines file        the lines before the step part, each as its words
+--     step_part steps         those of the step part
+--     lines_of file           all lines of a file
 --     spelled file            the bytes of its text
-use Rattle.std.specs.Prelude.{ℕ, Bool, if◌then◌else◌, List, [], ◌∷◌, ◌++◌, map, codes}
+use Rattle.std.specs.Prelude.{ℕ, Bool, if◌then◌else◌, List, [], ◌∷◌, ◌++◌, Option, None, Some, map, codes}
 use Rattle.std.specs.Fmt.{decimal}
 use Rattle.std.specs.List.{flat_map, join_with_byte}
 use Rattle.std.specs.Str.{byte}
 use Rattle.dcv_word.specs.TraceLine.{trace_line}
 use Rattle.dcv_language.specs.VerdictText.{line}
 use Rattle.dcv_automaton_text.specs.File.{Target, ToState, ToNode, NodeLine, StateLine, Access, EmptyAccess, StartAccess, AfterAccess, AccessLine}
-use Rattle.dcv_automaton_text.specs.File.{Suffix, EmptySuffix, ThenSuffix, SuffixLine, AutomatonFile}
+use Rattle.dcv_automaton_text.specs.File.{Suffix, EmptySuffix, ThenSuffix, SuffixLine, StepLine, StepPart, AutomatonFile}
 
 -- ---- words
 
@@ -51,10 +54,33 @@ how_suffix (ThenSuffix letter suffix) = trace_line letter ∷ decimal suffix ∷
 abbrev pub suffix_words : SuffixLine → List (List ℕ)
 suffix_words line = codes "suffix" ∷ decimal line.number ∷ how_suffix line.suffix
 
+abbrev pub step_words : StepLine → List (List ℕ)
+step_words line =
+    codes "step" ∷ decimal line.number ∷ codes "at" ∷ decimal line.at ∷ codes "states" ∷ decimal line.states ∷ codes "nodes" ∷ decimal line.nodes ∷ []
+
+abbrev pub steps_words : StepPart → List (List ℕ)
+steps_words part = codes "steps" ∷ decimal part.count ∷ []
+
 -- ---- the file
 
+abbrev pub version_word : Option StepPart → List ℕ
+version_word None = codes "1"
+version_word (Some part) = codes "2"
+
 abbrev pub head_lines : AutomatonFile → List (List (List ℕ))
-head_lines file = (codes "automaton" ∷ codes "1" ∷ []) ∷ (codes "variables" ∷ name_words file.names) ∷ (codes "states" ∷ decimal file.states ∷ []) ∷ []
+head_lines file = (codes "automaton" ∷ version_word file.steps ∷ []) ∷ (codes "variables" ∷ name_words file.names) ∷ (codes "states" ∷ decimal file.states ∷ []) ∷ []
+
+unfoldable pub front_lines : AutomatonFile → List (List (List ℕ))
+front_lines file =
+    head_lines file
+    ++ (map node_words file.node_lines
+    ++ (map state_words file.state_lines
+    ++ (map access_words file.access_lines
+    ++ map suffix_words file.suffix_lines)))
+
+abbrev pub step_part : Option StepPart → List (List (List ℕ))
+step_part None = []
+step_part (Some part) = steps_words part ∷ map step_words part.lines
 
 abbrev pub end_lines : List (List (List ℕ))
 end_lines = (codes "end" ∷ []) ∷ []
@@ -66,7 +92,7 @@ lines_of file =
     ++ (map state_words file.state_lines
     ++ (map access_words file.access_lines
     ++ (map suffix_words file.suffix_lines
-    ++ end_lines))))
+    ++ (step_part file.steps ++ end_lines)))))
 
 abbrev pub spelled_line : List (List ℕ) → List ℕ
 spelled_line words = line (join_with_byte (byte " ") words)

@@ -1,4 +1,4 @@
-//! The text of an automaton, version 1: its form, the rules by which a text of the form stands for an automaton, and what it
+//! The text of an automaton, versions 1 and 2: its form, the rules by which a text of the form stands for an automaton, and what it
 //! stands for. The definitions stand in `specs/`; here are their [`laws`].
 //!
 //! Of the behaviours over one variable in whose last letter it is true, the text is
