@@ -1,5 +1,5 @@
 -- The laws that `src/laws.rt` proves, of the text of an automaton.
-use Rattle.std.specs.Prelude.{◌≡◌, ℕ, ◌≤◌, List, None, length}
+use Rattle.std.specs.Prelude.{◌≡◌, ◌≢◌, ℕ, ◌≤◌, List, ◌++◌, None, length, take, drop, codes}
 use Rattle.dcv_language.specs.Certificate.{IsCertificate}
 use Rattle.dcv_language.specs.Language.{Language}
 use Rattle.dcv_language.specs.Table.{Table, IsTable, AcceptsExactly}
@@ -7,7 +7,7 @@ use Rattle.dcv_automaton_text.specs.File.{AutomatonFile}
 use Rattle.dcv_automaton_text.specs.Form.{HasForm, IsSpellable}
 use Rattle.dcv_automaton_text.specs.Meaning.{table_of, access_words_of, suffix_words_of}
 use Rattle.dcv_automaton_text.specs.Rules.{IsGood}
-use Rattle.dcv_automaton_text.specs.Spelled.{spelled}
+use Rattle.dcv_automaton_text.specs.Spelled.{spelled, spelled_front}
 use Rattle.dcv_automaton_text.specs.Versions.{first_version, second_version}
 
 -- a text has one file at most
@@ -41,6 +41,19 @@ pub record IsOfOtherVersion (file other : AutomatonFile) : Type 0 where
 pub record VersionsStandForTheSame : Type 0 where
   pub first : (file : AutomatonFile) → IsSpellable file → IsGood file → IsOfOtherVersion file (first_version file)
   pub second : (file : AutomatonFile) → IsSpellable file → IsGood file → IsOfOtherVersion file (second_version file)
+
+-- the texts of both versions, from a text of either: its first line up to the version, what it says up to the step part, and the end
+pub record IsOfVersions (text : List ℕ) (file : AutomatonFile) : Type 0 where
+  abbrev said : List ℕ
+  said = drop 11 (take (length (spelled_front file)) text)
+  pub first : spelled (first_version file) ≡ codes "automaton 1" ++ (said ++ codes "end\n")
+  pub second : file.steps ≡ None → spelled (second_version file) ≡ codes "automaton 2" ++ (said ++ codes "steps 0\nend\n")
+  -- a text of the version is as it is
+  pub one : file.steps ≡ None → spelled (first_version file) ≡ text
+  pub two : file.steps ≢ None → spelled (second_version file) ≡ text
+
+abbrev pub TextsOfVersions : Type 0
+TextsOfVersions = (text : List ℕ) (file : AutomatonFile) → HasForm text file → IsOfVersions text file
 
 -- to version 2 and back is the text itself, where it is of version 1
 abbrev pub SecondAndBackIsTheText : Type 0

@@ -5,6 +5,7 @@
 --     step_part steps         those of the step part
 --     lines_of file           all lines of a file
 --     spelled file            the bytes of its text
+--     spelled_front file      those before the step part, or before the last line where there is none
 use Rattle.std.specs.Prelude.{ℕ, Bool, if◌then◌else◌, List, [], ◌∷◌, ◌++◌, Option, None, Some, map, codes}
 use Rattle.std.specs.Fmt.{decimal}
 use Rattle.std.specs.List.{flat_map, join_with_byte}
@@ -99,3 +100,6 @@ spelled_line words = line (join_with_byte (byte " ") words)
 
 unfoldable pub spelled : AutomatonFile → List ℕ
 spelled file = flat_map spelled_line (lines_of file)
+
+unfoldable pub spelled_front : AutomatonFile → List ℕ
+spelled_front file = flat_map spelled_line (front_lines file)

@@ -1,5 +1,6 @@
 //! Laws of the text of an automaton. Each function here does nothing: its contract is the law.
-ghost use Rattle.dcv_automaton_text.specs.Laws.{OneFile, GoodFilesAreTables, TableHasTheFilesStates, WordsShowFewestStates, VersionsStandForTheSame, SecondAndBackIsTheText};
+ghost use Rattle.dcv_automaton_text.specs.Laws.{OneFile, GoodFilesAreTables, TableHasTheFilesStates, WordsShowFewestStates};
+ghost use Rattle.dcv_automaton_text.specs.Laws.{VersionsStandForTheSame, TextsOfVersions, SecondAndBackIsTheText};
 
 use dcv_language::laws::no_table_has_fewer_states;
 use dcv_word::laws::{letters_of_width_are_all, lines_are_read_back};
@@ -29,6 +30,7 @@ pub fn words_show_fewest_states()
 /// Each version of a text stands for the same automaton and the same words, and what goes to version 2 and back is as it was.
 pub fn versions_stand_for_the_same()
     ensures same { VersionsStandForTheSame }
+    ensures texts { TextsOfVersions }
     ensures back { SecondAndBackIsTheText }
 {
 }
