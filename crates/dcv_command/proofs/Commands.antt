@@ -11,7 +11,7 @@ use Rattle.clap.specs.Simple.{built_leaf, entered, names_of}
 use Rattle.clap.specs.Faults.{check_fault, defaults_fault, entered_fault, level_fault, settle_fault, turn_fault, walk_fault}
 use Rattle.clap.specs.Takes.{default_passes, entered_passes, is_valid, level_passes, settle_passes, turn_passes, walk_passes}
 use Rattle.clap.proofs.OnLiterals.{clap_on_literals}
-use Rattle.dcv_command.specs.Program.{over_a_formula, over_a_game, over_a_seed, over_a_trace, over_an_automaton, over_two_formulas, program}
+use Rattle.dcv_command.specs.Program.{over_a_formula, over_a_game, over_a_seed, over_a_trace, over_an_automaton, over_a_version, over_two_formulas, program}
 
 -- ---- behind the name
 
@@ -131,6 +131,10 @@ all_is_one = record { met = refl; no_fault = refl; faults = λ rest. refl; passe
 pub certify_is_one : IsSubcommand (codes "certify") over_an_automaton
 unfolding clap_on_literals
 certify_is_one = record { met = refl; no_fault = refl; faults = λ rest. refl; passes = refl; takes = λ rest. refl; found = λ rest. refl }
+
+pub convert_is_one : IsSubcommand (codes "convert") over_a_version
+unfolding clap_on_literals
+convert_is_one = record { met = refl; no_fault = refl; faults = λ rest. refl; passes = refl; takes = λ rest. refl; found = λ rest. refl }
 
 pub implies_is_one : IsSubcommand (codes "implies") over_two_formulas
 unfolding clap_on_literals

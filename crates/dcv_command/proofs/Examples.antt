@@ -1,11 +1,13 @@
 -- What lists of words ask for, by computing.
 use Rattle.std.proofs.Common.{◌≡◌, refl, true, List, ℕ, [], ◌∷◌, Some, codes}
 use Rattle.clap.specs.Words.{is_simple, fault_of}
+use Rattle.clap.specs.declared.error.kind.ErrorKind.TheVariants.{MissingRequiredArgument}
 use Rattle.clap.proofs.OnLiterals.{clap_on_literals}
 use Rattle.dcv_command.specs.Program.{program}
 use Rattle.dcv_print.specs.declared.report.Kind.TheVariants.{Check, Automaton}
 use Rattle.dcv_command.specs.declared.words.Subset.TheVariants.{C as CText}
-use Rattle.dcv_command.specs.Request.{Report, Certify, Implies, Synth, Replay, Sweep, request_of}
+use Rattle.dcv_command.specs.declared.words.Version.TheVariants.{One, Two}
+use Rattle.dcv_command.specs.Request.{Report, Certify, Convert, Implies, Synth, Replay, Sweep, request_of}
 
 program_is_simple : is_simple program ≡ true
 program_is_simple = refl
@@ -38,6 +40,32 @@ certify_taken = refl
 certify_asked : request_of certified ≡ Some (Certify (codes "door.auto"))
 unfolding clap_on_literals
 certify_asked = refl
+
+abbrev converted : List (List ℕ)
+converted = codes "convert" ∷ codes "door.auto" ∷ codes "--to" ∷ codes "2" ∷ []
+
+convert_taken : fault_of program converted ≡ []
+unfolding clap_on_literals
+convert_taken = refl
+
+convert_asked : request_of converted ≡ Some (Convert (codes "door.auto") Two)
+unfolding clap_on_literals
+convert_asked = refl
+
+-- (the option may stand in front of the file, and its number may have zeros)
+abbrev converted_back : List (List ℕ)
+converted_back = codes "convert" ∷ codes "--to" ∷ codes "01" ∷ codes "door.auto" ∷ []
+
+convert_back_asked : request_of converted_back ≡ Some (Convert (codes "door.auto") One)
+unfolding clap_on_literals
+convert_back_asked = refl
+
+abbrev without_a_version : List (List ℕ)
+without_a_version = codes "convert" ∷ codes "door.auto" ∷ []
+
+version_is_required : fault_of program without_a_version ≡ MissingRequiredArgument ∷ []
+unfolding clap_on_literals
+version_is_required = refl
 
 abbrev compared : List (List ℕ)
 compared = codes "implies" ∷ codes "door.dc" ∷ codes "other.dc" ∷ codes "--nodes" ∷ codes "7" ∷ []

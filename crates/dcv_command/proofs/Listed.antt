@@ -8,15 +8,17 @@ use Rattle.clap.proofs.OnLiterals.{clap_on_literals}
 use Rattle.dcv_explore.specs.declared.explorer.Limits.{Limits}
 use Rattle.dcv_print.specs.declared.report.Kind.{Kind}
 use Rattle.dcv_print.specs.declared.report.Kind.TheVariants.{Check, Automaton, Lustre, C, All}
-use Rattle.dcv_command.specs.Program.{most_count, most_states, most_nodes, most_seed, over_a_formula, over_a_seed, over_a_trace, over_an_automaton, over_two_formulas}
+use Rattle.dcv_command.specs.Program.{most_count, most_states, most_nodes, most_seed, over_a_formula, over_a_seed, over_a_trace, over_an_automaton, over_a_version, over_two_formulas}
 use Rattle.dcv_command.specs.declared.words.Subset.{Subset}
 use Rattle.dcv_command.specs.declared.words.Subset.TheVariants.{Lustre as LustreText, C as CText}
+use Rattle.dcv_command.specs.declared.words.Version.{Version}
+use Rattle.dcv_command.specs.declared.words.Version.TheVariants.{One, Two}
 use Rattle.dcv_command.specs.Laws.{ListedWordsAreTaken}
 use Rattle.dcv_command.specs.Listed.{AreAllowed, AskFor, IsAllowed, IsFileName, Options, Neither, States, Nodes, StatesThenNodes, NodesThenStates}
-use Rattle.dcv_command.specs.Listed.{limits_given, option_words, replay_name, report_name}
-use Rattle.dcv_command.specs.Request.{Certify, Implies, Replay, Report, Request, Sweep, implies_in, limits_of, replay_in, report_in, request_in}
+use Rattle.dcv_command.specs.Listed.{limits_given, option_words, replay_name, report_name, version_words}
+use Rattle.dcv_command.specs.Request.{Certify, Convert, Implies, Replay, Report, Request, Sweep, implies_in, limits_of, replay_in, report_in, request_in}
 use Rattle.dcv_command.proofs.Commands.{IsSubcommand, leaf}
-use Rattle.dcv_command.proofs.Commands.{check_is_one, automaton_is_one, lustre_is_one, c_is_one, all_is_one, certify_is_one, implies_is_one, replay_lustre_is_one, replay_c_is_one, sweep_is_one}
+use Rattle.dcv_command.proofs.Commands.{check_is_one, automaton_is_one, lustre_is_one, c_is_one, all_is_one, certify_is_one, convert_is_one, implies_is_one, replay_lustre_is_one, replay_c_is_one, sweep_is_one}
 use Rattle.dcv_command.proofs.ListedInputs.{each_game}
 use Rattle.dcv_command.proofs.NumberTexts.{IsNumberText, decimal_is_one, has_no_dash}
 use Rattle.dcv_command.proofs.Plain.{HasNoDash, going}
@@ -173,6 +175,33 @@ certify_alone name is =
     let runs = more (plain_goes (leaf over_an_automaton) nothing_held idle 1 name (going (holding [] (codes "automaton") name) idle 2) (has_no_dash name is) refl refl refl) at_end in
     ask_for certify_is_one (λ rows. refl) runs (record { no_fault = refl; passes = refl; asked = refl })
 
+-- ---- over an automaton's text and a version
+
+each_version : (name : Text) (to : Version) → IsFileName name → AskFor (codes "convert" ∷ name ∷ version_words to) (Convert name to)
+unfolding clap_on_literals
+each_version name to is = by to
+  where
+    rows : List Row
+    rows = row (codes "automaton") name ∷ []
+
+    file_goes : Goes (leaf over_a_version) (walk_from nothing_held) name (going (holding [] (codes "automaton") name) idle 2)
+    file_goes = plain_goes (leaf over_a_version) nothing_held idle 1 name _ (has_no_dash name is) refl refl refl
+
+    flag_goes : Goes (leaf over_a_version) (going (holding [] (codes "automaton") name) idle 2) (codes "--to") (going (waiting_for rows (codes "to")) (option (codes "to")) 2)
+    flag_goes = record { no_fault = refl; passes = refl; goes = refl }
+
+    value_goes : (text : Text) → HasNoDash text
+        → Goes (leaf over_a_version) (going (waiting_for rows (codes "to")) (option (codes "to")) 2) text (going (holding rows (codes "to") text) idle 2)
+    value_goes text plain = plain_goes _ (waiting_for rows (codes "to")) (option (codes "to")) 2 text _ plain refl refl refl
+
+    by : (to : Version) → AskFor (codes "convert" ∷ name ∷ version_words to) (Convert name to)
+    by One =
+        ask_for convert_is_one (λ rows. refl) (more file_goes (more flag_goes (more (value_goes (codes "1") refl) at_end)))
+        (record { no_fault = refl; passes = refl; asked = refl })
+    by Two =
+        ask_for convert_is_one (λ rows. refl) (more file_goes (more flag_goes (more (value_goes (codes "2") refl) at_end)))
+        (record { no_fault = refl; passes = refl; asked = refl })
+
 -- ---- over an observer's text and a trace
 
 each_replay_of : {name : Text} (is : IsSubcommand name (over_a_trace name)) (subset : Subset) → ((rows : List Row) → request_in name rows ≡ replay_in subset rows)
@@ -209,4 +238,4 @@ each_sweep seed count small allowed =
     (decimal_is_one 1 most_count count (omega arith) allowed)
 
 pub listed_words_are_taken : ListedWordsAreTaken
-listed_words_are_taken = record { report = each_report; certify = certify_alone; implies = each_comparison; synth = each_game; replay = each_replay; sweep = each_sweep }
+listed_words_are_taken = record { report = each_report; certify = certify_alone; convert = each_version; implies = each_comparison; synth = each_game; replay = each_replay; sweep = each_sweep }

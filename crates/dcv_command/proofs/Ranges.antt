@@ -9,11 +9,11 @@ use Rattle.clap.specs.declared.builder.value_parser.ValueParser.TheVariants.{Uns
 use Rattle.clap.proofs.ValueTestLemmas.{accepts-Accepts}
 use Rattle.dcv_explore.specs.declared.explorer.Limits.{Limits}
 use Rattle.dcv_print.specs.declared.report.Kind.{Kind}
-use Rattle.dcv_command.specs.Program.{most_states, most_nodes, most_inputs, most_seed, most_count}
+use Rattle.dcv_command.specs.Program.{most_states, most_nodes, most_version, most_inputs, most_seed, most_count}
 use Rattle.dcv_print.specs.declared.report.Kind.TheVariants.{Check, Automaton, Lustre, C, All}
 use Rattle.dcv_command.specs.declared.words.Subset.{Subset}
 use Rattle.dcv_command.specs.declared.words.Subset.TheVariants.{Lustre as LustreText, C as CText}
-use Rattle.dcv_command.specs.Request.{AreInRange, IsInRange, Request, Report, Certify, Implies, Synth, Replay, Sweep, replay_in, sweep_in, implies_in, synth_in, limits_among, limits_of, number_in, number_of, report_in, request_in, request_of_subcommand}
+use Rattle.dcv_command.specs.Request.{AreInRange, IsInRange, Request, Report, Certify, Convert, Implies, Synth, Replay, Sweep, replay_in, sweep_in, convert_in, version_numbered, implies_in, synth_in, limits_among, limits_of, number_in, number_of, report_in, request_in, request_of_subcommand}
 
 number_is_in_range : (least most : ℕ) (text : Option Text) (number : ℕ) → option_and_then (number_of least most) text ≡ Some number
     → (least ≤ number) × (number ≤ most)
@@ -57,6 +57,15 @@ report_is_in_range kind rows request is = by (first_of (codes "file") rows) (lim
 certify_is_in_range : (automaton : Option Text) (request : Request) → option_map Certify automaton ≡ Some request → IsInRange request
 certify_is_in_range None request is = let wrong : None ≡ Some request = is in cc
 certify_is_in_range (Some name) request is = let same : Certify name ≡ request = cc in subst IsInRange same tt
+
+convert_is_in_range : (rows : List Row) (request : Request) → convert_in rows ≡ Some request → IsInRange request
+convert_is_in_range rows request is = by (first_of (codes "automaton") rows) (number_in 1 most_version (codes "to") rows) is
+  where
+    by : (automaton : Option Text) (number : Option ℕ)
+        → option_and_then (λ one. option_map (λ to. Convert one (version_numbered to)) number) automaton ≡ Some request → IsInRange request
+    by None number is = let wrong : None ≡ Some request = is in cc
+    by (Some automaton) None is = let wrong : None ≡ Some request = is in cc
+    by (Some automaton) (Some number) is = let same : Convert automaton (version_numbered number) ≡ request = cc in subst IsInRange same tt
 
 implies_is_in_range : (rows : List Row) (request : Request) → implies_in rows ≡ Some request → IsInRange request
 implies_is_in_range rows request is = by (first_of (codes "first") rows) (first_of (codes "second") rows) (limits_among rows) refl is
@@ -129,11 +138,12 @@ module _ (rows : List Row) (request : Request) where
       (either_fine (bytes_eq name (codes "c")) _ _ (report_fine C)
       (either_fine (bytes_eq name (codes "all")) _ _ (report_fine All)
       (either_fine (bytes_eq name (codes "certify")) _ _ (certify_is_in_range (first_of (codes "automaton") rows) request)
+      (either_fine (bytes_eq name (codes "convert")) _ _ (convert_is_in_range rows request)
       (either_fine (bytes_eq name (codes "implies")) _ _ (implies_is_in_range rows request)
       (either_fine (bytes_eq name (codes "synth")) _ _ (synth_is_in_range rows request)
       (either_fine (bytes_eq name (codes "replay-lustre")) _ _ (replay_is_in_range LustreText rows request)
       (either_fine (bytes_eq name (codes "replay-c")) _ _ (replay_is_in_range CText rows request)
-      (either_fine (bytes_eq name (codes "sweep")) _ _ (sweep_is_in_range rows request) none_fine))))))))))
+      (either_fine (bytes_eq name (codes "sweep")) _ _ (sweep_is_in_range rows request) none_fine)))))))))))
 
 pub request_is_in_range : (subcommand : Option (Text × List Row)) (request : Request) → request_of_subcommand subcommand ≡ Some request → IsInRange request
 request_is_in_range None request is = let wrong : None ≡ Some request = is in cc

@@ -16,7 +16,7 @@ use Rattle.clap.specs.declared.builder.value_parser.Reading.{Reading}
 use Rattle.clap.specs.declared.builder.value_parser.Reading.TheVariants.{AsWritten}
 use Rattle.clap.specs.declared.parser.matches.ValueSource.{ValueSource}
 use Rattle.clap.specs.declared.parser.matches.ValueSource.TheVariants.{DefaultValue}
-use Rattle.dcv_command.specs.Program.{most_states, most_nodes, most_inputs, most_seed, most_count}
+use Rattle.dcv_command.specs.Program.{most_states, most_nodes, most_inputs, most_version, most_seed, most_count}
 use Rattle.dcv_command.specs.Request.{limits_among, limits_of, number_in, number_of}
 
 -- the range of the argument of this name, where it is a number
@@ -24,9 +24,10 @@ abbrev pub range_of : Text → Option (ℕ × ℕ)
 range_of id =
     if bytes_eq id (codes "states") then Some (1, most_states)
     else (if bytes_eq id (codes "nodes") then Some (1, most_nodes)
+    else (if bytes_eq id (codes "to") then Some (1, most_version)
     else (if bytes_eq id (codes "inputs") then Some (0, most_inputs)
     else (if bytes_eq id (codes "seed") then Some (0, most_seed)
-    else (if bytes_eq id (codes "count") then Some (1, most_count) else None))))
+    else (if bytes_eq id (codes "count") then Some (1, most_count) else None)))))
 
 pub record IsReadable (row : Row) : Type 0 where
   pub text : Text

@@ -14,9 +14,9 @@ use Rattle.clap.specs.declared.error.kind.ErrorKind.{ErrorKind}
 use Rattle.clap.specs.declared.parser.matches.ValueSource.{ValueSource}
 use Rattle.clap.specs.declared.parser.matches.ValueSource.TheVariants.{CommandLine}
 use Rattle.dcv_print.specs.declared.report.Kind.{Kind}
-use Rattle.dcv_command.specs.Program.{file_operand, inputs_option, limit_option, most_count, most_inputs, most_nodes, most_seed, most_states, nodes_option, over_a_formula, number_operand, over_a_game, over_a_seed, over_a_trace, over_an_automaton, over_two_formulas, states_option}
+use Rattle.dcv_command.specs.Program.{file_operand, inputs_option, limit_option, number_option, version_option, most_version, most_count, most_inputs, most_nodes, most_seed, most_states, nodes_option, over_a_formula, number_operand, over_a_game, over_a_seed, over_a_trace, over_an_automaton, over_a_version, over_two_formulas, states_option}
 use Rattle.dcv_command.specs.declared.words.Subset.{Subset}
-use Rattle.dcv_command.specs.Request.{Certify, Implies, Replay, Report, Sweep, Synth, certify_in, implies_in, limits_among, number_in, replay_in, report_in, sweep_in, synth_in}
+use Rattle.dcv_command.specs.Request.{Certify, Convert, Implies, Replay, Report, Sweep, Synth, certify_in, convert_in, version_numbered, implies_in, limits_among, number_in, replay_in, report_in, sweep_in, synth_in}
 use Rattle.dcv_command.proofs.Commands.{leaf}
 use Rattle.dcv_command.proofs.Leaves.{IsReadableShape, all_found}
 use Rattle.dcv_command.proofs.Rows.{AreReadable, IsFound, IsReadable, first_is_there, limits_are_there, new_row, number_is_there, range_of, readable_with, readable_without}
@@ -89,13 +89,20 @@ states_keep place = limit_keeps place (codes "states") most_states (codes "30000
 nodes_keep : (place : ℕ) → Keeps false AreReadable (with_index place (filled nodes_option))
 nodes_keep place = limit_keeps place (codes "nodes") most_nodes (codes "1000000") refl
 
+-- an option that has to be given
+option_keeps : (place : ℕ) (name : Text) (least most : ℕ) → range_of name ≡ Some (least, most)
+    → Keeps false AreReadable (with_index place (filled (number_option name least most)))
+option_keeps place name least most range [] rows all none = absurd (no_fault_is_one _ none)
+option_keeps place name least most range (text ∷ []) rows all none =
+    readable_with name AsWritten CommandLine (text ∷ []) (without name rows)
+    (number_is_readable name least most range CommandLine text (it_passes (is_unsigned_in least most text) _ (last_is_empty _ _ none))) (readable_without name rows all)
+option_keeps place name least most range (text ∷ other ∷ more) rows all none = absurd (two_are_refused (length more) _ none)
+
+version_keeps : (place : ℕ) → Keeps false AreReadable (with_index place (filled version_option))
+version_keeps place = option_keeps place (codes "to") 1 most_version refl
+
 inputs_keep : (place : ℕ) → Keeps false AreReadable (with_index place (filled inputs_option))
-inputs_keep place [] rows all none = absurd (no_fault_is_one _ none)
-inputs_keep place (text ∷ []) rows all none =
-    readable_with (codes "inputs") AsWritten CommandLine (text ∷ []) (without (codes "inputs") rows)
-    (number_is_readable (codes "inputs") 0 most_inputs refl CommandLine text (it_passes (is_unsigned_in 0 most_inputs text) _ (last_is_empty _ _ none)))
-    (readable_without (codes "inputs") rows all)
-inputs_keep place (text ∷ other ∷ more) rows all none = absurd (two_are_refused (length more) _ none)
+inputs_keep place = option_keeps place (codes "inputs") 0 most_inputs refl
 
 help_keeps : (place : ℕ) → Keeps false AreReadable (with_index place (filled help_rule))
 help_keeps place values rows all none = all
@@ -132,6 +139,26 @@ pub certify_asks : (words : List Text) → level_fault (leaf over_an_automaton) 
 certify_asks words none =
     let found = all_found (leaf over_an_automaton) automaton_is_readable words none in
     subst IsSome (sym (ap (option_map Certify) (first_is_there (codes "automaton") (rows_after (leaf over_an_automaton).rules [] words) (found.0.required refl)))) refl
+
+-- ---- over an automaton's text and a version
+
+version_is_readable : IsReadableShape (leaf over_a_version)
+version_is_readable =
+    record { uses = (operand_keeps 1 (codes "automaton") refl, (version_keeps 2, (help_keeps 2, tt))); defaults = (tt, (tt, (tt, tt))) }
+
+convert_is_some : (rows : List Row) → IsFound (codes "automaton") rows → IsFound (codes "to") rows → IsSome (convert_in rows)
+convert_is_some rows automaton to =
+    subst IsSome
+    (sym (ap (option_and_then (λ one. option_map (λ number. Convert one (version_numbered number)) (number_in 1 most_version (codes "to") rows)))
+    (first_is_there (codes "automaton") rows automaton)
+    ∙ ap (option_map (λ number. Convert automaton.readable.text (version_numbered number))) (number_is_there (codes "to") rows to 1 most_version refl)))
+    refl
+
+pub convert_asks : (words : List Text) → level_fault (leaf over_a_version) [] nothing_held words false [] ≡ []
+    → IsSome (convert_in (rows_after (leaf over_a_version).rules [] words))
+convert_asks words none =
+    let found = all_found (leaf over_a_version) version_is_readable words none in
+    convert_is_some (rows_after (leaf over_a_version).rules [] words) (found.0.required refl) (found.1.0.required refl)
 
 -- ---- over two formula files
 

@@ -19,12 +19,12 @@ use Rattle.clap.specs.Kinds.{Kinds, check_kinds}
 use Rattle.clap.specs.Faults.{check_fault, level_fault, entered_fault, settle_fault, defaults_fault, walk_fault, turn_fault, step_fault, word_fault, other_fault}
 use Rattle.clap.proofs.OnLiterals.{clap_on_literals}
 use Rattle.dcv_print.specs.declared.report.Kind.TheVariants.{Check, Automaton, Lustre, C, All}
-use Rattle.dcv_command.specs.Program.{over_a_formula, over_a_game, over_a_seed, over_a_trace, over_an_automaton, over_two_formulas, program}
+use Rattle.dcv_command.specs.Program.{over_a_formula, over_a_game, over_a_seed, over_a_trace, over_an_automaton, over_a_version, over_two_formulas, program}
 use Rattle.dcv_command.specs.declared.words.Subset.TheVariants.{Lustre as LustreText, C as CText}
 use Rattle.dcv_command.specs.Request.{IsTaken, Request, request_in, request_of, request_of_subcommand}
 use Rattle.dcv_command.specs.Laws.{TakenWordsAsk}
 use Rattle.dcv_command.proofs.Commands.{leaf}
-use Rattle.dcv_command.proofs.Shapes.{report_asks, certify_asks, implies_asks, synth_asks, replay_asks, sweep_asks}
+use Rattle.dcv_command.proofs.Shapes.{report_asks, certify_asks, convert_asks, implies_asks, synth_asks, replay_asks, sweep_asks}
 use Rattle.dcv_command.proofs.Steps.{first_is_empty, going_has_none, last_is_empty}
 
 -- ---- where a subcommand is required, one is entered
@@ -160,6 +160,10 @@ certify_does : (words : List Text) → Asks (leaf over_an_automaton) words
 unfolding clap_on_literals
 certify_does words = certify_asks words
 
+convert_does : (words : List Text) → Asks (leaf over_a_version) words
+unfolding clap_on_literals
+convert_does words = convert_asks words
+
 implies_does : (words : List Text) → Asks (leaf over_two_formulas) words
 unfolding clap_on_literals
 implies_does words = implies_asks words
@@ -222,7 +226,7 @@ stop_asks (Some p) before no_fault e =
               (λ _. all_does p.1),
               (
                 (λ _. certify_does p.1),
-                ((λ _. implies_does p.1), ((λ _. synth_does p.1), ((λ _. replay_lustre_does p.1), ((λ _. replay_c_does p.1), ((λ _. sweep_does p.1), (no_help, tt)))))),
+                ((λ _. convert_does p.1), ((λ _. implies_does p.1), ((λ _. synth_does p.1), ((λ _. replay_lustre_does p.1), ((λ _. replay_c_does p.1), ((λ _. sweep_does p.1), (no_help, tt))))))),
               ),
             ),
           ),

@@ -1,6 +1,7 @@
 -- Words that are always taken: a subcommand's name, files' names or numbers, and options with their numbers.
 --     report_name kind           the name of the subcommand that reports this
 --     replay_name subset         the name of the subcommand that replays a trace through an observer of this subset
+--     version_words version      the option that asks for this version
 --     Options                    the options that stand in the words, in order, with their numbers
 --     option_words options       their words
 --     limits_given options       the limits that they ask for
@@ -18,6 +19,8 @@ use Rattle.dcv_print.specs.declared.report.Kind.{Kind}
 use Rattle.dcv_print.specs.declared.report.Kind.TheVariants.{Check, Automaton, Lustre, C, All}
 use Rattle.dcv_command.specs.declared.words.Subset.{Subset}
 use Rattle.dcv_command.specs.declared.words.Subset.TheVariants.{Lustre as LustreText, C as CText}
+use Rattle.dcv_command.specs.declared.words.Version.{Version}
+use Rattle.dcv_command.specs.declared.words.Version.TheVariants.{One, Two}
 use Rattle.dcv_command.specs.Program.{program, most_states, most_nodes}
 use Rattle.dcv_command.specs.Request.{Request, IsTaken, limits_of, request_of}
 
@@ -31,6 +34,10 @@ report_name All = codes "all"
 abbrev pub replay_name : Subset → Text
 replay_name LustreText = codes "replay-lustre"
 replay_name CText = codes "replay-c"
+
+abbrev pub version_words : Version → List Text
+version_words One = codes "--to" ∷ codes "1" ∷ []
+version_words Two = codes "--to" ∷ codes "2" ∷ []
 
 pub data Options : Type 0 where
   Neither : Options

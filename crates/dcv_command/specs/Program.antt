@@ -5,6 +5,9 @@
 --     states_option         the limit on states, and that on diagram nodes
 --     over_a_formula name   a subcommand over one formula file, with both limits
 --     over_an_automaton     the one over an automaton's text
+--     number_option name    a whole number from the least to the most, which has to be given
+--     version_option        the version that a text is to have
+--     over_a_version        the one over an automaton's text and a version
 --     over_two_formulas     the one over two formula files, with both limits
 --     inputs_option         how many of the declared variables are inputs, which has to be said
 --     over_a_game           the one over a formula file of which some variables are inputs, with both limits
@@ -12,6 +15,7 @@
 --     number_operand id     a whole number from the least to the most
 --     over_a_seed           the one over a seed and a count
 --     most_states           the most states of a step that may be asked for, and the most diagram nodes
+--     most_version          the greatest version of a text
 --     most_inputs           the most inputs that may be asked for
 --     most_seed             the greatest seed that may be asked for, and the most formulas
 --     reports               the subcommands that report on a formula
@@ -49,6 +53,18 @@ over_a_formula name = record (new_shape name) { rules = file_operand (codes "fil
 abbrev pub over_an_automaton : Shape
 over_an_automaton = record (new_shape (codes "certify")) { rules = file_operand (codes "automaton") ∷ [] }
 
+abbrev pub number_option : List ℕ → ℕ → ℕ → Rule
+number_option name least most = record (new_rule name) { long = Some name; required = true; parser = Some (Unsigned least most); value_names = 1 }
+
+abbrev pub most_version : ℕ
+most_version = 2
+
+abbrev pub version_option : Rule
+version_option = number_option (codes "to") 1 most_version
+
+abbrev pub over_a_version : Shape
+over_a_version = record (new_shape (codes "convert")) { rules = file_operand (codes "automaton") ∷ version_option ∷ [] }
+
 abbrev pub over_two_formulas : Shape
 over_two_formulas = record (new_shape (codes "implies")) {
   rules = file_operand (codes "first") ∷ file_operand (codes "second") ∷ states_option ∷ nodes_option ∷ [];
@@ -58,12 +74,7 @@ abbrev pub most_inputs : ℕ
 most_inputs = 16
 
 abbrev pub inputs_option : Rule
-inputs_option = record (new_rule (codes "inputs")) {
-  long = Some (codes "inputs");
-  required = true;
-  parser = Some (Unsigned 0 most_inputs);
-  value_names = 1;
-}
+inputs_option = number_option (codes "inputs") 0 most_inputs
 
 abbrev pub over_a_game : Shape
 over_a_game = record (new_shape (codes "synth")) {
@@ -95,7 +106,7 @@ reports =
 abbrev pub subcommands : List Shape
 subcommands =
     reports
-    ++ over_an_automaton ∷ over_two_formulas ∷ over_a_game ∷ over_a_trace (codes "replay-lustre") ∷ over_a_trace (codes "replay-c") ∷ over_a_seed ∷ []
+    ++ over_an_automaton ∷ over_a_version ∷ over_two_formulas ∷ over_a_game ∷ over_a_trace (codes "replay-lustre") ∷ over_a_trace (codes "replay-c") ∷ over_a_seed ∷ []
 
 -- without its subcommands, of which one is required
 abbrev pub bare_app : App

@@ -5,9 +5,10 @@
 --     number_in least most id rows
 --                             the value of an option or an operand, a number from the least to the most
 --     limits_among rows       the values of both options
+--     version_numbered n      the version of this number, 1 or 2
 --     request_of words        what the words ask for
 --     IsTaken words           `clap` finds no fault in the words
-use Rattle.std.specs.Prelude.{◌≡◌, ℕ, ◌≤◌, List, [], ◌∷◌, Option, None, Some, codes, if◌then◌else◌, option_map, option_and_then}
+use Rattle.std.specs.Prelude.{◌≡◌, ℕ, ◌≤◌, List, [], ◌∷◌, Option, None, Some, codes, if◌then◌else◌, ◌==◌, option_map, option_and_then}
 use Rattle.std.specs.Str.{bytes_eq}
 use Rattle.std.specs.Str.Parse.{digits_value, without_leading_plus}
 use Rattle.clap.specs.Words.{Row, Text, first_of, one_of, subcommand_of, fault_of}
@@ -17,13 +18,17 @@ use Rattle.dcv_print.specs.declared.report.Kind.{Kind}
 use Rattle.dcv_print.specs.declared.report.Kind.TheVariants.{Check, Automaton, Lustre, C, All}
 use Rattle.dcv_command.specs.declared.words.Subset.{Subset}
 use Rattle.dcv_command.specs.declared.words.Subset.TheVariants.{Lustre as LustreText, C as CText}
-use Rattle.dcv_command.specs.Program.{program, most_states, most_nodes, most_inputs, most_seed, most_count}
+use Rattle.dcv_command.specs.declared.words.Version.{Version}
+use Rattle.dcv_command.specs.declared.words.Version.TheVariants.{One, Two}
+use Rattle.dcv_command.specs.Program.{program, most_states, most_nodes, most_version, most_inputs, most_seed, most_count}
 
 pub data Request : Type 0 where
   -- a report on the formula in the file with this name
   Report : (kind : Kind) → (name : List ℕ) → (limits : Limits) → Request
   -- whether the words of the automaton's text in the file with this name show that it is minimal
   Certify : (name : List ℕ) → Request
+  -- the automaton's text in the file with this name, in this version
+  Convert : (name : List ℕ) → (to : Version) → Request
   -- whether the formula in the first file implies that in the second
   Implies : (first second : List ℕ) → (limits : Limits) → Request
   -- a controller for the formula in the file, of which so many variables, the first, are inputs
@@ -36,6 +41,7 @@ pub data Request : Type 0 where
 abbrev pub files_of : Request → List (List ℕ)
 files_of (Report kind name limits) = name ∷ []
 files_of (Certify name) = name ∷ []
+files_of (Convert name to) = name ∷ []
 files_of (Implies first second limits) = first ∷ second ∷ []
 files_of (Synth name inputs limits) = name ∷ []
 files_of (Replay subset observer trace) = observer ∷ trace ∷ []
@@ -59,6 +65,7 @@ pub record CanBeDrawn (seed count : ℕ) : Type 0 where
 abbrev pub IsInRange : Request → Type 0
 IsInRange (Report kind name limits) = AreInRange limits
 IsInRange (Certify name) = Unit {0}
+IsInRange (Convert name to) = Unit {0}
 IsInRange (Implies first second limits) = AreInRange limits
 IsInRange (Synth name inputs limits) = AreInputsInRange inputs limits
 IsInRange (Replay subset observer trace) = Unit {0}
@@ -87,6 +94,14 @@ report_in kind rows = option_and_then (λ file. option_map (Report kind file) (l
 abbrev pub certify_in : List Row → Option Request
 certify_in rows = option_map Certify (first_of (codes "automaton") rows)
 
+abbrev pub version_numbered : ℕ → Version
+version_numbered number = if number == 1 then One else Two
+
+abbrev pub convert_in : List Row → Option Request
+convert_in rows =
+    option_and_then (λ automaton. option_map (λ number. Convert automaton (version_numbered number)) (number_in 1 most_version (codes "to") rows))
+    (first_of (codes "automaton") rows)
+
 abbrev pub implies_in : List Row → Option Request
 implies_in rows =
     option_and_then (λ first. option_and_then (λ second. option_map (Implies first second) (limits_among rows)) (first_of (codes "second") rows))
@@ -112,11 +127,12 @@ request_in name rows =
     else (if bytes_eq name (codes "c") then report_in C rows
     else (if bytes_eq name (codes "all") then report_in All rows
     else (if bytes_eq name (codes "certify") then certify_in rows
+    else (if bytes_eq name (codes "convert") then convert_in rows
     else (if bytes_eq name (codes "implies") then implies_in rows
     else (if bytes_eq name (codes "synth") then synth_in rows
     else (if bytes_eq name (codes "replay-lustre") then replay_in LustreText rows
     else (if bytes_eq name (codes "replay-c") then replay_in CText rows
-    else (if bytes_eq name (codes "sweep") then sweep_in rows else None))))))))))
+    else (if bytes_eq name (codes "sweep") then sweep_in rows else None)))))))))))
 
 -- of the subcommand that the words name, with its matches
 abbrev pub request_of_subcommand : Option (Text × List Row) → Option Request

@@ -4,6 +4,7 @@ ghost use Rattle.clap.specs.Words.{rule_of, app_of, new_app, with_subcommand};
 ghost use Rattle.clap.specs.declared.builder.Command.TheViews.{out-Command as fields_of};
 ghost use Rattle.dcv_command.specs.Program.{file_operand as file_rule, limit_option, states_option, nodes_option, program as the_program, bare_app};
 ghost use Rattle.dcv_command.specs.Program.{over_a_formula as formula_shape, over_an_automaton as automaton_shape, over_two_formulas as formulas_shape, over_a_trace as trace_shape};
+ghost use Rattle.dcv_command.specs.Program.{number_option as option_rule, over_a_version as version_shape};
 ghost use Rattle.dcv_command.specs.Program.{number_operand as number_rule, over_a_seed as seed_shape};
 ghost use Rattle.dcv_command.specs.Program.{inputs_option, over_a_game as game_shape, reports};
 
@@ -15,6 +16,7 @@ const ABOUT: &str =
     "Decides whether a requirement about stretches of time, a formula of Quantified Discrete-time Duration Calculus, always holds. \
 Shows a shortest behaviour that breaks it, or the minimal automaton of the behaviours that satisfy it, or an observer of these. \
 Tells whether one requirement implies another, and whether an automaton's text shows by its own words that it is minimal. \
+Writes such a text in another version. \
 Makes a controller that keeps to a requirement whatever its inputs are, or shows how the inputs beat every controller. \
 Replays traces through observers. Counts what holds of formulas that are drawn.";
 
@@ -23,6 +25,7 @@ const EXAMPLE_AND_STATUS: &str =
   dcvalid check door.dc
   dcvalid automaton door.dc --states 1000 > door.auto
   dcvalid certify door.auto
+  dcvalid convert door.auto --to 1 > door.auto1
   dcvalid implies door.dc other.dc
   dcvalid synth door.dc --inputs 0 > controller.c
   dcvalid c door.dc > door.c
@@ -31,7 +34,7 @@ const EXAMPLE_AND_STATUS: &str =
 
 Status:
   0  each behaviour satisfies the formula; the automaton is shown to be minimal; A implies B; there is a controller;
-     the trace was read to its end; the drawn formulas are counted
+     the automaton's text was converted; the trace was read to its end; the drawn formulas are counted
   1  some behaviour does not; the automaton is not shown to be minimal; A does not imply B; there is no controller
   2  the words are no command, or ask for help
   3  a file holds no formula, for the fault that is named, at its offset in bytes; A and B declare different variables;
@@ -50,6 +53,9 @@ pub(crate) const MOST_STATES: u32 = 32_000;
 /// The most diagram nodes of a step that may be asked for.
 pub(crate) const MOST_NODES: u32 = 1_000_000;
 
+/// The greatest version of an automaton's text.
+pub(crate) const MOST_VERSION: u32 = 2;
+
 /// The most inputs that may be asked for.
 pub(crate) const MOST_INPUTS: u32 = 16;
 
@@ -66,7 +72,8 @@ pub(crate) fn program<'a>(alloc: Global) -> Result<Command<'a>, AllocError>
     let bare = bare_program(alloc)?;
     let reports = with_reports(alloc, bare)?;
     let certify = with_certify(alloc, reports)?;
-    let implies = with_implies(alloc, certify)?;
+    let convert = with_convert(alloc, certify)?;
+    let implies = with_implies(alloc, convert)?;
     let synth = with_synth(alloc, implies)?;
     let replay_lustre = with_replay(
         alloc,
@@ -151,6 +158,13 @@ fn with_certify<'a>(alloc: Global, command: Command<'a>) -> Result<Command<'a>, 
     command.subcommand(over_an_automaton(alloc)?)
 }
 
+// The command with the subcommand that converts an automaton's text.
+fn with_convert<'a>(alloc: Global, command: Command<'a>) -> Result<Command<'a>, AllocError>
+    ensures { IfOk result (λ more. app_of more ≡ with_subcommand (app_of command.entry) version_shape) }
+{
+    command.subcommand(over_a_version(alloc)?)
+}
+
 // The command with the subcommand that compares two formulas.
 fn with_implies<'a>(alloc: Global, command: Command<'a>) -> Result<Command<'a>, AllocError>
     ensures { IfOk result (λ more. app_of more ≡ with_subcommand (app_of command.entry) formulas_shape) }
@@ -222,6 +236,31 @@ fn over_an_automaton<'a>(alloc: Global) -> Result<Command<'a>, AllocError>
             "automaton",
             "AUTO",
             "The file with the automaton's text, as the command automaton writes it",
+        ))
+}
+
+// The subcommand over an automaton's text and a version.
+fn over_a_version<'a>(alloc: Global) -> Result<Command<'a>, AllocError>
+    ensures app { IfOk result (λ command. app_of command ≡ record { top = version_shape; subs = [] }) }
+    ensures local { IfOk result (λ command. (fields_of command).has_globals ≡ false) }
+{
+    Command::new(alloc, "convert")
+        .about(
+            "Writes an automaton's text in the version that is asked for: version 2 says of each step of the formula how many states and \
+nodes it had, and version 1 does not",
+        )
+        .arg(file_operand(
+            alloc,
+            "automaton",
+            "AUTO",
+            "The file with the automaton's text, in either version",
+        ))?
+        .arg(number_option(
+            alloc,
+            "to",
+            1,
+            MOST_VERSION,
+            "The version, 1 or 2",
         ))
 }
 
@@ -350,14 +389,26 @@ fn inputs_count<'a>(alloc: Global) -> Arg<'a>
     ensures rule { rule_of result ≡ inputs_option }
     ensures local { result.global ≡ false }
 {
-    Arg::new(alloc, "inputs")
-        .long("inputs")
+    number_option(
+        alloc,
+        "inputs",
+        0,
+        MOST_INPUTS,
+        "How many of the declared variables, from the first on, are inputs, from 0 to 16; the others, at most 8, are outputs",
+    )
+}
+
+// An option that has to be given, a number.
+fn number_option<'a>(alloc: Global, name: &'a str, least: u32, most: u32, help: &'a str) -> Arg<'a>
+    ensures rule { rule_of result ≡ option_rule name.entry.now least most }
+    ensures local { result.global ≡ false }
+{
+    Arg::new(alloc, name)
+        .long(name)
         .required(true)
-        .value_parser(ValueParser::unsigned(0, u64::from(MOST_INPUTS)))
+        .value_parser(ValueParser::unsigned(u64::from(least), u64::from(most)))
         .value_name("N")
-        .help(
-            "How many of the declared variables, from the first on, are inputs, from 0 to 16; the others, at most 8, are outputs",
-        )
+        .help(help)
 }
 
 // The limit on the states of a step.

@@ -3,13 +3,14 @@ ghost use Rattle.std.specs.Prelude.{◌≡◌, ◌≢◌, true, [], map, option_
 ghost use Rattle.clap.specs.Words.{fault_of, first_of, found_of, rows_of, subcommand_of, subcommand_rows_of, takes};
 ghost use Rattle.dcv_command.specs.Program.{program as the_program};
 ghost use Rattle.dcv_command.specs.Request.{IsInRange, IsTaken, request_of, request_of_subcommand};
-ghost use Rattle.dcv_command.specs.Request.{report_in as report_among, certify_in as certify_among, implies_in as implies_among, synth_in as synth_among, request_in as request_among};
+ghost use Rattle.dcv_command.specs.Request.{report_in as report_among, certify_in as certify_among, convert_in as convert_among, implies_in as implies_among, synth_in as synth_among, request_in as request_among};
+ghost use Rattle.dcv_command.specs.Request.{version_numbered as the_version};
 ghost use Rattle.dcv_command.specs.Request.{replay_in as replay_among, sweep_in as sweep_among};
 ghost use Rattle.dcv_command.specs.Request.{limits_among as limits_among_rows, number_in as number_in_rows};
 ghost use Rattle.dcv_command.specs.declared.words.WordsFault.TheVariants.{Memory};
 ghost use Rattle.dcv_command.specs.Seen.{asked_by, IsUsageOnlyWhere};
 
-use crate::program::{MOST_COUNT, MOST_INPUTS, MOST_NODES, MOST_SEED, MOST_STATES, program};
+use crate::program::{MOST_COUNT, MOST_INPUTS, MOST_NODES, MOST_SEED, MOST_STATES, MOST_VERSION, program};
 use clap::ArgMatches;
 use clap::error::ErrorKind;
 use dcv_explore::Limits;
@@ -30,6 +31,11 @@ pub enum Request<'a> {
     /// Whether the words of the automaton's text in the file of this name show that it is minimal.
     Certify {
         automaton: &'a str,
+    },
+    /// The automaton's text in the file of this name, in this version.
+    Convert {
+        automaton: &'a str,
+        to: Version,
     },
     /// Whether the formula in the first file implies that in the second, where no step exceeds the limits.
     Implies {
@@ -61,6 +67,13 @@ pub enum Request<'a> {
 pub enum Subset {
     Lustre,
     C,
+}
+
+/// A version of an automaton's text: the second has a line for each step of the formula.
+#[derive(Clone, Copy, Debug)]
+pub enum Version {
+    One,
+    Two,
 }
 
 /// Why words ask for nothing.
@@ -129,6 +142,7 @@ fn request_named<'a>(name: &str, matches: &ArgMatches<'a>) -> Option<Request<'a>
         "c" => report_in(matches, Kind::C),
         "all" => report_in(matches, Kind::All),
         "certify" => certify_in(matches),
+        "convert" => convert_in(matches),
         "implies" => implies_in(matches),
         "synth" => synth_in(matches),
         "replay-lustre" => replay_in(matches, Subset::Lustre),
@@ -153,6 +167,27 @@ fn certify_in<'a>(matches: &ArgMatches<'a>) -> Option<Request<'a>>
 {
     let automaton = operand_in(matches, "automaton")?;
     Some(Request::Certify { automaton })
+}
+
+// The automaton whose text is to be converted, and its new version.
+fn convert_in<'a>(matches: &ArgMatches<'a>) -> Option<Request<'a>>
+    ensures { option_map asked_by result ≡ convert_among (rows_of (found_of matches.now)) }
+{
+    let automaton = operand_in(matches, "automaton")?;
+    let number = number_in(matches, "to", 1, MOST_VERSION)?;
+    let to = version_numbered(number);
+    Some(Request::Convert { automaton, to })
+}
+
+// The version of this number, 1 or 2.
+fn version_numbered(number: u32) -> Version
+    ensures { result ≡ the_version number }
+{
+    if number == 1 {
+        Version::One
+    } else {
+        Version::Two
+    }
 }
 
 // The comparison that is asked for.
