@@ -96,6 +96,17 @@ got=$(STUB_OUT='formulas 1\nvalid 0\nsatisfiable 1\nover 0\nstates 3\n' STUB_STA
 grep -q '^1 formula over x, y and z' <<<"$got" || fail "what is said of the formulas: $got"
 grep -q '^3 states in the minimal automata' <<<"$got" || fail "what is said of the states: $got"
 
+# The parts of a requirement by what they took, with their places.
+printf 'var p;\ninfer true ^ <p>; // somewhere\n' >"$work/text.dc"
+got=$(STUB_OUT='automaton 2\nvariables p\nstates 1\nsteps 3\nstep 0 at 13 states 1 nodes 0\nstep 1 at 20 states 3 nodes 2\nstep 2 at 13 states 4 nodes 2\nend\n' STUB_STATUS=1 \
+  DCVALID=$work/stub "$here/explain" automaton "$work/text.dc" 2>&1)
+[ $? -eq 1 ] || fail 'the status of an automaton'
+[ "$(tail -n 3 <<<"$got")" = $'        4        2      2  2:7       true ^ <p>;\n        3        2      1  2:14      <p>;\n        1        0      0  2:7       true ^ <p>;' ] \
+  || fail "the parts of a requirement: $got"
+STUB_ERR='fault automaton table at 13' STUB_STATUS=10 DCVALID=$work/stub "$here/explain" convert "$work/text.dc" --to 1 >"$work/out" 2>"$work/err"
+[ $? -eq 10 ] || fail 'the status of a text that is no automaton'
+grep -q 'line 2' "$work/err" || fail "the line of such a text: $(cat "$work/err")"
+
 # A strategy as a play, of a requirement by which the output of an instant has to be the input of the next.
 cat >"$work/game" <<'END'
 #!/usr/bin/env bash

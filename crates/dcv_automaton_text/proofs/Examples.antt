@@ -1,12 +1,13 @@
 -- Texts and their files, by hand.
-use Rattle.std.proofs.Common.{◌≡◌, true, false, List, [], ◌∷◌, ◌++◌, refl}
+use Rattle.std.proofs.Common.{◌≡◌, true, false, List, [], ◌∷◌, ◌++◌, None, Some, refl}
 use Rattle.std.specs.Prelude.{codes}
 use Rattle.std.specs.Fmt.{digits}
 use Rattle.dcv_tokens.specs.Tokens.{reserved_words}
-use Rattle.dcv_automaton_text.specs.File.{ToState, ToNode, NodeLine, StateLine, EmptyAccess, StartAccess, AfterAccess, AccessLine, EmptySuffix, ThenSuffix, SuffixLine, AutomatonFile}
+use Rattle.dcv_automaton_text.specs.File.{ToState, ToNode, NodeLine, StateLine, EmptyAccess, StartAccess, AfterAccess, AccessLine, EmptySuffix, ThenSuffix, SuffixLine, StepLine, AutomatonFile}
 use Rattle.dcv_automaton_text.specs.Spelled.{lines_of, spelled}
 use Rattle.dcv_automaton_text.specs.Rules.{judged_words, IsGood, IsTableFault}
 use Rattle.dcv_automaton_text.specs.Numbering.{visits_of, numbered_nodes, IsNumbered}
+use Rattle.dcv_automaton_text.specs.Versions.{second_version}
 use Rattle.dcv_automaton_text.specs.Meaning.{states_at, table_of, access_words_of, suffix_words_of}
 
 -- ---- the words of one letter, in which the variable is true
@@ -38,6 +39,7 @@ point =
       state_lines = states_of_point;
       access_lines = access_of_point;
       suffix_lines = suffixes_of_point;
+      steps = None;
     }
 
 point_text : spelled point
@@ -88,6 +90,7 @@ agreement =
       state_lines = record { number = 0; accepting = false; row = ToNode 2 } ∷ record { number = 1; accepting = true; row = ToNode 2 } ∷ [];
       access_lines = record { number = 0; access = StartAccess (false ∷ true ∷ []) } ∷ record { number = 1; access = StartAccess (false ∷ false ∷ []) } ∷ [];
       suffix_lines = record { number = 0; suffix = EmptySuffix } ∷ [];
+      steps = None;
     }
 
 agreement_is_numbered : IsNumbered agreement
@@ -114,6 +117,7 @@ all =
       state_lines = record { number = 0; accepting = true; row = ToState 0 } ∷ [];
       access_lines = record { number = 0; access = StartAccess [] } ∷ [];
       suffix_lines = [];
+      steps = None;
     }
 
 all_text : spelled all ≡ codes "automaton 1\nvariables -\nstates 1\nstate 0 accept t0\naccess 0 start -\nend\n"
@@ -138,7 +142,65 @@ turned_is_good : IsGood (record point { access_lines = turned })
 unfolding point turned nodes_of_point states_of_point suffixes_of_point judged_words reserved_words digits
 turned_is_good = refl
 
+-- ---- version 2
+
+-- of the three steps of `<p> && pt`: what is in brackets, `pt`, and both together
+steps_of_both : List StepLine
+steps_of_both =
+    record { number = 0; at = 13; states = 3; nodes = 2 }
+    ∷ record { number = 1; at = 20; states = 3; nodes = 1 }
+    ∷ record { number = 2; at = 13; states = 3; nodes = 1 } ∷ []
+
+second_point : AutomatonFile
+second_point = record point { steps = Some (record { count = 3; lines = steps_of_both }) }
+
+second_text : spelled second_point
+    ≡ codes "automaton 2\nvariables p\nstates 3\n"
+    ++ codes "node n0 p ? t2 : t1\n"
+    ++ codes "state 0 reject n0\nstate 1 reject t1\nstate 2 accept t1\n"
+    ++ codes "access 0 empty\naccess 1 start 0\naccess 2 start 1\n"
+    ++ codes "suffix 0 empty\nsuffix 1 1 0\n"
+    ++ codes "steps 3\nstep 0 at 13 states 3 nodes 2\nstep 1 at 20 states 3 nodes 1\nstep 2 at 13 states 3 nodes 1\n"
+    ++ codes "end\n"
+unfolding point second_point steps_of_both nodes_of_point states_of_point access_of_point suffixes_of_point spelled lines_of digits
+second_text = refl
+
+second_is_good : IsGood second_point
+unfolding point second_point steps_of_both nodes_of_point states_of_point access_of_point suffixes_of_point judged_words reserved_words digits
+second_is_good = refl
+
+-- a file of no steps has a step part all the same
+no_steps_text : spelled (second_version all) ≡ codes "automaton 2\nvariables -\nstates 1\nstate 0 accept t0\naccess 0 start -\nsteps 0\nend\n"
+unfolding all spelled lines_of digits
+no_steps_text = refl
+
 -- ---- broken rules
+
+-- the first step has the number 1: at the number
+step_numbered_from_one :
+    IsTableFault (record all { steps = Some (record { count = 1; lines = record { number = 1; at = 6; states = 1; nodes = 0 } ∷ [] }) }) 81
+unfolding all judged_words digits
+step_numbered_from_one = refl
+
+-- a step is missing: at `end`
+step_missing : IsTableFault (record all { steps = Some (record { count = 1; lines = [] }) }) 76
+unfolding all judged_words digits
+step_missing = refl
+
+-- there is one too many: at its first word
+step_too_many : IsTableFault (record all { steps = Some (record { count = 0; lines = record { number = 0; at = 6; states = 1; nodes = 0 } ∷ [] }) }) 76
+unfolding all judged_words digits
+step_too_many = refl
+
+-- a step without states: at their number
+step_without_states : IsTableFault (record all { steps = Some (record { count = 1; lines = record { number = 0; at = 6; states = 0; nodes = 0 } ∷ [] }) }) 95
+unfolding all judged_words digits
+step_without_states = refl
+
+-- access words are missing, before the steps: at `steps`
+access_missing_before_steps : IsTableFault (record all { access_lines = []; steps = Some (record { count = 0; lines = [] }) }) 51
+unfolding all judged_words digits
+access_missing_before_steps = refl
 
 -- equal children: at the second
 equal_children : IsTableFault (record point { node_lines = record { number = 0; name = codes "p"; hi = ToState 2; lo = ToState 2 } ∷ [] }) 50

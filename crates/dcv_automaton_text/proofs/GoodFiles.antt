@@ -11,10 +11,10 @@ use Rattle.std.proofs.lemmas.List.Folds.{list_all-append}
 use Rattle.std.proofs.lemmas.List.FromFn.{length-enumerate_from}
 use Rattle.dcv_automaton_text.specs.File.{Target, ToState, ToNode, NodeLine, StateLine, AutomatonFile}
 use Rattle.dcv_automaton_text.specs.File.{Access, EmptyAccess, StartAccess, AfterAccess, AccessLine}
-use Rattle.dcv_automaton_text.specs.Spelled.{name_words, node_words, state_words, how_access, access_words, suffix_words, head_lines}
+use Rattle.dcv_automaton_text.specs.Spelled.{name_words, node_words, state_words, how_access, access_words, suffix_words, version_word, head_lines}
 use Rattle.dcv_automaton_text.specs.Rules.{most_names, most_states, most_nodes, is_listed, keeps_name, keeps_child}
 use Rattle.dcv_automaton_text.specs.Rules.{is_same_target, is_same_node, keeps_node, keeps_row, keeps_state}
-use Rattle.dcv_automaton_text.specs.Rules.{keeps_how_access, has_all_states, keeps_access, has_all_access, keeps_suffix}
+use Rattle.dcv_automaton_text.specs.Rules.{keeps_how_access, has_all_states, keeps_access, has_all_access, keeps_suffix, has_all_steps, judged_steps}
 use Rattle.dcv_automaton_text.specs.Rules.{judged, keeps_names, keeps_head, judged_words, first_broken, IsGood}
 use Rattle.dcv_automaton_text.proofs.Kept.{AreKept, keeps, AllKeep, both}
 
@@ -24,17 +24,17 @@ turned false h = refl
 
 -- ---- words that keep the rules
 
-all_keep : (words : List (List ℕ × Bool)) (at : ℕ) → first_broken at words ≡ None → AllKeep words
+pub all_keep : (words : List (List ℕ × Bool)) (at : ℕ) → first_broken at words ≡ None → AllKeep words
 all_keep [] at none = record { all = refl }
 all_keep ((word, true) ∷ words) at none = record { all = (all_keep words (at + length word + 1) none).all }
 all_keep ((word, false) ∷ words) at none = absurd (let wrong : Some at ≡ None = none in cc)
 
-in_parts : (words : List (List ℕ × Bool)) {more : List (List ℕ × Bool)} → AllKeep (words ++ more) → AllKeep words × AllKeep more
+pub in_parts : (words : List (List ℕ × Bool)) {more : List (List ℕ × Bool)} → AllKeep (words ++ more) → AllKeep words × AllKeep more
 in_parts words {more} is =
     let parts = both (list_all keeps words) (list_all keeps more) (sym (list_all-append keeps words more) ∙ is.all) in
     (record { all = parts.0 }, record { all = parts.1 })
 
-kept_words : (words : List (List ℕ)) (kept : List Bool) → length kept ≤ length words → AllKeep (zip words kept) → AreKept kept
+pub kept_words : (words : List (List ℕ)) (kept : List Bool) → length kept ≤ length words → AllKeep (zip words kept) → AreKept kept
 kept_words words [] few is = tt
 kept_words [] (one ∷ kept) few is = absurd (omega arith)
 kept_words (word ∷ words) (one ∷ kept) few is =
@@ -152,7 +152,7 @@ pub record IsGoodFile (file : AutomatonFile) : Type 0 where
   pub access : (k : ℕ) (d : AccessLine) → k < length file.access_lines → IsGoodAccess file k (get_or file.access_lines k d)
   pub words : length file.access_lines ≡ file.states
 
-abbrev head_judged : AutomatonFile → List (List ℕ × Bool)
+abbrev pub head_judged : AutomatonFile → List (List ℕ × Bool)
 head_judged file = flat_map (λ line. zip line.0 line.1) (zip (head_lines file) (keeps_head file))
 
 few_of_access : (file : AutomatonFile) (place : ℕ) (access : Access) → length (keeps_how_access file place access) ≤ length (how_access access)
@@ -178,7 +178,7 @@ good_file file is =
     let states = in_parts (judged state_words (keeps_state file) file.state_lines) nodes.1 in
     let words = in_parts (judged access_words (keeps_access file) file.access_lines) states.1 in
     let ends = in_parts (judged suffix_words (keeps_suffix file) file.suffix_lines) words.1 in
-    let first = in_parts (zip (codes "automaton" ∷ codes "1" ∷ []) (true ∷ true ∷ [])) head.0 in
+    let first = in_parts (zip (codes "automaton" ∷ version_word file.steps ∷ []) (true ∷ true ∷ [])) head.0 in
     let variables = in_parts (zip (codes "variables" ∷ name_words file.names) (true ∷ keeps_names file.names)) first.1 in
     let numbers = in_parts (zip (codes "states" ∷ decimal file.states ∷ []) (true ∷ (nat_lt 0 file.states && nat_le file.states most_states) ∷ [])) variables.1 in
     let number = kept_words (codes "states" ∷ decimal file.states ∷ []) (true ∷ (nat_lt 0 file.states && nat_le file.states most_states) ∷ []) (omega arith) numbers.0 in
@@ -191,8 +191,11 @@ good_file file is =
     let access = λ (k : ℕ). λ (d : AccessLine). λ (within : k < length file.access_lines).
     good_access file k (get_or file.access_lines k d)
     (kept_kind access_words (keeps_access file) (λ number line. let size = few_of_access file number line.access in omega arith) file.access_lines words.0 k d within) in
-    let end = kept_words (codes "end" ∷ []) (has_all_access file ∷ []) (omega arith) (in_parts (zip (codes "end" ∷ []) (has_all_access file ∷ [])) ends.1).0 in
-    let enough = both (has_all_states file) (nat_le file.states (length file.access_lines)) end.0 in
+    let steps = in_parts (judged_steps file file.steps) ends.1 in
+    let has_all = has_all_access file && has_all_steps file.steps in
+    let end = kept_words (codes "end" ∷ []) (has_all ∷ []) (omega arith) (in_parts (zip (codes "end" ∷ []) (has_all ∷ [])) steps.1).0 in
+    let enough_access = both (has_all_access file) (has_all_steps file.steps) end.0 in
+    let enough = both (has_all_states file) (nat_le file.states (length file.access_lines)) enough_access.0 in
     let enough_states = leb-true file.states (length file.state_lines) enough.0 in
     let enough_words = leb-true file.states (length file.access_lines) enough.1 in
     let no_more_states = no_more (length file.state_lines) file.states (λ many. (state file.states no_state many).is_state) in

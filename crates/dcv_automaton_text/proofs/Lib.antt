@@ -4,4 +4,5 @@ pub mod GoodFiles
 pub mod GoodTables
 pub mod Kept
 pub mod OneFile
+pub mod Versions
 pub mod Words

@@ -1,15 +1,16 @@
 -- A text has one file: its lines are read from its bytes, the lines of each kind from their first words, and what they say from their words.
-use Rattle.std.proofs.Common.{◌≡◌, ◌≢◌, ℕ, suc, Bool, true, false, List, [], ◌∷◌, ◌++◌, length, map, drop, refl, sym, ap, ◌∙◌, arith}
-use Rattle.std.specs.Prelude.{codes, bytes_eq, slice_index_or, nat_eq}
+use Rattle.std.proofs.Common.{◌≡◌, ◌≢◌, ℕ, suc, Bool, true, false, List, [], ◌∷◌, ◌++◌, Option, None, Some, length, map, drop, refl, sym, ap, ◌∙◌, arith}
+use Rattle.std.specs.Prelude.{codes, bytes_eq, slice_index_or, nat_eq, IfSome}
 use Rattle.std.specs.Char.{is_ascii_digit}
 use Rattle.std.specs.Fmt.{decimal}
 use Rattle.std.specs.List.{All, list_all}
 use Rattle.std.proofs.lemmas.Fmt.{decimal_injective}
 use Rattle.dcv_word.specs.Laws.{LineIsOfOneLetter}
 use Rattle.dcv_automaton_text.specs.File.{Target, ToState, ToNode, NodeLine, StateLine, Access, EmptyAccess, StartAccess, AfterAccess, AccessLine}
-use Rattle.dcv_automaton_text.specs.File.{Suffix, EmptySuffix, ThenSuffix, SuffixLine, AutomatonFile}
-use Rattle.dcv_automaton_text.specs.Spelled.{target_word, answer_word, name_words, node_words, state_words, how_access, access_words, how_suffix, suffix_words, end_lines, lines_of, spelled}
-use Rattle.dcv_automaton_text.specs.Form.{IsNumber, IsNameWord, IsTarget, IsNodeLine, IsStateLine, IsAccess, IsAccessLine, IsSuffix, IsSuffixLine, IsSpellable}
+use Rattle.dcv_automaton_text.specs.File.{Suffix, EmptySuffix, ThenSuffix, SuffixLine, StepLine, StepPart, AutomatonFile}
+use Rattle.dcv_automaton_text.specs.Spelled.{target_word, answer_word, name_words, node_words, state_words, how_access, access_words, how_suffix, suffix_words}
+use Rattle.dcv_automaton_text.specs.Spelled.{version_word, step_words, step_part, end_lines, lines_of, spelled}
+use Rattle.dcv_automaton_text.specs.Form.{IsNumber, IsNameWord, IsTarget, IsNodeLine, IsStateLine, IsAccess, IsAccessLine, IsSuffix, IsSuffixLine, IsStepLine, IsStepPart, IsSpellable}
 use Rattle.dcv_automaton_text.specs.Laws.{OneFile}
 use Rattle.dcv_automaton_text.proofs.Words.{AreVisible, decimal_is_visible, letter_is_visible, digits_are, AreWords, IsLine, AreLines, lines_in_turn, lines_of_each, lines_read}
 
@@ -46,6 +47,16 @@ same_state a b small other same =
     let answers = same_answers a.accepting b.accepting (ap (λ words. slice_index_or words 2 []) same) in
     let rows = same_targets a.row b.row small.row other.row (ap (λ words. slice_index_or words 3 []) same) in
     λ i. record { number = numbers i; accepting = answers i; row = rows i }
+
+-- ---- lines of steps
+
+same_step : (a b : StepLine) → IsStepLine a → IsStepLine b → step_words a ≡ step_words b → a ≡ b
+same_step a b small other same =
+    let numbers = same_numbers a.number b.number small.number other.number (ap (λ words. slice_index_or words 1 []) same) in
+    let starts = same_numbers a.at b.at small.at other.at (ap (λ words. slice_index_or words 3 []) same) in
+    let states = same_numbers a.states b.states small.states other.states (ap (λ words. slice_index_or words 5 []) same) in
+    let nodes = same_numbers a.nodes b.nodes small.nodes other.nodes (ap (λ words. slice_index_or words 7 []) same) in
+    λ i. record { number = numbers i; at = starts i; states = states i; nodes = nodes i }
 
 -- ---- access words and suffixes
 
@@ -116,6 +127,22 @@ module _ {A : Type 0} (words : A → List (List ℕ)) (P : A → Type 0) (tag : 
       let rest = kind_read xs ys more other_more (λ k d l. each (suc k) d (omega arith)) (λ k d l. other_each (suc k) d (omega arith)) none other_none others in
       (λ i. first i ∷ rest.0 i, rest.1)
 
+-- ---- the step part
+
+-- the lines from the step part on
+abbrev last_part : Option StepPart → List (List (List ℕ))
+last_part steps = step_part steps ++ end_lines
+
+same_steps : (a b : Option StepPart) → IfSome a IsStepPart → IfSome b IsStepPart → last_part a ≡ last_part b → a ≡ b
+same_steps None None small other same = refl
+same_steps None (Some b) small other same = absurd (let wrong : true ≡ false = ap (begins (codes "end")) same in cc)
+same_steps (Some a) None small other same = absurd (let wrong : false ≡ true = ap (begins (codes "end")) same in cc)
+same_steps (Some a) (Some b) small other same =
+    let counts = same_numbers a.count b.count small.count other.count (ap (λ lines. slice_index_or (slice_index_or lines 0 []) 1 []) same) in
+    let lines = kind_read step_words IsStepLine (codes "step") (λ x behind. refl) same_step a.lines b.lines end_lines end_lines
+    small.lines other.lines refl refl (ap (drop 1) same) in
+    λ i. Some (record { count = counts i; lines = lines.0 i })
+
 -- ---- the file
 
 same_names : (names others : List (List ℕ)) → names ≢ codes "-" ∷ [] → others ≢ codes "-" ∷ [] → name_words names ≡ name_words others → names ≡ others
@@ -166,10 +193,36 @@ how_suffix_is (ThenSuffix letter suffix) is = (letter_is_visible letter, (decima
 suffix_line_is : (line : SuffixLine) → IsSuffixLine line → IsLine (suffix_words line)
 suffix_line_is line is = (refl, (decimal_is_visible line.number is.number, how_suffix_is line.suffix is.suffix))
 
+version_is_visible : (steps : Option StepPart) → AreVisible (version_word steps)
+version_is_visible None = refl
+version_is_visible (Some part) = refl
+
+step_line_is : (line : StepLine) → IsStepLine line → IsLine (step_words line)
+step_line_is line is = (
+  refl,
+  (
+    decimal_is_visible line.number is.number,
+    (
+      refl,
+      (
+        decimal_is_visible line.at is.at,
+        (refl, (decimal_is_visible line.states is.states, (refl, (decimal_is_visible line.nodes is.nodes, tt)))),
+      ),
+    ),
+  ),
+)
+
+steps_are : (steps : Option StepPart) → IfSome steps IsStepPart → AreLines (last_part steps)
+steps_are None is = ((refl, tt), tt)
+steps_are (Some part) is = (
+  (refl, (decimal_is_visible part.count is.count, tt)),
+  lines_in_turn (map step_words part.lines) _ (lines_of_each step_words IsStepLine step_line_is part.lines is.lines) ((refl, tt), tt),
+)
+
 pub are_lines : (file : AutomatonFile) → IsSpellable file → AreLines (lines_of file)
 unfolding lines_of
 are_lines file is = (
-  (refl, (refl, tt)),
+  (refl, (version_is_visible file.steps, tt)),
   (
     (refl, name_words_are file.names is.names),
     (
@@ -177,14 +230,14 @@ are_lines file is = (
       lines_in_turn (map node_words file.node_lines) _ (lines_of_each node_words IsNodeLine node_line_is file.node_lines is.node_lines)
           (lines_in_turn (map state_words file.state_lines) _ (lines_of_each state_words IsStateLine state_line_is file.state_lines is.state_lines)
           (lines_in_turn (map access_words file.access_lines) _ (lines_of_each access_words IsAccessLine access_line_is file.access_lines is.access_lines)
-          (lines_in_turn (map suffix_words file.suffix_lines) _ (lines_of_each suffix_words IsSuffixLine suffix_line_is file.suffix_lines is.suffix_lines) ((refl, tt), tt)))),
+          (lines_in_turn (map suffix_words file.suffix_lines) _ (lines_of_each suffix_words IsSuffixLine suffix_line_is file.suffix_lines is.suffix_lines) (steps_are file.steps is.steps)))),
     ),
   ),
 )
 
 -- the lines from those of one kind on
 abbrev suffix_part : AutomatonFile → List (List (List ℕ))
-suffix_part file = map suffix_words file.suffix_lines ++ end_lines
+suffix_part file = map suffix_words file.suffix_lines ++ last_part file.steps
 
 abbrev access_part : AutomatonFile → List (List (List ℕ))
 access_part file = map access_words file.access_lines ++ suffix_part file
@@ -192,19 +245,31 @@ access_part file = map access_words file.access_lines ++ suffix_part file
 abbrev state_part : AutomatonFile → List (List (List ℕ))
 state_part file = map state_words file.state_lines ++ access_part file
 
+-- the step part and the end begin so, and no other line does
+record IsLast (lines : List (List (List ℕ))) : Type 0 where
+  no_suffix : begins (codes "suffix") lines ≡ false
+  no_access : begins (codes "access") lines ≡ false
+  no_state : begins (codes "state") lines ≡ false
+  no_node : begins (codes "node") lines ≡ false
+
+behind_suffixes : (steps : Option StepPart) → IsLast (last_part steps)
+behind_suffixes None = record { no_suffix = refl; no_access = refl; no_state = refl; no_node = refl }
+behind_suffixes (Some part) = record { no_suffix = refl; no_access = refl; no_state = refl; no_node = refl }
+
 behind_access : (file : AutomatonFile) → begins (codes "access") (suffix_part file) ≡ false
-behind_access file = skipped suffix_words (codes "access") file.suffix_lines end_lines (λ x behind. refl) refl
+behind_access file =
+    skipped suffix_words (codes "access") file.suffix_lines (last_part file.steps) (λ x behind. refl) (behind_suffixes file.steps).no_access
 
 behind_states : (file : AutomatonFile) → begins (codes "state") (access_part file) ≡ false
 behind_states file =
     skipped access_words (codes "state") file.access_lines (suffix_part file) (λ x behind. refl)
-    (skipped suffix_words (codes "state") file.suffix_lines end_lines (λ x behind. refl) refl)
+    (skipped suffix_words (codes "state") file.suffix_lines (last_part file.steps) (λ x behind. refl) (behind_suffixes file.steps).no_state)
 
 behind_nodes : (file : AutomatonFile) → begins (codes "node") (state_part file) ≡ false
 behind_nodes file =
     skipped state_words (codes "node") file.state_lines (access_part file) (λ x behind. refl)
     (skipped access_words (codes "node") file.access_lines (suffix_part file) (λ x behind. refl)
-    (skipped suffix_words (codes "node") file.suffix_lines end_lines (λ x behind. refl) refl))
+    (skipped suffix_words (codes "node") file.suffix_lines (last_part file.steps) (λ x behind. refl) (behind_suffixes file.steps).no_node))
 
 same_files : LineIsOfOneLetter → (file other : AutomatonFile) → IsSpellable file → IsSpellable other → lines_of file ≡ lines_of other → file ≡ other
 unfolding lines_of
@@ -217,8 +282,9 @@ same_files letters file other is other_is same =
     is.state_lines other_is.state_lines (behind_states file) (behind_states other) nodes.1 in
     let access = kind_read access_words IsAccessLine (codes "access") (λ x behind. refl) (same_access_line letters) file.access_lines other.access_lines (suffix_part file) (suffix_part other)
     is.access_lines other_is.access_lines (behind_access file) (behind_access other) state_lines.1 in
-    let suffixes = kind_read suffix_words IsSuffixLine (codes "suffix") (λ x behind. refl) (same_suffix_line letters) file.suffix_lines other.suffix_lines end_lines end_lines
-    is.suffix_lines other_is.suffix_lines refl refl access.1 in
+    let suffixes = kind_read suffix_words IsSuffixLine (codes "suffix") (λ x behind. refl) (same_suffix_line letters) file.suffix_lines other.suffix_lines (last_part file.steps) (last_part other.steps)
+    is.suffix_lines other_is.suffix_lines (behind_suffixes file.steps).no_suffix (behind_suffixes other.steps).no_suffix access.1 in
+    let steps = same_steps file.steps other.steps is.steps other_is.steps suffixes.1 in
     λ i. record {
       names = names i;
       states = states i;
@@ -226,6 +292,7 @@ same_files letters file other is other_is same =
       state_lines = state_lines.0 i;
       access_lines = access.0 i;
       suffix_lines = suffixes.0 i;
+      steps = steps i;
     }
 
 pub one_file : LineIsOfOneLetter → OneFile

@@ -42,12 +42,14 @@ pub record VersionsStandForTheSame : Type 0 where
   pub first : (file : AutomatonFile) → IsSpellable file → IsGood file → IsOfOtherVersion file (first_version file)
   pub second : (file : AutomatonFile) → IsSpellable file → IsGood file → IsOfOtherVersion file (second_version file)
 
--- the texts of both versions, from a text of either: its first line up to the version, what it says up to the step part, and the end
+-- what a text says behind the version, up to the step part or to the last line
+abbrev pub said_in : List ℕ → AutomatonFile → List ℕ
+said_in text file = drop 11 (take (length (spelled_front file)) text)
+
+-- the texts of both versions, from a text of either
 pub record IsOfVersions (text : List ℕ) (file : AutomatonFile) : Type 0 where
-  abbrev said : List ℕ
-  said = drop 11 (take (length (spelled_front file)) text)
-  pub first : spelled (first_version file) ≡ codes "automaton 1" ++ (said ++ codes "end\n")
-  pub second : file.steps ≡ None → spelled (second_version file) ≡ codes "automaton 2" ++ (said ++ codes "steps 0\nend\n")
+  pub first : spelled (first_version file) ≡ codes "automaton 1" ++ (said_in text file ++ codes "end\n")
+  pub second : file.steps ≡ None → spelled (second_version file) ≡ codes "automaton 2" ++ (said_in text file ++ codes "steps 0\nend\n")
   -- a text of the version is as it is
   pub one : file.steps ≡ None → spelled (first_version file) ≡ text
   pub two : file.steps ≢ None → spelled (second_version file) ≡ text

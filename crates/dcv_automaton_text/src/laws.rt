@@ -32,5 +32,4 @@ pub fn versions_stand_for_the_same()
     ensures same { VersionsStandForTheSame }
     ensures texts { TextsOfVersions }
     ensures back { SecondAndBackIsTheText }
-{
-}
+{}

@@ -18,9 +18,23 @@ suffix 1 1 0
 end
 ";
 
+// A text of version 2.
+const SECOND: &[u8] = b"automaton 2
+variables p
+states 1
+state 0 accept t0
+access 0 start 1
+suffix 0 empty
+steps 2
+step 0 at 13 states 3 nodes 2
+step 1 at 6 states 12 nodes 0
+end
+";
+
 // Texts with a byte at which they stop to begin one of the form.
-const FAULTS: [(&[u8], u32); 20] = [
-    (b"automaton 2\n", 10),
+const FAULTS: [(&[u8], u32); 31] = [
+    (b"automaton 3\n", 10),
+    (b"automaton 12\n", 11),
     (b"automaton 1\r\n", 11),
     (b"automaton 1\nvariables \n", 22),
     (b"automaton 1\nvariables p  q\n", 24),
@@ -60,6 +74,35 @@ const FAULTS: [(&[u8], u32); 20] = [
     (b"automaton 1\nvariables p\nstates 3\nsuffix 1 1 0 \n", 45),
     (b"automaton 1\nvariables p\nstates 3\nend", 36),
     (b"automaton 1\nvariables p\nstates 3\nend\nend\n", 37),
+    // Version 1 has no step part, and version 2 has one before its end.
+    (b"automaton 1\nvariables p\nstates 3\nsteps 0\nend\n", 35),
+    (b"automaton 2\nvariables p\nstates 3\nend\n", 33),
+    (b"automaton 2\nvariables p\nstates 3\nsuffix 0 empty\nend\n", 48),
+    (
+        b"automaton 2\nvariables p\nstates 3\nstep 0 at 1 states 1 nodes 1\n",
+        37,
+    ),
+    (
+        b"automaton 2\nvariables p\nstates 3\nsteps 0\nsteps 0\n",
+        45,
+    ),
+    (
+        b"automaton 2\nvariables p\nstates 3\nsteps 0\nsuffix 0 empty\n",
+        42,
+    ),
+    (
+        b"automaton 2\nvariables p\nstates 3\nsteps 01\nend\n",
+        40,
+    ),
+    (
+        b"automaton 2\nvariables p\nstates 3\nsteps 1\nstep 0 at 13 nodes 3\n",
+        54,
+    ),
+    (
+        b"automaton 2\nvariables p\nstates 3\nsteps 1\nstep 0 at 13 states 3 nodes 2 \n",
+        70,
+    ),
+    (b"automaton 2\nvariables p\nstates 3\nsteps 0\nend\nend\n", 45),
 ];
 
 // The fault of a text that is no longer than a test's.
@@ -82,6 +125,16 @@ fn each_beginning_ends_too_early(rt: HostRuntime) {
 }
 
 #[test]
+fn each_beginning_of_version_2_ends_too_early(rt: HostRuntime) {
+    for size in 0..SECOND.len() {
+        let fault = fault_of(rt.alloc(), &SECOND[..size]);
+        let at = size as u32;
+        assert_eq!(rt; fault, Some(LinesFault::Syntax { at }), "{size}");
+    }
+    assert_eq!(rt; fault_of(rt.alloc(), SECOND), None);
+}
+
+#[test]
 fn faults_of_texts(rt: HostRuntime) {
     for (text, at) in &FAULTS {
         assert_eq!(rt;
@@ -90,6 +143,25 @@ fn faults_of_texts(rt: HostRuntime) {
             "{text:?}"
         );
     }
+}
+
+// What the steps took, and the text before them.
+#[test]
+fn steps_of_a_text(rt: HostRuntime) {
+    let Some(lines) = read(rt.alloc(), SECOND) else {
+        return;
+    };
+    assert_eq!(rt; lines.front.len(), 83);
+    let Some(part) = &lines.steps else {
+        return;
+    };
+    assert_eq!(rt; part.count, 2);
+    assert_eq!(rt; part.lines.len(), 2);
+    if let Some(step) = part.lines.last() {
+        assert_eq!(rt; (step.number, step.at, step.states, step.nodes), (1, 6, 12, 0));
+    }
+    let first = read(rt.alloc(), TEXT);
+    assert_eq!(rt; first.map(|lines| lines.front.len()), Some(TEXT.len() - 4));
 }
 
 // The lines of a text that is no longer than a test's.

@@ -1,5 +1,6 @@
 // Texts that break a table rule, and what is read from one that keeps them.
 use dcv_automaton_read::{Access, AutoFault, AutoFile, Suffix, automaton_read};
+use dcv_count::Count;
 use dcv_word::Letter;
 use std::alloc::Global;
 use std::test::Fail;
@@ -15,6 +16,23 @@ const LINES: [&[u8]; 10] = [
     b"access 0 start 0\n",
     b"access 1 start 1\n",
     b"suffix 0 empty\n",
+    b"end\n",
+];
+
+// The same with a step part; its lines begin at 138, 146 and 176, and the last at 205.
+const SECOND: [&[u8]; 13] = [
+    b"automaton 2\n",
+    b"variables p\n",
+    b"states 2\n",
+    b"node n0 p ? t1 : t0\n",
+    b"state 0 reject n0\n",
+    b"state 1 accept n0\n",
+    b"access 0 start 0\n",
+    b"access 1 start 1\n",
+    b"suffix 0 empty\n",
+    b"steps 2\n",
+    b"step 0 at 13 states 3 nodes 2\n",
+    b"step 1 at 6 states 1 nodes 0\n",
     b"end\n",
 ];
 
@@ -80,10 +98,40 @@ const KEPT: [(usize, &[u8]); 4] = [
     (8, b"suffix 0 empty\nsuffix 1 1 0\n"),
 ];
 
-// The text with other lines in the place of one.
-fn with_line(alloc: Global, place: usize, other: &[u8]) -> Result<Vec<u8>, Fail> {
+// Rules of the step part broken.
+const BROKEN_STEPS: [(usize, &[u8], u32); 13] = [
+    // Too few steps, too many, and more than there may be.
+    (9, b"steps 3\n", 205),
+    (9, b"steps 1\n", 176),
+    (9, b"steps 131169\n", 144),
+    // Another number than the place of the line, and a start that is in no source.
+    (10, b"step 1 at 13 states 3 nodes 2\n", 151),
+    (10, b"step 0 at 262144 states 3 nodes 2\n", 156),
+    // No states, too many, and too many nodes.
+    (10, b"step 0 at 13 states 0 nodes 2\n", 166),
+    (10, b"step 0 at 13 states 32001 nodes 2\n", 166),
+    (10, b"step 0 at 13 states 3 nodes 1000001\n", 174),
+    // Access words that are missing, before suffixes and before steps.
+    (7, b"", 106),
+    (2, b"states 3\n", 89),
+    // Of two faults the earlier one.
+    (11, b"step 0 at 6 states 0 nodes 0\n", 181),
+    (11, b"", 176),
+    (12, b"step 2 at 6 states 1 nodes 0\nend\n", 205),
+];
+
+// What may stand in the place of a line of version 2.
+const KEPT_STEPS: [(usize, &[u8]); 4] = [
+    (8, b""),
+    (9, b"steps 2\n"),
+    (10, b"step 0 at 262143 states 32000 nodes 1000000\n"),
+    (11, b"step 1 at 0 states 1 nodes 0\n"),
+];
+
+// The text of these lines with others in the place of one.
+fn with_line(alloc: Global, lines: &[&[u8]], place: usize, other: &[u8]) -> Result<Vec<u8>, Fail> {
     let mut text = Vec::new(alloc);
-    for (at, line) in LINES.iter().enumerate() {
+    for (at, line) in lines.iter().enumerate() {
         text.extend_from_slice(if at == place { other } else { line })?;
     }
     Ok(text)
@@ -101,7 +149,21 @@ fn read(alloc: Global, text: &[u8]) -> Result<AutoFile, AutoFault> {
 #[test]
 fn rules_broken_once(rt: HostRuntime) -> Result<(), Fail> {
     for (place, line, at) in BROKEN {
-        let text = with_line(rt.alloc(), place, line)?;
+        let text = with_line(rt.alloc(), &LINES, place, line)?;
+        let fault = read(rt.alloc(), &text).err();
+        assert_eq!(rt;
+            fault,
+            Some(AutoFault::Table { at }),
+            "line {place} at {at}"
+        );
+    }
+    Ok(())
+}
+
+#[test]
+fn rules_of_steps_broken_once(rt: HostRuntime) -> Result<(), Fail> {
+    for (place, line, at) in BROKEN_STEPS {
+        let text = with_line(rt.alloc(), &SECOND, place, line)?;
         let fault = read(rt.alloc(), &text).err();
         assert_eq!(rt;
             fault,
@@ -115,8 +177,12 @@ fn rules_broken_once(rt: HostRuntime) -> Result<(), Fail> {
 #[test]
 fn rules_kept(rt: HostRuntime) -> Result<(), Fail> {
     for (place, line) in KEPT {
-        let text = with_line(rt.alloc(), place, line)?;
+        let text = with_line(rt.alloc(), &LINES, place, line)?;
         assert!(rt; read(rt.alloc(), &text).is_ok(), "line {place}");
+    }
+    for (place, line) in KEPT_STEPS {
+        let text = with_line(rt.alloc(), &SECOND, place, line)?;
+        assert!(rt; read(rt.alloc(), &text).is_ok(), "line {place} of version 2");
     }
     Ok(())
 }
@@ -147,6 +213,32 @@ fn what_is_read(rt: HostRuntime) -> Result<(), Fail> {
         file.suffixes(),
         [Suffix::Empty, Suffix::Then(both, 0)].as_slice()
     );
+    assert_eq!(rt; file.version(), 1);
+    assert_eq!(rt; file.counts(), [].as_slice());
+    assert_eq!(rt; file.steps_at() as usize, text.len() - 4);
+    Ok(())
+}
+
+// The step part of a text of version 2, and where it begins.
+#[test]
+fn steps_that_are_read(rt: HostRuntime) -> Result<(), Fail> {
+    let text = with_line(rt.alloc(), &SECOND, 8, b"suffix 0 empty\n")?;
+    let Ok(file) = read(rt.alloc(), &text) else {
+        return Err(Fail::new("a text that keeps the rules is refused"));
+    };
+    let first = Count {
+        at: 13,
+        states: 3,
+        nodes: 2,
+    };
+    let second = Count {
+        at: 6,
+        states: 1,
+        nodes: 0,
+    };
+    assert_eq!(rt; file.version(), 2);
+    assert_eq!(rt; file.counts(), [first, second].as_slice());
+    assert_eq!(rt; file.steps_at(), 138);
     Ok(())
 }
 

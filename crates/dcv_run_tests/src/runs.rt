@@ -555,7 +555,7 @@ fn faults_of_long_texts(rt: HostRuntime) -> Result<(), Fail> {
 }
 
 // Lists of words that no command takes.
-const NO_COMMANDS: [&[&str]; 19] = [
+const NO_COMMANDS: [&[&str]; 24] = [
     &[],
     &["check"],
     &["check", "-f"],
@@ -571,6 +571,11 @@ const NO_COMMANDS: [&[&str]; 19] = [
     &["sweep", "0", "1001"],
     &["sweep", "2147483648", "1"],
     &["synth", "f"],
+    &["convert", "f"],
+    &["convert", "--to", "1"],
+    &["convert", "f", "--to", "0"],
+    &["convert", "f", "--to", "3"],
+    &["convert", "f", "--to", "1", "--to", "1"],
     &["synth", "--inputs", "1"],
     &["synth", "f", "--inputs"],
     &["synth", "f", "--inputs", "17"],
