@@ -8,13 +8,16 @@ use Rattle.dcv_language.specs.AtomMachines.{constant_machine, point_machine, run
 use Rattle.dcv_language.specs.MachineLaws.{ConstantMachineAccepts, PointMachineAccepts, RunMachineAccepts, EveryMachineAccepts, UnitMachineAccepts}
 use Rattle.dcv_language.specs.MachineLaws.{SlenMachineAccepts, ScountMachineAccepts, SdurMachineAccepts}
 use Rattle.dcv_language.specs.MachineLaws.{EqualSettles, LessSettles, AtMostSettles, GreaterSettles, AtLeastSettles}
-use Rattle.dcv_core.specs.Core.{BasicConstant, BasicPoint, BasicRun, BasicEvery, BasicUnit, BasicSlen, BasicScount, BasicSdur}
+use Rattle.dcv_shifts.specs.Machines.{back_machine, fore_machine}
+use Rattle.dcv_shifts.specs.Laws.{BackMachineAccepts, ForeMachineAccepts}
+use Rattle.dcv_core.specs.Core.{TruthSlot, BasicBack, BasicFore, BasicConstant, BasicPoint, BasicRun, BasicEvery, BasicUnit, BasicSlen, BasicScount, BasicSdur}
 use Rattle.dcv_core.specs.Holds.{truth_holds}
 use Rattle.dcv_atoms.specs.AtomRows.{kept_constant, constant_found, kept_point, point_found, kept_run, run_found, kept_every, every_found}
 use Rattle.dcv_atoms.specs.AtomRows.{kept_unit, unit_found, kept_count, count_found, kept_duration, duration_found}
+use Rattle.dcv_atoms.specs.AtomRows.{kept_back, back_found, kept_fore, fore_found}
 use Rattle.dcv_atoms.specs.Laws.{MachineAcceptsForm}
 use Rattle.dcv_atoms.proofs.Embeddings.{embedded_accepts}
-use Rattle.dcv_atoms.proofs.FoundAgain.{constant_again, point_again, run_again, every_again, unit_again, count_again, duration_again}
+use Rattle.dcv_atoms.proofs.FoundAgain.{constant_again, point_again, run_again, every_again, unit_again, count_again, duration_again, back_again, fore_again}
 
 -- what is known of the machines of `dcv_language`
 pub record MachinesAccept : Type 0 where
@@ -26,6 +29,8 @@ pub record MachinesAccept : Type 0 where
   pub slen : SlenMachineAccepts
   pub scount : ScountMachineAccepts
   pub sdur : SdurMachineAccepts
+  pub back : BackMachineAccepts
+  pub fore : ForeMachineAccepts
 
 pub record RelationsSettle : Type 0 where
   pub equal : EqualSettles
@@ -64,3 +69,9 @@ module _ (accept : MachinesAccept) (settle : RelationsSettle) where
       let meets : ℕ → Bool = λ count. compares relation count n in
       embedded_accepts kept_duration duration_found duration_again (sdur_machine slots (truth_holds p) n meets) word
       ∙ accept.sdur slots (truth_holds p) n meets (settles relation n) word some
+  accepts_form slots (BasicBack p slot) word some =
+      embedded_accepts kept_back back_found back_again (back_machine slots (truth_holds p) (truth_holds (TruthSlot slot))) word
+      ∙ accept.back slots (truth_holds p) (truth_holds (TruthSlot slot)) word some
+  accepts_form slots (BasicFore p slot) word some =
+      embedded_accepts kept_fore fore_found fore_again (fore_machine slots (truth_holds p) (truth_holds (TruthSlot slot))) word
+      ∙ accept.fore slots (truth_holds p) (truth_holds (TruthSlot slot)) word some

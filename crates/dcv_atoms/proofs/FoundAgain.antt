@@ -6,8 +6,10 @@ use Rattle.dcv_language.specs.AtomMachines.{RunState, RunStart, RunFirst, RunOk,
 use Rattle.dcv_language.specs.AtomMachines.{EveryState, EveryStart, EveryOk, EveryBad}
 use Rattle.dcv_language.specs.AtomMachines.{UnitState, UnitStart, UnitOne, UnitGood, UnitDead}
 use Rattle.dcv_language.specs.AtomMachines.{DurationState, DurationStart, Lasted}
+use Rattle.dcv_shifts.specs.Machines.{BackState, BackStart, BackZero, BackOne, BackDead, ForeState, ForeStart, ForeOwe, ForeFree, ForeDead}
 use Rattle.dcv_atoms.specs.AtomRows.{kept_constant, constant_found, kept_point, point_found, kept_run, run_found, kept_every, every_found}
 use Rattle.dcv_atoms.specs.AtomRows.{kept_unit, unit_found, kept_count, count_found, kept_duration, duration_found}
+use Rattle.dcv_atoms.specs.AtomRows.{kept_back, back_found, kept_fore, fore_found}
 
 pub constant_again : (state : ConstantState) → constant_found (kept_constant state) ≡ state
 constant_again One = refl
@@ -42,3 +44,15 @@ count_again (Some count) = refl
 pub duration_again : (state : DurationState) → duration_found (kept_duration state) ≡ state
 duration_again DurationStart = refl
 duration_again (Lasted count last) = refl
+
+pub back_again : (state : BackState) → back_found (kept_back state) ≡ state
+back_again BackStart = refl
+back_again BackZero = refl
+back_again BackOne = refl
+back_again BackDead = refl
+
+pub fore_again : (state : ForeState) → fore_found (kept_fore state) ≡ state
+fore_again ForeStart = refl
+fore_again ForeOwe = refl
+fore_again ForeFree = refl
+fore_again ForeDead = refl

@@ -1,9 +1,11 @@
 -- The working machine of each form, over the states that the code keeps.
 --     kept_.., .._found              what a state of a form's machine is kept as, and the state that is kept so
---     machine_by slots basic P       the machine of a form, with this test of a letter for its proposition
+--     machine_by slots basic P T     the machine of a form, with these tests of a letter for its proposition and for its slot
 --     test_of basic                  whether its proposition holds in a letter
+--     slot_test_of basic             whether the slot of a shift is true in it
 --     atom_machine slots basic       the machine of a form
---     after_letter basic from holds  the state after a letter in which the proposition holds, or does not
+--     after_letter basic from holds shifted
+--                                    the state after a letter in which the proposition holds, and the slot is true, or not
 -- A state that is none of a form's own is found to be one from which no word is accepted, or the start.
 use Rattle.std.specs.Prelude.{ℕ, Bool, false, List, [], Option, None, Some}
 use Rattle.dcv_logic.specs.Satisfaction.{compares}
@@ -14,7 +16,10 @@ use Rattle.dcv_language.specs.AtomMachines.{RunState, RunStart, RunFirst, RunOk,
 use Rattle.dcv_language.specs.AtomMachines.{EveryState, EveryStart, EveryOk, EveryBad, every_machine}
 use Rattle.dcv_language.specs.AtomMachines.{UnitState, UnitStart, UnitOne, UnitGood, UnitDead, unit_machine}
 use Rattle.dcv_language.specs.AtomMachines.{slen_machine, scount_machine, DurationState, DurationStart, Lasted as DurationLasted, sdur_machine}
+use Rattle.dcv_shifts.specs.Machines.{BackState, BackStart, BackZero, BackOne, BackDead, back_machine}
+use Rattle.dcv_shifts.specs.Machines.{ForeState, ForeStart, ForeOwe, ForeFree, ForeDead, fore_machine}
 use Rattle.dcv_core.specs.Core.{PlainBasic, BasicConstant, BasicPoint, BasicRun, BasicEvery, BasicUnit, BasicSlen, BasicScount, BasicSdur}
+use Rattle.dcv_core.specs.Core.{TruthSlot, BasicBack, BasicFore}
 use Rattle.dcv_core.specs.Holds.{truth_holds}
 use Rattle.dcv_atoms.specs.declared.states.AtomMacro.{AtomMacro}
 use Rattle.dcv_atoms.specs.declared.states.AtomMacro.TheVariants.{Start, First, Good, Last, Bad, Count, Lasted}
@@ -82,6 +87,34 @@ unit_found First = UnitOne
 unit_found Good = UnitGood
 unit_found state = UnitDead
 
+-- ---- a slot that says what P was one instant before
+
+abbrev pub kept_back : BackState → AtomMacro
+kept_back BackStart = Start
+kept_back BackZero = Good
+kept_back BackOne = First
+kept_back BackDead = Bad
+
+abbrev pub back_found : AtomMacro → BackState
+back_found Start = BackStart
+back_found Good = BackZero
+back_found First = BackOne
+back_found state = BackDead
+
+-- ---- a slot that says what P is one instant later
+
+abbrev pub kept_fore : ForeState → AtomMacro
+kept_fore ForeStart = Start
+kept_fore ForeOwe = First
+kept_fore ForeFree = Good
+kept_fore ForeDead = Bad
+
+abbrev pub fore_found : AtomMacro → ForeState
+fore_found Start = ForeStart
+fore_found First = ForeOwe
+fore_found Good = ForeFree
+fore_found state = ForeDead
+
 -- ---- measures
 
 abbrev pub kept_count : Option ℕ → AtomMacro
@@ -102,15 +135,17 @@ duration_found state = DurationStart
 
 -- ---- all of them
 
-abbrev pub machine_by : ℕ → PlainBasic → (List Bool → Bool) → WorkingMachine AtomMacro
-machine_by slots (BasicConstant truth) P = embedded kept_constant constant_found (constant_machine slots truth)
-machine_by slots (BasicPoint p) P = embedded kept_point point_found (point_machine slots P)
-machine_by slots (BasicRun p) P = embedded kept_run run_found (run_machine slots P)
-machine_by slots (BasicEvery p) P = embedded kept_every every_found (every_machine slots P)
-machine_by slots (BasicUnit p) P = embedded kept_unit unit_found (unit_machine slots P)
-machine_by slots (BasicSlen relation n) P = embedded kept_count count_found (slen_machine slots n (λ steps. compares relation steps n))
-machine_by slots (BasicScount p relation n) P = embedded kept_count count_found (scount_machine slots P n (λ count. compares relation count n))
-machine_by slots (BasicSdur p relation n) P = embedded kept_duration duration_found (sdur_machine slots P n (λ count. compares relation count n))
+abbrev pub machine_by : ℕ → PlainBasic → (P T : List Bool → Bool) → WorkingMachine AtomMacro
+machine_by slots (BasicConstant truth) P T = embedded kept_constant constant_found (constant_machine slots truth)
+machine_by slots (BasicPoint p) P T = embedded kept_point point_found (point_machine slots P)
+machine_by slots (BasicRun p) P T = embedded kept_run run_found (run_machine slots P)
+machine_by slots (BasicEvery p) P T = embedded kept_every every_found (every_machine slots P)
+machine_by slots (BasicUnit p) P T = embedded kept_unit unit_found (unit_machine slots P)
+machine_by slots (BasicSlen relation n) P T = embedded kept_count count_found (slen_machine slots n (λ steps. compares relation steps n))
+machine_by slots (BasicScount p relation n) P T = embedded kept_count count_found (scount_machine slots P n (λ count. compares relation count n))
+machine_by slots (BasicSdur p relation n) P T = embedded kept_duration duration_found (sdur_machine slots P n (λ count. compares relation count n))
+machine_by slots (BasicBack p slot) P T = embedded kept_back back_found (back_machine slots P T)
+machine_by slots (BasicFore p slot) P T = embedded kept_fore fore_found (fore_machine slots P T)
 
 -- a form without a proposition asks nothing of a letter
 abbrev pub test_of : PlainBasic → List Bool → Bool
@@ -122,12 +157,27 @@ test_of (BasicUnit p) letter = truth_holds p letter
 test_of (BasicSlen relation n) letter = false
 test_of (BasicScount p relation n) letter = truth_holds p letter
 test_of (BasicSdur p relation n) letter = truth_holds p letter
+test_of (BasicBack p slot) letter = truth_holds p letter
+test_of (BasicFore p slot) letter = truth_holds p letter
+
+-- nor does a form that is no shift ask for a slot
+abbrev pub slot_test_of : PlainBasic → List Bool → Bool
+slot_test_of (BasicConstant truth) letter = false
+slot_test_of (BasicPoint p) letter = false
+slot_test_of (BasicRun p) letter = false
+slot_test_of (BasicEvery p) letter = false
+slot_test_of (BasicUnit p) letter = false
+slot_test_of (BasicSlen relation n) letter = false
+slot_test_of (BasicScount p relation n) letter = false
+slot_test_of (BasicSdur p relation n) letter = false
+slot_test_of (BasicBack p slot) letter = truth_holds (TruthSlot slot) letter
+slot_test_of (BasicFore p slot) letter = truth_holds (TruthSlot slot) letter
 
 abbrev pub atom_machine : ℕ → PlainBasic → WorkingMachine AtomMacro
-atom_machine slots basic = machine_by slots basic (test_of basic)
+atom_machine slots basic = machine_by slots basic (test_of basic) (slot_test_of basic)
 
-abbrev pub after_letter : PlainBasic → AtomMacro → Bool → AtomMacro
-after_letter basic from holds = (machine_by 0 basic (λ letter. holds)).next from []
+abbrev pub after_letter : PlainBasic → AtomMacro → (holds shifted : Bool) → AtomMacro
+after_letter basic from holds shifted = (machine_by 0 basic (λ letter. holds) (λ letter. shifted)).next from []
 
 abbrev pub is_accepted : PlainBasic → AtomMacro → Bool
-is_accepted basic state = (machine_by 0 basic (λ letter. false)).accepting state
+is_accepted basic state = (machine_by 0 basic (λ letter. false) (λ letter. false)).accepting state

@@ -2,8 +2,9 @@
 --     number_of state            which of the states it is, but for what was counted
 --     count_of state             what was counted
 --     state_told number count    the state of which these are the two
---     IsThree leaves             the two, and the number of the proposition
-use Rattle.std.specs.Prelude.{◌≡◌, ◌==◌, ℕ, List, length, if◌then◌else◌}
+--     leaf_count form            how many numbers a row has: the two, that of the proposition, and that of a shift's slot
+use Rattle.std.specs.Prelude.{◌==◌, ℕ, if◌then◌else◌}
+use Rattle.dcv_core.specs.Core.{PlainBasic, BasicBack, BasicFore}
 use Rattle.dcv_atoms.specs.declared.states.AtomMacro.{AtomMacro}
 use Rattle.dcv_atoms.specs.declared.states.AtomMacro.TheVariants.{Start, First, Good, Last, Bad, Count, Lasted}
 
@@ -31,5 +32,7 @@ state_told number count =
     else if number == 5 then Count count
     else Lasted count (number == 7)
 
-abbrev pub IsThree : List ℕ → Type 0
-IsThree leaves = length leaves ≡ 3
+abbrev pub leaf_count : PlainBasic → ℕ
+leaf_count (BasicBack p slot) = 4
+leaf_count (BasicFore p slot) = 4
+leaf_count _ = 3

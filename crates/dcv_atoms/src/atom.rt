@@ -1,21 +1,21 @@
 // The machine of a form.
-ghost use Rattle.std.specs.Prelude.{◌≡◌, ◌<◌, ◌≤◌, ◌==◌, ◌↔◌, ℕ, List, [], Bool, false, Err, length, IfOk, OnOk, IsTrue, slice_index_or};
+ghost use Rattle.std.specs.Prelude.{if◌then◌else◌, ◌≡◌, ◌<◌, ◌≤◌, ◌==◌, ◌↔◌, ℕ, List, [], Bool, false, Err, length, IfOk, OnOk, IsTrue, slice_index_or};
 ghost use Rattle.dcv_arena.specs.Arena.{IsRef, IsArena};
 ghost use Rattle.dcv_core.specs.Core.{PlainBasic};
 ghost use Rattle.dcv_core.specs.TruthViews.{plain_basic};
 ghost use Rattle.dcv_atoms.specs.declared.states.AtomMacro.{AtomMacro};
 ghost use Rattle.dcv_atoms.specs.declared.faults.AtomFault.TheVariants.{Nodes};
-ghost use Rattle.dcv_atoms.specs.AtomRows.{atom_machine, test_of, after_letter};
+ghost use Rattle.dcv_atoms.specs.AtomRows.{atom_machine, test_of, slot_test_of, after_letter};
 ghost use Rattle.dcv_atoms.specs.Functions.{Means};
-ghost use Rattle.dcv_atoms.specs.Leaves.{IsThree, state_told};
+ghost use Rattle.dcv_atoms.specs.Leaves.{leaf_count, state_told};
 ghost use Rattle.dcv_atoms.specs.Numbers.{HasRoom};
-ghost use Rattle.dcv_atoms.specs.Parts.{basic_parts, atom_nodes};
+ghost use Rattle.dcv_atoms.specs.Parts.{basic_parts, proposition_parts, slot_parts, atom_nodes};
 ghost use Rattle.dcv_atoms.specs.Built.{Builds, Exceeds};
 ghost use Rattle.dcv_atoms.specs.Steps.{IsAtom};
 ghost use Rattle.dcv_atoms.specs.SameStates.{same_states};
 
 use crate::faults::AtomFault;
-use crate::proposition::diagram;
+use crate::proposition::{diagram, value};
 use crate::rows;
 use crate::states::AtomMacro;
 use dcv_arena::{Arena, Ref};
@@ -24,13 +24,15 @@ use dcv_explore::{Limits, Machine, Operands};
 use std::alloc::{AllocError, Global};
 use std::marker::Model;
 
-/// A form of a core, with the diagram of its proposition.
+/// A form of a core, with the diagrams of its proposition and its slot.
 #[derive(Debug, Drop)]
 pub struct Atom<'a> {
     basic: &'a Basic,
     arena: Arena,
     // the letters in which the proposition holds; of a form without one, none
     root: Ref,
+    // the letters in which the slot of a shift is true; of a form that is none, none
+    slot: Ref,
 }
 
 impl<'a> Model for Atom<'a> {
@@ -43,9 +45,9 @@ impl<'a> Model for Atom<'a> {
 
     ghost coded = { Prim.hlevel (codes, truth_code) };
 
-    ghost view = { λ atom. atom_value (plain_basic atom.basic.now) atom.arena atom.root };
+    ghost view = { λ atom. atom_value (plain_basic atom.basic.now) atom.arena atom.root atom.slot };
 
-    ghost invariant = { λ atom. IsAtomValue (atom_value (plain_basic atom.basic.now) atom.arena atom.root) };
+    ghost invariant = { λ atom. IsAtomValue (atom_value (plain_basic atom.basic.now) atom.arena atom.root atom.slot) };
 }
 
 impl<'a> Atom<'a> {
@@ -90,8 +92,13 @@ impl<'a> Atom<'a> {
             return Err(AtomFault::Memory);
         }
         let mut arena = Arena::new(alloc, slots, limit);
-        let root = proposition(alloc, &mut arena, basic)?;
-        Ok(Atom { basic, arena, root })
+        let (root, slot) = diagrams(alloc, &mut arena, basic)?;
+        Ok(Atom {
+            basic,
+            arena,
+            root,
+            slot,
+        })
     }
 
     /// How many nodes the diagrams of all parts of the proposition have, each counted once.
@@ -114,13 +121,27 @@ fn has_room(basic: &Basic) -> bool
     }
 }
 
+// The letters in which the form's proposition holds, and those in which its slot is true.
+fn diagrams(alloc: Global, arena: &mut Arena, basic: &Basic) -> Result<(Ref, Ref), AtomFault>
+    requires arena { IsArena arena.old }
+    ensures means { IfOk result (λ roots. Means arena.new roots.0 arena.old.slots (test_of (plain_basic basic.now))) }
+    ensures slot_means { IfOk result (λ roots. Means arena.new roots.1 arena.old.slots (slot_test_of (plain_basic basic.now))) }
+    ensures builds { OnOk result (Builds arena.old arena.new (basic_parts (plain_basic basic.now))) }
+    ensures exceeds { (limit : ℕ) → result ≡ Err (Nodes limit) → Exceeds arena.old (basic_parts (plain_basic basic.now)) limit }
+    ensures arena { IsArena arena.new }
+{
+    let root = proposition(alloc, arena, basic)?;
+    let slot = shifted(arena, basic)?;
+    Ok((root, slot))
+}
+
 // The letters in which the form's proposition holds; none, where it has no proposition.
 #[tactic(auto, using(crate::proofs::Building::builds_nothing))]
 fn proposition(alloc: Global, arena: &mut Arena, basic: &Basic) -> Result<Ref, AtomFault>
     requires arena { IsArena arena.old }
     ensures means { IfOk result (λ root. Means arena.new root arena.old.slots (test_of (plain_basic basic.now))) }
-    ensures builds { OnOk result (Builds arena.old arena.new (basic_parts (plain_basic basic.now))) }
-    ensures exceeds { (limit : ℕ) → result ≡ Err (Nodes limit) → Exceeds arena.old (basic_parts (plain_basic basic.now)) limit }
+    ensures builds { OnOk result (Builds arena.old arena.new (proposition_parts (plain_basic basic.now))) }
+    ensures exceeds { (limit : ℕ) → result ≡ Err (Nodes limit) → Exceeds arena.old (proposition_parts (plain_basic basic.now)) limit }
     ensures arena { IsArena arena.new }
 {
     match basic {
@@ -129,9 +150,33 @@ fn proposition(alloc: Global, arena: &mut Arena, basic: &Basic) -> Result<Ref, A
         | Basic::Every(truth)
         | Basic::Unit(truth)
         | Basic::Scount(truth, _, _)
-        | Basic::Sdur(truth, _, _) => diagram(alloc, arena, truth),
+        | Basic::Sdur(truth, _, _)
+        | Basic::Back(truth, _)
+        | Basic::Fore(truth, _) => diagram(alloc, arena, truth),
         Basic::Constant(_) | Basic::Slen(_, _) => Ok(arena.leaf(0)),
     }
+}
+
+// The letters in which the slot of a shift is true; none, where the form is no shift.
+#[tactic(auto, using(crate::proofs::Building::builds_nothing))]
+fn shifted(arena: &mut Arena, basic: &Basic) -> Result<Ref, AtomFault>
+    requires arena { IsArena arena.old }
+    ensures means { IfOk result (λ root. Means arena.new root arena.old.slots (slot_test_of (plain_basic basic.now))) }
+    ensures builds { OnOk result (Builds arena.old arena.new (slot_parts (plain_basic basic.now))) }
+    ensures exceeds { (limit : ℕ) → result ≡ Err (Nodes limit) → Exceeds arena.old (slot_parts (plain_basic basic.now)) limit }
+    ensures arena { IsArena arena.new }
+{
+    match basic {
+        Basic::Back(_, slot) | Basic::Fore(_, slot) => value(arena, *slot),
+        _ => Ok(arena.leaf(0)),
+    }
+}
+
+// Whether the form is a shift.
+fn is_shift(basic: &Basic) -> bool
+    ensures { leaf_count (plain_basic basic.now) ≡ (if result then 4 else 3) }
+{
+    matches!(basic, Basic::Back(_, _) | Basic::Fore(_, _))
 }
 
 impl Machine for Atom<'_> {
@@ -147,10 +192,10 @@ impl Machine for Atom<'_> {
 
     ghost operand = { λ atom place. atom.arena };
 
-    ghost may = { λ atom leaves. IsThree leaves };
+    ghost may = { λ atom leaves. length leaves ≡ leaf_count atom.form };
 
     ghost merged = { λ atom leaves. after_letter atom.form
-        (state_told (slice_index_or leaves 0 0) (slice_index_or leaves 1 0)) (slice_index_or leaves 2 0 == 1) };
+        (state_told (slice_index_or leaves 0 0) (slice_index_or leaves 1 0)) (slice_index_or leaves 2 0 == 1) (slice_index_or leaves 3 0 == 1) };
 
     fn both_last(&self) -> bool {
         false
@@ -168,16 +213,21 @@ impl Machine for Atom<'_> {
         &self.arena
     }
 
-    // The state is told by two leaves, and the letter by the proposition.
+    // The state is told by two leaves, and the letter by the proposition and the slot of a shift.
     fn operands(&self, from: &AtomMacro, to: &mut Operands) -> Result<(), AllocError> {
         to.push(0, Ref::Leaf(from.number()))?;
         to.push(0, Ref::Leaf(from.count()))?;
-        to.push(0, self.root)
+        to.push(0, self.root)?;
+        if is_shift(self.basic) {
+            to.push(0, self.slot)?;
+        }
+        Ok(())
     }
 
     fn merge(&self, _alloc: Global, leaves: &[u32]) -> Result<AtomMacro, AllocError> {
         let from = AtomMacro::told(leaves[0], leaves[1]);
-        Ok(rows::after(self.basic, from, leaves[2] == 1))
+        let shifted = leaves.get(3) == Some(&1);
+        Ok(rows::after(self.basic, from, leaves[2] == 1, shifted))
     }
 
     fn copy(&self, _alloc: Global, of: &AtomMacro) -> Result<AtomMacro, AllocError> {

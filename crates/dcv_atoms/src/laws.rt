@@ -1,10 +1,12 @@
 //! Laws of atoms. Each function here does nothing: its contract is the law.
 ghost use Rattle.dcv_atoms.specs.AtomRows.{kept_constant, constant_found, kept_point, point_found, kept_run, run_found, kept_every, every_found};
 ghost use Rattle.dcv_atoms.specs.AtomRows.{kept_unit, unit_found, kept_count, count_found, kept_duration, duration_found};
+ghost use Rattle.dcv_atoms.specs.AtomRows.{kept_back, back_found, kept_fore, fore_found};
 ghost use Rattle.dcv_atoms.specs.Laws.{MachineAcceptsForm, MachineAcceptsAtom, MachineAcceptsStep, StepIsAtom, FindsAgain};
 
 use dcv_core::laws::{steps_are_operations, words_are_operations};
 use dcv_language::machine_laws::{brackets_accept, comparisons_settle, measures_accept};
+use dcv_shifts::laws::shifts_accept;
 
 /// The machine of a form accepts the form's words.
 pub fn machines_accept_forms()
@@ -12,6 +14,7 @@ pub fn machines_accept_forms()
 {
     brackets_accept();
     measures_accept();
+    shifts_accept();
     comparisons_settle();
 }
 
@@ -39,4 +42,6 @@ pub fn states_are_found_again()
     ensures unit { FindsAgain kept_unit unit_found }
     ensures count { FindsAgain kept_count count_found }
     ensures duration { FindsAgain kept_duration duration_found }
+    ensures back { FindsAgain kept_back back_found }
+    ensures fore { FindsAgain kept_fore fore_found }
 {}

@@ -61,7 +61,7 @@ fn part(
 }
 
 // The letters in which the slot is true. One that letters do not have is false in them.
-fn value(arena: &mut Arena, slot: u8) -> Result<Ref, AtomFault>
+pub(crate) fn value(arena: &mut Arena, slot: u8) -> Result<Ref, AtomFault>
     requires arena { IsArena arena.old }
     ensures means { IfOk result (λ root. Means arena.new root arena.old.slots (truth_holds (TruthSlot slot))) }
     ensures builds { OnOk result (Builds arena.old arena.new (TruthSlot slot ∷ [])) }

@@ -1,9 +1,11 @@
-// The rows of the forms: what each remembers after one letter more, by whether its proposition holds there.
+// The rows of the forms: what each remembers after one letter more, by whether its proposition holds there, and its slot is true.
 ghost use Rattle.std.specs.Prelude.{◌≡◌, ◌<◌, ◌+◌, ◌^◌, ℕ, Bool, List, []};
 ghost use Rattle.dcv_logic.specs.Satisfaction.{compares};
 ghost use Rattle.dcv_language.specs.AtomMachines.{capped, point_next, run_next, every_next, unit_next, slen_next, scount_next, sdur_next};
+ghost use Rattle.dcv_shifts.specs.Machines.{back_next, fore_next};
 ghost use Rattle.dcv_core.specs.TruthViews.{plain_basic};
 ghost use Rattle.dcv_atoms.specs.AtomRows.{kept_point, point_found, kept_run, run_found, kept_every, every_found, kept_unit, unit_found};
+ghost use Rattle.dcv_atoms.specs.AtomRows.{kept_back, back_found, kept_fore, fore_found};
 ghost use Rattle.dcv_atoms.specs.AtomRows.{kept_count, count_found, kept_duration, duration_found, after_letter, is_accepted};
 ghost use Rattle.dcv_atoms.specs.Numbers.{HasRoom};
 
@@ -11,9 +13,9 @@ use crate::states::AtomMacro;
 use dcv_core::{Basic, Rel};
 
 // The state after a letter.
-pub(crate) fn after(basic: &Basic, from: AtomMacro, holds: bool) -> AtomMacro
+pub(crate) fn after(basic: &Basic, from: AtomMacro, holds: bool, shifted: bool) -> AtomMacro
     requires { HasRoom (plain_basic basic.now) }
-    ensures { result ≡ after_letter (plain_basic basic.now) from holds }
+    ensures { result ≡ after_letter (plain_basic basic.now) from holds shifted }
 {
     match basic {
         Basic::Constant(_) => AtomMacro::Start,
@@ -24,6 +26,8 @@ pub(crate) fn after(basic: &Basic, from: AtomMacro, holds: bool) -> AtomMacro
         Basic::Slen(_, number) => slen(from, *number),
         Basic::Scount(_, _, number) => scount(from, holds, *number),
         Basic::Sdur(_, _, number) => sdur(from, holds, *number),
+        Basic::Back(_, _) => back(from, holds, shifted),
+        Basic::Fore(_, _) => fore(from, holds, shifted),
     }
 }
 
@@ -67,6 +71,45 @@ fn unit(from: AtomMacro, holds: bool) -> AtomMacro
         AtomMacro::Start if holds => AtomMacro::First,
         AtomMacro::First => AtomMacro::Good,
         _ => AtomMacro::Bad,
+    }
+}
+
+// The slot says what the proposition was one instant before.
+fn back(from: AtomMacro, holds: bool, shifted: bool) -> AtomMacro
+    ensures { result ≡ kept_back (back_next (λ letter. holds) (λ letter. shifted) (back_found from) []) }
+{
+    let was = match from {
+        AtomMacro::Start | AtomMacro::Good => false,
+        AtomMacro::First => true,
+        _ => return AtomMacro::Bad,
+    };
+    if shifted != was {
+        return AtomMacro::Bad;
+    }
+    if holds {
+        AtomMacro::First
+    } else {
+        AtomMacro::Good
+    }
+}
+
+// The slot says what the proposition is one instant later.
+fn fore(from: AtomMacro, holds: bool, shifted: bool) -> AtomMacro
+    ensures { result ≡ kept_fore (fore_next (λ letter. holds) (λ letter. shifted) (fore_found from) []) }
+{
+    let kept = match from {
+        AtomMacro::Start => true,
+        AtomMacro::First => holds,
+        AtomMacro::Good => !holds,
+        _ => false,
+    };
+    if !kept {
+        return AtomMacro::Bad;
+    }
+    if shifted {
+        AtomMacro::First
+    } else {
+        AtomMacro::Good
     }
 }
 
@@ -130,6 +173,8 @@ pub(crate) fn accepts(basic: &Basic, state: AtomMacro) -> bool
     match basic {
         Basic::Constant(truth) => *truth,
         Basic::Point(_) | Basic::Every(_) | Basic::Unit(_) => state == AtomMacro::Good,
+        Basic::Fore(_, _) => state == AtomMacro::Good,
+        Basic::Back(_, _) => matches!(state, AtomMacro::Good | AtomMacro::First),
         Basic::Run(_) => matches!(state, AtomMacro::Good | AtomMacro::Last),
         Basic::Slen(relation, number) | Basic::Scount(_, relation, number) => match state {
             AtomMacro::Count(count) => meets(*relation, count, *number),

@@ -7,7 +7,8 @@ ghost use Rattle.dcv_atoms.specs.Leaves.{number_of, count_of, state_told};
 pub enum AtomMacro {
     /// Nothing was read. A constant remembers nothing more either.
     Start,
-    /// One letter was read, with the proposition, and the word may not end here.
+    /// One letter was read, with the proposition, and the word may not end here. Of a shift, the letter before was one with the proposition
+    /// (back), or the proposition is owed to the next (fore).
     First,
     /// The word may end here.
     Good,

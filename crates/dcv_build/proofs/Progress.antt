@@ -10,7 +10,7 @@ use Rattle.dcv_language.specs.Canonical.{IsCanonical}
 use Rattle.dcv_language.specs.Language.{HaveSameBehaviours}
 use Rattle.dcv_language.specs.Table.{Table}
 use Rattle.dcv_language.proofs.Canonicals.{canonical_for_same_behaviours}
-use Rattle.dcv_core.specs.Core.{CoreTree, PlainBasic, BasicConstant, BasicPoint, BasicRun, BasicEvery, BasicUnit, BasicSlen, BasicScount, BasicSdur}
+use Rattle.dcv_core.specs.Core.{CoreTree, PlainBasic, BasicConstant, BasicPoint, BasicRun, BasicEvery, BasicUnit, BasicSlen, BasicScount, BasicSdur, BasicBack, BasicFore}
 use Rattle.dcv_core.specs.Holds.{words_of}
 use Rattle.dcv_core.specs.Steps.{PlainOp, OpAtom, OpNot, OpAnd, OpOr, OpIff, OpChop, OpStar, OpExists, PlainStep, steps_before, steps_of}
 use Rattle.dcv_core.proofs.StepList.{steps_are_operations, some_same}
@@ -90,6 +90,8 @@ row_slots (OpAtom basic) slots tables = own_slots basic
     own_slots (BasicSlen relation m) = refl
     own_slots (BasicScount p relation m) = refl
     own_slots (BasicSdur p relation m) = refl
+    own_slots (BasicBack p slot) = refl
+    own_slots (BasicFore p slot) = refl
 row_slots (OpNot d) slots tables = refl
 row_slots (OpAnd c d) slots tables = refl
 row_slots (OpOr c d) slots tables = refl

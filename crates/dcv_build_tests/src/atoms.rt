@@ -10,10 +10,10 @@ use std::test::Fail;
 
 // How many nodes the parts of the proposition have, how many states the machine has, and how many nodes their rows.
 #[derive(Clone, Copy, Debug, PartialEq, Eq)]
-struct Counts {
-    parts: u32,
-    states: u32,
-    rows: u32,
+pub(crate) struct Counts {
+    pub(crate) parts: u32,
+    pub(crate) states: u32,
+    pub(crate) rows: u32,
 }
 
 // The machine of a core's first step, where that is an atom.
@@ -33,7 +33,12 @@ pub(crate) fn atom_of<'a>(
 }
 
 // Its automaton.
-fn explored(alloc: Global, atom: &Atom, states: u32, nodes: u32) -> Result<Raw, ExploreFault> {
+pub(crate) fn explored(
+    alloc: Global,
+    atom: &Atom,
+    states: u32,
+    nodes: u32,
+) -> Result<Raw, ExploreFault> {
     explore(alloc, atom, Limits { states, nodes })
 }
 

@@ -19,4 +19,6 @@ mod meanings;
 #[cfg(test)]
 mod memos;
 #[cfg(test)]
+mod shifts;
+#[cfg(test)]
 mod verdicts;

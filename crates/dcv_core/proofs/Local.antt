@@ -10,7 +10,7 @@ use Rattle.dcv_logic.specs.Track.{Track, truth_at, track_of}
 use Rattle.dcv_logic.specs.Search.{each_between, count_from}
 use Rattle.dcv_logic.specs.Satisfaction.{compares, star}
 use Rattle.dcv_logic.proofs.InWords.{some_track-found, track-length, track-values}
-use Rattle.dcv_core.specs.Core.{PlainTruth, PlainBasic, BasicConstant, BasicPoint, BasicRun, BasicEvery, BasicUnit, BasicSlen, BasicScount, BasicSdur, CoreTree, CoreAtom, CoreNot, CoreAnd, CoreOr, CoreIff, CoreChop, CoreStar, CoreExists}
+use Rattle.dcv_core.specs.Core.{PlainTruth, TruthSlot, PlainBasic, BasicConstant, BasicPoint, BasicRun, BasicEvery, BasicUnit, BasicSlen, BasicScount, BasicSdur, BasicBack, BasicFore, CoreTree, CoreAtom, CoreNot, CoreAnd, CoreOr, CoreIff, CoreChop, CoreStar, CoreExists}
 use Rattle.dcv_core.specs.Holds.{letter_at, truth_holds, holds_at, basic_holds, core_holds, part_of}
 use Rattle.dcv_core.specs.Laws.{CoreIsLocal}
 use Rattle.dcv_core.proofs.Tracks.{with_track-length, with_track-letter}
@@ -92,6 +92,24 @@ module _ (u v : Word) (b e x y : ℕ) (s : SamePart u v b e x y) where
       ap (λ c. compares relation c n) (
       count_from-beside (e - b) b x (holds_at p u) (holds_at p v) (λ m m' lo hi beside. here p m m' lo (omega (arith, hi, s.begins)) beside)
       ∙ ap (λ n. count_from x n (holds_at p v)) steps)
+  basic_local (BasicBack p slot) =
+      let first = here (TruthSlot slot) b x (omega arith) s.begins (omega arith) in
+      let later = each_between-beside (b + 1) e (x + 1) y (omega (arith, s.level))
+      (λ m. iff (holds_at (TruthSlot slot) u m) (holds_at p u (m - 1))) (λ m. iff (holds_at (TruthSlot slot) v m) (holds_at p v (m - 1)))
+      (λ m m' lo hi beside.
+      let own = here (TruthSlot slot) m m' (omega (arith, lo)) hi (omega (arith, beside)) in
+      let before = here p (m - 1) (m' - 1) (omega (arith, lo)) (omega (arith, hi)) (omega (arith, lo, beside)) in
+      λ i. iff (own i) (before i)) in
+      λ i. not (first i) && later i
+  basic_local (BasicFore p slot) =
+      let last = here (TruthSlot slot) e y s.begins (omega arith) s.level in
+      let earlier = each_between-beside (b + 1) e (x + 1) y (omega (arith, s.level))
+      (λ m. iff (holds_at (TruthSlot slot) u (m - 1)) (holds_at p u m)) (λ m. iff (holds_at (TruthSlot slot) v (m - 1)) (holds_at p v m))
+      (λ m m' lo hi beside.
+      let own = here (TruthSlot slot) (m - 1) (m' - 1) (omega (arith, lo)) (omega (arith, hi)) (omega (arith, lo, beside)) in
+      let next = here p m m' (omega (arith, lo)) hi (omega (arith, beside)) in
+      λ i. iff (own i) (next i)) in
+      λ i. not (last i) && earlier i
 
 -- a track of one word, moved to the other
 abbrev moved : Track → ℕ → ℕ → ℕ → Track

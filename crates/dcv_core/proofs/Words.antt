@@ -6,14 +6,15 @@ use Rattle.std.proofs.lemmas.List.{get_or-take, get_or-drop}
 use Rattle.std.proofs.lemmas.List.Sums.{sum_by-cons}
 use Rattle.std.proofs.lemmas.Bool.Decides.{nat_tests}
 use Rattle.dcv_word.specs.Behaviour.{Word}
-use Rattle.dcv_language.specs.Operations.{some_below, with_track, star_within}
+use Rattle.dcv_language.specs.Operations.{some_below, with_track, star_within, iff}
+use Rattle.dcv_shifts.specs.Shifts.{goes_back, back, fore}
 use Rattle.dcv_language.specs.Atoms.{all_but_last}
 use Rattle.dcv_logic.specs.Search.{some_from, some_between, each_between, count_from, count_between}
 use Rattle.dcv_logic.specs.Satisfaction.{compares, star as star_of}
 use Rattle.dcv_logic.proofs.SearchSteps.{star_enough}
 use Rattle.dcv_language.proofs.Behaviours.{some_track-same}
-use Rattle.dcv_core.specs.Core.{PlainTruth, BasicConstant, BasicPoint, BasicRun, BasicEvery, BasicUnit, BasicSlen, BasicScount, BasicSdur, CoreTree}
-use Rattle.dcv_core.specs.Holds.{letter_at, truth_holds, holds_at, core_holds, words_of}
+use Rattle.dcv_core.specs.Core.{PlainTruth, TruthSlot, BasicConstant, BasicPoint, BasicRun, BasicEvery, BasicUnit, BasicSlen, BasicScount, BasicSdur, BasicBack, BasicFore, CoreTree}
+use Rattle.dcv_core.specs.Holds.{letter_at, truth_holds, holds_at, basic_holds, core_holds, words_of}
 use Rattle.dcv_core.specs.Laws.{WordsOfAtom, WordsOfNot, WordsOfAnd, WordsOfOr, WordsOfIff, WordsOfChop, WordsOfStar, WordsOfExists}
 use Rattle.dcv_core.proofs.Tracks.{with_track-length}
 use Rattle.dcv_core.proofs.Aligned.{star-beside}
@@ -226,6 +227,68 @@ module _ (p : PlainTruth) (letter : List Bool) (letters : Word) where
       ap (λ n. not (some_from 0 n (λ m. not (holds_at p word m)))) count
       ∙ all_follow (truth_holds p) (all_but_last word) 0 (holds_at p word) but_last_follows
 
+-- what is told of each instant behind the first, of it and of the one before
+back_follows : (P T : List Bool → Bool) (before : List Bool) (word : Word) (i : ℕ) (q : ℕ → Bool)
+    → ((m : ℕ) → m < length word → q (i + m) ≡ iff (T (letter_at word m)) (P (letter_at (before ∷ word) m)))
+    → not (some_from i (length word) (λ m. not (q m))) ≡ goes_back P T before word
+back_follows P T before [] i q h = refl
+back_follows P T before (letter ∷ word) i q h =
+    let first : q i ≡ iff (T letter) (P before) = ap q (omega arith) ∙ h 0 (omega arith) in
+    let rest = back_follows P T letter word (i + 1) q (λ m lt. ap q (omega arith) ∙ h (suc m) (omega (arith, lt))) in
+    not_or (q i) (some_from (i + 1) (length word) (λ m. not (q m))) ∙ (λ j. first j && rest j)
+
+and_true : (b : Bool) → (b && true) ≡ b
+and_true true = refl
+and_true false = refl
+
+exchanged : (a b c : Bool) → (a && (b && c)) ≡ (b && (a && c))
+exchanged true b c = refl
+exchanged false true c = refl
+exchanged false false c = refl
+
+fore_follows : (P T : List Bool → Bool) (letter : List Bool) (word : Word) (i : ℕ) (q : ℕ → Bool)
+    → ((m : ℕ) → m < length word → q (i + m) ≡ iff (T (letter_at (letter ∷ word) m)) (P (letter_at word m)))
+    → (not (T (letter_at (letter ∷ word) (length word))) && not (some_from i (length word) (λ m. not (q m)))) ≡ fore P T (letter ∷ word)
+fore_follows P T letter [] i q h = and_true (not (T letter))
+fore_follows P T letter (next ∷ word) i q h =
+    let first : q i ≡ iff (T letter) (P next) = ap q (omega arith) ∙ h 0 (omega arith) in
+    let last = not (T (letter_at (next ∷ word) (length word))) in
+    let left = some_from (i + 1) (length word) (λ m. not (q m)) in
+    let rest = fore_follows P T next word (i + 1) q (λ m lt. ap q (omega arith) ∙ h (suc m) (omega (arith, lt))) in
+    ap (λ t. last && t) (not_or (q i) left)
+    ∙ exchanged last (q i) (not left)
+    ∙ (λ j. first j && rest j)
+
+module _ (p : PlainTruth) (slot : ℕ) (letter : List Bool) (letters : Word) where
+  abbrev whole_word : Word
+  whole_word = letter ∷ letters
+
+  abbrev own : ℕ → Bool
+  own = holds_at (TruthSlot slot) whole_word
+
+  count : length letters + 1 - (0 + 1) ≡ length letters
+  count = omega arith
+
+  back_words : basic_holds (BasicBack p slot) whole_word 0 (length letters) ≡ back (truth_holds p) (truth_holds (TruthSlot slot)) whole_word
+  back_words =
+      let q : ℕ → Bool = λ i. iff (own i) (holds_at p whole_word (i - 1)) in
+      ap (λ n. not (own 0) && not (some_from (0 + 1) n (λ m. not (q m)))) count
+      ∙ ap (λ t. not (own 0) && t) (back_follows (truth_holds p) (truth_holds (TruthSlot slot)) letter letters (0 + 1) q
+      (λ m lt.
+      let at : 0 + 1 + m ≡ suc m = omega arith in
+      let before : suc m - 1 ≡ m = omega arith in
+      ap q at ∙ ap (λ i. iff (own (suc m)) (holds_at p whole_word i)) before))
+
+  fore_words : basic_holds (BasicFore p slot) whole_word 0 (length letters) ≡ fore (truth_holds p) (truth_holds (TruthSlot slot)) whole_word
+  fore_words =
+      let q : ℕ → Bool = λ i. iff (own (i - 1)) (holds_at p whole_word i) in
+      ap (λ n. not (own (length letters)) && not (some_from (0 + 1) n (λ m. not (q m)))) count
+      ∙ fore_follows (truth_holds p) (truth_holds (TruthSlot slot)) letter letters (0 + 1) q
+      (λ m lt.
+      let at : 0 + 1 + m ≡ suc m = omega arith in
+      let before : suc m - 1 ≡ m = omega arith in
+      ap q at ∙ ap (λ i. iff (own i) (holds_at p whole_word (suc m))) before)
+
 pub words_of_atom : WordsOfAtom
 words_of_atom basic span [] some = absurd (omega (arith, some))
 words_of_atom (BasicConstant truth) span (a ∷ word) some = refl
@@ -247,3 +310,5 @@ words_of_atom (BasicUnit p) span (a ∷ b ∷ c ∷ word) some =
 words_of_atom (BasicSlen relation n) span (a ∷ word) some = ap (λ c. compares relation c n) (omega (arith, but_last-length a word))
 words_of_atom (BasicScount p relation n) span (a ∷ word) some = ap (λ c. compares relation c n) (count_words p a word)
 words_of_atom (BasicSdur p relation n) span (a ∷ word) some = ap (λ c. compares relation c n) (but_last_count p a word)
+words_of_atom (BasicBack p slot) span (a ∷ word) some = back_words p slot a word
+words_of_atom (BasicFore p slot) span (a ∷ word) some = fore_words p slot a word

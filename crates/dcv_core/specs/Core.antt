@@ -34,6 +34,10 @@ pub data PlainBasic : Type 0 where
   BasicSlen : (relation : Relation) → (number : ℕ) → PlainBasic
   BasicScount : (truth : PlainTruth) → (relation : Relation) → (number : ℕ) → PlainBasic
   BasicSdur : (truth : PlainTruth) → (relation : Relation) → (number : ℕ) → PlainBasic
+  -- the slot is false at the first instant, and at each later one what P is at the instant before
+  BasicBack : (truth : PlainTruth) → (slot : ℕ) → PlainBasic
+  -- it is false at the last instant, and at each earlier one what P is at the next
+  BasicFore : (truth : PlainTruth) → (slot : ℕ) → PlainBasic
 
 pub data CoreTree : Type 0 where
   CoreAtom : (basic : PlainBasic) → (span : Span) → CoreTree

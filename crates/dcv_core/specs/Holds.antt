@@ -11,7 +11,7 @@ use Rattle.dcv_logic.specs.Satisfaction.{compares, star}
 use Rattle.dcv_word.specs.Behaviour.{Word}
 use Rattle.dcv_language.specs.Language.{Language}
 use Rattle.dcv_core.specs.Core.{PlainTruth, TruthConstant, TruthSlot, TruthNot, TruthAnd, TruthOr, TruthIff, PlainTruths, no_truths, truth_operand}
-use Rattle.dcv_core.specs.Core.{PlainBasic, BasicConstant, BasicPoint, BasicRun, BasicEvery, BasicUnit, BasicSlen, BasicScount, BasicSdur, CoreTree}
+use Rattle.dcv_core.specs.Core.{PlainBasic, BasicConstant, BasicPoint, BasicRun, BasicEvery, BasicUnit, BasicSlen, BasicScount, BasicSdur, BasicBack, BasicFore, CoreTree}
 use Rattle.dcv_core.specs.Core.{CoreAtom, CoreNot, CoreAnd, CoreOr, CoreIff, CoreChop, CoreStar, CoreExists}
 
 -- the letter at an instant
@@ -53,6 +53,10 @@ basic_holds (BasicUnit p) word b e = e == b + 1 && holds_at p word b
 basic_holds (BasicSlen relation n) word b e = compares relation (e - b) n
 basic_holds (BasicScount p relation n) word b e = compares relation (count_between b e (holds_at p word)) n
 basic_holds (BasicSdur p relation n) word b e = compares relation (count_from b (e - b) (holds_at p word)) n
+basic_holds (BasicBack p slot) word b e =
+    not (holds_at (TruthSlot slot) word b) && each_between (b + 1) e (λ i. iff (holds_at (TruthSlot slot) word i) (holds_at p word (i - 1)))
+basic_holds (BasicFore p slot) word b e =
+    not (holds_at (TruthSlot slot) word e) && each_between (b + 1) e (λ i. iff (holds_at (TruthSlot slot) word (i - 1)) (holds_at p word i))
 
 abbrev pub core_holds : CoreTree → Word → ℕ → ℕ → Bool
 core_holds (CoreAtom basic span) word b e = basic_holds basic word b e

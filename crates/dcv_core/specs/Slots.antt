@@ -2,7 +2,8 @@
 --     IsBelow k p        each slot in the proposition is one of the first k
 --     OpIsBelow k op     so is each slot in the operator's proposition, where it has one
 use Rattle.std.specs.Prelude.{ℕ, ◌<◌}
-use Rattle.dcv_core.specs.Core.{PlainTruth, TruthConstant, TruthSlot, TruthNot, TruthAnd, TruthOr, TruthIff, PlainTruths, no_truths, truth_operand, PlainBasic, BasicConstant, BasicPoint, BasicRun, BasicEvery, BasicUnit, BasicSlen, BasicScount, BasicSdur}
+use Rattle.dcv_core.specs.Core.{PlainTruth, TruthConstant, TruthSlot, TruthNot, TruthAnd, TruthOr, TruthIff, PlainTruths, no_truths, truth_operand, PlainBasic, BasicConstant, BasicPoint, BasicRun, BasicEvery, BasicUnit}
+use Rattle.dcv_core.specs.Core.{BasicSlen, BasicScount, BasicSdur, BasicBack, BasicFore}
 use Rattle.dcv_core.specs.Steps.{PlainOp, OpAtom, OpNot, OpAnd, OpOr, OpIff, OpChop, OpStar, OpExists}
 
 abbrev mutual
@@ -27,6 +28,8 @@ BasicIsBelow k (BasicUnit p) = IsBelow k p
 BasicIsBelow k (BasicSlen relation n) = Unit {0}
 BasicIsBelow k (BasicScount p relation n) = IsBelow k p
 BasicIsBelow k (BasicSdur p relation n) = IsBelow k p
+BasicIsBelow k (BasicBack p slot) = IsBelow k p × (slot < k)
+BasicIsBelow k (BasicFore p slot) = IsBelow k p × (slot < k)
 
 abbrev pub OpIsBelow : ℕ → PlainOp → Type 0
 OpIsBelow k (OpAtom basic) = BasicIsBelow k basic

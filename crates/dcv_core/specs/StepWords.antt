@@ -9,7 +9,9 @@ use Rattle.dcv_logic.specs.Satisfaction.{compares}
 use Rattle.dcv_language.specs.Language.{Language, outside, HaveSameBehaviours}
 use Rattle.dcv_language.specs.Operations.{intersection, union, agreement, chop, star, projection}
 use Rattle.dcv_language.specs.Atoms.{constant, point, run, every, unit, slen, scount, sdur}
+use Rattle.dcv_shifts.specs.Shifts.{back, fore}
 use Rattle.dcv_core.specs.Core.{PlainBasic, BasicConstant, BasicPoint, BasicRun, BasicEvery, BasicUnit, BasicSlen, BasicScount, BasicSdur}
+use Rattle.dcv_core.specs.Core.{TruthSlot, BasicBack, BasicFore}
 use Rattle.dcv_core.specs.Holds.{truth_holds, words_of}
 use Rattle.dcv_core.specs.Steps.{PlainOp, OpAtom, OpNot, OpAnd, OpOr, OpIff, OpChop, OpStar, OpExists, PlainStep, steps_before}
 
@@ -22,6 +24,8 @@ basic_words (BasicUnit p) = unit (truth_holds p)
 basic_words (BasicSlen relation n) = slen (λ steps. compares relation steps n)
 basic_words (BasicScount p relation n) = scount (truth_holds p) (λ count. compares relation count n)
 basic_words (BasicSdur p relation n) = sdur (truth_holds p) (λ count. compares relation count n)
+basic_words (BasicBack p slot) = back (truth_holds p) (truth_holds (TruthSlot slot))
+basic_words (BasicFore p slot) = fore (truth_holds p) (truth_holds (TruthSlot slot))
 
 -- step n has this operand, which is over so many slots, and its words are the operation on the operand's
 pub record TakesOne (steps : List PlainStep) (n : ℕ) (step : PlainStep) (operand slots : ℕ) (operation : Language → Language) : Type 0 where

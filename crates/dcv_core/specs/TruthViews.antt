@@ -3,9 +3,9 @@ use Rattle.std.specs.Prelude.{List, [], ◌∷◌}
 use Rattle.dcv_core.specs.declared.truths.Truth.{Truth, Constant, Slot, Not', And', Or', Iff'}
 use Rattle.dcv_core.specs.declared.truths.Truth.TheBlock.{Row_of-Truth, end_of-Truth, more_of-Truth}
 use Rattle.dcv_core.specs.declared.truths.Basic.{Basic}
-use Rattle.dcv_core.specs.declared.truths.Basic.TheVariants.{Constant as ConstantForm, Point, Run, Every, Unit as TwoInstants, Slen, Scount, Sdur}
+use Rattle.dcv_core.specs.declared.truths.Basic.TheVariants.{Constant as ConstantForm, Point, Run, Every, Unit as TwoInstants, Slen, Scount, Sdur, Back, Fore}
 use Rattle.dcv_core.specs.Core.{PlainTruth, TruthConstant, TruthSlot, TruthNot, TruthAnd, TruthOr, TruthIff, PlainTruths, no_truths, truth_operand}
-use Rattle.dcv_core.specs.Core.{PlainBasic, BasicConstant, BasicPoint, BasicRun, BasicEvery, BasicUnit, BasicSlen, BasicScount, BasicSdur}
+use Rattle.dcv_core.specs.Core.{PlainBasic, BasicConstant, BasicPoint, BasicRun, BasicEvery, BasicUnit, BasicSlen, BasicScount, BasicSdur, BasicBack, BasicFore}
 
 abbrev mutual
   pub plain_truth : Truth → PlainTruth
@@ -34,3 +34,5 @@ plain_basic (TwoInstants p) = BasicUnit (plain_truth p)
 plain_basic (Slen relation number) = BasicSlen relation number
 plain_basic (Scount p relation number) = BasicScount (plain_truth p) relation number
 plain_basic (Sdur p relation number) = BasicSdur (plain_truth p) relation number
+plain_basic (Back p slot) = BasicBack (plain_truth p) slot
+plain_basic (Fore p slot) = BasicFore (plain_truth p) slot

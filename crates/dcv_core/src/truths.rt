@@ -36,6 +36,10 @@ pub enum Basic {
     Scount(Truth, Rel, u32),
     /// The number of instants but the last that have the proposition.
     Sdur(Truth, Rel, u32),
+    /// The slot is false at the first instant, and at each later one what the proposition is at the instant before.
+    Back(Truth, u8),
+    /// The slot is false at the last instant, and at each earlier one what the proposition is at the next.
+    Fore(Truth, u8),
 }
 
 impl Truth {

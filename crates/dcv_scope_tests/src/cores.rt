@@ -50,12 +50,19 @@ fn basic(text: &mut String, shown: &Basic) -> Result<(), AllocError> {
             form(text, "sdur ", prop)?;
             measure(text, "", *relation, *number)
         }
+        Basic::Back(prop, slot) => shift(text, "back ", prop, *slot),
+        Basic::Fore(prop, slot) => shift(text, "fore ", prop, *slot),
     }
 }
 
 fn form(text: &mut String, word: &str, prop: &Truth) -> Result<(), AllocError> {
     text.push_str(word)?;
     truth(text, prop)
+}
+
+fn shift(text: &mut String, word: &str, prop: &Truth, slot: u8) -> Result<(), AllocError> {
+    form(text, word, prop)?;
+    write!(text, " in {slot}")
 }
 
 fn measure(text: &mut String, word: &str, relation: Rel, number: u32) -> Result<(), AllocError> {

@@ -15,6 +15,8 @@ returns c =
       slen = measures.slen;
       scount = measures.scount;
       sdur = measures.sdur;
+      back = c.shifts_accept.ensures.back;
+      fore = c.shifts_accept.ensures.fore;
     }) (record {
       equal = settle.equal;
       less = settle.less;

@@ -1,5 +1,5 @@
 -- State by state.
-use Rattle.dcv_atoms.proofs.FoundAgain.{constant_again, point_again, run_again, every_again, unit_again, count_again, duration_again}
+use Rattle.dcv_atoms.proofs.FoundAgain.{constant_again, point_again, run_again, every_again, unit_again, count_again, duration_again, back_again, fore_again}
 use Rattle.dcv_atoms.proofs.laws.states_are_found_again.Goals as goal
 
 pub returns-clause-constant : goal.returns-clause-constant
@@ -22,3 +22,9 @@ returns-clause-count c = count_again
 
 pub returns-clause-duration : goal.returns-clause-duration
 returns-clause-duration c = duration_again
+
+pub returns-clause-back : goal.returns-clause-back
+returns-clause-back c = back_again
+
+pub returns-clause-fore : goal.returns-clause-fore
+returns-clause-fore c = fore_again
