@@ -1,5 +1,5 @@
 -- The definitions on worked units, by computing.
-use Rattle.std.proofs.Common.{◌≡◌, ℕ, ◌+◌, true, false, List, [], ◌∷◌, ◌++◌, refl, codes}
+use Rattle.std.proofs.Common.{◌≡◌, ℕ, ◌+◌, true, false, List, [], ◌∷◌, ◌++◌, None, refl, codes}
 use Rattle.std.specs.Fmt.{digits}
 use Rattle.dcv_lexer.specs.Cuts.{Token}
 use Rattle.dcv_automaton_text.specs.File.{AutomatonFile, ToState, ToNode, StartAccess, EmptySuffix}
@@ -22,6 +22,7 @@ nothing_file =
       state_lines = record { number = 0; accepting = false; row = ToState 0 } ∷ [];
       access_lines = record { number = 0; access = StartAccess [] } ∷ [];
       suffix_lines = record { number = 0; suffix = EmptySuffix } ∷ [];
+      steps = None;
     }
 
 nothing_text : text_of (observer_of nothing_file)
@@ -40,6 +41,7 @@ throughout_file =
       state_lines = record { number = 0; accepting = true; row = ToNode 0 } ∷ record { number = 1; accepting = false; row = ToState 1 } ∷ [];
       access_lines = record { number = 0; access = StartAccess (true ∷ []) } ∷ record { number = 1; access = StartAccess (false ∷ []) } ∷ [];
       suffix_lines = record { number = 0; suffix = EmptySuffix } ∷ [];
+      steps = None;
     }
 
 throughout_text : text_of (observer_of throughout_file)
@@ -70,6 +72,7 @@ two_text : text_of (observer_of (record {
       ∷ record { number = 2; accepting = true; row = ToNode 0 } ∷ [];
   access_lines = [];
   suffix_lines = [];
+  steps = None;
 }))
     ≡ codes "static int st;\n\nvoid observer_reset(void)\n{\n  st = 0;\n}\n\nint observer_step(int v_p, int v_q)\n{\n  int nx;\n  int n0;\n  int n1;\n\n"
     ++ codes "  nx = 0;\n  n0 = v_q ? 1 : 2;\n  n1 = v_p ? n0 : 0;\n  if (st == 0) nx = n1;\n  if (st == 1) nx = 1;\n  if (st == 2) nx = n0;\n  st = nx;\n"

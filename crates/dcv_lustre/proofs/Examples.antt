@@ -1,5 +1,5 @@
 -- The definitions on worked nodes, by computing.
-use Rattle.std.proofs.Common.{◌≡◌, ℕ, true, false, List, [], ◌∷◌, ◌++◌, refl, codes}
+use Rattle.std.proofs.Common.{◌≡◌, ℕ, true, false, List, [], ◌∷◌, ◌++◌, None, refl, codes}
 use Rattle.std.specs.Fmt.{digits}
 use Rattle.dcv_lexer.specs.Cuts.{Token}
 use Rattle.dcv_tokens.specs.Tokens.{reserved_words}
@@ -23,6 +23,7 @@ every_file =
       state_lines = record { number = 0; accepting = true; row = ToState 0 } ∷ [];
       access_lines = record { number = 0; access = StartAccess [] } ∷ [];
       suffix_lines = [];
+      steps = None;
     }
 
 every_is_good : IsGood every_file
@@ -45,6 +46,7 @@ throughout_file =
       state_lines = record { number = 0; accepting = true; row = ToNode 0 } ∷ record { number = 1; accepting = false; row = ToState 1 } ∷ [];
       access_lines = record { number = 0; access = StartAccess (true ∷ []) } ∷ record { number = 1; access = StartAccess (false ∷ []) } ∷ [];
       suffix_lines = record { number = 0; suffix = EmptySuffix } ∷ [];
+      steps = None;
     }
 
 throughout_is_good : IsGood throughout_file
@@ -67,6 +69,7 @@ never_text : text_of (observer_of (record {
       ∷ record { number = 2; accepting = false; row = ToNode 0 } ∷ [];
   access_lines = [];
   suffix_lines = [];
+  steps = None;
 }))
     ≡ codes "node observer(v_p: bool; v_q: bool) returns (ok: bool);\nvar\n  st: int;\n  nx: int;\n  n0: int;\n  n1: int;\n"
     ++ codes "let\n  st = 0 -> pre nx;\n  n0 = if v_q then 1 else 2;\n  n1 = if v_p then n0 else 0;\n"
