@@ -19,8 +19,8 @@ use Rattle.dcv_automaton_text.specs.Spelled.{name_words, node_words, state_words
 use Rattle.dcv_automaton_text.specs.Rules.{most_steps, most_start, keeps_steps, keeps_step, has_all_steps}
 use Rattle.dcv_automaton_text.specs.Rules.{AreNames, most_names, most_states, most_nodes, is_listed, keeps_name, keeps_names, keeps_node, keeps_state, keeps_access, keeps_suffix, has_all_access, judged, judged_words}
 use Rattle.dcv_automaton_text.proofs.Kept.{AreKept, AllKeep, none_kept, both_true, kept_words, in_turn, kind_kept, none_broken}
-use Rattle.dcv_automaton_read.specs.File.{step_line}
-use Rattle.dcv_print.specs.Counts.{step_part_of, ArePrintableCounts}
+use Rattle.dcv_automaton_read.specs.File.{step_line, step_part}
+use Rattle.dcv_print.specs.Counts.{ArePrintableCounts}
 use Rattle.dcv_print.specs.Printed.{node_line, state_line, access_line, suffix_line, printed_file, file_of}
 use Rattle.dcv_print.specs.Laws.{PrintedIsGood}
 use Rattle.dcv_print.proofs.PrintedNodes.{same_number, node_kept, state_kept}
@@ -76,20 +76,20 @@ numbered_kept words kept line xs none each =
 -- ---- steps
 
 steps_kept : (file : AutomatonFile) (counts : List Count) → has_all_access file ≡ true → ArePrintableCounts counts
-    → AllKeep (zip (steps_words (step_part_of counts)) (keeps_steps file (step_part_of counts)))
+    → AllKeep (zip (steps_words (step_part counts)) (keeps_steps file (step_part counts)))
 steps_kept file counts access small =
-    kept_words (steps_words (step_part_of counts)) (keeps_steps file (step_part_of counts)) (access, (le-leb (length counts) most_steps small.few, tt))
+    kept_words (steps_words (step_part counts)) (keeps_steps file (step_part counts)) (access, (le-leb (length counts) most_steps small.few, tt))
 
-steps_in_turn : (counts : List Count) → ArePrintableCounts counts → AllKeep (judged step_words (keeps_step (step_part_of counts)) (step_part_of counts).lines)
+steps_in_turn : (counts : List Count) → ArePrintableCounts counts → AllKeep (judged step_words (keeps_step (step_part counts)) (step_part counts).lines)
 steps_in_turn counts small =
     let none : Count = record { at = 0; states = 0; nodes = 0 } in
-    numbered_kept step_words (keeps_step (step_part_of counts)) step_line counts none (λ k within.
+    numbered_kept step_words (keeps_step (step_part counts)) step_line counts none (λ k within.
     let count = get_or counts k none in
     let is = small.each k none within in
     let states = both_true (nat_lt 0 count.states) (nat_le count.states most_states) (lt-ltb 0 count.states is.some_states) (le-leb count.states most_states is.few_states) in
     (lt-ltb k (length counts) within, (same_number k, (refl, (le-leb count.at most_start is.at, (refl, (states, (refl, (le-leb count.nodes most_nodes is.few_nodes, tt)))))))))
 
-all_steps : (counts : List Count) → has_all_steps (Some (step_part_of counts)) ≡ true
+all_steps : (counts : List Count) → has_all_steps (Some (step_part counts)) ≡ true
 all_steps counts =
     let numbered = enumerate_from 0 counts in
     le-leb (length counts) (length (map step_line numbered)) (omega (arith, length-map numbered step_line, length-enumerate_from 0 counts))

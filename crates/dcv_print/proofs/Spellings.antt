@@ -11,10 +11,9 @@ use Rattle.dcv_dfa.specs.Raw.{RawValue}
 use Rattle.dcv_dfa.specs.NodeLines.{node_lines_of}
 use Rattle.dcv_language.specs.declared.certificate.Access.{Access as CodeAccess}
 use Rattle.dcv_language.specs.declared.certificate.Suffix.{Suffix as CodeSuffix}
-use Rattle.dcv_automaton_text.specs.Spelled.{name_words, node_words, state_words, access_words, suffix_words, step_words, steps_words, step_part, head_lines, end_lines, lines_of, spelled_line, spelled}
+use Rattle.dcv_automaton_text.specs.Spelled.{name_words, node_words, state_words, access_words, suffix_words, step_words, steps_words, step_part as part_lines, head_lines, end_lines, lines_of, spelled_line, spelled}
 use Rattle.dcv_syntax.specs.declared.names.Name.{Name}
-use Rattle.dcv_automaton_read.specs.File.{step_line}
-use Rattle.dcv_print.specs.Counts.{step_part_of}
+use Rattle.dcv_automaton_read.specs.File.{step_line, step_part}
 use Rattle.dcv_print.specs.Printed.{texts_of, node_line, state_line, access_line, suffix_line, printed_file, file_of}
 use Rattle.dcv_print.specs.Pushed.{spaced, spelled_lines}
 
@@ -109,7 +108,7 @@ module _ (raw : RawValue) (names : List (List ℕ)) (access : List CodeAccess) (
   suffixes_text = spelled_lines (λ numbered. suffix_words (suffix_line numbered)) suffixes
 
   abbrev pub steps_text : List ℕ
-  steps_text = spelled_line (steps_words (step_part_of counts)) ++ spelled_lines (λ numbered. step_words (step_line numbered)) counts
+  steps_text = spelled_line (steps_words (step_part counts)) ++ spelled_lines (λ numbered. step_words (step_line numbered)) counts
 
   in_parts : spelled (printed_file raw names access suffixes counts) ≡ head_text ++ (nodes_text ++ (states_text ++ (access_text ++ (suffixes_text ++ (steps_text ++ codes "end\n")))))
   unfolding spelled lines_of file_of
@@ -119,8 +118,8 @@ module _ (raw : RawValue) (names : List (List ℕ)) (access : List CodeAccess) (
       let states = map state_words file.state_lines in
       let words = map access_words file.access_lines in
       let ends = map suffix_words file.suffix_lines in
-      let steps = step_part file.steps in
-      let part : flat_map spelled_line steps ≡ steps_text = ap (λ lines. spelled_line (steps_words (step_part_of counts)) ++ lines) (of_kind step_words step_line counts) in
+      let steps = part_lines file.steps in
+      let part : flat_map spelled_line steps ≡ steps_text = ap (λ lines. spelled_line (steps_words (step_part counts)) ++ lines) (of_kind step_words step_line counts) in
       let last = flat_map-append spelled_line steps end_lines ∙ ap (λ text. text ++ codes "end\n") part in
       let fifth = flat_map-append spelled_line ends (steps ++ end_lines) ∙ (λ i. of_kind suffix_words suffix_line suffixes i ++ last i) in
       let fourth = flat_map-append spelled_line words (ends ++ (steps ++ end_lines)) ∙ (λ i. of_kind access_words access_line access i ++ fifth i) in

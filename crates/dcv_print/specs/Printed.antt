@@ -9,9 +9,8 @@ use Rattle.dcv_language.specs.declared.certificate.Access.{Access as CodeAccess}
 use Rattle.dcv_language.specs.declared.certificate.Suffix.{Suffix as CodeSuffix}
 pub use Rattle.dcv_automaton_file.specs.File.{texts_of, target_of, node_line, state_line}
 unfoldable pub use Rattle.dcv_automaton_file.specs.File.{file_of}
-use Rattle.dcv_automaton_read.specs.File.{access_from, suffix_from}
+use Rattle.dcv_automaton_read.specs.File.{access_from, suffix_from, step_part}
 use Rattle.dcv_automaton_text.specs.File.{AccessLine, SuffixLine, AutomatonFile}
-use Rattle.dcv_print.specs.Counts.{step_part_of}
 
 -- ---- lines, of what has a number
 
@@ -26,4 +25,4 @@ suffix_line numbered = record { number = numbered.0; suffix = suffix_from number
 abbrev pub printed_file : RawValue → List (List ℕ) → List CodeAccess → List CodeSuffix → List Count → AutomatonFile
 printed_file raw names access suffixes counts =
     record (file_of raw names (map access_line (enumerate_from 0 access)) (map suffix_line (enumerate_from 0 suffixes)))
-    { steps = Some (step_part_of counts) }
+    { steps = Some (step_part counts) }

@@ -9,9 +9,9 @@ ghost use Rattle.dcv_automaton_text.specs.Rules.{AreNames, most_states, most_nod
 ghost use Rattle.dcv_automaton_text.specs.Spelled.{answer_word, target_word, name_words, node_words, state_words, how_access};
 ghost use Rattle.dcv_automaton_text.specs.Spelled.{how_suffix, step_words, steps_words, spelled_line, spelled};
 ghost use Rattle.dcv_print.specs.Printed.{texts_of, target_of, node_line, state_line, printed_file};
-ghost use Rattle.dcv_automaton_read.specs.File.{access_from, suffix_from, step_line};
+ghost use Rattle.dcv_automaton_read.specs.File.{access_from, suffix_from, step_line, step_part};
 ghost use Rattle.dcv_certificate.specs.Proof.{IsProof};
-ghost use Rattle.dcv_print.specs.Counts.{ArePrintableCounts, step_part_of};
+ghost use Rattle.dcv_print.specs.Counts.{ArePrintableCounts};
 ghost use Rattle.dcv_print.specs.Listed.{IsLined, listed_file};
 ghost use Rattle.dcv_print.specs.Pushed.{spaced, spelled_lines};
 
@@ -335,7 +335,7 @@ fn put_entry<T: Target, E: Entry>(target: &mut T, number: usize, entry: E)
 // How many steps there are, and a line for each.
 fn put_steps<T: Target>(target: &mut T, counts: &[Count])
     ensures { Puts (T.standing target.old) (T.standing target.new)
-        (spelled_line (steps_words (step_part_of counts.now)) ++ spelled_lines (λ numbered. step_words (step_line numbered)) counts.now) }
+        (spelled_line (steps_words (step_part counts.now)) ++ spelled_lines (λ numbered. step_words (step_line numbered)) counts.now) }
 {
     put_heading(target, b"steps", counts.len());
     for (number, count) in counts.iter().enumerate() {
