@@ -6,10 +6,14 @@ pub mod WordSets
 pub mod Opening
 -- and lines without their first word
 pub mod LineSets
+-- the lines of steps
+pub mod StepSets
 -- lines of each kind, and what may follow them
 pub mod KindSets
 -- lines are gathered
 pub mod Gathering
+-- steps are read one after another
+pub mod StepLines
 -- the names of the line of variables
 pub mod NameSets
 -- and the whole text

@@ -13,6 +13,7 @@ use Rattle.dcv_automaton_text.proofs.Words.{digits_are}
 use Rattle.dcv_automaton_lines.specs.Pieces.{Exactly, Nothing, Followed, Either, IsStuckIn}
 use Rattle.dcv_automaton_lines.specs.Parts.{NumberWord, NodeWord, TargetWord, AnswerWord, NameWord, LetterWord}
 use Rattle.dcv_automaton_lines.specs.Parts.{NodeLo, NodeColon, NodeHi, NodeMark, NodeName, NodeBody, StateRow, StateAnswer, StateBody, LastLetter, EmptyHow, StartHow, AfterHow, AccessHow, AccessBody, LastNumber, ThenHow, SuffixHow, SuffixBody}
+use Rattle.dcv_automaton_lines.specs.Parts.{StepNodes, StepStatesNumber, StepStates, StepPlace, StepAt, StepBody, EndLine, WholeStep}
 use Rattle.dcv_automaton_lines.specs.Stops.{is_binary}
 use Rattle.dcv_automaton_lines.proofs.Pieces.{both, HasNoLonger, no_longer_followed, no_longer_nothing, no_longer_either, stuck_within, IsAway}
 use Rattle.dcv_automaton_lines.proofs.Opening.{Opens, opens_followed, opens_either, opens_exactly, away_by, apart_by, not_both_tests}
@@ -94,6 +95,24 @@ some_how_suffix = record { text = some_empty.text; is = record { which = inl som
 pub some_suffix_body : Some SuffixBody
 some_suffix_body = some_followed 32 (decimal 0) number_is some_how_suffix
 
+pub some_step_nodes : Some StepNodes
+some_step_nodes = some_followed 32 (codes "nodes") (record { is = refl }) some_last_number
+
+pub some_step_states_number : Some StepStatesNumber
+some_step_states_number = some_followed 32 (decimal 0) number_is some_step_nodes
+
+pub some_step_states : Some StepStates
+some_step_states = some_followed 32 (codes "states") (record { is = refl }) some_step_states_number
+
+pub some_step_place : Some StepPlace
+some_step_place = some_followed 32 (decimal 0) number_is some_step_states
+
+pub some_step_at : Some StepAt
+some_step_at = some_followed 32 (codes "at") (record { is = refl }) some_step_place
+
+pub some_step_body : Some StepBody
+some_step_body = some_followed 32 (decimal 0) number_is some_step_at
+
 -- ---- first bytes
 
 pub opens_number : Opens NumberWord is_ascii_digit
@@ -172,6 +191,12 @@ no_longer_access = no_longer_followed number_words 32 refl no_longer_how_access
 pub no_longer_suffix : HasNoLonger SuffixBody
 no_longer_suffix = no_longer_followed number_words 32 refl no_longer_how_suffix
 
+pub no_longer_step : HasNoLonger WholeStep
+no_longer_step =
+    no_longer_followed (exact_words (codes "step") refl) 32 refl (no_longer_followed number_words 32 refl (no_longer_followed (exact_words (codes "at") refl) 32 refl
+    (no_longer_followed number_words 32 refl (no_longer_followed (exact_words (codes "states") refl) 32 refl (no_longer_followed number_words 32 refl
+    (no_longer_followed (exact_words (codes "nodes") refl) 32 refl (no_longer_followed number_words 10 refl no_longer_nothing)))))))
+
 -- ---- sets that a first byte excludes
 
 -- a text that begins with one byte, and one that does not begin with another
@@ -197,6 +222,22 @@ away_behind_empty text is = away_by text (opens_either opens_start opens_after) 
 
 pub away_from_after : (text : List ℕ) → (0 < length text) × (slice_index_or text 0 0 ≡ 115) → IsAway AfterHow text
 away_from_after text is = away_by text opens_after (begins 115 is_ascii_digit text refl is)
+
+-- the line of a step, and the last line
+opens_step : Opens WholeStep (nat_eq 115)
+opens_step = opens_followed StepBody 32 (opens_exactly 115 (codes "tep"))
+
+opens_end : Opens EndLine (nat_eq 101)
+opens_end = opens_exactly 101 (codes "nd\n")
+
+pub end_and_step_differ : (one two rest other_rest : List ℕ) → EndLine one → WholeStep two → one ++ rest ≡ two ++ other_rest → ⊥
+end_and_step_differ = apart_by opens_end opens_step (not_both_tests 101 (nat_eq 115) refl)
+
+pub away_from_step : (text : List ℕ) → ((0 < length text) × (slice_index_or text 0 0 ≡ 115) → ⊥) → IsAway WholeStep text
+away_from_step text never = away_by text opens_step (begins_not 115 text never)
+
+pub away_from_end : (text : List ℕ) → (0 < length text) × (slice_index_or text 0 0 ≡ 115) → IsAway EndLine text
+away_from_end text is = away_by text opens_end (begins 115 (nat_eq 101) text refl is)
 
 pub away_from_then : (text : List ℕ) → (0 < length text) × (slice_index_or text 0 0 ≡ 101) → IsAway ThenHow text
 unfolding is_of_letter

@@ -632,10 +632,6 @@ carried P Q text rest (Err stuck) over is = over stuck.left.now is
 
 -- ---- tests of the code
 
-pub some_is : (text : List ℕ) (test : Bool) → test ≡ (length text == 0) → test ≡ false → 0 < length text
-some_is [] test is holds = absurd (let wrong : false ≡ true = sym holds ∙ is in cc)
-some_is (b ∷ text) test is holds = omega arith
-
 pub takes_no_digit : (place number : ℕ) (test : Bool) → (((place ≡ 0) ⊎ ((0 < number) × (number ≤ 999999))) → test ≡ true) → test ≡ false
     → (0 < place) × ((number ≡ 0) ⊎ (999999 < number))
 takes_no_digit zero number test holds fails = absurd (let wrong : true ≡ false = sym (holds (inl refl)) ∙ fails in cc)

@@ -2,24 +2,31 @@
 --     NumberWord, NodeWord, TargetWord, AnswerWord, NameWord, LetterWord    words of each kind
 --     NodeBody, StateBody, AccessBody, SuffixBody    lines without their first word
 --     words_then words rest      the words of a line, each with the byte behind it, and then the rest
---     keyword kind               the first word of a line of this kind
+--     version_at steps           version 2 where there is a step part, else version 1
+--     StepTail                   step lines up to the end
+--     closing_word version       the word that closes the sections: `end`, or the first one of the step part
+--     closing_then version rest  that word with the byte behind it, and then the rest
+--     Closed version             what stands behind the closing word
+--     keyword version kind       the first word of a line of this kind, or the closing word
 --     rank kind                  the place of the lines of this kind among the sections
---     LineOf kind                lines of this kind
---     Keyword first              first words with the byte behind them, from the lines of this kind on
---     AnyLine first              a line of this kind or a later one
---     Tail first                 what follows where the next line is of this kind or a later one
---     After kind                 what follows behind a line of this kind
+--     LineOf version kind        lines of this kind, or the closing word with the byte behind it
+--     Keyword version first      first words with the byte behind them, from the lines of this kind on
+--     AnyLine version first      a line of this kind or a later one
+--     Tail version first         what follows where the next line is of this kind or a later one
+--     After version kind         what follows behind a line of this kind
 --     Words                      one name or more, with a space between every two and a line feed behind the last
 --     Whole                      the whole text
-use Rattle.std.specs.Prelude.{◌≡◌, ℕ, ◌≤◌, Bool, List, [], ◌∷◌, ◌++◌, codes}
+use Rattle.std.specs.Prelude.{◌≡◌, ℕ, ◌≤◌, Bool, List, [], ◌∷◌, ◌++◌, Option, None, Some, codes}
 use Rattle.std.specs.Fmt.{decimal}
 use Rattle.dcv_word.specs.TraceLine.{trace_line}
-use Rattle.dcv_automaton_text.specs.File.{Target}
+use Rattle.dcv_automaton_text.specs.File.{Target, StepPart}
 use Rattle.dcv_automaton_text.specs.Form.{IsNumber, IsTarget, IsNameWord}
 use Rattle.dcv_automaton_text.specs.Spelled.{node_word, target_word, answer_word}
 use Rattle.dcv_automaton_lines.specs.Pieces.{Exactly, Nothing, Followed, Either}
 use Rattle.dcv_automaton_lines.specs.declared.sections.Kind.{Kind}
-use Rattle.dcv_automaton_lines.specs.declared.sections.Kind.TheVariants.{Node, State, Access, Suffix, End}
+use Rattle.dcv_automaton_lines.specs.declared.sections.Kind.TheVariants.{Node, State, Access, Suffix, Closing}
+use Rattle.dcv_automaton_lines.specs.declared.version.Version.{Version}
+use Rattle.dcv_automaton_lines.specs.declared.version.Version.TheVariants.{First, Second}
 
 -- ---- words
 
@@ -108,72 +115,128 @@ SuffixHow = Either EmptyHow ThenHow
 abbrev pub SuffixBody : List ℕ → Type 0
 SuffixBody = Followed NumberWord 32 SuffixHow
 
+abbrev pub StepNodes : List ℕ → Type 0
+StepNodes = Followed (Exactly (codes "nodes")) 32 LastNumber
+
+abbrev pub StepStatesNumber : List ℕ → Type 0
+StepStatesNumber = Followed NumberWord 32 StepNodes
+
+abbrev pub StepStates : List ℕ → Type 0
+StepStates = Followed (Exactly (codes "states")) 32 StepStatesNumber
+
+abbrev pub StepPlace : List ℕ → Type 0
+StepPlace = Followed NumberWord 32 StepStates
+
+abbrev pub StepAt : List ℕ → Type 0
+StepAt = Followed (Exactly (codes "at")) 32 StepPlace
+
+abbrev pub StepBody : List ℕ → Type 0
+StepBody = Followed NumberWord 32 StepAt
+
 -- words with a space between every two and a line feed behind the last, and then a rest
 abbrev pub words_then : List (List ℕ) → List ℕ → List ℕ
 words_then [] rest = rest
 words_then (word ∷ []) rest = word ++ 10 ∷ rest
 words_then (word ∷ next ∷ words) rest = word ++ 32 ∷ words_then (next ∷ words) rest
 
+-- ---- behind the sections
+
+-- the version that a step part belongs to
+abbrev pub version_at : Option StepPart → Version
+version_at None = First
+version_at (Some part) = Second
+
+abbrev pub EndLine : List ℕ → Type 0
+EndLine = Exactly (codes "end\n")
+
+abbrev pub WholeStep : List ℕ → Type 0
+WholeStep = Followed (Exactly (codes "step")) 32 StepBody
+
+-- a line of a step, and then what may follow it; nothing behind the end
+pub data StepTail : List ℕ → Type 0 where
+  NoStep : (text : List ℕ) → EndLine text → StepTail text
+  NextStep : (text front back : List ℕ) → WholeStep front → StepTail back → text ≡ front ++ back → StepTail text
+
+-- version 1 ends there; in version 2 the number of steps stands there, and then their lines
+abbrev pub Closed : Version → List ℕ → Type 0
+Closed First = Nothing
+Closed Second = Followed NumberWord 10 StepTail
+
+-- the word that closes the sections, and the byte behind it
+abbrev pub closing_word : Version → List ℕ
+closing_word First = codes "end"
+closing_word Second = codes "steps"
+
+abbrev pub closing_end : Version → ℕ
+closing_end First = 10
+closing_end Second = 32
+
+abbrev pub closing_then : Version → List ℕ → List ℕ
+closing_then version rest = closing_word version ++ closing_end version ∷ rest
+
 -- ---- lines
 
-abbrev pub keyword : Kind → List ℕ
-keyword Node = codes "node"
-keyword State = codes "state"
-keyword Access = codes "access"
-keyword Suffix = codes "suffix"
-keyword End = codes "end"
+abbrev pub keyword : Version → Kind → List ℕ
+keyword version Node = codes "node"
+keyword version State = codes "state"
+keyword version Access = codes "access"
+keyword version Suffix = codes "suffix"
+keyword version Closing = closing_word version
 
 -- the byte behind the first word
-abbrev pub behind : Kind → ℕ
-behind Node = 32
-behind State = 32
-behind Access = 32
-behind Suffix = 32
-behind End = 10
+abbrev pub behind : Version → Kind → ℕ
+behind version Node = 32
+behind version State = 32
+behind version Access = 32
+behind version Suffix = 32
+behind version Closing = closing_end version
+
+-- both
+abbrev pub first_word : Version → Kind → List ℕ
+first_word version kind = keyword version kind ++ behind version kind ∷ []
 
 abbrev pub rank : Kind → ℕ
 rank Node = 0
 rank State = 1
 rank Access = 2
 rank Suffix = 3
-rank End = 4
+rank Closing = 4
 
 abbrev pub BodyOf : Kind → List ℕ → Type 0
 BodyOf Node = NodeBody
 BodyOf State = StateBody
 BodyOf Access = AccessBody
 BodyOf Suffix = SuffixBody
-BodyOf End = Nothing
+BodyOf Closing = Nothing
 
-pub record LineOf (kind : Kind) (text : List ℕ) : Type 0 where
+pub record LineOf (version : Version) (kind : Kind) (text : List ℕ) : Type 0 where
   pub body : List ℕ
   pub body_is : BodyOf kind body
-  pub whole : text ≡ keyword kind ++ behind kind ∷ body
+  pub whole : text ≡ keyword version kind ++ behind version kind ∷ body
 
-pub record Keyword (first : Kind) (text : List ℕ) : Type 0 where
+pub record Keyword (version : Version) (first : Kind) (text : List ℕ) : Type 0 where
   pub kind : Kind
   pub later : rank first ≤ rank kind
-  pub whole : text ≡ keyword kind ++ behind kind ∷ []
+  pub whole : text ≡ first_word version kind
 
 -- a line of this kind or a later one
-pub record AnyLine (first : Kind) (text : List ℕ) : Type 0 where
+pub record AnyLine (version : Version) (first : Kind) (text : List ℕ) : Type 0 where
   pub kind : Kind
   pub later : rank first ≤ rank kind
-  pub line_is : LineOf kind text
+  pub line_is : LineOf version kind text
 
--- a line, and then what may follow a line of its kind; nothing behind the end
-pub data Tail : Kind → List ℕ → Type 0 where
-  Last : (first : Kind) (text : List ℕ) → LineOf End text → Tail first text
-  More : (first kind : Kind) (text front back : List ℕ) → rank first ≤ rank kind → rank kind ≤ 3 → LineOf kind front → Tail kind back → text ≡ front ++ back
-      → Tail first text
+-- a line, and then what may follow a line of its kind; behind the word that closes the sections what the version says
+pub data Tail (version : Version) : Kind → List ℕ → Type 0 where
+  Last : (first : Kind) (text front back : List ℕ) → LineOf version Closing front → Closed version back → text ≡ front ++ back → Tail version first text
+  More : (first kind : Kind) (text front back : List ℕ) → rank first ≤ rank kind → rank kind ≤ 3 → LineOf version kind front → Tail version kind back
+      → text ≡ front ++ back → Tail version first text
 
--- nothing behind the end
-abbrev pub After : Kind → List ℕ → Type 0
-After Node = Tail Node
-After State = Tail State
-After Access = Tail Access
-After Suffix = Tail Suffix
-After End = Nothing
+abbrev pub After : Version → Kind → List ℕ → Type 0
+After version Node = Tail version Node
+After version State = Tail version State
+After version Access = Tail version Access
+After version Suffix = Tail version Suffix
+After version Closing = Closed version
 
 -- ---- the head
 
@@ -189,17 +252,23 @@ pub record Named (Q : List ℕ → Type 0) (text : List ℕ) : Type 0 where
   pub back_is : Q back
   pub whole : text ≡ names ++ back
 
-abbrev pub Counted : List ℕ → Type 0
-Counted = Followed NumberWord 10 (Tail Node)
+abbrev pub Counted : Version → List ℕ → Type 0
+Counted version = Followed NumberWord 10 (Tail version Node)
 
-abbrev pub Stated : List ℕ → Type 0
-Stated = Followed (Exactly (codes "states")) 32 Counted
+abbrev pub Stated : Version → List ℕ → Type 0
+Stated version = Followed (Exactly (codes "states")) 32 (Counted version)
 
--- the first two lines up to the names, as they always are
-abbrev pub title : List ℕ
-title = codes "automaton 1\nvariables "
+-- the first two lines up to the names
+abbrev pub title : Version → List ℕ
+title First = codes "automaton 1\nvariables "
+title Second = codes "automaton 2\nvariables "
+
+pub record Title (text : List ℕ) : Type 0 where
+  pub version : Version
+  pub whole : text ≡ title version
 
 pub record Whole (text : List ℕ) : Type 0 where
+  pub version : Version
   pub back : List ℕ
-  pub back_is : Named Stated back
-  pub whole : text ≡ title ++ back
+  pub back_is : Named (Stated version) back
+  pub whole : text ≡ title version ++ back

@@ -3,10 +3,12 @@
 --     file_of lines           the lines as plain data
 --     IsFaultIn text answer   where the answer is a syntax fault, it is that of the text
 use Rattle.std.specs.Prelude.{ℕ, Bool, nat_eq, if◌then◌else◌, List, [], ◌∷◌, map, Result, Err}
+use Rattle.std.specs.Option.{option_map}
 use Rattle.std.specs.Str.{byte}
 use Rattle.dcv_automaton_text.specs.File.{Target as FileTarget, ToState, ToNode, NodeLine as FileNodeLine, StateLine as FileStateLine}
 use Rattle.dcv_automaton_text.specs.File.{Access, EmptyAccess, StartAccess, AfterAccess, AccessLine as FileAccessLine}
-use Rattle.dcv_automaton_text.specs.File.{Suffix, EmptySuffix, ThenSuffix, SuffixLine as FileSuffixLine, AutomatonFile}
+use Rattle.dcv_automaton_text.specs.File.{Suffix, EmptySuffix, ThenSuffix, SuffixLine as FileSuffixLine}
+use Rattle.dcv_automaton_text.specs.File.{StepLine as FileStepLine, StepPart as FileStepPart, AutomatonFile}
 use Rattle.dcv_automaton_text.specs.Form.{IsSyntaxFault}
 use Rattle.dcv_automaton_lines.specs.declared.lines.Target.{Target}
 use Rattle.dcv_automaton_lines.specs.declared.lines.Target.TheVariants.{State, Node}
@@ -18,6 +20,8 @@ use Rattle.dcv_automaton_lines.specs.declared.lines.AccessLine.{AccessLine}
 use Rattle.dcv_automaton_lines.specs.declared.lines.SuffixWord.{SuffixWord}
 use Rattle.dcv_automaton_lines.specs.declared.lines.SuffixWord.TheVariants.{Empty, Then}
 use Rattle.dcv_automaton_lines.specs.declared.lines.SuffixLine.{SuffixLine}
+use Rattle.dcv_automaton_lines.specs.declared.lines.StepLine.{StepLine}
+use Rattle.dcv_automaton_lines.specs.declared.lines.StepPart.{StepPart}
 use Rattle.dcv_automaton_lines.specs.declared.lines.Lines.{Lines}
 use Rattle.dcv_automaton_lines.specs.declared.reading.LinesFault.{LinesFault}
 use Rattle.dcv_automaton_lines.specs.declared.reading.LinesFault.TheVariants.{Syntax}
@@ -53,6 +57,12 @@ suffix_of (Then letter suffix) = ThenSuffix (letter_of letter.now) suffix
 abbrev pub suffix_line_of : SuffixLine → FileSuffixLine
 suffix_line_of line = record { number = line.number; suffix = suffix_of line.suffix }
 
+abbrev pub step_line_of : StepLine → FileStepLine
+step_line_of line = record { number = line.number; at = line.at; states = line.states; nodes = line.nodes }
+
+abbrev pub step_part_of : StepPart → FileStepPart
+step_part_of part = record { count = part.count; lines = map step_line_of part.lines.items }
+
 abbrev pub file_of : Lines → AutomatonFile
 file_of lines =
     record {
@@ -62,6 +72,7 @@ file_of lines =
       state_lines = map state_line_of lines.state_lines.items;
       access_lines = map access_line_of lines.access_lines.items;
       suffix_lines = map suffix_line_of lines.suffix_lines.items;
+      steps = option_map step_part_of lines.steps;
     }
 
 abbrev pub IsFaultIn : List ℕ → Result Lines LinesFault → Type 0

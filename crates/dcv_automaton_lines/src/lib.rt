@@ -1,5 +1,5 @@
-//! The lines of an automaton's text, read as they stand there. The form alone is judged here, with the exact byte at which a text
-//! stops to be the beginning of one; whether the lines stand for an automaton is for the table rules to say.
+//! The lines of an automaton's text, version 1 or 2, read as they stand there. The form alone is judged here, with the exact byte at
+//! which a text stops to be the beginning of one; whether the lines stand for an automaton is for the table rules to say.
 #![tactic(auto)]
 
 mod bodies;
@@ -7,10 +7,13 @@ mod lines;
 mod names;
 mod reading;
 mod sections;
+mod steps;
 mod stop;
+mod version;
 mod words;
 
 pub use lines::{
-    AccessLine, AccessWord, Lines, NodeLine, StateLine, SuffixLine, SuffixWord, Target,
+    AccessLine, AccessWord, Lines, NodeLine, StateLine, StepLine, StepPart, SuffixLine, SuffixWord,
+    Target,
 };
 pub use reading::{LinesFault, lines_of};

@@ -58,6 +58,23 @@ pub struct SuffixLine<'a> {
     pub suffix: SuffixWord<'a>,
 }
 
+/// What a step of the requirement took.
+#[derive(Clone, Copy, Debug)]
+pub struct StepLine {
+    pub number: u32,
+    /// The byte of the source at which the step's span starts.
+    pub at: u32,
+    pub states: u32,
+    pub nodes: u32,
+}
+
+/// How many steps there are, and the line of each, in order.
+#[derive(Debug, Drop)]
+pub struct StepPart {
+    pub count: u32,
+    pub lines: Vec<StepLine>,
+}
+
 /// The variables, the number of states, and the lines of each kind, in order.
 #[derive(Debug, Drop)]
 pub struct Lines<'a> {
@@ -67,4 +84,8 @@ pub struct Lines<'a> {
     pub state_lines: Vec<StateLine>,
     pub access_lines: Vec<AccessLine<'a>>,
     pub suffix_lines: Vec<SuffixLine<'a>>,
+    /// The step part of a text of version 2. Version 1 has none.
+    pub steps: Option<StepPart>,
+    /// The text before the step part, or before the last line where there is none.
+    pub front: &'a [u8],
 }

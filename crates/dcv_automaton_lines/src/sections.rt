@@ -1,9 +1,10 @@
 // The lines behind the head are read one after another: each is of the kind of the line before or of a later one.
-ghost use Rattle.std.specs.Prelude.{◌≡◌, ◌↔◌, IsTrue, map, ◌+◌, ◌≤◌, ◌++◌, ◌∷◌, List, [], length, IfOk, IfSome, IfNone};
+ghost use Rattle.std.specs.Prelude.{◌≡◌, ℕ, ◌↔◌, IsTrue, map, ◌+◌, ◌≤◌, ◌++◌, ◌∷◌, List, [], length, IfOk, IfSome, IfNone};
 ghost use Rattle.std.specs.List.{flat_map};
-ghost use Rattle.dcv_automaton_text.specs.Spelled.{spelled_line, end_lines};
-ghost use Rattle.dcv_automaton_lines.specs.Parts.{rank, behind, keyword as keyword_of, Keyword, AnyLine, Tail, words_then};
-ghost use Rattle.dcv_automaton_lines.specs.Gathered.{line_of, kind_of, words_of, IsLine, added, section_words, HasLines, IsOpen};
+ghost use Rattle.dcv_automaton_text.specs.Spelled.{spelled_line};
+ghost use Rattle.dcv_automaton_lines.specs.Pieces.{IsFaultAt};
+ghost use Rattle.dcv_automaton_lines.specs.Parts.{rank, behind, keyword as keyword_of, closing_then, Closed, Keyword, AnyLine, Tail};
+ghost use Rattle.dcv_automaton_lines.specs.Gathered.{line_of, kind_of, line_then, IsLine, added, section_words, HasLines, IsOpen};
 ghost use Rattle.dcv_automaton_lines.specs.Seen.{file_of};
 ghost use Rattle.dcv_automaton_lines.specs.declared.sections.Kind.TheVariants.{Node};
 ghost use Rattle.dcv_automaton_lines.specs.Stops.{IsStuckAt, IsStopAt};
@@ -11,40 +12,41 @@ ghost use Rattle.dcv_automaton_lines.specs.Stops.{IsStuckAt, IsStopAt};
 use crate::bodies::{access_line, node_line, state_line, suffix_line};
 use crate::lines::{AccessLine, Lines, NodeLine, StateLine, SuffixLine};
 use crate::stop::{Stop, Stuck};
+use crate::version::Version;
 use crate::words::literal;
 use std::alloc::{AllocError, Global};
 
-/// The kinds of lines behind the head, in the order of their sections.
+/// The kinds of lines behind the head, in the order of their sections, and the word that closes them.
 #[derive(Clone, Copy, Debug, PartialEq, Eq)]
 pub enum Kind {
     Node,
     State,
     Access,
     Suffix,
-    End,
+    Closing,
 }
 
-/// A line behind the head.
+/// A line behind the head, or the word that closes the sections.
 #[derive(Clone, Copy, Debug)]
 pub enum Line<'a> {
     Node(NodeLine<'a>),
     State(StateLine),
     Access(AccessLine<'a>),
     Suffix(SuffixLine<'a>),
-    End,
+    Closing,
 }
 
 impl Kind {
     // The first word of a line of this kind, and the byte behind it.
-    fn word(self) -> &'static [u8]
-        ensures { result.now ≡ keyword_of self ++ behind self ∷ [] }
+    fn word(self, version: Version) -> &'static [u8]
+        ensures { result.now ≡ keyword_of version self ++ behind version self ∷ [] }
     {
         match self {
             Kind::Node => b"node ",
             Kind::State => b"state ",
             Kind::Access => b"access ",
             Kind::Suffix => b"suffix ",
-            Kind::End => b"end\n",
+            Kind::Closing => version.closing(),
         }
     }
 
@@ -57,17 +59,17 @@ impl Kind {
             Kind::Node => Some(Kind::State),
             Kind::State => Some(Kind::Access),
             Kind::Access => Some(Kind::Suffix),
-            Kind::Suffix => Some(Kind::End),
-            Kind::End => None,
+            Kind::Suffix => Some(Kind::Closing),
+            Kind::Closing => None,
         }
     }
 
-    // Whether it is the kind of the last line.
-    fn is_end(self) -> bool
+    // Whether it is the word that closes the sections.
+    fn is_closing(self) -> bool
         ensures { IsTrue result ↔ (rank self ≡ 4) }
     {
         match self {
-            Kind::End => true,
+            Kind::Closing => true,
             Kind::Node | Kind::State | Kind::Access | Kind::Suffix => false,
         }
     }
@@ -82,25 +84,25 @@ impl Line<'_> {
             Line::State(_) => Kind::State,
             Line::Access(_) => Kind::Access,
             Line::Suffix(_) => Kind::Suffix,
-            Line::End => Kind::End,
+            Line::Closing => Kind::Closing,
         }
     }
 }
 
 // The kind of the line that begins there, from this kind on, and the text behind its first word.
-fn keyword<'a>(text: &'a [u8], first: Kind) -> Result<(Kind, &'a [u8]), Stuck<'a>>
+fn keyword<'a>(text: &'a [u8], version: Version, first: Kind) -> Result<(Kind, &'a [u8]), Stuck<'a>>
     ensures later { IfOk result (λ read. rank first ≤ rank read.0) }
-    ensures spelled { IfOk result (λ read. text.now ≡ keyword_of read.0 ++ behind read.0 ∷ read.1.now) }
-    ensures fault { IsStuckAt (Keyword first) text.now result }
+    ensures spelled { IfOk result (λ read. text.now ≡ keyword_of version read.0 ++ behind version read.0 ∷ read.1.now) }
+    ensures fault { IsStuckAt (Keyword version first) text.now result }
 {
-    let stuck = match literal(text, first.word()) {
+    let stuck = match literal(text, first.word(version)) {
         Ok(body) => return Ok((first, body)),
         Err(stuck) => stuck,
     };
     let Some(next) = first.next() else {
         return Err(stuck);
     };
-    match keyword(text, next) {
+    match keyword(text, version, next) {
         Ok(read) => Ok(read),
         Err(other) if other.left.len() < stuck.left.len() => Err(other),
         Err(_) => Err(stuck),
@@ -108,13 +110,17 @@ fn keyword<'a>(text: &'a [u8], first: Kind) -> Result<(Kind, &'a [u8]), Stuck<'a
 }
 
 // The line that begins there, of this kind or a later one, and the text behind it.
-fn read_line<'a>(text: &'a [u8], first: Kind) -> Result<(Line<'a>, &'a [u8]), Stuck<'a>>
+fn read_line<'a>(
+    text: &'a [u8],
+    version: Version,
+    first: Kind,
+) -> Result<(Line<'a>, &'a [u8]), Stuck<'a>>
     ensures later { IfOk result (λ read. rank first ≤ rank (kind_of (line_of read.0))) }
     ensures form { IfOk result (λ read. IsLine (line_of read.0)) }
-    ensures spelled { IfOk result (λ read. text.now ≡ words_then (words_of (line_of read.0)) read.1.now) }
-    ensures fault { IsStuckAt (AnyLine first) text.now result }
+    ensures spelled { IfOk result (λ read. text.now ≡ line_then version (line_of read.0) read.1.now) }
+    ensures fault { IsStuckAt (AnyLine version first) text.now result }
 {
-    let (kind, body) = keyword(text, first)?;
+    let (kind, body) = keyword(text, version, first)?;
     match kind {
         Kind::Node => {
             let (node, rest) = node_line(body)?;
@@ -132,7 +138,7 @@ fn read_line<'a>(text: &'a [u8], first: Kind) -> Result<(Line<'a>, &'a [u8]), St
             let (suffix, rest) = suffix_line(body)?;
             Ok((Line::Suffix(suffix), rest))
         }
-        Kind::End => Ok((Line::End, body)),
+        Kind::Closing => Ok((Line::Closing, body)),
     }
 }
 
@@ -145,24 +151,27 @@ impl<'a> Lines<'a> {
             Line::State(state) => self.state_lines.push(state)?,
             Line::Access(access) => self.access_lines.push(access)?,
             Line::Suffix(suffix) => self.suffix_lines.push(suffix)?,
-            Line::End => {}
+            Line::Closing => {}
         }
         Ok(())
     }
 }
 
-/// The lines behind the head, with the names and the number of states that it says.
+/// The lines of the sections, with the names and the number of states, and the text behind the word that closes them. There is
+/// no step part yet, and no text in front.
 pub fn sections<'a>(
     alloc: Global,
+    version: Version,
     names: Vec<&'a [u8]>,
     states: u32,
     text: &'a [u8],
-) -> Result<Lines<'a>, Stop<'a>>
-    ensures names { IfOk result (λ lines. (file_of lines).names ≡ map (λ name. name.now) names.entry.items) }
-    ensures states { IfOk result (λ lines. lines.states ≡ states) }
-    ensures form { IfOk result (λ lines. HasLines (file_of lines)) }
-    ensures spelled { IfOk result (λ lines. text.now ≡ flat_map spelled_line (section_words (file_of lines) ++ end_lines)) }
-    ensures fault { IsStopAt (Tail Node) text.now result }
+) -> Result<(Lines<'a>, &'a [u8]), Stop<'a>>
+    ensures names { IfOk result (λ read. (file_of read.0).names ≡ map (λ name. name.now) names.entry.items) }
+    ensures states { IfOk result (λ read. read.0.states ≡ states) }
+    ensures form { IfOk result (λ read. HasLines (file_of read.0)) }
+    ensures spelled { IfOk result (λ read. text.now ≡ flat_map spelled_line (section_words (file_of read.0)) ++ closing_then version read.1.now) }
+    ensures behind { IfOk result (λ read. (left : List ℕ) → IsFaultAt (Closed version) read.1.now left → IsFaultAt (Tail version Node) text.now left) }
+    ensures fault { IsStopAt (Tail version Node) text.now result }
 {
     let mut lines = Lines {
         names,
@@ -171,17 +180,16 @@ pub fn sections<'a>(
         state_lines: Vec::new(alloc),
         access_lines: Vec::new(alloc),
         suffix_lines: Vec::new(alloc),
+        steps: None,
+        front: b"",
     };
     let mut rest = text;
     let mut first = Kind::Node;
-    while !first.is_end() {
-        let (line, behind) = read_line(rest, first)?;
+    while !first.is_closing() {
+        let (line, behind) = read_line(rest, version, first)?;
         first = line.kind();
         rest = behind;
         lines.add(line)?;
     }
-    if !rest.is_empty() {
-        return Err(Stop::Syntax(Stuck { left: rest }));
-    }
-    Ok(lines)
+    Ok((lines, rest))
 }

@@ -5,7 +5,7 @@ use Rattle.std.specs.Fmt.{decimal}
 use Rattle.std.specs.List.{flat_map, zip}
 use Rattle.std.specs.Result.{IsErrAnd}
 use Rattle.dcv_automaton_text.specs.File.{AutomatonFile}
-use Rattle.dcv_automaton_text.specs.Rules.{most_states, has_all_access, judged_words}
+use Rattle.dcv_automaton_text.specs.Rules.{most_states, has_all_access, has_all_steps, judged_steps, judged_words}
 use Rattle.dcv_automaton_text.specs.Spelled.{end_lines}
 use Rattle.dcv_automaton_read.specs.declared.faults.Stop.{Stop}
 use Rattle.dcv_automaton_read.specs.declared.faults.Stop.TheVariants.{Word}
@@ -34,10 +34,13 @@ head_stops file stop names =
 
 -- the words from those of one part on
 abbrev pub end_part : AutomatonFile → List (List ℕ × Bool)
-end_part file = flat_map (λ line. zip line (has_all_access file ∷ [])) end_lines
+end_part file = flat_map (λ line. zip line ((has_all_access file && has_all_steps file.steps) ∷ [])) end_lines
+
+abbrev pub from_steps : AutomatonFile → List (List ℕ × Bool)
+from_steps file = judged_steps file file.steps ++ end_part file
 
 abbrev pub from_suffixes : AutomatonFile → List (List ℕ × Bool)
-from_suffixes file = judged_suffixes file ++ end_part file
+from_suffixes file = judged_suffixes file ++ from_steps file
 
 abbrev pub from_access : AutomatonFile → List (List ℕ × Bool)
 from_access file = judged_access file ++ from_suffixes file
@@ -58,12 +61,12 @@ module _ {Whole : Type 0} (file : AutomatonFile) (answer : Result Whole Stop) wh
   unfolding judged_words
   in_head stop exits head = whole_stops (judged_head file) (from_nodes file) 0 (length (judged_head file)) stop answer exits head
 
-  pub in_end : (first : ℕ) (kept : Bool) (stop : Stop) → kept ≡ has_all_access file → IsErrAnd answer (λ e. e ≡ stop) → IsJudged (first_false first (kept ∷ [])) (first + 1) (Err stop)
+  pub in_end : (first : ℕ) (kept : Bool) (stop : Stop) → kept ≡ (has_all_access file && has_all_steps file.steps) → IsErrAnd answer (λ e. e ≡ stop) → IsJudged (first_false first (kept ∷ [])) (first + 1) (Err stop)
       → IsJudgedWhole (first_word first (end_part file)) answer
   in_end first kept stop same exits judged =
       whole_stops (end_part file) [] first (first + 1) stop answer exits (subst (λ one. IsJudged (first_false first (one ∷ [])) (first + 1) (Err stop)) same judged)
 
-pub end_kept : (file : AutomatonFile) (first next : ℕ) (kept : Bool) → kept ≡ has_all_access file → IsJudged (first_false first (kept ∷ [])) (first + 1) (Ok next) → first_word first (end_part file) ≡ None
+pub end_kept : (file : AutomatonFile) (first next : ℕ) (kept : Bool) → kept ≡ (has_all_access file && has_all_steps file.steps) → IsJudged (first_false first (kept ∷ [])) (first + 1) (Ok next) → first_word first (end_part file) ≡ None
 end_kept file first next kept same judged = subst (λ one. first_false first (one ∷ []) ≡ None) same judged.0
 
 pub judged_whole : {Whole : Type 0} (found : Option ℕ) (result : Result Whole Stop) (whole : Whole) → result ≡ Ok whole → IsJudgedWhole found result → found ≡ None

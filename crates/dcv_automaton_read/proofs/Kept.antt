@@ -5,10 +5,10 @@ use Rattle.std.specs.Prelude.{nat_lt, nat_le, codes}
 use Rattle.std.specs.Fmt.{decimal}
 use Rattle.std.proofs.lemmas.Bool.{and_parts, leb-true, ltb-true, cases_lt}
 use Rattle.dcv_automaton_text.specs.File.{ToState, StateLine, AutomatonFile}
-use Rattle.dcv_automaton_text.specs.Rules.{keeps_state, has_all_access, most_states, judged_words, first_broken, IsGood}
+use Rattle.dcv_automaton_text.specs.Rules.{keeps_state, has_all_access, has_all_steps, most_states, judged_steps, judged_words, first_broken, IsGood}
 use Rattle.dcv_automaton_text.specs.Spelled.{state_words}
 use Rattle.dcv_automaton_read.specs.Parts.{judged_lines, judged_names, judged_head, judged_nodes, judged_states, judged_access, judged_suffixes}
-use Rattle.dcv_automaton_read.proofs.HeadWords.{end_part, from_suffixes, from_access, from_states, from_nodes}
+use Rattle.dcv_automaton_read.proofs.HeadWords.{end_part, from_steps, from_suffixes, from_access, from_states, from_nodes}
 use Rattle.dcv_automaton_read.proofs.NameWords.{one_word, keeps_word, names_as_lines, kept_are_few}
 
 -- each word keeps the rules
@@ -54,7 +54,9 @@ pub record Parts (file : AutomatonFile) : Type 0 where
   pub states : AreKept (judged_states file)
   pub access : AreKept (judged_access file)
   pub suffixes : AreKept (judged_suffixes file)
+  pub steps : AreKept (judged_steps file file.steps)
   pub all : has_all_access file ≡ true
+  pub all_steps : has_all_steps file.steps ≡ true
 
 pub good_parts : (file : AutomatonFile) → IsGood file → Parts file
 unfolding judged_words
@@ -63,7 +65,9 @@ good_parts file good =
     let nodes = kept_parts (judged_nodes file) (from_states file) whole.1 in
     let states = kept_parts (judged_states file) (from_access file) nodes.1 in
     let access = kept_parts (judged_access file) (from_suffixes file) states.1 in
-    let suffixes = kept_parts (judged_suffixes file) (end_part file) access.1 in
+    let suffixes = kept_parts (judged_suffixes file) (from_steps file) access.1 in
+    let steps = kept_parts (judged_steps file file.steps) (end_part file) suffixes.1 in
+    let ends = and_parts (has_all_access file) (has_all_steps file.steps) steps.1.0 in
     let count : List (List ℕ × Bool) = (codes "states", true) ∷ (decimal file.states, nat_lt 0 file.states && nat_le file.states most_states) ∷ [] in
     let head = kept_parts (judged_names file.names) count whole.0.1.1.1 in
     record {
@@ -73,7 +77,9 @@ good_parts file good =
       states = states.0;
       access = access.0;
       suffixes = suffixes.0;
-      all = suffixes.1.0;
+      steps = steps.0;
+      all = ends.0;
+      all_steps = ends.1;
     }
 
 pub names_are_few : (names : List (List ℕ)) → AreKept (judged_names names) → length names ≤ 16

@@ -1,3 +1,4 @@
+pub mod Fronts
 pub mod GoodTexts
 pub mod Judging
 pub mod NameWords

@@ -1,19 +1,20 @@
 -- The words of a text, each with one byte behind it, and where a word begins.
-use Rattle.std.proofs.Common.{◌≡◌, ◌==◌, ℕ, suc, ◌+◌, ◌-◌, ◌≤◌, Bool, true, false, ◌&&◌, List, [], ◌∷◌, ◌++◌, length, map, None, Some, refl, sym, ap, ◌∙◌, subst, arith}
+use Rattle.std.proofs.Common.{◌≡◌, ◌==◌, ℕ, suc, ◌+◌, ◌-◌, ◌≤◌, Bool, true, false, ◌&&◌, List, [], ◌∷◌, ◌++◌, length, map, Option, None, Some, refl, sym, ap, ◌∙◌, subst, arith}
 use Rattle.std.specs.Prelude.{nat_lt, nat_le, codes}
 use Rattle.std.specs.Fmt.{decimal}
 use Rattle.std.specs.List.{enumerate_from, list_all, flat_map, join_with_byte, zip}
 use Rattle.std.proofs.lemmas.Bool.{and_parts, leb-true, ne_eqb, or_from}
 use Rattle.std.proofs.lemmas.List.{append_assoc, length-map}
 use Rattle.std.proofs.lemmas.List.FromFn.{length-enumerate_from}
-use Rattle.dcv_automaton_text.specs.File.{Access, EmptyAccess, StartAccess, AfterAccess, Suffix, EmptySuffix, ThenSuffix, AutomatonFile}
+use Rattle.dcv_automaton_text.specs.File.{Access, EmptyAccess, StartAccess, AfterAccess, Suffix, EmptySuffix, ThenSuffix, StepPart, AutomatonFile}
 use Rattle.dcv_automaton_text.specs.Form.{is_visible, IsSpellable}
-use Rattle.dcv_automaton_text.specs.Rules.{keeps_names, keeps_name, keeps_node, keeps_state, keeps_how_access, keeps_access, keeps_how_suffix, keeps_suffix, has_all_access, most_states, judged_words, first_broken}
-use Rattle.dcv_automaton_text.specs.Spelled.{name_words, how_access, how_suffix, head_lines, node_words, state_words, access_words, suffix_words, end_lines, lines_of, spelled_line, spelled}
+use Rattle.dcv_automaton_text.specs.Rules.{keeps_names, keeps_name, keeps_node, keeps_state, keeps_how_access, keeps_access, keeps_how_suffix, keeps_suffix, keeps_steps, keeps_step, has_all_access, has_all_steps, most_states, judged_steps, judged_words, first_broken}
+use Rattle.dcv_automaton_text.specs.Spelled.{name_words, how_access, how_suffix, version_word, head_lines, node_words, state_words, access_words, suffix_words}
+use Rattle.dcv_automaton_text.specs.Spelled.{step_words, steps_words, step_part, end_lines, lines_of, spelled_line, spelled}
 use Rattle.dcv_automaton_text.proofs.Words.{AreVisible, AreWords, IsLine, AreLines}
 use Rattle.dcv_automaton_text.proofs.OneFile.{are_lines}
 use Rattle.dcv_automaton_read.specs.Judged.{first_word}
-use Rattle.dcv_automaton_read.specs.Parts.{judged_lines, judged_head}
+use Rattle.dcv_automaton_read.specs.Parts.{judged_lines, judged_head, judged_step_lines}
 use Rattle.dcv_automaton_read.specs.Starts.{is_separator, start_of_word}
 
 -- ---- words in a text
@@ -133,23 +134,34 @@ head_in : (file : AutomatonFile) (others : List (List (List ℕ))) → AreLines 
 head_in file others (first, (second, (third, none))) =
     let counted : List (List ℕ) = codes "states" ∷ decimal file.states ∷ [] in
     let named : List (List ℕ) = codes "variables" ∷ name_words file.names in
+    let begun : List (List ℕ) = codes "automaton" ∷ version_word file.steps ∷ [] in
     let keeps_count : List Bool = true ∷ (nat_lt 0 file.states && nat_le file.states most_states) ∷ [] in
     let behind_third = flat_map spelled_line others in
     let behind_second = spelled_line counted ++ behind_third in
     let behind_first = spelled_line named ++ behind_second in
     let count_judged = zip counted keeps_count in
     let names_judged = zip named (true ∷ keeps_names file.names) in
-    in_append (zip (codes "automaton" ∷ codes "1" ∷ []) (true ∷ true ∷ [])) (names_judged ++ count_judged) (spelled_line (codes "automaton" ∷ codes "1" ∷ []) ++ behind_first) behind_first behind_third
-    (line_in (codes "automaton" ∷ codes "1" ∷ []) (true ∷ true ∷ []) behind_first first refl)
+    in_append (zip begun (true ∷ true ∷ [])) (names_judged ++ count_judged) (spelled_line begun ++ behind_first) behind_first behind_third
+    (line_in begun (true ∷ true ∷ []) behind_first first refl)
     (in_append names_judged count_judged behind_first behind_second behind_third
     (line_in named (true ∷ keeps_names file.names) behind_second second (ap suc (names_size file.names)))
     (line_in counted keeps_count behind_third third refl))
+
+steps_in : (file : AutomatonFile) (steps : Option StepPart) (others : List (List (List ℕ))) → AreLines (step_part steps)
+    → AreIn (judged_steps file steps) (flat_map spelled_line (step_part steps ++ others)) (flat_map spelled_line others)
+steps_in file None others are = refl
+steps_in file (Some part) others are =
+    let behind_count = flat_map spelled_line (map step_words part.lines ++ others) in
+    in_append (zip (steps_words part) (keeps_steps file part)) (judged_step_lines part) (spelled_line (steps_words part) ++ behind_count) behind_count (flat_map spelled_line others)
+    (line_in (steps_words part) (keeps_steps file part) behind_count are.0 refl)
+    (section_in step_words (keeps_step part) (λ n x. refl) part.lines 0 others are.1)
 
 pub text_in : (file : AutomatonFile) → IsSpellable file → AreIn (judged_words file) (spelled file) []
 unfolding judged_words spelled lines_of
 text_in file spellable =
     let ends = end_lines in
-    let suffixes = map suffix_words file.suffix_lines ++ ends in
+    let steps = step_part file.steps ++ ends in
+    let suffixes = map suffix_words file.suffix_lines ++ steps in
     let access = map access_words file.access_lines ++ suffixes in
     let states = map state_words file.state_lines ++ access in
     let nodes = map node_words file.node_lines ++ states in
@@ -157,7 +169,8 @@ text_in file spellable =
     let of_nodes = both_lines (map node_words file.node_lines) states of_head.1 in
     let of_states = both_lines (map state_words file.state_lines) access of_nodes.1 in
     let of_access = both_lines (map access_words file.access_lines) suffixes of_states.1 in
-    let of_suffixes = both_lines (map suffix_words file.suffix_lines) ends of_access.1 in
+    let of_suffixes = both_lines (map suffix_words file.suffix_lines) steps of_access.1 in
+    let of_steps = both_lines (step_part file.steps) ends of_suffixes.1 in
     in_append (judged_head file) _ (flat_map spelled_line (head_lines file ++ nodes)) (flat_map spelled_line nodes) [] (head_in file nodes of_head.0)
     (in_append (judged_lines node_words (keeps_node file) 0 file.node_lines) _ (flat_map spelled_line nodes) (flat_map spelled_line states) []
     (section_in node_words (keeps_node file) (λ n x. refl) file.node_lines 0 states of_nodes.0)
@@ -165,6 +178,7 @@ text_in file spellable =
     (section_in state_words (keeps_state file) (λ n x. refl) file.state_lines 0 access of_states.0)
     (in_append (judged_lines access_words (keeps_access file) 0 file.access_lines) _ (flat_map spelled_line access) (flat_map spelled_line suffixes) []
     (section_in access_words (keeps_access file) (λ n x. ap (λ size. suc (suc size)) (access_size file n x.access)) file.access_lines 0 suffixes of_access.0)
-    (in_append (judged_lines suffix_words (keeps_suffix file) 0 file.suffix_lines) _ (flat_map spelled_line suffixes) (flat_map spelled_line ends) []
-    (section_in suffix_words (keeps_suffix file) (λ n x. ap (λ size. suc (suc size)) (suffix_size file n x.suffix)) file.suffix_lines 0 ends of_suffixes.0)
-    (line_in (codes "end" ∷ []) (has_all_access file ∷ []) [] of_suffixes.1.0 refl)))))
+    (in_append (judged_lines suffix_words (keeps_suffix file) 0 file.suffix_lines) _ (flat_map spelled_line suffixes) (flat_map spelled_line steps) []
+    (section_in suffix_words (keeps_suffix file) (λ n x. ap (λ size. suc (suc size)) (suffix_size file n x.suffix)) file.suffix_lines 0 steps of_suffixes.0)
+    (in_append (judged_steps file file.steps) _ (flat_map spelled_line steps) (flat_map spelled_line ends) [] (steps_in file file.steps ends of_steps.0)
+    (line_in (codes "end" ∷ []) ((has_all_access file && has_all_steps file.steps) ∷ []) [] of_steps.1.0 refl))))))

@@ -4,9 +4,9 @@
 --     judged_head file ..                        the words of the lines of each section
 use Rattle.std.specs.Prelude.{ℕ, Bool, List}
 use Rattle.std.specs.List.{enumerate_from, flat_map, zip}
-use Rattle.dcv_automaton_text.specs.File.{AutomatonFile}
-use Rattle.dcv_automaton_text.specs.Rules.{keeps_names, keeps_head, keeps_node, keeps_state, keeps_access, keeps_suffix, judged}
-use Rattle.dcv_automaton_text.specs.Spelled.{name_words, head_lines, node_words, state_words, access_words, suffix_words}
+use Rattle.dcv_automaton_text.specs.File.{StepPart, AutomatonFile}
+use Rattle.dcv_automaton_text.specs.Rules.{keeps_names, keeps_head, keeps_node, keeps_state, keeps_access, keeps_suffix, keeps_step, judged}
+use Rattle.dcv_automaton_text.specs.Spelled.{name_words, head_lines, node_words, state_words, access_words, suffix_words, step_words}
 
 abbrev pub judged_lines : {Line : Type 0} → (Line → List (List ℕ)) → (ℕ → Line → List Bool) → ℕ → List Line → List (List ℕ × Bool)
 judged_lines words keeps place lines = flat_map (λ numbered. zip (words numbered.1) (keeps numbered.0 numbered.1)) (enumerate_from place lines)
@@ -28,3 +28,6 @@ judged_access file = judged access_words (keeps_access file) file.access_lines
 
 abbrev pub judged_suffixes : AutomatonFile → List (List ℕ × Bool)
 judged_suffixes file = judged suffix_words (keeps_suffix file) file.suffix_lines
+
+abbrev pub judged_step_lines : StepPart → List (List ℕ × Bool)
+judged_step_lines part = judged step_words (keeps_step part) part.lines

@@ -1,15 +1,19 @@
 // What a text says, from its lines, once they keep the rules.
-ghost use Rattle.std.specs.Prelude.{◌≡◌, length, map, IfOk};
+ghost use Rattle.std.specs.Prelude.{◌≡◌, ◌^◌, ◌<◌, length, map, option_map, IfOk};
 ghost use Rattle.std.specs.List.{All};
 ghost use Rattle.dcv_automaton_text.specs.Rules.{IsGood};
+ghost use Rattle.dcv_automaton_text.specs.Spelled.{spelled_front};
 ghost use Rattle.dcv_automaton_lines.specs.Seen.{file_of, access_of, suffix_of};
 ghost use Rattle.dcv_automaton_read.specs.Seen.{texts_of, AreNodesOf};
-ghost use Rattle.dcv_automaton_read.specs.File.{access_from, suffix_from, row_of, IsNarrow, IsNarrowSuffix};
+ghost use Rattle.dcv_automaton_read.specs.File.{access_from, suffix_from, row_of, count_of, counts_of, counts_in, IsNarrow, IsNarrowSuffix};
 
 use crate::file::{AutoFile, Row};
 use crate::letters::letter_of;
 use crate::nodes::{Node, child_of};
-use dcv_automaton_lines::{AccessLine, AccessWord, Lines, StateLine, SuffixLine, SuffixWord};
+use dcv_automaton_lines::{
+    AccessLine, AccessWord, Lines, StateLine, StepLine, SuffixLine, SuffixWord,
+};
+use dcv_count::Count;
 use dcv_language::{Access, Suffix};
 use dcv_syntax::Text;
 use indexmap::IndexSet;
@@ -87,6 +91,31 @@ fn suffix_words(alloc: Global, lines: &[SuffixLine]) -> Result<Vec<Suffix>, Allo
     Ok(words)
 }
 
+// What the lines of steps say.
+fn counts(alloc: Global, lines: &[StepLine]) -> Result<Vec<Count>, AllocError>
+    ensures { IfOk result (λ counts. counts.items ≡ map count_of lines.now) }
+{
+    let mut counts = Vec::new(alloc);
+    for line in lines {
+        counts.push(Count {
+            at: line.at,
+            states: line.states,
+            nodes: line.nodes,
+        })?;
+    }
+    Ok(counts)
+}
+
+// What the step part says, if there is one.
+fn steps(alloc: Global, lines: &Lines) -> Result<Option<Vec<Count>>, AllocError>
+    ensures { IfOk result (λ steps. counts_in steps ≡ option_map counts_of lines.now.steps) }
+{
+    match &lines.steps {
+        None => Ok(None),
+        Some(part) => Ok(Some(counts(alloc, &part.lines)?)),
+    }
+}
+
 // What the lines say, given the nodes.
 pub(crate) fn built(
     alloc: Global,
@@ -95,11 +124,15 @@ pub(crate) fn built(
 ) -> Result<AutoFile, AllocError>
     requires good { IsGood (file_of lines.now) }
     requires nodes { AreNodesOf (file_of lines.now) (length (file_of lines.now).node_lines) nodes.keys }
+    requires front { lines.now.front.now ≡ spelled_front (file_of lines.now) }
+    requires short { length lines.now.front.now < 2 ^ 32 }
     ensures { IfOk result (λ file. file ≡ file_of lines.now) }
 {
     let names = texts(alloc, &lines.names)?;
     let rows = rows(alloc, &lines.state_lines)?;
     let access = access_words(alloc, &lines.access_lines)?;
     let suffixes = suffix_words(alloc, &lines.suffix_lines)?;
-    Ok(AutoFile::new(names, nodes, rows, access, suffixes))
+    let steps = steps(alloc, lines)?;
+    let steps_at = lines.front.len() as u32;
+    Ok(AutoFile::new(names, nodes, rows, access, suffixes, steps, steps_at))
 }

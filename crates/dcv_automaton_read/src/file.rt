@@ -1,13 +1,17 @@
-// The automaton that a text stands for, and how its access words and suffixes are spelled.
+// The automaton that a text stands for, how its access words and suffixes are spelled, and what its steps took.
 ghost use Rattle.std.specs.Prelude.{◌≡◌, ◌<◌, ◌≤◌, length, map};
 ghost use Rattle.std.specs.List.{enumerate_from};
 ghost use Rattle.dcv_language.specs.Table.{is_accepting, next_in};
 ghost use Rattle.dcv_automaton_text.specs.Meaning.{table_of};
 ghost use Rattle.dcv_automaton_text.specs.Rules.{IsGood};
-ghost use Rattle.dcv_automaton_read.specs.File.{file_from, IsRead, state_line, access_from, suffix_from, accesses_of, suffixes_of};
+ghost use Rattle.dcv_automaton_text.specs.Spelled.{spelled_front};
+ghost use Rattle.dcv_automaton_text.specs.Versions.{version_of, steps_of};
+ghost use Rattle.dcv_automaton_read.specs.File.{file_from, IsRead, IsKept, state_line, access_from, suffix_from, accesses_of, suffixes_of};
+ghost use Rattle.dcv_automaton_read.specs.File.{step_line, counts_in};
 
 use crate::nodes::{Child, Node};
 use crate::walk::leaf;
+use dcv_count::Count;
 use dcv_language::{Access, Suffix};
 use dcv_syntax::Text;
 use dcv_word::Letter;
@@ -30,17 +34,21 @@ pub struct AutoFile {
     rows: Vec<Row>,
     access: Vec<Access>,
     suffixes: Vec<Suffix>,
+    // What the steps took, which a text of version 1 does not say.
+    steps: Option<Vec<Count>>,
+    // The offset of the step part, or of the last line where there is none.
+    steps_at: u32,
 }
 
 impl Model for AutoFile {
     ghost use Rattle.dcv_automaton_text.specs.File.{AutomatonFile};
-    ghost use Rattle.dcv_automaton_read.specs.File.{file_from, IsRead};
+    ghost use Rattle.dcv_automaton_read.specs.File.{file_from, IsKept, counts_in};
 
     ghost Value = { AutomatonFile };
 
-    ghost view = { λ file. file_from file.names.items file.nodes.keys file.rows.items file.access.items file.suffixes.items };
+    ghost view = { λ file. file_from file.names.items file.nodes.keys file.rows.items file.access.items file.suffixes.items (counts_in file.steps) };
 
-    ghost invariant = { λ file. IsRead (file_from file.names.items file.nodes.keys file.rows.items file.access.items file.suffixes.items) file.nodes.keys };
+    ghost invariant = { λ file. IsKept (file_from file.names.items file.nodes.keys file.rows.items file.access.items file.suffixes.items (counts_in file.steps)) file.nodes.keys file.steps_at };
 }
 
 impl AutoFile {
@@ -51,9 +59,11 @@ impl AutoFile {
         rows: Vec<Row>,
         access: Vec<Access>,
         suffixes: Vec<Suffix>,
+        steps: Option<Vec<Count>>,
+        steps_at: u32,
     ) -> AutoFile
-        requires { IsRead (file_from names.items nodes.keys rows.items access.items suffixes.items) nodes.keys }
-        ensures { result ≡ file_from names.items nodes.keys rows.items access.items suffixes.items }
+        requires { IsKept (file_from names.items nodes.keys rows.items access.items suffixes.items (counts_in steps)) nodes.keys steps_at }
+        ensures { result ≡ file_from names.items nodes.keys rows.items access.items suffixes.items (counts_in steps) }
     {
         AutoFile {
             names,
@@ -61,6 +71,8 @@ impl AutoFile {
             rows,
             access,
             suffixes,
+            steps,
+            steps_at,
         }
     }
 
@@ -127,5 +139,32 @@ impl AutoFile {
         ensures { map suffix_from result.now ≡ suffixes_of self.now }
     {
         &self.suffixes
+    }
+
+    /// The version of the text: 1, or 2, which says what the steps took.
+    pub fn version(&self) -> u8
+        ensures { result ≡ version_of self.now }
+    {
+        match &self.steps {
+            None => 1,
+            Some(_) => 2,
+        }
+    }
+
+    /// What each step took, in order. A text of version 1 says it of none.
+    pub fn counts(&self) -> &[Count]
+        ensures { steps_of self.now ≡ map step_line (enumerate_from 0 result.now) }
+    {
+        match &self.steps {
+            None => &[],
+            Some(counts) => counts,
+        }
+    }
+
+    /// The offset at which the step part begins, in bytes, or the last line where there is none.
+    pub fn steps_at(&self) -> u32
+        ensures { result ≡ length (spelled_front self.now) }
+    {
+        self.steps_at
     }
 }

@@ -16,7 +16,7 @@ use indexmap::IndexSet;
 use std::alloc::AllocFailed;
 
 // How many nodes there may be.
-const MOST_NODES: usize = 1_000_000;
+pub(crate) const MOST_NODES: usize = 1_000_000;
 
 /// What comes next in a row.
 #[derive(Clone, Copy, Debug, PartialEq, Eq, Hash)]

@@ -1,26 +1,34 @@
 // The table rules, section by section.
-ghost use Rattle.std.specs.Prelude.{◌≡◌, ◌+◌, ◌*◌, ◌^◌, ◌<◌, ◌≤◌, ◌&&◌, nat_lt, nat_le, length, IfOk, OnOk};
+ghost use Rattle.std.specs.Prelude.{◌≡◌, ◌+◌, ◌*◌, ◌^◌, ◌<◌, ◌≤◌, ◌&&◌, nat_lt, nat_le, length, Some, IfOk, OnOk};
 ghost use Rattle.std.specs.List.{zip};
 ghost use Rattle.dcv_automaton_text.specs.Form.{HasForm};
-ghost use Rattle.dcv_automaton_text.specs.Rules.{keeps_state, keeps_access, keeps_suffix, keeps_row, has_width, goes_before, has_all_states, has_all_access, judged_words, most_states};
-ghost use Rattle.dcv_automaton_text.specs.Spelled.{state_words, access_words, suffix_words};
+ghost use Rattle.dcv_automaton_text.specs.Rules.{keeps_state, keeps_access, keeps_suffix, keeps_step, keeps_row, has_width, goes_before};
+ghost use Rattle.dcv_automaton_text.specs.Rules.{has_all_states, has_all_access, has_all_steps, judged_steps, judged_words, most_states};
+ghost use Rattle.dcv_automaton_text.specs.Spelled.{state_words, access_words, suffix_words, step_words};
 ghost use Rattle.dcv_automaton_lines.specs.Seen.{file_of, target_of, letter_of, state_line_of, access_line_of, suffix_line_of};
+ghost use Rattle.dcv_automaton_lines.specs.Seen.{step_line_of, step_part_of};
 ghost use Rattle.dcv_automaton_read.specs.Judged.{IsJudged, first_word, IsJudgedWhole};
 ghost use Rattle.dcv_automaton_read.specs.Seen.{AreNodesOf, IsJudgedText};
-ghost use Rattle.dcv_automaton_read.specs.Parts.{judged_head, judged_states, judged_access, judged_suffixes};
+ghost use Rattle.dcv_automaton_read.specs.Parts.{judged_head, judged_states, judged_access, judged_suffixes, judged_step_lines};
 
 use crate::faults::{AutoFault, Stop};
 use crate::names::judge_names;
-use crate::nodes::{Node, judge_nodes};
+use crate::nodes::{MOST_NODES, Node, judge_nodes};
 use crate::words::{judge, start_of_word};
 use dcv_automaton_lines::{
-    AccessLine, AccessWord, Lines, StateLine, SuffixLine, SuffixWord, Target,
+    AccessLine, AccessWord, Lines, StateLine, StepLine, StepPart, SuffixLine, SuffixWord, Target,
 };
 use indexmap::IndexSet;
 use std::alloc::Global;
 
 // How many states there may be.
 const MOST_STATES: u32 = 32_000;
+
+// How many steps there may be.
+const MOST_STEPS: u32 = 131_168;
+
+// The last byte at which a step may start.
+const MOST_START: u32 = 262_143;
 
 // Whether there may be so many states.
 fn keeps_count(states: u32) -> bool
@@ -179,6 +187,84 @@ fn judge_suffixes(lines: &Lines, first: u64) -> Result<u64, Stop>
     Ok(number)
 }
 
+// The words of the line of the step at this place.
+fn judge_step(part: &StepPart, place: usize, line: &StepLine, first: u64) -> Result<u64, Stop>
+    requires { first < 2 ^ 40 }
+    ensures judged { let words = zip (step_words (step_line_of line.now)) (keeps_step (step_part_of part.now) place (step_line_of line.now)) in IsJudged (first_word first words) (first + length words) result }
+    ensures few { OnOk result (place < 2 ^ 32) }
+    ensures bound { IfOk result (λ number. number ≤ first + 8) }
+{
+    let keeps_number = line.number as usize == place;
+    let keeps_at = line.at <= MOST_START;
+    let keeps_states = keeps_count(line.states);
+    let keeps_nodes = line.nodes as usize <= MOST_NODES;
+    judge(
+        first,
+        &[
+            place < part.count as usize,
+            keeps_number,
+            true,
+            keeps_at,
+            true,
+            keeps_states,
+            true,
+            keeps_nodes,
+        ],
+    )
+}
+
+// The words of the steps' lines.
+fn judge_step_lines(part: &StepPart, first: u64) -> Result<u64, Stop>
+    requires { first < 2 ^ 39 }
+    ensures judged { let words = judged_step_lines (step_part_of part.now) in IsJudged (first_word first words) (first + length words) result }
+    ensures bound { IfOk result (λ number. number ≤ first + 8 * 2 ^ 32) }
+{
+    let mut number = first;
+    for (place, line) in part.lines.iter().enumerate() {
+        number = judge_step(part, place, line, number)?;
+    }
+    Ok(number)
+}
+
+// The words of the step part.
+fn judge_step_part(lines: &Lines, part: &StepPart, first: u64) -> Result<u64, Stop>
+    requires { first < 2 ^ 38 }
+    ensures judged { let words = judged_steps (file_of lines.now) (Some (step_part_of part.now)) in IsJudged (first_word first words) (first + length words) result }
+    ensures bound { IfOk result (λ number. number ≤ first + 2 ^ 36) }
+{
+    let behind_count = judge(first, &[has_all_access(lines), part.count <= MOST_STEPS])?;
+    judge_step_lines(part, behind_count)
+}
+
+// The words of the step part, if there is one.
+fn judge_steps(lines: &Lines, first: u64) -> Result<u64, Stop>
+    requires { first < 2 ^ 38 }
+    ensures judged { let words = judged_steps (file_of lines.now) (file_of lines.now).steps in IsJudged (first_word first words) (first + length words) result }
+    ensures bound { IfOk result (λ number. number ≤ first + 2 ^ 36) }
+{
+    match &lines.steps {
+        None => Ok(first),
+        Some(part) => judge_step_part(lines, part, first),
+    }
+}
+
+// Whether there are enough steps.
+fn has_all_steps(lines: &Lines) -> bool
+    ensures { result ≡ has_all_steps (file_of lines.now).steps }
+{
+    match &lines.steps {
+        None => true,
+        Some(part) => part.count as usize <= part.lines.len(),
+    }
+}
+
+// Whether there are enough states, access words and steps.
+fn has_all_lines(lines: &Lines) -> bool
+    ensures { let file = file_of lines.now in result ≡ (has_all_access file && has_all_steps file.steps) }
+{
+    has_all_access(lines) && has_all_steps(lines)
+}
+
 // The nodes of lines that keep the rules, or where these stop.
 fn judge_lines(alloc: Global, lines: &Lines) -> Result<IndexSet<Node>, Stop>
     ensures judged { IsJudgedWhole (first_word 0 (judged_words (file_of lines.now))) result }
@@ -190,7 +276,8 @@ fn judge_lines(alloc: Global, lines: &Lines) -> Result<IndexSet<Node>, Stop>
     let behind_states = judge_states(lines, behind_nodes)?;
     let behind_access = judge_access_lines(lines, behind_states)?;
     let behind_suffixes = judge_suffixes(lines, behind_access)?;
-    judge(behind_suffixes, &[has_all_access(lines)])?;
+    let behind_steps = judge_steps(lines, behind_suffixes)?;
+    judge(behind_steps, &[has_all_lines(lines)])?;
     Ok(nodes)
 }
 

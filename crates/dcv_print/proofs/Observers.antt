@@ -1,5 +1,5 @@
 -- The file of a set's canonical automaton without words, and the observers that are made of it.
-use Rattle.std.proofs.Common.{◌≡◌, ℕ, zero, suc, ◌+◌, ◌<◌, ◌≤◌, ◌⊎◌, inl, inr, false, List, [], ◌∷◌, length, map, get_or, refl, sym, ap, ◌∙◌, subst, arith}
+use Rattle.std.proofs.Common.{◌≡◌, ℕ, zero, suc, ◌+◌, ◌<◌, ◌≤◌, ◌⊎◌, inl, inr, false, List, [], ◌∷◌, None, length, map, get_or, refl, sym, ap, ◌∙◌, subst, arith}
 use Rattle.std.specs.Prelude.{IsTrue}
 use Rattle.std.specs.List.{enumerate_from}
 use Rattle.std.proofs.lemmas.List.{get_or_past}
@@ -20,7 +20,7 @@ use Rattle.dcv_c.specs.Laws.{ObserverOfAutomaton as UnitOfAutomaton, Observes as
 use Rattle.dcv_c.specs.Observer.{observer_of as unit_of}
 use Rattle.dcv_lustre.specs.Laws.{ObserverOfAutomaton as NodeOfAutomaton, Observes as ObservesByNode, TextIsReadBack as NodeIsReadBack}
 use Rattle.dcv_lustre.specs.Observer.{observer_of as node_of}
-use Rattle.dcv_print.specs.Laws.{OneFile, FileOfSameBehaviours, FileSaysNode, FileSaysUnit}
+use Rattle.dcv_print.specs.Laws.{OneFile, FileOfSameBehaviours, FileSaysNode, FileSaysUnit, NodeOfVersions, UnitOfVersions}
 use Rattle.dcv_print.specs.Observers.{IsFileOf}
 
 -- ---- one file
@@ -67,6 +67,7 @@ module _ (one other : RawValue) (is : IsRaw one) (its : IsRaw other) (tables : t
         state_lines = states i;
         access_lines = [];
         suffix_lines = [];
+        steps = None;
       }
 
 -- the automaton's table is canonical for the set
@@ -92,6 +93,14 @@ file_of_same_behaviours k L M names file same of = record {
 }
 
 -- ---- observers
+
+pub node_of_versions : NodeOfVersions
+unfolding node_of
+node_of_versions file = refl
+
+pub unit_of_versions : UnitOfVersions
+unfolding unit_of
+unit_of_versions file = refl
 
 pub file_says_node : NodeOfAutomaton → NodeIsReadBack → FileSaysNode
 file_says_node observe back k L names file of =

@@ -1,4 +1,4 @@
--- Two files that say the canonical automaton of one set are the same but for their suffixes: the set has one canonical table, a table has one
+-- Two files that say the canonical automaton of one set are the same up to their access lines: the set has one canonical table, a table has one
 -- list of node lines, and its access words are spelled in one way.
 use Rattle.std.proofs.Common.{◌≡◌, ◌≢◌, ℕ, ◌<◌, true, List, [], ◌++◌, length, map, get_or, sym, ap, ◌∙◌, subst, arith}
 use Rattle.std.specs.List.{AllPairs}
@@ -19,7 +19,7 @@ use Rattle.dcv_automaton_text.specs.Rules.{slot_of, is_listed}
 use Rattle.dcv_automaton_text.proofs.AccessLines.{IsWordOf, one_access, lines_spell}
 use Rattle.dcv_automaton_text.proofs.GoodFiles.{IsGoodFile, good_file}
 use Rattle.dcv_automaton_text.proofs.GoodTables.{length-table_of, no_line, state-at}
-use Rattle.dcv_print.specs.Automaton.{IsAutomatonOf, AreSameButForSuffixes}
+use Rattle.dcv_print.specs.Automaton.{IsAutomatonOf, AreSameUpToAccess}
 use Rattle.dcv_print.specs.Laws.{OneAutomaton}
 use Rattle.dcv_print.proofs.FileArenas.{raw_of, no_node, raw_has_the_table, same_name, is_raw}
 use Rattle.dcv_print.proofs.FileNumbers.{child_for, line_for, one_child, numbered_lines}
@@ -115,7 +115,7 @@ module _ (k : ℕ) (L : Language) (names : List (List ℕ)) (one other : Automat
       (one_access all (words_have_letters k L (table_of one) all is.canonical) (words_differ k L all is.canonical.apart)
       (get_or one.access_lines place d).access (get_or other.access_lines place d).access (get_or all place []) spells its_spells))
 
-  same_files : AreSameButForSuffixes one other
+  same_files : AreSameUpToAccess one other
   same_files = record { names = same_names; states = same_count; node_lines = same_node_lines; state_lines = same_state_lines; access_lines = same_access_lines }
 
 pub one_automaton : OneCanonicalTable → OneTableHasOneListOfLines → OneAutomaton

@@ -13,8 +13,8 @@ use Rattle.dcv_dfa.specs.NodeLines.{NodeLinesValue, node_lines_of}
 use Rattle.dcv_dfa.specs.Raw.{raw_accepts}
 use Rattle.dcv_automaton_text.specs.Meaning.{table_of, suffix_words_of}
 use Rattle.dcv_automaton_text.proofs.GoodFiles.{good_file}
-use Rattle.dcv_print.specs.Printed.{target_of, node_line, printed_file, file_of}
-use Rattle.dcv_print.specs.Laws.{PrintedIsAutomaton}
+use Rattle.dcv_print.specs.Printed.{target_of, node_line, access_line, suffix_line, printed_file, file_of}
+use Rattle.dcv_print.specs.Laws.{PrintedIsAutomaton, PrintedTable}
 use Rattle.dcv_print.proofs.FileArenas.{raw_of, raw_has_the_table, is_raw}
 use Rattle.dcv_print.proofs.FileNumbers.{child_for, line_for, numbered_by_lines}
 use Rattle.dcv_print.proofs.PrintedFiles.{printed_is_good}
@@ -36,20 +36,26 @@ lines_back names differ (line ∷ lines) first below =
     let rest = lines_back names differ lines (first + 1) (λ k d within. below (suc k) d (omega arith)) in
     λ i. record { slot = slot i; hi = hi i; lo = lo i } ∷ rest i
 
+-- the steps do not matter to the table
+pub printed_table : LinesLeadAsTheRows → PrintedTable
+unfolding table_of file_of
+printed_table lead raw names access suffixes counts is =
+    file_table lead raw names (map access_line (enumerate_from 0 access)) (map suffix_line (enumerate_from 0 suffixes)) is
+
 pub printed_is_automaton : OneTableHasOneListOfLines → LinesLeadAsTheRows → PrintedIsAutomaton
 unfolding file_of
-printed_is_automaton one_list lead raw names access suffixes is proof =
-    let file = printed_file raw names access suffixes in
-    let rules = printed_is_good raw names access suffixes is proof in
+printed_is_automaton one_list lead raw names access suffixes counts is proof small =
+    let file = printed_file raw names access suffixes counts in
+    let rules = printed_is_good raw names access suffixes counts is proof small in
     let good = good_file file rules in
-    let table = file_table lead raw names _ _ is in
-    let words = printed_access raw names access suffixes proof.words proof.spelled in
-    let ends = printed_suffixes raw names access suffixes in
+    let table = printed_table lead raw names access suffixes counts is in
+    let words = printed_access raw names access suffixes counts proof.words proof.spelled in
+    let ends = printed_suffixes raw names access suffixes counts in
     let below = slots_below raw (length names) (reduced raw is.is_raw is.auto) is.slots in
     let lines = one_list (raw_of file) raw (is_raw file good) is.is_raw is.slots (raw_has_the_table file ∙ table) in
     let same = ap (λ (all : NodeLinesValue). all.lines) lines ∙ sym (lines_back names is.are_names.differ (node_lines_of raw).lines 0 below) in
     record {
-      form = printed_is_spellable raw names access suffixes is proof;
+      form = printed_is_spellable raw names access suffixes counts is proof small;
       rules = rules;
       variables = refl;
       canonical = subst (λ (words : List Word). IsCanonical raw.arena.slots (raw_accepts raw) (table_of file) words) (sym words)

@@ -6,6 +6,7 @@ use Rattle.std.specs.List.{All, list_all, enumerate_from}
 use Rattle.std.proofs.lemmas.List.{length-map, get_or-map}
 use Rattle.std.proofs.lemmas.List.FromFn.{length-enumerate_from, get_or-enumerate_from}
 use Rattle.std.proofs.lemmas.Option.{slice_get-get_or}
+use Rattle.dcv_count.specs.declared.Count.{Count}
 use Rattle.dcv_dfa.specs.declared.node_lines.Child.{Child}
 use Rattle.dcv_dfa.specs.declared.node_lines.Child.TheVariants.{State, Node}
 use Rattle.dcv_dfa.specs.declared.node_lines.NodeLine.{NodeLine}
@@ -17,11 +18,12 @@ use Rattle.dcv_language.specs.declared.certificate.Access.TheVariants.{Empty as 
 use Rattle.dcv_language.specs.declared.certificate.Suffix.{Suffix as CodeSuffix}
 use Rattle.dcv_language.specs.declared.certificate.Suffix.TheVariants.{Empty, Then}
 use Rattle.dcv_certificate.specs.Proof.{IsSpelled, suffix_words}
-use Rattle.dcv_automaton_text.specs.Form.{is_visible, IsNameWord, IsTarget, IsNodeLine, IsStateLine, IsAccess, IsAccessLine, IsSuffix, IsSuffixLine}
+use Rattle.dcv_automaton_text.specs.Form.{is_visible, IsNameWord, IsTarget, IsNodeLine, IsStateLine, IsAccess, IsAccessLine, IsSuffix, IsSuffixLine, IsStepLine}
 use Rattle.dcv_automaton_text.specs.Rules.{IsPlainName, AreNames}
 use Rattle.dcv_automaton_text.proofs.Kept.{both_true, both}
 use Rattle.dcv_print.specs.Printed.{target_of, node_line, state_line, access_line, suffix_line, file_of}
-use Rattle.dcv_automaton_read.specs.File.{access_from, suffix_from}
+use Rattle.dcv_automaton_read.specs.File.{access_from, suffix_from, step_line}
+use Rattle.dcv_print.specs.Counts.{ArePrintableCounts}
 use Rattle.dcv_print.specs.Laws.{PrintedIsSpellable}
 use Rattle.dcv_print.proofs.PrintedProofs.{length-suffix_words, count_of_words, count_of_access}
 use Rattle.dcv_automaton_file.proofs.Tables.{reduced, slots_below}
@@ -80,11 +82,24 @@ small_suffix : (place : ℕ) (one : CodeSuffix) → place ≤ 32000 → ((from :
 small_suffix place Empty few earlier = tt
 small_suffix place (Then letter from) few earlier = let below = earlier from letter refl in omega arith
 
+-- ---- steps
+
+small_steps : (counts : List Count) → ArePrintableCounts counts → All IsStepLine (map step_line (enumerate_from 0 counts))
+small_steps counts small =
+    let none : Count = record { at = 0; states = 0; nodes = 0 } in
+    let few = small.few in
+    all_numbered IsStepLine step_line counts none (λ k within.
+    let is = small.each k none within in
+    let at = is.at in
+    let states = is.few_states in
+    let nodes = is.few_nodes in
+    record { number = omega arith; at = omega arith; states = omega arith; nodes = omega arith })
+
 -- ---- the file
 
 pub printed_is_spellable : PrintedIsSpellable
 unfolding file_of
-printed_is_spellable raw names access suffixes is proof =
+printed_is_spellable raw names access suffixes counts is proof small =
     let all = node_lines_of raw in
     let lines_reduced = reduced raw is.is_raw is.auto in
     let below = slots_below raw (length names) lines_reduced is.slots in
@@ -93,7 +108,7 @@ printed_is_spellable raw names access suffixes is proof =
     let few : length raw.rows ≤ 32000 = is.states in
     let no_line : NodeLine = record { slot = 0; hi = State 0; lo = State 0 } in
     let count = lines_reduced.count in
-    let words = count_of_words raw names access suffixes proof is.slots count in
+    let words = count_of_words raw names access suffixes counts proof is.slots count in
     let start = is.is_raw.start in
     let few_suffixes : length suffixes ≤ length raw.rows =
     omega (arith, length-suffix_words suffixes, suffixes_are_few raw.arena.slots (raw_accepts raw) proof.words (suffix_words suffixes) (omega arith) proof.certificate) in
@@ -115,11 +130,12 @@ printed_is_spellable raw names access suffixes is proof =
         row = small_target (length raw.rows) (length all.lines) (get_or all.rows k (State 0)) few few_nodes (lines_reduced.rows k (State 0) within);
       });
       access_lines = all_numbered IsAccessLine access_line access NoLetters (λ k within. record {
-        number = omega (arith, count_of_access raw names access suffixes proof is.slots count);
+        number = omega (arith, count_of_access raw names access suffixes counts proof is.slots count);
         access = small_access proof.words k (get_or access k NoLetters) (omega arith) (proof.spelled.each k (get_or access k NoLetters) (slice_get-get_or access k NoLetters within));
       });
       suffix_lines = all_numbered IsSuffixLine suffix_line suffixes Empty (λ k within. record {
         number = omega arith;
         suffix = small_suffix k (get_or suffixes k Empty) (omega arith) (λ from letter same. proof.earlier k from letter (slice_get-get_or suffixes k Empty within ∙ ap Some same));
       });
+      steps = record { count = let few = small.few in omega arith; lines = small_steps counts small };
     }

@@ -9,6 +9,7 @@ use Rattle.std.proofs.lemmas.List.Folds.{list_any_none, list_any_at}
 use Rattle.std.proofs.lemmas.List.FromFn.{length-enumerate_from, get_or-enumerate_from}
 use Rattle.std.proofs.lemmas.Option.{slice_get-get_or}
 use Rattle.std.proofs.lemmas.Slice.Eq.{bytes_eq-Decides}
+use Rattle.dcv_count.specs.declared.Count.{Count}
 use Rattle.dcv_dfa.specs.declared.node_lines.Child.{Child}
 use Rattle.dcv_dfa.specs.declared.node_lines.Child.TheVariants.{State, Node}
 use Rattle.dcv_dfa.specs.declared.node_lines.NodeLine.{NodeLine}
@@ -38,7 +39,7 @@ same_target (State a) (Node b) same = absurd cc
 same_target (Node a) (State b) same = absurd cc
 same_target (Node a) (Node b) same = ap Node ((unsigned_Decides a b).0 same)
 
-module _ (raw : RawValue) (names : List (List ℕ)) (access : List CodeAccess) (suffixes : List CodeSuffix) (differ : AllPairs ◌≢◌ names)
+module _ (raw : RawValue) (names : List (List ℕ)) (access : List CodeAccess) (suffixes : List CodeSuffix) (counts : List Count) (differ : AllPairs ◌≢◌ names)
     (below : All (λ (line : NodeLine). line.slot < length names) (node_lines_of raw).lines) (reduced : AreReduced (length names) (length raw.rows) (node_lines_of raw)) where
   abbrev lines : List NodeLine
   lines = (node_lines_of raw).lines
@@ -60,7 +61,7 @@ module _ (raw : RawValue) (names : List (List ℕ)) (access : List CodeAccess) (
   slot_of_line : (k : ℕ) → k < length lines → slot_of names (node_line names (k, get_or lines k no_line)).name ≡ (get_or lines k no_line).slot
   slot_of_line k within = slot_at names (get_or lines k no_line).slot differ (below k no_line within)
 
-  slot_of_number : (k : ℕ) → k < length lines → slot_of_node (printed_file raw names access suffixes) k ≡ (get_or lines k no_line).slot
+  slot_of_number : (k : ℕ) → k < length lines → slot_of_node (printed_file raw names access suffixes counts) k ≡ (get_or lines k no_line).slot
   unfolding file_of
   slot_of_number k within =
       ap (slot_of names) (get_or-map (λ (line : PlainNodeLine). line.name) plain_lines k (node_line names (0, no_line)) [] (omega (arith, count_of_lines))
@@ -68,7 +69,7 @@ module _ (raw : RawValue) (names : List (List ℕ)) (access : List CodeAccess) (
       ∙ slot_of_line k within
 
   child_kept : (k : ℕ) (child : Child) → k < length lines → IsBelow (length raw.rows) k child → ComesAfter lines (get_or lines k no_line).slot child
-      → keeps_child (printed_file raw names access suffixes) k (target_of child) ≡ true
+      → keeps_child (printed_file raw names access suffixes counts) k (target_of child) ≡ true
   unfolding file_of
   child_kept k (State state) within is_below after = lt-ltb state (length raw.rows) is_below
   child_kept k (Node number) within is_below after =
@@ -101,7 +102,7 @@ module _ (raw : RawValue) (names : List (List ℕ)) (access : List CodeAccess) (
       reduced.once j k no_line earlier within
       (sym (same_line k j within (omega arith) (sym (ap (is_same_node (node_line names (k, get_or lines k no_line))) line) ∙ same)))))
 
-  pub node_kept : (k : ℕ) → k < length lines → length lines ≤ most_nodes → AreKept (keeps_node (printed_file raw names access suffixes) k (node_line names (k, get_or lines k no_line)))
+  pub node_kept : (k : ℕ) → k < length lines → length lines ≤ most_nodes → AreKept (keeps_node (printed_file raw names access suffixes counts) k (node_line names (k, get_or lines k no_line)))
   unfolding file_of
   node_kept k within few =
       let line = get_or lines k no_line in
@@ -119,19 +120,19 @@ module _ (raw : RawValue) (names : List (List ℕ)) (access : List CodeAccess) (
               refl,
               (
                 child_kept k line.hi within is.hi_below is.hi_after,
-                (refl, (both_true (keeps_child (printed_file raw names access suffixes) k (target_of line.lo)) _ (child_kept k line.lo within is.lo_below is.lo_after) (ap not differs), tt)),
+                (refl, (both_true (keeps_child (printed_file raw names access suffixes counts) k (target_of line.lo)) _ (child_kept k line.lo within is.lo_below is.lo_after) (ap not differs), tt)),
               ),
             ),
           ),
         ),
       )
 
-  row_kept : (child : Child) → IsBelow (length raw.rows) (length lines) child → keeps_row (printed_file raw names access suffixes) (target_of child) ≡ true
+  row_kept : (child : Child) → IsBelow (length raw.rows) (length lines) child → keeps_row (printed_file raw names access suffixes counts) (target_of child) ≡ true
   unfolding file_of
   row_kept (State state) is_below = lt-ltb state (length raw.rows) is_below
   row_kept (Node number) is_below = lt-ltb number (length plain_lines) (omega (arith, count_of_lines))
 
-  pub state_kept : (k : ℕ) → k < length raw.rows → AreKept (keeps_state (printed_file raw names access suffixes) k (state_line raw (k, get_or (node_lines_of raw).rows k (State 0))))
+  pub state_kept : (k : ℕ) → k < length raw.rows → AreKept (keeps_state (printed_file raw names access suffixes counts) k (state_line raw (k, get_or (node_lines_of raw).rows k (State 0))))
   unfolding file_of
   state_kept k within =
       (lt-ltb k (length raw.rows) within, (same_number k, (refl, (row_kept (get_or (node_lines_of raw).rows k (State 0)) (reduced.rows k (State 0) (omega (arith, reduced.count))), tt))))

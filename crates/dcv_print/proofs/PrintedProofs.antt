@@ -13,6 +13,7 @@ use Rattle.dcv_language.specs.Canonical.{access_word, IsStart, IsCanonical}
 use Rattle.dcv_language.specs.Certificate.{GrowsFrom, GrowsInTurn, IsCertificate}
 use Rattle.dcv_language.specs.Language.{Language}
 use Rattle.dcv_language.specs.Table.{Table}
+use Rattle.dcv_count.specs.declared.Count.{Count}
 use Rattle.dcv_dfa.specs.Auto.{table_of_states}
 use Rattle.dcv_dfa.specs.NodeLines.{node_lines_of}
 use Rattle.dcv_dfa.specs.Raw.{RawValue, raw_accepts}
@@ -126,7 +127,7 @@ later_grows k L words suffixes place d certificate later within =
 
 -- ---- lines
 
-module _ (raw : RawValue) (names : List (List ℕ)) (access : List CodeAccess) (suffixes : List CodeSuffix) (proof : IsProof raw access suffixes) (slots : length names ≡ raw.arena.slots)
+module _ (raw : RawValue) (names : List (List ℕ)) (access : List CodeAccess) (suffixes : List CodeSuffix) (counts : List Count) (proof : IsProof raw access suffixes) (slots : length names ≡ raw.arena.slots)
     (rows : length (node_lines_of raw).rows ≡ length raw.rows) where
   pub count_of_words : length proof.words ≡ length raw.rows
   count_of_words = proof.canonical.words ∙ table_has_the_states raw
@@ -134,24 +135,24 @@ module _ (raw : RawValue) (names : List (List ℕ)) (access : List CodeAccess) (
   pub count_of_access : length access ≡ length raw.rows
   count_of_access = proof.spelled.count ∙ count_of_words
 
-  all_states : has_all_states (printed_file raw names access suffixes) ≡ true
+  all_states : has_all_states (printed_file raw names access suffixes counts) ≡ true
   unfolding file_of
   all_states =
       let numbered = enumerate_from 0 (node_lines_of raw).rows in
       le-leb (length raw.rows) (length (map (state_line raw) numbered)) (omega (arith, length-map numbered (state_line raw), length-enumerate_from 0 (node_lines_of raw).rows))
 
-  pub all_access : has_all_access (printed_file raw names access suffixes) ≡ true
+  pub all_access : has_all_access (printed_file raw names access suffixes counts) ≡ true
   unfolding file_of
   all_access =
       let numbered = enumerate_from 0 access in
-      both_true (has_all_states (printed_file raw names access suffixes)) _ all_states
+      both_true (has_all_states (printed_file raw names access suffixes counts)) _ all_states
       (le-leb (length raw.rows) (length (map access_line numbered)) (omega (arith, length-map numbered access_line, length-enumerate_from 0 access, count_of_access)))
 
-  width_kept : (letter : List Bool) → length letter ≡ raw.arena.slots → has_width (printed_file raw names access suffixes) letter ≡ true
+  width_kept : (letter : List Bool) → length letter ≡ raw.arena.slots → has_width (printed_file raw names access suffixes counts) letter ≡ true
   unfolding file_of
   width_kept letter same = (unsigned_Decides (length letter) (length names)).1 (same ∙ sym slots)
 
-  how_kept : (state : ℕ) (one : CodeAccess) → state < length proof.words → IsSpelled proof.words state one → AreKept (keeps_how_access (printed_file raw names access suffixes) state (access_from one))
+  how_kept : (state : ℕ) (one : CodeAccess) → state < length proof.words → IsSpelled proof.words state one → AreKept (keeps_how_access (printed_file raw names access suffixes counts) state (access_from one))
   unfolding file_of
   how_kept state NoLetters within is = (no_letters_at_start raw.arena.slots (raw_accepts raw) (table_of_states raw) proof.words proof.canonical state within is, tt)
   how_kept state (Start letter) within is =
@@ -164,16 +165,16 @@ module _ (raw : RawValue) (names : List (List ℕ)) (access : List CodeAccess) (
         (width_kept letter ends, tt),
       )
 
-  pub access_kept : (k : ℕ) → k < length access → AreKept (keeps_access (printed_file raw names access suffixes) k (access_line (k, get_or access k NoLetters)))
+  pub access_kept : (k : ℕ) → k < length access → AreKept (keeps_access (printed_file raw names access suffixes counts) k (access_line (k, get_or access k NoLetters)))
   unfolding file_of
   access_kept k within =
       let one = get_or access k NoLetters in (
-        both_true (has_all_states (printed_file raw names access suffixes)) _ all_states (lt-ltb k (length raw.rows) (omega (arith, count_of_access))),
+        both_true (has_all_states (printed_file raw names access suffixes counts)) _ all_states (lt-ltb k (length raw.rows) (omega (arith, count_of_access))),
         (same_number k, how_kept k one (omega (arith, count_of_access, count_of_words)) (proof.spelled.each k one (slice_get-get_or access k NoLetters within))),
       )
 
   how_suffix_kept : (place : ℕ) (one : CodeSuffix) → (0 < place → GrowsFrom raw.arena.slots (suffix_words (take place suffixes)) (suffix_word (suffix_words (take place suffixes)) one))
-      → ((from : ℕ) (letter : List Bool) → one ≡ Then letter from → from < place) → AreKept (keeps_how_suffix (printed_file raw names access suffixes) place (suffix_from one))
+      → ((from : ℕ) (letter : List Bool) → one ≡ Then letter from → from < place) → AreKept (keeps_how_suffix (printed_file raw names access suffixes counts) place (suffix_from one))
   unfolding file_of
   how_suffix_kept zero Empty grows earlier = (refl, tt)
   how_suffix_kept zero (Then letter from) grows earlier = absurd (let wrong = earlier from letter refl in omega arith)
@@ -186,7 +187,7 @@ module _ (raw : RawValue) (names : List (List ℕ)) (access : List CodeAccess) (
         (lt-ltb from (suc place) (earlier from letter refl), tt),
       )
 
-  pub suffix_kept : (k : ℕ) → k < length suffixes → AreKept (keeps_suffix (printed_file raw names access suffixes) k (suffix_line (k, get_or suffixes k Empty)))
+  pub suffix_kept : (k : ℕ) → k < length suffixes → AreKept (keeps_suffix (printed_file raw names access suffixes counts) k (suffix_line (k, get_or suffixes k Empty)))
   unfolding file_of
   suffix_kept k within =
       let one = get_or suffixes k Empty in (

@@ -32,7 +32,7 @@ same_suffixes (suffix ∷ suffixes) first earlier =
 
 pub printed_suffixes : PrintedSuffixes
 unfolding suffix_words_of suffix_words file_of
-printed_suffixes raw names access suffixes = same_suffixes suffixes 0 []
+printed_suffixes raw names access suffixes counts = same_suffixes suffixes 0 []
 
 -- ---- access words
 
@@ -87,4 +87,4 @@ words_spelled (one ∷ others) (start ∷ words) is =
 
 pub printed_access : PrintedAccess
 unfolding access_words_of file_of
-printed_access raw names access suffixes words is = ap access_words_from (plain_access access 0) ∙ words_spelled access words is
+printed_access raw names access suffixes counts words is = ap access_words_from (plain_access access 0) ∙ words_spelled access words is

@@ -9,6 +9,7 @@ use Rattle.dcv_c.specs.Observer.{observer_of as unit_of}
 use Rattle.dcv_lustre.specs.Layout as lustre
 use Rattle.dcv_lustre.specs.Observer.{observer_of as node_of}
 use Rattle.dcv_certificate.specs.Proof.{IsProof}
+use Rattle.dcv_count.specs.declared.Count.{Count}
 use Rattle.dcv_dfa.specs.Raw.{RawValue}
 use Rattle.dcv_print.specs.Listed.{listed_file, lustre_text, c_text}
 use Rattle.dcv_print.specs.Printed.{texts_of, printed_file}
@@ -17,13 +18,13 @@ use Rattle.dcv_print.specs.Report.{SpellsAutomaton, IsLustreObserver, IsCObserve
 use Rattle.dcv_print.specs.declared.automaton_lines.Lined.{Lined}
 use Rattle.dcv_print.specs.declared.automaton_lines.Listed.{Listed}
 
-pub spells : (listed : Listed) (raw : RawValue) (names : List Name) → listed.lined.auto.now ≡ raw → listed.lined.names.now ≡ names
-    → IsProof raw listed.proof.access listed.proof.suffixes → SpellsAutomaton raw (texts_of names) (spelled (listed_file listed))
-spells listed raw names same_raw same_names proof = record {
+pub spells : (listed : Listed) (raw : RawValue) (names : List Name) (counts : List Count) → listed.lined.auto.now ≡ raw → listed.lined.names.now ≡ names → listed.counts.now ≡ counts
+    → IsProof raw listed.proof.access listed.proof.suffixes → SpellsAutomaton raw (texts_of names) counts (spelled (listed_file listed))
+spells listed raw names counts same_raw same_names same_counts proof = record {
   access = listed.proof.access;
   suffixes = listed.proof.suffixes;
   proof = proof;
-  says = λ i. spelled (printed_file (same_raw i) (texts_of (same_names i)) listed.proof.access listed.proof.suffixes);
+  says = λ i. spelled (printed_file (same_raw i) (texts_of (same_names i)) listed.proof.access listed.proof.suffixes (same_counts i));
 }
 
 -- ---- all of it

@@ -1,8 +1,9 @@
 -- The laws that `src/laws.rt` proves: the file that is printed of an automaton is spelled by the text, keeps the table rules, and stands for
--- the automaton's table, its access words and the suffixes. It is the file of the set that the automaton accepts, and there is no other but
--- for its suffixes.
+-- the automaton's table, its access words, the suffixes and what the steps took. It is the file of the set that the automaton accepts, and up to
+-- the last access line there is no other.
 --     IsPrintable raw names        this automaton may be printed with these names
-use Rattle.std.specs.Prelude.{◌≡◌, ℕ, ◌≤◌, List, length}
+use Rattle.std.specs.Prelude.{◌≡◌, ℕ, ◌≤◌, List, length, map}
+use Rattle.std.specs.List.{enumerate_from}
 use Rattle.dcv_word.specs.Behaviour.{Word}
 use Rattle.dcv_language.specs.Language.{Language, HaveSameBehaviours}
 use Rattle.dcv_language.specs.Table.{Table, IsTable, AcceptsExactly}
@@ -12,6 +13,9 @@ use Rattle.dcv_automaton_text.specs.Form.{IsSpellable}
 use Rattle.dcv_automaton_text.specs.Spelled.{spelled}
 use Rattle.dcv_automaton_text.specs.Meaning.{table_of, access_words_of, suffix_words_of}
 use Rattle.dcv_automaton_text.specs.Rules.{IsGood}
+use Rattle.dcv_automaton_text.specs.Versions.{version_of, first_version, steps_of}
+use Rattle.dcv_automaton_read.specs.File.{step_line}
+use Rattle.dcv_count.specs.declared.Count.{Count}
 use Rattle.dcv_dfa.specs.Auto.{table_of_states}
 use Rattle.dcv_dfa.specs.Raw.{RawValue, raw_accepts}
 use Rattle.dcv_language.specs.declared.certificate.Access.{Access}
@@ -22,7 +26,8 @@ use Rattle.dcv_c.specs.Layout as c
 use Rattle.dcv_c.specs.Observer.{observer_of as unit_of}
 use Rattle.dcv_lustre.specs.Layout as lustre
 use Rattle.dcv_lustre.specs.Observer.{observer_of as node_of}
-use Rattle.dcv_print.specs.Automaton.{IsAutomatonOf, AreSameButForSuffixes}
+use Rattle.dcv_print.specs.Counts.{ArePrintableCounts}
+use Rattle.dcv_print.specs.Automaton.{IsAutomatonOf, AreSameUpToAccess}
 use Rattle.dcv_print.specs.Observers.{IsFileOf, SaysNode, SaysUnit}
 use Rattle.dcv_print.specs.Printed.{printed_file}
 
@@ -31,44 +36,49 @@ IsPrintable raw names = HasFile raw names
 
 -- the words of the file are words of the form
 abbrev pub PrintedIsSpellable : Type 0
-PrintedIsSpellable = (raw : RawValue) (names : List (List ℕ)) (access : List Access) (suffixes : List Suffix)
-    → IsPrintable raw names → IsProof raw access suffixes → IsSpellable (printed_file raw names access suffixes)
+PrintedIsSpellable = (raw : RawValue) (names : List (List ℕ)) (access : List Access) (suffixes : List Suffix) (counts : List Count)
+    → IsPrintable raw names → IsProof raw access suffixes → ArePrintableCounts counts → IsSpellable (printed_file raw names access suffixes counts)
 
 abbrev pub PrintedIsGood : Type 0
-PrintedIsGood = (raw : RawValue) (names : List (List ℕ)) (access : List Access) (suffixes : List Suffix)
-    → IsPrintable raw names → IsProof raw access suffixes → IsGood (printed_file raw names access suffixes)
+PrintedIsGood = (raw : RawValue) (names : List (List ℕ)) (access : List Access) (suffixes : List Suffix) (counts : List Count)
+    → IsPrintable raw names → IsProof raw access suffixes → ArePrintableCounts counts → IsGood (printed_file raw names access suffixes counts)
 
 -- the text has no fault, and no other file
 abbrev pub PrintedIsReadBack : Type 0
-PrintedIsReadBack = (raw : RawValue) (names : List (List ℕ)) (access : List Access) (suffixes : List Suffix)
-    → IsPrintable raw names → IsProof raw access suffixes
-    → let file = printed_file raw names access suffixes in IsReadAs (spelled file) file
+PrintedIsReadBack = (raw : RawValue) (names : List (List ℕ)) (access : List Access) (suffixes : List Suffix) (counts : List Count)
+    → IsPrintable raw names → IsProof raw access suffixes → ArePrintableCounts counts
+    → let file = printed_file raw names access suffixes counts in IsReadAs (spelled file) file
 
 abbrev pub PrintedTable : Type 0
-PrintedTable = (raw : RawValue) (names : List (List ℕ)) (access : List Access) (suffixes : List Suffix)
-    → IsPrintable raw names → table_of (printed_file raw names access suffixes) ≡ table_of_states raw
+PrintedTable = (raw : RawValue) (names : List (List ℕ)) (access : List Access) (suffixes : List Suffix) (counts : List Count)
+    → IsPrintable raw names → table_of (printed_file raw names access suffixes counts) ≡ table_of_states raw
 
 -- the access words are those that the list spells
 abbrev pub PrintedAccess : Type 0
-PrintedAccess = (raw : RawValue) (names : List (List ℕ)) (access : List Access) (suffixes : List Suffix) (words : List Word)
-    → AreSpelled access words → access_words_of (printed_file raw names access suffixes) ≡ words
+PrintedAccess = (raw : RawValue) (names : List (List ℕ)) (access : List Access) (suffixes : List Suffix) (counts : List Count) (words : List Word)
+    → AreSpelled access words → access_words_of (printed_file raw names access suffixes counts) ≡ words
 
 abbrev pub PrintedSuffixes : Type 0
-PrintedSuffixes = (raw : RawValue) (names : List (List ℕ)) (access : List Access) (suffixes : List Suffix)
-    → suffix_words_of (printed_file raw names access suffixes) ≡ suffix_words suffixes
+PrintedSuffixes = (raw : RawValue) (names : List (List ℕ)) (access : List Access) (suffixes : List Suffix) (counts : List Count)
+    → suffix_words_of (printed_file raw names access suffixes counts) ≡ suffix_words suffixes
+
+-- its version says what the steps took, and they are as they were given
+abbrev pub PrintedSteps : Type 0
+PrintedSteps = (raw : RawValue) (names : List (List ℕ)) (access : List Access) (suffixes : List Suffix) (counts : List Count)
+    → let file = printed_file raw names access suffixes counts in (version_of file ≡ 2) × (steps_of file ≡ map step_line (enumerate_from 0 counts))
 
 -- ---- what the text is
 
 -- the file that is printed says the canonical automaton of the words that are accepted
 abbrev pub PrintedIsAutomaton : Type 0
-PrintedIsAutomaton = (raw : RawValue) (names : List (List ℕ)) (access : List Access) (suffixes : List Suffix)
-    → IsPrintable raw names → IsProof raw access suffixes
-    → IsAutomatonOf raw.arena.slots (raw_accepts raw) names (printed_file raw names access suffixes)
+PrintedIsAutomaton = (raw : RawValue) (names : List (List ℕ)) (access : List Access) (suffixes : List Suffix) (counts : List Count)
+    → IsPrintable raw names → IsProof raw access suffixes → ArePrintableCounts counts
+    → IsAutomatonOf raw.arena.slots (raw_accepts raw) names (printed_file raw names access suffixes counts)
 
--- all of a file that says the canonical automaton of a set is determined, but for its suffixes
+-- all of a file that says the canonical automaton of a set is determined up to its access lines
 abbrev pub OneAutomaton : Type 0
 OneAutomaton = (k : ℕ) (L : Language) (names : List (List ℕ)) (one other : AutomatonFile)
-    → IsAutomatonOf k L names one → IsAutomatonOf k L names other → AreSameButForSuffixes one other
+    → IsAutomatonOf k L names one → IsAutomatonOf k L names other → AreSameUpToAccess one other
 
 -- sets with the same behaviours have the same files
 abbrev pub AutomatonOfSameBehaviours : Type 0
@@ -88,6 +98,13 @@ OneFile = (k : ℕ) (L : Language) (names : List (List ℕ)) (one other : Automa
 
 abbrev pub FileOfSameBehaviours : Type 0
 FileOfSameBehaviours = (k : ℕ) (L M : Language) (names : List (List ℕ)) (file : AutomatonFile) → HaveSameBehaviours k L M → IsFileOf k L names file → IsFileOf k M names file
+
+-- both versions of a file have the same observers
+abbrev pub NodeOfVersions : Type 0
+NodeOfVersions = (file : AutomatonFile) → node_of (first_version file) ≡ node_of file
+
+abbrev pub UnitOfVersions : Type 0
+UnitOfVersions = (file : AutomatonFile) → unit_of (first_version file) ≡ unit_of file
 
 -- its observer is what a text has to be that says an observer of the set
 abbrev pub FileSaysNode : Type 0

@@ -1,5 +1,6 @@
 pub mod Verdict
 pub mod Said
+pub mod Counts
 pub mod Printed
 pub mod Pushed
 pub mod Listed

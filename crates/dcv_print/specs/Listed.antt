@@ -20,9 +20,9 @@ use Rattle.dcv_print.specs.declared.automaton_lines.Lined.{Lined}
 use Rattle.dcv_print.specs.declared.automaton_lines.Listed.{Listed}
 
 abbrev pub listed_file : Listed → AutomatonFile
-listed_file listed = printed_file listed.lined.auto.now (texts_of listed.lined.names.now) listed.proof.access listed.proof.suffixes
+listed_file listed = printed_file listed.lined.auto.now (texts_of listed.lined.names.now) listed.proof.access listed.proof.suffixes listed.counts.now
 
--- the file's words do not matter to an observer, so it has none
+-- the file's words and steps do not matter to an observer, so it has none
 abbrev pub lustre_text : Lined → List ℕ
 lustre_text lined = lustre.text_of (node_of (file_of lined.auto.now (texts_of lined.names.now) [] []))
 

@@ -1,13 +1,15 @@
--- The file that is printed of an automaton: its node lines, its states with their rows, and how its access words and the suffixes are spelled.
---     printed_file raw names access suffixes    the file
-use Rattle.std.specs.Prelude.{ℕ, List, map}
+-- The file that is printed of an automaton: its node lines, its states with their rows, how its access words and the suffixes are spelled,
+-- and what the steps took of which it was built.
+--     printed_file raw names access suffixes counts    the file, of version 2
+use Rattle.std.specs.Prelude.{ℕ, List, Some, map}
 use Rattle.std.specs.List.{enumerate_from}
+use Rattle.dcv_count.specs.declared.Count.{Count}
 use Rattle.dcv_dfa.specs.Raw.{RawValue}
 use Rattle.dcv_language.specs.declared.certificate.Access.{Access as CodeAccess}
 use Rattle.dcv_language.specs.declared.certificate.Suffix.{Suffix as CodeSuffix}
 pub use Rattle.dcv_automaton_file.specs.File.{texts_of, target_of, node_line, state_line}
 unfoldable pub use Rattle.dcv_automaton_file.specs.File.{file_of}
-use Rattle.dcv_automaton_read.specs.File.{access_from, suffix_from}
+use Rattle.dcv_automaton_read.specs.File.{access_from, suffix_from, step_part}
 use Rattle.dcv_automaton_text.specs.File.{AccessLine, SuffixLine, AutomatonFile}
 
 -- ---- lines, of what has a number
@@ -20,6 +22,7 @@ suffix_line numbered = record { number = numbered.0; suffix = suffix_from number
 
 -- ---- the file
 
-abbrev pub printed_file : RawValue → List (List ℕ) → List CodeAccess → List CodeSuffix → AutomatonFile
-printed_file raw names access suffixes =
-    file_of raw names (map access_line (enumerate_from 0 access)) (map suffix_line (enumerate_from 0 suffixes))
+abbrev pub printed_file : RawValue → List (List ℕ) → List CodeAccess → List CodeSuffix → List Count → AutomatonFile
+printed_file raw names access suffixes counts =
+    record (file_of raw names (map access_line (enumerate_from 0 access)) (map suffix_line (enumerate_from 0 suffixes)))
+    { steps = Some (step_part counts) }

@@ -1,7 +1,8 @@
 -- What a report says of an automaton.
---     ReportValue                a verdict, and the text that is written
---     Says kind raw names r      the text of the report is what the kind asks for, of this automaton over variables with these names
---     SpellsAllBy raw names ..   so is this text of all that is asked for, with these words of the automaton
+--     ReportValue                    a verdict, and the text that is written
+--     Says kind raw names counts r   the text of the report is what the kind asks for, of this automaton over variables with these names,
+--                                    which was built in steps that took so much
+--     SpellsAllBy raw names ..       so is this text of all that is asked for, with these words of the automaton
 use Rattle.std.specs.Prelude.{◌≡◌, ℕ, List}
 use Rattle.dcv_language.specs.Verdict.{Verdict, IsVerdict}
 use Rattle.dcv_language.specs.VerdictText.{verdict_text}
@@ -11,6 +12,7 @@ use Rattle.dcv_automaton_text.specs.File.{AccessLine, SuffixLine}
 use Rattle.dcv_automaton_text.specs.Spelled.{spelled}
 use Rattle.dcv_automaton_file.specs.File.{file_of}
 use Rattle.dcv_certificate.specs.Proof.{IsProof}
+use Rattle.dcv_count.specs.declared.Count.{Count}
 use Rattle.dcv_dfa.specs.Raw.{RawValue, raw_accepts}
 use Rattle.dcv_c.specs.Layout as c
 use Rattle.dcv_c.specs.Observer.{observer_of as unit_of}
@@ -31,14 +33,14 @@ pub record ReportValue : Type 0 where
   pub verdict : Verdict
   pub text : List ℕ
 
--- the text of the automaton, with words that show that none with fewer states accepts the same
-pub record SpellsAutomaton (raw : RawValue) (names : List (List ℕ)) (text : List ℕ) : Type 0 where
+-- the text of the automaton, with words that show that none with fewer states accepts the same, and with what the steps took
+pub record SpellsAutomaton (raw : RawValue) (names : List (List ℕ)) (counts : List Count) (text : List ℕ) : Type 0 where
   pub access : List Access
   pub suffixes : List Suffix
   pub proof : IsProof raw access suffixes
-  pub says : text ≡ spelled (printed_file raw names access suffixes)
+  pub says : text ≡ spelled (printed_file raw names access suffixes counts)
 
--- the text of the observer, in which the words of the automaton's lines do not matter
+-- the text of the observer, in which the words of the automaton's lines and the steps do not matter
 abbrev pub IsLustreObserver : RawValue → List (List ℕ) → List ℕ → Type 0
 IsLustreObserver raw names text =
     (access : List AccessLine) (suffixes : List SuffixLine) → text ≡ lustre.text_of (node_of (file_of raw names access suffixes))
@@ -48,31 +50,31 @@ IsCObserver raw names text =
     (access : List AccessLine) (suffixes : List SuffixLine) → text ≡ c.text_of (unit_of (file_of raw names access suffixes))
 
 -- the verdict, the automaton and both observers, each behind its line
-pub record SpellsAll (raw : RawValue) (names : List (List ℕ)) (verdict text : List ℕ) : Type 0 where
+pub record SpellsAll (raw : RawValue) (names : List (List ℕ)) (counts : List Count) (verdict text : List ℕ) : Type 0 where
   pub automaton : List ℕ
   pub node : List ℕ
   pub unit : List ℕ
-  pub spells_automaton : SpellsAutomaton raw names automaton
+  pub spells_automaton : SpellsAutomaton raw names counts automaton
   pub is_node : IsLustreObserver raw names node
   pub is_unit : IsCObserver raw names unit
   pub says : text ≡ all_text verdict automaton node unit
 
 -- the same, with words that were found before
-pub record SpellsAllBy (raw : RawValue) (names : List (List ℕ)) (access : List Access) (suffixes : List Suffix) (text : List ℕ) : Type 0 where
+pub record SpellsAllBy (raw : RawValue) (names : List (List ℕ)) (access : List Access) (suffixes : List Suffix) (counts : List Count) (text : List ℕ) : Type 0 where
   pub verdict : Verdict
   pub node : List ℕ
   pub unit : List ℕ
   pub is_verdict : IsVerdict raw.arena.slots (raw_accepts raw) verdict
   pub is_node : IsLustreObserver raw names node
   pub is_unit : IsCObserver raw names unit
-  pub says : text ≡ all_text (verdict_text verdict) (spelled (printed_file raw names access suffixes)) node unit
+  pub says : text ≡ all_text (verdict_text verdict) (spelled (printed_file raw names access suffixes counts)) node unit
 
-abbrev pub Says : Kind → RawValue → List (List ℕ) → ReportValue → Type 0
-Says Check raw names report = report.text ≡ verdict_text report.verdict
-Says Automaton raw names report = SpellsAutomaton raw names report.text
-Says Lustre raw names report = IsLustreObserver raw names report.text
-Says C raw names report = IsCObserver raw names report.text
-Says All raw names report = SpellsAll raw names (verdict_text report.verdict) report.text
+abbrev pub Says : Kind → RawValue → List (List ℕ) → List Count → ReportValue → Type 0
+Says Check raw names counts report = report.text ≡ verdict_text report.verdict
+Says Automaton raw names counts report = SpellsAutomaton raw names counts report.text
+Says Lustre raw names counts report = IsLustreObserver raw names report.text
+Says C raw names counts report = IsCObserver raw names report.text
+Says All raw names counts report = SpellsAll raw names counts (verdict_text report.verdict) report.text
 
 -- ---- how a report of the code is seen
 

@@ -7,35 +7,40 @@ ghost use Rattle.dcv_dfa.specs.Auto.{count_of_nodes};
 ghost use Rattle.dcv_dfa.specs.NodeLines.{node_lines_of};
 ghost use Rattle.dcv_automaton_text.specs.Rules.{AreNames, most_states, most_nodes};
 ghost use Rattle.dcv_automaton_text.specs.Spelled.{answer_word, target_word, name_words, node_words, state_words, how_access};
-ghost use Rattle.dcv_automaton_text.specs.Spelled.{how_suffix, spelled_line, spelled};
+ghost use Rattle.dcv_automaton_text.specs.Spelled.{how_suffix, step_words, steps_words, spelled_line, spelled};
 ghost use Rattle.dcv_print.specs.Printed.{texts_of, target_of, node_line, state_line, printed_file};
-ghost use Rattle.dcv_automaton_read.specs.File.{access_from, suffix_from};
+ghost use Rattle.dcv_automaton_read.specs.File.{access_from, suffix_from, step_line, step_part};
 ghost use Rattle.dcv_certificate.specs.Proof.{IsProof};
+ghost use Rattle.dcv_print.specs.Counts.{ArePrintableCounts};
 ghost use Rattle.dcv_print.specs.Listed.{IsLined, listed_file};
 ghost use Rattle.dcv_print.specs.Pushed.{spaced, spelled_lines};
 
-use crate::verdict_lines::{put_letter, put_number};
+use crate::verdict_lines::{put_heading, put_letter, put_number};
 use dcv_certificate::{Access, Proof, Suffix, separate};
+use dcv_count::Count;
 use dcv_dfa::{Auto, Child, NodeLine, NodeLines};
 use dcv_io::{Target, Text, put_pieces};
 use dcv_syntax::Name;
 use itoa::Buffer;
 use std::alloc::{AllocError, Global};
 
-/// The text of an automaton, version 1: the names of its variables, its nodes and states, how its access words are spelled,
-/// and suffixes that tell them apart.
+/// The text of an automaton, version 2: the names of its variables, its nodes and states, how its access words are spelled, suffixes
+/// that tell them apart, and what the steps took of which it was built. There is a count for each step in order, at most 131,168.
 pub fn automaton_text(
     alloc: Global,
     auto: &Auto,
     names: &[Name],
     proof: &Proof,
+    counts: &[Count],
 ) -> Result<Vec<u8>, AllocError>
-    requires { length names.now ≡ auto.now.arena.slots }
-    ensures { IfOk result (λ text. text.items ≡ spelled (printed_file auto.now (texts_of names.now) proof.now.access proof.now.suffixes)) }
+    requires slots { length names.now ≡ auto.now.arena.slots }
+    requires counts { ArePrintableCounts counts.now }
+    ensures { IfOk result (λ text. text.items
+        ≡ spelled (printed_file auto.now (texts_of names.now) proof.now.access proof.now.suffixes counts.now)) }
 {
     let nodes = auto.node_lines(alloc)?;
     let mut text = Text::new(alloc);
-    put_automaton(&mut text, auto, names, &nodes, proof);
+    put_automaton(&mut text, auto, names, &nodes, proof, counts);
     text.finish()
 }
 
@@ -72,14 +77,16 @@ impl<'a> Lined<'a> {
 pub(crate) struct Listed<'a> {
     pub(crate) lined: Lined<'a>,
     pub(crate) proof: Proof,
+    pub(crate) counts: &'a [Count],
 }
 
 impl<'a> Listed<'a> {
-    // The automaton over variables with these names.
+    // The automaton over variables with these names, which was built in steps that took so much.
     pub(crate) fn new(
         alloc: Global,
         auto: &'a Auto,
         names: &'a [Name],
+        counts: &'a [Count],
     ) -> Result<Listed<'a>, AllocError>
         requires names { AreNames (texts_of names.now) }
         requires slots { length names.now ≡ auto.now.arena.slots }
@@ -89,10 +96,15 @@ impl<'a> Listed<'a> {
         ensures names { IfOk result (λ listed. listed.lined.names.now ≡ names.now) }
         ensures proof { IfOk result (λ listed. IsProof auto.now listed.proof.access listed.proof.suffixes) }
         ensures lined { IfOk result (λ listed. IsLined listed.lined) }
+        ensures counts { IfOk result (λ listed. listed.counts.now ≡ counts.now) }
     {
         let lined = Lined::new(alloc, auto, names)?;
         let proof = separate(alloc, auto)?;
-        Ok(Listed { lined, proof })
+        Ok(Listed {
+            lined,
+            proof,
+            counts,
+        })
     }
 
     // Puts the automaton's text.
@@ -101,7 +113,8 @@ impl<'a> Listed<'a> {
         ensures { Puts (T.standing target.old) (T.standing target.new) (spelled (listed_file self.now)) }
     {
         let lined = &self.lined;
-        put_automaton(target, lined.auto, lined.names, &lined.nodes, &self.proof);
+        let (auto, names) = (lined.auto, lined.names);
+        put_automaton(target, auto, names, &lined.nodes, &self.proof, self.counts);
     }
 }
 
@@ -112,40 +125,32 @@ pub(crate) fn put_automaton<T: Target>(
     names: &[Name],
     nodes: &NodeLines,
     proof: &Proof,
+    counts: &[Count],
 )
     requires nodes { nodes.now ≡ node_lines_of auto.now }
     requires slots { All (λ (node : NodeLine). node.slot < length names.now) nodes.now.lines }
-    ensures { Puts (T.standing target.old) (T.standing target.new) (spelled (printed_file auto.now (texts_of names.now) proof.now.access proof.now.suffixes)) }
+    ensures { Puts (T.standing target.old) (T.standing target.new)
+        (spelled (printed_file auto.now (texts_of names.now) proof.now.access proof.now.suffixes counts.now)) }
 {
     put_head(target, names, auto.states());
     put_nodes(target, names, nodes.lines());
     put_states(target, auto, nodes.rows());
     put_entries(target, b"access", proof.access());
     put_entries(target, b"suffix", proof.suffixes());
+    put_steps(target, counts);
     target.put(b"end\n");
 }
 
 // The lines before those of the nodes.
 fn put_head<T: Target>(target: &mut T, names: &[Name], states: u32)
     ensures { Puts (T.standing target.old) (T.standing target.new)
-        (spelled_line (codes "automaton" ∷ codes "1" ∷ [])
+        (spelled_line (codes "automaton" ∷ codes "2" ∷ [])
         ++ (spelled_line (codes "variables" ∷ name_words (texts_of names.now))
         ++ spelled_line (codes "states" ∷ decimal states ∷ []))) }
 {
-    target.put(b"automaton 1\n");
+    target.put(b"automaton 2\n");
     put_variables(target, names);
-    put_count(target, states);
-}
-
-// The line of the number of states.
-fn put_count<T: Target>(target: &mut T, states: u32)
-    ensures { Puts (T.standing target.old) (T.standing target.new) (spelled_line (codes "states" ∷ decimal states ∷ [])) }
-{
-    let mut digits = Buffer::new();
-    put_pieces(
-        target,
-        &[b"states ", digits.format(states as usize).as_bytes(), b"\n"],
-    );
+    put_heading(target, b"states", states as usize);
 }
 
 // The line of the variables.
@@ -325,6 +330,39 @@ fn put_entry<T: Target, E: Entry>(target: &mut T, number: usize, entry: E)
     put_number(target, number);
     entry.put(target);
     target.put(b"\n");
+}
+
+// How many steps there are, and a line for each.
+fn put_steps<T: Target>(target: &mut T, counts: &[Count])
+    ensures { Puts (T.standing target.old) (T.standing target.new)
+        (spelled_line (steps_words (step_part counts.now)) ++ spelled_lines (λ numbered. step_words (step_line numbered)) counts.now) }
+{
+    put_heading(target, b"steps", counts.len());
+    for (number, count) in counts.iter().enumerate() {
+        put_step(target, number, *count);
+    }
+}
+
+// The line of a step.
+fn put_step<T: Target>(target: &mut T, number: usize, count: Count)
+    ensures { Puts (T.standing target.old) (T.standing target.new) (spelled_line (step_words (step_line (number, count)))) }
+{
+    let (mut place, mut at) = (Buffer::new(), Buffer::new());
+    let (mut states, mut nodes) = (Buffer::new(), Buffer::new());
+    put_pieces(
+        target,
+        &[
+            b"step ",
+            place.format(number).as_bytes(),
+            b" at ",
+            at.format(count.at).as_bytes(),
+            b" states ",
+            states.format(count.states).as_bytes(),
+            b" nodes ",
+            nodes.format(count.nodes).as_bytes(),
+            b"\n",
+        ],
+    );
 }
 
 // A state or a node.

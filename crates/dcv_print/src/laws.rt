@@ -1,7 +1,8 @@
 //! Laws of the text that is printed of an automaton. Each function here does nothing: its contract is the law.
-ghost use Rattle.dcv_print.specs.Laws.{PrintedIsSpellable, PrintedIsGood, PrintedTable, PrintedAccess, PrintedSuffixes};
+ghost use Rattle.dcv_print.specs.Laws.{PrintedIsSpellable, PrintedIsGood, PrintedTable, PrintedAccess, PrintedSuffixes, PrintedSteps};
 ghost use Rattle.dcv_print.specs.Laws.{OneFile, FileOfSameBehaviours, FileSaysNode, FileSaysUnit};
 ghost use Rattle.dcv_print.specs.Laws.{PrintedIsReadBack, PrintedIsAutomaton, OneAutomaton, AutomatonOfSameBehaviours, AutomatonHasFewestStates};
+ghost use Rattle.dcv_print.specs.Laws.{NodeOfVersions, UnitOfVersions};
 
 use dcv_automaton_read::laws::good_texts_are_read;
 use dcv_automaton_text::laws::words_show_fewest_states;
@@ -24,11 +25,12 @@ pub fn printed_texts_are_read_back()
     good_texts_are_read();
 }
 
-/// The text of an automaton stands for its table, for its access words and for the suffixes.
+/// The text of an automaton stands for its table, for its access words, for the suffixes and for what the steps took.
 pub fn printed_texts_stand_for_automata()
     ensures table { PrintedTable }
     ensures access { PrintedAccess }
     ensures suffixes { PrintedSuffixes }
+    ensures steps { PrintedSteps }
 {
     lines_are_of_tables();
 }
@@ -40,7 +42,7 @@ pub fn printed_is_automaton()
     lines_are_of_tables();
 }
 
-/// What says the canonical automaton of a set is determined, but for its suffixes.
+/// What says the canonical automaton of a set is determined up to its last access line.
 pub fn one_automaton()
     ensures { OneAutomaton }
 {
@@ -71,6 +73,12 @@ pub fn one_file()
     canonical_for_same_behaviours();
     lines_are_of_tables();
 }
+
+/// What the steps took does not matter to an observer.
+pub fn versions_have_the_same_observers()
+    ensures node { NodeOfVersions }
+    ensures unit { UnitOfVersions }
+{}
 
 /// The texts of the observers of this file are read as these, and both accept the behaviours of the set.
 pub fn printed_observers_observe()

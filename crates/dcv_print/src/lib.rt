@@ -5,7 +5,7 @@
 //! let verdict = verdict(alloc, &auto)?;
 //! verdict.is_valid()    // there is no counterexample
 //! verdict.text(alloc)?  // what `verdict_text(alloc, &auto)` gives
-//! automaton_text(alloc, &auto, &names, &separate(alloc, &auto)?)?
+//! automaton_text(alloc, &auto, &names, &separate(alloc, &auto)?, &counts)?
 //! ```
 //!
 //! Of the behaviours over one variable in whose last letter it is true, the verdict's text is
@@ -19,7 +19,8 @@
 //! 1
 //! ```
 //!
-//! The automaton's text is shown in `dcv_automaton_text`, and read back by [`automaton_read`]. What is true of it is in [`laws`].
+//! The automaton's text is shown in `dcv_automaton_text`, and read back by [`automaton_read`]. It is of version 2, and ends in what the
+//! steps took of which the automaton was built. What is true of it is in [`laws`].
 #![tactic(auto)]
 
 mod automaton_lines;
@@ -31,5 +32,5 @@ mod verdicts;
 pub use automaton_lines::automaton_text;
 pub use dcv_automaton_read::{AutoFault, AutoFile, automaton_read};
 pub use report::{Kind, Report, all_text};
-pub use verdict_lines::{Verdict, put_word};
+pub use verdict_lines::{Verdict, put_letter, put_word};
 pub use verdicts::{verdict, verdict_text};

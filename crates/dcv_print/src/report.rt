@@ -7,6 +7,7 @@ ghost use Rattle.dcv_language.specs.Verdict.{IsVerdict};
 ghost use Rattle.dcv_dfa.specs.Auto.{count_of_nodes};
 ghost use Rattle.dcv_dfa.specs.Raw.{raw_accepts};
 ghost use Rattle.dcv_automaton_text.specs.Rules.{AreNames, most_states, most_nodes};
+ghost use Rattle.dcv_print.specs.Counts.{ArePrintableCounts};
 ghost use Rattle.dcv_print.specs.Printed.{texts_of};
 ghost use Rattle.dcv_language.specs.VerdictText.{verdict_text};
 ghost use Rattle.dcv_print.specs.Listed.{lustre_text, c_text, IsLined};
@@ -18,6 +19,7 @@ use crate::automaton_lines::{Lined, Listed, put_automaton};
 use crate::verdict_lines::Verdict;
 use crate::verdicts::verdict;
 use dcv_certificate::Proof;
+use dcv_count::Count;
 use dcv_dfa::Auto;
 use dcv_io::{Block, Failed, Sink, Target, Text};
 use dcv_syntax::Name;
@@ -79,25 +81,27 @@ impl Listed<'_> {
     }
 }
 
-/// All that is said of an automaton: its verdict, its own text with the words of this proof, and both observers, each behind a line
-/// that names it.
+/// All that is said of an automaton: its verdict, its own text with the words of this proof and what the steps took, and both
+/// observers, each behind a line that names it.
 pub fn all_text(
     alloc: Global,
     auto: &Auto,
     names: &[Name],
     proof: &Proof,
+    counts: &[Count],
 ) -> Result<Vec<u8>, AllocError>
     requires names { AreNames (texts_of names.now) }
     requires slots { length names.now ≡ auto.now.arena.slots }
     requires states { length auto.now.rows ≤ most_states }
     requires nodes { count_of_nodes auto.now ≤ most_nodes }
-    ensures { IfOk result (λ text. SpellsAllBy auto.now (texts_of names.now) proof.now.access proof.now.suffixes text.items) }
+    requires counts { ArePrintableCounts counts.now }
+    ensures { IfOk result (λ text. SpellsAllBy auto.now (texts_of names.now) proof.now.access proof.now.suffixes counts.now text.items) }
 {
     let verdict = verdict(alloc, auto)?;
     let lined = Lined::new(alloc, auto, names)?;
     let mut text = Text::new(alloc);
     put_verdict(&mut text, &verdict);
-    put_automaton(&mut text, auto, names, &lined.nodes, proof);
+    put_automaton(&mut text, auto, names, &lined.nodes, proof, counts);
     put_observers(&mut text, &lined);
     text.finish()
 }
@@ -144,22 +148,25 @@ impl<'a> Model for Report<'a> {
 }
 
 impl<'a> Report<'a> {
-    /// What the kind says of an automaton over variables with these names.
+    /// What the kind says of an automaton over variables with these names, which was built in steps that took so much: one count for each
+    /// step in order.
     pub fn make(
         alloc: Global,
         auto: &'a Auto,
         names: &'a [Name],
         kind: Kind,
+        counts: &'a [Count],
     ) -> Result<Report<'a>, AllocError>
         requires names { AreNames (texts_of names.now) }
         requires slots { length names.now ≡ auto.now.arena.slots }
         requires states { length auto.now.rows ≤ most_states }
         requires nodes { count_of_nodes auto.now ≤ most_nodes }
+        requires counts { ArePrintableCounts counts.now }
         ensures verdict { IfOk result (λ report. IsVerdict auto.now.arena.slots (raw_accepts auto.now) report.verdict) }
-        ensures says { IfOk result (Says kind auto.now (texts_of names.now)) }
+        ensures says { IfOk result (Says kind auto.now (texts_of names.now) counts.now) }
     {
         let verdict = verdict(alloc, auto)?;
-        let content = content_of(alloc, auto, names, kind)?;
+        let content = content_of(alloc, auto, names, kind, counts)?;
         Ok(Report { verdict, content })
     }
 
@@ -205,19 +212,20 @@ fn content_of<'a>(
     auto: &'a Auto,
     names: &'a [Name],
     kind: Kind,
+    counts: &'a [Count],
 ) -> Result<Content<'a>, AllocError>
     requires names { AreNames (texts_of names.now) }
     requires slots { length names.now ≡ auto.now.arena.slots }
     requires states { length auto.now.rows ≤ most_states }
     requires nodes { count_of_nodes auto.now ≤ most_nodes }
-    ensures says { IfOk result (λ content. (verdict : CodeVerdict) → Says kind auto.now (texts_of names.now) (seen_report verdict content)) }
+    ensures says { IfOk result (λ content. (verdict : CodeVerdict) → Says kind auto.now (texts_of names.now) counts.now (seen_report verdict content)) }
     ensures content { IfOk result IsContent }
 {
     match kind {
         Kind::Check => Ok(Content::Verdict),
-        Kind::Automaton => Ok(Content::Automaton(Listed::new(alloc, auto, names)?)),
+        Kind::Automaton => Ok(Content::Automaton(Listed::new(alloc, auto, names, counts)?)),
         Kind::Lustre => Ok(Content::Lustre(Lined::new(alloc, auto, names)?)),
         Kind::C => Ok(Content::C(Lined::new(alloc, auto, names)?)),
-        Kind::All => Ok(Content::All(Listed::new(alloc, auto, names)?)),
+        Kind::All => Ok(Content::All(Listed::new(alloc, auto, names, counts)?)),
     }
 }

@@ -75,7 +75,7 @@ pub fn put_word<T: Target>(target: &mut T, heading: &[u8], word: &Option<Word>)
 }
 
 // The heading with a number.
-fn put_heading<T: Target>(target: &mut T, heading: &[u8], number: usize)
+pub(crate) fn put_heading<T: Target>(target: &mut T, heading: &[u8], number: usize)
     ensures { Puts (T.standing target.old) (T.standing target.new) (line (heading.now ++ codes " " ++ decimal number)) }
 {
     let mut digits = Buffer::new();
@@ -103,8 +103,8 @@ pub(crate) fn put_number<T: Target>(target: &mut T, number: usize)
     target.put(digits.format(number).as_bytes());
 }
 
-// A letter, as in a trace.
-pub(crate) fn put_letter<T: Target>(target: &mut T, letter: Letter)
+/// Puts a letter as a trace has it, without the line feed: a digit for the value of each variable in order, or a dash where there is none.
+pub fn put_letter<T: Target>(target: &mut T, letter: Letter)
     ensures { Puts (T.standing target.old) (T.standing target.new) (trace_line letter) }
 {
     if letter.width() == 0 {

@@ -16,9 +16,9 @@ returns g c =
     let proof = c.args.proof.now in
     let all = c.requires.nodes in
     puts_same _ _ _ _
-    (puts_both _ _ _ _ _ (puts_both _ _ _ _ _ (puts_both _ _ _ _ _ (puts_both _ _ _ _ _ (puts_both _ _ _ _ _ c.put_head.ensures c.put_nodes.ensures) c.put_states.ensures) c.put_entries.ensures) c.put_entries-2.ensures) c.put.ensures)
-    (text_joined raw names proof.access proof.suffixes _ _ _ _ _
-    (ap (λ states. spelled_line (codes "automaton" ∷ codes "1" ∷ []) ++ (spelled_line (codes "variables" ∷ name_words names) ++ spelled_line (codes "states" ∷ decimal states ∷ []))) c.states.ensures.states)
+    (puts_both _ _ _ _ _ (puts_both _ _ _ _ _ (puts_both _ _ _ _ _ (puts_both _ _ _ _ _ (puts_both _ _ _ _ _ (puts_both _ _ _ _ _ c.put_head.ensures c.put_nodes.ensures) c.put_states.ensures) c.put_entries.ensures) c.put_entries-2.ensures) c.put_steps.ensures) c.put.ensures)
+    (text_joined raw names proof.access proof.suffixes c.args.counts.now _ _ _ _ _
+    (ap (λ states. spelled_line (codes "automaton" ∷ codes "2" ∷ []) ++ (spelled_line (codes "variables" ∷ name_words names) ++ spelled_line (codes "states" ∷ decimal states ∷ []))) c.states.ensures.states)
     (ap (λ lines. spelled_lines (λ numbered. node_words (node_line names numbered)) lines) (c.lines.ensures ∙ ap (λ (every : NodeLinesValue). every.lines) all))
     (ap (λ rows. spelled_lines (λ numbered. state_words (state_line raw numbered)) rows) (c.rows.ensures ∙ ap (λ (every : NodeLinesValue). every.rows) all))
     (ap (λ access. spelled_lines (λ numbered. access_words (access_line numbered)) access) c.access.ensures)

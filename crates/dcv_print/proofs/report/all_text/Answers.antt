@@ -13,7 +13,7 @@ returns c =
     let raw = c.args.auto.now in
     let names = c.args.names.now in
     let lined = c.in_ok-lined.lined in
-    let automaton = spelled (printed_file raw (texts_of names) c.args.proof.now.access c.args.proof.now.suffixes) in
+    let automaton = spelled (printed_file raw (texts_of names) c.args.proof.now.access c.args.proof.now.suffixes c.args.counts.now) in
     IfOk-weaker c.finish.result _ _
     (λ text says. record {
       verdict = seen_verdict c.in_ok-verdict.verdict;

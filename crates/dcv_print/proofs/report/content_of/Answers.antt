@@ -7,7 +7,7 @@ use Rattle.dcv_print.proofs.report.content_of.Goals as goal
 pub returns-in_ok-new-in-Automaton-clause-says : goal.returns-in_ok-new-in-Automaton-clause-says
 returns-in_ok-new-in-Automaton-clause-says c verdict =
     let all = c.in_ok-new-in-Automaton.ensures in
-    rw c.in-Automaton.is (spells c.in_ok-new-in-Automaton.field-0 c.args.auto.now c.args.names.now all.auto all.names all.proof)
+    rw c.in-Automaton.is (spells c.in_ok-new-in-Automaton.field-0 c.args.auto.now c.args.names.now c.args.counts.now all.auto all.names all.counts all.proof)
 
 pub returns-in_ok-new-in-Lustre-clause-says : goal.returns-in_ok-new-in-Lustre-clause-says
 returns-in_ok-new-in-Lustre-clause-says c verdict =
@@ -27,7 +27,7 @@ returns-in_ok-new-in-All-clause-says c verdict =
       automaton = spelled (listed_file listed);
       node = lustre_text listed.lined;
       unit = c_text listed.lined;
-      spells_automaton = spells listed c.args.auto.now c.args.names.now all.auto all.names all.proof;
+      spells_automaton = spells listed c.args.auto.now c.args.names.now c.args.counts.now all.auto all.names all.counts all.proof;
       is_node = says_node listed.lined c.args.auto.now c.args.names.now all.auto all.names;
       is_unit = says_unit listed.lined c.args.auto.now c.args.names.now all.auto all.names;
       says = refl;
