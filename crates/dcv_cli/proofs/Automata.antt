@@ -10,6 +10,8 @@ use Rattle.dcv_dfa.specs.Raw.{RawValue, raw_accepts}
 use Rattle.dcv_build.specs.Budget.{IsAutomatonOf}
 use Rattle.dcv_print.specs.Automaton.{IsAutomatonOf as IsPrintedOf}
 use Rattle.dcv_print.specs.Laws.{IsPrintable, PrintedIsAutomaton, FileSaysNode, FileSaysUnit, AutomatonOfSameBehaviours}
+use Rattle.dcv_count.specs.declared.Count.{Count}
+use Rattle.dcv_print.specs.Counts.{ArePrintableCounts}
 use Rattle.dcv_print.specs.Printed.{printed_file}
 use Rattle.dcv_print.specs.Report.{ReportValue, SpellsAutomaton, IsLustreObserver, IsCObserver, Says as SaysOf}
 use Rattle.dcv_print.specs.declared.report.Kind.{Kind}
@@ -21,15 +23,16 @@ use Rattle.dcv_cli.specs.Report.{Says}
 use Rattle.dcv_cli.proofs.Budgets.{same_as_set}
 
 module _ (printed : PrintedIsAutomaton) (say_node : FileSaysNode) (say_unit : FileSaysUnit) (move : AutomatonOfSameBehaviours) (move_verdict : VerdictOfSameBehaviours) (accept : TableAcceptsAsTheStates)
-    (raw : RawValue) (names : List (List ℕ)) (printable : IsPrintable raw names) (k : ℕ) (L : Language) (of : IsAutomatonOf k L raw) where
-  says_automaton : (text : List ℕ) → SpellsAutomaton raw names text → SaysAutomaton k L names text
+    (raw : RawValue) (names : List (List ℕ)) (counts : List Count) (printable : IsPrintable raw names) (few : ArePrintableCounts counts) (k : ℕ) (L : Language) (of : IsAutomatonOf k L raw) where
+  says_automaton : (text : List ℕ) → SpellsAutomaton raw names counts text → SaysAutomaton k L names counts text
   says_automaton text spells =
-      let file = printed_file raw names spells.access spells.suffixes in
+      let file = printed_file raw names spells.access spells.suffixes counts in
       let own : IsPrintedOf k (raw_accepts raw) names file =
-      subst (λ k. IsPrintedOf k (raw_accepts raw) names file) of.slots (printed raw names spells.access spells.suffixes printable spells.proof) in
+      subst (λ k. IsPrintedOf k (raw_accepts raw) names file) of.slots (printed raw names spells.access spells.suffixes counts printable spells.proof few) in
       record {
         automaton = file;
         is = move k (raw_accepts raw) L names file (same_as_set accept raw printable.is_raw printable.auto k L of) own;
+        steps = refl;
         says = spells.says;
       }
 
@@ -48,7 +51,7 @@ module _ (printed : PrintedIsAutomaton) (say_node : FileSaysNode) (say_unit : Fi
   says_unit : (text : List ℕ) → IsCObserver raw names text → SaysUnit k L names text
   says_unit text is = subst (SaysUnit k L names) (sym (is [] [])) (say_unit k L names (file_of raw names [] []) own_file)
 
-  says_kind : (kind : Kind) (report : ReportValue) → SaysOf kind raw names report → Says kind k L names report.verdict report.text
+  says_kind : (kind : Kind) (report : ReportValue) → SaysOf kind raw names counts report → Says kind k L names counts report.verdict report.text
   unfolding says_automaton says_node says_unit
   says_kind Check report says = says
   says_kind Automaton report says = says_automaton report.text says
@@ -70,7 +73,7 @@ module _ (printed : PrintedIsAutomaton) (say_node : FileSaysNode) (say_unit : Fi
       (subst (λ k. IsVerdict k (raw_accepts raw) verdict) of.slots is)
 
   pub report_answers : {E : Type 0} (kind : Kind) (result : Result ReportValue E)
-      → IfOk result (λ report. IsVerdict raw.arena.slots (raw_accepts raw) report.verdict) → IfOk result (SaysOf kind raw names)
-      → IfOk result (Reports kind k L names)
+      → IfOk result (λ report. IsVerdict raw.arena.slots (raw_accepts raw) report.verdict) → IfOk result (SaysOf kind raw names counts)
+      → IfOk result (Reports kind k L names counts)
   report_answers kind (Ok report) verdict says = record { verdict = verdict_of_set report.verdict verdict; says = says_kind kind report says }
   report_answers kind (Err e) verdict says = tt

@@ -19,7 +19,9 @@ use Rattle.dcv_dfa.specs.Auto.{IsAuto, count_of_nodes, table_of_states}
 use Rattle.dcv_explore.specs.declared.explorer.Limits.{Limits}
 use Rattle.dcv_explore.specs.Budget.{Kind}
 use Rattle.dcv_build.specs.Budget.{IsAutomatonOf, IsOver, IsWithinBudget}
+use Rattle.dcv_build.specs.Counts.{AreCounts}
 use Rattle.dcv_build.specs.Given.{IsCoreOf, IsCore}
+use Rattle.dcv_build.specs.declared.builder.Built.{Built}
 use Rattle.dcv_cli.specs.declared.budget_line.Excess.{Excess}
 use Rattle.dcv_cli.specs.declared.budget_line.Over.{Over}
 use Rattle.dcv_cli.specs.declared.refusal.Refusal.{Refusal}
@@ -103,15 +105,23 @@ module _ (file : PlainFile) (core : PlainCore) (declared : core.declared ≡ len
   built_of_file limits auto models_are move canonical within states nodes =
       record { within = within_in_file limits within; automaton = automaton_of_file auto models_are move canonical; states = states; nodes = nodes }
 
-  pub built_if_ok : (limits : Limits) (result : Result RawValue Refusal) → WordsAreModels → CanonicalForSameBehaviours
-      → ((tree : CoreTree) → IsCoreOf tree core → IfOk result (IsAutomatonOf core.declared (words_of tree)))
+  pub built_if_ok : (limits : Limits) (result : Result Built Refusal) → WordsAreModels → CanonicalForSameBehaviours
+      → ((tree : CoreTree) → IsCoreOf tree core → IfOk result (λ built. IsAutomatonOf core.declared (words_of tree) built.auto))
       → ((tree : CoreTree) → IsCoreOf tree core → OnOk result (IsWithinBudget (steps_of core.declared tree) limits))
-      → IfOk result (λ auto. length auto.rows ≤ limits.states) → IfOk result (λ auto. count_of_nodes auto ≤ limits.nodes) → IfOk result (IsBuilt file limits)
-  built_if_ok limits (Ok auto) models_are move canonical within states nodes = built_of_file limits auto models_are move canonical within states nodes
+      → IfOk result (λ built. length built.auto.rows ≤ limits.states) → IfOk result (λ built. count_of_nodes built.auto ≤ limits.nodes)
+      → IfOk result (λ built. IsBuilt file limits built.auto)
+  built_if_ok limits (Ok built) models_are move canonical within states nodes = built_of_file limits built.auto models_are move canonical within states nodes
   built_if_ok limits (Err refusal) models_are move canonical within states nodes = tt
 
-  pub over_if_err : (limits : Limits) (result : Result RawValue Refusal)
+  pub counted_if_ok : (limits : Limits) (result : Result Built Refusal)
+      → ((tree : CoreTree) → IsCoreOf tree core → IfOk result (λ built. AreCounts (steps_of core.declared tree) limits built.counts.items))
+      → IfOk result (λ built. AreCounts (steps_of_file file) limits built.counts.items)
+  counted_if_ok limits (Ok built) counts =
+      subst (λ k. AreCounts (steps_of k (core_of_file file)) limits built.counts.items) declared (counts (core_of_file file) core_of_the_file)
+  counted_if_ok limits (Err refusal) counts = tt
+
+  pub over_if_err : {T : Type 0} (limits : Limits) (result : Result T Refusal)
       → ((tree : CoreTree) → IsCoreOf tree core → IfErr result (NamesFirstOver (steps_of core.declared tree) limits))
       → IfErr result (NamesFirstOver (steps_of_file file) limits)
-  over_if_err limits (Ok auto) over = tt
+  over_if_err limits (Ok built) over = tt
   over_if_err limits (Err refusal) over = over_in_file limits refusal over

@@ -37,10 +37,12 @@ abbrev certified : ℕ → Answer → Outcome
 certified states answer = record { status = status_of_answer answer; out = line (answer_words states answer); err = [] }
 
 module _ (told : Option Disk) (name : List ℕ) where
-  pub explains_certificate : (refusal : Refusal) → OnTrue (is_determined (status_of refusal)) ((text : List ℕ) × IsHeldText told name text × IsRefusedAutomaton text refusal)
-      → IsExplained (λ outcome. ForHeld told (λ held. OnHeld (held 0) name (λ text. OnAutomaton text IsCertificate) outcome)) Only refusal
-  explains_certificate refusal refused_so =
-      explains_first told name (λ held text. OnAutomaton text IsCertificate) Only refusal (λ text. IsRefusedAutomaton text refusal) (λ held text is. Refused refusal is refl) refused_so
+  -- a refusal of the text is right, whatever is right for its file
+  pub explains_text : (RightFor : AutomatonFile → Outcome → Type 0) (refusal : Refusal)
+      → OnTrue (is_determined (status_of refusal)) ((text : List ℕ) × IsHeldText told name text × IsRefusedAutomaton text refusal)
+      → IsExplained (λ outcome. ForHeld told (λ held. OnHeld (held 0) name (λ text. OnAutomaton text RightFor) outcome)) Only refusal
+  explains_text RightFor refusal refused_so =
+      explains_first told name (λ held text. OnAutomaton text RightFor) Only refusal (λ text. IsRefusedAutomaton text refusal) (λ held text is. Refused refusal is refl) refused_so
 
   pub fulfils_certificate : (text : List ℕ) (states : ℕ) (answer : Answer) → IsHeldText told name text → IsCertifiedText text states answer
       → ForHeld told (λ held. OnHeld (held 0) name (λ text. OnAutomaton text IsCertificate) (certified states answer))

@@ -1,4 +1,4 @@
--- Files that mean the same have the same verdict, the same observers, and the same automaton but for its suffixes.
+-- Files that mean the same have the same verdict, the same observers, and the same automaton up to its last access word.
 use Rattle.std.proofs.Common.{◌≡◌, ℕ, List, length, Option, sym, ap, ◌∙◌, subst}
 use Rattle.std.specs.Prelude.{IsTrue, IsSomeAnd}
 use Rattle.std.proofs.lemmas.List.{length-map}
@@ -26,7 +26,7 @@ use Rattle.dcv_cli.specs.Refusal.{status_of}
 use Rattle.dcv_cli.specs.declared.refused.Which.TheVariants.{Only}
 use Rattle.dcv_cli.specs.Report.{Says, IsReport}
 use Rattle.dcv_cli.specs.Status.{is_answer, status_of_verdict}
-use Rattle.dcv_cli.proofs.Texts.{one_text, says_of_same}
+use Rattle.dcv_cli.proofs.Texts.{one_meaning, says_of_same}
 
 -- no refusal answers
 pub no_refusal_answers : (refusal : Refusal) → IsTrue (is_answer (status_of refusal)) → ⊥
@@ -46,19 +46,19 @@ answers_as outcome status is answers = subst (λ (s : Status). IsTrue (is_answer
 
 module _ (one_tree : SpellsOne) where
   report_on_text : (kind : Kind) (limits : Limits) (text : List ℕ) (file : PlainFile) (outcome : Outcome) → IsFormulaFile text file → IsTrue (is_answer outcome.status)
-      → OnText text Only (IsBudgeted limits Only (IsReport kind)) outcome → IsReport kind file outcome
+      → OnText text Only (IsBudgeted limits Only (IsReport kind limits)) outcome → IsReport kind limits file outcome
   report_on_text kind limits text file outcome formula answers (Refused refusal is e) =
       absurd (no_refusal_answers refusal (answers_as outcome (status_of refusal) (ap (λ (o : Outcome). o.status) e) answers))
   report_on_text kind limits text file outcome formula answers (Read other is (OverBudget over first e)) =
       absurd (no_refusal_answers (Budget over) (answers_as outcome StatusBudget (ap (λ (o : Outcome). o.status) e) answers))
   report_on_text kind limits text file outcome formula answers (Read other is (WithinBudget within report)) =
-      subst (λ (f : PlainFile). IsReport kind f outcome) (one_tree text other file is.sentence.spelled formula.sentence.spelled) report
+      subst (λ (f : PlainFile). IsReport kind limits f outcome) (one_tree text other file is.sentence.spelled formula.sentence.spelled) report
 
   report_of : (kind : Kind) (name : List ℕ) (limits : Limits) (held : Texts) (file : PlainFile) (outcome : Outcome)
-      → IsAnswer kind name limits held file outcome → IsReport kind file outcome
+      → IsAnswer kind name limits held file outcome → IsReport kind limits file outcome
   report_of kind name limits held file outcome is =
       report_on_text kind limits is.text file outcome is.formula is.answers
-      (subst (λ (text : Option (List ℕ)). IsSomeAnd text (λ bytes. OnText bytes Only (IsBudgeted limits Only (IsReport kind)) outcome)) is.there is.right)
+      (subst (λ (text : Option (List ℕ)). IsSomeAnd text (λ bytes. OnText bytes Only (IsBudgeted limits Only (IsReport kind limits)) outcome)) is.there is.right)
 
 module _ (one_tree : SpellsOne) (one_verdict : OneVerdict) (move_verdict : VerdictOfSameBehaviours) (one_automaton : OneAutomaton) (move : AutomatonOfSameBehaviours)
     (one_file : OneFile) (move_file : FileOfSameBehaviours) (say_node : FileSaysNode) (say_unit : FileSaysUnit) where
@@ -72,13 +72,13 @@ module _ (one_tree : SpellsOne) (one_verdict : OneVerdict) (move_verdict : Verdi
       let same : r.verdict ≡ s.verdict =
       one_verdict (length file.variables) (models other_file) r.verdict s.verdict moved (subst (λ k. IsVerdict k (models other_file) s.verdict) count s.is_verdict) in
       let says =
-      says_of_same move move_file say_node say_unit (length file.variables) (models file) (models other_file) (texts_of file.variables) mean.same_models r.verdict one.out kind r.says in
+      says_of_same move move_file say_node say_unit (length file.variables) (models file) (models other_file) (texts_of file.variables) r.counts mean.same_models r.verdict one.out kind r.says in
       let other_says =
-      subst (λ (names : List (List ℕ)). Says kind (length file.variables) (models other_file) names s.verdict another.out) (sym mean.same_names)
-      (subst (λ k. Says kind k (models other_file) (texts_of other_file.variables) s.verdict another.out) count s.says) in
+      subst (λ (names : List (List ℕ)). Says kind (length file.variables) (models other_file) names s.counts s.verdict another.out) (sym mean.same_names)
+      (subst (λ k. Says kind k (models other_file) (texts_of other_file.variables) s.counts s.verdict another.out) count s.says) in
       record {
         status = r.status ∙ ap status_of_verdict same ∙ sym s.status;
         report =
-            one_text one_automaton one_file (length file.variables) (models other_file) (texts_of file.variables) r.verdict s.verdict one.out another.out kind same says other_says;
-        message = λ taken within. r.no_message ∙ sym s.no_message;
+            one_meaning one_automaton one_file (length file.variables) (models other_file) (texts_of file.variables) r.verdict s.verdict r.counts s.counts one.out another.out kind same says other_says;
+        message = r.no_message ∙ sym s.no_message;
       }

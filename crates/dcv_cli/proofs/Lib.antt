@@ -3,6 +3,8 @@ pub mod BothWays
 pub mod Budgets
 pub mod Certificates
 pub mod Comparisons
+pub mod Conversions
+pub mod ConvertedBack
 pub mod Endings
 pub mod EqualMeanings
 pub mod NamesInOrder
@@ -20,6 +22,9 @@ pub mod Pieces
 pub mod Printed
 pub mod PrintedLengths
 pub mod SomeOutcome
+pub mod SpansRead
+pub mod StepCounts
+pub mod StepSpans
 pub mod Sweeps
 pub mod Syntheses
 pub mod LongTexts

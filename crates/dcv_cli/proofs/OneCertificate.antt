@@ -109,7 +109,7 @@ module _ (one_file : OneFile) where
   refused_or_read text refusal file (HasNoForm short at fault e) is = no_fault_of_form text file at is.form fault
   refused_or_read text refusal file (BreaksARule short other form at fault e) is = broken_or_good text other file at form is.form fault is.good
 
-  one_on_automaton : (text : List ℕ) (RightFor : AutomatonFile → Outcome → Type 0)
+  pub one_on_automaton : (text : List ℕ) (RightFor : AutomatonFile → Outcome → Type 0)
       → ((file : AutomatonFile) (a b : Outcome) → RightFor file a → RightFor file b → Agrees a b)
       → (a b : Outcome) → OnAutomaton text RightFor a → OnAutomaton text RightFor b → Agrees a b
   one_on_automaton text RightFor one a b (Refused r is e) (Refused s is' e') =
@@ -133,6 +133,12 @@ module _ (one_file : OneFile) where
         → IsSomeAnd text (λ bytes. OnAutomaton bytes IsCertificate b) → Agrees a b
     one_held_certificate None a b p q = absurd p
     one_held_certificate (Some text) a b p q = one_on_automaton text IsCertificate one_certificate a b p q
+
+-- a refusal of a text has one status
+pub refuses_as_automaton : (text : List ℕ) (refusal : Refusal) → IsRefusedAutomaton text refusal → status_of refusal ≡ StatusAutomaton
+refuses_as_automaton text refusal (TooLong long e) = ap status_of e
+refuses_as_automaton text refusal (HasNoForm short at fault e) = ap status_of e
+refuses_as_automaton text refusal (BreaksARule short file form at fault e) = ap status_of e
 
 -- ---- no step is over the limits
 

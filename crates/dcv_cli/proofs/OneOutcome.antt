@@ -19,7 +19,7 @@ use Rattle.dcv_scope.specs.declared.faults.ScopeFault.TheVariants.{TooMany, Dupl
 use Rattle.dcv_explore.specs.declared.explorer.Limits.{Limits}
 use Rattle.dcv_explore.specs.Budget.{Kind as KindOfExcess, TooManyStates, TooManyNodes}
 use Rattle.dcv_build.specs.Budget.{IsOver}
-use Rattle.dcv_build.specs.Laws.{OneStepIsOver, WithinExcludesOver}
+use Rattle.dcv_build.specs.Laws.{OneStepIsOver, WithinExcludesOver, OneListOfCounts}
 use Rattle.dcv_cli.specs.declared.budget_line.Excess.{Excess}
 use Rattle.dcv_cli.specs.declared.budget_line.Excess.TheVariants.{States, Nodes}
 use Rattle.dcv_cli.specs.declared.budget_line.Over.{Over}
@@ -41,10 +41,11 @@ use Rattle.dcv_cli.specs.declared.refused.Which.TheVariants.{Only, First, Second
 use Rattle.dcv_automaton_text.specs.Laws.{OneFile as OneAutomatonText}
 use Rattle.dcv_certify.specs.Laws.{OneAnswer}
 use Rattle.dcv_cli.proofs.OneCertificate.{same_agrees, one_held_certificate}
+use Rattle.dcv_cli.proofs.ConvertedBack.{one_held_conversion}
 use Rattle.dcv_cli.proofs.OneReplay.{AreSubsets, one_held_replay}
 use Rattle.dcv_cli.specs.Comparison.{IsCompared, Undeclared, Declared, IsDifference, OverProduct, WithinProduct, compared}
 use Rattle.dcv_cli.specs.Held.{OnHeld}
-use Rattle.dcv_command.specs.Request.{Request, Report, Certify, Implies, Synth, Replay, Sweep}
+use Rattle.dcv_command.specs.Request.{Request, Report, Certify, Convert, Implies, Synth, Replay, Sweep}
 use Rattle.dcv_implies.specs.Comparison.{TooMany, Least}
 use Rattle.dcv_implies.specs.Laws.{OneAnswer as OneComparison}
 use Rattle.dcv_replay.specs.Laws.{OneVerdict as OneTraceVerdict, OneText as OneTextOfAnswers}
@@ -103,7 +104,7 @@ answer_is_no_refusal verdict e = by (is_none verdict.counterexample) e
 one_some : (first second : ℕ) → Some first ≡ Some second → first ≡ second
 one_some first second e = cc
 
-module _ (one_tree : SpellsOne) (one_fault : FaultIsUnique) (one_verdict : OneVerdict) (one_step : OneStepIsOver) (none_over : WithinExcludesOver) (one_automaton : OneAutomaton) (one_automaton_file : OneFile)
+module _ (one_tree : SpellsOne) (one_fault : FaultIsUnique) (one_verdict : OneVerdict) (one_step : OneStepIsOver) (none_over : WithinExcludesOver) (one_list : OneListOfCounts) (one_automaton : OneAutomaton) (one_automaton_file : OneFile)
     (one_automaton_text : OneAutomatonText) (one_answer : OneAnswer) (one_comparison : OneComparison) (subsets : AreSubsets) (one_trace_verdict : OneTraceVerdict)
     (one_text_of_answers : OneTextOfAnswers) (one_summary : OneSummary)
     (one_synthesis_of : (inputs : ℕ) (file : PlainFile) (a b : Outcome) → IsSynthesisOf inputs file a → IsSynthesisOf inputs file b → Agrees a b) where
@@ -200,7 +201,7 @@ module _ (one_tree : SpellsOne) (one_fault : FaultIsUnique) (one_verdict : OneVe
     is : IsFirstOver limits file over
     says : outcome.err ≡ message_of (only (Budget over))
 
-  named : (kind : ReportKind) (limits : Limits) (text : List ℕ) (outcome : Outcome) → OnText text Only (IsBudgeted limits Only (IsReport kind)) outcome
+  named : (kind : ReportKind) (limits : Limits) (text : List ℕ) (outcome : Outcome) → OnText text Only (IsBudgeted limits Only (IsReport kind limits)) outcome
       → outcome.status ≡ StatusBudget → Names limits text outcome
   named kind limits text outcome (Refused refusal is e) budget =
       absurd (refused_is_formula text refusal is (sym (ap (λ (o : Outcome). o.status) e) ∙ budget))
@@ -225,8 +226,8 @@ module _ (one_tree : SpellsOne) (one_fault : FaultIsUnique) (one_verdict : OneVe
           both = both_over limits one.file one.over other.over one.is second;
         }
 
-    one_step_named : (a b : Outcome) (found : Option (List ℕ)) → held 0 name ≡ found → IsSomeAnd found (λ text. OnText text Only (IsBudgeted limits Only (IsReport kind)) a)
-        → IsSomeAnd found (λ text. OnText text Only (IsBudgeted limits Only (IsReport kind)) b) → a.status ≡ StatusBudget → b.status ≡ StatusBudget
+    one_step_named : (a b : Outcome) (found : Option (List ℕ)) → held 0 name ≡ found → IsSomeAnd found (λ text. OnText text Only (IsBudgeted limits Only (IsReport kind limits)) a)
+        → IsSomeAnd found (λ text. OnText text Only (IsBudgeted limits Only (IsReport kind limits)) b) → a.status ≡ StatusBudget → b.status ≡ StatusBudget
         → NameOneStep words held a.err b.err
     one_step_named a b None there p q over over' = absurd p
     one_step_named a b (Some text) there p q over over' = two_names text a b there (named kind limits text a p over) (named kind limits text b q over')
@@ -239,12 +240,14 @@ module _ (one_tree : SpellsOne) (one_fault : FaultIsUnique) (one_verdict : OneVe
     message = λ taken within. absurd (within (ap (λ (o : Outcome). o.status) e));
   }
 
-  one_report : (kind : ReportKind) (file : PlainFile) (a b : Outcome) → IsReport kind file a → IsReport kind file b → Agrees a b
-  one_report kind file a b r s =
+  one_report : (kind : ReportKind) (limits : Limits) (file : PlainFile) (a b : Outcome) → IsReport kind limits file a → IsReport kind limits file b → Agrees a b
+  one_report kind limits file a b r s =
       let same : r.verdict ≡ s.verdict = one_verdict (length file.variables) (models file) r.verdict s.verdict r.is_verdict s.is_verdict in
+      let counts : r.counts ≡ s.counts = one_list (length file.variables) (core_of_file file) limits r.counts s.counts r.are_counts s.are_counts in
       record {
         status = r.status ∙ ap status_of_verdict same ∙ sym s.status;
-        report = one_text one_automaton one_automaton_file (length file.variables) (models file) (texts_of file.variables) r.verdict s.verdict a.out b.out kind same r.says s.says;
+        report = one_text one_automaton one_automaton_file (length file.variables) (models file) (texts_of file.variables) r.verdict s.verdict r.counts s.counts a.out b.out kind same
+            counts r.says s.says;
         message = λ taken within. r.no_message ∙ sym s.no_message;
       }
 
@@ -298,8 +301,9 @@ module _ (one_tree : SpellsOne) (one_fault : FaultIsUnique) (one_verdict : OneVe
 
   one_fulfilled : (request : Request) (held : Texts) (a b : Outcome) → Fulfils request held a → Fulfils request held b → Agrees a b
   one_fulfilled (Report kind name limits) held a b p q =
-      one_on_file (held 0 name) Only (IsBudgeted limits Only (IsReport kind)) (one_budgeted limits Only (IsReport kind) (one_report kind)) a b p q
+      one_on_file (held 0 name) Only (IsBudgeted limits Only (IsReport kind limits)) (one_budgeted limits Only (IsReport kind limits) (one_report kind limits)) a b p q
   one_fulfilled (Certify name) held a b p q = one_held_certificate one_automaton_text one_answer (held 0 name) a b p q
+  one_fulfilled (Convert name to) held a b p q = one_held_conversion one_automaton_text to (held 0 name) a b p q
   one_fulfilled (Implies first second limits) held a b p q =
       one_on_file (held 0 first) First (λ one. OnHeld (held 1) second (λ text. OnText text Second (IsCompared limits one)))
       (λ one a b p q. one_on_file (held 1 second) Second (IsCompared limits one) (one_compared limits one) a b p q) a b p q

@@ -86,9 +86,9 @@ over_is_of_text steps limits _ is = absurd is
 
 -- what was judged, and the report on it
 pub answers_report : (kind : ReportKind) (limits : Limits) (text : List ℕ) (judged : Judged) (report : ReportValue) (status : Status) → IsJudged text limits judged
-    → ((k : ℕ) (L : Language) → IsAutomatonOf k L judged.auto → Reports kind k L (texts_of judged.names.items) report)
+    → ((k : ℕ) (L : Language) → IsAutomatonOf k L judged.auto → Reports kind k L (texts_of judged.names.items) judged.counts.items report)
     → status ≡ status_of_verdict report.verdict
-    → OnText text Only (IsBudgeted limits Only (IsReport kind)) (record { status = status; out = report.text; err = [] })
+    → OnText text Only (IsBudgeted limits Only (IsReport kind limits)) (record { status = status; out = report.text; err = [] })
 answers_report kind limits text judged report status is reports ends =
     let file = is.file in
     let said = reports (length file.variables) (models file) is.automaton in
@@ -96,7 +96,9 @@ answers_report kind limits text judged report status is reports ends =
       verdict = report.verdict;
       is_verdict = said.verdict;
       status = ends;
-      says = subst (λ (names : List Name). Says kind (length file.variables) (models file) (texts_of names) report.verdict report.text) is.names said.says;
+      counts = judged.counts.items;
+      are_counts = is.counts;
+      says = subst (λ (names : List Name). Says kind (length file.variables) (models file) (texts_of names) judged.counts.items report.verdict report.text) is.names said.says;
       no_message = refl;
     }))
 

@@ -6,7 +6,8 @@ use Rattle.dcv_automaton_text.specs.File.{AutomatonFile}
 use Rattle.dcv_automaton_text.specs.Form.{HasForm}
 use Rattle.dcv_automaton_text.specs.Laws.{OneFile}
 use Rattle.dcv_automaton_text.specs.Meaning.{access_words_of, suffix_words_of, table_of}
-use Rattle.dcv_automaton_text.specs.Rules.{AreNames}
+use Rattle.dcv_automaton_text.specs.Rules.{AreNames, most_steps}
+use Rattle.dcv_count.specs.declared.Count.{Count}
 use Rattle.dcv_certify.specs.Certified.{IsCertified}
 use Rattle.dcv_certify.specs.Laws.{OneAnswer, PrintedIsCertified as GoodWordsAreCertified}
 use Rattle.dcv_certify.specs.declared.answer.Answer.TheVariants.{Minimal}
@@ -18,6 +19,7 @@ use Rattle.dcv_print.specs.Printed.{texts_of}
 use Rattle.dcv_print.specs.declared.report.Kind.{Kind}
 use Rattle.dcv_print.specs.declared.report.Kind.TheVariants.{Automaton, All}
 use Rattle.dcv_reader.specs.Laws.{NamesAreShort}
+use Rattle.dcv_scope.specs.Laws.{StepsAreFew}
 use Rattle.dcv_syntax.specs.Plain.{PlainFile}
 use Rattle.dcv_syntax.specs.declared.names.Name.{Name}
 use Rattle.dcv_cli.specs.Automaton.{SaysAutomaton}
@@ -30,11 +32,13 @@ use Rattle.dcv_cli.specs.Outcome.{Outcome}
 use Rattle.dcv_cli.specs.Refusal.{most_automaton_bytes, status_of}
 use Rattle.dcv_cli.specs.Report.{IsReport}
 use Rattle.dcv_cli.specs.Status.{is_answer}
+use Rattle.dcv_cli.specs.declared.refusal.Refusal.TheVariants.{Budget}
 use Rattle.dcv_cli.specs.declared.refused.Which.TheVariants.{Only}
 use Rattle.dcv_cli.specs.declared.status.Status.TheVariants.{Done, Budget as StatusBudget}
 use Rattle.dcv_cli.proofs.EqualMeanings.{answers_as, no_refusal_answers}
 use Rattle.dcv_cli.proofs.OneCertificate.{refused_or_read}
-use Rattle.dcv_cli.proofs.PrintedLengths.{printed_fits}
+use Rattle.dcv_cli.proofs.PrintedLengths.{few_lines, printed_fits}
+use Rattle.dcv_cli.proofs.StepCounts.{few_counts}
 use Rattle.dcv_cli.proofs.VariableNames.{are_names}
 
 -- ---- a right answer is a report on some file
@@ -42,26 +46,29 @@ use Rattle.dcv_cli.proofs.VariableNames.{are_names}
 record IsReported (kind : Kind) (outcome : Outcome) : Type 0 where
   file : PlainFile
   names : AreNames (texts_of file.variables)
-  report : IsReport kind file outcome
+  limits : Limits
+  report : IsReport kind limits file outcome
+  few : length report.counts ≤ most_steps
 
-reported : NamesAreShort → (kind : Kind) (limits : Limits) (found : Option (List ℕ)) (outcome : Outcome) → IsTrue (is_answer outcome.status)
-    → IsSomeAnd found (λ text. OnText text Only (IsBudgeted limits Only (IsReport kind)) outcome) → IsReported kind outcome
-reported short kind limits None outcome answers right = absurd right
-reported short kind limits (Some text) outcome answers (Refused refusal is e) =
+reported : NamesAreShort → StepsAreFew → (kind : Kind) (limits : Limits) (found : Option (List ℕ)) (outcome : Outcome) → IsTrue (is_answer outcome.status)
+    → IsSomeAnd found (λ text. OnText text Only (IsBudgeted limits Only (IsReport kind limits)) outcome) → IsReported kind outcome
+reported short steps_are_few kind limits None outcome answers right = absurd right
+reported short steps_are_few kind limits (Some text) outcome answers (Refused refusal is e) =
     absurd (no_refusal_answers refusal (answers_as outcome (status_of refusal) (ap (λ (o : Outcome). o.status) e) answers))
-reported short kind limits (Some text) outcome answers (Read file is (OverBudget over first e)) =
-    let wrong : IsTrue (is_answer StatusBudget) = answers_as outcome StatusBudget (ap (λ (o : Outcome). o.status) e) answers in cc
-reported short kind limits (Some text) outcome answers (Read file is (WithinBudget within report)) =
-    record { file = file; names = are_names short text file is; report = report }
+reported short steps_are_few kind limits (Some text) outcome answers (Read file is (OverBudget over first e)) =
+    absurd (no_refusal_answers (Budget over) (answers_as outcome StatusBudget (ap (λ (o : Outcome). o.status) e) answers))
+reported short steps_are_few kind limits (Some text) outcome answers (Read file is (WithinBudget within report)) =
+    record { file = file; names = are_names short text file is; limits = limits; report = report; few = few_counts steps_are_few text file is limits report.counts report.are_counts }
 
-report_of : NamesAreShort → (kind : Kind) (text : List ℕ) → (is : IsPrinted kind text) → IsReported kind is.outcome
-report_of short kind text is = reported short kind is.limits (is.held 0 is.name) is.outcome is.answers is.right
+report_of : NamesAreShort → StepsAreFew → (kind : Kind) (text : List ℕ) → (is : IsPrinted kind text) → IsReported kind is.outcome
+report_of short steps_are_few kind text is = reported short steps_are_few kind is.limits (is.held 0 is.name) is.outcome is.answers is.right
 
 -- ---- its text is certified
 
-module _ (short : NamesAreShort) (one_file : OneFile) (one_answer : OneAnswer) (certified : GoodWordsAreCertified) where
-  says_certifiable : (file : PlainFile) (text : List ℕ) → AreNames (texts_of file.variables) → SaysAutomaton (length file.variables) (models file) (texts_of file.variables) text → IsCertifiable text
-  says_certifiable plain text names says name held outcome there right =
+module _ (short : NamesAreShort) (steps_are_few : StepsAreFew) (one_file : OneFile) (one_answer : OneAnswer) (certified : GoodWordsAreCertified) where
+  says_certifiable : (file : PlainFile) (counts : List Count) (text : List ℕ) → AreNames (texts_of file.variables) → length counts ≤ most_steps
+      → SaysAutomaton (length file.variables) (models file) (texts_of file.variables) counts text → IsCertifiable text
+  says_certifiable plain counts text names few_steps says name held outcome there right =
       on_held (held 0 name) there right
     where
       file : AutomatonFile
@@ -83,7 +90,9 @@ module _ (short : NamesAreShort) (one_file : OneFile) (one_answer : OneAnswer) (
       few = let count = names.count in omega (arith, length-map plain.variables (λ (name : Name). name.text))
 
       fits : length text ≤ most_automaton_bytes
-      fits = subst (λ (bytes : List ℕ). length bytes ≤ most_automaton_bytes) (sym says.says) (printed_fits (length plain.variables) (models plain) (texts_of plain.variables) file few names says.is)
+      fits =
+          subst (λ (bytes : List ℕ). length bytes ≤ most_automaton_bytes) (sym says.says)
+          (printed_fits (length plain.variables) (models plain) (texts_of plain.variables) file few names says.is (few_lines counts file.steps few_steps says.steps))
 
       is_text : IsAutomatonText text file
       is_text = record { fits = fits; form = form; good = says.is.rules }
@@ -102,10 +111,10 @@ module _ (short : NamesAreShort) (one_file : OneFile) (one_answer : OneAnswer) (
   pub printed_is_certified : PrintedIsCertified
   printed_is_certified = record {
     automaton = λ text is.
-        let reported = report_of short Automaton text is in
-        subst IsCertifiable (sym is.says) (says_certifiable reported.file is.outcome.out reported.names reported.report.says);
+        let reported = report_of short steps_are_few Automaton text is in
+        subst IsCertifiable (sym is.says) (says_certifiable reported.file reported.report.counts is.outcome.out reported.names reported.few reported.report.says);
     all = λ text is.
-        let reported = report_of short All text is in
+        let reported = report_of short steps_are_few All text is in
         let parts = reported.report.says in
-        (_, parts.automaton, parts.node, parts.unit, is.says ∙ parts.says, says_certifiable reported.file parts.automaton reported.names parts.says_automaton);
+        (_, parts.automaton, parts.node, parts.unit, is.says ∙ parts.says, says_certifiable reported.file reported.report.counts parts.automaton reported.names reported.few parts.says_automaton);
   }

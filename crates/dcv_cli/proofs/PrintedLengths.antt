@@ -1,26 +1,30 @@
 -- A printed text of an automaton is no longer than one that is read may be: a bound for the lines of each kind, times how many there are.
-use Rattle.std.proofs.Common.{◌≡◌, ℕ, zero, suc, ◌+◌, ◌*◌, ◌<◌, ◌≤◌, Bool, true, false, List, [], ◌∷◌, ◌++◌, length, map, fold, get_or, refl, sym, ap, ◌∙◌, subst, arith, codes}
-use Rattle.std.specs.List.{All, flat_map, join_with_byte}
+use Rattle.std.proofs.Common.{◌≡◌, ℕ, zero, suc, ◌+◌, ◌*◌, ◌<◌, ◌≤◌, Bool, true, false, List, [], ◌∷◌, ◌++◌, Option, None, Some, length, map, fold, get_or, refl, sym, ap, ◌∙◌, subst, arith, codes}
+use Rattle.std.specs.Prelude.{IfSome}
+use Rattle.std.specs.List.{All, enumerate_from, flat_map, join_with_byte}
 use Rattle.std.specs.Fmt.{decimal}
 use Rattle.std.specs.Str.{bytes_eq}
 use Rattle.std.proofs.lemmas.Fmt.{length-decimal-le}
 use Rattle.std.proofs.lemmas.List.{length-append, length-map, append_assoc, append-nil}
 use Rattle.std.proofs.lemmas.List.Folds.{Any-from_list_any}
+use Rattle.std.proofs.lemmas.List.FromFn.{length-enumerate_from}
 use Rattle.std.specs.Cmp.{unsigned_Decides}
 use Rattle.std.proofs.lemmas.Slice.Eq.{bytes_eq-Decides}
 use Rattle.dcv_word.specs.TraceLine.{trace_line, digit_of}
 use Rattle.dcv_automaton_text.specs.File.{Target, ToState, ToNode, NodeLine, StateLine, Access, EmptyAccess, StartAccess, AfterAccess}
-use Rattle.dcv_automaton_text.specs.File.{Suffix, EmptySuffix, ThenSuffix, SuffixLine, AutomatonFile}
-use Rattle.dcv_automaton_text.specs.Form.{IsNumber, IsTarget, IsNodeLine, IsStateLine, IsAccess, IsSuffix}
-use Rattle.dcv_automaton_text.specs.Rules.{IsPlainName, AreNames, is_listed, keeps_how_access}
-use Rattle.dcv_automaton_text.specs.Spelled.{target_word, answer_word, name_words, node_words, state_words, access_words, suffix_words, head_lines, end_lines, lines_of, spelled_line, spelled}
+use Rattle.dcv_automaton_text.specs.File.{Suffix, EmptySuffix, ThenSuffix, SuffixLine, StepLine, StepPart, AutomatonFile}
+use Rattle.dcv_automaton_text.specs.Form.{IsNumber, IsTarget, IsNodeLine, IsStateLine, IsAccess, IsSuffix, IsStepLine, IsStepPart}
+use Rattle.dcv_automaton_text.specs.Rules.{IsPlainName, AreNames, is_listed, keeps_how_access, most_steps}
+use Rattle.dcv_automaton_text.specs.Spelled.{target_word, answer_word, name_words, node_words, state_words, access_words, suffix_words, step_words, steps_words, version_word, head_lines, step_part, end_lines, lines_of, spelled_line, spelled}
 use Rattle.dcv_automaton_text.proofs.GoodFiles.{IsGoodFile, good_file}
 use Rattle.dcv_automaton_text.proofs.Kept.{AreKept}
 use Rattle.dcv_automaton_text.proofs.GoodTables.{table_has_the_files_states}
 use Rattle.dcv_automaton_text.specs.Meaning.{access_words_of, suffix_word_of, suffix_words_of}
 use Rattle.dcv_language.specs.Certificate.{GrowsInTurn, IsCertificate}
 use Rattle.dcv_language.specs.Language.{Language}
+use Rattle.dcv_count.specs.declared.Count.{Count}
 use Rattle.dcv_print.specs.Automaton.{IsAutomatonOf}
+use Rattle.dcv_automaton_read.specs.File.{step_line, step_part as step_part_of}
 use Rattle.dcv_print.proofs.SuffixCounts.{suffixes_are_few}
 use Rattle.dcv_word.specs.Behaviour.{Word}
 use Rattle.dcv_cli.specs.Refusal.{most_automaton_bytes}
@@ -95,6 +99,11 @@ suffix_is_short width number (ThenSuffix letter suffix) few is how has =
     within (suffix_words (record { number = number; suffix = ThenSuffix letter suffix })) 40 (omega arith)
     (omega (arith, number_is_short number is, number_is_short suffix how, letter_is_short letter (omega (arith, few, has))))
 
+step_is_short : (line : StepLine) → IsStepLine line → length (spelled_line (step_words line)) ≤ 53
+step_is_short line is =
+    within (step_words line) 53 (omega arith)
+    (omega (arith, number_is_short line.number is.number, number_is_short line.at is.at, number_is_short line.states is.states, number_is_short line.nodes is.nodes))
+
 -- ---- so many lines
 
 sum_of : {Line : Type 0} (words : Line → List (List ℕ)) (most : ℕ) (lines : List Line)
@@ -137,14 +146,37 @@ words_are_short : (names : List (List ℕ)) → AreNames names → room (codes "
 words_are_short [] are = omega arith
 words_are_short (name ∷ names) are = omega (arith, are.count, names_are_short (name ∷ names) are.each)
 
+version_is_short : (steps : Option StepPart) → length (version_word steps) ≡ 1
+version_is_short None = refl
+version_is_short (Some part) = refl
+
 head_is_short : (file : AutomatonFile) → AreNames file.names → IsNumber file.states → length (flat_map spelled_line (head_lines file)) ≤ 437
 head_is_short file are is =
-    let first = spelled_line (codes "automaton" ∷ codes "1" ∷ []) in
+    let first = spelled_line (codes "automaton" ∷ version_word file.steps ∷ []) in
+    let version = within (codes "automaton" ∷ version_word file.steps ∷ []) 12 (omega arith) (omega (arith, version_is_short file.steps)) in
     let second = spelled_line (codes "variables" ∷ name_words file.names) in
     let third = spelled_line (codes "states" ∷ decimal file.states ∷ []) in
     let short = within (codes "variables" ∷ name_words file.names) 410 (omega arith) (words_are_short file.names are) in
     let last = within (codes "states" ∷ decimal file.states ∷ []) 15 (omega arith) (omega (arith, number_is_short file.states is)) in
-    omega (arith, short, last, length-append first (second ++ (third ++ [])), length-append second (third ++ []), length-append third [])
+    omega (arith, version, short, last, length-append first (second ++ (third ++ [])), length-append second (third ++ []), length-append third [])
+
+-- ---- steps
+
+-- the lines of the steps, of which there are no more than there may be
+abbrev AreFewSteps : Option StepPart → Type 0
+AreFewSteps None = Unit {0}
+AreFewSteps (Some part) = length part.lines ≤ most_steps
+
+pub few_lines : (counts : List Count) (steps : Option StepPart) → length counts ≤ most_steps → steps ≡ Some (step_part_of counts) → AreFewSteps steps
+few_lines counts steps few is =
+    subst AreFewSteps (sym is) (omega (arith, few, length-map (enumerate_from 0 counts) step_line, length-enumerate_from 0 counts))
+
+steps_are_short : (steps : Option StepPart) → IfSome steps IsStepPart → AreFewSteps steps → length (flat_map spelled_line (step_part steps)) ≤ 6952000
+steps_are_short None is few = omega arith
+steps_are_short (Some part) is few =
+    let first = within (steps_words part) 14 (omega arith) (omega (arith, number_is_short part.count is.count)) in
+    let lines = sum_of step_words 53 part.lines (λ place d within. step_is_short (get_or part.lines place d) (is.lines place d within)) in
+    omega (arith, few, first, lines, length-append (spelled_line (steps_words part)) (flat_map spelled_line (map step_words part.lines)))
 
 -- ---- letters of words
 
@@ -192,7 +224,7 @@ module _ (k : ℕ) (L : Language) (access all : List Word) (certificate : IsCert
 
 -- ---- the file
 
-module _ (k : ℕ) (L : Language) (names : List (List ℕ)) (file : AutomatonFile) (few : k ≤ 16) (are_names : AreNames names) (is : IsAutomatonOf k L names file) where
+module _ (k : ℕ) (L : Language) (names : List (List ℕ)) (file : AutomatonFile) (few : k ≤ 16) (are_names : AreNames names) (is : IsAutomatonOf k L names file) (few_steps : AreFewSteps file.steps) where
   good : IsGoodFile file
   good = good_file file is.rules
 
@@ -243,11 +275,13 @@ module _ (k : ℕ) (L : Language) (names : List (List ℕ)) (file : AutomatonFil
       let states = map state_words file.state_lines in
       let accesses = map access_words file.access_lines in
       let suffixes = map suffix_words file.suffix_lines in
-      let one = length_of_both (head_lines file) (nodes ++ (states ++ (accesses ++ (suffixes ++ end_lines)))) in
-      let two = length_of_both nodes (states ++ (accesses ++ (suffixes ++ end_lines))) in
-      let three = length_of_both states (accesses ++ (suffixes ++ end_lines)) in
-      let four = length_of_both accesses (suffixes ++ end_lines) in
-      let five = length_of_both suffixes end_lines in
+      let steps = step_part file.steps in
+      let one = length_of_both (head_lines file) (nodes ++ (states ++ (accesses ++ (suffixes ++ (steps ++ end_lines))))) in
+      let two = length_of_both nodes (states ++ (accesses ++ (suffixes ++ (steps ++ end_lines)))) in
+      let three = length_of_both states (accesses ++ (suffixes ++ (steps ++ end_lines))) in
+      let four = length_of_both accesses (suffixes ++ (steps ++ end_lines)) in
+      let five = length_of_both suffixes (steps ++ end_lines) in
+      let six = length_of_both steps end_lines in
       omega (
         arith,
         one,
@@ -255,11 +289,13 @@ module _ (k : ℕ) (L : Language) (names : List (List ℕ)) (file : AutomatonFil
         three,
         four,
         five,
+        six,
         head_is_short file are is.form.states,
         nodes_are_short,
         states_are_short,
         accesses_are_short,
         suffixes_are_short,
+        steps_are_short file.steps is.form.steps few_steps,
         good.nodes,
         good.few,
         good.states,

@@ -31,14 +31,14 @@ use Rattle.dcv_command.specs.Program.{program}
 use Rattle.dcv_explore.specs.declared.explorer.Limits.{Limits}
 use Rattle.dcv_print.specs.declared.report.Kind.{Kind}
 use Rattle.std.specs.List.{All}
-use Rattle.dcv_command.specs.Request.{Request, Report, Certify, Implies, Synth, Replay, Sweep, IsTaken, request_of, files_of}
+use Rattle.dcv_command.specs.Request.{Request, Report, Certify, Convert, Implies, Synth, Replay, Sweep, IsTaken, request_of, files_of}
 use Rattle.dcv_cli.specs.Request.{AsksFor}
 use Rattle.dcv_cli.specs.Right.{IsRight, Misused, Fulfilled}
 use Rattle.dcv_cli.proofs.OneReplay.{some_replay}
 
 -- what comes of a text: an outcome, or it is a formula file
 abbrev Comes : Kind → Limits → List ℕ → Type 0
-Comes kind limits text = ((outcome : Outcome) × OnText text Only (IsBudgeted limits Only (IsReport kind)) outcome) ⊎ ((file : PlainFile) × IsFormulaFile text file)
+Comes kind limits text = ((outcome : Outcome) × OnText text Only (IsBudgeted limits Only (IsReport kind limits)) outcome) ⊎ ((file : PlainFile) × IsFormulaFile text file)
 
 -- an outcome that is right for the words, or a text of which they ask more
 abbrev Found : List (List ℕ) → Texts → Type 0
@@ -95,6 +95,7 @@ module _ (some_reading : SomeReading) (words_ask : TakenWordsAsk) (some_node : S
       let second = recursion_from_All (λ n. IsSome (held 1 n)) (observer ∷ trace ∷ []) (there 1) in
       some_for_replay words held subset observer trace (held 0 observer) (held 1 trace) asked refl refl first.0 second.1.0
   some_for_request words held (Certify name) asked there = inr (inr (Certify name, asked, refl))
+  some_for_request words held (Convert name to) asked there = inr (inr (Convert name to, asked, refl))
   some_for_request words held (Implies first second limits) asked there = inr (inr (Implies first second limits, asked, refl))
   some_for_request words held (Synth name inputs limits) asked there = inr (inr (Synth name inputs limits, asked, refl))
   some_for_request words held (Sweep seed count) asked there = inr (inr (Sweep seed count, asked, refl))

@@ -1,6 +1,6 @@
--- What a text says of a set: no two texts say the same, but for the suffixes of an automaton, and it is said of each set with the same
--- behaviours.
-use Rattle.std.proofs.Common.{◌≡◌, ◌⊎◌, ℕ, List, [], ◌++◌, inl, inr, sym, ap, ◌∙◌, subst, codes, append_assoc}
+-- What a text says of a set: no two texts say the same, but for the suffixes of an automaton and what the steps took, and it is said of each
+-- set with the same behaviours.
+use Rattle.std.proofs.Common.{◌≡◌, ◌⊎◌, ℕ, List, [], ◌++◌, Some, inl, inr, sym, ap, ◌∙◌, subst, codes, append_assoc}
 use Rattle.std.proofs.lemmas.List.{append-nil}
 use Rattle.dcv_language.specs.Language.{Language, HaveSameBehaviours}
 use Rattle.dcv_language.specs.Verdict.{Verdict}
@@ -11,7 +11,9 @@ use Rattle.dcv_c.specs.Layout as c
 use Rattle.dcv_c.specs.Observer.{observer_of as unit_of}
 use Rattle.dcv_lustre.specs.Layout as lustre
 use Rattle.dcv_lustre.specs.Observer.{observer_of as node_of}
-use Rattle.dcv_print.specs.Automaton.{DifferInSuffixes}
+use Rattle.dcv_count.specs.declared.Count.{Count}
+use Rattle.dcv_print.specs.Automaton.{IsAutomatonOf, AreSameUpToAccess, AreSameButForSuffixes, DifferInSuffixes, AgreeUpToAccess}
+use Rattle.dcv_automaton_read.specs.File.{step_part as step_part_of}
 use Rattle.dcv_print.specs.Laws.{OneAutomaton, AutomatonOfSameBehaviours, OneFile, FileOfSameBehaviours, FileSaysNode, FileSaysUnit}
 use Rattle.dcv_print.specs.Observers.{SaysNode, SaysUnit}
 use Rattle.dcv_print.specs.Sections.{all_text}
@@ -35,6 +37,16 @@ around_automaton verdict automaton node unit =
 
 -- ---- one text
 
+-- two texts are spelled by files that are alike, with the same around them
+record AreAlike (Alike : AutomatonFile → AutomatonFile → Type 0) (one other : List ℕ) : Type 0 where
+  before : List ℕ
+  behind : List ℕ
+  one_file : AutomatonFile
+  other_file : AutomatonFile
+  one_is : one ≡ before ++ (spelled one_file ++ behind)
+  other_is : other ≡ before ++ (spelled other_file ++ behind)
+  same : Alike one_file other_file
+
 module _ (one_automaton : OneAutomaton) (one_file : OneFile) (k : ℕ) (L : Language) (names : List (List ℕ)) where
   one_node : (one other : List ℕ) → SaysNode k L names one → SaysNode k L names other → one ≡ other
   one_node one other says says' =
@@ -44,47 +56,78 @@ module _ (one_automaton : OneAutomaton) (one_file : OneFile) (k : ℕ) (L : Lang
   one_unit one other says says' =
       says.says ∙ ap (λ (file : AutomatonFile). c.text_of (unit_of file)) (one_file k L names says.file says'.file says.of says'.of) ∙ sym says'.says
 
-  all_but_suffixes : (v u : Verdict) (one other : List ℕ) → v ≡ u → SaysAll k L names v one → SaysAll k L names u other → DifferInSuffixes one other
-  all_but_suffixes v u one other same says says' =
-      let first = says.says_automaton in
-      let second = says'.says_automaton in
-      let around = around_automaton (verdict_text v) says.automaton says.node says.unit in
-      let its_around = around_automaton (verdict_text u) says'.automaton says'.node says'.unit in
-      let verdicts = ap before_automaton (ap verdict_text (sym same)) in
-      let behind : behind_automaton says'.node says'.unit ≡ behind_automaton says.node says.unit =
-      λ i. behind_automaton (one_node says'.node says.node says'.says_node says.says_node i) (one_unit says'.unit says.unit says'.says_unit says.says_unit i) in
-      record {
-        before = before_automaton (verdict_text v);
-        behind = behind_automaton says.node says.unit;
-        one_file = first.automaton;
-        other_file = second.automaton;
-        one_is = says.says ∙ around ∙ ap (λ text. before_automaton (verdict_text v) ++ (text ++ behind_automaton says.node says.unit)) first.says;
-        other_is = says'.says ∙ its_around ∙ (λ i. verdicts i ++ (second.says i ++ behind i));
-        same = one_automaton k L names first.automaton second.automaton first.is second.is;
-      }
+  -- where the files of two automata are alike, whose steps took so much
+  module _ (counts others : List Count) (Alike : AutomatonFile → AutomatonFile → Type 0)
+      (alike : (f g : AutomatonFile) → IsAutomatonOf k L names f → IsAutomatonOf k L names g → f.steps ≡ Some (step_part_of counts)
+      → g.steps ≡ Some (step_part_of others) → Alike f g) where
+    in_all : (v u : Verdict) (one other : List ℕ) → v ≡ u → SaysAll k L names counts v one → SaysAll k L names others u other → AreAlike Alike one other
+    in_all v u one other same says says' =
+        let first = says.says_automaton in
+        let second = says'.says_automaton in
+        let around = around_automaton (verdict_text v) says.automaton says.node says.unit in
+        let its_around = around_automaton (verdict_text u) says'.automaton says'.node says'.unit in
+        let verdicts = ap before_automaton (ap verdict_text (sym same)) in
+        let behind : behind_automaton says'.node says'.unit ≡ behind_automaton says.node says.unit =
+        λ i. behind_automaton (one_node says'.node says.node says'.says_node says.says_node i) (one_unit says'.unit says.unit says'.says_unit says.says_unit i) in
+        record {
+          before = before_automaton (verdict_text v);
+          behind = behind_automaton says.node says.unit;
+          one_file = first.automaton;
+          other_file = second.automaton;
+          one_is = says.says ∙ around ∙ ap (λ text. before_automaton (verdict_text v) ++ (text ++ behind_automaton says.node says.unit)) first.says;
+          other_is = says'.says ∙ its_around ∙ (λ i. verdicts i ++ (second.says i ++ behind i));
+          same = alike first.automaton second.automaton first.is second.is first.steps second.steps;
+        }
 
-  pub one_text : (v u : Verdict) (one other : List ℕ) (kind : Kind) → v ≡ u → Says kind k L names v one → Says kind k L names u other
-      → (one ≡ other) ⊎ DifferInSuffixes one other
-  one_text v u one other Check same says says' = inl (says ∙ ap verdict_text same ∙ sym says')
-  one_text v u one other Automaton same says says' = inr (record {
-    before = [];
-    behind = [];
-    one_file = says.automaton;
-    other_file = says'.automaton;
-    one_is = says.says ∙ sym (append-nil (spelled says.automaton));
-    other_is = says'.says ∙ sym (append-nil (spelled says'.automaton));
-    same = one_automaton k L names says.automaton says'.automaton says.is says'.is;
-  })
-  one_text v u one other Lustre same says says' = inl (one_node one other says says')
-  one_text v u one other C same says says' = inl (one_unit one other says says')
-  one_text v u one other All same says says' = inr (all_but_suffixes v u one other same says says')
+    alone : (one other : List ℕ) → SaysAutomaton k L names counts one → SaysAutomaton k L names others other → AreAlike Alike one other
+    alone one other says says' = record {
+      before = [];
+      behind = [];
+      one_file = says.automaton;
+      other_file = says'.automaton;
+      one_is = says.says ∙ sym (append-nil (spelled says.automaton));
+      other_is = says'.says ∙ sym (append-nil (spelled says'.automaton));
+      same = alike says.automaton says'.automaton says.is says'.is says.steps says'.steps;
+    }
+
+    texts_alike : (v u : Verdict) (one other : List ℕ) (kind : Kind) → v ≡ u → Says kind k L names counts v one → Says kind k L names others u other
+        → (one ≡ other) ⊎ AreAlike Alike one other
+    texts_alike v u one other Check same says says' = inl (says ∙ ap verdict_text same ∙ sym says')
+    texts_alike v u one other Automaton same says says' = inr (alone one other says says')
+    texts_alike v u one other Lustre same says says' = inl (one_node one other says says')
+    texts_alike v u one other C same says says' = inl (one_unit one other says says')
+    texts_alike v u one other All same says says' = inr (in_all v u one other same says says')
+
+  -- with the same counts
+  pub one_text : (v u : Verdict) (counts others : List Count) (one other : List ℕ) (kind : Kind) → v ≡ u → counts ≡ others → Says kind k L names counts v one
+      → Says kind k L names others u other → (one ≡ other) ⊎ DifferInSuffixes one other
+  one_text v u counts others one other kind same alike says says' =
+      by (texts_alike counts others AreSameButForSuffixes
+      (λ f g is is' steps steps'. record { up_to_access = one_automaton k L names f g is is'; steps = steps ∙ ap (λ counts. Some (step_part_of counts)) alike ∙ sym steps' })
+      v u one other kind same says says')
+    where
+      by : (one ≡ other) ⊎ AreAlike AreSameButForSuffixes one other → (one ≡ other) ⊎ DifferInSuffixes one other
+      by (inl e) = inl e
+      by (inr a) =
+          inr (record { before = a.before; behind = a.behind; one_file = a.one_file; other_file = a.other_file; one_is = a.one_is; other_is = a.other_is; same = a.same })
+
+  -- with any
+  pub one_meaning : (v u : Verdict) (counts others : List Count) (one other : List ℕ) (kind : Kind) → v ≡ u → Says kind k L names counts v one
+      → Says kind k L names others u other → (one ≡ other) ⊎ AgreeUpToAccess one other
+  one_meaning v u counts others one other kind same says says' =
+      by (texts_alike counts others AreSameUpToAccess (λ f g is is' steps steps'. one_automaton k L names f g is is') v u one other kind same says says')
+    where
+      by : (one ≡ other) ⊎ AreAlike AreSameUpToAccess one other → (one ≡ other) ⊎ AgreeUpToAccess one other
+      by (inl e) = inl e
+      by (inr a) =
+          inr (record { before = a.before; behind = a.behind; one_file = a.one_file; other_file = a.other_file; one_is = a.one_is; other_is = a.other_is; same = a.same })
 
 -- ---- sets with the same behaviours
 
 module _ (move : AutomatonOfSameBehaviours) (move_file : FileOfSameBehaviours) (say_node : FileSaysNode) (say_unit : FileSaysUnit)
-    (k : ℕ) (L M : Language) (names : List (List ℕ)) (same : HaveSameBehaviours k L M) where
-  automaton_of_same : (text : List ℕ) → SaysAutomaton k L names text → SaysAutomaton k M names text
-  automaton_of_same text says = record { automaton = says.automaton; is = move k L M names says.automaton same says.is; says = says.says }
+    (k : ℕ) (L M : Language) (names : List (List ℕ)) (counts : List Count) (same : HaveSameBehaviours k L M) where
+  automaton_of_same : (text : List ℕ) → SaysAutomaton k L names counts text → SaysAutomaton k M names counts text
+  automaton_of_same text says = record { automaton = says.automaton; is = move k L M names says.automaton same says.is; steps = says.steps; says = says.says }
 
   node_of_same : (text : List ℕ) → SaysNode k L names text → SaysNode k M names text
   node_of_same text says = subst (SaysNode k M names) (sym says.says) (say_node k M names says.file (move_file k L M names says.file same says.of))
@@ -92,7 +135,7 @@ module _ (move : AutomatonOfSameBehaviours) (move_file : FileOfSameBehaviours) (
   unit_of_same : (text : List ℕ) → SaysUnit k L names text → SaysUnit k M names text
   unit_of_same text says = subst (SaysUnit k M names) (sym says.says) (say_unit k M names says.file (move_file k L M names says.file same says.of))
 
-  pub says_of_same : (v : Verdict) (text : List ℕ) (kind : Kind) → Says kind k L names v text → Says kind k M names v text
+  pub says_of_same : (v : Verdict) (text : List ℕ) (kind : Kind) → Says kind k L names counts v text → Says kind k M names counts v text
   says_of_same v text Check says = says
   says_of_same v text Automaton says = automaton_of_same text says
   says_of_same v text Lustre says = node_of_same text says

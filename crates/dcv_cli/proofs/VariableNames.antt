@@ -23,7 +23,7 @@ use Rattle.dcv_cli.specs.FormulaFile.{IsFormulaFile}
 
 -- ---- no fault of a list of variables
 
-none_of_both : (a b : Option ScopeFault) → option_or a b ≡ None → (a ≡ None) × (b ≡ None)
+pub none_of_both : (a b : Option ScopeFault) → option_or a b ≡ None → (a ≡ None) × (b ≡ None)
 none_of_both None b e = (refl, e)
 none_of_both (Some a) b e = absurd (cc)
 

@@ -1,7 +1,7 @@
 -- What there is of a formula file that is not refused, and what a report on it says.
---     IsJudged text limits judged     the automaton and the names are those of the formula file that the text is
---     CanBePrinted judged              there is a name for each variable, and the automaton is within what may be printed
---     Reports kind k L names r         the report has the set's verdict, and says what is asked for
+--     IsJudged text limits judged      the automaton, the names and what the steps took are those of the formula file that the text is
+--     CanBePrinted judged              there is a name for each variable, and the automaton and the counts are within what may be printed
+--     Reports kind k L names counts r  the report has the set's verdict, and says what is asked for
 use Rattle.std.specs.Prelude.{◌≡◌, ◌≤◌, ℕ, List, length}
 use Rattle.dcv_syntax.specs.Plain.{PlainFile}
 use Rattle.dcv_logic.specs.Models.{models}
@@ -11,6 +11,9 @@ use Rattle.dcv_explore.specs.declared.explorer.Limits.{Limits}
 use Rattle.dcv_automaton_text.specs.Rules.{AreNames, most_states, most_nodes}
 use Rattle.dcv_dfa.specs.Auto.{count_of_nodes}
 use Rattle.dcv_build.specs.Budget.{IsAutomatonOf, IsWithinBudget}
+use Rattle.dcv_build.specs.Counts.{AreCounts}
+use Rattle.dcv_count.specs.declared.Count.{Count}
+use Rattle.dcv_print.specs.Counts.{ArePrintableCounts}
 use Rattle.dcv_print.specs.Printed.{texts_of}
 use Rattle.dcv_print.specs.Report.{ReportValue}
 use Rattle.dcv_print.specs.declared.report.Kind.{Kind}
@@ -24,6 +27,7 @@ pub record CanBePrinted (judged : Judged) : Type 0 where
   pub names : AreNames (texts_of judged.names.items)
   pub states : length judged.auto.rows ≤ most_states
   pub nodes : count_of_nodes judged.auto ≤ most_nodes
+  pub counts : ArePrintableCounts judged.counts.items
 
 pub record IsJudged (text : List ℕ) (limits : Limits) (judged : Judged) : Type 0 where
   pub file : PlainFile
@@ -31,8 +35,9 @@ pub record IsJudged (text : List ℕ) (limits : Limits) (judged : Judged) : Type
   pub within : IsWithinBudget (steps_of_file file) limits
   pub names : judged.names.items ≡ file.variables
   pub automaton : IsAutomatonOf (length file.variables) (models file) judged.auto
+  pub counts : AreCounts (steps_of_file file) limits judged.counts.items
   pub printable : CanBePrinted judged
 
-pub record Reports (kind : Kind) (k : ℕ) (L : Language) (names : List (List ℕ)) (report : ReportValue) : Type 0 where
+pub record Reports (kind : Kind) (k : ℕ) (L : Language) (names : List (List ℕ)) (counts : List Count) (report : ReportValue) : Type 0 where
   pub verdict : IsVerdict k L report.verdict
-  pub says : Says kind k L names report.verdict report.text
+  pub says : Says kind k L names counts report.verdict report.text

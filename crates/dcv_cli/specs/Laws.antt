@@ -1,11 +1,12 @@
 -- The laws that `src/laws.rt` proves.
-use Rattle.std.specs.Prelude.{◌≡◌, ◌≢◌, ◌⊎◌, ℕ, List, Bool, true, false, Some, IsSome, IsTrue, IsFalse, length, map}
+use Rattle.std.specs.Prelude.{◌≡◌, ◌≢◌, ◌⊎◌, ℕ, List, Bool, true, false, Some, IsSome, IsTrue, IsFalse, length, map, codes}
 use Rattle.std.specs.List.{All}
 use Rattle.std.specs.List.Sorted.{IsStrictlyIncreasing}
 use Rattle.dcv_syntax.specs.Plain.{PlainFile}
 use Rattle.dcv_language.specs.Language.{HaveSameBehaviours}
 use Rattle.dcv_logic.specs.Models.{models}
 use Rattle.dcv_reader.specs.Spelling.{Spells}
+use Rattle.dcv_tokens.specs.Tokens.{BeginsWith}
 use Rattle.dcv_scope.specs.Names.{occurrences_in_file}
 use Rattle.dcv_print.specs.Printed.{texts_of}
 use Rattle.dcv_explore.specs.Budget.{Kind as KindOfExcess}
@@ -18,11 +19,13 @@ use Rattle.dcv_cli.specs.Budget.{steps_of_file, IsFirstOver}
 use Rattle.dcv_cli.specs.Refusal.{message_of, only}
 use Rattle.dcv_cli.specs.FormulaFile.{IsFormulaFile}
 use Rattle.dcv_cli.specs.Held.{Texts}
-use Rattle.dcv_cli.specs.Outcome.{Outcome, Agrees}
+use Rattle.dcv_cli.specs.Outcome.{Outcome, Agrees, AgreeInMeaning}
 use Rattle.dcv_print.specs.Sections.{all_text}
 use Rattle.dcv_print.specs.declared.report.Kind.{Kind}
 use Rattle.dcv_print.specs.declared.report.Kind.TheVariants.{Automaton, All as AllTexts}
-use Rattle.dcv_command.specs.Request.{Request, Report, Certify, Implies, Replay, files_of}
+use Rattle.dcv_command.specs.Request.{Request, Report, Certify, Convert, Implies, Replay, files_of}
+use Rattle.dcv_command.specs.declared.words.Version.{Version}
+use Rattle.dcv_command.specs.declared.words.Version.TheVariants.{One, Two}
 use Rattle.dcv_cli.specs.Request.{AsksFor}
 use Rattle.dcv_cli.specs.Right.{Fulfils, IsRight}
 use Rattle.dcv_cli.specs.Status.{is_answer}
@@ -99,11 +102,11 @@ pub record IsAnswer (kind : Kind) (name : List ℕ) (limits : Limits) (held : Te
   pub right : Fulfils (Report kind name limits) held outcome
   pub answers : IsTrue (is_answer outcome.status)
 
--- files that mean the same have the same verdict, the same observers, and the same automaton but for its suffixes, with any limits
+-- files that mean the same have the same verdict, the same observers, and the same automaton up to its last access word, with any limits
 abbrev pub EqualMeanings : Type 0
 EqualMeanings = (kind : Kind) (name other_name : List ℕ) (limits other_limits : Limits) (held other_held : Texts) (file other_file : PlainFile)
     (one another : Outcome) → MeanTheSame file other_file → IsAnswer kind name limits held file one
-    → IsAnswer kind other_name other_limits other_held other_file another → Agrees one another
+    → IsAnswer kind other_name other_limits other_held other_file another → AgreeInMeaning one another
 
 -- ---- texts that are printed are certified
 
@@ -127,6 +130,23 @@ pub record PrintedIsCertified : Type 0 where
   pub all : (text : List ℕ) → IsPrinted AllTexts text
       → (verdict automaton node unit : List ℕ) × (text ≡ all_text verdict automaton node unit) × IsCertifiable automaton
 
+-- ---- versions of a text
+
+-- it is right to answer the text with what is written, where it is asked for in this version
+pub record IsConversionOf (to : Version) (text written : List ℕ) : Type 0 where
+  pub name : List ℕ
+  pub held : Texts
+  pub there : held 0 name ≡ Some text
+  pub outcome : Outcome
+  pub right : Fulfils (Convert name to) held outcome
+  pub done : outcome.status ≡ Done
+  pub says : written ≡ outcome.out
+
+-- what goes from version 1 to version 2 and back is as it was
+abbrev pub ConvertedBackIsTheText : Type 0
+ConvertedBackIsTheText = (text second last : List ℕ) → BeginsWith text (codes "automaton 1") → IsConversionOf Two text second → IsConversionOf One second last
+    → last ≡ text
+
 -- ---- requirements that imply each other
 
 -- it is right to answer of the two texts that the requirement of the first implies that of the second
@@ -149,7 +169,7 @@ pub record AreOneRequirement (first second : List ℕ) : Type 0 where
   pub other_formula : IsFormulaFile second other_file
   pub mean : MeanTheSame file other_file
 
--- those that imply each other do, so that all that is printed of one is printed of the other, but for suffixes
+-- those that imply each other do, so that all that is printed of one is printed of the other, but for suffixes and what the steps took
 abbrev pub ImpliesBothWays : Type 0
 ImpliesBothWays = (first second : List ℕ) → Implied first second → Implied second first → AreOneRequirement first second
 

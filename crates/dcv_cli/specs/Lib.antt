@@ -11,6 +11,7 @@ pub mod Automaton
 pub mod Report
 pub mod AutomatonFile
 pub mod Certificate
+pub mod Conversion
 pub mod Comparison
 pub mod ObserverFile
 pub mod Replayed

@@ -4,12 +4,14 @@
 --     IsExplained Right which r
 --                             the refusal r, of this file, is a right outcome, where the words and the texts determine it
 --     Agrees one other        the same, but for what is left to the program
+--     AgreeInMeaning one other
+--                             answers that are the same, but for what is left to the program and what the steps took
 use Rattle.std.specs.Prelude.{◌≡◌, ◌≢◌, ◌⊎◌, ℕ, List, []}
 use Rattle.dcv_language.specs.VerdictText.{line}
 use Rattle.dcv_cli.specs.declared.refusal.Refusal.{Refusal}
 use Rattle.dcv_cli.specs.declared.status.Status.{Status}
 use Rattle.dcv_cli.specs.declared.status.Status.TheVariants.{Usage, Budget as StatusBudget}
-use Rattle.dcv_print.specs.Automaton.{DifferInSuffixes}
+use Rattle.dcv_print.specs.Automaton.{DifferInSuffixes, AgreeUpToAccess}
 use Rattle.dcv_cli.specs.Refusal.{status_of, words_of, ended}
 use Rattle.dcv_cli.specs.declared.refused.Which.{Which}
 use Rattle.dcv_cli.specs.Status.{is_determined}
@@ -35,3 +37,9 @@ pub record Agrees (one other : Outcome) : Type 0 where
   pub status : one.status ≡ other.status
   pub report : (one.out ≡ other.out) ⊎ DifferInSuffixes one.out other.out
   pub message : one.status ≢ Usage → one.status ≢ StatusBudget → one.err ≡ other.err
+
+-- Of formulas with one meaning the steps may differ, so the lines of an automaton are the same up to the last of its access words.
+pub record AgreeInMeaning (one other : Outcome) : Type 0 where
+  pub status : one.status ≡ other.status
+  pub report : (one.out ≡ other.out) ⊎ AgreeUpToAccess one.out other.out
+  pub message : one.err ≡ other.err

@@ -4,11 +4,12 @@
 use Rattle.std.specs.Prelude.{◌≡◌, ℕ, List, [], Option}
 use Rattle.dcv_io.specs.Disk.{Disk}
 use Rattle.dcv_cli.specs.declared.status.Status.TheVariants.{Usage}
-use Rattle.dcv_command.specs.Request.{Request, Report, Certify, Implies, Synth, Replay, Sweep, IsTaken}
+use Rattle.dcv_command.specs.Request.{Request, Report, Certify, Convert, Implies, Synth, Replay, Sweep, IsTaken}
 use Rattle.dcv_cli.specs.AutomatonFile.{OnAutomaton}
 use Rattle.dcv_cli.specs.Budget.{IsBudgeted}
 use Rattle.dcv_cli.specs.Certificate.{IsCertificate}
 use Rattle.dcv_cli.specs.Comparison.{IsCompared}
+use Rattle.dcv_cli.specs.Conversion.{IsConverted}
 use Rattle.dcv_cli.specs.FormulaFile.{OnText}
 use Rattle.dcv_cli.specs.Held.{Texts, OnHeld, ForHeld}
 use Rattle.dcv_cli.specs.Outcome.{Outcome}
@@ -21,8 +22,9 @@ use Rattle.dcv_cli.specs.Swept.{IsSwept}
 use Rattle.dcv_cli.specs.Synthesis.{IsSynthesised}
 
 abbrev pub Fulfils : Request → Texts → Outcome → Type 0
-Fulfils (Report kind name limits) held outcome = OnHeld (held 0) name (λ text. OnText text Only (IsBudgeted limits Only (IsReport kind))) outcome
+Fulfils (Report kind name limits) held outcome = OnHeld (held 0) name (λ text. OnText text Only (IsBudgeted limits Only (IsReport kind limits))) outcome
 Fulfils (Certify name) held outcome = OnHeld (held 0) name (λ text. OnAutomaton text IsCertificate) outcome
+Fulfils (Convert name to) held outcome = OnHeld (held 0) name (λ text. OnAutomaton text (IsConverted to)) outcome
 Fulfils (Implies first second limits) held outcome =
     OnHeld (held 0) first (λ text. OnText text First (λ one. OnHeld (held 1) second (λ other_text. OnText other_text Second (IsCompared limits one)))) outcome
 Fulfils (Synth name inputs limits) held outcome = OnHeld (held 0) name (λ text. OnText text Only (IsSynthesised inputs limits)) outcome

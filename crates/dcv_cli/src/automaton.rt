@@ -1,4 +1,4 @@
-// The automaton of a core, or the refusal that names the first step over the limits.
+// The automaton of a core and what each step took, or the refusal that names the first step over the limits.
 ghost use Rattle.std.specs.Prelude.{◌≡◌, ◌<◌, ◌≤◌, ℕ, Some, length, slice_get, IfOk, IfErr, OnOk};
 ghost use Rattle.std.specs.Option.{option_map};
 ghost use Rattle.dcv_core.specs.Core.{CoreTree};
@@ -6,28 +6,29 @@ ghost use Rattle.dcv_core.specs.Holds.{words_of};
 ghost use Rattle.dcv_core.specs.Steps.{steps_of};
 ghost use Rattle.dcv_dfa.specs.Auto.{count_of_nodes};
 ghost use Rattle.dcv_build.specs.Budget.{IsAutomatonOf, IsWithinBudget};
+ghost use Rattle.dcv_build.specs.Counts.{AreCounts};
 ghost use Rattle.dcv_build.specs.Given.{IsCore, IsCoreOf};
 ghost use Rattle.dcv_cli.specs.Budget.{NamesFirstOver};
 
 use crate::budget_line::{Excess, Over};
 use crate::refusal::Refusal;
-use dcv_build::{BuildFault, build};
+use dcv_build::{BuildFault, Built, build_counted};
 use dcv_core::Core;
-use dcv_dfa::Auto;
 use dcv_explore::Limits;
 use std::alloc::Global;
 
-/// The canonical automaton of the core's words.
-pub(crate) fn automaton_of(alloc: Global, core: &Core, limits: Limits) -> Result<Auto, Refusal>
+/// The canonical automaton of the core's words, and what each step took.
+pub(crate) fn automaton_of(alloc: Global, core: &Core, limits: Limits) -> Result<Built, Refusal>
     requires { IsCore core.now }
-    ensures canonical { (tree : CoreTree) → IsCoreOf tree core.now → IfOk result (IsAutomatonOf core.now.declared (words_of tree)) }
-    ensures few_states { IfOk result (λ auto. length auto.rows ≤ limits.states) }
-    ensures few_nodes { IfOk result (λ auto. count_of_nodes auto ≤ limits.nodes) }
+    ensures canonical { (tree : CoreTree) → IsCoreOf tree core.now → IfOk result (λ built. IsAutomatonOf core.now.declared (words_of tree) built.auto) }
+    ensures few_states { IfOk result (λ built. length built.auto.rows ≤ limits.states) }
+    ensures few_nodes { IfOk result (λ built. count_of_nodes built.auto ≤ limits.nodes) }
+    ensures counts { (tree : CoreTree) → IsCoreOf tree core.now → IfOk result (λ built. AreCounts (steps_of core.now.declared tree) limits built.counts.items) }
     ensures within { (tree : CoreTree) → IsCoreOf tree core.now → OnOk result (IsWithinBudget (steps_of core.now.declared tree) limits) }
     ensures over { (tree : CoreTree) → IsCoreOf tree core.now → IfErr result (NamesFirstOver (steps_of core.now.declared tree) limits) }
 {
-    match build(alloc, core, limits) {
-        Ok(auto) => Ok(auto),
+    match build_counted(alloc, core, limits) {
+        Ok(built) => Ok(built),
         Err(BuildFault::States { step, limit }) => {
             Err(Refusal::Budget(over(core, Excess::States, limit, step)))
         }

@@ -5,6 +5,7 @@ ghost use Rattle.dcv_io.specs.Asked.{Asks};
 ghost use Rattle.dcv_io.specs.Disk.{held_of};
 ghost use Rattle.dcv_io.specs.Faults.{RisesIf};
 ghost use Rattle.dcv_syntax.specs.Plain.{PlainFile};
+ghost use Rattle.dcv_build.specs.Counts.{AreCounts};
 ghost use Rattle.dcv_build.specs.Given.{IsCore};
 ghost use Rattle.dcv_cli.specs.Budget.{steps_of_file, NamesFirstOver};
 ghost use Rattle.dcv_cli.specs.Expanded.{IsExpandedText, IsExpandedIn, IsRefusedFile, IsExpanded, IsBuilt};
@@ -16,6 +17,7 @@ use crate::automaton::automaton_of;
 use crate::faults::{FormulaFault, MOST_BYTES};
 use crate::refusal::Refusal;
 use crate::taking::take;
+use dcv_build::Built;
 use dcv_core::Core;
 use dcv_dfa::Auto;
 use dcv_explore::Limits;
@@ -67,15 +69,26 @@ fn core_of(alloc: Global, text: &[u8]) -> Result<Expanded, Refusal>
     Ok(Expanded { core, names })
 }
 
+/// The canonical automaton of the behaviours that model the file, and what each step of its goal took.
+pub(crate) fn counted(alloc: Global, expanded: &Expanded, limits: Limits) -> Result<Built, Refusal>
+    requires { IsCore expanded.now.core }
+    ensures built { (file : PlainFile) → IsExpanded file expanded.now → IfOk result (λ built. IsBuilt file limits built.auto) }
+    ensures counts { (file : PlainFile) → IsExpanded file expanded.now → IfOk result (λ built. AreCounts (steps_of_file file) limits built.counts.items) }
+    ensures over { (file : PlainFile) → IsExpanded file expanded.now → IfErr result (NamesFirstOver (steps_of_file file) limits) }
+{
+    core_means_text();
+    canonical_for_same_behaviours();
+    automaton_of(alloc, &expanded.core, limits)
+}
+
 /// The canonical automaton of the behaviours that model the file.
 pub(crate) fn built(alloc: Global, expanded: &Expanded, limits: Limits) -> Result<Auto, Refusal>
     requires { IsCore expanded.now.core }
     ensures built { (file : PlainFile) → IsExpanded file expanded.now → IfOk result (IsBuilt file limits) }
     ensures over { (file : PlainFile) → IsExpanded file expanded.now → IfErr result (NamesFirstOver (steps_of_file file) limits) }
 {
-    core_means_text();
-    canonical_for_same_behaviours();
-    automaton_of(alloc, &expanded.core, limits)
+    let whole = counted(alloc, expanded, limits)?;
+    Ok(whole.auto)
 }
 
 // The declared variables, which are all that is kept of the file: a tree that is dropped at the end of `core_of` would give each of its

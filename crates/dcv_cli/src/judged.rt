@@ -7,6 +7,7 @@ ghost use Rattle.dcv_build.specs.Budget.{IsAutomatonOf};
 ghost use Rattle.dcv_print.specs.Printed.{texts_of};
 ghost use Rattle.dcv_cli.specs.Judged.{CanBePrinted, Reports};
 
+use dcv_count::Count;
 use dcv_dfa::Auto;
 use dcv_dfa::laws::tables_accept_the_same;
 use dcv_language::laws::verdict_of_same_behaviours;
@@ -17,11 +18,12 @@ use dcv_print::{Kind, Report};
 use dcv_syntax::Name;
 use std::alloc::{AllocError, Global};
 
-/// The canonical automaton of the behaviours that model the file, and the names of its variables.
+/// The canonical automaton of the behaviours that model the file, the names of its variables, and what each step of its goal took.
 #[derive(Drop)]
 pub struct Judged {
     pub auto: Auto,
     pub names: Vec<Name>,
+    pub counts: Vec<Count>,
 }
 
 /// What is asked for.
@@ -32,7 +34,7 @@ pub(crate) fn report_on<'a>(
 ) -> Result<Report<'a>, AllocError>
     requires { CanBePrinted judged.now }
     ensures { (k : ℕ) (L : Language) → IsAutomatonOf k L judged.now.auto
-        → IfOk result (Reports kind k L (texts_of judged.now.names.items)) }
+        → IfOk result (Reports kind k L (texts_of judged.now.names.items) judged.now.counts.items) }
 {
     tables_accept_the_same();
     verdict_of_same_behaviours();
@@ -41,5 +43,5 @@ pub(crate) fn report_on<'a>(
     printed_observers_observe();
     // for the prover: what is true of every canonical automaton.
     let _ = judged.auto.states();
-    Report::make(alloc, &judged.auto, &judged.names, kind)
+    Report::make(alloc, &judged.auto, &judged.names, kind, &judged.counts)
 }

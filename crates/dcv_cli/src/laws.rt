@@ -1,8 +1,8 @@
 //! Laws on what is right, each the contract of a function that does nothing.
-ghost use Rattle.dcv_cli.specs.Laws.{OneOutcome, SomeOutcome, EqualMeanings, PrintedIsCertified, ImpliesBothWays, NamesAscend};
+ghost use Rattle.dcv_cli.specs.Laws.{OneOutcome, SomeOutcome, EqualMeanings, PrintedIsCertified, ConvertedBackIsTheText, ImpliesBothWays, NamesAscend};
 
-use dcv_automaton_text::laws::one_file as one_automaton_text;
-use dcv_build::laws::one_step_is_over;
+use dcv_automaton_text::laws::{one_file as one_automaton_text, versions_stand_for_the_same};
+use dcv_build::laws::{one_list_of_counts, one_step_is_over};
 use dcv_c::laws::{texts_are_units_or_at_fault, texts_spell_units};
 use dcv_certify::laws::{one_answer, printed_is_certified as good_words_are_certified};
 use dcv_command::laws::taken_words_ask;
@@ -14,6 +14,7 @@ use dcv_print::laws::{
 };
 use dcv_reader::laws::{names_are_short, one_fault, one_tree, some_reading};
 use dcv_replay::laws::{letters_have_one_text_of_answers, traces_have_one_verdict};
+use dcv_scope::laws::measures_bound_core;
 use dcv_sweep::laws::one_summary;
 use dcv_synth::laws::{answers_are_one, one_side_is_right, units_are_one};
 
@@ -26,6 +27,7 @@ pub fn one_outcome()
     one_fault();
     one_verdict();
     one_step_is_over();
+    one_list_of_counts();
     one_automaton();
     one_file();
     one_automaton_text();
@@ -58,7 +60,7 @@ pub fn some_outcome()
 }
 
 /// Formula files with the same variables and the same models have the same answer: the same verdict, the same observers, and the same
-/// automaton but for its suffixes.
+/// automaton up to its last access word. What stands behind that are its suffixes, and what the steps took.
 pub fn equal_meanings()
     ensures { EqualMeanings }
 {
@@ -76,9 +78,18 @@ pub fn printed_is_certified()
     ensures { PrintedIsCertified }
 {
     names_are_short();
+    measures_bound_core();
     one_automaton_text();
     one_answer();
     good_words_are_certified();
+}
+
+/// The text of an automaton of version 1 that is converted to version 2, and what comes of that to version 1, is as it was.
+pub fn converted_back_is_the_text()
+    ensures { ConvertedBackIsTheText }
+{
+    one_automaton_text();
+    versions_stand_for_the_same();
 }
 
 /// Formula files of which each implies the other have the same variables and the same models, so [`equal_meanings`] speaks of them.

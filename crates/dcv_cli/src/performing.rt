@@ -6,6 +6,7 @@ ghost use Rattle.dcv_cli.specs.Performed.{PerformsRequest};
 
 use crate::certifying::certify_file;
 use crate::comparing::compare_files;
+use crate::converting::convert_file;
 use crate::refused::Refused;
 use crate::replaying::replay_file;
 use crate::reporting::report_on_file;
@@ -33,6 +34,7 @@ pub(crate) fn perform<F: Files, O: Sink>(
             report_on_file(alloc, kind, file, limits, files, out)
         }
         Request::Certify { automaton } => certify_file(alloc, automaton, files, out),
+        Request::Convert { automaton, to } => convert_file(alloc, automaton, to, files, out),
         Request::Implies {
             first,
             second,

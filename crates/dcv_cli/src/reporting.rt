@@ -10,7 +10,7 @@ ghost use Rattle.dcv_cli.specs.Judged.{IsJudged};
 ghost use Rattle.dcv_cli.specs.Outside.{outside};
 ghost use Rattle.dcv_cli.specs.Performed.{PerformsRequest};
 
-use crate::expanded::{Expanded, built, expanded_file};
+use crate::expanded::{Expanded, counted, expanded_file};
 use crate::judged::{Judged, report_on};
 use crate::refusal::Refusal;
 use crate::refused::Refused;
@@ -19,6 +19,7 @@ use dcv_explore::Limits;
 use dcv_io::{Files, Sink};
 use dcv_print::Kind;
 use dcv_reader::laws::names_are_short;
+use dcv_scope::laws::measures_bound_core;
 use std::alloc::Global;
 
 /// Writes the report on the formula in the file of this name.
@@ -42,7 +43,7 @@ pub(crate) fn report_on_file<F: Files, O: Sink>(
     Ok(Status::of(report.verdict()))
 }
 
-// The automaton of the file.
+// The automaton of the file, and what each step of its goal took.
 pub(crate) fn judge(alloc: Global, expanded: Expanded, limits: Limits) -> Result<Judged, Refusal>
     requires core { IsCore expanded.core }
     requires limits { AreInRange limits }
@@ -51,9 +52,11 @@ pub(crate) fn judge(alloc: Global, expanded: Expanded, limits: Limits) -> Result
     ensures names { IfOk result (λ judged. judged.names.items ≡ expanded.names.items) }
 {
     names_are_short();
-    let auto = built(alloc, &expanded, limits)?;
+    measures_bound_core();
+    let built = counted(alloc, &expanded, limits)?;
     Ok(Judged {
-        auto,
+        auto: built.auto,
         names: expanded.names,
+        counts: built.counts,
     })
 }

@@ -255,13 +255,7 @@ nodes it had, and version 1 does not",
             "AUTO",
             "The file with the automaton's text, in either version",
         ))?
-        .arg(number_option(
-            alloc,
-            "to",
-            1,
-            MOST_VERSION,
-            "The version, 1 or 2",
-        ))
+        .arg(number_option(alloc, "to", 1, MOST_VERSION, "The version, 1 or 2"))
 }
 
 // The subcommand over two formula files.

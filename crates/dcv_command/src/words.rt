@@ -10,7 +10,9 @@ ghost use Rattle.dcv_command.specs.Request.{limits_among as limits_among_rows, n
 ghost use Rattle.dcv_command.specs.declared.words.WordsFault.TheVariants.{Memory};
 ghost use Rattle.dcv_command.specs.Seen.{asked_by, IsUsageOnlyWhere};
 
-use crate::program::{MOST_COUNT, MOST_INPUTS, MOST_NODES, MOST_SEED, MOST_STATES, MOST_VERSION, program};
+use crate::program::{
+    MOST_COUNT, MOST_INPUTS, MOST_NODES, MOST_SEED, MOST_STATES, MOST_VERSION, program,
+};
 use clap::ArgMatches;
 use clap::error::ErrorKind;
 use dcv_explore::Limits;

@@ -3,12 +3,12 @@ use Rattle.std.proofs.Common.{List, ℕ, refl, subst}
 use Rattle.std.specs.Bool.{OnTrue}
 use Rattle.std.proofs.lemmas.Result.{err_from_is_err_and}
 use Rattle.dcv_cli.specs.AutomatonFile.{IsRefusedAutomaton, TooLong}
-use Rattle.dcv_cli.specs.Certificate.{IsCertifiedText, status_of_answer}
+use Rattle.dcv_cli.specs.Certificate.{IsCertificate, IsCertifiedText, status_of_answer}
 use Rattle.dcv_cli.specs.Refusal.{status_of}
 use Rattle.dcv_cli.specs.Status.{is_determined}
 use Rattle.dcv_cli.specs.declared.refused.Which.TheVariants.{Only}
 use Rattle.dcv_cli.proofs.Endings.{nothing_told}
-use Rattle.dcv_cli.proofs.Certificates.{explains_certificate, fulfils_certificate, answers_end}
+use Rattle.dcv_cli.proofs.Certificates.{explains_text, fulfils_certificate, answers_end}
 use Rattle.dcv_cli.proofs.ThreeEnds.{performs_refused, performs_sent, performs_failed, text_is_of_taking, opened_stays, read_stays, nothing_held, of_only, on_true_weaker}
 use Rattle.dcv_cli.proofs.certifying.certify_file.Goals as goal
 
@@ -19,7 +19,7 @@ returns-in_err-text g c =
     let refusal = c.in_err-text.field-0.0 in
     let given = c.in_err-text.ensures in
     rw (p.1, p.2) (performs_refused _ _ _ _ _ refusal Only given.unwritten (of_only refusal) (nothing_held told)
-    (explains_certificate told c.args.name.now refusal
+    (explains_text told c.args.name.now IsCertificate refusal
     (on_true_weaker (is_determined (status_of refusal)) (λ some. (some.1.text, some.1.there, TooLong some.1.longer some.0)) given.refused))
     (nothing_told _) refl (record { asked = (1, given.asked); opened = given.open_faults; read = given.read_faults; held = given.held }))
 
@@ -32,7 +32,7 @@ returns-in_err-certified g c =
     let is = subst (λ (text : List ℕ). OnTrue (is_determined (status_of refusal)) (IsRefusedAutomaton text refusal)) c.deref.ensures.value c.in_err-certified.ensures.refused in
     rw (p.1, p.2) (performs_refused _ _ _ _ _ refusal Only (text_is_of_taking refusal c.in_err-certified.ensures.own) (of_only refusal)
     (nothing_held told)
-    (explains_certificate told c.args.name.now refusal
+    (explains_text told c.args.name.now IsCertificate refusal
     (on_true_weaker (is_determined (status_of refusal)) (λ some. (c.in_ok-text.text.items, given.ok, some)) is))
     (nothing_told _) refl (record { asked = (1, given.asked); opened = opened_stays refusal _ _ c.in_err-certified.ensures.own given.open_faults; read = read_stays refusal _ _ c.in_err-certified.ensures.own given.read_faults; held = given.held }))
 

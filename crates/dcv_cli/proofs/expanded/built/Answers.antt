@@ -1,12 +1,8 @@
--- What is said of a core is said of the file that it is of.
-use Rattle.dcv_cli.proofs.Budgets.{built_if_ok, over_if_err}
+-- The automaton is that which is built with the counts.
+use Rattle.std.proofs.lemmas.Result.{err_from_is_err_and}
 use Rattle.dcv_cli.proofs.expanded.built.Goals as goal
 
-pub returns-clause-built : goal.returns-clause-built
-returns-clause-built c file is =
-    built_if_ok file c.args.expanded.now.core is.declared is.steps c.args.limits c.automaton_of.result c.core_means_text.ensures.whole c.canonical_for_same_behaviours.ensures
-    c.automaton_of.ensures.canonical c.automaton_of.ensures.within c.automaton_of.ensures.few_states c.automaton_of.ensures.few_nodes
-
-pub returns-clause-over : goal.returns-clause-over
-returns-clause-over c file is =
-    over_if_err file c.args.expanded.now.core is.declared is.steps c.args.limits c.automaton_of.result c.automaton_of.ensures.over
+pub returns-in_err-whole-clause-over : goal.returns-in_err-whole-clause-over
+returns-in_err-whole-clause-over c file is =
+    let p = err_from_is_err_and c.from_residual.result c.from_residual.ensures.1 in
+    rw (p.1, p.2) (c.in_err-whole.ensures.over file is)

@@ -3,6 +3,7 @@ use Rattle.std.proofs.Common.{List, subst, ◌∙◌}
 use Rattle.std.specs.Prelude.{IfOk}
 use Rattle.std.proofs.lemmas.List.{length-map}
 use Rattle.dcv_syntax.specs.declared.names.Name.{Name}
+use Rattle.dcv_count.specs.declared.Count.{Count}
 use Rattle.dcv_print.specs.Printed.{texts_of}
 use Rattle.dcv_print.specs.Report.{Says}
 use Rattle.dcv_cli.proofs.Automata.{report_answers}
@@ -12,7 +13,7 @@ pub returns : goal.returns
 returns c k L of =
     let judged = c.args.judged.now in
     report_answers c.printed_is_automaton.ensures c.printed_observers_observe.ensures.node c.printed_observers_observe.ensures.unit c.automaton_of_same_behaviours.ensures c.verdict_of_same_behaviours.ensures
-    c.tables_accept_the_same.ensures.accepts judged.auto (texts_of judged.names.items)
+    c.tables_accept_the_same.ensures.accepts judged.auto (texts_of judged.names.items) judged.counts.items
     (record {
       is_raw = c.states.ensures.raw;
       auto = c.states.ensures.auto;
@@ -21,5 +22,6 @@ returns c k L of =
       states = c.requires.states;
       nodes = c.requires.nodes;
     })
-    k L of c.args.kind c.make.result c.make.ensures.verdict
-    (subst (λ (names : List Name). IfOk c.make.result (Says c.args.kind judged.auto (texts_of names))) c.deref.ensures.value c.make.ensures.says)
+    c.requires.counts k L of c.args.kind c.make.result c.make.ensures.verdict
+    (subst (λ (counts : List Count). IfOk c.make.result (Says c.args.kind judged.auto (texts_of judged.names.items) counts)) c.deref-2.ensures.value
+    (subst (λ (names : List Name). IfOk c.make.result (Says c.args.kind judged.auto (texts_of names) c.deref-2.result.now)) c.deref.ensures.value c.make.ensures.says))

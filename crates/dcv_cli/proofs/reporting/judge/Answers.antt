@@ -4,17 +4,19 @@ use Rattle.std.proofs.lemmas.Result.{err_from_is_err_and}
 use Rattle.dcv_automaton_text.specs.Rules.{AreNames}
 use Rattle.dcv_print.specs.Printed.{texts_of}
 use Rattle.dcv_syntax.specs.declared.names.Name.{Name}
+use Rattle.dcv_cli.proofs.StepCounts.{printable_counts}
 use Rattle.dcv_cli.proofs.VariableNames.{are_names}
 use Rattle.dcv_cli.proofs.reporting.judge.Goals as goal
 
-pub returns-in_err-auto-clause-over : goal.returns-in_err-auto-clause-over
-returns-in_err-auto-clause-over c file is =
+pub returns-in_err-built-clause-over : goal.returns-in_err-built-clause-over
+returns-in_err-built-clause-over c file is =
     let p = err_from_is_err_and c.from_residual.result c.from_residual.ensures.1 in
-    rw (p.1, p.2) (c.in_err-auto.ensures.over file is)
+    rw (p.1, p.2) (c.in_err-built.ensures.over file is)
 
 pub returns-clause-judged : goal.returns-clause-judged
 returns-clause-judged c text file formula is =
-    let built = c.in_ok-auto.ensures.built file is in
+    let built = c.in_ok-built.ensures.built file is in
+    let counts = c.in_ok-built.ensures.counts file is in
     let states = built.states in
     let nodes = built.nodes in
     let few_states = c.requires.limits.few_states in
@@ -25,10 +27,12 @@ returns-clause-judged c text file formula is =
       within = built.within;
       names = is.names;
       automaton = built.automaton;
+      counts = counts;
       printable = record {
         slots = ap length is.names ∙ sym built.automaton.slots;
         names = subst (λ (names : List Name). AreNames (texts_of names)) (sym is.names) (are_names c.names_are_short.ensures text file formula);
         states = omega (arith, states, few_states);
         nodes = omega (arith, nodes, few_nodes);
+        counts = printable_counts c.measures_bound_core.ensures.steps text file formula c.args.limits c.requires.limits c.in_ok-built.built.counts.items counts;
       };
     }

@@ -21,7 +21,7 @@ returns-in_err-expanded g c =
     let refusal = c.in_err-expanded.field-0.0 in
     let given = c.in_err-expanded.ensures in
     rw (p.1, p.2) (performs_refused _ _ _ _ _ refusal Only given.unwritten (of_only refusal) (nothing_held told)
-    (explains_file told c.args.name.now Only (λ held. IsBudgeted c.args.limits Only (IsReport c.args.kind)) refusal given.refused)
+    (explains_file told c.args.name.now Only (λ held. IsBudgeted c.args.limits Only (IsReport c.args.kind c.args.limits)) refusal given.refused)
     (nothing_told _) refl (record { asked = (1, given.asked); opened = given.open_faults; read = given.read_faults; held = given.held }))
 
 pub returns-in_err-judged : goal.returns-in_err-judged
@@ -35,8 +35,8 @@ returns-in_err-judged g c =
     let own = over_is_of_text (steps_of_file known.file) c.args.limits refusal over in
     rw (p.1, p.2) (performs_refused _ _ _ _ _ refusal Only (text_is_of_taking refusal own) (of_only refusal)
     (nothing_held told)
-    (explains_in_file told c.args.name.now Only (IsBudgeted c.args.limits Only (IsReport c.args.kind)) given.expanded.text known.file Only refusal given.expanded.there known.formula
-    (explains_over c.args.limits Only (IsReport c.args.kind) known.file refusal over))
+    (explains_in_file told c.args.name.now Only (IsBudgeted c.args.limits Only (IsReport c.args.kind c.args.limits)) given.expanded.text known.file Only refusal given.expanded.there known.formula
+    (explains_over c.args.limits Only (IsReport c.args.kind c.args.limits) known.file refusal over))
     (nothing_told _) refl (record { asked = (1, given.asked); opened = opened_stays refusal _ _ own given.open_faults; read = read_stays refusal _ _ own given.read_faults; held = given.held }))
 
 pub returns-in_err-report : goal.returns-in_err-report
@@ -56,7 +56,7 @@ returns-in_err-send g c =
     let report = c.in_ok-report.report in
     let judged = c.in_ok-judged.ensures.judged given.expanded.text known.file known.formula known.is in
     rw (p.1, p.2) (performs_failed _ _ _ _ _ (status_of_verdict report.verdict) report.text
-    (fulfils_first told c.args.name.now given.expanded.text (λ held text. OnText text Only (IsBudgeted c.args.limits Only (IsReport c.args.kind))) _ given.expanded.there
+    (fulfils_first told c.args.name.now given.expanded.text (λ held text. OnText text Only (IsBudgeted c.args.limits Only (IsReport c.args.kind c.args.limits))) _ given.expanded.there
     (λ held. answers_report c.args.kind c.args.limits given.expanded.text c.in_ok-judged.judged report _ judged c.in_ok-report.ensures refl))
     (answer_of_verdict report.verdict) c.in_err-send.ensures.failed c.in_err-send.ensures.faults
     (record { asked = (1, given.asked); opened = given.open_faults; read = given.read_faults; held = given.held }))
@@ -70,7 +70,7 @@ returns g c =
     let judged = c.in_ok-judged.ensures.judged given.expanded.text known.file known.formula known.is in
     let status : c.of.result ≡ status_of_verdict report.verdict = c.of.ensures ∙ ap status_of_verdict c.verdict.ensures in
     performs_sent _ _ _ _ _ c.of.result report.text
-    (fulfils_first told c.args.name.now given.expanded.text (λ held text. OnText text Only (IsBudgeted c.args.limits Only (IsReport c.args.kind))) _ given.expanded.there
+    (fulfils_first told c.args.name.now given.expanded.text (λ held text. OnText text Only (IsBudgeted c.args.limits Only (IsReport c.args.kind c.args.limits))) _ given.expanded.there
     (λ held. answers_report c.args.kind c.args.limits given.expanded.text c.in_ok-judged.judged report c.of.result judged c.in_ok-report.ensures status))
     (subst (λ (status : Status). IsTrue (is_answer status)) (sym status) (answer_of_verdict report.verdict)) c.in_ok-send.ensures.ok c.in_ok-send.ensures.faults
     (record { asked = (1, given.asked); opened = given.open_faults; read = given.read_faults; held = given.held })

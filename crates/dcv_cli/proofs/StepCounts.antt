@@ -1,0 +1,101 @@
+-- What the steps of a formula file take, where all are within limits that may be asked for, may be printed.
+use Rattle.std.proofs.Common.{◌≡◌, inl, inr, refl, ℕ, zero, suc, ◌<◌, ◌≤◌, Bool, true, false, List, [], ◌∷◌, length, get_or, Option, None, Some, slice_get, sym, ap, ◌∙◌, arith}
+use Rattle.std.specs.Prelude.{nat_le, if◌then◌else◌}
+use Rattle.std.proofs.lemmas.Bool.{cases_lt}
+use Rattle.std.proofs.lemmas.Bool.Decides.{nat_tests}
+use Rattle.std.proofs.lemmas.Option.{slice_get-get_or}
+use Rattle.dcv_count.specs.declared.Count.{Count}
+use Rattle.dcv_automaton_text.specs.Rules.{most_steps, most_start}
+use Rattle.dcv_build.specs.Budget.{row_at}
+use Rattle.dcv_build.specs.Counts.{HasAllCounts, AreCounts}
+use Rattle.dcv_command.specs.Request.{AreInRange}
+use Rattle.dcv_core.specs.Steps.{PlainStep}
+use Rattle.dcv_explore.specs.declared.explorer.Limits.{Limits}
+use Rattle.dcv_explore.specs.Budget.{Row, IsWithin, TooManyStates, TooManyNodes}
+use Rattle.dcv_explore.proofs.Budgets.{within_excludes_exceeding}
+use Rattle.dcv_print.specs.Counts.{IsPrintableCount, ArePrintableCounts}
+use Rattle.dcv_scope.specs.Faults.{above, fault_of_goal}
+use Rattle.dcv_scope.specs.Names.{fault_of_names}
+use Rattle.dcv_scope.specs.Laws.{StepsAreFew}
+use Rattle.dcv_scope.specs.Measures.{measure_of_file}
+use Rattle.dcv_scope.specs.declared.faults.ScopeFault.{ScopeFault}
+use Rattle.dcv_syntax.specs.Plain.{PlainFile}
+use Rattle.dcv_cli.specs.Budget.{steps_of_file}
+use Rattle.dcv_cli.specs.FormulaFile.{IsFormulaFile}
+use Rattle.dcv_cli.proofs.SpansRead.{file_begins}
+use Rattle.dcv_cli.proofs.StepSpans.{step_of_file_begins}
+use Rattle.dcv_cli.proofs.VariableNames.{none_of_both}
+
+-- ---- a row
+
+-- what a row counts is no more than the limits that it is within
+module _ (row : Row) (limits : Limits) (fits : IsWithin row limits) (states nodes : ℕ) (is : HasAllCounts row.machine row.parts states nodes) where
+  states_within : states ≤ limits.states
+  states_within = elim (cases_lt limits.states states) [
+    | inl more ↦ absurd (within_excludes_exceeding row limits TooManyStates fits
+        (record { list = is.counts.list; are_reached = is.counts.all.are_reached; more = omega (arith, more, is.counts.states_are) }))
+    | inr few ↦ few
+  ]
+
+  nodes_within : nodes ≤ limits.nodes
+  nodes_within = elim (cases_lt limits.nodes nodes) [
+    | inl more ↦ absurd (within_excludes_exceeding row limits TooManyNodes fits (record {
+      list = is.counts.list;
+      are_reached = is.counts.all.are_reached;
+      more = λ number numbering. omega (arith, more, is.nodes_are, is.counts.nodes_are number numbering);
+    }))
+    | inr few ↦ few
+  ]
+
+  -- its start is reached by no letters
+  some_states : 1 ≤ states
+  some_states =
+      let start = is.counts.all.all row.machine.start (record { word = []; widths = λ k d within. absurd (omega arith); leads = refl }) in
+      omega (arith, start.1, is.counts.states_are)
+
+-- ---- the steps
+
+some_at : (steps : List PlainStep) (place : ℕ) → place < length steps → (step : PlainStep) × (slice_get steps place ≡ Some step)
+some_at [] place within = absurd (omega arith)
+some_at (step ∷ steps) zero within = (step, refl)
+some_at (step ∷ steps) (suc place) within = some_at steps place (omega arith)
+
+not_above : (most n : ℕ) (fault : ScopeFault) → above most n fault ≡ None → n ≤ most
+not_above most n fault none = by (nat_le n most) refl none
+  where
+    by : (few : Bool) → nat_le n most ≡ few → (if few then None else Some fault) ≡ None → n ≤ most
+    by true is none = grind (arith, nat_tests)
+    by false is none = let wrong : Some fault ≡ None = none in cc
+
+-- a formula file has few steps
+pub few_counts : StepsAreFew → (text : List ℕ) (file : PlainFile) → IsFormulaFile text file → (limits : Limits) (counts : List Count)
+    → AreCounts (steps_of_file file) limits counts → length counts ≤ most_steps
+few_counts steps_are_few text file is limits counts are =
+    let none = (none_of_both (fault_of_names file) (fault_of_goal file) is.has_core).1 in
+    let size = not_above _ (measure_of_file file).size _ (none_of_both _ _ none).0 in
+    omega (arith, steps_are_few file, size, are.one_each)
+
+module _ (steps_are_few : StepsAreFew) (text : List ℕ) (file : PlainFile) (is : IsFormulaFile text file) (limits : Limits) (range : AreInRange limits)
+    (counts : List Count) (are : AreCounts (steps_of_file file) limits counts) where
+  count_is_printable : (count : Count) (place : ℕ) → place < length counts → slice_get counts place ≡ Some count → IsPrintableCount count
+  count_is_printable count place within there =
+      let step = some_at (steps_of_file file) place (omega (arith, within, are.one_each)) in
+      let one = are.each place step.0 count step.1 there in
+      let done = are.done.each place step.0 _ step.1 (slice_get-get_or are.tables place [] (omega (arith, within, are.one_each, are.all))) in
+      let row = row_at step.0 are.tables in
+      let short = is.sentence.fits in
+      let begins = step_of_file_begins (length text) file place step.0 (file_begins text file is.sentence.spelled) step.1 in
+      let states = states_within row limits done.within count.states count.nodes one.counts in
+      let nodes = nodes_within row limits done.within count.states count.nodes one.counts in
+      record {
+        at = omega (arith, begins, short, one.place);
+        some_states = some_states row limits done.within count.states count.nodes one.counts;
+        few_states = omega (arith, states, range.few_states);
+        few_nodes = omega (arith, nodes, range.few_nodes);
+      }
+
+  pub printable_counts : ArePrintableCounts counts
+  printable_counts = record {
+    few = few_counts steps_are_few text file is limits counts are;
+    each = λ place d within. count_is_printable (get_or counts place d) place within (slice_get-get_or counts place d within);
+  }
