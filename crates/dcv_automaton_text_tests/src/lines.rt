@@ -148,6 +148,18 @@ fn faults_of_texts(rt: HostRuntime) {
     }
 }
 
+// How many names a text has.
+fn names_in(alloc: Global, text: &[u8]) -> Option<usize> {
+    let lines = read(alloc, text)?;
+    Some(lines.names.len())
+}
+
+// How long its front is.
+fn front_in(alloc: Global, text: &[u8]) -> Option<usize> {
+    let lines = read(alloc, text)?;
+    Some(lines.front.len())
+}
+
 // What the steps took, and the text before them.
 #[test]
 fn steps_of_a_text(rt: HostRuntime) {
@@ -166,8 +178,7 @@ fn steps_of_a_text(rt: HostRuntime) {
             (1, 6, 12, 0)
         );
     }
-    let first = read(rt.alloc(), TEXT);
-    assert_eq!(rt; first.map(|lines| lines.front.len()), Some(TEXT.len() - 4));
+    assert_eq!(rt; front_in(rt.alloc(), TEXT), Some(TEXT.len() - 4));
 }
 
 // The lines of a text that is no longer than a test's.
@@ -194,8 +205,8 @@ fn lines_of_a_text(rt: HostRuntime) {
         assert_eq!(rt; node.hi, Target::State(2));
     }
     // A dash alone says that there are no variables; among others it is a name.
-    let none = read(rt.alloc(), b"automaton 1\nvariables -\nstates 1\nend\n");
-    assert_eq!(rt; none.map(|lines| lines.names.len()), Some(0));
-    let two = read(rt.alloc(), b"automaton 1\nvariables - -\nstates 1\nend\n");
-    assert_eq!(rt; two.map(|lines| lines.names.len()), Some(2));
+    let none = names_in(rt.alloc(), b"automaton 1\nvariables -\nstates 1\nend\n");
+    assert_eq!(rt; none, Some(0));
+    let two = names_in(rt.alloc(), b"automaton 1\nvariables - -\nstates 1\nend\n");
+    assert_eq!(rt; two, Some(2));
 }
