@@ -173,10 +173,10 @@ fn steps_of_a_text(rt: HostRuntime) {
     assert_eq!(rt; part.count, 2);
     assert_eq!(rt; part.lines.len(), 2);
     if let Some(step) = part.lines.last() {
-        assert_eq!(rt;
-            (step.number, step.at, step.states, step.nodes),
-            (1, 6, 12, 0)
-        );
+        assert_eq!(rt; step.number, 1);
+        assert_eq!(rt; step.at, 6);
+        assert_eq!(rt; step.states, 12);
+        assert_eq!(rt; step.nodes, 0);
     }
     assert_eq!(rt; front_in(rt.alloc(), TEXT), Some(TEXT.len() - 4));
 }
