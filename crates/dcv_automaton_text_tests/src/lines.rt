@@ -77,7 +77,10 @@ const FAULTS: [(&[u8], u32); 31] = [
     // Version 1 has no step part, and version 2 has one before its end.
     (b"automaton 1\nvariables p\nstates 3\nsteps 0\nend\n", 35),
     (b"automaton 2\nvariables p\nstates 3\nend\n", 33),
-    (b"automaton 2\nvariables p\nstates 3\nsuffix 0 empty\nend\n", 48),
+    (
+        b"automaton 2\nvariables p\nstates 3\nsuffix 0 empty\nend\n",
+        48,
+    ),
     (
         b"automaton 2\nvariables p\nstates 3\nstep 0 at 1 states 1 nodes 1\n",
         37,
@@ -90,10 +93,7 @@ const FAULTS: [(&[u8], u32); 31] = [
         b"automaton 2\nvariables p\nstates 3\nsteps 0\nsuffix 0 empty\n",
         42,
     ),
-    (
-        b"automaton 2\nvariables p\nstates 3\nsteps 01\nend\n",
-        40,
-    ),
+    (b"automaton 2\nvariables p\nstates 3\nsteps 01\nend\n", 40),
     (
         b"automaton 2\nvariables p\nstates 3\nsteps 1\nstep 0 at 13 nodes 3\n",
         54,
@@ -102,7 +102,10 @@ const FAULTS: [(&[u8], u32); 31] = [
         b"automaton 2\nvariables p\nstates 3\nsteps 1\nstep 0 at 13 states 3 nodes 2 \n",
         70,
     ),
-    (b"automaton 2\nvariables p\nstates 3\nsteps 0\nend\nend\n", 45),
+    (
+        b"automaton 2\nvariables p\nstates 3\nsteps 0\nend\nend\n",
+        45,
+    ),
 ];
 
 // The fault of a text that is no longer than a test's.
@@ -145,6 +148,18 @@ fn faults_of_texts(rt: HostRuntime) {
     }
 }
 
+// How many names a text has.
+fn names_in(alloc: Global, text: &[u8]) -> Option<usize> {
+    let lines = read(alloc, text)?;
+    Some(lines.names.len())
+}
+
+// How long its front is.
+fn front_in(alloc: Global, text: &[u8]) -> Option<usize> {
+    let lines = read(alloc, text)?;
+    Some(lines.front.len())
+}
+
 // What the steps took, and the text before them.
 #[test]
 fn steps_of_a_text(rt: HostRuntime) {
@@ -158,10 +173,12 @@ fn steps_of_a_text(rt: HostRuntime) {
     assert_eq!(rt; part.count, 2);
     assert_eq!(rt; part.lines.len(), 2);
     if let Some(step) = part.lines.last() {
-        assert_eq!(rt; (step.number, step.at, step.states, step.nodes), (1, 6, 12, 0));
+        assert_eq!(rt; step.number, 1);
+        assert_eq!(rt; step.at, 6);
+        assert_eq!(rt; step.states, 12);
+        assert_eq!(rt; step.nodes, 0);
     }
-    let first = read(rt.alloc(), TEXT);
-    assert_eq!(rt; first.map(|lines| lines.front.len()), Some(TEXT.len() - 4));
+    assert_eq!(rt; front_in(rt.alloc(), TEXT), Some(TEXT.len() - 4));
 }
 
 // The lines of a text that is no longer than a test's.
@@ -188,8 +205,8 @@ fn lines_of_a_text(rt: HostRuntime) {
         assert_eq!(rt; node.hi, Target::State(2));
     }
     // A dash alone says that there are no variables; among others it is a name.
-    let none = read(rt.alloc(), b"automaton 1\nvariables -\nstates 1\nend\n");
-    assert_eq!(rt; none.map(|lines| lines.names.len()), Some(0));
-    let two = read(rt.alloc(), b"automaton 1\nvariables - -\nstates 1\nend\n");
-    assert_eq!(rt; two.map(|lines| lines.names.len()), Some(2));
+    let none = names_in(rt.alloc(), b"automaton 1\nvariables -\nstates 1\nend\n");
+    assert_eq!(rt; none, Some(0));
+    let two = names_in(rt.alloc(), b"automaton 1\nvariables - -\nstates 1\nend\n");
+    assert_eq!(rt; two, Some(2));
 }

@@ -182,7 +182,10 @@ fn rules_kept(rt: HostRuntime) -> Result<(), Fail> {
     }
     for (place, line) in KEPT_STEPS {
         let text = with_line(rt.alloc(), &SECOND, place, line)?;
-        assert!(rt; read(rt.alloc(), &text).is_ok(), "line {place} of version 2");
+        assert!(rt;
+            read(rt.alloc(), &text).is_ok(),
+            "line {place} of version 2"
+        );
     }
     Ok(())
 }

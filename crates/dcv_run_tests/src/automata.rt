@@ -34,13 +34,16 @@ const ONE_CONSTANT: &str = "steps 1\nstep 0 at 6 states 1 nodes 0\nend\n";
 
 const ONE_ATOM: &str = "steps 1\nstep 0 at 13 states 3 nodes 2\nend\n";
 
-const TWO_AND_A_CHOP: &str = "steps 3\nstep 0 at 13 states 3 nodes 2\nstep 1 at 19 states 3 nodes 2\n\
+const TWO_AND_A_CHOP: &str =
+    "steps 3\nstep 0 at 13 states 3 nodes 2\nstep 1 at 19 states 3 nodes 2\n\
     step 2 at 13 states 4 nodes 2\nend\n";
 
-const TWO_AND_AN_OR: &str = "steps 3\nstep 0 at 13 states 3 nodes 2\nstep 1 at 20 states 3 nodes 2\n\
+const TWO_AND_AN_OR: &str =
+    "steps 3\nstep 0 at 13 states 3 nodes 2\nstep 1 at 20 states 3 nodes 2\n\
     step 2 at 13 states 4 nodes 2\nend\n";
 
-const SOME_INSTANTS_BEFORE: &str = "steps 3\nstep 0 at 13 states 1 nodes 0\nstep 1 at 18 states 3 nodes 2\n\
+const SOME_INSTANTS_BEFORE: &str =
+    "steps 3\nstep 0 at 13 states 1 nodes 0\nstep 1 at 18 states 3 nodes 2\n\
     step 2 at 13 states 4 nodes 2\nend\n";
 
 const A_STAR: &str = "steps 4\nstep 0 at 7 states 4 nodes 0\nstep 1 at 16 states 4 nodes 0\n\
@@ -57,18 +60,8 @@ const A_QUANTIFIER: &str = "steps 7\nstep 0 at 21 states 3 nodes 2\nstep 1 at 21
 const AUTOMATA: [(&str, u8, &str, &str); 9] = [
     ("infer true;", 0, EACH_BEHAVIOUR, ONE_CONSTANT),
     ("var p; infer [[p]];", 1, ALWAYS_P, ONE_ATOM),
-    (
-        "var p; infer [[p]]^[[p]];",
-        1,
-        ALWAYS_P,
-        TWO_AND_A_CHOP,
-    ),
-    (
-        "var p; infer <p> || [[p]];",
-        1,
-        ALWAYS_P,
-        TWO_AND_AN_OR,
-    ),
+    ("var p; infer [[p]]^[[p]];", 1, ALWAYS_P, TWO_AND_A_CHOP),
+    ("var p; infer <p> || [[p]];", 1, ALWAYS_P, TWO_AND_AN_OR),
     ("var p; infer <p>;", 1, ONE_INSTANT_WITH_P, ONE_ATOM),
     (
         "var p; infer true^<p>;",
@@ -102,7 +95,8 @@ const P_AT_THE_END_IN_ALL: &str =
     access 0 start 0\naccess 1 start 1\nsuffix 0 empty\nsteps 3\nstep 0 at 13 states 1 nodes 0\n\
     step 1 at 18 states 3 nodes 2\nstep 2 at 13 states 4 nodes 2\nend\n";
 
-const EACH_BEHAVIOUR_IN_ALL: &str = "automaton 2\nvariables -\nstates 1\nstate 0 accept t0\naccess 0 start -\nsteps 1\n\
+const EACH_BEHAVIOUR_IN_ALL: &str =
+    "automaton 2\nvariables -\nstates 1\nstate 0 accept t0\naccess 0 start -\nsteps 1\n\
     step 0 at 6 states 1 nodes 0\nend\n";
 
 // A command, an option with its number, a text, the exit status, and what is on the output and on the messages.

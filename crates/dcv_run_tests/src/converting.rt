@@ -16,8 +16,7 @@ const WITHOUT_STEPS: &str =
     access 0 start 1\naccess 1 start 0\nsuffix 0 empty\nsteps 0\nend\n";
 
 // No variables and no suffixes. Its words show nothing, and go on as they are.
-const ASTRAY: &str =
-    "automaton 1\nvariables -\nstates 1\nstate 0 reject t0\naccess 0 empty\nend\n";
+const ASTRAY: &str = "automaton 1\nvariables -\nstates 1\nstate 0 reject t0\naccess 0 empty\nend\n";
 
 const ASTRAY_OF_SECOND: &str =
     "automaton 2\nvariables -\nstates 1\nstate 0 reject t0\naccess 0 empty\nsteps 0\nend\n";
