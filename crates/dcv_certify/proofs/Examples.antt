@@ -1,5 +1,5 @@
 -- Worked examples: what is said of small texts, by computing. The first is that of the words of one letter, in which the variable is true.
-use Rattle.std.proofs.Common.{◌≡◌, Bool, true, false, List, [], ◌∷◌, refl}
+use Rattle.std.proofs.Common.{◌≡◌, Bool, true, false, List, [], ◌∷◌, None, refl}
 use Rattle.std.specs.Prelude.{codes}
 use Rattle.dcv_automaton_text.specs.File.{ToState, ToNode, Access as AccessWord, EmptyAccess, StartAccess, EmptySuffix, ThenSuffix, SuffixLine, AutomatonFile}
 use Rattle.dcv_automaton_text.specs.Meaning.{states_at, table_of, access_words_of}
@@ -27,6 +27,7 @@ text_of start first suffixes =
           ∷ record { number = 1; access = first }
           ∷ record { number = 2; access = StartAccess I } ∷ [];
       suffix_lines = suffixes;
+      steps = None;
     }
 
 empty_then_1 : List SuffixLine
