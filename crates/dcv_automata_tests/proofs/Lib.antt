@@ -1,2 +1,3 @@
 mod BelowFacts
+mod FewCounts
 mod PlainNames

@@ -1,11 +1,13 @@
 // The texts that are printed of automata.
 ghost use Rattle.std.specs.Prelude.{◌≡◌, length, IfOk};
 ghost use Rattle.dcv_automaton_text.specs.Rules.{AreNames};
+ghost use Rattle.dcv_print.specs.Counts.{ArePrintableCounts};
 ghost use Rattle.dcv_print.specs.Printed.{texts_of};
 
 use crate::examples::{EACH_LETTER, LAST_LETTER, ODD_DIFFERENCES, ONE_LETTER};
 use crate::minimal::auto_of;
 use dcv_certificate::separate;
+use dcv_count::Count;
 use dcv_print::{all_text, automaton_text};
 use dcv_syntax::{Name, Span, Text};
 use std::alloc::Global;
@@ -22,7 +24,25 @@ fn names_of(alloc: Global, text: &str) -> Result<Vec<Name>, Fail> {
     Ok(names)
 }
 
-// The text of the minimal automaton of a table over these variables.
+// What two steps took, the second of them as much as a text can say.
+fn two_counts(alloc: Global) -> Result<Vec<Count>, Fail>
+    ensures { IfOk result (λ counts. ArePrintableCounts counts.items) }
+{
+    let mut counts = Vec::new(alloc);
+    counts.push(Count {
+        at: 13,
+        states: 2,
+        nodes: 1,
+    })?;
+    counts.push(Count {
+        at: 262_143,
+        states: 32_000,
+        nodes: 1_000_000,
+    })?;
+    Ok(counts)
+}
+
+// The text of the minimal automaton of a table over these variables, with what two steps took.
 fn printed(alloc: Global, names: &str, table: &str) -> Result<Vec<u8>, Fail> {
     let names = names_of(alloc, names)?;
     let Ok(slots) = u8::try_from(names.len()) else {
@@ -33,15 +53,16 @@ fn printed(alloc: Global, names: &str, table: &str) -> Result<Vec<u8>, Fail> {
         return Err(Fail::new("another number of slots"));
     }
     let proof = separate(alloc, &auto)?;
-    Ok(automaton_text(alloc, &auto, &names, &proof)?)
+    let counts = two_counts(alloc)?;
+    Ok(automaton_text(alloc, &auto, &names, &proof, &counts)?)
 }
 
 // Everything, over no variable.
 #[test]
 fn one_state_that_accepts(rt: HostRuntime) -> Result<(), Fail> {
     let text = printed(rt.alloc(), "", "accept 0")?;
-    let expected =
-        b"automaton 1\nvariables -\nstates 1\nstate 0 accept t0\naccess 0 start -\nend\n";
+    let expected = b"automaton 2\nvariables -\nstates 1\nstate 0 accept t0\naccess 0 start -\n\
+        steps 2\nstep 0 at 13 states 2 nodes 1\nstep 1 at 262143 states 32000 nodes 1000000\nend\n";
     assert_eq!(rt; text.as_slice(), expected.as_slice());
     Ok(())
 }
@@ -50,11 +71,12 @@ fn one_state_that_accepts(rt: HostRuntime) -> Result<(), Fail> {
 #[test]
 fn start_that_is_entered(rt: HostRuntime) -> Result<(), Fail> {
     let text = printed(rt.alloc(), "p", EACH_LETTER)?;
-    let expected = b"automaton 1\nvariables p\nstates 2\n\
+    let expected = b"automaton 2\nvariables p\nstates 2\n\
         node n0 p ? t0 : t1\n\
         state 0 accept n0\nstate 1 reject t1\n\
         access 0 start 1\naccess 1 start 0\n\
-        suffix 0 empty\nend\n";
+        suffix 0 empty\n\
+        steps 2\nstep 0 at 13 states 2 nodes 1\nstep 1 at 262143 states 32000 nodes 1000000\nend\n";
     assert_eq!(rt; text.as_slice(), expected.as_slice());
     Ok(())
 }
@@ -62,11 +84,12 @@ fn start_that_is_entered(rt: HostRuntime) -> Result<(), Fail> {
 #[test]
 fn start_that_stands_alone(rt: HostRuntime) -> Result<(), Fail> {
     let text = printed(rt.alloc(), "p", ONE_LETTER)?;
-    let expected = b"automaton 1\nvariables p\nstates 3\n\
+    let expected = b"automaton 2\nvariables p\nstates 3\n\
         node n0 p ? t2 : t1\n\
         state 0 reject n0\nstate 1 reject t1\nstate 2 accept t1\n\
         access 0 empty\naccess 1 start 0\naccess 2 start 1\n\
-        suffix 0 empty\nsuffix 1 1 0\nend\n";
+        suffix 0 empty\nsuffix 1 1 0\n\
+        steps 2\nstep 0 at 13 states 2 nodes 1\nstep 1 at 262143 states 32000 nodes 1000000\nend\n";
     assert_eq!(rt; text.as_slice(), expected.as_slice());
     Ok(())
 }
@@ -75,11 +98,12 @@ fn start_that_stands_alone(rt: HostRuntime) -> Result<(), Fail> {
 #[test]
 fn one_node_in_two_rows(rt: HostRuntime) -> Result<(), Fail> {
     let text = printed(rt.alloc(), "p", LAST_LETTER)?;
-    let expected = b"automaton 1\nvariables p\nstates 2\n\
+    let expected = b"automaton 2\nvariables p\nstates 2\n\
         node n0 p ? t1 : t0\n\
         state 0 reject n0\nstate 1 accept n0\n\
         access 0 start 0\naccess 1 start 1\n\
-        suffix 0 empty\nend\n";
+        suffix 0 empty\n\
+        steps 2\nstep 0 at 13 states 2 nodes 1\nstep 1 at 262143 states 32000 nodes 1000000\nend\n";
     assert_eq!(rt; text.as_slice(), expected.as_slice());
     Ok(())
 }
@@ -89,11 +113,12 @@ fn one_node_in_two_rows(rt: HostRuntime) -> Result<(), Fail> {
 #[test]
 fn nodes_of_two_variables(rt: HostRuntime) -> Result<(), Fail> {
     let text = printed(rt.alloc(), "left right", ODD_DIFFERENCES)?;
-    let expected = b"automaton 1\nvariables left right\nstates 2\n\
+    let expected = b"automaton 2\nvariables left right\nstates 2\n\
         node n0 right ? t1 : t0\nnode n1 right ? t0 : t1\nnode n2 left ? n1 : n0\nnode n3 left ? n0 : n1\n\
         state 0 reject n2\nstate 1 accept n3\n\
         access 0 start 00\naccess 1 start 01\n\
-        suffix 0 empty\nend\n";
+        suffix 0 empty\n\
+        steps 2\nstep 0 at 13 states 2 nodes 1\nstep 1 at 262143 states 32000 nodes 1000000\nend\n";
     assert_eq!(rt; text.as_slice(), expected.as_slice());
     Ok(())
 }
@@ -120,10 +145,12 @@ fn four_texts_in_one(rt: HostRuntime) -> Result<(), Fail> {
         return Err(Fail::new("another automaton"));
     }
     let proof = separate(alloc, &auto)?;
-    let text = all_text(alloc, &auto, &names, &proof)?;
+    let counts = two_counts(alloc)?;
+    let text = all_text(alloc, &auto, &names, &proof, &counts)?;
     let expected = b"--- verdict\nnot valid\nsatisfiable\ncounterexample 1\n0\nexample 1\n1\n\
-        --- automaton\nautomaton 1\nvariables p\nstates 2\nnode n0 p ? t0 : t1\nstate 0 accept n0\nstate 1 reject t1\n\
-        access 0 start 1\naccess 1 start 0\nsuffix 0 empty\nend\n\
+        --- automaton\nautomaton 2\nvariables p\nstates 2\nnode n0 p ? t0 : t1\nstate 0 accept n0\nstate 1 reject t1\n\
+        access 0 start 1\naccess 1 start 0\nsuffix 0 empty\n\
+        steps 2\nstep 0 at 13 states 2 nodes 1\nstep 1 at 262143 states 32000 nodes 1000000\nend\n\
         --- lustre\nnode observer(v_p: bool) returns (ok: bool);\nvar\n  st: int;\n  nx: int;\n  n0: int;\nlet\n\
         \x20 st = 0 -> pre nx;\n  n0 = if v_p then 0 else 1;\n  nx = if st = 0 then n0 else 1;\n  ok = (nx = 0);\ntel\n\
         --- c\nstatic int st;\n\nvoid observer_reset(void)\n{\n  st = 0;\n}\n\nint observer_step(int v_p)\n{\n\
