@@ -4,10 +4,10 @@ use Rattle.std.proofs.lemmas.List.Elements.{All-from_recursion}
 use Rattle.dcv_count.specs.declared.Count.{Count}
 use Rattle.dcv_print.specs.Counts.{IsPrintableCount, ArePrintableCounts}
 
-few : Count
+abbrev few : Count
 few = record { at = 13; states = 2; nodes = 1 }
 
-most : Count
+abbrev most : Count
 most = record { at = 262143; states = 32000; nodes = 1000000 }
 
 few_is : IsPrintableCount few
