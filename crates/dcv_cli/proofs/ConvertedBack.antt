@@ -1,5 +1,5 @@
 -- A text of version 1 that is converted to version 2 and back is as it was; and one outcome at most is right where a text is converted.
-use Rattle.std.proofs.Common.{◌≡◌, ℕ, List, [], ◌∷◌, ◌++◌, Option, None, Some, refl, sym, ap, ◌∙◌, subst, inl, arith}
+use Rattle.std.proofs.Common.{◌≡◌, ℕ, List, ◌++◌, Option, None, Some, refl, sym, ap, ◌∙◌, subst, inl, arith}
 use Rattle.std.specs.Prelude.{IsSomeAnd, codes, slice_index_or}
 use Rattle.dcv_automaton_text.specs.File.{StepPart, AutomatonFile}
 use Rattle.dcv_automaton_text.specs.Form.{HasForm}
@@ -12,7 +12,6 @@ use Rattle.dcv_cli.specs.AutomatonFile.{IsAutomatonText, OnAutomaton, Refused, R
 use Rattle.dcv_cli.specs.Conversion.{IsConverted, as_version}
 use Rattle.dcv_cli.specs.Laws.{ConvertedBackIsTheText, IsConversionOf}
 use Rattle.dcv_cli.specs.Outcome.{Outcome, Agrees}
-use Rattle.dcv_cli.specs.Refusal.{status_of}
 use Rattle.dcv_cli.specs.declared.status.Status.TheVariants.{Done, Automaton as StatusAutomaton}
 use Rattle.dcv_cli.proofs.OneCertificate.{one_on_automaton, refuses_as_automaton}
 

@@ -1,11 +1,11 @@
 -- What the steps of a formula file take, where all are within limits that may be asked for, may be printed.
-use Rattle.std.proofs.Common.{◌≡◌, inl, inr, refl, ℕ, zero, suc, ◌<◌, ◌≤◌, Bool, true, false, List, [], ◌∷◌, length, get_or, Option, None, Some, slice_get, sym, ap, ◌∙◌, arith}
+use Rattle.std.proofs.Common.{◌≡◌, inl, inr, refl, ℕ, zero, suc, ◌<◌, ◌≤◌, Bool, true, false, List, [], ◌∷◌, length, get_or, None, Some, slice_get, arith}
 use Rattle.std.specs.Prelude.{nat_le, if◌then◌else◌}
 use Rattle.std.proofs.lemmas.Bool.{cases_lt}
 use Rattle.std.proofs.lemmas.Bool.Decides.{nat_tests}
 use Rattle.std.proofs.lemmas.Option.{slice_get-get_or}
 use Rattle.dcv_count.specs.declared.Count.{Count}
-use Rattle.dcv_automaton_text.specs.Rules.{most_steps, most_start}
+use Rattle.dcv_automaton_text.specs.Rules.{most_steps}
 use Rattle.dcv_build.specs.Budget.{row_at}
 use Rattle.dcv_build.specs.Counts.{HasAllCounts, AreCounts}
 use Rattle.dcv_command.specs.Request.{AreInRange}
