@@ -6,13 +6,17 @@ use Rattle.dcv_syntax.specs.declared.propositions.PropKind.{PropKind, Constant a
 use Rattle.dcv_syntax.specs.declared.propositions.PropKind.TheBlock.{Row_of-Prop, end_of-Prop, more_of-Prop, Row_of-PropOperand, end_of-PropOperand, more_of-PropOperand}
 use Rattle.dcv_syntax.specs.declared.formulas.Formula.{Formula}
 use Rattle.dcv_syntax.specs.declared.formulas.FormulaOperand.{FormulaOperand}
-use Rattle.dcv_syntax.specs.declared.formulas.FormulaKind.{FormulaKind, Constant, Pt, Ext, Point, Run, Every, Unit as TwoInstants, Slen, Scount, Sdur, Call, Not', And', Or', Implies', Iff', Chop', Star', Somewhere', Everywhere', Exists', ForAll'}
+use Rattle.dcv_syntax.specs.declared.formulas.FormulaKind.{FormulaKind, Constant, Pt, Ext, Point, Run, Every, Unit as TwoInstants, Slen, Scount, Sdur, Call}
+use Rattle.dcv_syntax.specs.declared.formulas.FormulaKind.{Not', And', Or', Implies', Iff', Chop', Star', Somewhere', Everywhere', Exists', ForAll'}
 use Rattle.dcv_syntax.specs.declared.formulas.FormulaKind.TheBlock.{Row_of-FormulaOperand, end_of-FormulaOperand, more_of-FormulaOperand}
 use Rattle.dcv_syntax.specs.declared.files.File.{File}
 use Rattle.dcv_syntax.specs.declared.files.Macro.{Macro}
 use Rattle.dcv_syntax.specs.declared.files.MacroBody.{MacroBody}
 use Rattle.dcv_syntax.specs.declared.files.MacroBody.TheVariants.{Formula as IsFormula, Prop as IsProp}
-use Rattle.dcv_syntax.specs.Plain.{PlainPropKind, PropConstant, PropCall, PropNot, PropAnd, PropOr, PropImplies, PropIff, PlainArguments, no_arguments, argument, PlainPropOperands, no_prop_operands, prop_operand, PlainProp, PlainPropOperand, PlainFormulaKind, FormulaConstant, FormulaPt, FormulaExt, FormulaPoint, FormulaRun, FormulaEvery, FormulaUnit, FormulaSlen, FormulaScount, FormulaSdur, FormulaCall, FormulaNot, FormulaAnd, FormulaOr, FormulaImplies, FormulaIff, FormulaChop, FormulaStar, FormulaSomewhere, FormulaEverywhere, FormulaExists, FormulaForAll, PlainFormulaOperands, no_formula_operands, formula_operand, PlainFormula, PlainFormulaOperand, PlainMacroBody, FormulaBody, PropBody, PlainMacro, PlainFile}
+use Rattle.dcv_syntax.specs.Plain.{PlainPropKind, PropConstant, PropCall, PropNot, PropAnd, PropOr, PropImplies, PropIff, PlainArguments, no_arguments, argument, PlainPropOperands, no_prop_operands}
+use Rattle.dcv_syntax.specs.Plain.{prop_operand, PlainProp, PlainPropOperand, PlainFormulaKind, FormulaConstant, FormulaPt, FormulaExt, FormulaPoint, FormulaRun, FormulaEvery, FormulaUnit, FormulaSlen, FormulaScount}
+use Rattle.dcv_syntax.specs.Plain.{FormulaSdur, FormulaCall, FormulaNot, FormulaAnd, FormulaOr, FormulaImplies, FormulaIff, FormulaChop, FormulaStar, FormulaSomewhere, FormulaEverywhere, FormulaExists, FormulaForAll}
+use Rattle.dcv_syntax.specs.Plain.{PlainFormulaOperands, no_formula_operands, formula_operand, PlainFormula, PlainFormulaOperand, PlainMacroBody, FormulaBody, PropBody, PlainMacro, PlainFile}
 
 abbrev mutual
   pub plain_prop_kind : PropKind → PlainPropKind
