@@ -1,6 +1,7 @@
 // The lines of texts, and the exact byte at which a text stops to begin one of the form.
 use dcv_automaton_lines::{Lines, LinesFault, Target, lines_of};
 use std::alloc::Global;
+use std::test::Fail;
 
 // A text of the form, with lines of each kind.
 const TEXT: &[u8] = b"automaton 1
@@ -162,23 +163,25 @@ fn front_in(alloc: Global, text: &[u8]) -> Option<usize> {
 
 // What the steps took, and the text before them.
 #[test]
-fn steps_of_a_text(rt: HostRuntime) {
+fn steps_of_a_text(rt: HostRuntime) -> Result<(), Fail> {
+    assert_eq!(rt; front_in(rt.alloc(), TEXT), Some(TEXT.len() - 4));
     let Some(lines) = read(rt.alloc(), SECOND) else {
-        return;
+        return Err(Fail::new("the text is not read"));
     };
     assert_eq!(rt; lines.front.len(), 83);
     let Some(part) = &lines.steps else {
-        return;
+        return Err(Fail::new("it has no step part"));
     };
     assert_eq!(rt; part.count, 2);
     assert_eq!(rt; part.lines.len(), 2);
-    if let Some(step) = part.lines.last() {
-        assert_eq!(rt; step.number, 1);
-        assert_eq!(rt; step.at, 6);
-        assert_eq!(rt; step.states, 12);
-        assert_eq!(rt; step.nodes, 0);
-    }
-    assert_eq!(rt; front_in(rt.alloc(), TEXT), Some(TEXT.len() - 4));
+    let Some(step) = part.lines.last() else {
+        return Err(Fail::new("it has no steps"));
+    };
+    assert_eq!(rt; step.number, 1);
+    assert_eq!(rt; step.at, 6);
+    assert_eq!(rt; step.states, 12);
+    assert_eq!(rt; step.nodes, 0);
+    Ok(())
 }
 
 // The lines of a text that is no longer than a test's.
@@ -191,9 +194,9 @@ fn read<'a>(alloc: Global, text: &'a [u8]) -> Option<Lines<'a>> {
 }
 
 #[test]
-fn lines_of_a_text(rt: HostRuntime) {
+fn lines_of_a_text(rt: HostRuntime) -> Result<(), Fail> {
     let Some(lines) = read(rt.alloc(), TEXT) else {
-        return;
+        return Err(Fail::new("the text is not read"));
     };
     assert_eq!(rt; lines.names.len(), 1);
     assert_eq!(rt; lines.states, 3);
@@ -201,12 +204,14 @@ fn lines_of_a_text(rt: HostRuntime) {
     assert_eq!(rt; lines.state_lines.len(), 3);
     assert_eq!(rt; lines.access_lines.len(), 3);
     assert_eq!(rt; lines.suffix_lines.len(), 2);
-    if let Some(node) = lines.node_lines.first() {
-        assert_eq!(rt; node.hi, Target::State(2));
-    }
+    let Some(node) = lines.node_lines.first() else {
+        return Err(Fail::new("it has no node line"));
+    };
+    assert_eq!(rt; node.hi, Target::State(2));
     // A dash alone says that there are no variables; among others it is a name.
     let none = names_in(rt.alloc(), b"automaton 1\nvariables -\nstates 1\nend\n");
     assert_eq!(rt; none, Some(0));
     let two = names_in(rt.alloc(), b"automaton 1\nvariables - -\nstates 1\nend\n");
     assert_eq!(rt; two, Some(2));
+    Ok(())
 }

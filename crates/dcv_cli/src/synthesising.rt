@@ -1,10 +1,9 @@
 // The command that asks for a controller which keeps to the requirement of a formula file.
-ghost use Rattle.std.specs.Prelude.{◌≡◌, ◌≤◌, ◌<◌, ◌-◌, ◌∷◌, [], ℕ, length, take, is_err, slice_index_or, false, IfOk, OnOk, OnErr, IsTrue};
+ghost use Rattle.std.specs.Prelude.{◌≡◌, ◌≤◌, ◌<◌, ◌-◌, ◌∷◌, [], ℕ, length, take, is_err, IfOk, OnOk, OnErr, IsTrue};
 ghost use Rattle.std.specs.List.{flat_map};
 ghost use Rattle.dcv_io.specs.Faults.{RisesIf};
 ghost use Rattle.dcv_io.specs.Putting.{Puts};
 ghost use Rattle.dcv_io.specs.Written.{Appends, AppendsStrictPrefix};
-ghost use Rattle.dcv_word.specs.TraceLine.{digit_of, trace_line};
 ghost use Rattle.dcv_language.specs.Language.{Language};
 ghost use Rattle.dcv_automaton_text.specs.Rules.{most_nodes};
 ghost use Rattle.dcv_dfa.specs.Raw.{automaton_of};
@@ -29,12 +28,12 @@ use dcv_c::laws::texts_spell_units;
 use dcv_c::{CUnit, put as put_unit};
 use dcv_explore::Limits;
 use dcv_io::{Block, Failed, Files, Sink, Target, put_pieces};
+use dcv_print::put_letter;
 use dcv_syntax::Name;
 use dcv_synth::laws::{
     answers_are_of_tables, controls_win, strategies_beat, winners_of_same_behaviours,
 };
 use dcv_synth::{Control, Move, Outcome, Strategy, synth};
-use dcv_word::Letter;
 use itoa::Buffer;
 use std::alloc::{AllocError, Global};
 
@@ -206,25 +205,4 @@ fn put_move<T: Target>(target: &mut T, one: Move)
     );
     put_letter(target, one.input);
     target.put(b"\n");
-}
-
-// A letter, as in a trace.
-fn put_letter<T: Target>(target: &mut T, letter: Letter)
-    ensures { Puts (T.standing target.old) (T.standing target.new) (trace_line letter) }
-{
-    if letter.width() == 0 {
-        target.put(b"-");
-        return;
-    }
-    for slot in 0..letter.width() {
-        target.put(digit(letter, slot));
-    }
-}
-
-// The truth of the variable in this slot.
-fn digit(letter: Letter, slot: u8) -> &'static [u8]
-    requires { slot < length letter }
-    ensures { result.now ≡ digit_of (slice_index_or letter slot false) ∷ [] }
-{
-    if letter.get(slot) { b"1" } else { b"0" }
 }

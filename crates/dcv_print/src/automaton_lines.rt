@@ -3,6 +3,7 @@ ghost use Rattle.std.specs.Prelude.{◌≡◌, ◌∷◌, ◌++◌, ◌<◌, ◌
 ghost use Rattle.std.specs.List.{All};
 ghost use Rattle.std.specs.Str.{byte};
 ghost use Rattle.dcv_io.specs.Putting.{Puts};
+ghost use Rattle.dcv_word.specs.TraceLine.{trace_line};
 ghost use Rattle.dcv_dfa.specs.Auto.{count_of_nodes};
 ghost use Rattle.dcv_dfa.specs.NodeLines.{node_lines_of};
 ghost use Rattle.dcv_automaton_text.specs.Rules.{AreNames, most_states, most_nodes};
@@ -285,12 +286,7 @@ impl Entry for Access {
                 target.put(b" start ");
                 put_letter(target, letter);
             }
-            Access::After(state, letter) => {
-                target.put(b" ");
-                put_number(target, state as usize);
-                target.put(b" ");
-                put_letter(target, letter);
-            }
+            Access::After(state, letter) => put_after(target, state, letter),
         }
     }
 }
@@ -309,6 +305,16 @@ impl Entry for Suffix {
             }
         }
     }
+}
+
+// The state before the last letter of an access word, and that letter.
+fn put_after<T: Target>(target: &mut T, state: u32, letter: Letter)
+    ensures { Puts (T.standing target.old) (T.standing target.new) (spaced (decimal state ∷ trace_line letter ∷ [])) }
+{
+    target.put(b" ");
+    put_number(target, state as usize);
+    target.put(b" ");
+    put_letter(target, letter);
 }
 
 // A line for each access word or each suffix, with this first word.

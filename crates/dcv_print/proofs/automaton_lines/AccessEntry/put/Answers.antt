@@ -6,6 +6,4 @@ pub returns-in-Start : goal.returns-in-Start
 returns-in-Start g c = rw c.in-Start.is (puts_same _ _ _ _ (puts_both _ _ _ _ _ c.put-in-Start.ensures c.put_letter.ensures) (simp (append_assoc, append-nil)))
 
 pub returns-in-After : goal.returns-in-After
-returns-in-After g c =
-    rw c.in-After.is (puts_same _ _ _ _ (puts_both _ _ _ _ _ (puts_both _ _ _ _ _ (puts_both _ _ _ _ _ c.put-in-After.ensures c.put_number.ensures) c.put-in-After-2.ensures) c.put_letter-in-After.ensures)
-    (simp (append_assoc, append-nil)))
+returns-in-After g c = rw c.in-After.is c.put_after.ensures
