@@ -22,6 +22,7 @@ use dcv_count::Count;
 use dcv_dfa::{Auto, Child, NodeLine, NodeLines};
 use dcv_io::{Target, Text, put_pieces};
 use dcv_syntax::Name;
+use dcv_word::Letter;
 use itoa::Buffer;
 use std::alloc::{AllocError, Global};
 
