@@ -16,8 +16,8 @@ use Rattle.dcv_sentence.proofs.Grammar.{predictive}
 use Rattle.dcv_grammar.proofs.Builders as builders
 use Rattle.dcv_grammar.specs.Picked.{body_for}
 use Rattle.dcv_grammar.specs.Reading.{next_class}
-use Rattle.dcv_reader.specs.Building.{is_next, BeginWithRule, RuleReadAs}
-use Rattle.dcv_reader.proofs.BuilderForms.{word_read}
+use Rattle.dcv_reader.specs.Building.{is_next, is_next_of, BeginWithRule, RuleReadAs}
+use Rattle.dcv_reader.proofs.BuilderForms.{word_read, one_of, none_of}
 use Rattle.std.proofs.lemmas.Bool.Decides.{nat_tests}
 use Rattle.dcv_syntax.specs.Spans.{covering}
 use Rattle.dcv_reader.specs.Nodes.{token_class, prop_constant, bare_prop, last_prop_span, prop_list}
@@ -130,12 +130,26 @@ unfolding language file_rules formula_rules prop_rules
 atom_at = refl
 
 -- which body is picked
-pub picks_negation : (tokens : List Token) → is_next classes.exclamation tokens ≡ true → body_for prop_prefix_rule (next_class token_class tokens) ≡ Class classes.exclamation ∷ Rule rules.prop_prefix ∷ []
-picks_negation tokens is = ap (body_for prop_prefix_rule) (next_is classes.exclamation tokens is)
+abbrev signs : List ℕ
+signs = classes.exclamation ∷ classes.minus ∷ classes.plus ∷ []
 
-pub picks_atom : (tokens : List Token) → is_next classes.exclamation tokens ≡ false → body_for prop_prefix_rule (next_class token_class tokens) ≡ Rule rules.prop_atom ∷ []
+pub picks_sign : (tokens : List Token) → is_next_of signs tokens ≡ true
+    → (class : ℕ) × (body_for prop_prefix_rule (next_class token_class tokens) ≡ Class class ∷ Rule rules.prop_prefix ∷ [])
+picks_sign tokens is =
+    one_of classes.exclamation (classes.minus ∷ classes.plus ∷ []) tokens is (λ e. (classes.exclamation, ap (body_for prop_prefix_rule) (next_is classes.exclamation tokens e)))
+    (λ more. one_of classes.minus (classes.plus ∷ []) tokens more (λ e. (classes.minus, ap (body_for prop_prefix_rule) (next_is classes.minus tokens e)))
+    (λ more. one_of classes.plus [] tokens more (λ e. (classes.plus, ap (body_for prop_prefix_rule) (next_is classes.plus tokens e))) (λ never. absurd cc)))
+
+pub picks_atom : (tokens : List Token) → is_next_of signs tokens ≡ false → body_for prop_prefix_rule (next_class token_class tokens) ≡ Rule rules.prop_atom ∷ []
 picks_atom [] is = refl
-picks_atom (token ∷ tokens) is = grind arith
+picks_atom (token ∷ tokens) is =
+    let exclamation = none_of classes.exclamation (classes.minus ∷ classes.plus ∷ []) (token ∷ tokens) is in
+    let minus = none_of classes.minus (classes.plus ∷ []) (token ∷ tokens) exclamation.1 in
+    let plus = none_of classes.plus [] (token ∷ tokens) minus.1 in
+    other (token_class token) exclamation.0 minus.0 plus.0
+  where
+    other : (c : ℕ) → (c == classes.exclamation) ≡ false → (c == classes.minus) ≡ false → (c == classes.plus) ≡ false → body_for prop_prefix_rule (Some c) ≡ Rule rules.prop_atom ∷ []
+    other c a b d = grind (arith, nat_tests)
 
 pub atom_there : (tokens : List Token) → BeginWithRule rules.prop_atom tokens → 0 < length tokens
 atom_there tokens b = builders.token_there predictive atom_at refl b

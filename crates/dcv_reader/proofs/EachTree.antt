@@ -213,7 +213,7 @@ rules_agree = (
                                                               (
                                                                 (λ v. tt, (λ v. tt, tt)),
                                                                 (
-                                                                  (λ v. tt, (λ v. tt, tt)),
+                                                                  (λ v. tt, (λ v. tt, (λ v. tt, (λ v. tt, tt)))),
                                                                   (
                                                                     (λ v. tt, (λ v. tt, (λ v. tt, (λ v. tt, tt)))),
                                                                     tt,

@@ -12,7 +12,7 @@ use Rattle.dcv_syntax.specs.Plain.{FormulaSlen, FormulaAnd, FormulaOr, FormulaIf
 use Rattle.dcv_syntax.specs.Plain.{FormulaBody, PropBody, PlainMacro, PlainFile}
 use Rattle.dcv_grammar.specs.Trees.{Nodes, done, leaf, node}
 use Rattle.dcv_tokens.specs.Tokens.{Token, span_of, span_over}
-use Rattle.dcv_reader.specs.Nodes.{name_of, number_of, relation_of, prop_constant, prop_call, prop_negation, prop_implication, prop_list}
+use Rattle.dcv_reader.specs.Nodes.{name_of, number_of, relation_of, prop_constant, prop_call, prop_prefixed, prop_implication, prop_list}
 use Rattle.dcv_reader.specs.Nodes.{bare, bracketed, formula_word, measure, formula_call, starred_by, prefixed, quantified, implication, formula_list}
 
 -- what a symbol stands for
@@ -106,9 +106,9 @@ abbrev pub prop_and_part : List Part → Part
 prop_and_part (AProp p ∷ Props ps ∷ []) = AProp (prop_list PropAnd p ps)
 prop_and_part _ = Nothing
 
--- prop_prefix = "!" prop_prefix | prop_atom
+-- prop_prefix = ("!" | "-" | "+") prop_prefix | prop_atom
 abbrev pub prop_prefix_part : List Part → Part
-prop_prefix_part (AToken sign ∷ AProp p ∷ []) = AProp (prop_negation sign p)
+prop_prefix_part (AToken sign ∷ AProp p ∷ []) = AProp (prop_prefixed sign p)
 prop_prefix_part (AProp p ∷ []) = AProp p
 prop_prefix_part _ = Nothing
 

@@ -10,7 +10,7 @@ use Rattle.dcv_syntax.specs.Spans.{covering}
 use Rattle.dcv_syntax.specs.declared.formulas.Number.{Number}
 use Rattle.dcv_syntax.specs.declared.formulas.Relation.{Relation}
 use Rattle.dcv_syntax.specs.declared.formulas.Relation.TheVariants.{Equal, Less, AtMost, Greater, AtLeast}
-use Rattle.dcv_syntax.specs.Plain.{PlainPropKind, PropConstant, PropCall, PropNot, PropImplies, PlainPropOperands, PlainProp, PlainPropOperand}
+use Rattle.dcv_syntax.specs.Plain.{PlainPropKind, PropConstant, PropCall, PropNot, PropImplies, PropPrior, PropNext, PlainPropOperands, PlainProp, PlainPropOperand}
 use Rattle.dcv_syntax.specs.Plain.{arguments_of, prop_operands_of}
 use Rattle.dcv_syntax.specs.Plain.{PlainFormulaKind, FormulaConstant, FormulaPt, FormulaExt, FormulaPoint, FormulaRun, FormulaEvery, FormulaUnit}
 use Rattle.dcv_syntax.specs.Plain.{FormulaScount, FormulaSdur, FormulaCall, FormulaNot, FormulaImplies, FormulaStar}
@@ -60,8 +60,16 @@ call_span name (Some parentheses) = covering (span_of name) parentheses
 abbrev pub prop_call : Token → List PlainProp → Option Span → PlainPropOperand
 prop_call name arguments parentheses = bare_prop (PropCall (name_of name) (arguments_of arguments)) (call_span name parentheses)
 
-abbrev pub prop_negation : Token → PlainPropOperand → PlainPropOperand
-prop_negation sign p = bare_prop (PropNot p.prop.kind p.prop.span) (covering (span_of sign) p.span)
+-- `!P`, `-P` or `+P`
+abbrev pub prop_prefixed : Token → PlainPropOperand → PlainPropOperand
+prop_prefixed sign p =
+    let class = token_class sign in
+    let form = covering (span_of sign) p.span in
+    let kind =
+    if class == classes.exclamation then PropNot p.prop.kind p.prop.span
+    else if class == classes.minus then PropPrior form p.prop.kind p.prop.span
+    else PropNext form p.prop.kind p.prop.span
+    in bare_prop kind form
 
 abbrev pub prop_implication : PlainPropOperand → PlainPropOperand → PlainPropOperand
 prop_implication p q = bare_prop (PropImplies p.prop.kind p.prop.span q.prop.kind q.prop.span) (covering p.span q.span)

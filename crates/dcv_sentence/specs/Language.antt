@@ -3,9 +3,9 @@ use Rattle.std.specs.Prelude.{ℕ, List, [], ◌∷◌, ◌++◌}
 use Rattle.dcv_grammar.specs.declared.grammar.Symbol.{Symbol}
 use Rattle.dcv_grammar.specs.declared.grammar.Symbol.TheVariants.{Class, Rule}
 use Rattle.dcv_grammar.specs.Grammar.{Alternative, Production, ContextFree}
-use Rattle.dcv_tokens.specs.Classes.{open_parenthesis, close_parenthesis, comma, semicolon, dot, exclamation, caret, star, equals, less, greater, less_equals, greater_equals, diamond}
-use Rattle.dcv_tokens.specs.Classes.{arrow, double_arrow, double_ampersand, double_bar, open_bracket, close_bracket, box, open_brackets, close_brackets, open_braces, close_braces, word_var, word_define, word_prop}
-use Rattle.dcv_tokens.specs.Classes.{word_as, word_infer, word_ex, word_all, word_true, word_false, word_pt, word_ext, word_slen, word_scount, word_sdur, name, number}
+use Rattle.dcv_tokens.specs.Classes.{open_parenthesis, close_parenthesis, comma, semicolon, dot, exclamation, caret, star, equals, less, greater, less_equals, greater_equals, diamond, arrow}
+use Rattle.dcv_tokens.specs.Classes.{double_arrow, double_ampersand, double_bar, open_bracket, close_bracket, box, open_brackets, close_brackets, open_braces, close_braces, word_var, word_define, word_prop, word_as, word_infer}
+use Rattle.dcv_tokens.specs.Classes.{word_ex, word_all, word_true, word_false, word_pt, word_ext, word_slen, word_scount, word_sdur, name, number, minus, plus}
 use Rattle.dcv_sentence.specs.RuleNumbers.{file, declaration, more_names, macros, macro, parameters, arguments, more_arguments, formula, formula_iff, formula_iff_more, formula_implies}
 use Rattle.dcv_sentence.specs.RuleNumbers.{formula_implied, formula_or, formula_or_more, formula_and, formula_and_more, formula_chop, formula_chop_more, formula_prefix, formula_star, stars, formula_atom, relation}
 use Rattle.dcv_sentence.specs.RuleNumbers.{prop, prop_iff_more, prop_implies, prop_implied, prop_or, prop_or_more, prop_and, prop_and_more, prop_prefix, prop_atom}
@@ -201,10 +201,17 @@ prop_and_rule = always (Rule prop_prefix ∷ Rule prop_and_more ∷ [])
 abbrev pub prop_and_more_rule : Production
 prop_and_more_rule = optional double_ampersand (Rule prop_prefix ∷ Rule prop_and_more ∷ [])
 
--- prop_prefix = "!" prop_prefix | prop_atom
+-- prop_prefix = ("!" | "-" | "+") prop_prefix | prop_atom
 abbrev pub prop_prefix_rule : Production
 prop_prefix_rule =
-    record { alternatives = after exclamation (Rule prop_prefix ∷ []) ∷ []; otherwise = Rule prop_atom ∷ [] }
+    record {
+      alternatives =
+          after exclamation (Rule prop_prefix ∷ [])
+          ∷ after minus (Rule prop_prefix ∷ [])
+          ∷ after plus (Rule prop_prefix ∷ [])
+          ∷ [];
+      otherwise = Rule prop_atom ∷ [];
+    }
 
 -- prop_atom = "(" prop ")" | "true" | "false" | name arguments
 abbrev pub prop_atom_rule : Production

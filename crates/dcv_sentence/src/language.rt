@@ -276,9 +276,13 @@ pub fn prop_rules() -> &'static [Production<'static>]
         always!(Rule(PROP_PREFIX), Rule(PROP_AND_MORE)),
         // prop_and_more = {"&&" prop_prefix}
         optional!(DOUBLE_AMPERSAND, Rule(PROP_PREFIX), Rule(PROP_AND_MORE)),
-        // prop_prefix = "!" prop_prefix | prop_atom
+        // prop_prefix = ("!" | "-" | "+") prop_prefix | prop_atom
         Production {
-            alternatives: &[after!(EXCLAMATION, Rule(PROP_PREFIX))],
+            alternatives: &[
+                after!(EXCLAMATION, Rule(PROP_PREFIX)),
+                after!(MINUS, Rule(PROP_PREFIX)),
+                after!(PLUS, Rule(PROP_PREFIX)),
+            ],
             otherwise: &[Rule(PROP_ATOM)],
         },
         // prop_atom = "(" prop ")" | "true" | "false" | name arguments

@@ -21,6 +21,9 @@ mutual
     PropOr : (operands : PlainPropOperands) → PlainPropKind
     PropImplies : (left : PlainPropKind) → (left_span : Span) → (right : PlainPropKind) → (right_span : Span) → PlainPropKind
     PropIff : (operands : PlainPropOperands) → PlainPropKind
+    -- the operand at the instant before, or at the next, with the span of the form and that of the operand
+    PropPrior : (form : Span) → (kind : PlainPropKind) → (span : Span) → PlainPropKind
+    PropNext : (form : Span) → (kind : PlainPropKind) → (span : Span) → PlainPropKind
 
   -- propositions that are arguments
   pub data PlainArguments : Type 0 where

@@ -2,7 +2,8 @@
 use Rattle.std.specs.Prelude.{map}
 use Rattle.dcv_syntax.specs.declared.propositions.Prop.{Prop}
 use Rattle.dcv_syntax.specs.declared.propositions.PropOperand.{PropOperand}
-use Rattle.dcv_syntax.specs.declared.propositions.PropKind.{PropKind, Constant as TruthProp, Call' as CallProp, Not' as NotProp, And' as AndProp, Or' as OrProp, Implies' as ImpliesProp, Iff' as IffProp}
+use Rattle.dcv_syntax.specs.declared.propositions.PropKind.{PropKind, Constant as TruthProp, Call' as CallProp, Not' as NotProp, And' as AndProp}
+use Rattle.dcv_syntax.specs.declared.propositions.PropKind.{Or' as OrProp, Implies' as ImpliesProp, Iff' as IffProp, Prior' as PriorProp, Next' as NextProp}
 use Rattle.dcv_syntax.specs.declared.propositions.PropKind.TheBlock.{Row_of-Prop, end_of-Prop, more_of-Prop, Row_of-PropOperand, end_of-PropOperand, more_of-PropOperand}
 use Rattle.dcv_syntax.specs.declared.formulas.Formula.{Formula}
 use Rattle.dcv_syntax.specs.declared.formulas.FormulaOperand.{FormulaOperand}
@@ -13,10 +14,10 @@ use Rattle.dcv_syntax.specs.declared.files.File.{File}
 use Rattle.dcv_syntax.specs.declared.files.Macro.{Macro}
 use Rattle.dcv_syntax.specs.declared.files.MacroBody.{MacroBody}
 use Rattle.dcv_syntax.specs.declared.files.MacroBody.TheVariants.{Formula as IsFormula, Prop as IsProp}
-use Rattle.dcv_syntax.specs.Plain.{PlainPropKind, PropConstant, PropCall, PropNot, PropAnd, PropOr, PropImplies, PropIff, PlainArguments, no_arguments, argument, PlainPropOperands, no_prop_operands}
-use Rattle.dcv_syntax.specs.Plain.{prop_operand, PlainProp, PlainPropOperand, PlainFormulaKind, FormulaConstant, FormulaPt, FormulaExt, FormulaPoint, FormulaRun, FormulaEvery, FormulaUnit, FormulaSlen, FormulaScount}
-use Rattle.dcv_syntax.specs.Plain.{FormulaSdur, FormulaCall, FormulaNot, FormulaAnd, FormulaOr, FormulaImplies, FormulaIff, FormulaChop, FormulaStar, FormulaSomewhere, FormulaEverywhere, FormulaExists, FormulaForAll}
-use Rattle.dcv_syntax.specs.Plain.{PlainFormulaOperands, no_formula_operands, formula_operand, PlainFormula, PlainFormulaOperand, PlainMacroBody, FormulaBody, PropBody, PlainMacro, PlainFile}
+use Rattle.dcv_syntax.specs.Plain.{PlainPropKind, PropConstant, PropCall, PropNot, PropAnd, PropOr, PropImplies, PropIff, PropPrior, PropNext, PlainArguments, no_arguments, argument}
+use Rattle.dcv_syntax.specs.Plain.{PlainPropOperands, no_prop_operands, prop_operand, PlainProp, PlainPropOperand, PlainFormulaKind, FormulaConstant, FormulaPt, FormulaExt, FormulaPoint, FormulaRun, FormulaEvery, FormulaUnit}
+use Rattle.dcv_syntax.specs.Plain.{FormulaSlen, FormulaScount, FormulaSdur, FormulaCall, FormulaNot, FormulaAnd, FormulaOr, FormulaImplies, FormulaIff, FormulaChop, FormulaStar, FormulaSomewhere, FormulaEverywhere}
+use Rattle.dcv_syntax.specs.Plain.{FormulaExists, FormulaForAll, PlainFormulaOperands, no_formula_operands, formula_operand, PlainFormula, PlainFormulaOperand, PlainMacroBody, FormulaBody, PropBody, PlainMacro, PlainFile}
 
 abbrev mutual
   pub plain_prop_kind : PropKind → PlainPropKind
@@ -28,6 +29,8 @@ abbrev mutual
   plain_prop_kind (ImpliesProp left_pointer left left_span right_pointer right right_span) =
       PropImplies (plain_prop_kind left) left_span (plain_prop_kind right) right_span
   plain_prop_kind (IffProp shape operands) = PropIff (plain_prop_operands operands)
+  plain_prop_kind (PriorProp form pointer kind span) = PropPrior form (plain_prop_kind kind) span
+  plain_prop_kind (NextProp form pointer kind span) = PropNext form (plain_prop_kind kind) span
 
   pub plain_arguments : {m : _} → Row_of-Prop m → PlainArguments
   plain_arguments end_of-Prop = no_arguments

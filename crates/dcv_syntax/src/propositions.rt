@@ -27,6 +27,10 @@ pub enum PropKind {
     Implies(Box<Prop>, Box<Prop>),
     /// `P <=> Q <=> ..`, which groups to the left.
     Iff(Vec<PropOperand>),
+    /// `-P`, prior: P at the instant before, and false at the first. The span is that of the form.
+    Prior(Span, Box<Prop>),
+    /// `+P`, next: P at the next instant, and false at the last of the behaviour. The span is that of the form.
+    Next(Span, Box<Prop>),
 }
 
 /// An operand of a list. Its span has the parentheses that stand round it.

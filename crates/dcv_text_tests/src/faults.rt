@@ -4,7 +4,7 @@ use std::alloc::{AllocError, Global};
 use std::test::Fail;
 
 // Texts, and their first fault.
-const FAULTS: [(&[u8], Option<Fault>); 32] = [
+const FAULTS: [(&[u8], Option<Fault>); 35] = [
     (b"", Some(Fault::Syntax { at: 0 })),
     (b"infer pt;", None),
     (b"var p;\ninfer <p>=>[[p]];", Some(Fault::Syntax { at: 15 })),
@@ -29,6 +29,9 @@ const FAULTS: [(&[u8], Option<Fault>); 32] = [
     (b"infer pt; 10000", Some(Fault::Number { at: 10 })),
     // Forms that are easily mistaken.
     (b"infer p & q;", Some(Fault::Byte { at: 8 })),
+    (b"infer -pt;", Some(Fault::Syntax { at: 6 })),
+    (b"infer [[p + q]];", Some(Fault::Syntax { at: 10 })),
+    (b"infer slen = -1;", Some(Fault::Syntax { at: 13 })),
     (b"infer ex p. [[p]] ^ ext;", None),
     (b"infer pt && ex p. [[p]];", Some(Fault::Syntax { at: 12 })),
     (b"infer <>[]!pt**;", None),
@@ -105,6 +108,17 @@ fn deep_nesting(rt: HostRuntime) -> Result<(), Fail> {
     parts.extend_from_slice(&repeated(alloc, b"prop g as ", b"!", 500, b"p;")?)?;
     parts.extend_from_slice(&repeated(alloc, b"infer pt", b"*", 500, b";")?)?;
     assert_eq!(rt; fault_of(alloc, &parts), None);
+    Ok(())
+}
+
+// 500 signs, the most that a text may have, and two more.
+#[test]
+fn deep_signs(rt: HostRuntime) -> Result<(), Fail> {
+    let alloc = rt.alloc();
+    let deepest = repeated(alloc, b"infer [[", b"-+", 250, b"p]];")?;
+    assert_eq!(rt; fault_of(alloc, &deepest), None);
+    let deeper = repeated(alloc, b"infer [[", b"-+", 251, b"p]];")?;
+    assert_eq!(rt; fault_of(alloc, &deeper), Some(Fault::Nest { at: 508 }));
     Ok(())
 }
 

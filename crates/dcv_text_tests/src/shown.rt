@@ -90,12 +90,7 @@ fn prop(text: &mut String, shown: &Prop) -> Result<(), AllocError> {
     match &shown.kind {
         PropKind::Constant(truth) => node(text, if *truth { "true" } else { "false" }, span),
         PropKind::Call(called, arguments) => call(text, called, arguments, span),
-        PropKind::Not(inside) => {
-            node(text, "not", span)?;
-            text.push('(')?;
-            prop(text, inside)?;
-            text.push(')')
-        }
+        PropKind::Not(inside) => with_prop(text, "not", inside, span),
         PropKind::And(operands) => props(text, "and", operands, span),
         PropKind::Or(operands) => props(text, "or", operands, span),
         PropKind::Implies(left, right) => {
@@ -107,6 +102,8 @@ fn prop(text: &mut String, shown: &Prop) -> Result<(), AllocError> {
             text.push(')')
         }
         PropKind::Iff(operands) => props(text, "iff", operands, span),
+        PropKind::Prior(form, inside) => with_prop(text, "prior", inside, *form),
+        PropKind::Next(form, inside) => with_prop(text, "next", inside, *form),
     }
 }
 
@@ -128,7 +125,8 @@ fn props(
     text.push(')')
 }
 
-// A formula with one proposition in it.
+// A proposition or a formula with one proposition in it.
+#[cycle(props)]
 fn with_prop(text: &mut String, form: &str, inside: &Prop, span: Span) -> Result<(), AllocError> {
     node(text, form, span)?;
     text.push('(')?;

@@ -4,12 +4,13 @@ use std::alloc::{AllocError, Global};
 use std::test::Fail;
 
 // Texts, and their tokens, each with a blank behind it.
-const CUTS: [(&[u8], &[u8]); 10] = [
+const CUTS: [(&[u8], &[u8]); 11] = [
     (b"", b""),
     (b">=> <=> <> [[[ ]]] {{}}", b">= > <=> <> [[ [ ]] ] {{ }} "),
     (b"{{{ p", b"{{ "),
     (b"}}} p", b"}} "),
     (b"a1_b 007x<=>=", b"a1_b 007 x <=> = "),
+    (b"-p+!q->=", b"- p + ! q - >= "),
     (b"p//=\r\n&&\tq //", b"p && q "),
     (b"p // \xc3\xa9 \xff\n// \xff", b"p "),
     (b"p & q", b"p "),

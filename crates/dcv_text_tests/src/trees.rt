@@ -5,7 +5,7 @@ use std::alloc::Global;
 use std::test::Fail;
 
 // Texts, and their goals.
-const GOALS: [(&[u8], &str); 17] = [
+const GOALS: [(&[u8], &str); 21] = [
     (b"infer pt;", "pt@6..8"),
     (b"infer true;", "true@6..10"),
     (
@@ -56,6 +56,19 @@ const GOALS: [(&[u8], &str); 17] = [
         "point@6..17(iff@7..16(p@8..9/7..10 q@15..16))",
     ),
     (b"infer <!(p)>;", "point@6..12(not@7..11(p@9..10))"),
+    (b"infer [[-p]];", "every@6..12(prior@8..10(p@9..10))"),
+    (
+        b"infer [[+ !-p]];",
+        "every@6..15(next@8..13(not@10..13(prior@11..13(p@12..13))))",
+    ),
+    (
+        b"infer <-(p && q) || +r && s>;",
+        "point@6..28(or@7..27(prior@7..16(and@9..15(p@9..10 q@14..15)) and@20..27(next@20..22(r@21..22) s@26..27)))",
+    ),
+    (
+        b"infer scount -p >= 2;",
+        "scount>=@6..20(prior@13..15(p@14..15) 2@19..20)",
+    ),
 ];
 
 const FILE: &[u8] = b"var p, q; define f(a) as [[a]]; prop g as p; infer true;";

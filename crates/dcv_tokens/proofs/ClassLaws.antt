@@ -1,14 +1,12 @@
 -- Which tokens have the class of names, and which that of numbers.
-use Rattle.std.proofs.Common.{◌==◌, ◌≡◌, ℕ, ◌<◌, Bool, true, false, not, ◌&&◌, nat_lt, List, [], ◌∷◌, Option, Some, None, IsTrue, ◌⊎◌, inl, inr, refl, sym}
+use Rattle.std.proofs.Common.{◌≡◌, ℕ, ◌<◌, true, false, not, ◌||◌, nat_lt, List, [], ◌∷◌, Option, Some, None, IsTrue, ◌⊎◌, inl, inr, refl}
 use Rattle.std.proofs.Common.{ap, ◌∙◌, arith}
 use Rattle.std.specs.Prelude.{unwrap_or}
 use Rattle.std.specs.List.{list_all}
-use Rattle.std.specs.Str.{bytes_eq}
 use Rattle.std.specs.Char.{is_ascii_alphabetic, is_ascii_digit}
-use Rattle.std.proofs.lemmas.Slice.Eq.{bytes_eq-Decides}
-use Rattle.std.proofs.lemmas.Bool.{false_from_ne_true, and_left, eqb-false, cases_Bool, and_parts, and_from, or_right, false≢true, both_ways, not-true}
-use Rattle.std.proofs.lemmas.Bool.{ltb-true}
-use Rattle.dcv_lexer.specs.Lexicon.{texts_of, word_class, symbol_class}
+use Rattle.std.proofs.lemmas.Bool.{false_from_ne_true, and_left, cases_Bool, and_parts, and_from, both_ways, not-true}
+use Rattle.std.proofs.lemmas.Bool.{ltb-true, or_cases}
+use Rattle.dcv_lexer.specs.Lexicon.{word_class, symbol_class}
 use Rattle.dcv_lexer.proofs.ClassTables.{class_passes, text_there, class_there, some_or_none, same_text}
 use Rattle.dcv_lexer.proofs.Fronts.{digit_is_no_letter}
 use Rattle.dcv_tokens.specs.Formulas.{fixed_symbols, fixed_words, formulas}
@@ -23,9 +21,12 @@ class_of_symbol = symbol_class formulas
 
 -- ---- the tables of symbols and of reserved words
 
-symbol_below : (bytes : List ℕ) (class : ℕ) → class_in fixed_symbols bytes ≡ Some class → class < name
+symbol_apart : (bytes : List ℕ) (class : ℕ) → class_in fixed_symbols bytes ≡ Some class → (class < name) ⊎ (number < class)
 unfolding fixed_symbols
-symbol_below bytes class is = ltb-true class 39 (class_passes fixed_symbols (λ c. nat_lt c 39) bytes class refl is)
+symbol_apart bytes class is = elim (or_cases (nat_lt class 39) (nat_lt 40 class) (class_passes fixed_symbols (λ c. nat_lt c 39 || nat_lt 40 c) bytes class refl is)) [
+  | inl less ↦ inl (ltb-true class 39 less)
+  | inr more ↦ inr (ltb-true 40 class more)
+]
 
 word_below : (bytes : List ℕ) (class : ℕ) → class_in fixed_words bytes ≡ Some class → class < name
 unfolding fixed_words
@@ -51,13 +52,18 @@ word_class_is bytes = elim (some_or_none (class_in fixed_words bytes)) [
   | inr none ↦ inl (ap (λ (o : Option ℕ). unwrap_or o name) none, not_reserved bytes none)
 ]
 
--- a symbol's class is less than that of names, and what is no symbol has a greater one
-symbol_class_is : (bytes : List ℕ) → (class_of_symbol bytes < name) ⊎ (class_of_symbol bytes ≡ unknown)
+-- the class of a symbol, and of what is none, is less than that of names or greater than that of numbers
+symbol_class_is : (bytes : List ℕ) → (class_of_symbol bytes < name) ⊎ (number < class_of_symbol bytes)
 symbol_class_is bytes = elim (some_or_none (class_in fixed_symbols bytes)) [
   | inl some ↦
       let is : class_of_symbol bytes ≡ some.0 = ap (λ (o : Option ℕ). unwrap_or o unknown) some.1 in
-      inl (omega (arith, is, symbol_below bytes some.0 some.1))
-  | inr none ↦ inr (ap (λ (o : Option ℕ). unwrap_or o unknown) none)
+      elim (symbol_apart bytes some.0 some.1) [
+        | inl less ↦ inl (omega (arith, is, less))
+        | inr more ↦ inr (omega (arith, is, more))
+      ]
+  | inr none ↦
+      let is : class_of_symbol bytes ≡ unknown = ap (λ (o : Option ℕ). unwrap_or o unknown) none in
+      inr (omega (arith, is))
 ]
 
 -- ---- names and numbers

@@ -4,7 +4,7 @@ pub use Rattle.dcv_tokens.specs.FixedTexts.{open_parenthesis, close_parenthesis,
 pub use Rattle.dcv_tokens.specs.FixedTexts.{less_equals, greater_equals, diamond, arrow, double_arrow, double_ampersand, double_bar, open_bracket}
 pub use Rattle.dcv_tokens.specs.FixedTexts.{close_bracket, box, open_brackets, close_brackets, open_braces, close_braces, word_var, word_define, word_prop}
 pub use Rattle.dcv_tokens.specs.FixedTexts.{word_as, word_infer, word_ex, word_all, word_true, word_false, word_pt, word_ext, word_slen, word_scount}
-pub use Rattle.dcv_tokens.specs.FixedTexts.{word_sdur, name, number, unknown}
+pub use Rattle.dcv_tokens.specs.FixedTexts.{word_sdur, name, number, minus, plus, unknown}
 pub use Rattle.dcv_lexer.specs.Lexicon.{class_in}
 use Rattle.dcv_lexer.specs.Lexicon as lexicon
 use Rattle.dcv_tokens.specs.FixedTexts.{symbol_classes, word_classes}

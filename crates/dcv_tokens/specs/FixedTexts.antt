@@ -124,9 +124,15 @@ name = 39
 abbrev pub number : ℕ
 number = 40
 
+abbrev pub minus : ℕ
+minus = 41
+
+abbrev pub plus : ℕ
+plus = 42
+
 -- of what is no token
 abbrev pub unknown : ℕ
-unknown = 41
+unknown = 43
 
 -- each symbol with its class, the longer ones first
 abbrev pub symbol_classes : List (List ℕ × ℕ)
@@ -137,7 +143,7 @@ symbol_classes =
     ∷ (codes "}}", close_braces) ∷ (codes "(", open_parenthesis) ∷ (codes ")", close_parenthesis)
     ∷ (codes ",", comma) ∷ (codes ";", semicolon) ∷ (codes ".", dot) ∷ (codes "!", exclamation) ∷ (codes "^", caret)
     ∷ (codes "*", star) ∷ (codes "=", equals) ∷ (codes "<", less) ∷ (codes ">", greater) ∷ (codes "[", open_bracket)
-    ∷ (codes "]", close_bracket) ∷ []
+    ∷ (codes "]", close_bracket) ∷ (codes "-", minus) ∷ (codes "+", plus) ∷ []
 
 -- each reserved word with its class
 abbrev pub word_classes : List (List ℕ × ℕ)

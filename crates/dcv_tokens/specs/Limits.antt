@@ -2,7 +2,7 @@
 use Rattle.std.specs.Prelude.{ℕ, Bool, ◌&&◌, ◌==◌, nat_lt, List, [], ◌∷◌, length}
 use Rattle.std.specs.List.{list_any}
 use Rattle.dcv_tokens.specs.Tokens.{Token, is_word, is_number}
-use Rattle.dcv_tokens.specs.Classes.{class_of, open_parenthesis, exclamation, diamond, box, word_ex, word_all, arrow, star, word_define, word_prop, word_infer}
+use Rattle.dcv_tokens.specs.Classes.{class_of, open_parenthesis, exclamation, diamond, box, word_ex, word_all, arrow, star, minus, plus, word_define, word_prop, word_infer}
 use Rattle.dcv_tokens.specs.Decimal.{value_of}
 
 -- how many bytes a word may have
@@ -22,10 +22,10 @@ is_large token = is_number token.bytes && nat_lt largest_number (value_of token.
 abbrev pub has_class : List ℕ → Token → Bool
 has_class classes token = list_any (λ class. class == class_of token.bytes) classes
 
--- `(`, `!`, `<>`, `[]`, `ex`, `all`, `=>` or `*`
+-- `(`, `!`, `<>`, `[]`, `ex`, `all`, `=>`, `*`, `-` or `+`
 abbrev pub nests : Token → Bool
 nests token =
-    has_class (open_parenthesis ∷ exclamation ∷ diamond ∷ box ∷ word_ex ∷ word_all ∷ arrow ∷ star ∷ []) token
+    has_class (open_parenthesis ∷ exclamation ∷ diamond ∷ box ∷ word_ex ∷ word_all ∷ arrow ∷ star ∷ minus ∷ plus ∷ []) token
 
 -- `define`, `prop` or `infer`
 abbrev pub begins_part : Token → Bool

@@ -1,4 +1,4 @@
-//! The classes of tokens, as the grammar sees them: a number from 0 to 40 for each.
+//! The classes of tokens, as the grammar sees them: a number from 0 to 42 for each.
 ghost use Rattle.std.specs.Prelude.{◌≡◌, IsTrue};
 ghost use Rattle.dcv_lexer.specs.Lexicon.{lexicon_of, is_orderly};
 ghost use Rattle.dcv_tokens.specs.Tokens.{is_token};
@@ -130,11 +130,17 @@ pub const NAME: u8 = 39;
 /// One digit or more.
 pub const NUMBER: u8 = 40;
 
+/// `-`.
+pub const MINUS: u8 = 41;
+
+/// `+`.
+pub const PLUS: u8 = 42;
+
 /// What is no token.
-pub const UNKNOWN: u8 = 41;
+pub const UNKNOWN: u8 = 43;
 
 // The symbols with their classes, the longer ones first.
-const SYMBOLS: [(&[u8], u8); 25] = [
+const SYMBOLS: [(&[u8], u8); 27] = [
     (b"<=>", DOUBLE_ARROW),
     (b"<=", LESS_EQUALS),
     (b">=", GREATER_EQUALS),
@@ -160,6 +166,8 @@ const SYMBOLS: [(&[u8], u8); 25] = [
     (b">", GREATER),
     (b"[", OPEN_BRACKET),
     (b"]", CLOSE_BRACKET),
+    (b"-", MINUS),
+    (b"+", PLUS),
 ];
 
 // The reserved words with their classes.
@@ -198,7 +206,7 @@ pub fn formulas() -> &'static Lexicon<'static>
     &FORMULAS
 }
 
-/// The class of a token, from 0 to 40.
+/// The class of a token, from 0 to 42.
 pub fn class_of(bytes: &[u8]) -> u8
     requires { IsTrue (is_token bytes.now) }
     ensures { result ≡ class_of bytes.now }

@@ -31,7 +31,7 @@ const LONGEST_WORD: usize = 24;
 const LARGEST_NUMBER: u32 = 9_999;
 
 // What counts towards the depth of a definition or the goal.
-const NESTING: [u8; 8] = [
+const NESTING: [u8; 10] = [
     OPEN_PARENTHESIS,
     EXCLAMATION,
     DIAMOND,
@@ -40,6 +40,8 @@ const NESTING: [u8; 8] = [
     WORD_ALL,
     ARROW,
     STAR,
+    MINUS,
+    PLUS,
 ];
 
 // What a definition or the goal begins with.
@@ -72,7 +74,7 @@ impl Token<'_> {
         self.bytes[0].is_ascii_digit() && self.value() > LARGEST_NUMBER
     }
 
-    /// Whether it is `(`, `!`, `<>`, `[]`, `ex`, `all`, `=>` or `*`.
+    /// Whether it is `(`, `!`, `<>`, `[]`, `ex`, `all`, `=>`, `*`, `-` or `+`.
     pub fn nests(&self) -> bool
         ensures { result ≡ nests (seen self.now) }
     {

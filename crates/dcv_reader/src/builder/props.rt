@@ -5,7 +5,7 @@ ghost use Rattle.dcv_syntax.specs.Views.{plain_prop_kind, plain_prop_operand};
 ghost use Rattle.std.specs.Prelude.{IfOk};
 ghost use Rattle.dcv_syntax.specs.Views.{plain_prop};
 ghost use Rattle.dcv_tokens.specs.Reading.{seen};
-ghost use Rattle.dcv_reader.specs.Nodes.{bare_prop, prop_list, prop_call, prop_negation, prop_implication};
+ghost use Rattle.dcv_reader.specs.Nodes.{bare_prop, prop_list, prop_call, prop_prefixed, prop_implication};
 
 use super::{Builder, name_of};
 use dcv_syntax::{Prop, PropKind, PropOperand, Span};
@@ -185,18 +185,18 @@ impl Builder<'_, '_> {
         PropList::And.of(self.alloc, operands)
     }
 
-    /// prop_prefix = "!" prop_prefix | prop_atom
+    /// prop_prefix = ("!" | "-" | "+") prop_prefix | prop_atom
     #[cycle(prop)]
     pub fn prop_prefix(&mut self) -> Result<Box<PropOperand>, AllocError>
         requires { BeginWithRule rules.prop_prefix (left self.old) }
         ensures { IfOk result (λ p. RuleReadAs rules.prop_prefix (left self.old) (AProp (plain_prop_operand p.value)) (left self.new)) }
     {
-        if !self.is_next(EXCLAMATION) {
+        if !self.is_next_of(&[EXCLAMATION, MINUS, PLUS]) {
             return self.prop_atom();
         }
         let sign = self.take();
-        let negated = self.prop_prefix()?;
-        prop_negation(self.alloc, &sign, negated)
+        let operand = self.prop_prefix()?;
+        prop_prefixed(self.alloc, &sign, operand)
     }
 
     // prop_atom = "(" prop ")" | "true" | "false" | name arguments
@@ -292,17 +292,22 @@ fn prop_call(
     boxed_prop(alloc, PropKind::Call(name, arguments.props), span)
 }
 
+// `!P`, `-P` or `+P`
 #[inline(never)]
-fn prop_negation(
+fn prop_prefixed(
     alloc: Global,
     sign: &Token,
-    negated: Box<PropOperand>,
+    operand: Box<PropOperand>,
 ) -> Result<Box<PropOperand>, AllocError>
-    ensures { IfOk result (λ p. plain_prop_operand p.value ≡ prop_negation (seen sign.now) (plain_prop_operand negated.value)) }
+    ensures { IfOk result (λ p. plain_prop_operand p.value ≡ prop_prefixed (seen sign.now) (plain_prop_operand operand.value)) }
 {
-    let span = sign.span().to(negated.span);
-    let negated = Box::new(alloc, Box::into_inner(negated).prop)?;
-    boxed_prop(alloc, PropKind::Not(negated), span)
+    let span = sign.span().to(operand.span);
+    let operand = Box::new(alloc, Box::into_inner(operand).prop)?;
+    match sign.class {
+        EXCLAMATION => boxed_prop(alloc, PropKind::Not(operand), span),
+        MINUS => boxed_prop(alloc, PropKind::Prior(span, operand), span),
+        _ => boxed_prop(alloc, PropKind::Next(span, operand), span),
+    }
 }
 
 #[inline(never)]

@@ -13,8 +13,8 @@ use Rattle.dcv_reader.specs.Building.{RuleReadAs}
 use Rattle.dcv_reader.specs.Left.{left}
 use Rattle.dcv_reader.proofs.BuilderLevels.{level_first, level_begun, level_alone, operand_next, operands_pushed, level_read, pushed_first, pushed_more, enclosed_first, enclosed_begun, enclosed_next, enclosed_more, enclosed_closes, enclosed_read}
 use Rattle.dcv_reader.proofs.BuilderParts.{if_ok}
-use Rattle.dcv_reader.proofs.BuilderForms.{premise_begins, premise_alone, conclusion_begins, conclusion_read, rule_begins, rule_passed, prefix_next, prefix_read, inside_next, closing_there, inside_read, nothing_read}
-use Rattle.dcv_reader.proofs.BuilderProps.{iff_operands, iff_at, or_operands, or_at, and_operands, and_at, argument_operands, arguments_at, implies_at, implied_at, prefix_at, atom_at, picks_negation, picks_atom, atom_there, picks_group, picks_call}
+use Rattle.dcv_reader.proofs.BuilderForms.{next_of_there, premise_begins, premise_alone, conclusion_begins, conclusion_read, rule_begins, rule_passed, prefix_next, prefix_read, inside_next, closing_there, inside_read, nothing_read}
+use Rattle.dcv_reader.proofs.BuilderProps.{iff_operands, iff_at, or_operands, or_at, and_operands, and_at, argument_operands, arguments_at, implies_at, implied_at, prefix_at, atom_at, picks_sign, picks_atom, atom_there, picks_group, picks_call}
 use Rattle.dcv_reader.proofs.builder.Builder.+prop.Goals as goal
 
 pub prop-prop_implies-requires : goal.prop-prop_implies-requires
@@ -132,25 +132,30 @@ prop_implies-returns t c =
 
 pub prop_prefix-prop_atom-requires : goal.prop_prefix-prop_atom-requires
 prop_prefix-prop_atom-requires t c =
-    (omega arith, rule_begins rules.prop_prefix prop_prefix_rule prefix_at c.requires rules.prop_atom (picks_atom (left c.args.self.now) (sym c.is_next.ensures ∙ c.if-not-is_next.true)))
+    (omega arith, rule_begins rules.prop_prefix prop_prefix_rule prefix_at c.requires rules.prop_atom (picks_atom (left c.args.self.now) (sym c.is_next_of.ensures ∙ c.if-not-is_next_of.true)))
 
-pub prop_prefix-returns-then-not-is_next : goal.prop_prefix-returns-then-not-is_next
-prop_prefix-returns-then-not-is_next t c =
+pub prop_prefix-returns-then-not-is_next_of : goal.prop_prefix-returns-then-not-is_next_of
+prop_prefix-returns-then-not-is_next_of t c =
     if_ok c.prop_atom.result
-    (λ p reads. rule_passed rules.prop_prefix prop_prefix_rule prefix_at c.requires rules.prop_atom (picks_atom (left c.args.self.now) (sym c.is_next.ensures ∙ c.if-not-is_next.true)) (AProp (plain_prop_operand p.value)) _ (left c.prop_atom.new.self) reads refl)
+    (λ p reads. rule_passed rules.prop_prefix prop_prefix_rule prefix_at c.requires rules.prop_atom (picks_atom (left c.args.self.now) (sym c.is_next_of.ensures ∙ c.if-not-is_next_of.true)) (AProp (plain_prop_operand p.value)) _ (left c.prop_atom.new.self) reads refl)
     c.prop_atom.ensures
+
+pub prop_prefix-take-sign-requires : goal.prop_prefix-take-sign-requires
+prop_prefix-take-sign-requires t c = next_of_there (classes.exclamation ∷ classes.minus ∷ classes.plus ∷ []) (left c.args.self.now) (sym c.is_next_of.ensures ∙ c.if-not-is_next_of.false)
 
 pub prop_prefix-prop_prefix-requires : goal.prop_prefix-prop_prefix-requires
 prop_prefix-prop_prefix-requires t c =
-    let next = prefix_next rules.prop_prefix prop_prefix_rule prefix_at c.requires classes.exclamation rules.prop_prefix (seen c.take-sign.result) (left c.take-sign.new.self) (picks_negation (left c.args.self.now) (sym c.is_next.ensures ∙ c.if-not-is_next.false)) c.take-sign.ensures in
+    let picked = picks_sign (left c.args.self.now) (sym c.is_next_of.ensures ∙ c.if-not-is_next_of.false) in
+    let next = prefix_next rules.prop_prefix prop_prefix_rule prefix_at c.requires picked.0 rules.prop_prefix (seen c.take-sign.result) (left c.take-sign.new.self) picked.1 c.take-sign.ensures in
     let shorter = next.1 in
     (omega arith, next.0)
 
 pub prop_prefix-returns : goal.prop_prefix-returns
 prop_prefix-returns t c =
-    if_ok c.prop_negation.result
-    (λ p is. prefix_read rules.prop_prefix prop_prefix_rule prefix_at c.requires classes.exclamation rules.prop_prefix (seen c.take-sign.result) (left c.take-sign.new.self) (picks_negation (left c.args.self.now) (sym c.is_next.ensures ∙ c.if-not-is_next.false)) c.take-sign.ensures (AProp (plain_prop_operand c.in_ok-negated.negated.value)) (AProp (plain_prop_operand p.value)) (left c.prop_prefix.new.self) c.in_ok-negated.ensures (ap AProp (sym is)))
-    c.prop_negation.ensures
+    let picked = picks_sign (left c.args.self.now) (sym c.is_next_of.ensures ∙ c.if-not-is_next_of.false) in
+    if_ok c.prop_prefixed.result
+    (λ p is. prefix_read rules.prop_prefix prop_prefix_rule prefix_at c.requires picked.0 rules.prop_prefix (seen c.take-sign.result) (left c.take-sign.new.self) picked.1 c.take-sign.ensures (AProp (plain_prop_operand c.in_ok-operand.operand.value)) (AProp (plain_prop_operand p.value)) (left c.prop_prefix.new.self) c.in_ok-operand.ensures (ap AProp (sym is)))
+    c.prop_prefixed.ensures
 
 pub prop_atom-take-first-requires : goal.prop_atom-take-first-requires
 prop_atom-take-first-requires t c = atom_there (left c.args.self.now) c.requires
