@@ -1,6 +1,7 @@
 -- The definitions go along the operands of a plain tree, and the code along the list of them: they agree.
-use Rattle.std.proofs.Common.{◌≡◌, ℕ, ◌+◌, ◌-◌, Bool, true, List, [], ◌∷◌, Vec, Global, map, refl, ap, ◌∙◌}
+use Rattle.std.proofs.Common.{◌≡◌, ℕ, ◌+◌, ◌-◌, nat_lt, arith, Bool, true, List, [], ◌∷◌, Vec, Global, map, refl, ap, ◌∙◌}
 use Rattle.std.specs.Prelude.{◌&&◌, ◌||◌}
+use Rattle.std.proofs.lemmas.Bool.Decides.{nat_tests}
 use Rattle.std.specs.List.{list_all, list_any, fold}
 use Rattle.dcv_syntax.specs.declared.names.Name.{Name}
 use Rattle.dcv_syntax.specs.declared.propositions.Prop.{Prop}
@@ -8,7 +9,8 @@ use Rattle.dcv_syntax.specs.declared.propositions.PropOperand.{PropOperand}
 use Rattle.dcv_syntax.specs.declared.propositions.PropKind.{Call, And, Or, Iff}
 use Rattle.dcv_syntax.specs.declared.formulas.FormulaOperand.{FormulaOperand}
 use Rattle.dcv_syntax.specs.declared.formulas.FormulaKind.{Call as CallFormula, And as AndFormula, Or as OrFormula, Iff as IffFormula, Chop}
-use Rattle.dcv_syntax.specs.Plain.{arguments_of, prop_operands_of, formula_operands_of}
+use Rattle.dcv_syntax.specs.declared.names.Span.{Span}
+use Rattle.dcv_syntax.specs.Plain.{PlainPropKind, PropNext, arguments_of, prop_operands_of, formula_operands_of}
 use Rattle.dcv_syntax.specs.Views.{plain_prop_kind, plain_prop, plain_prop_operand, plain_formula_kind, plain_formula_operand}
 use Rattle.dcv_syntax.proofs.PlainRows.{plain_call, plain_prop_and, plain_prop_or, plain_prop_iff, plain_and, plain_or, plain_iff, plain_chop}
 use Rattle.dcv_logic.specs.Track.{track_of}
@@ -20,10 +22,16 @@ use Rattle.dcv_logic.specs.Scope.{argument_tracks_of, chop_of}
 use Rattle.dcv_logic.proofs.SearchSteps.{some_from-same}
 use Rattle.dcv_logic.proofs.Measures.{work-And, work-Or, work-Iff, work-Chop}
 
+next_instant : (i n count : ℕ) → count ≡ n → nat_lt (i + 1) count ≡ nat_lt i (n - 1)
+next_instant i n count is = ap (nat_lt (i + 1)) is ∙ grind (arith, nat_tests)
+
 module _ (env : Environment) where
   pub argument_tracks-list : (props : List Prop) → argument_tracks env (arguments_of (map plain_prop props)) ≡ argument_tracks_of env props
   argument_tracks-list [] = refl
   argument_tracks-list (prop ∷ props) = ap (λ tracks. track_of env.instants (value env (plain_prop_kind prop.kind)) ∷ tracks) (argument_tracks-list props)
+
+  pub value-Next : (form : Span) (p : PlainPropKind) (span : Span) (n i : ℕ) → env.instants ≡ n → value env (PropNext form p span) i ≡ (nat_lt i (n - 1) && value env p (i + 1))
+  value-Next form p span n i is = ap (λ (b : Bool). b && value env p (i + 1)) (next_instant i n env.instants is)
 
   pub value-Call : (name : Name) (arguments : Vec Prop Global) (i : ℕ) → value env (plain_prop_kind (Call name arguments)) i
       ≡ call_value (found env.tracks name.text) (found env.macros name.text) (argument_tracks_of env arguments.items) i

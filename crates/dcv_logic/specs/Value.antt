@@ -1,6 +1,6 @@
 -- The value of a proposition at an instant: an equation for each form, below the form as it is written in a file.
-use Rattle.std.specs.Prelude.{ℕ, Bool, true, false, ◌&&◌, ◌||◌, not, List, [], ◌∷◌, Option, Some, None}
-use Rattle.dcv_syntax.specs.Plain.{PlainPropKind, PropConstant, PropCall, PropNot, PropAnd, PropOr, PropImplies, PropIff, PlainArguments, no_arguments, argument, PlainPropOperands, no_prop_operands, prop_operand}
+use Rattle.std.specs.Prelude.{ℕ, ◌+◌, ◌-◌, nat_lt, Bool, true, false, ◌&&◌, ◌||◌, not, List, [], ◌∷◌, Option, Some, None}
+use Rattle.dcv_syntax.specs.Plain.{PlainPropKind, PropConstant, PropCall, PropNot, PropAnd, PropOr, PropImplies, PropIff, PropPrior, PropNext, PlainArguments, no_arguments, argument, PlainPropOperands, no_prop_operands, prop_operand}
 use Rattle.dcv_language.specs.Operations.{iff}
 use Rattle.dcv_logic.specs.Track.{Track, truth_at, track_of}
 use Rattle.dcv_logic.specs.Environment.{Environment, Meaning, PropMeaning, FormulaMeaning, found}
@@ -39,6 +39,10 @@ abbrev mutual
   value env (PropImplies p p_span q q_span) i = not (value env p i) || value env q i
   -- P <=> Q <=> ..
   value env (PropIff operands) i = iff_all env true operands i
+  -- -P
+  value env (PropPrior form p span) i = nat_lt 0 i && value env p (i - 1)
+  -- +P, which looks beyond an interval, up to the last instant of the behaviour
+  value env (PropNext form p span) i = nat_lt (i + 1) env.instants && value env p (i + 1)
 
   -- the track of each argument has its values at all instants of the behaviour
   pub argument_tracks : Environment → PlainArguments → List Track

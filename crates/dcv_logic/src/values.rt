@@ -31,6 +31,10 @@ impl Scope<'_> {
                 Ok(!self.value(premise, instant)? || self.value(conclusion, instant)?)
             }
             PropKind::Iff(operands) => self.iff_all(operands, instant),
+            PropKind::Prior(_, operand) => Ok(instant > 0 && self.value(operand, instant - 1)?),
+            PropKind::Next(_, operand) => Ok(
+                instant < self.instants.saturating_sub(1) && self.value(operand, instant + 1)?,
+            ),
         }
     }
 

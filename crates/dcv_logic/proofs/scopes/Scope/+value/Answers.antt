@@ -1,4 +1,6 @@
-use Rattle.std.proofs.Common.{◌≡◌, Bool, ap, sym, subst, ◌∙◌, IfOk, List, arith}
+use Rattle.std.specs.Prelude.{◌&&◌}
+use Rattle.std.proofs.lemmas.Bool.Decides.{nat_tests}
+use Rattle.std.proofs.Common.{◌≡◌, ◌+◌, ◌-◌, nat_lt, true, false, Bool, ap, sym, subst, ◌∙◌, IfOk, List, arith}
 use Rattle.std.proofs.lemmas.Grind.{common_steps}
 use Rattle.dcv_syntax.specs.declared.propositions.Prop.{Prop, size-Prop}
 use Rattle.dcv_syntax.specs.Views.{plain_prop_kind}
@@ -7,7 +9,7 @@ use Rattle.dcv_logic.specs.Value.{value, call_value}
 use Rattle.dcv_logic.specs.Scope.{environment_of, argument_tracks_of}
 use Rattle.dcv_logic.proofs.Environments.{environment_of-instants}
 use Rattle.dcv_logic.proofs.Measures.{prop_depth, all_bodies, left_after_call}
-use Rattle.dcv_logic.proofs.Rows.{value-Call}
+use Rattle.dcv_logic.proofs.Rows.{value-Call, value-Next}
 use Rattle.dcv_logic.proofs.SearchSteps.{values_from-step, values_from-end}
 use Rattle.dcv_logic.proofs.scopes.Scope.+value.Goals as goal
 
@@ -37,3 +39,27 @@ value-returns-in-Call t c =
     let same : of_list c.deref.result.now ≡ value env (plain_prop_kind c.args.prop.now.kind) c.args.instant =
     ap of_list c.deref.ensures.value ∙ sym (value-Call env name c.in-Call.arguments c.args.instant) ∙ sym (ap (λ kind. value env (plain_prop_kind kind) c.args.instant) c.in-Call.is) in
     subst (λ truth. IfOk c.call_value.result (λ t. t ≡ truth)) same c.call_value.ensures
+
+pub value-returns-in_ok-value-in-Next : goal.value-returns-in_ok-value-in-Next
+value-returns-in_ok-value-in-Next t c =
+    let env = environment_of c.args.self.now in
+    let operand = c.in-Next.operand.value in
+    let next = value-Next env c.in-Next.field-0 (plain_prop_kind operand.kind) operand.span c.args.self.now.instants c.args.instant (environment_of-instants c.args.self.now) in
+    let inside : nat_lt c.args.instant (c.args.self.now.instants - 1) ≡ true = grind (arith, nat_tests, c.saturating_sub.ensures, c.if-instant-saturating_sub.true) in
+    c.in_ok-value-in-Next.ensures
+    ∙ ap (λ (prop : Prop). value env (plain_prop_kind prop.kind) (c.args.instant + 1)) c.deref-then-instant-saturating_sub.ensures
+    ∙ sym (ap (λ b. b && value env (plain_prop_kind operand.kind) (c.args.instant + 1)) inside)
+    ∙ sym next
+    ∙ sym (ap (λ kind. value env (plain_prop_kind kind) c.args.instant) c.in-Next.is)
+
+pub value-returns-else-instant-saturating_sub : goal.value-returns-else-instant-saturating_sub
+value-returns-else-instant-saturating_sub t c =
+    let env = environment_of c.args.self.now in
+    let operand = c.in-Next.operand.value in
+    let next = value-Next env c.in-Next.field-0 (plain_prop_kind operand.kind) operand.span c.args.self.now.instants c.args.instant (environment_of-instants c.args.self.now) in
+    let outside : nat_lt c.args.instant (c.args.self.now.instants - 1) ≡ false = grind (arith, nat_tests, c.saturating_sub.ensures, c.if-instant-saturating_sub.false) in
+    ap (nat_lt c.args.instant) c.saturating_sub.ensures
+    ∙ outside
+    ∙ sym (ap (λ b. b && value env (plain_prop_kind operand.kind) (c.args.instant + 1)) outside)
+    ∙ sym next
+    ∙ sym (ap (λ kind. value env (plain_prop_kind kind) c.args.instant) c.in-Next.is)
