@@ -10,7 +10,7 @@
 --     atom_nodes slots basic         how many those of the parts of a form's proposition have
 use Rattle.std.specs.Prelude.{ℕ, Bool, List, [], ◌∷◌, ◌++◌, map, if◌then◌else◌}
 use Rattle.dcv_arena.specs.Diagram.{as_table, node_count}
-use Rattle.dcv_core.specs.Core.{PlainTruth, TruthConstant, TruthSlot, TruthNot, TruthAnd, TruthOr, TruthIff, PlainTruths, no_truths, truth_operand}
+use Rattle.dcv_core.specs.Core.{PlainTruth, TruthConstant, TruthSlot, TruthNot, TruthAnd, TruthOr, TruthIff, TruthShift, PlainTruths, no_truths, truth_operand}
 use Rattle.dcv_core.specs.Core.{PlainBasic, BasicConstant, BasicPoint, BasicRun, BasicEvery, BasicUnit, BasicSlen, BasicScount, BasicSdur}
 use Rattle.dcv_core.specs.Core.{BasicBack, BasicFore}
 use Rattle.dcv_core.specs.Holds.{truth_holds}
@@ -29,6 +29,8 @@ abbrev mutual
   parts (TruthAnd operands) = all_parts operands ++ TruthAnd operands ∷ []
   parts (TruthOr operands) = all_parts operands ++ TruthOr operands ∷ []
   parts (TruthIff operands) = all_parts operands ++ TruthIff operands ∷ []
+  -- of no core
+  parts (TruthShift forward p span) = []
 
   pub all_parts : PlainTruths → List PlainTruth
   all_parts no_truths = []

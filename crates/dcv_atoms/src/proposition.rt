@@ -57,6 +57,8 @@ fn part(
         Truth::And(operands) => list(alloc, arena, Join::And, operands, rounds),
         Truth::Or(operands) => list(alloc, arena, Join::Or, operands, rounds),
         Truth::Iff(operands) => list(alloc, arena, Join::Iff, operands, rounds),
+        // of no core
+        Truth::Shift(_, _, _) => Ok(arena.leaf(0)),
     }
 }
 

@@ -15,6 +15,8 @@ mutual
     TruthAnd : (operands : PlainTruths) → PlainTruth
     TruthOr : (operands : PlainTruths) → PlainTruth
     TruthIff : (operands : PlainTruths) → PlainTruth
+    -- a proposition one instant later, or earlier, with its place: of a goal whose shifts have no slots yet
+    TruthShift : (forward : Bool) → (operand : PlainTruth) → (span : Span) → PlainTruth
 
   pub data PlainTruths : Type 0 where
     no_truths : PlainTruths

@@ -1,9 +1,11 @@
 -- Which slots a proposition names.
 --     IsBelow k p        each slot in the proposition is one of the first k
 --     OpIsBelow k op     so is each slot in the operator's proposition, where it has one
-use Rattle.std.specs.Prelude.{ℕ, ◌<◌}
-use Rattle.dcv_core.specs.Core.{PlainTruth, TruthConstant, TruthSlot, TruthNot, TruthAnd, TruthOr, TruthIff, PlainTruths, no_truths, truth_operand, PlainBasic, BasicConstant, BasicPoint, BasicRun, BasicEvery, BasicUnit}
+--     CoreIsBelow k c    so is each slot in the core's propositions, where a quantifier has one slot more in use
+use Rattle.std.specs.Prelude.{ℕ, ◌+◌, ◌<◌}
+use Rattle.dcv_core.specs.Core.{PlainTruth, TruthConstant, TruthSlot, TruthNot, TruthAnd, TruthOr, TruthIff, TruthShift, PlainTruths, no_truths, truth_operand, PlainBasic, BasicConstant, BasicPoint, BasicRun, BasicEvery, BasicUnit}
 use Rattle.dcv_core.specs.Core.{BasicSlen, BasicScount, BasicSdur, BasicBack, BasicFore}
+use Rattle.dcv_core.specs.Core.{CoreTree, CoreAtom, CoreNot, CoreAnd, CoreOr, CoreIff, CoreChop, CoreStar, CoreExists}
 use Rattle.dcv_core.specs.Steps.{PlainOp, OpAtom, OpNot, OpAnd, OpOr, OpIff, OpChop, OpStar, OpExists}
 
 abbrev mutual
@@ -14,6 +16,7 @@ abbrev mutual
   IsBelow k (TruthAnd operands) = AreBelow k operands
   IsBelow k (TruthOr operands) = AreBelow k operands
   IsBelow k (TruthIff operands) = AreBelow k operands
+  IsBelow k (TruthShift forward p span) = IsBelow k p
 
   pub AreBelow : ℕ → PlainTruths → Type 0
   AreBelow k no_truths = Unit {0}
@@ -40,3 +43,13 @@ OpIsBelow k (OpIff c d) = Unit {0}
 OpIsBelow k (OpChop c d) = Unit {0}
 OpIsBelow k (OpStar d) = Unit {0}
 OpIsBelow k (OpExists d) = Unit {0}
+
+abbrev pub CoreIsBelow : ℕ → CoreTree → Type 0
+CoreIsBelow k (CoreAtom basic span) = BasicIsBelow k basic
+CoreIsBelow k (CoreNot d span) = CoreIsBelow k d
+CoreIsBelow k (CoreAnd c d span) = CoreIsBelow k c × CoreIsBelow k d
+CoreIsBelow k (CoreOr c d span) = CoreIsBelow k c × CoreIsBelow k d
+CoreIsBelow k (CoreIff c d span) = CoreIsBelow k c × CoreIsBelow k d
+CoreIsBelow k (CoreChop c d span) = CoreIsBelow k c × CoreIsBelow k d
+CoreIsBelow k (CoreStar d span) = CoreIsBelow k d
+CoreIsBelow k (CoreExists d span) = CoreIsBelow (k + 1) d

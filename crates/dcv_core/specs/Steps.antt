@@ -3,6 +3,7 @@
 --     PlainStep        a step: its operator, its place, the number of slots over which it is judged, and its core
 --     steps_from       the steps of a core, where some steps are before them
 --     PlainCore        what contracts see of a core: the number of declared variables, and the steps, without their cores
+--     IsCoreOf         a core has the steps of this tree; it has those of some tree only where some call has made it so
 --     Pushed           one step more
 --     Made             the steps of a core more
 --     HasRoom          there are numbers enough for these steps and their slots
@@ -84,6 +85,10 @@ without_core step = record { op = step.op; span = step.span; slots = step.slots 
 pub record PlainCore : Type 0 where
   pub declared : ℕ
   pub steps : List CoreStep
+
+-- the core has the steps of this tree, over its declared variables
+abbrev pub IsCoreOf : CoreTree → PlainCore → Type 0
+IsCoreOf tree core = core.steps ≡ map without_core (steps_of core.declared tree)
 
 -- the new core has one step more, which has this number
 pub record Pushed (old : PlainCore) (op : PlainOp) (span : Span) (slots : ℕ) (new : PlainCore) (number : ℕ) : Type 0 where

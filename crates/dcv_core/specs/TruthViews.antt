@@ -1,10 +1,10 @@
 -- The propositions and forms of the code as those of `Core`.
 use Rattle.std.specs.Prelude.{List, [], ◌∷◌}
-use Rattle.dcv_core.specs.declared.truths.Truth.{Truth, Constant, Slot, Not', And', Or', Iff'}
+use Rattle.dcv_core.specs.declared.truths.Truth.{Truth, Constant, Slot, Not', And', Or', Iff', Shift'}
 use Rattle.dcv_core.specs.declared.truths.Truth.TheBlock.{Row_of-Truth, end_of-Truth, more_of-Truth}
 use Rattle.dcv_core.specs.declared.truths.Basic.{Basic}
 use Rattle.dcv_core.specs.declared.truths.Basic.TheVariants.{Constant as ConstantForm, Point, Run, Every, Unit as TwoInstants, Slen, Scount, Sdur, Back, Fore}
-use Rattle.dcv_core.specs.Core.{PlainTruth, TruthConstant, TruthSlot, TruthNot, TruthAnd, TruthOr, TruthIff, PlainTruths, no_truths, truth_operand}
+use Rattle.dcv_core.specs.Core.{PlainTruth, TruthConstant, TruthSlot, TruthNot, TruthAnd, TruthOr, TruthIff, TruthShift, PlainTruths, no_truths, truth_operand}
 use Rattle.dcv_core.specs.Core.{PlainBasic, BasicConstant, BasicPoint, BasicRun, BasicEvery, BasicUnit, BasicSlen, BasicScount, BasicSdur, BasicBack, BasicFore}
 
 abbrev mutual
@@ -15,6 +15,7 @@ abbrev mutual
   plain_truth (And' shape operands) = TruthAnd (plain_truths operands)
   plain_truth (Or' shape operands) = TruthOr (plain_truths operands)
   plain_truth (Iff' shape operands) = TruthIff (plain_truths operands)
+  plain_truth (Shift' forward pointer operand span) = TruthShift forward (plain_truth operand) span
 
   pub plain_truths : {m : _} → Row_of-Truth m → PlainTruths
   plain_truths end_of-Truth = no_truths

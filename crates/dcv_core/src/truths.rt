@@ -2,7 +2,7 @@
 ghost use Rattle.std.specs.Prelude.{◌≡◌, map, IfOk};
 ghost use Rattle.dcv_core.specs.TruthViews.{plain_truth};
 
-use dcv_syntax::Relation as Rel;
+use dcv_syntax::{Relation as Rel, Span};
 use std::alloc::{AllocError, Global};
 
 /// A proposition over slots. A list may have any number of operands; `Iff` groups to the left.
@@ -16,6 +16,9 @@ pub enum Truth {
     And(Vec<Truth>),
     Or(Vec<Truth>),
     Iff(Vec<Truth>),
+    /// The operand one instant later, where the first part is true, or else earlier, with its place. It stands in a goal whose shifts have no
+    /// slots yet, and in no core.
+    Shift(bool, Box<Truth>, Span),
 }
 
 /// A form without a formula in it.
@@ -56,6 +59,11 @@ impl Truth {
             Truth::And(operands) => Ok(Truth::And(copy_all(alloc, operands)?)),
             Truth::Or(operands) => Ok(Truth::Or(copy_all(alloc, operands)?)),
             Truth::Iff(operands) => Ok(Truth::Iff(copy_all(alloc, operands)?)),
+            Truth::Shift(forward, operand, span) => Ok(Truth::Shift(
+                *forward,
+                Box::new(alloc, operand.copy(alloc)?)?,
+                *span,
+            )),
         }
     }
 }
