@@ -1,0 +1,210 @@
+-- Prior and next propositions of a goal: which slots they have, and the core that is left when they stand for these.
+--     Shift                       a direction, an operand, and a place
+--     same_truth, same_shift      two propositions, or shifts, are the same but for their places
+--     shifts_in core              the shifts of a goal, each once, an inner one before the outer one, from left to right
+--     placed_core k all core      the goal with a slot for each shift, where k variables are declared
+--     closed k all core           a track for each slot, which is what the shift is
+--     bound_shift k core          where the first shift stands that looks at a quantified variable
+use Rattle.std.specs.Prelude.{ℕ, suc, ◌+◌, Bool, true, false, ◌&&◌, ◌||◌, nat_eq, nat_le, nat_lt, if◌then◌else◌, List, [], ◌∷◌, ◌++◌, length, Option, None, Some}
+use Rattle.std.specs.Bool.{beq}
+use Rattle.std.specs.List.{list_any, position_or_len}
+use Rattle.std.specs.Option.{option_or}
+use Rattle.dcv_syntax.specs.declared.names.Span.{Span}
+use Rattle.dcv_core.specs.Core.{PlainTruth, TruthConstant, TruthSlot, TruthNot, TruthAnd, TruthOr, TruthIff, TruthShift, PlainTruths, no_truths, truth_operand}
+use Rattle.dcv_core.specs.Core.{PlainBasic, BasicConstant, BasicPoint, BasicRun, BasicEvery, BasicUnit, BasicSlen, BasicScount, BasicSdur, BasicBack, BasicFore}
+use Rattle.dcv_core.specs.Core.{CoreTree, CoreAtom, CoreNot, CoreAnd, CoreOr, CoreIff, CoreChop, CoreStar, CoreExists}
+
+pub record Shift : Type 0 where
+  pub forward : Bool
+  pub operand : PlainTruth
+  pub span : Span
+
+-- ---- the same but for places
+
+abbrev mutual
+  pub same_truth : PlainTruth → PlainTruth → Bool
+  same_truth (TruthConstant truth) (TruthConstant other) = beq truth other
+  same_truth (TruthSlot slot) (TruthSlot other) = nat_eq slot other
+  same_truth (TruthNot p) (TruthNot q) = same_truth p q
+  same_truth (TruthAnd operands) (TruthAnd others) = same_truths operands others
+  same_truth (TruthOr operands) (TruthOr others) = same_truths operands others
+  same_truth (TruthIff operands) (TruthIff others) = same_truths operands others
+  same_truth (TruthShift forward p span) (TruthShift other q other_span) = beq forward other && same_truth p q
+  same_truth _ _ = false
+
+  pub same_truths : PlainTruths → PlainTruths → Bool
+  same_truths no_truths no_truths = true
+  same_truths (truth_operand p operands) (truth_operand q others) = same_truth p q && same_truths operands others
+  same_truths _ _ = false
+
+abbrev pub same_shift : Shift → Shift → Bool
+same_shift shift other = beq shift.forward other.forward && same_truth shift.operand other.operand
+
+-- ---- the shifts of a goal
+
+-- one more, unless the same is there
+abbrev pub with_shift : List Shift → Shift → List Shift
+with_shift seen shift = if list_any (same_shift shift) seen then seen else seen ++ shift ∷ []
+
+abbrev mutual
+  pub collected : List Shift → PlainTruth → List Shift
+  collected seen (TruthConstant truth) = seen
+  collected seen (TruthSlot slot) = seen
+  collected seen (TruthNot p) = collected seen p
+  collected seen (TruthAnd operands) = all_collected seen operands
+  collected seen (TruthOr operands) = all_collected seen operands
+  collected seen (TruthIff operands) = all_collected seen operands
+  collected seen (TruthShift forward p span) = with_shift (collected seen p) (record { forward = forward; operand = p; span = span })
+
+  pub all_collected : List Shift → PlainTruths → List Shift
+  all_collected seen no_truths = seen
+  all_collected seen (truth_operand p operands) = all_collected (collected seen p) operands
+
+abbrev pub collected_of_basic : List Shift → PlainBasic → List Shift
+collected_of_basic seen (BasicConstant truth) = seen
+collected_of_basic seen (BasicPoint p) = collected seen p
+collected_of_basic seen (BasicRun p) = collected seen p
+collected_of_basic seen (BasicEvery p) = collected seen p
+collected_of_basic seen (BasicUnit p) = collected seen p
+collected_of_basic seen (BasicSlen relation n) = seen
+collected_of_basic seen (BasicScount p relation n) = collected seen p
+collected_of_basic seen (BasicSdur p relation n) = collected seen p
+collected_of_basic seen (BasicBack p slot) = collected seen p
+collected_of_basic seen (BasicFore p slot) = collected seen p
+
+abbrev pub collected_of : List Shift → CoreTree → List Shift
+collected_of seen (CoreAtom basic span) = collected_of_basic seen basic
+collected_of seen (CoreNot d span) = collected_of seen d
+collected_of seen (CoreAnd c d span) = collected_of (collected_of seen c) d
+collected_of seen (CoreOr c d span) = collected_of (collected_of seen c) d
+collected_of seen (CoreIff c d span) = collected_of (collected_of seen c) d
+collected_of seen (CoreChop c d span) = collected_of (collected_of seen c) d
+collected_of seen (CoreStar d span) = collected_of seen d
+collected_of seen (CoreExists d span) = collected_of seen d
+
+abbrev pub shifts_in : CoreTree → List Shift
+shifts_in core = collected_of [] core
+
+-- how many a goal may have
+abbrev pub most_shifts : ℕ
+most_shifts = 32
+
+-- ---- slots in their places
+
+-- a declared slot stays, and one of a quantifier goes behind those of the shifts
+abbrev pub placed_slot : ℕ → List Shift → ℕ → ℕ
+placed_slot k all slot = if nat_lt slot k then slot else slot + length all
+
+-- the slot of a shift
+abbrev pub slot_of : ℕ → List Shift → Shift → ℕ
+slot_of k all shift = k + position_or_len (same_shift shift) all
+
+abbrev mutual
+  pub placed : ℕ → List Shift → PlainTruth → PlainTruth
+  placed k all (TruthConstant truth) = TruthConstant truth
+  placed k all (TruthSlot slot) = TruthSlot (placed_slot k all slot)
+  placed k all (TruthNot p) = TruthNot (placed k all p)
+  placed k all (TruthAnd operands) = TruthAnd (all_placed k all operands)
+  placed k all (TruthOr operands) = TruthOr (all_placed k all operands)
+  placed k all (TruthIff operands) = TruthIff (all_placed k all operands)
+  placed k all (TruthShift forward p span) = TruthSlot (slot_of k all (record { forward = forward; operand = p; span = span }))
+
+  pub all_placed : ℕ → List Shift → PlainTruths → PlainTruths
+  all_placed k all no_truths = no_truths
+  all_placed k all (truth_operand p operands) = truth_operand (placed k all p) (all_placed k all operands)
+
+abbrev pub placed_basic : ℕ → List Shift → PlainBasic → PlainBasic
+placed_basic k all (BasicConstant truth) = BasicConstant truth
+placed_basic k all (BasicPoint p) = BasicPoint (placed k all p)
+placed_basic k all (BasicRun p) = BasicRun (placed k all p)
+placed_basic k all (BasicEvery p) = BasicEvery (placed k all p)
+placed_basic k all (BasicUnit p) = BasicUnit (placed k all p)
+placed_basic k all (BasicSlen relation n) = BasicSlen relation n
+placed_basic k all (BasicScount p relation n) = BasicScount (placed k all p) relation n
+placed_basic k all (BasicSdur p relation n) = BasicSdur (placed k all p) relation n
+placed_basic k all (BasicBack p slot) = BasicBack (placed k all p) (placed_slot k all slot)
+placed_basic k all (BasicFore p slot) = BasicFore (placed k all p) (placed_slot k all slot)
+
+abbrev pub placed_core : ℕ → List Shift → CoreTree → CoreTree
+placed_core k all (CoreAtom basic span) = CoreAtom (placed_basic k all basic) span
+placed_core k all (CoreNot d span) = CoreNot (placed_core k all d) span
+placed_core k all (CoreAnd c d span) = CoreAnd (placed_core k all c) (placed_core k all d) span
+placed_core k all (CoreOr c d span) = CoreOr (placed_core k all c) (placed_core k all d) span
+placed_core k all (CoreIff c d span) = CoreIff (placed_core k all c) (placed_core k all d) span
+placed_core k all (CoreChop c d span) = CoreChop (placed_core k all c) (placed_core k all d) span
+placed_core k all (CoreStar d span) = CoreStar (placed_core k all d) span
+placed_core k all (CoreExists d span) = CoreExists (placed_core k all d) span
+
+-- ---- a track for each slot
+
+-- the slot is what the shift is
+abbrev pub shift_basic : ℕ → List Shift → Shift → ℕ → PlainBasic
+shift_basic k all shift slot = if shift.forward then BasicFore (placed k all shift.operand) slot else BasicBack (placed k all shift.operand) slot
+
+-- these shifts have the slots from the next on; the last of them is closed first
+abbrev pub closed_from : ℕ → List Shift → ℕ → List Shift → CoreTree → CoreTree
+closed_from k all slot [] core = core
+closed_from k all slot (shift ∷ shifts) core =
+    CoreExists (CoreAnd (closed_from k all (suc slot) shifts core) (CoreAtom (shift_basic k all shift slot) shift.span) shift.span) shift.span
+
+abbrev pub closed : ℕ → List Shift → CoreTree → CoreTree
+closed k all core = closed_from k all k all core
+
+-- the core that is left of a goal
+abbrev pub shifted_core : ℕ → CoreTree → CoreTree
+shifted_core k core = closed k (shifts_in core) (placed_core k (shifts_in core) core)
+
+-- ---- shifts that look at quantified variables
+
+abbrev mutual
+  -- a slot behind the declared ones stands in it
+  pub names_bound : ℕ → PlainTruth → Bool
+  names_bound k (TruthConstant truth) = false
+  names_bound k (TruthSlot slot) = nat_le k slot
+  names_bound k (TruthNot p) = names_bound k p
+  names_bound k (TruthAnd operands) = some_names_bound k operands
+  names_bound k (TruthOr operands) = some_names_bound k operands
+  names_bound k (TruthIff operands) = some_names_bound k operands
+  names_bound k (TruthShift forward p span) = names_bound k p
+
+  pub some_names_bound : ℕ → PlainTruths → Bool
+  some_names_bound k no_truths = false
+  some_names_bound k (truth_operand p operands) = names_bound k p || some_names_bound k operands
+
+abbrev mutual
+  -- an outer shift is told before those in its operand
+  pub bound_in : ℕ → PlainTruth → Option ℕ
+  bound_in k (TruthConstant truth) = None
+  bound_in k (TruthSlot slot) = None
+  bound_in k (TruthNot p) = bound_in k p
+  bound_in k (TruthAnd operands) = first_bound k operands
+  bound_in k (TruthOr operands) = first_bound k operands
+  bound_in k (TruthIff operands) = first_bound k operands
+  bound_in k (TruthShift forward p span) = if names_bound k p then Some span.start else None
+
+  pub first_bound : ℕ → PlainTruths → Option ℕ
+  first_bound k no_truths = None
+  first_bound k (truth_operand p operands) = option_or (bound_in k p) (first_bound k operands)
+
+abbrev pub bound_in_basic : ℕ → PlainBasic → Option ℕ
+bound_in_basic k (BasicConstant truth) = None
+bound_in_basic k (BasicPoint p) = bound_in k p
+bound_in_basic k (BasicRun p) = bound_in k p
+bound_in_basic k (BasicEvery p) = bound_in k p
+bound_in_basic k (BasicUnit p) = bound_in k p
+bound_in_basic k (BasicSlen relation n) = None
+bound_in_basic k (BasicScount p relation n) = bound_in k p
+bound_in_basic k (BasicSdur p relation n) = bound_in k p
+bound_in_basic k (BasicBack p slot) = bound_in k p
+bound_in_basic k (BasicFore p slot) = bound_in k p
+
+-- at the byte where the shift begins
+abbrev pub bound_shift : ℕ → CoreTree → Option ℕ
+bound_shift k (CoreAtom basic span) = bound_in_basic k basic
+bound_shift k (CoreNot d span) = bound_shift k d
+bound_shift k (CoreAnd c d span) = option_or (bound_shift k c) (bound_shift k d)
+bound_shift k (CoreOr c d span) = option_or (bound_shift k c) (bound_shift k d)
+bound_shift k (CoreIff c d span) = option_or (bound_shift k c) (bound_shift k d)
+bound_shift k (CoreChop c d span) = option_or (bound_shift k c) (bound_shift k d)
+bound_shift k (CoreStar d span) = bound_shift k d
+bound_shift k (CoreExists d span) = bound_shift k d
