@@ -8,13 +8,13 @@ use Rattle.std.proofs.lemmas.List.{map-append, append_assoc, length-map}
 use Rattle.std.proofs.lemmas.Slice.Eq.{bytes_eq-Decides}
 use Rattle.dcv_syntax.specs.declared.names.Name.{Name}
 use Rattle.dcv_syntax.specs.declared.files.Macro.{Macro}
-use Rattle.dcv_syntax.specs.Plain.{PlainMacro, PlainPropKind, PropConstant, PropCall, PropNot, PropAnd, PropOr, PropImplies, PropIff, PlainArguments}
+use Rattle.dcv_syntax.specs.Plain.{PlainMacro, PlainPropKind, PropConstant, PropCall, PropNot, PropAnd, PropOr, PropImplies, PropIff, PropPrior, PropNext, PlainArguments}
 use Rattle.dcv_syntax.specs.Plain.{no_arguments, argument, PlainPropOperands, no_prop_operands, prop_operand}
 use Rattle.dcv_syntax.specs.Views.{plain_macro}
 use Rattle.dcv_logic.specs.Environment.{found}
 use Rattle.dcv_logic.specs.Newest.{IsNewest}
 use Rattle.dcv_scope.specs.declared.measures.MacroMeasure.{MacroMeasure}
-use Rattle.dcv_core.specs.Core.{PlainTruth, TruthConstant, TruthNot, TruthAnd, TruthOr, TruthIff, no_truths, truth_operand}
+use Rattle.dcv_core.specs.Core.{PlainTruth, TruthConstant, TruthNot, TruthAnd, TruthOr, TruthIff, TruthShift, no_truths, truth_operand}
 use Rattle.dcv_scope.specs.CoreOf.{Sight, expansion_of, with_expansions, declared_slots, truth_of, truth_of_call}
 use Rattle.dcv_scope.specs.CoreOf.{argument_truths, operand_truths}
 use Rattle.dcv_scope.specs.Measures.{Measured, macro_measure, with_measures}
@@ -148,6 +148,8 @@ module _ (sight : Sight) (k : ℕ) where
     truth-slots (PropOr operands) = ap TruthOr (operands-slots operands)
     truth-slots (PropImplies p p_span q q_span) = λ i. TruthOr (truth_operand (TruthNot (truth-slots p i)) (truth_operand (truth-slots q i) no_truths))
     truth-slots (PropIff operands) = ap TruthIff (operands-slots operands)
+    truth-slots (PropPrior form p span) = ap (λ truth. TruthShift false truth form) (truth-slots p)
+    truth-slots (PropNext form p span) = ap (λ truth. TruthShift true truth form) (truth-slots p)
 
     arguments-slots : (arguments : PlainArguments) → argument_truths (record sight { slots = k }) arguments ≡ argument_truths sight arguments
     arguments-slots no_arguments = refl

@@ -1,7 +1,9 @@
 pub mod Calls
 pub mod Capped
 pub mod Examples
+pub mod Faulting
 pub mod GoalCore
+pub mod GoalRoom
 pub mod InSight
 pub mod LinearRows
 pub mod Linearity

@@ -6,7 +6,7 @@ use Rattle.std.specs.List.{zip}
 use Rattle.dcv_syntax.specs.declared.names.Name.{Name}
 use Rattle.dcv_syntax.specs.declared.names.Span.{Span}
 use Rattle.dcv_syntax.specs.Spans.{covering}
-use Rattle.dcv_syntax.specs.Plain.{PlainPropKind, PropConstant, PropCall, PropNot, PropAnd, PropOr, PropImplies, PropIff, PlainArguments, no_arguments, argument, PlainPropOperands, no_prop_operands, prop_operand, PlainFormulaKind, FormulaConstant, FormulaPt, FormulaExt, FormulaPoint, FormulaRun, FormulaEvery, FormulaUnit, FormulaSlen, FormulaScount, FormulaSdur, FormulaCall, FormulaNot, FormulaAnd, FormulaOr, FormulaImplies, FormulaIff, FormulaChop, FormulaStar, FormulaSomewhere, FormulaEverywhere, FormulaExists, FormulaForAll, PlainFormulaOperands, no_formula_operands, formula_operand, arguments_of, PlainMacroBody, FormulaBody, PropBody, PlainMacro, PlainFile}
+use Rattle.dcv_syntax.specs.Plain.{PlainPropKind, PropConstant, PropCall, PropNot, PropAnd, PropOr, PropImplies, PropIff, PropPrior, PropNext, PlainArguments, no_arguments, argument, PlainPropOperands, no_prop_operands, prop_operand, PlainFormulaKind, FormulaConstant, FormulaPt, FormulaExt, FormulaPoint, FormulaRun, FormulaEvery, FormulaUnit, FormulaSlen, FormulaScount, FormulaSdur, FormulaCall, FormulaNot, FormulaAnd, FormulaOr, FormulaImplies, FormulaIff, FormulaChop, FormulaStar, FormulaSomewhere, FormulaEverywhere, FormulaExists, FormulaForAll, PlainFormulaOperands, no_formula_operands, formula_operand, arguments_of, PlainMacroBody, FormulaBody, PropBody, PlainMacro, PlainFile}
 use Rattle.dcv_word.specs.Behaviour.{Word}
 use Rattle.dcv_language.specs.Operations.{with_track, some_track, iff}
 use Rattle.dcv_logic.specs.Track.{Track, truth_at, slot_track}
@@ -17,9 +17,11 @@ use Rattle.dcv_logic.specs.Satisfaction.{compares, satisfies, macro_holds, all_h
 use Rattle.dcv_logic.specs.Models.{declared_from, macro_meaning, body_meaning, with_macros, goal_environment}
 use Rattle.dcv_logic.proofs.InWords.{track-values}
 use Rattle.dcv_core.specs.Core.{PlainTruth, TruthSlot, CoreTree, CoreAnd, CoreOr, CoreIff, CoreChop}
-use Rattle.dcv_core.specs.Holds.{letter_at, all_truths, some_truth, iff_truths, holds_at, core_holds}
-use Rattle.dcv_scope.specs.CoreOf.{Expansion, PropExpansion, FormulaExpansion, Sight, bind_slot, bind_arguments, truth_of_call, truth_of, argument_truths, operand_truths, core_of_macro, core_of, joined, body_expansion, expansion_of, with_expansions, declared_slots, goal_sight}
-use Rattle.dcv_scope.specs.Laws.{CoreMeansText, WordsAreModels}
+use Rattle.dcv_core.specs.Holds.{letter_at, value_at, all_values, some_value, iff_values, core_holds, expanded_holds}
+use Rattle.dcv_scope.specs.CoreOf.{Expansion, PropExpansion, FormulaExpansion, Sight, bind_slot, bind_arguments, truth_of_call, truth_of, argument_truths, operand_truths, core_of_macro, core_of, joined, body_expansion, expansion_of, with_expansions, declared_slots, goal_sight, expanded_file, core_of_file}
+use Rattle.dcv_tracks.proofs.Closing.{goal_holds_on_tracks, core_holds_on_word}
+use Rattle.dcv_scope.specs.Laws.{GoalMeansText, CoreMeansText, WordsAreModels}
+use Rattle.std.proofs.lemmas.Bool.Decides.{nat_tests}
 use Rattle.std.proofs.Math.Bool.{or-false}
 use Rattle.dcv_core.proofs.Tracks.{with_track-length, with_track-letter, slot_track-truth, Further, further_itself, further_on, further_by_track, slot_further, slot_behind}
 use Rattle.dcv_core.proofs.Chops.{and-true, and-assoc, or-assoc, chop-one, chop-assoc, somewhere-chop, each_true}
@@ -30,7 +32,7 @@ use Rattle.dcv_language.proofs.Behaviours.{some_track-same}
 
 -- a truth has the truths of a track over a word, and over each further one
 abbrev pub Reads : Word → Track → PlainTruth → Type 0
-Reads word track truth = (further : Word) → Further word further → (i : ℕ) → i < length word → truth_at track i ≡ holds_at truth further i
+Reads word track truth = (further : Word) → Further word further → (i : ℕ) → i < length word → truth_at track i ≡ value_at truth further i
 
 abbrev pub AllRead : Word → List Track → List PlainTruth → Type 0
 AllRead word [] [] = Unit {0}
@@ -54,10 +56,10 @@ MacrosAgree word None (Some e) = ⊥
 MacrosAgree word (Some m) None = ⊥
 MacrosAgree word (Some (PropMeaning m)) (Some (PropExpansion c)) =
     (further : Word) → Further word further → (tracks : List Track) (truths : List PlainTruth) → AllRead further tracks truths
-    → (i : ℕ) → i < length further → m tracks i ≡ holds_at (c truths) further i
+    → (i : ℕ) → i < length further → m tracks i ≡ value_at (c truths) further i
 MacrosAgree word (Some (FormulaMeaning m)) (Some (FormulaExpansion c)) =
     (further : Word) → Further word further → (tracks : List Track) (truths : List PlainTruth) → AllRead further tracks truths
-    → (k : ℕ) → Widths k further → (b e : ℕ) → b ≤ e → e < length further → m tracks b e ≡ core_holds (c k truths) further b e
+    → (k : ℕ) → Widths k further → (b e : ℕ) → b ≤ e → e < length further → m tracks b e ≡ expanded_holds (c k truths) further b e
 MacrosAgree word (Some (PropMeaning m)) (Some (FormulaExpansion c)) = ⊥
 MacrosAgree word (Some (FormulaMeaning m)) (Some (PropExpansion c)) = ⊥
 
@@ -154,11 +156,19 @@ widths_bind word k track w e i lt =
 
 -- ---- propositions
 
+-- what is asked only where there is a next instant
+and_later : (i n : ℕ) (x y : Bool) → (i < n → x ≡ y) → (nat_lt i n && x) ≡ (nat_lt i n && y)
+and_later i n x y same = where_there (nat_lt i n) refl
+  where
+    where_there : (there : Bool) → nat_lt i n ≡ there → (there && x) ≡ (there && y)
+    where_there true is = same (grind (arith, nat_tests))
+    where_there false is = refl
+
 module _ (env : Environment) (sight : Sight) where
   -- a name with its arguments
   call_means : (word : Word) (track : Option Track) (truth : Option PlainTruth) (m : Option Meaning) (c : Option Expansion) (tracks : List Track) (truths : List PlainTruth)
       → TracksAgree word track truth → MacrosAgree word m c → AllRead word tracks truths → (i : ℕ) → i < length word
-      → call_value track m tracks i ≡ holds_at (truth_of_call truth c truths) word i
+      → call_value track m tracks i ≡ value_at (truth_of_call truth c truths) word i
   call_means word (Some track) (Some truth) m c [] [] t a r i lt = t word (further_itself word) i lt
   call_means word (Some track) (Some truth) m c [] (x ∷ truths) t a r i lt = absurd r
   call_means word (Some track) (Some truth) m c (x ∷ tracks) [] t a r i lt = absurd r
@@ -175,7 +185,7 @@ module _ (env : Environment) (sight : Sight) where
   call_means word None None (Some (FormulaMeaning m)) (Some (FormulaExpansion c)) tracks truths t a r i lt = refl
 
   mutual
-    prop_means : (kind : PlainPropKind) (word : Word) → Agree word env sight → (i : ℕ) → i < length word → value env kind i ≡ holds_at (truth_of sight kind) word i
+    prop_means : (kind : PlainPropKind) (word : Word) → Agree word env sight → (i : ℕ) → i < length word → value env kind i ≡ value_at (truth_of sight kind) word i
     prop_means (PropConstant truth) word a i lt = refl
     prop_means (PropCall name arguments) word a i lt =
         call_means word (found env.tracks name.text) (found sight.truths name.text) (found env.macros name.text) (found sight.macros name.text)
@@ -186,8 +196,12 @@ module _ (env : Environment) (sight : Sight) where
     prop_means (PropImplies p p_span q q_span) word a i lt =
         let one = prop_means p word a i lt in
         let two = prop_means q word a i lt in
-        (λ j. not (one j) || two j) ∙ ap (λ b. not (holds_at (truth_of sight p) word i) || b) (sym (or-false (holds_at (truth_of sight q) word i)))
+        (λ j. not (one j) || two j) ∙ ap (λ b. not (value_at (truth_of sight p) word i) || b) (sym (or-false (value_at (truth_of sight q) word i)))
     prop_means (PropIff operands) word a i lt = iffs_mean operands word a i lt true true refl
+    prop_means (PropPrior form p span) word a i lt = ap (λ b. nat_lt 0 i && b) (prop_means p word a (i - 1) (omega (arith, lt)))
+    prop_means (PropNext form p span) word a i lt =
+        ap (λ n. nat_lt (i + 1) n && value env p (i + 1)) a.instants
+        ∙ and_later (i + 1) (length word) (value env p (i + 1)) (value_at (truth_of sight p) word (i + 1)) (prop_means p word a (i + 1))
 
     arguments_read : (arguments : PlainArguments) (word : Word) → Agree word env sight → AllRead word (argument_tracks env arguments) (argument_truths sight arguments)
     arguments_read no_arguments word a = tt
@@ -199,14 +213,14 @@ module _ (env : Environment) (sight : Sight) where
       arguments_read arguments word a,
     )
 
-    all_mean : (operands : PlainPropOperands) (word : Word) → Agree word env sight → (i : ℕ) → i < length word → all_true env operands i ≡ all_truths (operand_truths sight operands) (letter_at word i)
+    all_mean : (operands : PlainPropOperands) (word : Word) → Agree word env sight → (i : ℕ) → i < length word → all_true env operands i ≡ all_values (operand_truths sight operands) word i
     all_mean no_prop_operands word a i lt = refl
     all_mean (prop_operand p span outer operands) word a i lt =
         let one = prop_means p word a i lt in
         let two = all_mean operands word a i lt in
         λ j. one j && two j
 
-    some_means : (operands : PlainPropOperands) (word : Word) → Agree word env sight → (i : ℕ) → i < length word → some_true env operands i ≡ some_truth (operand_truths sight operands) (letter_at word i)
+    some_means : (operands : PlainPropOperands) (word : Word) → Agree word env sight → (i : ℕ) → i < length word → some_true env operands i ≡ some_value (operand_truths sight operands) word i
     some_means no_prop_operands word a i lt = refl
     some_means (prop_operand p span outer operands) word a i lt =
         let one = prop_means p word a i lt in
@@ -214,17 +228,17 @@ module _ (env : Environment) (sight : Sight) where
         λ j. one j || two j
 
     iffs_mean : (operands : PlainPropOperands) (word : Word) → Agree word env sight → (i : ℕ) → i < length word → (x y : Bool) → x ≡ y
-        → iff_all env x operands i ≡ iff_truths y (operand_truths sight operands) (letter_at word i)
+        → iff_all env x operands i ≡ iff_values y (operand_truths sight operands) word i
     iffs_mean no_prop_operands word a i lt x y same = same
     iffs_mean (prop_operand p span outer operands) word a i lt x y same =
         let one = prop_means p word a i lt in
-        iffs_mean operands word a i lt (iff x (value env p i)) (iff y (holds_at (truth_of sight p) word i)) (λ j. iff (same j) (one j))
+        iffs_mean operands word a i lt (iff x (value env p i)) (iff y (value_at (truth_of sight p) word i)) (λ j. iff (same j) (one j))
 
 -- ---- formulas
 
 formula_call_means : (word : Word) (k : ℕ) (span : Span) (m : Option Meaning) (c : Option Expansion) (tracks : List Track) (truths : List PlainTruth)
     → MacrosAgree word m c → AllRead word tracks truths → Widths k word → (b e : ℕ) → b ≤ e → e < length word
-    → macro_holds m tracks b e ≡ core_holds (core_of_macro c k truths span) word b e
+    → macro_holds m tracks b e ≡ expanded_holds (core_of_macro c k truths span) word b e
 formula_call_means word k span None None tracks truths a r w b e le lt = refl
 formula_call_means word k span None (Some c) tracks truths a r w b e le lt = absurd a
 formula_call_means word k span (Some (PropMeaning m)) None tracks truths a r w b e le lt = absurd a
@@ -237,17 +251,17 @@ formula_call_means word k span (Some (FormulaMeaning m)) (Some (FormulaExpansion
 
 -- a formula means its core
 abbrev Means : Environment → Sight → Word → PlainFormulaKind → Span → Type 0
-Means env sight word kind span = (b e : ℕ) → b ≤ e → e < length word → satisfies env kind b e ≡ core_holds (core_of sight kind span) word b e
+Means env sight word kind span = (b e : ℕ) → b ≤ e → e < length word → satisfies env kind b e ≡ expanded_holds (core_of sight kind span) word b e
 
 module _ (env : Environment) (sight : Sight) (word : Word) (a : Agree word env sight) (b e : ℕ) (le : b ≤ e) (lt : e < length word) where
-  at_instant : (p : PlainPropKind) (i : ℕ) → i ≤ e → value env p i ≡ holds_at (truth_of sight p) word i
+  at_instant : (p : PlainPropKind) (i : ℕ) → i ≤ e → value env p i ≡ value_at (truth_of sight p) word i
   at_instant p i hi = prop_means env sight p word a i (omega (arith, hi, lt))
 
-  run_means : (p : PlainPropKind) → (nat_lt b e && each_between b (e - 1) (value env p)) ≡ (nat_lt b e && each_between b (e - 1) (holds_at (truth_of sight p) word))
-  run_means p = ap (λ t. nat_lt b e && t) (each_between-same (value env p) (holds_at (truth_of sight p) word) b (e - 1) (λ m lo hi. at_instant p m (omega (arith, hi))))
+  run_means : (p : PlainPropKind) → (nat_lt b e && each_between b (e - 1) (value env p)) ≡ (nat_lt b e && each_between b (e - 1) (value_at (truth_of sight p) word))
+  run_means p = ap (λ t. nat_lt b e && t) (each_between-same (value env p) (value_at (truth_of sight p) word) b (e - 1) (λ m lo hi. at_instant p m (omega (arith, hi))))
 
-  every_means : (p : PlainPropKind) → each_between b e (value env p) ≡ each_between b e (holds_at (truth_of sight p) word)
-  every_means p = each_between-same (value env p) (holds_at (truth_of sight p) word) b e (λ m lo hi. at_instant p m hi)
+  every_means : (p : PlainPropKind) → each_between b e (value env p) ≡ each_between b e (value_at (truth_of sight p) word)
+  every_means p = each_between-same (value env p) (value_at (truth_of sight p) word) b e (λ m lo hi. at_instant p m hi)
 
 -- joined from the left, the core of a list says of the operands behind the first what the text says
 mutual
@@ -261,9 +275,9 @@ mutual
   formula_means (FormulaUnit p) span env sight word a w b e le lt = ap (λ t. e == b + 1 && t) (at_instant env sight word a b e le lt p.kind b le)
   formula_means (FormulaSlen relation n) span env sight word a w b e le lt = refl
   formula_means (FormulaScount p relation n) span env sight word a w b e le lt =
-      ap (λ c. compares relation c n.value) (count_between-same (value env p.kind) (holds_at (truth_of sight p.kind) word) b e (λ m lo hi. at_instant env sight word a b e le lt p.kind m hi))
+      ap (λ c. compares relation c n.value) (count_between-same (value env p.kind) (value_at (truth_of sight p.kind) word) b e (λ m lo hi. at_instant env sight word a b e le lt p.kind m hi))
   formula_means (FormulaSdur p relation n) span env sight word a w b e le lt =
-      ap (λ c. compares relation c n.value) (count_from-same (value env p.kind) (holds_at (truth_of sight p.kind) word) b (e - b) (λ m lo hi. at_instant env sight word a b e le lt p.kind m (omega (arith, hi, le))))
+      ap (λ c. compares relation c n.value) (count_from-same (value env p.kind) (value_at (truth_of sight p.kind) word) b (e - b) (λ m lo hi. at_instant env sight word a b e le lt p.kind m (omega (arith, hi, le))))
   formula_means (FormulaCall name arguments) span env sight word a w b e le lt =
       formula_call_means word sight.slots span (found env.macros name.text) (found sight.macros name.text) (argument_tracks env (arguments_of arguments)) (argument_truths sight (arguments_of arguments))
       (a.macros name.text) (arguments_read env sight (arguments_of arguments) word a) w b e le lt
@@ -286,66 +300,66 @@ mutual
       ∙ iff_list_means operands outer (core_of sight d d_span) env sight word a w b e le lt
   formula_means (FormulaChop no_formula_operands) span env sight word a w b e le lt = sym (and-true (b == e))
   formula_means (FormulaChop (formula_operand d d_span outer operands)) span env sight word a w b e le lt =
-      some_between-same (λ m. satisfies env d b m && chop_holds env operands m e) (λ m. core_holds (core_of sight d d_span) word b m && chop_holds env operands m e) b e
+      some_between-same (λ m. satisfies env d b m && chop_holds env operands m e) (λ m. expanded_holds (core_of sight d d_span) word b m && chop_holds env operands m e) b e
       (λ m lo hi. ap (λ t. t && chop_holds env operands m e) (formula_means d d_span env sight word a w b m lo (omega (arith, hi, lt))))
       ∙ chops_mean operands outer (core_of sight d d_span) env sight word a w b e le lt
   formula_means (FormulaStar d d_span) span env sight word a w b e le lt =
-      star-same (satisfies env d) (core_holds (core_of sight d d_span) word) (e - b) b e
+      star-same (satisfies env d) (expanded_holds (core_of sight d d_span) word) (e - b) b e
       (λ m k lo up hi. formula_means d d_span env sight word a w m k up (omega (arith, hi, lt)))
   formula_means (FormulaSomewhere d d_span) span env sight word a w b e le lt =
       some_between-same _ _ b e (λ x lo hi. some_between-same _ _ x e (λ y up high. formula_means d d_span env sight word a w x y up (omega (arith, high, lt))))
-      ∙ sym (somewhere-chop (core_holds (core_of sight d d_span) word) b e)
+      ∙ sym (somewhere-chop (expanded_holds (core_of sight d d_span) word) b e)
   formula_means (FormulaEverywhere d d_span) span env sight word a w b e le lt =
       ap not (
       some_between-same _ _ b e (λ x lo hi. some_between-same _ _ x e (λ y up high. ap not (formula_means d d_span env sight word a w x y up (omega (arith, high, lt)))))
-      ∙ sym (somewhere-chop (λ x y. not (core_holds (core_of sight d d_span) word x y)) b e))
+      ∙ sym (somewhere-chop (λ x y. not (expanded_holds (core_of sight d d_span) word x y)) b e))
   formula_means (FormulaExists name d d_span) span env sight word a w b e le lt =
       let inner = core_of (bind_slot sight name.text) d d_span in
       ap (λ n. some_track n (λ track. satisfies (bind env name.text track) d b e)) a.instants
-      ∙ some_track-same (length word) (λ track. satisfies (bind env name.text track) d b e) (λ track. core_holds inner (with_track word track) b e)
+      ∙ some_track-same (length word) (λ track. satisfies (bind env name.text track) d b e) (λ track. expanded_holds inner (with_track word track) b e)
       (λ track level. formula_means d d_span (bind env name.text track) (bind_slot sight name.text) (with_track word track)
       (agree_bind word env sight name.text track a w level) (widths_bind word sight.slots track w level) b e le (omega (arith, lt, with_track-length word track level)))
   formula_means (FormulaForAll name d d_span) span env sight word a w b e le lt =
       let inner = core_of (bind_slot sight name.text) d d_span in
       ap not (
       ap (λ n. some_track n (λ track. not (satisfies (bind env name.text track) d b e))) a.instants
-      ∙ some_track-same (length word) (λ track. not (satisfies (bind env name.text track) d b e)) (λ track. not (core_holds inner (with_track word track) b e))
+      ∙ some_track-same (length word) (λ track. not (satisfies (bind env name.text track) d b e)) (λ track. not (expanded_holds inner (with_track word track) b e))
       (λ track level. ap not (formula_means d d_span (bind env name.text track) (bind_slot sight name.text) (with_track word track)
       (agree_bind word env sight name.text track a w level) (widths_bind word sight.slots track w level) b e le (omega (arith, lt, with_track-length word track level)))))
 
   ands_mean : (operands : PlainFormulaOperands) (first : Span) (so_far : CoreTree) (env : Environment) (sight : Sight) (word : Word) → Agree word env sight → Widths sight.slots word
-      → (b e : ℕ) → b ≤ e → e < length word → (core_holds so_far word b e && all_hold env operands b e) ≡ core_holds (joined sight CoreAnd first operands so_far) word b e
-  ands_mean no_formula_operands first so_far env sight word a w b e le lt = and-true (core_holds so_far word b e)
+      → (b e : ℕ) → b ≤ e → e < length word → (expanded_holds so_far word b e && all_hold env operands b e) ≡ expanded_holds (joined sight CoreAnd first operands so_far) word b e
+  ands_mean no_formula_operands first so_far env sight word a w b e le lt = and-true (expanded_holds so_far word b e)
   ands_mean (formula_operand d d_span outer operands) first so_far env sight word a w b e le lt =
       let one = formula_means d d_span env sight word a w b e le lt in
-      sym (and-assoc (core_holds so_far word b e) (satisfies env d b e) (all_hold env operands b e))
-      ∙ ap (λ t. (core_holds so_far word b e && t) && all_hold env operands b e) one
+      sym (and-assoc (expanded_holds so_far word b e) (satisfies env d b e) (all_hold env operands b e))
+      ∙ ap (λ t. (expanded_holds so_far word b e && t) && all_hold env operands b e) one
       ∙ ands_mean operands first (CoreAnd so_far (core_of sight d d_span) (covering first outer)) env sight word a w b e le lt
 
   ors_mean : (operands : PlainFormulaOperands) (first : Span) (so_far : CoreTree) (env : Environment) (sight : Sight) (word : Word) → Agree word env sight → Widths sight.slots word
-      → (b e : ℕ) → b ≤ e → e < length word → (core_holds so_far word b e || some_hold env operands b e) ≡ core_holds (joined sight CoreOr first operands so_far) word b e
-  ors_mean no_formula_operands first so_far env sight word a w b e le lt = or-false (core_holds so_far word b e)
+      → (b e : ℕ) → b ≤ e → e < length word → (expanded_holds so_far word b e || some_hold env operands b e) ≡ expanded_holds (joined sight CoreOr first operands so_far) word b e
+  ors_mean no_formula_operands first so_far env sight word a w b e le lt = or-false (expanded_holds so_far word b e)
   ors_mean (formula_operand d d_span outer operands) first so_far env sight word a w b e le lt =
       let one = formula_means d d_span env sight word a w b e le lt in
-      sym (or-assoc (core_holds so_far word b e) (satisfies env d b e) (some_hold env operands b e))
-      ∙ ap (λ t. (core_holds so_far word b e || t) || some_hold env operands b e) one
+      sym (or-assoc (expanded_holds so_far word b e) (satisfies env d b e) (some_hold env operands b e))
+      ∙ ap (λ t. (expanded_holds so_far word b e || t) || some_hold env operands b e) one
       ∙ ors_mean operands first (CoreOr so_far (core_of sight d d_span) (covering first outer)) env sight word a w b e le lt
 
   iff_list_means : (operands : PlainFormulaOperands) (first : Span) (so_far : CoreTree) (env : Environment) (sight : Sight) (word : Word) → Agree word env sight → Widths sight.slots word
-      → (b e : ℕ) → b ≤ e → e < length word → iff_holds env (core_holds so_far word b e) operands b e ≡ core_holds (joined sight CoreIff first operands so_far) word b e
+      → (b e : ℕ) → b ≤ e → e < length word → iff_holds env (expanded_holds so_far word b e) operands b e ≡ expanded_holds (joined sight CoreIff first operands so_far) word b e
   iff_list_means no_formula_operands first so_far env sight word a w b e le lt = refl
   iff_list_means (formula_operand d d_span outer operands) first so_far env sight word a w b e le lt =
       let one = formula_means d d_span env sight word a w b e le lt in
-      ap (λ t. iff_holds env (iff (core_holds so_far word b e) t) operands b e) one
+      ap (λ t. iff_holds env (iff (expanded_holds so_far word b e) t) operands b e) one
       ∙ iff_list_means operands first (CoreIff so_far (core_of sight d d_span) (covering first outer)) env sight word a w b e le lt
 
   chops_mean : (operands : PlainFormulaOperands) (first : Span) (so_far : CoreTree) (env : Environment) (sight : Sight) (word : Word) → Agree word env sight → Widths sight.slots word
       → (b e : ℕ) → b ≤ e → e < length word
-      → some_between b e (λ m. core_holds so_far word b m && chop_holds env operands m e) ≡ core_holds (joined sight CoreChop first operands so_far) word b e
-  chops_mean no_formula_operands first so_far env sight word a w b e le lt = chop-one (λ m. core_holds so_far word b m) b e le
+      → some_between b e (λ m. expanded_holds so_far word b m && chop_holds env operands m e) ≡ expanded_holds (joined sight CoreChop first operands so_far) word b e
+  chops_mean no_formula_operands first so_far env sight word a w b e le lt = chop-one (λ m. expanded_holds so_far word b m) b e le
   chops_mean (formula_operand d d_span outer operands) first so_far env sight word a w b e le lt =
-      let front = core_holds so_far word in
-      let here = core_holds (core_of sight d d_span) word in
+      let front = expanded_holds so_far word in
+      let here = expanded_holds (core_of sight d d_span) word in
       some_between-same _ _ b e (λ l lo hi. ap (λ t. front b l && t)
       (some_between-same _ _ l e (λ m low high. ap (λ t. t && chop_holds env operands m e) (formula_means d d_span env sight word a w l m low (omega (arith, high, lt))))))
       ∙ sym (chop-assoc front here (chop_holds env operands) b e)
@@ -410,12 +424,24 @@ pub goal_slots : (macros : List PlainMacro) (sight : Sight) → (with_expansions
 goal_slots [] sight = refl
 goal_slots (m ∷ macros) sight = goal_slots macros _
 
-pub core_means_text : CoreMeansText
-core_means_text file word widths b e le lt =
+pub goal_means_text : GoalMeansText
+goal_means_text file word widths b e le lt =
     let w : Widths (length file.variables) word = λ i below. widths i [] below in
     let slots : (goal_sight file).slots ≡ length file.variables = goal_slots file.macros _ in
     sym (formula_means file.goal.formula.kind file.goal.formula.span (goal_environment file word) (goal_sight file) word (goal_agrees file word w) (λ i below. w i below ∙ sym slots) b e le lt)
 
+-- ---- the core
+
+pub core_means_text : CoreMeansText
+core_means_text file word tracks behaves none are b e le lt =
+    goal_holds_on_tracks (length file.variables) (expanded_file file) word tracks behaves none are b e le lt ∙ goal_means_text file word behaves.widths b e le lt
+
 pub words_are_models : WordsAreModels
-words_are_models file [] behaves = refl
-words_are_models file (letter ∷ letters) behaves = core_means_text file (letter ∷ letters) behaves.widths 0 (length letters) (omega arith) (omega arith)
+words_are_models file [] none behaves = refl
+words_are_models file (letter ∷ letters) none behaves =
+    let k = length file.variables in
+    let last : length (letter ∷ letters) - 1 ≡ length letters = omega arith in
+    ap (core_holds (core_of_file file) (letter ∷ letters) 0) (sym last)
+    ∙ core_holds_on_word k (expanded_file file) (letter ∷ letters) behaves none
+    ∙ ap (expanded_holds (expanded_file file) (letter ∷ letters) 0) last
+    ∙ goal_means_text file (letter ∷ letters) behaves.widths 0 (length letters) (omega arith) (omega arith)

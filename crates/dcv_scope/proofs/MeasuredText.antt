@@ -1,7 +1,7 @@
 -- Linear measures of a text, at arguments, are the measures of the text.
 use Rattle.std.proofs.Common.{◌≡◌, ℕ, Bool, true, false, cond, List, ◌∷◌, Option, Some, refl, sym, ap, ◌∙◌}
 use Rattle.std.specs.Prelude.{bytes_eq}
-use Rattle.dcv_syntax.specs.Plain.{PlainPropKind, PropConstant, PropCall, PropNot, PropAnd, PropOr, PropImplies, PropIff, PlainArguments}
+use Rattle.dcv_syntax.specs.Plain.{PlainPropKind, PropConstant, PropCall, PropNot, PropAnd, PropOr, PropImplies, PropIff, PropPrior, PropNext, PlainArguments}
 use Rattle.dcv_syntax.specs.Plain.{no_arguments, argument, PlainPropOperands, no_prop_operands, prop_operand, PlainFormulaKind, FormulaConstant}
 use Rattle.dcv_syntax.specs.Plain.{FormulaPt, FormulaExt, FormulaPoint, FormulaRun, FormulaEvery, FormulaUnit, FormulaSlen, FormulaScount}
 use Rattle.dcv_syntax.specs.Plain.{FormulaSdur, FormulaCall, FormulaNot, FormulaAnd, FormulaOr, FormulaImplies, FormulaIff, FormulaChop, FormulaStar}
@@ -48,6 +48,8 @@ module _ (outer : List Measure) (sight : LinearSight) (measured : Measured) (agr
         let refuted = under_at 1 1 (linear_of_prop sight p) outer (measure_of_prop measured p) (prop_agrees p) in
         under_at 1 1 _ outer _ (at-beside (linear_under 1 1 0 (linear_of_prop sight p)) (linear_of_prop sight q) outer ∙ (λ i. beside (refuted i) (prop_agrees q i)))
     prop_agrees (PropIff operands) = under_at 1 1 _ outer _ (prop_operands_agree operands (constant nothing) ∙ from_nothing outer (measure_of_prop_operands measured operands))
+    prop_agrees (PropPrior form p span) = under_at 1 1 (linear_of_prop sight p) outer (measure_of_prop measured p) (prop_agrees p)
+    prop_agrees (PropNext form p span) = under_at 1 1 (linear_of_prop sight p) outer (measure_of_prop measured p) (prop_agrees p)
 
     pub arguments_agree : (arguments : PlainArguments) → values outer (linear_of_arguments sight arguments) ≡ measures_of_arguments measured arguments
     arguments_agree no_arguments = refl

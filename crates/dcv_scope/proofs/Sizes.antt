@@ -5,12 +5,13 @@ use Rattle.std.specs.List.{zip, slice_get}
 use Rattle.dcv_syntax.specs.declared.names.Name.{Name}
 use Rattle.dcv_syntax.specs.declared.names.Span.{Span}
 use Rattle.dcv_syntax.specs.Spans.{covering}
-use Rattle.dcv_syntax.specs.Plain.{PlainPropKind, PropConstant, PropCall, PropNot, PropAnd, PropOr, PropImplies, PropIff, PlainArguments, no_arguments, argument, PlainFormulaKind, FormulaConstant, FormulaPt, FormulaExt, FormulaPoint, FormulaRun, FormulaEvery, FormulaUnit, FormulaSlen, FormulaScount, FormulaSdur, FormulaCall, FormulaNot, FormulaAnd, FormulaOr, FormulaImplies, FormulaIff, FormulaChop, FormulaStar, FormulaSomewhere, FormulaEverywhere, FormulaExists, FormulaForAll, PlainFormulaOperands, no_formula_operands, formula_operand, arguments_of, PlainMacroBody, FormulaBody, PropBody, PlainMacro, PlainFile}
+use Rattle.dcv_syntax.specs.Plain.{PlainPropKind, PropConstant, PropCall, PropNot, PropAnd, PropOr, PropImplies, PropIff, PropPrior, PropNext, PlainArguments, no_arguments, argument, PlainFormulaKind, FormulaConstant, FormulaPt, FormulaExt, FormulaPoint, FormulaRun, FormulaEvery, FormulaUnit, FormulaSlen, FormulaScount, FormulaSdur, FormulaCall, FormulaNot, FormulaAnd, FormulaOr, FormulaImplies, FormulaIff, FormulaChop, FormulaStar, FormulaSomewhere, FormulaEverywhere, FormulaExists, FormulaForAll, PlainFormulaOperands, no_formula_operands, formula_operand, arguments_of, PlainMacroBody, FormulaBody, PropBody, PlainMacro, PlainFile}
 use Rattle.std.proofs.lemmas.Option.{slice_get_within}
 use Rattle.dcv_logic.specs.Environment.{found}
 use Rattle.dcv_core.specs.Core.{PlainTruth, PlainBasic, CoreTree, CoreAtom, CoreNot, CoreAnd, CoreOr, CoreIff, CoreChop, CoreStar, CoreExists}
-use Rattle.dcv_scope.specs.CoreOf.{Expansion, PropExpansion, FormulaExpansion, Sight, bind_slot, bind_arguments, argument_truths, core_of_macro, core_of, joined, body_expansion, expansion_of, with_expansions, core_of_file}
+use Rattle.dcv_scope.specs.CoreOf.{Expansion, PropExpansion, FormulaExpansion, Sight, bind_slot, bind_arguments, argument_truths, core_of_macro, core_of, joined, body_expansion, expansion_of, with_expansions, expanded_file, core_of_file}
 use Rattle.dcv_core.specs.Steps.{PlainStep, steps_before, steps_from, steps_of, nesting}
+use Rattle.dcv_tracks.proofs.ClosedSlots.{shifted_steps, shifted_nesting}
 use Rattle.dcv_scope.specs.Laws.{StepsAreFew, SlotsAreFew}
 use Rattle.dcv_core.proofs.StepList.{some_same, steps_from-length}
 use Rattle.dcv_scope.specs.Measures.{Measure, leaf, under, nothing, beside, Measured, measure_of_macro, measure_of_name, measure_of_prop, measures_of_arguments, name_in_sight, measure_of_formula, measure_of_operands, measure_of_body, macro_measure, with_measures, measure_of_file}
@@ -66,6 +67,8 @@ module _ (measured : Measured) (sight : Sight) (fit : InSightFit measured sight)
     prop_positive (PropOr operands) = omega arith
     prop_positive (PropImplies p p_span q q_span) = omega arith
     prop_positive (PropIff operands) = omega arith
+    prop_positive (PropPrior form p span) = omega arith
+    prop_positive (PropNext form p span) = omega arith
 
     arguments_positive : (arguments : PlainArguments) → AllPositive (measures_of_arguments measured arguments)
     arguments_positive no_arguments = tt
@@ -234,14 +237,14 @@ declared_positive (n ∷ names) name = new_or_old (bytes_eq n.text name) (found 
     new_or_old true old p = omega arith
     new_or_old false old p = p
 
-pub file_fits : (file : PlainFile) → Fits (core_of_file file) (measure_of_file file)
+pub file_fits : (file : PlainFile) → Fits (expanded_file file) (measure_of_file file)
 file_fits file =
     formula_fits file.goal.formula.kind file.goal.formula.span _ _
     (macros_fit file.macros _ _ (record { names = declared_positive file.variables; macros = λ name. tt }))
 
 -- ---- the slots of steps
 
-abbrev AllAtMost : ℕ → List PlainStep → Type 0
+abbrev pub AllAtMost : ℕ → List PlainStep → Type 0
 AllAtMost bound [] = Unit {0}
 AllAtMost bound (s ∷ steps) = (s.slots ≤ bound) × AllAtMost bound steps
 
@@ -275,10 +278,20 @@ at_most bound [] n step a e = absurd (omega (arith, slice_get_within [] n step e
 at_most bound (s ∷ steps) zero step a e = subst (λ (x : PlainStep). x.slots ≤ bound) (some_same s step e) a.0
 at_most bound (s ∷ steps) (suc n) step a e = at_most bound steps n step a.1 e
 
+-- each step of the goal
+pub goal_slots_are_few : (file : PlainFile) (bound : ℕ) → length file.variables + (measure_of_file file).quantifiers ≤ bound → AllAtMost bound (steps_of (length file.variables) (expanded_file file))
+goal_slots_are_few file bound le =
+    let k = length file.variables in
+    let deep = (file_fits file).depth in
+    all_more (k + nesting (expanded_file file)) bound (steps_of k (expanded_file file)) (omega (arith, le, deep)) (steps_slots (expanded_file file) 0 k)
+
 pub steps_are_few : StepsAreFew
-steps_are_few file = omega (arith, (file_fits file).steps, steps_from-length (core_of_file file) 0 (length file.variables))
+steps_are_few file =
+    let k = length file.variables in
+    omega (arith, (file_fits file).steps, shifted_steps k (expanded_file file), steps_from-length (core_of_file file) 0 k)
 
 pub slots_are_few : SlotsAreFew
 slots_are_few file n step e =
-    let within = at_most _ (steps_of (length file.variables) (core_of_file file)) n step (steps_slots (core_of_file file) 0 (length file.variables)) e in
-    omega (arith, within, (file_fits file).depth)
+    let k = length file.variables in
+    let within = at_most _ (steps_of k (core_of_file file)) n step (steps_slots (core_of_file file) 0 k) e in
+    omega (arith, within, shifted_nesting k (expanded_file file), (file_fits file).depth)

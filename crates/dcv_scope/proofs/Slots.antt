@@ -6,25 +6,16 @@ use Rattle.std.proofs.lemmas.Option.{slice_get_within}
 use Rattle.dcv_syntax.specs.declared.names.Name.{Name}
 use Rattle.dcv_syntax.specs.declared.names.Span.{Span}
 use Rattle.dcv_syntax.specs.Spans.{covering}
-use Rattle.dcv_syntax.specs.Plain.{PlainPropKind, PropConstant, PropCall, PropNot, PropAnd, PropOr, PropImplies, PropIff, PlainArguments, no_arguments, argument, PlainPropOperands, no_prop_operands, prop_operand, PlainFormulaKind, FormulaConstant, FormulaPt, FormulaExt, FormulaPoint, FormulaRun, FormulaEvery, FormulaUnit, FormulaSlen, FormulaScount, FormulaSdur, FormulaCall, FormulaNot, FormulaAnd, FormulaOr, FormulaImplies, FormulaIff, FormulaChop, FormulaStar, FormulaSomewhere, FormulaEverywhere, FormulaExists, FormulaForAll, PlainFormulaOperands, no_formula_operands, formula_operand, arguments_of, PlainMacroBody, FormulaBody, PropBody, PlainMacro, PlainFile}
+use Rattle.dcv_syntax.specs.Plain.{PlainPropKind, PropConstant, PropCall, PropNot, PropAnd, PropOr, PropImplies, PropIff, PropPrior, PropNext, PlainArguments, no_arguments, argument, PlainPropOperands, no_prop_operands, prop_operand, PlainFormulaKind, FormulaConstant, FormulaPt, FormulaExt, FormulaPoint, FormulaRun, FormulaEvery, FormulaUnit, FormulaSlen, FormulaScount, FormulaSdur, FormulaCall, FormulaNot, FormulaAnd, FormulaOr, FormulaImplies, FormulaIff, FormulaChop, FormulaStar, FormulaSomewhere, FormulaEverywhere, FormulaExists, FormulaForAll, PlainFormulaOperands, no_formula_operands, formula_operand, arguments_of, PlainMacroBody, FormulaBody, PropBody, PlainMacro, PlainFile}
 use Rattle.dcv_logic.specs.Environment.{found}
-use Rattle.dcv_core.specs.Core.{PlainTruth, TruthConstant, TruthSlot, TruthNot, TruthAnd, TruthOr, TruthIff, PlainTruths, no_truths, truth_operand, CoreTree, CoreAtom, CoreNot, CoreAnd, CoreOr, CoreIff, CoreChop, CoreStar, CoreExists}
-use Rattle.dcv_scope.specs.CoreOf.{Expansion, PropExpansion, FormulaExpansion, Sight, bind_slot, bind_arguments, truth_of_call, truth_of, argument_truths, operand_truths, core_of_macro, core_of, joined, body_expansion, expansion_of, with_expansions, declared_slots, goal_sight, core_of_file}
+use Rattle.dcv_core.specs.Core.{PlainTruth, TruthConstant, TruthSlot, TruthNot, TruthAnd, TruthOr, TruthIff, TruthShift, PlainTruths, no_truths, truth_operand, CoreTree, CoreAtom, CoreNot, CoreAnd, CoreOr, CoreIff, CoreChop, CoreStar, CoreExists}
+use Rattle.dcv_scope.specs.CoreOf.{Expansion, PropExpansion, FormulaExpansion, Sight, bind_slot, bind_arguments, truth_of_call, truth_of, argument_truths, operand_truths, core_of_macro, core_of, joined, body_expansion, expansion_of, with_expansions, declared_slots, goal_sight, expanded_file, core_of_file}
 use Rattle.dcv_core.specs.Steps.{PlainStep, steps_before, steps_from, steps_of}
-use Rattle.dcv_core.specs.Slots.{IsBelow, AreBelow, BasicIsBelow, OpIsBelow}
+use Rattle.dcv_core.specs.Slots.{IsBelow, AreBelow, OpIsBelow, CoreIsBelow}
+use Rattle.dcv_tracks.proofs.ClosedSlots.{shifted_below}
 use Rattle.dcv_scope.specs.Laws.{SlotsAreInUse}
 use Rattle.dcv_scope.proofs.Means.{goal_slots}
 use Rattle.dcv_core.proofs.StepList.{some_same}
-
-abbrev CoreBelow : ℕ → CoreTree → Type 0
-CoreBelow k (CoreAtom basic span) = BasicIsBelow k basic
-CoreBelow k (CoreNot d span) = CoreBelow k d
-CoreBelow k (CoreAnd c d span) = CoreBelow k c × CoreBelow k d
-CoreBelow k (CoreOr c d span) = CoreBelow k c × CoreBelow k d
-CoreBelow k (CoreIff c d span) = CoreBelow k c × CoreBelow k d
-CoreBelow k (CoreChop c d span) = CoreBelow k c × CoreBelow k d
-CoreBelow k (CoreStar d span) = CoreBelow k d
-CoreBelow k (CoreExists d span) = CoreBelow (k + 1) d
 
 abbrev AllBelow : ℕ → List PlainTruth → Type 0
 AllBelow k [] = Unit {0}
@@ -37,7 +28,7 @@ NameBelow k (Some p) = IsBelow k p
 abbrev MacroBelow : ℕ → Option Expansion → Type 0
 MacroBelow k None = Unit {0}
 MacroBelow k (Some (PropExpansion c)) = (j : ℕ) → k ≤ j → (truths : List PlainTruth) → AllBelow j truths → IsBelow j (c truths)
-MacroBelow k (Some (FormulaExpansion c)) = (j : ℕ) → k ≤ j → (truths : List PlainTruth) → AllBelow j truths → CoreBelow j (c j truths)
+MacroBelow k (Some (FormulaExpansion c)) = (j : ℕ) → k ≤ j → (truths : List PlainTruth) → AllBelow j truths → CoreIsBelow j (c j truths)
 
 pub record SightBelow (k : ℕ) (sight : Sight) : Type 0 where
   pub names : (name : List ℕ) → NameBelow k (found sight.truths name)
@@ -53,6 +44,7 @@ mutual
   more_slots (TruthAnd operands) k j le b = more_slots_in operands k j le b
   more_slots (TruthOr operands) k j le b = more_slots_in operands k j le b
   more_slots (TruthIff operands) k j le b = more_slots_in operands k j le b
+  more_slots (TruthShift forward p span) k j le b = more_slots p k j le b
 
   more_slots_in : (operands : PlainTruths) (k j : ℕ) → k ≤ j → AreBelow k operands → AreBelow j operands
   more_slots_in no_truths k j le b = tt
@@ -87,6 +79,8 @@ module _ (k : ℕ) (sight : Sight) (s : SightBelow k sight) where
     truth_below (PropOr operands) = operands_below operands
     truth_below (PropImplies p p_span q q_span) = (truth_below p, (truth_below q, tt))
     truth_below (PropIff operands) = operands_below operands
+    truth_below (PropPrior form p span) = truth_below p
+    truth_below (PropNext form p span) = truth_below p
 
     arguments_below : (arguments : PlainArguments) → AllBelow k (argument_truths sight arguments)
     arguments_below no_arguments = tt
@@ -98,7 +92,7 @@ module _ (k : ℕ) (sight : Sight) (s : SightBelow k sight) where
 
 -- ---- formulas
 
-macro_core_below : (k : ℕ) (m : Option Expansion) (truths : List PlainTruth) (span : Span) → MacroBelow k m → AllBelow k truths → CoreBelow k (core_of_macro m k truths span)
+macro_core_below : (k : ℕ) (m : Option Expansion) (truths : List PlainTruth) (span : Span) → MacroBelow k m → AllBelow k truths → CoreIsBelow k (core_of_macro m k truths span)
 macro_core_below k None truths span b a = tt
 macro_core_below k (Some (PropExpansion c)) truths span b a = tt
 macro_core_below k (Some (FormulaExpansion c)) truths span b a = b k (omega arith) truths a
@@ -114,10 +108,10 @@ bound_below sight name s = record {
     new_or_old false old b = b
 
 abbrev Joins : (CoreTree → CoreTree → Span → CoreTree) → Type 0
-Joins join = (k : ℕ) (c d : CoreTree) (span : Span) → CoreBelow k c → CoreBelow k d → CoreBelow k (join c d span)
+Joins join = (k : ℕ) (c d : CoreTree) (span : Span) → CoreIsBelow k c → CoreIsBelow k d → CoreIsBelow k (join c d span)
 
 mutual
-  core_below : (kind : PlainFormulaKind) (span : Span) (sight : Sight) → SightBelow sight.slots sight → CoreBelow sight.slots (core_of sight kind span)
+  core_below : (kind : PlainFormulaKind) (span : Span) (sight : Sight) → SightBelow sight.slots sight → CoreIsBelow sight.slots (core_of sight kind span)
   core_below (FormulaConstant truth) span sight s = tt
   core_below FormulaPt span sight s = tt
   core_below FormulaExt span sight s = tt
@@ -151,7 +145,7 @@ mutual
   core_below (FormulaForAll name d d_span) span sight s = core_below d d_span (bind_slot sight name.text) (bound_below sight name.text s)
 
   list_below : (operands : PlainFormulaOperands) (join : CoreTree → CoreTree → Span → CoreTree) → Joins join → (first : Span) (so_far : CoreTree) (sight : Sight)
-      → SightBelow sight.slots sight → CoreBelow sight.slots so_far → CoreBelow sight.slots (joined sight join first operands so_far)
+      → SightBelow sight.slots sight → CoreIsBelow sight.slots so_far → CoreIsBelow sight.slots (joined sight join first operands so_far)
   list_below no_formula_operands join keeps first so_far sight s b = b
   list_below (formula_operand d d_span outer operands) join keeps first so_far sight s b =
       list_below operands join keeps first (join so_far (core_of sight d d_span) (covering first outer)) sight s
@@ -201,17 +195,17 @@ declared_below k (n ∷ names) slot le name = new_or_old (bytes_eq n.text name) 
     new_or_old true old b = omega (arith, le)
     new_or_old false old b = b
 
-file_below : (file : PlainFile) → CoreBelow (length file.variables) (core_of_file file)
+file_below : (file : PlainFile) → CoreIsBelow (length file.variables) (expanded_file file)
 file_below file =
     let slots : (goal_sight file).slots ≡ length file.variables = goal_slots file.macros _ in
     let s : SightBelow (length file.variables) (goal_sight file) =
     macros_below (length file.variables) file.macros _ (record { names = declared_below (length file.variables) file.variables 0 (omega arith); macros = λ name. tt }) in
-    subst (λ k. CoreBelow k (core_of_file file)) slots
+    subst (λ k. CoreIsBelow k (expanded_file file)) slots
     (core_below file.goal.formula.kind file.goal.formula.span (goal_sight file) (subst (λ k. SightBelow k (goal_sight file)) (sym slots) s))
 
 -- ---- steps
 
-abbrev StepsBelow : List PlainStep → Type 0
+abbrev pub StepsBelow : List PlainStep → Type 0
 StepsBelow [] = Unit {0}
 StepsBelow (s ∷ steps) = OpIsBelow s.slots s.op × StepsBelow steps
 
@@ -219,7 +213,7 @@ steps_append : (xs ys : List PlainStep) → StepsBelow xs → StepsBelow ys → 
 steps_append [] ys a b = b
 steps_append (x ∷ xs) ys a b = (a.0, steps_append xs ys a.1 b)
 
-steps_below : (core : CoreTree) (n k : ℕ) → CoreBelow k core → StepsBelow (steps_from n k core)
+steps_below : (core : CoreTree) (n k : ℕ) → CoreIsBelow k core → StepsBelow (steps_from n k core)
 steps_below (CoreAtom basic span) n k b = (b, tt)
 steps_below (CoreNot d span) n k b = steps_append (steps_from n k d) _ (steps_below d n k b) (tt, tt)
 steps_below (CoreAnd c d span) n k b =
@@ -238,6 +232,11 @@ step_at [] n step b e = absurd (omega (arith, slice_get_within [] n step e))
 step_at (s ∷ steps) zero step b e = subst (λ (x : PlainStep). OpIsBelow x.slots x.op) (some_same s step e) b.0
 step_at (s ∷ steps) (suc n) step b e = step_at steps n step b.1 e
 
+-- so does each step of the goal
+pub goal_steps_below : (file : PlainFile) → StepsBelow (steps_of (length file.variables) (expanded_file file))
+goal_steps_below file = steps_below (expanded_file file) 0 (length file.variables) (file_below file)
+
 pub slots_are_in_use : SlotsAreInUse
-slots_are_in_use file n step e =
-    step_at (steps_of (length file.variables) (core_of_file file)) n step (steps_below (core_of_file file) 0 (length file.variables) (file_below file)) e
+slots_are_in_use file none n step e =
+    let k = length file.variables in
+    step_at (steps_of k (core_of_file file)) n step (steps_below (core_of_file file) 0 k (shifted_below k (expanded_file file) none (file_below file))) e

@@ -6,20 +6,22 @@
 --     Sight, Expansion     what is in sight, and what a macro stands for
 --     truth_of             the core of a proposition
 --     core_of              the core of a formula that stands in a place
---     core_of_file         the core of a file's goal
+--     expanded_file        a file's goal without its macros, in which shifts stand as they are
+--     core_of_file         the core of a file's goal, in which each shift has a slot
 use Rattle.std.specs.Prelude.{ℕ, ◌+◌, true, false, List, [], ◌∷◌, ◌++◌, Option, Some, None, map, length}
 use Rattle.std.specs.List.{zip}
 use Rattle.dcv_syntax.specs.declared.names.Name.{Name}
 use Rattle.dcv_syntax.specs.declared.names.Span.{Span}
 use Rattle.dcv_syntax.specs.Spans.{covering}
-use Rattle.dcv_syntax.specs.Plain.{PlainPropKind, PropConstant, PropCall, PropNot, PropAnd, PropOr, PropImplies, PropIff, PlainArguments}
+use Rattle.dcv_syntax.specs.Plain.{PlainPropKind, PropConstant, PropCall, PropNot, PropAnd, PropOr, PropImplies, PropIff, PropPrior, PropNext, PlainArguments}
 use Rattle.dcv_syntax.specs.Plain.{no_arguments, argument, PlainPropOperands, no_prop_operands, prop_operand, PlainFormulaKind, FormulaConstant}
 use Rattle.dcv_syntax.specs.Plain.{FormulaPt, FormulaExt, FormulaPoint, FormulaRun, FormulaEvery, FormulaUnit, FormulaSlen, FormulaScount}
 use Rattle.dcv_syntax.specs.Plain.{FormulaSdur, FormulaCall, FormulaNot, FormulaAnd, FormulaOr, FormulaImplies, FormulaIff, FormulaChop, FormulaStar}
 use Rattle.dcv_syntax.specs.Plain.{FormulaSomewhere, FormulaEverywhere, FormulaExists, FormulaForAll, PlainFormulaOperands, no_formula_operands}
 use Rattle.dcv_syntax.specs.Plain.{formula_operand, arguments_of, PlainMacroBody, FormulaBody, PropBody, PlainMacro, PlainFile}
 use Rattle.dcv_logic.specs.Environment.{found}
-use Rattle.dcv_core.specs.Core.{PlainTruth, TruthConstant, TruthSlot, TruthNot, TruthAnd, TruthOr, TruthIff, PlainTruths, no_truths, truth_operand}
+use Rattle.dcv_tracks.specs.Shifting.{shifted_core}
+use Rattle.dcv_core.specs.Core.{PlainTruth, TruthConstant, TruthSlot, TruthNot, TruthAnd, TruthOr, TruthIff, TruthShift, PlainTruths, no_truths, truth_operand}
 use Rattle.dcv_core.specs.Core.{PlainBasic, BasicConstant, BasicPoint, BasicRun, BasicEvery, BasicUnit, BasicSlen, BasicScount, BasicSdur, CoreTree}
 use Rattle.dcv_core.specs.Core.{CoreAtom, CoreNot, CoreAnd, CoreOr, CoreIff, CoreChop, CoreStar, CoreExists}
 
@@ -78,6 +80,9 @@ abbrev mutual
       TruthOr (truth_operand (TruthNot (truth_of sight p)) (truth_operand (truth_of sight q) no_truths))
   -- P <=> Q <=> ..
   truth_of sight (PropIff operands) = TruthIff (operand_truths sight operands)
+  -- -P, +P
+  truth_of sight (PropPrior form p span) = TruthShift false (truth_of sight p) form
+  truth_of sight (PropNext form p span) = TruthShift true (truth_of sight p) form
 
   pub argument_truths : Sight → PlainArguments → List PlainTruth
   argument_truths sight no_arguments = []
@@ -192,6 +197,10 @@ abbrev pub goal_sight : PlainFile → Sight
 goal_sight file =
     with_expansions (record { slots = length file.variables; truths = declared_slots 0 file.variables; macros = [] }) file.macros
 
+-- the goal
+abbrev pub expanded_file : PlainFile → CoreTree
+expanded_file file = core_of (goal_sight file) file.goal.formula.kind file.goal.formula.span
+
 -- the core of the goal
 abbrev pub core_of_file : PlainFile → CoreTree
-core_of_file file = core_of (goal_sight file) file.goal.formula.kind file.goal.formula.span
+core_of_file file = shifted_core (length file.variables) (expanded_file file)

@@ -7,7 +7,7 @@
 use Rattle.std.specs.Prelude.{ℕ, ◌+◌, max, List, [], ◌∷◌, ◌++◌, Option, Some, None, map, length}
 use Rattle.std.specs.List.{zip}
 use Rattle.dcv_syntax.specs.declared.names.Name.{Name}
-use Rattle.dcv_syntax.specs.Plain.{PlainPropKind, PropConstant, PropCall, PropNot, PropAnd, PropOr, PropImplies, PropIff}
+use Rattle.dcv_syntax.specs.Plain.{PlainPropKind, PropConstant, PropCall, PropNot, PropAnd, PropOr, PropImplies, PropIff, PropPrior, PropNext}
 use Rattle.dcv_syntax.specs.Plain.{PlainArguments, no_arguments, argument, arguments_of, PlainPropOperands, no_prop_operands, prop_operand}
 use Rattle.dcv_syntax.specs.Plain.{PlainFormulaKind, FormulaConstant, FormulaPt, FormulaExt, FormulaPoint, FormulaRun, FormulaEvery, FormulaUnit}
 use Rattle.dcv_syntax.specs.Plain.{FormulaSlen, FormulaScount, FormulaSdur, FormulaCall}
@@ -16,6 +16,8 @@ use Rattle.dcv_syntax.specs.Plain.{FormulaSomewhere, FormulaEverywhere, FormulaE
 use Rattle.dcv_syntax.specs.Plain.{PlainFormulaOperands, no_formula_operands, formula_operand}
 use Rattle.dcv_syntax.specs.Plain.{PlainMacroBody, FormulaBody, PropBody, PlainMacro, PlainFile}
 use Rattle.dcv_logic.specs.Environment.{found}
+use Rattle.dcv_scope.specs.CoreOf.{expanded_file}
+use Rattle.dcv_tracks.specs.Shifting.{shifts_in}
 
 pub record Measure : Type 0 where
   pub size : ℕ
@@ -74,6 +76,9 @@ abbrev mutual
   measure_of_prop sight (PropImplies p p_span q q_span) = under 1 1 (beside (under 1 1 (measure_of_prop sight p)) (measure_of_prop sight q))
   -- P <=> Q <=> ..
   measure_of_prop sight (PropIff operands) = under 1 1 (measure_of_prop_operands sight operands)
+  -- -P, +P
+  measure_of_prop sight (PropPrior form p span) = under 1 1 (measure_of_prop sight p)
+  measure_of_prop sight (PropNext form p span) = under 1 1 (measure_of_prop sight p)
 
   pub measures_of_arguments : Measured → PlainArguments → List Measure
   measures_of_arguments sight no_arguments = []
@@ -154,6 +159,6 @@ measure_of_file file =
     let declared = map (λ (name : Name). (name.text, leaf)) file.variables in
     measure_of_formula (with_measures (record { names = declared; macros = [] }) file.macros) file.goal.formula.kind
 
--- the declared variables, and a slot for each quantifier that stands inside another
+-- the declared variables, a slot for each shift, and one for each quantifier that stands inside another
 abbrev pub slots_of_file : PlainFile → ℕ
-slots_of_file file = length file.variables + (measure_of_file file).quantifiers
+slots_of_file file = length file.variables + length (shifts_in (expanded_file file)) + (measure_of_file file).quantifiers

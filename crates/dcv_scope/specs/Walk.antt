@@ -3,7 +3,7 @@ use Rattle.std.specs.Prelude.{◌≡◌, ℕ, ◌+◌, ◌*◌, max, List, [], �
 use denote.Bor.{Bor}
 use Rattle.dcv_syntax.specs.declared.names.Name.{Name}
 use Rattle.dcv_syntax.specs.Views.{plain_macro}
-use Rattle.dcv_syntax.specs.Plain.{PlainPropKind, PropConstant, PropCall, PropNot, PropAnd, PropOr, PropImplies, PropIff, PlainArguments}
+use Rattle.dcv_syntax.specs.Plain.{PlainPropKind, PropConstant, PropCall, PropNot, PropAnd, PropOr, PropImplies, PropIff, PropPrior, PropNext, PlainArguments}
 use Rattle.dcv_syntax.specs.Plain.{no_arguments, argument, PlainPropOperands, no_prop_operands, prop_operand, PlainFormulaKind, FormulaConstant}
 use Rattle.dcv_syntax.specs.Plain.{FormulaPt, FormulaExt, FormulaPoint, FormulaRun, FormulaEvery, FormulaUnit, FormulaSlen, FormulaScount}
 use Rattle.dcv_syntax.specs.Plain.{FormulaSdur, FormulaCall, FormulaNot, FormulaAnd, FormulaOr, FormulaImplies, FormulaIff, FormulaChop, FormulaStar}
@@ -123,6 +123,8 @@ abbrev mutual
   linear_of_prop sight (PropImplies p p_span q q_span) =
       linear_under 1 1 0 (linear_beside (linear_under 1 1 0 (linear_of_prop sight p)) (linear_of_prop sight q))
   linear_of_prop sight (PropIff operands) = linear_under 1 1 0 (linear_of_prop_operands sight (constant nothing) operands)
+  linear_of_prop sight (PropPrior form p span) = linear_under 1 1 0 (linear_of_prop sight p)
+  linear_of_prop sight (PropNext form p span) = linear_under 1 1 0 (linear_of_prop sight p)
 
   pub linear_of_arguments : LinearSight → PlainArguments → List MacroMeasure
   linear_of_arguments sight no_arguments = []

@@ -4,11 +4,11 @@ ghost use Rattle.std.specs.Option.{option_map};
 ghost use Rattle.dcv_syntax.specs.Spans.{covering};
 ghost use Rattle.dcv_syntax.specs.Views.{plain_prop_kind, plain_formula_kind, plain_macro, plain_file};
 ghost use Rattle.dcv_logic.specs.Environment.{found};
-ghost use Rattle.dcv_core.specs.Core.{TruthConstant, TruthNot, TruthOr, no_truths, truth_operand, BasicConstant};
+ghost use Rattle.dcv_core.specs.Core.{TruthConstant, TruthNot, TruthOr, TruthShift, no_truths, truth_operand, BasicConstant};
 ghost use Rattle.dcv_core.specs.Core.{CoreAtom, CoreNot, CoreOr, CoreStar, CoreExists};
 ghost use Rattle.dcv_scope.specs.CoreOf.{bind_slot, bind_arguments, declared_slots, truth_of_call, truth_of};
-ghost use Rattle.dcv_scope.specs.CoreOf.{core_of_macro, somewhere_core, core_of, list_core, core_of_file};
-ghost use Rattle.dcv_scope.specs.Measures.{measure_of_file, slots_of_file};
+ghost use Rattle.dcv_scope.specs.CoreOf.{core_of_macro, somewhere_core, core_of, list_core, expanded_file};
+ghost use Rattle.dcv_scope.specs.Measures.{measure_of_file};
 ghost use Rattle.dcv_scope.specs.Linear.{AreMeasuresOf, variables_alone};
 ghost use Rattle.dcv_core.specs.Steps.{Made, HasRoom, IsChoppedRound, without_core, steps_of};
 ghost use Rattle.dcv_core.specs.StepViews.{plain_operator};
@@ -194,6 +194,8 @@ impl<'a> Sight<'a> {
             PropKind::Or(operands) => Ok(Truth::Or(self.prop_operands(operands)?)),
             PropKind::Implies(premise, conclusion) => self.implication(premise, conclusion),
             PropKind::Iff(operands) => Ok(Truth::Iff(self.prop_operands(operands)?)),
+            PropKind::Prior(form, operand) => self.shifted(false, operand, *form),
+            PropKind::Next(form, operand) => self.shifted(true, operand, *form),
         }
     }
 
@@ -205,6 +207,16 @@ impl<'a> Sight<'a> {
             ≡ TruthNot (truth_of (sight_of self.now) (plain_prop_kind prop.now.kind))) }
     {
         Ok(Truth::Not(Box::new(self.alloc, self.prop(prop)?)?))
+    }
+
+    // `-P` or `+P`, which has this span
+    #[cycle(truths)]
+    fn shifted(&self, forward: bool, prop: &Prop, span: Span) -> Result<Truth, AllocError>
+        requires is_sight { IsSight self.now }
+        ensures { IfOk result (λ truth. plain_truth truth
+            ≡ TruthShift forward (truth_of (sight_of self.now) (plain_prop_kind prop.now.kind)) span) }
+    {
+        Ok(Truth::Shift(forward, Box::new(self.alloc, self.prop(prop)?)?, span))
     }
 
     // `P => Q`, which is `!P || Q`
@@ -596,18 +608,18 @@ impl<'a> Sight<'a> {
     }
 }
 
-/// The core of the goal of a file, each macro of which has its measure.
-pub(crate) fn core_of_goal(
+/// The goal of a file without its macros, each of which has its measure, as steps in which prior and next propositions have no slots yet.
+pub(crate) fn expanded_goal(
     alloc: Global,
     file: &File,
     uses: &[MacroMeasure],
 ) -> Result<Core, AllocError>
     requires size { (measure_of_file (plain_file file.now)).size ≤ most_nodes }
-    requires slots { slots_of_file (plain_file file.now) ≤ most_slots }
+    requires slots { length (plain_file file.now).variables + (measure_of_file (plain_file file.now)).quantifiers ≤ most_slots }
     requires measured { AreMeasuresOf (variables_alone file.now.variables.items) (plain_file file.now).macros uses.now }
     ensures declared { IfOk result (λ core. core.declared ≡ length (plain_file file.now).variables) }
     ensures steps { IfOk result (λ core. core.steps ≡ map without_core
-        (steps_of (length (plain_file file.now).variables) (core_of_file (plain_file file.now)))) }
+        (steps_of (length (plain_file file.now).variables) (expanded_file (plain_file file.now)))) }
 {
     let declared = file.variables.len() as u8;
     let relays = relays_of(alloc, &file.variables, &file.macros)?;

@@ -15,7 +15,7 @@ pub(crate) const MOST_MACROS: usize = 256;
 pub const MOST_NODES: u32 = 65_536;
 /// The most nodes of such a goal that stand one below another.
 pub const MOST_DEPTH: u32 = 512;
-/// The most slots of a goal: its declared variables, and a slot for each quantifier that stands inside another.
+/// The most slots of a goal: its declared variables, one for each shift, and one for each quantifier that stands inside another.
 pub const MOST_SLOTS: u32 = 32;
 
 /// The first fault of a file's names, or else of its goal. Its place is the offset of the name, or of the goal, in bytes,
@@ -50,6 +50,9 @@ pub enum ScopeFault {
     /// The goal has more than [`MOST_SLOTS`] slots.
     #[error("the goal at offset {at} has too many variables")]
     Slots { at: u32 },
+    /// A prior or next proposition, at this place, looks at a quantified variable.
+    #[error("the proposition at offset {at} looks at a quantified variable at another instant")]
+    BoundShift { at: u32 },
     /// Memory ran out.
     #[error("out of memory")]
     Memory,

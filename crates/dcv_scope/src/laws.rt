@@ -1,8 +1,10 @@
 //! Laws of a file's core. Each function here does nothing: its contract is the law.
-ghost use Rattle.dcv_scope.specs.Laws.{CoreMeansText, WordsAreModels, StepsAreFew, SlotsAreFew, SlotsAreInUse};
+ghost use Rattle.dcv_scope.specs.Laws.{GoalMeansText, CoreMeansText, WordsAreModels, StepsAreFew, SlotsAreFew, SlotsAreInUse};
 
-/// The core of a file means what the text means, whether or not its names are well used.
+/// The goal without its macros means what the text means, whether or not its names are well used. So does the core, on the tracks of its prior and next
+/// propositions, where none of these looks at a quantified variable.
 pub fn core_means_text()
+    ensures goal { GoalMeansText }
     ensures interval { CoreMeansText }
     ensures whole { WordsAreModels }
 {}

@@ -340,6 +340,9 @@ impl<'a> Sight<'a> {
                 Ok(below(both(refuted, self.prop(conclusion)?), 1, 1, 0))
             }
             PropKind::Iff(operands) => Ok(below(self.prop_operands(operands)?, 1, 1, 0)),
+            PropKind::Prior(_, operand) | PropKind::Next(_, operand) => {
+                Ok(below(self.prop(operand)?, 1, 1, 0))
+            }
         }
     }
 

@@ -124,6 +124,7 @@ impl<'a> Names<'a> {
             PropKind::Or(operands) => self.prop_operands(operands),
             PropKind::Implies(premise, conclusion) => self.prop(premise).or(self.prop(conclusion)),
             PropKind::Iff(operands) => self.prop_operands(operands),
+            PropKind::Prior(_, operand) | PropKind::Next(_, operand) => self.prop(operand),
         }
     }
 

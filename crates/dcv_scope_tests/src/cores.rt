@@ -19,6 +19,10 @@ fn truth(text: &mut String, shown: &Truth) -> Result<(), AllocError> {
         Truth::And(operands) => truths(text, "&&", operands),
         Truth::Or(operands) => truths(text, "||", operands),
         Truth::Iff(operands) => truths(text, "<=>", operands),
+        Truth::Shift(forward, operand, _) => {
+            text.push(if *forward { '+' } else { '-' })?;
+            truth(text, operand)
+        }
     }
 }
 
@@ -96,7 +100,7 @@ fn shown(alloc: Global, core: &Core) -> Result<String, AllocError> {
 }
 
 // Texts with their declared variables and the steps of their cores, worked out by hand.
-const CORES: [(&[u8], u8, &str); 9] = [
+const CORES: [(&[u8], u8, &str); 13] = [
     (
         b"var p; infer (pt && <p>) ^ [](pt => ext)*;",
         1,
@@ -147,6 +151,32 @@ const CORES: [(&[u8], u8, &str); 9] = [
         b"var p, q; define f(q) as [q] => {{p}}; infer f(p);",
         2,
         "run 0@25..28/2 not(0)@25..37/2 unit 0@32..37/2 or(1,2)@25..37/2",
+    ),
+    // a shift has a slot, and its track is closed behind the goal
+    (
+        b"var p; infer [[-p]];",
+        1,
+        "every 1@13..19/2 back 0 in 1@15..17/2 and(0,1)@15..17/2 exists(2)@15..17/1",
+    ),
+    // slots go by where shifts stand in the goal without macros
+    (
+        b"var p,q; define F(a,b) as [[b]] && [[a]]; infer F(-p, +q);",
+        2,
+        "every 2@26..31/4 every 3@35..40/4 and(0,1)@26..40/4 back 0 in 3@50..52/4 and(2,3)@50..52/4 exists(4)@50..52/3 \
+         fore 1 in 2@54..56/3 and(5,6)@54..56/3 exists(7)@54..56/2",
+    ),
+    // an inner shift comes before the outer one, the same shift has one slot, and a quantifier those behind
+    (
+        b"var p; infer [[-+p]] && (ex q. <q && -+p && +p>);",
+        1,
+        "every 2@13..20/3 point (3&&2&&1)@31..47/4 exists(1)@25..47/3 and(0,2)@13..48/3 back 1 in 2@15..18/3 and(3,4)@15..18/3 \
+         exists(5)@15..18/2 fore 0 in 1@16..18/2 and(6,7)@16..18/2 exists(8)@16..18/1",
+    ),
+    // an argument that is not used has none
+    (
+        b"var p; define F(a) as pt; infer F(-p);",
+        1,
+        "point true@22..24/1",
     ),
 ];
 
@@ -202,6 +232,10 @@ fn largest_goals(rt: HostRuntime) -> Result<(), Fail> {
         (repeated(alloc, "", 0, LARGEST)?, 43_695),
         (repeated(alloc, "[]", 170, "pt")?, 1_021),
         (repeated(alloc, "ex a. ", 32, "pt")?, 33),
+        (
+            repeated(alloc, "[[+", 1, &repeated(alloc, "+", 31, "true]]")?)?,
+            97,
+        ),
     ] {
         let text = doubled(alloc, &goal)?;
         let core = core_of(alloc, text.as_bytes())??;
@@ -232,6 +266,15 @@ fn goals_that_are_too_large(rt: HostRuntime) -> Result<(), Fail> {
             ScopeFault::Slots { at },
         ),
         (
+            repeated(alloc, "[[-", 1, &repeated(alloc, "+", 32, "true]]")?)?,
+            ScopeFault::Slots { at },
+        ),
+        // the slots come before a shift that looks at a quantified variable
+        (
+            repeated(alloc, "ex a. [[-", 1, &repeated(alloc, "+", 31, "a]]")?)?,
+            ScopeFault::Slots { at },
+        ),
+        (
             repeated(
                 alloc,
                 "[]",
@@ -246,6 +289,22 @@ fn goals_that_are_too_large(rt: HostRuntime) -> Result<(), Fail> {
             Ok(_) => return Err("too large".into()),
             Err(found) => assert_eq!(rt; found, fault, "{goal}"),
         }
+    }
+    Ok(())
+}
+
+// Texts with a prior or next proposition of a quantified variable, and its place. The outer one of two is told.
+const BOUND: [(&[u8], u32); 3] = [
+    (b"infer ex q. [[+q]];", 14),
+    (b"var p; infer ex q. <p || -(p && +q)>;", 25),
+    (b"define F(a) as [[-a]]; infer ex q. F(q);", 17),
+];
+
+#[test]
+fn shifts_of_quantified_variables(rt: HostRuntime) -> Result<(), Fail> {
+    for (text, at) in &BOUND {
+        let fault = core_of(rt.alloc(), text)?.err();
+        assert_eq!(rt; fault, Some(ScopeFault::BoundShift { at: *at }));
     }
     Ok(())
 }

@@ -29,6 +29,9 @@ decreases-prop l = 4 * (all_bodies prop_depth l.self.now.macros.now + goal.size-
 abbrev pub decreases-opposite : goal.decreases-opposite
 decreases-opposite l = 4 * (all_bodies prop_depth l.self.now.macros.now + goal.size-opposite l) + 2
 
+abbrev pub decreases-shifted : goal.decreases-shifted
+decreases-shifted l = 4 * (all_bodies prop_depth l.self.now.macros.now + goal.size-shifted l) + 2
+
 abbrev pub decreases-implication : goal.decreases-implication
 decreases-implication l = 4 * (all_bodies prop_depth l.self.now.macros.now + max (size-Prop l.premise.now) (size-Prop l.conclusion.now)) + 3
 

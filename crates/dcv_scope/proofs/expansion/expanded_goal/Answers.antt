@@ -5,7 +5,7 @@ use Rattle.dcv_scope.specs.Expansions.{names_of}
 use Rattle.dcv_core.specs.Steps.{PlainCore}
 use Rattle.dcv_core.proofs.MadeSteps.{room_same, made_same}
 use Rattle.dcv_scope.proofs.GoalCore.{goal_core, goal_room, made_whole}
-use Rattle.dcv_scope.proofs.expansion.core_of_goal.Goals as goal
+use Rattle.dcv_scope.proofs.expansion.expanded_goal.Goals as goal
 
 pub formula-requires-clause-room : goal.formula-requires-clause-room
 formula-requires-clause-room c =
