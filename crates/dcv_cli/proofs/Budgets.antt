@@ -10,7 +10,7 @@ use Rattle.dcv_logic.specs.Models.{models}
 use Rattle.dcv_core.specs.Core.{CoreTree}
 use Rattle.dcv_scope.specs.CoreOf.{core_of_file}
 use Rattle.dcv_core.specs.Holds.{words_of}
-use Rattle.dcv_scope.specs.Laws.{WordsAreModels}
+use Rattle.dcv_scope.specs.Laws.{WordsAreModels, HasNoBoundShift}
 use Rattle.dcv_core.specs.Steps.{PlainCore, PlainStep, CoreStep, without_core, steps_of}
 use Rattle.dcv_dfa.specs.Laws.{TableAcceptsAsTheStates}
 use Rattle.dcv_dfa.specs.Raw.{RawValue, IsRaw, raw_accepts}
@@ -87,31 +87,32 @@ module _ (file : PlainFile) (core : PlainCore) (declared : core.declared ≡ len
   within_in_file limits within =
       subst (λ k. IsWithinBudget (steps_of k (core_of_file file)) limits) declared (within (core_of_file file) core_of_the_file)
 
-  pub automaton_of_file : (auto : RawValue) → WordsAreModels → CanonicalForSameBehaviours
+  pub automaton_of_file : HasNoBoundShift file → (auto : RawValue) → WordsAreModels → CanonicalForSameBehaviours
       → ((tree : CoreTree) → IsCoreOf tree core → IsAutomatonOf core.declared (words_of tree) auto) → IsAutomatonOf (length file.variables) (models file) auto
-  automaton_of_file auto models_are move canonical =
+  automaton_of_file unbound auto models_are move canonical =
       let of_words = subst (λ k. IsAutomatonOf k (words_of (core_of_file file)) auto) declared (canonical (core_of_file file) core_of_the_file) in
       record {
         slots = of_words.slots;
         access = of_words.access;
         canonical =
-            move (length file.variables) (words_of (core_of_file file)) (models file) (table_of_states auto) of_words.access (models_are file) of_words.canonical;
+            move (length file.variables) (words_of (core_of_file file)) (models file) (table_of_states auto) of_words.access
+            (λ word behaves. models_are file word unbound behaves) of_words.canonical;
       }
 
-  pub built_of_file : (limits : Limits) (auto : RawValue) → WordsAreModels → CanonicalForSameBehaviours
+  pub built_of_file : HasNoBoundShift file → (limits : Limits) (auto : RawValue) → WordsAreModels → CanonicalForSameBehaviours
       → ((tree : CoreTree) → IsCoreOf tree core → IsAutomatonOf core.declared (words_of tree) auto)
       → ((tree : CoreTree) → IsCoreOf tree core → IsWithinBudget (steps_of core.declared tree) limits) → length auto.rows ≤ limits.states
       → count_of_nodes auto ≤ limits.nodes → IsBuilt file limits auto
-  built_of_file limits auto models_are move canonical within states nodes =
-      record { within = within_in_file limits within; automaton = automaton_of_file auto models_are move canonical; states = states; nodes = nodes }
+  built_of_file unbound limits auto models_are move canonical within states nodes =
+      record { within = within_in_file limits within; automaton = automaton_of_file unbound auto models_are move canonical; states = states; nodes = nodes }
 
-  pub built_if_ok : (limits : Limits) (result : Result Built Refusal) → WordsAreModels → CanonicalForSameBehaviours
+  pub built_if_ok : HasNoBoundShift file → (limits : Limits) (result : Result Built Refusal) → WordsAreModels → CanonicalForSameBehaviours
       → ((tree : CoreTree) → IsCoreOf tree core → IfOk result (λ built. IsAutomatonOf core.declared (words_of tree) built.auto))
       → ((tree : CoreTree) → IsCoreOf tree core → OnOk result (IsWithinBudget (steps_of core.declared tree) limits))
       → IfOk result (λ built. length built.auto.rows ≤ limits.states) → IfOk result (λ built. count_of_nodes built.auto ≤ limits.nodes)
       → IfOk result (λ built. IsBuilt file limits built.auto)
-  built_if_ok limits (Ok built) models_are move canonical within states nodes = built_of_file limits built.auto models_are move canonical within states nodes
-  built_if_ok limits (Err refusal) models_are move canonical within states nodes = tt
+  built_if_ok unbound limits (Ok built) models_are move canonical within states nodes = built_of_file unbound limits built.auto models_are move canonical within states nodes
+  built_if_ok unbound limits (Err refusal) models_are move canonical within states nodes = tt
 
   pub counted_if_ok : (limits : Limits) (result : Result Built Refusal)
       → ((tree : CoreTree) → IsCoreOf tree core → IfOk result (λ built. AreCounts (steps_of core.declared tree) limits built.counts.items))

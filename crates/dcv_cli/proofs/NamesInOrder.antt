@@ -3,8 +3,8 @@ use Rattle.std.proofs.Common.{◌≡◌, ℕ, zero, suc, ◌+◌, ◌<◌, List,
 use Rattle.std.specs.List.Sorted.{IsStrictlyIncreasing}
 use Rattle.std.proofs.lemmas.List.{map-append, append_assoc}
 use Rattle.dcv_syntax.specs.declared.names.Name.{Name}
-use Rattle.dcv_syntax.specs.Plain.{PlainPropKind, PropConstant, PropCall, PropNot, PropAnd, PropOr, PropImplies, PropIff, PlainArguments}
-use Rattle.dcv_syntax.specs.Plain.{no_arguments}
+use Rattle.dcv_syntax.specs.Plain.{PlainPropKind, PropConstant, PropCall, PropNot, PropAnd, PropOr, PropImplies, PropIff, PropPrior, PropNext}
+use Rattle.dcv_syntax.specs.Plain.{PlainArguments, no_arguments}
 use Rattle.dcv_syntax.specs.Plain.{argument, arguments_of, PlainPropOperands, no_prop_operands, prop_operand}
 use Rattle.dcv_syntax.specs.Plain.{PlainFormulaKind, FormulaConstant, FormulaPt, FormulaExt, FormulaPoint, FormulaRun, FormulaEvery, FormulaUnit}
 use Rattle.dcv_syntax.specs.Plain.{FormulaSlen, FormulaScount, FormulaSdur, FormulaCall, FormulaNot, FormulaAnd, FormulaOr, FormulaImplies}
@@ -39,6 +39,8 @@ mutual
   in_prop sight (PropImplies p p_span q q_span) =
       joined (occurrences_in_prop sight p) (occurrences_in_prop sight q) (prop_names p) (prop_names q) (in_prop sight p) (in_prop sight q)
   in_prop sight (PropIff operands) = in_prop_operands sight operands
+  in_prop sight (PropPrior form p span) = in_prop sight p
+  in_prop sight (PropNext form p span) = in_prop sight p
 
   in_arguments : (sight : InSight) (arguments : PlainArguments) → names (occurrences_in_arguments sight arguments) ≡ argument_names arguments
   in_arguments sight no_arguments = refl

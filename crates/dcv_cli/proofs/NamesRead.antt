@@ -9,8 +9,8 @@ use Rattle.dcv_syntax.specs.declared.names.Name.{Name}
 use Rattle.dcv_syntax.specs.declared.names.Span.{Span}
 use Rattle.dcv_syntax.specs.declared.formulas.Relation.{Relation}
 use Rattle.dcv_syntax.specs.declared.formulas.Number.{Number}
-use Rattle.dcv_syntax.specs.Plain.{PlainPropKind, PropConstant, PropCall, PropNot, PropAnd, PropOr, PropImplies, PropIff, PlainArguments}
-use Rattle.dcv_syntax.specs.Plain.{no_arguments}
+use Rattle.dcv_syntax.specs.Plain.{PlainPropKind, PropConstant, PropCall, PropNot, PropAnd, PropOr, PropImplies, PropIff, PropPrior, PropNext}
+use Rattle.dcv_syntax.specs.Plain.{PlainArguments, no_arguments}
 use Rattle.dcv_syntax.specs.Plain.{argument, arguments_of, PlainPropOperands, no_prop_operands, prop_operand, prop_operands_of, PlainProp}
 use Rattle.dcv_syntax.specs.Plain.{PlainPropOperand}
 use Rattle.dcv_syntax.specs.Plain.{PlainFormulaKind, FormulaConstant, FormulaPt, FormulaExt, FormulaPoint, FormulaRun, FormulaEvery, FormulaUnit}
@@ -19,9 +19,10 @@ use Rattle.dcv_syntax.specs.Plain.{FormulaIff}
 use Rattle.dcv_syntax.specs.Plain.{FormulaChop, FormulaStar, FormulaSomewhere, FormulaEverywhere, FormulaExists, FormulaForAll}
 use Rattle.dcv_syntax.specs.Plain.{PlainFormulaOperands, no_formula_operands, formula_operand, formula_operands_of, PlainFormulaOperand}
 use Rattle.dcv_syntax.specs.Plain.{PlainMacroBody, FormulaBody, PropBody, PlainMacro, PlainFile}
+use Rattle.dcv_syntax.specs.Spans.{covering}
 use Rattle.dcv_grammar.specs.Trees.{Nodes, done, leaf, node, leaves}
 use Rattle.dcv_tokens.specs.Classes as classes
-use Rattle.dcv_tokens.specs.Tokens.{Token, is_blank, EachIsLongest, tokens_from}
+use Rattle.dcv_tokens.specs.Tokens.{Token, span_of, is_blank, EachIsLongest, tokens_from}
 use Rattle.dcv_tokens.proofs.Cuts.{piece_has_bytes}
 use Rattle.dcv_reader.specs.Nodes.{token_class, name_of, number_of, prop_list, starred}
 use Rattle.dcv_reader.specs.Nodes.{starred_by, formula_list}
@@ -44,6 +45,8 @@ abbrev mutual
   prop_names (PropOr operands) = prop_operand_names operands
   prop_names (PropImplies p p_span q q_span) = prop_names p ++ prop_names q
   prop_names (PropIff operands) = prop_operand_names operands
+  prop_names (PropPrior form p span) = prop_names p
+  prop_names (PropNext form p span) = prop_names p
 
   pub argument_names : PlainArguments → List Name
   argument_names no_arguments = []
@@ -218,6 +221,12 @@ formula_list_keeps kind same low d middle (e ∷ ds) high h k =
 
 -- ---- nodes that a word picks
 
+choose_sign : (a b : Bool) (form : Span) (p : PlainPropKind) (span : Span)
+    → prop_names (if a then PropNot p span else if b then PropPrior form p span else PropNext form p span) ≡ prop_names p
+choose_sign true b form p span = refl
+choose_sign false true form p span = refl
+choose_sign false false form p span = refl
+
 choose_bracket : (a b c : Bool) (p : PlainProp)
     → formula_names (if a then FormulaPoint p else if b then FormulaRun p else if c then FormulaEvery p else FormulaUnit p) ≡ prop_names p.kind
 choose_bracket true b c p = refl
@@ -333,7 +342,10 @@ prop_and_keeps low high parts h = in_order_le low parts high h
 
 prop_prefix_keeps : Keeps prop_prefix_part
 prop_prefix_keeps low high (AToken sign ∷ AProp p ∷ []) (a, (h, (b, (k, l)))) =
-    apart low a (prop_names p.prop.kind) b high (omega (arith, h.0, h.1)) l k
+    subst (λ (names : List Name). Within low names high)
+    (sym (choose_sign (token_class sign == classes.exclamation) (token_class sign == classes.minus) (covering (span_of sign) p.span) p.prop.kind
+    p.prop.span))
+    (apart low a (prop_names p.prop.kind) b high (omega (arith, h.0, h.1)) l k)
 prop_prefix_keeps low high (AProp p ∷ []) (a, (h, k)) = higher low (prop_names p.prop.kind) a high k h
 prop_prefix_keeps low high parts h = in_order_le low parts high h
 

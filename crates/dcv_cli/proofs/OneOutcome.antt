@@ -15,7 +15,7 @@ use Rattle.dcv_scope.specs.CoreOf.{core_of_file}
 use Rattle.dcv_core.specs.Steps.{PlainStep}
 use Rattle.dcv_scope.specs.Faults.{fault_of_file}
 use Rattle.dcv_scope.specs.declared.faults.ScopeFault.{ScopeFault}
-use Rattle.dcv_scope.specs.declared.faults.ScopeFault.TheVariants.{TooMany, Duplicate, Taken, Unknown, Kind, Arity, Size, Depth, Slots, Memory as ScopeMemory}
+use Rattle.dcv_scope.specs.declared.faults.ScopeFault.TheVariants.{TooMany, Duplicate, Taken, Unknown, Kind, Arity, Size, Depth, Slots, BoundShift, Memory as ScopeMemory}
 use Rattle.dcv_explore.specs.declared.explorer.Limits.{Limits}
 use Rattle.dcv_explore.specs.Budget.{Kind as KindOfExcess, TooManyStates, TooManyNodes}
 use Rattle.dcv_build.specs.Budget.{IsOver}
@@ -87,6 +87,7 @@ scope_is_formula (Arity at) = no_formula_budget
 scope_is_formula (Size at) = no_formula_budget
 scope_is_formula (Depth at) = no_formula_budget
 scope_is_formula (Slots at) = no_formula_budget
+scope_is_formula (BoundShift at) = no_formula_budget
 scope_is_formula ScopeMemory = no_memory_budget
 
 refused_is_formula : (text : List ℕ) (refusal : Refusal) → IsRefused text refusal → status_of refusal ≢ StatusBudget

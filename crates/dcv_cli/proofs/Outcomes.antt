@@ -13,7 +13,7 @@ use Rattle.dcv_sentence.specs.declared.faults.ReadFault.{ReadFault}
 use Rattle.dcv_sentence.specs.declared.faults.ReadFault.TheVariants.{Byte as ByteAt, Syntax as SyntaxAt, Number as NumberAt, Name as NameAt, Nest as NestAt, Memory as ReadMemory}
 use Rattle.dcv_scope.specs.Faults.{fault_of_file}
 use Rattle.dcv_scope.specs.declared.faults.ScopeFault.{ScopeFault}
-use Rattle.dcv_scope.specs.declared.faults.ScopeFault.TheVariants.{TooMany, Duplicate, Taken, Unknown, Kind, Arity, Size, Depth, Slots}
+use Rattle.dcv_scope.specs.declared.faults.ScopeFault.TheVariants.{TooMany, Duplicate, Taken, Unknown, Kind, Arity, Size, Depth, Slots, BoundShift}
 use Rattle.dcv_scope.specs.declared.faults.ScopeFault.TheVariants.{Memory as ScopeMemory}
 use Rattle.dcv_cli.specs.declared.refusal.Refusal.{Refusal}
 use Rattle.dcv_cli.specs.declared.refusal.Refusal.TheVariants.{Budget, Memory}
@@ -69,6 +69,7 @@ explains_scope text file (Arity at) holds is = HasNoCore file holds (Arity at) (
 explains_scope text file (Size at) holds is = HasNoCore file holds (Size at) (is (λ e. cc)) refl
 explains_scope text file (Depth at) holds is = HasNoCore file holds (Depth at) (is (λ e. cc)) refl
 explains_scope text file (Slots at) holds is = HasNoCore file holds (Slots at) (is (λ e. cc)) refl
+explains_scope text file (BoundShift at) holds is = HasNoCore file holds (BoundShift at) (is (λ e. cc)) refl
 explains_scope text file ScopeMemory holds is = tt
 
 -- a step that is over the limits is named

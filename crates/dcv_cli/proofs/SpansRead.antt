@@ -1,11 +1,15 @@
--- Each form of a file that a text spells begins before the text's end, as its tokens do.
-use Rattle.std.proofs.Common.{ℕ, zero, suc, ◌+◌, ◌<◌, ◌≤◌, Bool, true, false, length, List, [], ◌∷◌, ◌++◌, Option, None, Some, sym, ap, subst, arith, inl, inr}
-use Rattle.std.specs.Prelude.{slice_index_or, ◌==◌, if◌then◌else◌}
+-- Each form of a file that a text spells begins before the text's end, as its tokens do: formulas, and prior and next propositions.
+use Rattle.std.proofs.Common.{ℕ, zero, suc, ◌+◌, ◌<◌, ◌≤◌, Bool, true, false, length, List, [], ◌∷◌, ◌++◌, Option, None, Some, map, sym, ap, subst, arith, inl, inr}
+use Rattle.std.specs.Prelude.{drop, slice_index_or, ◌==◌, if◌then◌else◌}
 use Rattle.std.specs.List.{AllByRecursion, concat}
 use Rattle.std.proofs.lemmas.Bool.{cases_Bool}
 use Rattle.std.proofs.lemmas.List.{length-append}
 use Rattle.dcv_syntax.specs.declared.names.Span.{Span}
 use Rattle.dcv_syntax.specs.declared.names.Name.{Name}
+use Rattle.dcv_syntax.specs.Spans.{covering}
+use Rattle.dcv_syntax.specs.Plain.{PlainPropKind, PropConstant, PropCall, PropNot, PropAnd, PropOr, PropImplies, PropIff, PropPrior, PropNext}
+use Rattle.dcv_syntax.specs.Plain.{PlainArguments, no_arguments, argument, arguments_of, PlainPropOperands, no_prop_operands, prop_operand}
+use Rattle.dcv_syntax.specs.Plain.{PlainPropOperand, prop_operands_of}
 use Rattle.dcv_syntax.specs.Plain.{PlainFormulaKind, FormulaConstant, FormulaPt, FormulaExt, FormulaPoint, FormulaRun, FormulaEvery, FormulaUnit}
 use Rattle.dcv_syntax.specs.Plain.{FormulaSlen, FormulaScount, FormulaSdur, FormulaCall, FormulaNot, FormulaAnd, FormulaOr, FormulaImplies, FormulaIff}
 use Rattle.dcv_syntax.specs.Plain.{FormulaChop, FormulaStar, FormulaSomewhere, FormulaEverywhere, FormulaExists, FormulaForAll, PlainProp}
@@ -15,9 +19,9 @@ use Rattle.dcv_syntax.specs.declared.formulas.Relation.{Relation}
 use Rattle.dcv_syntax.specs.declared.formulas.Number.{Number}
 use Rattle.dcv_grammar.specs.Trees.{Nodes, done, leaf, node, leaves}
 use Rattle.dcv_tokens.specs.Classes as classes
-use Rattle.dcv_tokens.specs.Tokens.{Token, is_blank, EachIsLongest, tokens_from}
+use Rattle.dcv_tokens.specs.Tokens.{Token, span_of, is_blank, EachIsLongest, tokens_from}
 use Rattle.dcv_tokens.proofs.Cuts.{piece_has_bytes}
-use Rattle.dcv_reader.specs.Nodes.{token_class, name_of, number_of, formula_call, starred, starred_by, formula_list}
+use Rattle.dcv_reader.specs.Nodes.{token_class, name_of, number_of, prop_list, formula_call, starred, starred_by, formula_list}
 use Rattle.dcv_reader.specs.Actions.{Part, AToken, Names, Arguments, ARelation, AProp, AFormula, Props, Formulas, Stars, AMacro, Macros, AFile}
 use Rattle.dcv_reader.specs.Actions.{Nothing, actions, parts_of, file_part, names_part, more_names_part, macros_part, macro_part}
 use Rattle.dcv_reader.specs.Actions.{arguments_part, more_props_part, prop_iff_part, prop_implies_part, prop_or_part, prop_and_part}
@@ -32,19 +36,40 @@ abbrev pub Begins : ℕ → Span → Type 0
 Begins high span = span.start < high
 
 abbrev mutual
+  -- the prior and next forms in a proposition do
+  pub PropBegins : ℕ → PlainPropKind → Type 0
+  PropBegins high (PropConstant truth) = Unit {0}
+  PropBegins high (PropCall name arguments) = ArgumentsBegin high arguments
+  PropBegins high (PropNot p span) = PropBegins high p
+  PropBegins high (PropAnd operands) = PropOperandsBegin high operands
+  PropBegins high (PropOr operands) = PropOperandsBegin high operands
+  PropBegins high (PropImplies p p_span q q_span) = PropBegins high p × PropBegins high q
+  PropBegins high (PropIff operands) = PropOperandsBegin high operands
+  PropBegins high (PropPrior form p span) = Begins high form × PropBegins high p
+  PropBegins high (PropNext form p span) = Begins high form × PropBegins high p
+
+  pub ArgumentsBegin : ℕ → PlainArguments → Type 0
+  ArgumentsBegin high no_arguments = Unit {0}
+  ArgumentsBegin high (argument p span arguments) = PropBegins high p × ArgumentsBegin high arguments
+
+  pub PropOperandsBegin : ℕ → PlainPropOperands → Type 0
+  PropOperandsBegin high no_prop_operands = Unit {0}
+  PropOperandsBegin high (prop_operand p span outer operands) = PropBegins high p × PropOperandsBegin high operands
+
+abbrev mutual
   -- the forms in a formula do
   pub FormsBegin : ℕ → PlainFormulaKind → Type 0
   FormsBegin high (FormulaConstant truth) = Unit {0}
   FormsBegin high FormulaPt = Unit {0}
   FormsBegin high FormulaExt = Unit {0}
-  FormsBegin high (FormulaPoint p) = Unit {0}
-  FormsBegin high (FormulaRun p) = Unit {0}
-  FormsBegin high (FormulaEvery p) = Unit {0}
-  FormsBegin high (FormulaUnit p) = Unit {0}
+  FormsBegin high (FormulaPoint p) = PropBegins high p.kind
+  FormsBegin high (FormulaRun p) = PropBegins high p.kind
+  FormsBegin high (FormulaEvery p) = PropBegins high p.kind
+  FormsBegin high (FormulaUnit p) = PropBegins high p.kind
   FormsBegin high (FormulaSlen relation n) = Unit {0}
-  FormsBegin high (FormulaScount p relation n) = Unit {0}
-  FormsBegin high (FormulaSdur p relation n) = Unit {0}
-  FormsBegin high (FormulaCall name arguments) = Unit {0}
+  FormsBegin high (FormulaScount p relation n) = PropBegins high p.kind
+  FormsBegin high (FormulaSdur p relation n) = PropBegins high p.kind
+  FormsBegin high (FormulaCall name arguments) = ArgumentsBegin high (arguments_of arguments)
   FormsBegin high (FormulaNot d span) = Begins high span × FormsBegin high d
   FormsBegin high (FormulaAnd operands) = OperandsBegin high operands
   FormsBegin high (FormulaOr operands) = OperandsBegin high operands
@@ -67,7 +92,7 @@ OperandBegins high d = Begins high d.span × (Begins high d.formula.span × Form
 
 abbrev pub BodyBegins : ℕ → PlainMacroBody → Type 0
 BodyBegins high (FormulaBody d) = Begins high d.span × FormsBegin high d.kind
-BodyBegins high (PropBody p) = Unit {0}
+BodyBegins high (PropBody p) = PropBegins high p.kind
 
 abbrev pub MacrosBegin : ℕ → List PlainMacro → Type 0
 MacrosBegin high [] = Unit {0}
@@ -83,14 +108,18 @@ abbrev AllBegin : ℕ → List PlainFormulaOperand → Type 0
 AllBegin high [] = Unit {0}
 AllBegin high (d ∷ ds) = OperandBegins high d × AllBegin high ds
 
+abbrev PropsBegin : ℕ → List PlainPropOperand → Type 0
+PropsBegin high [] = Unit {0}
+PropsBegin high (p ∷ ps) = PropBegins high p.prop.kind × PropsBegin high ps
+
 abbrev PartBegins : ℕ → Part → Type 0
 PartBegins high (AToken token) = token.start < high
 PartBegins high (Names names) = Unit {0}
-PartBegins high (Arguments arguments parentheses) = Unit {0}
+PartBegins high (Arguments arguments parentheses) = ArgumentsBegin high (arguments_of arguments)
 PartBegins high (ARelation relation) = Unit {0}
-PartBegins high (AProp p) = Unit {0}
+PartBegins high (AProp p) = PropBegins high p.prop.kind
 PartBegins high (AFormula d) = OperandBegins high d
-PartBegins high (Props ps) = Unit {0}
+PartBegins high (Props ps) = PropsBegin high ps
 PartBegins high (Formulas ds) = AllBegin high ds
 PartBegins high (Stars stars) = Unit {0}
 PartBegins high (AMacro m) = BodyBegins high m.body
@@ -108,22 +137,28 @@ Keeps make = (high : ℕ) (parts : List Part) → PartsBegin high parts → Part
 
 -- ---- nodes that a word picks, and lists
 
-choose_bracket : (high : ℕ) (a b c : Bool) (p : PlainProp)
+choose_bracket : (high : ℕ) (a b c : Bool) (p : PlainProp) → PropBegins high p.kind
     → FormsBegin high (if a then FormulaPoint p else if b then FormulaRun p else if c then FormulaEvery p else FormulaUnit p)
-choose_bracket high true b c p = tt
-choose_bracket high false true c p = tt
-choose_bracket high false false true p = tt
-choose_bracket high false false false p = tt
+choose_bracket high true b c p h = h
+choose_bracket high false true c p h = h
+choose_bracket high false false true p h = h
+choose_bracket high false false false p h = h
 
 choose_word : (high : ℕ) (a b truth : Bool) → FormsBegin high (if a then FormulaPt else if b then FormulaExt else FormulaConstant truth)
 choose_word high true b truth = tt
 choose_word high false true truth = tt
 choose_word high false false truth = tt
 
-choose_measure : (high : ℕ) (a : Bool) (p : PlainProp) (relation : Relation) (n : Number)
+choose_measure : (high : ℕ) (a : Bool) (p : PlainProp) (relation : Relation) (n : Number) → PropBegins high p.kind
     → FormsBegin high (if a then FormulaScount p relation n else FormulaSdur p relation n)
-choose_measure high true p relation n = tt
-choose_measure high false p relation n = tt
+choose_measure high true p relation n h = h
+choose_measure high false p relation n h = h
+
+choose_prop_prefix : (high : ℕ) (a b : Bool) (form : Span) (p : PlainPropKind) (span : Span) → Begins high form → PropBegins high p
+    → PropBegins high (if a then PropNot p span else if b then PropPrior form p span else PropNext form p span)
+choose_prop_prefix high true b form p span here h = h
+choose_prop_prefix high false true form p span here h = (here, h)
+choose_prop_prefix high false false form p span here h = (here, h)
 
 choose_prefix : (high : ℕ) (a b : Bool) (d : PlainFormulaKind) (span : Span) → Begins high span × FormsBegin high d
     → FormsBegin high (if a then FormulaNot d span else if b then FormulaSomewhere d span else FormulaEverywhere d span)
@@ -135,6 +170,20 @@ choose_quantifier : (high : ℕ) (a : Bool) (name : Name) (d : PlainFormulaKind)
     → FormsBegin high (if a then FormulaExists name d span else FormulaForAll name d span)
 choose_quantifier high true name d span h = h
 choose_quantifier high false name d span h = h
+
+arguments_begin : (high : ℕ) (ps : List PlainPropOperand) → PropsBegin high ps → ArgumentsBegin high (arguments_of (map (λ operand. operand.prop) ps))
+arguments_begin high [] h = tt
+arguments_begin high (p ∷ ps) h = (h.0, arguments_begin high ps h.1)
+
+prop_operands_begin : (high : ℕ) (ps : List PlainPropOperand) → PropsBegin high ps → PropOperandsBegin high (prop_operands_of ps)
+prop_operands_begin high [] h = tt
+prop_operands_begin high (p ∷ ps) h = (h.0, prop_operands_begin high ps h.1)
+
+prop_list_begins : (high : ℕ) (kind : PlainPropOperands → PlainPropKind)
+    → ((operands : PlainPropOperands) → PropOperandsBegin high operands → PropBegins high (kind operands))
+    → (p : PlainPropOperand) (ps : List PlainPropOperand) → PropBegins high p.prop.kind → PropsBegin high ps → PropBegins high (prop_list kind p ps).prop.kind
+prop_list_begins high kind in_list p [] h k = h
+prop_list_begins high kind in_list p (q ∷ ps) h k = in_list (prop_operands_of (p ∷ q ∷ ps)) (prop_operands_begin high (p ∷ q ∷ ps) (h, k))
 
 operands_begin : (high : ℕ) (ds : List PlainFormulaOperand) → AllBegin high ds → OperandsBegin high (formula_operands_of ds)
 operands_begin high [] h = tt
@@ -151,9 +200,9 @@ stars_begin high d [] h = h
 stars_begin high d (star ∷ stars) h = stars_begin high (starred d star) stars (h.0, (h.0, h.1))
 
 call_begins : (high : ℕ) (name : Token) (arguments : List PlainProp) (parentheses : Option Span) → name.start < high
-    → OperandBegins high (formula_call name arguments parentheses)
-call_begins high name arguments None h = (h, (h, tt))
-call_begins high name arguments (Some span) h = (h, (h, tt))
+    → ArgumentsBegin high (arguments_of arguments) → OperandBegins high (formula_call name arguments parentheses)
+call_begins high name arguments None h k = (h, (h, k))
+call_begins high name arguments (Some span) h k = (h, (h, k))
 
 -- ---- each rule
 
@@ -178,46 +227,47 @@ macros_keep high parts h = tt
 
 macro_keeps : Keeps macro_part
 macro_keeps high (AToken define ∷ AToken name ∷ Names parameters ∷ AToken as_word ∷ AFormula d ∷ AToken semicolon ∷ []) h = h.1.1.1.1.0.1
-macro_keeps high (AToken prop ∷ AToken name ∷ Names parameters ∷ AToken as_word ∷ AProp p ∷ AToken semicolon ∷ []) h = tt
+macro_keeps high (AToken prop ∷ AToken name ∷ Names parameters ∷ AToken as_word ∷ AProp p ∷ AToken semicolon ∷ []) h = h.1.1.1.1.0
 macro_keeps high parts h = tt
 
 arguments_keep : Keeps arguments_part
 arguments_keep high [] h = tt
-arguments_keep high (AToken opening ∷ AProp p ∷ Props ps ∷ AToken closing ∷ []) h = tt
+arguments_keep high (AToken opening ∷ AProp p ∷ Props ps ∷ AToken closing ∷ []) h = arguments_begin high (p ∷ ps) (h.1.0, h.1.1.0)
 arguments_keep high parts h = tt
 
 more_props_keep : Keeps more_props_part
 more_props_keep high [] h = tt
-more_props_keep high (AToken separator ∷ AProp p ∷ Props ps ∷ []) h = tt
-more_props_keep high (AToken arrow ∷ AProp p ∷ []) h = tt
+more_props_keep high (AToken separator ∷ AProp p ∷ Props ps ∷ []) h = (h.1.0, h.1.1.0)
+more_props_keep high (AToken arrow ∷ AProp p ∷ []) h = (h.1.0, tt)
 more_props_keep high parts h = tt
 
 prop_iff_keeps : Keeps prop_iff_part
-prop_iff_keeps high (AProp p ∷ Props ps ∷ []) h = tt
+prop_iff_keeps high (AProp p ∷ Props ps ∷ []) h = prop_list_begins high PropIff (λ operands begin. begin) p ps h.0 h.1.0
 prop_iff_keeps high parts h = tt
 
 prop_implies_keeps : Keeps prop_implies_part
-prop_implies_keeps high (AProp p ∷ Props [] ∷ []) h = tt
-prop_implies_keeps high (AProp p ∷ Props (q ∷ []) ∷ []) h = tt
+prop_implies_keeps high (AProp p ∷ Props [] ∷ []) h = h.0
+prop_implies_keeps high (AProp p ∷ Props (q ∷ []) ∷ []) h = (h.0, h.1.0.0)
 prop_implies_keeps high parts h = tt
 
 prop_or_keeps : Keeps prop_or_part
-prop_or_keeps high (AProp p ∷ Props ps ∷ []) h = tt
+prop_or_keeps high (AProp p ∷ Props ps ∷ []) h = prop_list_begins high PropOr (λ operands begin. begin) p ps h.0 h.1.0
 prop_or_keeps high parts h = tt
 
 prop_and_keeps : Keeps prop_and_part
-prop_and_keeps high (AProp p ∷ Props ps ∷ []) h = tt
+prop_and_keeps high (AProp p ∷ Props ps ∷ []) h = prop_list_begins high PropAnd (λ operands begin. begin) p ps h.0 h.1.0
 prop_and_keeps high parts h = tt
 
 prop_prefix_keeps : Keeps prop_prefix_part
-prop_prefix_keeps high (AToken sign ∷ AProp p ∷ []) h = tt
-prop_prefix_keeps high (AProp p ∷ []) h = tt
+prop_prefix_keeps high (AToken sign ∷ AProp p ∷ []) h = choose_prop_prefix high (token_class sign == classes.exclamation) (token_class sign == classes.minus)
+    (covering (span_of sign) p.span) p.prop.kind p.prop.span h.0 h.1.0
+prop_prefix_keeps high (AProp p ∷ []) h = h.0
 prop_prefix_keeps high parts h = tt
 
 prop_atom_keeps : Keeps prop_atom_part
-prop_atom_keeps high (AToken opening ∷ AProp p ∷ AToken closing ∷ []) h = tt
+prop_atom_keeps high (AToken opening ∷ AProp p ∷ AToken closing ∷ []) h = h.1.0
 prop_atom_keeps high (AToken constant ∷ []) h = tt
-prop_atom_keeps high (AToken name ∷ Arguments arguments parentheses ∷ []) h = tt
+prop_atom_keeps high (AToken name ∷ Arguments arguments parentheses ∷ []) h = h.1.0
 prop_atom_keeps high parts h = tt
 
 formula_keeps : Keeps formula_part
@@ -276,23 +326,42 @@ formula_atom_keeps high (AToken opening ∷ AProp p ∷ AToken closing ∷ []) h
   h.0,
   (
     h.0,
-    choose_bracket high (token_class opening == classes.less) (token_class opening == classes.open_bracket) (token_class opening == classes.open_brackets) p.prop,
+    choose_bracket high (token_class opening == classes.less) (token_class opening == classes.open_bracket) (token_class opening == classes.open_brackets) p.prop h.1.0,
   ),
 )
 formula_atom_keeps high (AToken word ∷ []) h =
     (h.0, (h.0, choose_word high (token_class word == classes.word_pt) (token_class word == classes.word_ext) (token_class word == classes.word_true)))
 formula_atom_keeps high (AToken slen ∷ ARelation relation ∷ AToken number ∷ []) h = (h.0, (h.0, tt))
 formula_atom_keeps high (AToken word ∷ AProp p ∷ ARelation relation ∷ AToken number ∷ []) h =
-    (h.0, (h.0, choose_measure high (token_class word == classes.word_scount) p.prop relation (number_of number)))
-formula_atom_keeps high (AToken name ∷ Arguments arguments parentheses ∷ []) h = call_begins high name arguments parentheses h.0
+    (h.0, (h.0, choose_measure high (token_class word == classes.word_scount) p.prop relation (number_of number) h.1.0))
+formula_atom_keeps high (AToken name ∷ Arguments arguments parentheses ∷ []) h = call_begins high name arguments parentheses h.0 h.1.0
 formula_atom_keeps high parts h = tt
 
 relation_keeps : Keeps relation_part
 relation_keeps high (AToken sign ∷ []) h = tt
 relation_keeps high parts h = tt
 
+-- so does each rule from that of a number on
+prop_prefix_rules_keep : AllByRecursion Keeps (drop 32 actions)
+prop_prefix_rules_keep = (prop_prefix_keeps, (prop_atom_keeps, tt))
+
+prop_rules_keep : AllByRecursion Keeps (drop 24 actions)
+prop_rules_keep =
+    (prop_iff_keeps, (more_props_keep, (prop_implies_keeps, (more_props_keep, (prop_or_keeps, (more_props_keep, (prop_and_keeps, (more_props_keep, prop_prefix_rules_keep))))))))
+
+formula_prefix_rules_keep : AllByRecursion Keeps (drop 19 actions)
+formula_prefix_rules_keep = (formula_prefix_keeps, (formula_star_keeps, (stars_keep, (formula_atom_keeps, (relation_keeps, prop_rules_keep)))))
+
+formula_or_rules_keep : AllByRecursion Keeps (drop 13 actions)
+formula_or_rules_keep =
+    (formula_or_keeps, (more_formulas_keep, (formula_and_keeps, (more_formulas_keep, (formula_chop_keeps, (more_formulas_keep, formula_prefix_rules_keep))))))
+
+formula_rules_keep : AllByRecursion Keeps (drop 8 actions)
+formula_rules_keep = (formula_keeps, (formula_iff_keeps, (more_formulas_keep, (formula_implies_keeps, (more_formulas_keep, formula_or_rules_keep)))))
+
 all_keep : AllByRecursion Keeps actions
-all_keep = (file_keeps, (names_keep, (more_names_keep, (macros_keep, (macro_keeps, (names_keep, (arguments_keep, (more_props_keep, (formula_keeps, (formula_iff_keeps, (more_formulas_keep, (formula_implies_keeps, (more_formulas_keep, (formula_or_keeps, (more_formulas_keep, (formula_and_keeps, (more_formulas_keep, (formula_chop_keeps, (more_formulas_keep, (formula_prefix_keeps, (formula_star_keeps, (stars_keep, (formula_atom_keeps, (relation_keeps, (prop_iff_keeps, (more_props_keep, (prop_implies_keeps, (more_props_keep, (prop_or_keeps, (more_props_keep, (prop_and_keeps, (more_props_keep, (prop_prefix_keeps, (prop_atom_keeps, tt))))))))))))))))))))))))))))))))))
+all_keep =
+    (file_keeps, (names_keep, (more_names_keep, (macros_keep, (macro_keeps, (names_keep, (arguments_keep, (more_props_keep, formula_rules_keep))))))))
 
 keeps_at : (made : List (List Part → Part)) → AllByRecursion Keeps made → (rule : ℕ) → Keeps (slice_index_or made rule (λ parts. Nothing))
 keeps_at [] all rule high parts h = tt

@@ -18,6 +18,7 @@ use Rattle.dcv_scope.specs.Faults.{above, fault_of_goal}
 use Rattle.dcv_scope.specs.Names.{fault_of_names}
 use Rattle.dcv_scope.specs.Laws.{StepsAreFew}
 use Rattle.dcv_scope.specs.Measures.{measure_of_file}
+use Rattle.dcv_scope.proofs.Faulting.{few_slots}
 use Rattle.dcv_scope.specs.declared.faults.ScopeFault.{ScopeFault}
 use Rattle.dcv_syntax.specs.Plain.{PlainFile}
 use Rattle.dcv_cli.specs.Budget.{steps_of_file}
@@ -73,7 +74,8 @@ pub few_counts : StepsAreFew → (text : List ℕ) (file : PlainFile) → IsForm
 few_counts steps_are_few text file is limits counts are =
     let none = (none_of_both (fault_of_names file) (fault_of_goal file) is.has_core).1 in
     let size = not_above _ (measure_of_file file).size _ (none_of_both _ _ none).0 in
-    omega (arith, steps_are_few file, size, are.one_each)
+    let slots = few_slots file none in
+    omega (arith, steps_are_few file, size, slots, are.one_each)
 
 module _ (steps_are_few : StepsAreFew) (text : List ℕ) (file : PlainFile) (is : IsFormulaFile text file) (limits : Limits) (range : AreInRange limits)
     (counts : List Count) (are : AreCounts (steps_of_file file) limits counts) where

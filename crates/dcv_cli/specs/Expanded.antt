@@ -15,6 +15,7 @@ use Rattle.dcv_dfa.specs.Raw.{RawValue}
 use Rattle.dcv_explore.specs.declared.explorer.Limits.{Limits}
 use Rattle.dcv_build.specs.Budget.{IsAutomatonOf, IsWithinBudget}
 use Rattle.dcv_build.specs.Given.{IsCore}
+use Rattle.dcv_scope.specs.Laws.{HasNoBoundShift}
 use Rattle.dcv_cli.specs.Budget.{steps_of_file}
 use Rattle.dcv_cli.specs.FormulaFile.{IsFormulaFile, IsRefused}
 use Rattle.dcv_cli.specs.Held.{IsHeldText}
@@ -26,6 +27,7 @@ pub record IsExpanded (file : PlainFile) (expanded : Expanded) : Type 0 where
   pub declared : expanded.core.declared ≡ length file.variables
   pub steps : expanded.core.steps ≡ map without_core (steps_of_file file)
   pub core : IsCore expanded.core
+  pub unbound : HasNoBoundShift file
 
 -- they are some file's
 pub record IsOfFile (expanded : Expanded) : Type 0 where

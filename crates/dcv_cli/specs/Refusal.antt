@@ -22,6 +22,7 @@ use Rattle.dcv_sentence.specs.declared.faults.ReadFault.TheVariants.{Byte as Byt
 use Rattle.dcv_scope.specs.declared.faults.ScopeFault.{ScopeFault}
 use Rattle.dcv_scope.specs.declared.faults.ScopeFault.TheVariants.{TooMany as ManyAt, Duplicate as DuplicateAt, Taken as TakenAt, Unknown as UnknownAt}
 use Rattle.dcv_scope.specs.declared.faults.ScopeFault.TheVariants.{Kind as KindAt, Arity as ArityAt, Size as SizeAt, Depth as DepthAt, Slots as SlotsAt}
+use Rattle.dcv_scope.specs.declared.faults.ScopeFault.TheVariants.{BoundShift as ShiftAt}
 use Rattle.dcv_scope.specs.declared.faults.ScopeFault.TheVariants.{Memory as ScopeMemory}
 use Rattle.dcv_language.specs.VerdictText.{line}
 use Rattle.dcv_cli.specs.declared.budget_line.Excess.{Excess}
@@ -41,7 +42,7 @@ use Rattle.dcv_cli.specs.declared.refused.Refused.{Refused}
 use Rattle.dcv_cli.specs.declared.refused.Which.{Which}
 use Rattle.dcv_cli.specs.declared.refused.Which.TheVariants.{Only, First, Second}
 use Rattle.dcv_cli.specs.declared.faults.TextFault.{TextFault}
-use Rattle.dcv_cli.specs.declared.faults.TextFault.TheVariants.{Byte, Syntax, Number, Name, Nest, Many, Duplicate, Taken, Unknown, Kind, Arity, Size, Depth, Slots}
+use Rattle.dcv_cli.specs.declared.faults.TextFault.TheVariants.{Byte, Syntax, Number, Name, Nest, Many, Duplicate, Taken, Unknown, Kind, Arity, Size, Depth, Slots, Shift}
 use Rattle.dcv_cli.specs.declared.status.Status.{Status}
 use Rattle.dcv_cli.specs.declared.status.Status.TheVariants.{Formula as StatusFormula, Budget as StatusBudget, Input, Output, Memory as StatusMemory}
 use Rattle.dcv_cli.specs.declared.status.Status.TheVariants.{Automaton as StatusAutomaton, Trace as StatusTrace, Observer as StatusObserver}
@@ -85,6 +86,7 @@ text_word_of Arity = codes "arity"
 text_word_of Size = codes "size"
 text_word_of Depth = codes "depth"
 text_word_of Slots = codes "slots"
+text_word_of Shift = codes "shift"
 
 abbrev pub fault_words : List ℕ → List ℕ
 fault_words word = codes "fault " ++ word
@@ -207,6 +209,7 @@ refusal_of_scope (ArityAt at) = Formula (Text Arity at)
 refusal_of_scope (SizeAt at) = Formula (Text Size at)
 refusal_of_scope (DepthAt at) = Formula (Text Depth at)
 refusal_of_scope (SlotsAt at) = Formula (Text Slots at)
+refusal_of_scope (ShiftAt at) = Formula (Text Shift at)
 refusal_of_scope ScopeMemory = Memory
 
 -- ---- which refusal a call ended with

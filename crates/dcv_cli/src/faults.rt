@@ -47,8 +47,10 @@ pub enum TextFault {
     Size,
     /// The goal with its macros in place is nested too deeply.
     Depth,
-    /// The goal has too many variables, declared and quantified.
+    /// The goal has too many variables, declared and quantified, with one for each prior or next proposition.
     Slots,
+    /// A prior or next proposition looks at a quantified variable.
+    Shift,
 }
 
 impl TextFault {
@@ -71,6 +73,7 @@ impl TextFault {
             TextFault::Size => b"size",
             TextFault::Depth => b"depth",
             TextFault::Slots => b"slots",
+            TextFault::Shift => b"shift",
         }
     }
 }

@@ -148,6 +148,7 @@ impl From<ScopeFault> for Refusal {
             ScopeFault::Size { at } => of_text(TextFault::Size, at),
             ScopeFault::Depth { at } => of_text(TextFault::Depth, at),
             ScopeFault::Slots { at } => of_text(TextFault::Slots, at),
+            ScopeFault::BoundShift { at } => of_text(TextFault::Shift, at),
             ScopeFault::Memory => Refusal::Memory,
         }
     }

@@ -17,7 +17,7 @@ struct Recipe {
     truths: &'static str,
 }
 
-const RECIPES: [Recipe; 10] = [
+const RECIPES: [Recipe; 13] = [
     Recipe {
         text: "var lamp, door; infer [lamp] ^ [[door && !lamp]];",
         width: 2,
@@ -94,6 +94,28 @@ const RECIPES: [Recipe; 10] = [
         width: 3,
         satisfying: "100 100 100 101",
         other: "100 100 100 100",
+        truths: "10",
+    },
+    Recipe {
+        text: "var pump; prop starts as pump && !-pump;
+            infer []((<starts> ^ true ^ <starts>) && scount starts = 2 => slen >= 4);",
+        width: 1,
+        satisfying: "1 0 0 0 1",
+        other: "1 0 1 0",
+        truths: "10",
+    },
+    Recipe {
+        text: "var button, lamp; prop pressed as button && !-button; infer [[lamp <=> !(-lamp <=> pressed)]];",
+        width: 2,
+        satisfying: "11 11 01 10 00",
+        other: "11 10",
+        truths: "10",
+    },
+    Recipe {
+        text: "var tell_open, open; prop last as !+true; infer [[tell_open => +open || last]];",
+        width: 2,
+        satisfying: "10 01",
+        other: "10 00",
         truths: "10",
     },
 ];

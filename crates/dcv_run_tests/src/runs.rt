@@ -283,7 +283,8 @@ fn first_faults_of_texts(rt: HostRuntime) -> Result<(), Fail> {
         ("infer pt", "fault syntax at 8\n"),
         ("infer pt; pt", "fault syntax at 10\n"),
         ("infer a234567890123456789012345;", "fault name at 6\n"),
-        ("var p; infer [[p]]; -", "fault byte at 20\n"),
+        ("var p; infer [[p]]; -", "fault syntax at 20\n"),
+        ("var p; infer [[p]]; @", "fault byte at 20\n"),
     ] {
         expect_checked(&rt, alloc, text.as_bytes(), (3, "", err))?;
     }

@@ -3,6 +3,10 @@ use Rattle.std.proofs.Common.{Vec, Global, ap}
 use Rattle.std.proofs.lemmas.Result.{err_from_is_err_and}
 use Rattle.dcv_syntax.specs.Views.{plain_file}
 use Rattle.dcv_syntax.specs.declared.names.Name.{Name}
+use Rattle.dcv_scope.specs.Faults.{fault_of_goal}
+use Rattle.dcv_scope.specs.Names.{fault_of_names}
+use Rattle.dcv_scope.proofs.Faulting.{no_bound_shift}
+use Rattle.dcv_cli.proofs.VariableNames.{none_of_both}
 use Rattle.dcv_cli.proofs.Budgets.{is_core}
 use Rattle.dcv_cli.proofs.Outcomes.{explains_reading, explains_scope}
 use Rattle.dcv_cli.proofs.expanded.core_of.Goals as goal
@@ -30,5 +34,8 @@ returns-clause-expanded c = record {
     declared = c.in_ok-core.ensures.declared;
     steps = c.in_ok-core.ensures.steps;
     core = is_core (plain_file c.in_ok-file.file) c.in_ok-core.core c.in_ok-core.ensures.declared c.in_ok-core.ensures.steps;
+    unbound =
+        let file = plain_file c.in_ok-file.file in
+        no_bound_shift file (none_of_both (fault_of_names file) (fault_of_goal file) c.in_ok-core.ensures.no_fault).1;
   };
 }

@@ -4,7 +4,7 @@ use Rattle.dcv_cli.proofs.expanded.counted.Goals as goal
 
 pub returns-clause-built : goal.returns-clause-built
 returns-clause-built c file is =
-    built_if_ok file c.args.expanded.now.core is.declared is.steps c.args.limits c.automaton_of.result c.core_means_text.ensures.whole c.canonical_for_same_behaviours.ensures
+    built_if_ok file c.args.expanded.now.core is.declared is.steps is.unbound c.args.limits c.automaton_of.result c.core_means_text.ensures.whole c.canonical_for_same_behaviours.ensures
     c.automaton_of.ensures.canonical c.automaton_of.ensures.within c.automaton_of.ensures.few_states c.automaton_of.ensures.few_nodes
 
 pub returns-clause-counts : goal.returns-clause-counts
