@@ -22,7 +22,7 @@ row() {
   printf '%s' "$@" >"$work/text"
   run "$status" "$line" check "$name"
   case $status in
-    0 | 1) run "$status" 'automaton 1' automaton "$name" ;;
+    0 | 1) run "$status" 'automaton 2' automaton "$name" ;;
     *) run "$status" "$line" automaton "$name" ;;
   esac
   rows=$((rows + 1))
@@ -69,6 +69,8 @@ row 3 'fault depth at 6' 'all lists below all' 'infer ' "$(times 250 'pt<=>pt||p
 # The same of propositions.
 row 1 'not valid' '500 parentheses in a proposition' 'var p; infer [[(' "$open" 'p' "$close" ')]];'
 row 1 'not valid' '500 negations in a proposition' 'var p; infer [[' "$(times 500 '!')" 'p]];'
+row 1 'not valid' '32 prior propositions' 'infer [[' "$(times 32 '-')" 'true]];'
+row 3 'fault slots at 13' '500 prior propositions' 'var p; infer [[' "$(times 500 '-')" 'p]];'
 row 0 'valid' '500 arrows in a proposition' 'var p; infer [[' "$(times 500 'p=>')" 'p]];'
 row 1 'not valid' '499 times <=> in a proposition' 'var p; infer [[' "$(times 499 'p<=>(')" '!p' "$close" ']];'
 for operator in '||' '&&'; do
