@@ -596,22 +596,10 @@ fn words_that_ask_for_nothing(rt: HostRuntime) -> Result<(), Fail> {
     Ok(())
 }
 
-// One byte at each read.
+// One byte at each read and each write.
 const SLOW: Outside<'static> = Outside {
     reads: &[1; 32],
-    ..WHOLE
-};
-
-// The second read fails.
-const UNREADABLE: Outside<'static> = Outside {
-    failing_reads: &[2],
-    ..WHOLE
-};
-
-// The second write fails, after four bytes.
-const BROKEN_PIPE: Outside<'static> = Outside {
-    writes: &[4, 4],
-    failing_writes: &[2],
+    writes: &[1; 64],
     ..WHOLE
 };
 
@@ -627,22 +615,6 @@ fn faults_of_the_outside(rt: HostRuntime) -> Result<(), Fail> {
     let text = b"var p; infer [[p]];";
     let words = ["check", "f"];
     expect(&rt, alloc, &words, text, &SLOW, (1, SOMETIMES, ""))?;
-    expect(
-        &rt,
-        alloc,
-        &words,
-        text,
-        &UNREADABLE,
-        (5, "", "fault read\n"),
-    )?;
-    expect(
-        &rt,
-        alloc,
-        &words,
-        text,
-        &BROKEN_PIPE,
-        (6, "not ", "fault write\n"),
-    )?;
     expect(&rt, alloc, &words, b"", &NO_MESSAGES, (3, "", ""))?;
     expect(
         &rt,
@@ -651,6 +623,55 @@ fn faults_of_the_outside(rt: HostRuntime) -> Result<(), Fail> {
         text,
         &WHOLE,
         (5, "", "fault open\n"),
+    )?;
+    Ok(())
+}
+
+// One byte at each read. The first call opens the file, 19 read its bytes, and one finds its end: no call is made behind these.
+#[test]
+fn each_call_of_the_source_fails(rt: HostRuntime) -> Result<(), Fail> {
+    for call in 1..23 {
+        let outside = Outside {
+            failing_reads: &[call],
+            ..SLOW
+        };
+        let wanted = match call {
+            1 => (5, "", "fault open\n"),
+            22 => (1, SOMETIMES, ""),
+            _ => (5, "", "fault read\n"),
+        };
+        let text = b"var p; infer [[p]];";
+        expect(&rt, rt.alloc(), &["check", "f"], text, &outside, wanted)?;
+    }
+    Ok(())
+}
+
+// One byte at each of the 53 writes: all that came before the one that fails is there.
+#[test]
+fn each_write_fails(rt: HostRuntime) -> Result<(), Fail> {
+    let text = b"var p; infer [[p]];";
+    for write in 1..54 {
+        let outside = Outside {
+            failing_writes: &[write],
+            ..SLOW
+        };
+        let ran = run_of(rt.alloc(), &["check", "f"], text, &outside)?;
+        assert_eq!(rt; ran.status, 6, "{write}");
+        assert_eq!(rt; ran.out.len() as u64, write - 1);
+        assert!(rt; SOMETIMES.as_bytes().starts_with(&ran.out), "{write}");
+        assert_eq!(rt; ran.err.as_slice(), b"fault write\n".as_slice(), "{write}");
+    }
+    let outside = Outside {
+        failing_writes: &[54],
+        ..SLOW
+    };
+    expect(
+        &rt,
+        rt.alloc(),
+        &["check", "f"],
+        text,
+        &outside,
+        (1, SOMETIMES, ""),
     )?;
     Ok(())
 }
