@@ -3,7 +3,8 @@
 //! A grammar is written as one reads it, rule by rule. `{x}` is a rule `more = x more | nothing`, and an alternative
 //! is factored until the next class picks its body. Rules and classes are numbers, for which a crate above has names.
 
-ghost use Rattle.std.specs.Prelude.{◌≡◌, ◌<◌, ℕ, Some, length, slice_get};
+ghost use Rattle.std.specs.Prelude.{◌≡◌, ◌==◌, ◌<◌, ℕ, Some, length, slice_get};
+ghost use Rattle.std.specs.List.{list_any};
 ghost use Rattle.dcv_grammar.specs.Grammar.{production_of, grammar_of};
 ghost use Rattle.dcv_grammar.specs.Picked.{body_for};
 
@@ -61,6 +62,13 @@ impl Classified for u8 {
     }
 }
 
+// Whether a class is among some. There are few, so they are looked through one by one.
+fn has_class(classes: &[u8], class: u8) -> bool
+    ensures { result ≡ list_any (λ k. k == class) classes.now }
+{
+    classes.iter().any(|other| *other == class)
+}
+
 impl<'g> Production<'g> {
     /// The body that the next class picks, or at the end the one that is taken otherwise.
     pub fn body_for(&self, next: Option<u8>) -> &'g [Symbol]
@@ -68,7 +76,7 @@ impl<'g> Production<'g> {
     {
         if let Some(class) = next {
             for alternative in self.alternatives {
-                if alternative.classes.contains(&class) {
+                if has_class(alternative.classes, class) {
                     return alternative.body;
                 }
             }

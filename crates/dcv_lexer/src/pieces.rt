@@ -1,6 +1,6 @@
 // The longest piece with which a text begins: white space, a comment or a token.
-ghost use Rattle.std.specs.Prelude.{◌≡◌, map, option_map, take, Some, IfNone, IfSome, IsTrue};
-ghost use Rattle.std.specs.List.{prefix_len};
+ghost use Rattle.std.specs.Prelude.{◌≡◌, map, option_map, take, nat_eq, Some, IfNone, IfSome, IsTrue};
+ghost use Rattle.std.specs.List.{prefix_len, starts_with};
 ghost use Rattle.std.specs.Char.{is_ascii_digit};
 ghost use Rattle.dcv_lexer.specs.Lexicon.{lexicon_of, is_white, is_in_line, is_word_byte, word_class, is_orderly};
 ghost use Rattle.dcv_lexer.specs.Cuts.{BeginsWithNoPiece};
@@ -50,12 +50,22 @@ fn number_length(text: &[u8]) -> usize
     text.iter().take_while(|byte| byte.is_ascii_digit()).count()
 }
 
+// Whether the text begins with these bytes. Most do not have its first byte.
+fn begins_with(text: &[u8], beginning: &[u8]) -> bool
+    ensures { result ≡ starts_with nat_eq text.now beginning.now }
+{
+    match (text, beginning) {
+        ([first, ..], [other, ..]) if first != other => false,
+        _ => text.starts_with(beginning),
+    }
+}
+
 // The first of the symbols with which the text begins, which is the longest, since longer ones come first.
 fn symbol(symbols: &[(&[u8], u8)], text: &[u8]) -> Option<Front>
     ensures { result ≡ option_map front_of (first_fit text.now (map (λ entry. (entry.0.now, entry.1)) symbols.now)) }
 {
     for (symbol, class) in symbols {
-        if text.starts_with(symbol) {
+        if begins_with(text, symbol) {
             return Some(Front {
                 length: symbol.len(),
                 class: Some(*class),

@@ -22,16 +22,16 @@ picked_later alternatives otherwise class i d all lt test whole =
     let later = picked (map alternative_of (drop (i + 1) alternatives)) otherwise class in
     sym (ap (λ b. cond b (get_or alternatives i d).body.now later) test) ∙ sym (picked_at alternatives otherwise class i d lt) ∙ whole
 
-pub returns-then-contains : goal.returns-then-contains
-returns-then-contains c =
+pub returns-then-has_class : goal.returns-then-has_class
+returns-then-has_class c =
     let self = c.args.self.now in
     picked_here self.alternatives.now self.otherwise.now c.in-Some.class c.loop-alternative.alternative-index _ (body_for (production_of self) c.args.next) c.loop-alternative-test.true
-    (sym c.contains.ensures.value ∙ c.if-contains.true)
+    (sym c.has_class.ensures ∙ c.if-has_class.true)
     (c.loop-alternative.invariant ∙ sym (ap (body_for (production_of self)) c.in-Some.is))
 
 pub loop-alternative-preserved : goal.loop-alternative-preserved
 loop-alternative-preserved c =
     let self = c.args.self.now in
     picked_later self.alternatives.now self.otherwise.now c.in-Some.class c.loop-alternative.alternative-index _ (picked (map alternative_of self.alternatives.now) self.otherwise.now c.in-Some.class) c.loop-alternative-test.true
-    (sym c.contains.ensures.value ∙ c.if-contains.false)
+    (sym c.has_class.ensures ∙ c.if-has_class.false)
     c.loop-alternative.invariant
