@@ -99,10 +99,8 @@ impl Pair {
     pub(crate) fn key(self, alloc: Global) -> Key
         ensures { (root : AnyRef) → entry_of (result, root) ≡ entry_of_pair (self, root) }
     {
-        Key::new(
-            self.round,
-            SmallVec::from_buf(alloc, [self.one(), self.other()]),
-        )
+        let operands = [self.one(), self.other(), Operand::default()];
+        Key::new(self.round, SmallVec::from_buf_and_len(alloc, operands, 2))
     }
 }
 

@@ -16,12 +16,12 @@ use std::alloc::{AllocError, Global};
 pub(crate) type Operand = (u32, Ref);
 
 // The operands of one visit that has not two, and the numbers that are merged in one. Few take no memory of their own.
-pub(crate) type Operands = SmallVec<Operand, 2>;
+pub(crate) type Operands = SmallVec<Operand, 3>;
 
 pub(crate) type Numbers = SmallVec<u32, FEW>;
 
 // So many numbers lie in place.
-const FEW: usize = 4;
+const FEW: usize = 16;
 
 // What an operand's number says: a leaf's own number, which is the same in both arenas, or a node of the first or of the second.
 #[derive(Clone, Copy, Debug, PartialEq, Eq)]

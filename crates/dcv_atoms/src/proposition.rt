@@ -28,8 +28,15 @@ pub(crate) fn diagram(alloc: Global, arena: &mut Arena, truth: &Truth) -> Result
     ensures exceeds { (limit : ℕ) → result ≡ Err (Nodes limit) → Exceeds arena.old (parts (plain_truth truth.now)) limit }
     ensures arena { IsArena arena.new }
 {
-    let mut rounds = Rounds::new(alloc)?;
-    part(alloc, arena, truth, &mut rounds)
+    match truth {
+        // with nothing to be joined, and so with nothing to be remembered
+        Truth::Constant(truth) => Ok(constant(arena, *truth)),
+        Truth::Slot(slot) => value(arena, *slot),
+        _ => {
+            let mut rounds = Rounds::new(alloc)?;
+            part(alloc, arena, truth, &mut rounds)
+        }
+    }
 }
 
 // The letters in which a part of it holds.
@@ -48,7 +55,7 @@ fn part(
     ensures arena { IsArena arena.new }
 {
     match truth {
-        Truth::Constant(truth) => Ok(arena.leaf(u32::from(*truth))),
+        Truth::Constant(truth) => Ok(constant(arena, *truth)),
         Truth::Slot(slot) => value(arena, *slot),
         Truth::Not(operand) => {
             let root = part(alloc, arena, operand, rounds)?;
@@ -60,6 +67,15 @@ fn part(
         // of no core
         Truth::Shift(_, _, _) => Ok(arena.leaf(0)),
     }
+}
+
+// The letters in which a truth that does not change holds: all, or none.
+fn constant(arena: &Arena, truth: bool) -> Ref
+    requires arena { IsArena arena.now }
+    ensures means { Means arena.now result arena.now.slots (truth_holds (TruthConstant truth)) }
+    ensures builds { Builds arena.now arena.now (TruthConstant truth ∷ []) }
+{
+    arena.leaf(u32::from(truth))
 }
 
 // The letters in which the slot is true. One that letters do not have is false in them.

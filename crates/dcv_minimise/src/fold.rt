@@ -1,7 +1,7 @@
 // The automaton whose states are blocks (after A. Nerode, 1958). Of each block that words lead to one state is kept, the one
 // with the least word, and the states are numbered in the order of these words. The start gets a state of its own only where
 // no block has its row: whether it accepts does not matter, since no word is empty.
-ghost use Rattle.std.specs.Prelude.{◌≡◌, ◌≢◌, ◌<◌, ◌^◌, length, drop, slice_index_or, IfOk};
+ghost use Rattle.std.specs.Prelude.{◌≡◌, ◌≢◌, ◌<◌, ◌^◌, [], ◌∷◌, length, drop, slice_index_or, IfOk};
 ghost use Rattle.std.specs.List.{All, AllPairs};
 ghost use Rattle.dcv_dfa.specs.Raw.{IsRaw, automaton_of, next_in};
 ghost use Rattle.dcv_reach.specs.Reached.{IsReached, states_of};
@@ -92,7 +92,7 @@ fn first_states(
     ensures { IfOk result (λ states. HasFirsts blocks.now (states_of found.now) (length (states_of found.now)) start states.items) }
 {
     let mut met = vec![in alloc; false; blocks.len()]?;
-    let mut states = vec![in alloc; start]?;
+    let mut states = alone_with_room(alloc, start, found.len())?;
     for one in found {
         let block = blocks[one.state as usize] as usize;
         if met[block] {
@@ -102,6 +102,15 @@ fn first_states(
         states.push(one.state)?;
     }
     Ok(states)
+}
+
+// The start alone, with room for so many states behind it.
+fn alone_with_room(alloc: Global, start: u32, room: usize) -> Result<Vec<u32>, AllocError>
+    ensures items { IfOk result (λ states. states.items ≡ start ∷ []) }
+{
+    let mut alone = Vec::with_capacity(alloc, room.saturating_add(1))?;
+    alone.push(start)?;
+    Ok(alone)
 }
 
 // The place, behind the start, of the first of these states that has the start's row: whose letters lead to the same blocks. Most differ from
@@ -146,7 +155,7 @@ fn rows_of(alloc: Global, raw: &Raw, states: &[u32], numbers: &[u32]) -> Result<
 {
     let mut arena = Arena::new(alloc, raw.slots(), u32::MAX);
     let mut remapping = Remapping::new(alloc, raw.arena(), numbers);
-    let mut rows = Vec::new(alloc);
+    let mut rows = Vec::with_capacity(alloc, states.len())?;
     for state in states {
         let old = raw.row(*state);
         match remapping.remap(&mut arena, old) {
@@ -178,7 +187,7 @@ fn numbers_of(alloc: Global, kept: &[u32], blocks: &[u32]) -> Result<Vec<u32>, A
     ensures { IfOk result (λ numbers. AreNumbers blocks.now kept.now numbers.items) }
 {
     let of_block = numbers_of_blocks(alloc, kept, blocks)?;
-    let mut numbers = Vec::new(alloc);
+    let mut numbers = Vec::with_capacity(alloc, blocks.len())?;
     for block in blocks {
         numbers.push(of_block[*block as usize])?;
     }
@@ -207,7 +216,7 @@ fn flags(alloc: Global, raw: &Raw, kept: &Kept) -> Result<Vec<bool>, AllocError>
     requires some { 0 < length kept.now.states.items }
     ensures { IfOk result (λ flags. flags.items ≡ flags_of raw.now kept.now.states.items kept.now.alone) }
 {
-    let mut accepting = Vec::new(alloc);
+    let mut accepting = Vec::with_capacity(alloc, kept.states.len())?;
     for state in &kept.states {
         accepting.push(raw.accepting(*state))?;
     }

@@ -3,7 +3,7 @@
 ghost use Rattle.std.specs.Prelude.{◌≡◌, ◌≤◌, ◌<◌, ◌⊎◌, ℕ, true, false, length, IfOk, OnOk, Contains};
 ghost use Rattle.std.specs.List.{All};
 ghost use Rattle.dcv_minimise.specs.Partition.{IsPartition};
-ghost use Rattle.dcv_minimise.specs.Rounds.{IsState, LeadTo};
+ghost use Rattle.dcv_minimise.specs.Rounds.{IsState, IsWitnessed, IsTold, LeadTo};
 ghost use Rattle.dcv_members.specs.Members.{list_of};
 ghost use Rattle.dcv_minimise.specs.Refining.{IsRefining};
 
@@ -32,7 +32,20 @@ use std::alloc::{AllocError, Global};
 pub(crate) fn refine(alloc: Global, raw: &Raw) -> Result<Vec<u32>, AllocError>
     ensures { IfOk result (λ blocks. IsPartition raw.now blocks.items) }
 {
-    let mut refining = Refining::new(alloc, raw)?;
+    let partition = by_hashes(alloc, raw)?;
+    if partition.is_discrete(raw.states()) {
+        return Ok(partition.into_blocks());
+    }
+    divide_on(alloc, raw, partition)
+}
+
+// The same, from a partition on that tells no states apart that go on alike.
+fn divide_on(alloc: Global, raw: &Raw, partition: Partition) -> Result<Vec<u32>, AllocError>
+    requires witnessed { IsWitnessed raw.now partition.blocks.items partition.witness.items }
+    requires told { IsTold raw.now partition.blocks.items }
+    ensures { IfOk result (λ blocks. IsPartition raw.now blocks.items) }
+{
+    let mut refining = Refining::new(alloc, raw, partition)?;
     refining.divide_all(alloc, raw)?;
     let states = raw.states();
     if !refining.goes_on(states) {
@@ -61,13 +74,14 @@ struct Refining {
 }
 
 impl Refining {
-    // The blocks by flags, as if they had all been one.
-    fn new(alloc: Global, raw: &Raw) -> Result<Refining, AllocError>
+    // The blocks of a partition, as if they had all been one.
+    fn new(alloc: Global, raw: &Raw, partition: Partition) -> Result<Refining, AllocError>
+        requires witnessed { IsWitnessed raw.now partition.blocks.items partition.witness.items }
+        requires told { IsTold raw.now partition.blocks.items }
         ensures { IfOk result (λ refining. IsRefining raw.now refining.partition.blocks.items refining.partition.witness.items
             (list_of refining.members) refining.moved.items) }
     {
         let all = every_state(alloc, raw.states())?;
-        let partition = by_hashes(alloc, raw)?;
         let mut members = Members::new(alloc);
         follow(alloc, &mut members, &partition.blocks, &all)?;
         let moved = partition.outside_first(alloc)?;
@@ -87,7 +101,7 @@ impl Refining {
         ensures on { result ≡ true → 0 < length self.now.moved.items }
         ensures over { result ≡ false → (length self.now.moved.items ≡ 0) ⊎ (states ≤ length self.now.partition.witness.items) }
     {
-        !self.moved.is_empty() && self.partition.witness.len() < states as usize
+        !self.moved.is_empty() && !self.partition.is_discrete(states)
     }
 
     // The first rounds, while many states move. What leads to these is nearly every state, so all are looked at, with no way up and no index.
@@ -152,7 +166,7 @@ fn every_state(alloc: Global, states: u32) -> Result<Vec<u32>, AllocError>
     ensures each { IfOk result (λ all. (state : ℕ) → state < states → Contains all.items state) }
     ensures only { IfOk result (λ all. All (λ state. state < states) all.items) }
 {
-    let mut all = Vec::new(alloc);
+    let mut all = Vec::with_capacity(alloc, states as usize)?;
     for state in 0..states {
         all.push(state)?;
     }

@@ -38,11 +38,17 @@ pub(crate) fn by_hashes(alloc: Global, raw: &Raw) -> Result<Partition, AllocErro
     for _round in 0..MOST_ROUNDS {
         let before = partition.witness.len();
         partition = divided(alloc, raw, &partition.blocks)?;
-        if partition.witness.len() <= before.saturating_add(before / 4) {
+        if !goes_on(raw.states(), before, partition.witness.len()) {
             return Ok(partition);
         }
     }
     Ok(partition)
+}
+
+// Whether hashes may divide so many blocks further with profit, where there were fewer before: not all states are apart, and it made a
+// quarter more of them.
+fn goes_on(states: u32, before: usize, blocks: usize) -> bool {
+    blocks < states as usize && blocks > before.saturating_add(before / 4)
 }
 
 // The blocks divided once.
@@ -53,12 +59,13 @@ fn divided(alloc: Global, raw: &Raw, blocks: &[u32]) -> Result<Partition, AllocE
     ensures told { IfOk result (λ partition. IsTold raw.now partition.blocks.items) }
 {
     let hashes = hashes_of(alloc, raw.arena(), blocks)?;
+    let states = raw.states();
     let mut made = NewBlocks {
         parts: IndexSet::new(alloc),
-        blocks: Vec::new(alloc),
+        blocks: Vec::with_capacity(alloc, states as usize)?,
         witness: Vec::new(alloc),
     };
-    for state in 0..raw.states() {
+    for state in 0..states {
         let hash = hash_at(blocks, &hashes, raw.row(state));
         let block = blocks[state as usize];
         made.add(Alike { block, hash }, state)?;
@@ -93,8 +100,9 @@ fn hashes_of(alloc: Global, arena: &Arena, blocks: &[u32]) -> Result<Vec<u64>, A
 {
     // for the prover: of an arena that was asked it is known what is true of every arena.
     let _ = arena.slots();
-    let mut hashes = Vec::new(alloc);
-    for place in 0..arena.len() {
+    let nodes = arena.len();
+    let mut hashes = Vec::with_capacity(alloc, nodes as usize)?;
+    for place in 0..nodes {
         let hash = hash_of(arena, blocks, &hashes, place);
         hashes.push(hash)?;
     }

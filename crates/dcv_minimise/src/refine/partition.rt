@@ -1,5 +1,5 @@
 // States in blocks, with a witness for each block.
-ghost use Rattle.std.specs.Prelude.{◌≡◌, ◌≢◌, ◌≤◌, ◌<◌, ◌^◌, ◌==◌, ◌⊎◌, ℕ, length, map, position, IfOk, OnOk, Contains};
+ghost use Rattle.std.specs.Prelude.{◌≡◌, ◌≢◌, ◌≤◌, ◌<◌, ◌^◌, ◌==◌, ◌⊎◌, ℕ, true, false, length, map, position, IfOk, OnOk, Contains};
 ghost use Rattle.std.specs.List.{All};
 ghost use Rattle.dcv_minimise.specs.Partition.{block_of};
 ghost use Rattle.dcv_minimise.specs.Rounds.{IsState, HaveOneRow, IsRound, IsWitnessed, IsTold, HaveStayed, IsByFlag, IsByNumber, witness_of, flag_block};
@@ -28,6 +28,14 @@ impl Partition {
         let blocks = blocks_by_flag(alloc, raw)?;
         let witness = witness_by_flag(alloc, &blocks)?;
         Ok(Partition { blocks, witness })
+    }
+
+    // Whether each of so many states has a block of its own.
+    pub(crate) fn is_discrete(&self, states: u32) -> bool
+        ensures all { result ≡ true → states ≤ length self.now.witness.items }
+        ensures not_all { result ≡ false → length self.now.witness.items < states }
+    {
+        self.witness.len() >= states as usize
     }
 
     // The states that are not in block 0.
@@ -100,7 +108,7 @@ fn blocks_by_flag(alloc: Global, raw: &Raw) -> Result<Vec<u32>, AllocError>
 {
     let states = raw.states();
     let first = raw.accepting(0);
-    let mut blocks = Vec::new(alloc);
+    let mut blocks = Vec::with_capacity(alloc, states as usize)?;
     for state in 0..states {
         blocks.push(block_of_flag(first, raw.accepting(state)))?;
     }

@@ -1,29 +1,17 @@
-use Rattle.std.proofs.Common.{rules, ◌≡◌, ◌+◌, ℕ, List, [], map, drop, Err, refl, ap, sym, subst, ◌∙◌, arith}
+use Rattle.std.proofs.Common.{◌≡◌, ◌+◌, ℕ, List, [], map, drop, Err, refl, ap, sym, subst, ◌∙◌, arith}
 use Rattle.std.proofs.lemmas.Result.{err_from_is_err_and}
 use Rattle.dcv_core.specs.declared.truths.Truth.{Truth}
-use Rattle.dcv_core.specs.Core.{PlainTruth, TruthConstant, TruthNot}
+use Rattle.dcv_core.specs.Core.{PlainTruth, TruthNot}
 use Rattle.dcv_core.specs.Holds.{truth_holds}
 use Rattle.dcv_core.specs.TruthViews.{plain_truth, truths_of}
 use Rattle.dcv_atoms.specs.declared.faults.AtomFault.TheVariants.{Nodes}
-use Rattle.dcv_atoms.specs.Parts.{number_of_truth, parts}
+use Rattle.dcv_atoms.specs.Parts.{parts}
 use Rattle.dcv_atoms.specs.Functions.{list_of}
-use Rattle.dcv_atoms.specs.Built.{Builds, Exceeds, OnTheWay}
-use Rattle.dcv_atoms.proofs.Building.{builds_there}
+use Rattle.dcv_atoms.specs.Built.{Exceeds, OnTheWay}
 use Rattle.dcv_atoms.proofs.FaultFacts.{same_fault}
 use Rattle.dcv_atoms.proofs.ListSteps.{on_ok, if_ok, means_at, operand_exceeds, not_means, not_is, not_builds, not_exceeds, left_is, none_left}
 use Rattle.dcv_atoms.proofs.ListSteps.{way_goes_on, way_exceeds, way_means, way_ends, way_ends_over}
 use Rattle.dcv_atoms.proofs.proposition.+diagrams.Goals as goal
-
-pub part-returns-in-Constant-clause-builds : goal.part-returns-in-Constant-clause-builds
-part-returns-in-Constant-clause-builds t c =
-    let arena = c.args.arena.now in
-    let number : c.from.result ≡ number_of_truth c.in-Constant.truth = search rules in
-    subst (λ whole. Builds arena arena (parts whole)) (sym (ap plain_truth c.in-Constant.is))
-    (builds_there arena c.leaf.result (TruthConstant c.in-Constant.truth) (record {
-      is_ref = c.leaf.ensures.is_ref;
-      slots_are = refl;
-      value = λ letter size. c.leaf.ensures.value letter ∙ number;
-    }))
 
 pub part-returns-in_err-root-in-Not-clause-exceeds : goal.part-returns-in_err-root-in-Not-clause-exceeds
 part-returns-in_err-root-in-Not-clause-exceeds t c limit e =

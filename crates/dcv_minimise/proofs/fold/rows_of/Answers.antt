@@ -8,9 +8,9 @@ use Rattle.dcv_minimise.proofs.fold.rows_of.Goals as goal
 
 pub loop-state-init : goal.loop-state-init
 loop-state-init c = record {
-  rows = no_rows c.args.raw.now c.args.states.now c.args.numbers.now c.new-arena.result c.new-rows.result.items c.new-arena.ensures.arena
-      (c.new-arena.ensures.slots ∙ c.slots.ensures.slots) c.new-arena.ensures.empty c.new-rows.ensures.items;
-  count = ap length c.new-rows.ensures.items;
+  rows = no_rows c.args.raw.now c.args.states.now c.args.numbers.now c.new-arena.result c.in_ok-rows.rows.items c.new-arena.ensures.arena
+      (c.new-arena.ensures.slots ∙ c.slots.ensures.slots) c.new-arena.ensures.empty c.in_ok-rows.ensures.items;
+  count = ap length c.in_ok-rows.ensures.items;
   from = c.new-remapping.ensures.from ∙ c.arena.ensures.arena;
   new = c.new-remapping.ensures.map;
   holds = c.new-remapping.ensures.holds c.new-arena.result;

@@ -6,22 +6,21 @@ use Rattle.dcv_minimise.proofs.refine.Refining.new.Goals as goal
 
 pub follow-requires-clause-has : goal.follow-requires-clause-has
 follow-requires-clause-has c state inside =
-    let size = c.in_ok-partition.ensures.witnessed.each in
+    let size = c.requires.witnessed.each in
     let within : state < c.states.result = omega (arith, inside, ap length c.deref.ensures.value, size, c.states.ensures.states) in
     inl (subst (λ list. Contains list state) (sym c.deref-2.ensures.value) (c.in_ok-all.ensures.each state within))
 
 pub returns : goal.returns
 returns c =
     let raw = c.args.raw.now in
-    let blocks = c.in_ok-partition.partition.blocks.items in
-    let first = c.in_ok-partition.ensures in
-    let size = first.witnessed.each in
+    let blocks = c.args.partition.blocks.items in
+    let size = c.requires.witnessed.each in
     let moved = c.in_ok-moved.moved.items in
     record {
       is_raw = c.states.ensures.raw;
       refined = record {
-        witnessed = first.witnessed;
-        told = first.told;
+        witnessed = c.requires.witnessed;
+        told = c.requires.told;
         stable = stable_at_start raw c.states.ensures.raw blocks moved size c.in_ok-moved.ensures.all;
       };
       own = subst (λ blocks. HaveTheirOwn blocks (list_of c.follow.new.members)) c.deref.ensures.value c.in_ok-follow.ensures;

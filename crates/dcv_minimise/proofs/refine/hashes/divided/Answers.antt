@@ -32,13 +32,13 @@ loop-state-preserved c =
 all_divided : (c : After-loop-state) → AreDivided Alike (alike_of c.args.raw.now c.args.blocks.now c.in_ok-hashes.hashes.items) (length c.args.raw.now.rows)
     c.loop-state.made.parts.keys c.loop-state.made.blocks.items c.loop-state.made.witness.items
 all_divided c =
-    let count : c.loop-state.state ≡ length c.args.raw.now.rows = omega (arith, c.loop-state-test.false, c.states-state-end.ensures.states, c.loop-state.auto.state-end) in
+    let count : c.loop-state.state ≡ length c.args.raw.now.rows = omega (arith, c.loop-state-test.false, c.states-states.ensures.states, c.loop-state.auto.state-end) in
     subst (λ count. AreDivided Alike (alike_of c.args.raw.now c.args.blocks.now c.in_ok-hashes.hashes.items) count c.loop-state.made.parts.keys c.loop-state.made.blocks.items c.loop-state.made.witness.items)
     count c.loop-state.invariant.divided
 
 pub returns-clause-witnessed : goal.returns-clause-witnessed
 returns-clause-witnessed c =
-    divided_witnessed c.args.raw.now c.states-state-end.ensures.raw c.args.blocks.now c.in_ok-hashes.hashes.items c.loop-state.made.parts.keys c.loop-state.made.blocks.items c.loop-state.made.witness.items
+    divided_witnessed c.args.raw.now c.states-states.ensures.raw c.args.blocks.now c.in_ok-hashes.hashes.items c.loop-state.made.parts.keys c.loop-state.made.blocks.items c.loop-state.made.witness.items
     (all_divided (goal.at.returns-clause-witnessed c).After-loop-state)
 
 pub returns-clause-told : goal.returns-clause-told
@@ -46,7 +46,7 @@ returns-clause-told c =
     let raw = c.args.raw.now in
     let blocks = c.args.blocks.now in
     let hashes = c.in_ok-hashes.hashes.items in
-    let is = c.states-state-end.ensures.raw in
+    let is = c.states-states.ensures.raw in
     let made = c.loop-state.made in
     let each : length hashes ≡ length raw.arena.nodes = c.in_ok-hashes.ensures.each ∙ ap (λ arena. length arena.nodes) c.arena.ensures.arena in
     let hashed : AreHashes raw.arena blocks hashes = subst (λ arena. AreHashes arena blocks hashes) c.arena.ensures.arena c.in_ok-hashes.ensures.hashes in

@@ -11,7 +11,7 @@ loop-place-preserved c =
     let blocks = c.args.blocks.now in
     let hashes = c.loop-place.hashes.items in
     let hash = c.hash_of-hash.result in
-    let within : length hashes < length arena.nodes = omega (arith, was.each, c.len-place-end.ensures.len, c.loop-place-test.true) in
+    let within : length hashes < length arena.nodes = omega (arith, was.each, c.len-nodes.ensures.len, c.loop-place-test.true) in
     let own : hash ≡ hash_of_node arena blocks hashes (length hashes) =
     c.hash_of-hash.ensures ∙ ap (λ list. hash_of_node arena blocks list c.loop-place.place) c.deref.ensures.value ∙ ap (hash_of_node arena blocks hashes) (sym was.each) in
     record {

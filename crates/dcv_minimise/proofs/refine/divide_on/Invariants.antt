@@ -1,7 +1,7 @@
 use Rattle.std.proofs.Common.{◌+◌, ◌-◌, min, length}
 use Rattle.dcv_members.specs.Members.{list_of}
 use Rattle.dcv_minimise.specs.Refining.{IsRefining}
-use Rattle.dcv_minimise.proofs.refine.refine.Given as goal
+use Rattle.dcv_minimise.proofs.refine.divide_on.Given as goal
 
 abbrev pub invariant-rounds : goal.invariant-rounds
 invariant-rounds l = IsRefining l.raw l.refining.partition.blocks.items l.refining.partition.witness.items (list_of l.refining.members) l.refining.moved.items
