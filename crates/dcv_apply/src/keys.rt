@@ -105,7 +105,7 @@ impl Pair {
 }
 
 // Any number of operands. The digest is a number that they were mixed into once, so that neither a look-up nor
-// an entry goes over the operands again to hash them.
+// an entry goes over the operands again to hash them. Leaves alone are not looked up, so they have none.
 #[derive(Debug, PartialEq, Eq, Drop)]
 pub(crate) struct Key {
     digest: u32,
@@ -118,9 +118,8 @@ impl Key {
         ensures round { result.round ≡ round }
         ensures operands { result.operands.items ≡ operands.items }
     {
-        let digest = operands.iter().fold(u64::from(round), mixed_with);
         Key {
-            digest: (digest >> 32) as u32,
+            digest: digest_of(round, &operands),
             round,
             operands,
         }
@@ -139,6 +138,18 @@ impl Hash for Key {
     fn hash<H: Hasher>(&self, state: &mut H) {
         state.write_u32(self.digest);
     }
+}
+
+// The digest of operands in a round.
+fn digest_of(round: u32, operands: &[Operand]) -> u32 {
+    if operands.iter().all(is_leaf) {
+        return 0;
+    }
+    (operands.iter().fold(u64::from(round), mixed_with) >> 32) as u32
+}
+
+fn is_leaf(operand: &Operand) -> bool {
+    matches!(operand.1, Ref::Leaf(_))
 }
 
 // The digest of what comes before an operand and of the operand.

@@ -233,11 +233,12 @@ impl Operation<'_> {
         if slot == slots {
             return self.merge_numbers(arena, &visit, merge);
         }
-        match visit.remembered(memo) {
+        let last = slot + 1 == slots;
+        match visit.remembered(memo, last) {
             Some(root) => Ok(root),
             None => {
                 let root = self.merge_sides(arena, &visit, slot, merge, memo)?;
-                visit.remember(memo, root);
+                visit.remember(memo, root, last);
                 Ok(root)
             }
         }

@@ -40,14 +40,14 @@ pub(crate) trait Visit: Drop {
         ensures { IfOk result (λ numbers. (letter : List Bool) → length letter ≡ slots
             → numbers.items ≡ merged_by operation.now (operands self.now) letter) };
 
-    // The ref that is remembered.
-    fn remembered(&self, memo: &mut Memo) -> Option<Ref>
+    // The ref that is remembered. `last` says that the operands depend on the last slot alone.
+    fn remembered(&self, memo: &mut Memo, last: bool) -> Option<Ref>
         ensures found { IfSome result (λ root. Contains memo.old.entries (entry (round self.now) (operands self.now) root)) }
         ensures kept { KeepsEntries memo.old memo.new }
         ensures capacity { memo.new.capacity ≡ memo.old.capacity };
 
-    // Remembers the ref, unless memory runs out. Others may be forgotten for it, and then too.
-    fn remember(self, memo: &mut Memo, root: Ref)
+    // Remembers the ref, unless it is as good to merge the operands again, or memory runs out. Others may be forgotten for it, and then too.
+    fn remember(self, memo: &mut Memo, root: Ref, last: bool)
         ensures adds { Adds (entry (round self) (operands self) root) memo.old memo.new }
         ensures capacity { memo.new.capacity ≡ memo.old.capacity };
 }
@@ -79,12 +79,12 @@ impl Visit for Pair {
     }
 
     #[inline(always)]
-    fn remembered(&self, memo: &mut Memo) -> Option<Ref> {
+    fn remembered(&self, memo: &mut Memo, _last: bool) -> Option<Ref> {
         memo.get_pair(self)
     }
 
     #[inline(always)]
-    fn remember(self, memo: &mut Memo, root: Ref) {
+    fn remember(self, memo: &mut Memo, root: Ref, _last: bool) {
         memo.put_pair(self, root);
     }
 }
@@ -112,11 +112,18 @@ impl Visit for Key {
         operation.numbers(&self.operands, slots)
     }
 
-    fn remembered(&self, memo: &mut Memo) -> Option<Ref> {
+    // A list of operands that has one slot to go is merged as soon as it is found again, and many such lists take more memory than all else.
+    fn remembered(&self, memo: &mut Memo, last: bool) -> Option<Ref> {
+        if last {
+            return None;
+        }
         memo.get(self)
     }
 
-    fn remember(self, memo: &mut Memo, root: Ref) {
+    fn remember(self, memo: &mut Memo, root: Ref, last: bool) {
+        if last {
+            return;
+        }
         memo.put(self, root);
     }
 }
