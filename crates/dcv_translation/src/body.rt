@@ -38,18 +38,25 @@ impl<P: Drop> Body<P> {
         self.parts.pop()
     }
 
+    // Lets go of the parts that are left.
+    fn empty(&mut self)
+        ensures { self.new ≡ [] }
+    {
+        if !self.parts.is_empty() {
+            self.parts.clear();
+        }
+    }
+
     // Takes the parts from the first one on off a stack, in the place of those that are left.
     pub(crate) fn refill(&mut self, stack: &mut Vec<P>, first: usize) -> Result<(), AllocError>
         requires { first ≤ length stack.old.items }
         ensures stack { OnOk result (stack.new.items ≡ take first stack.old.items) }
         ensures parts { OnOk result (self.new ≡ drop first stack.old.items) }
     {
-        self.parts.clear();
+        self.empty();
+        self.parts.reserve(stack.len() - first)?;
         while first < stack.len() {
-            let Some(part) = stack.pop() else {
-                unreachable!()
-            };
-            self.parts.push(part)?;
+            self.parts.push_reserved(stack.take_last());
         }
         Ok(())
     }

@@ -100,7 +100,8 @@ impl<'a, 't, T: Translation<'a>> Machine<'a, 't, T> {
         if wanted != Some(item.class) {
             return Ok(false);
         }
-        self.parts.push(self.translation.token(item))?;
+        self.parts.reserve(1)?;
+        self.parts.push_reserved(self.translation.token(item));
         Ok(true)
     }
 
@@ -168,9 +169,15 @@ impl<'a, 't, T: Translation<'a>> Machine<'a, 't, T> {
             ++ T.scheme.action rule (drop first (map T.meaning self.old.parts.items)) ∷ []) }
     {
         self.body.refill(&mut self.parts, first)?;
-        let part = self.translation.rule(rule, &mut self.body)?;
-        self.parts.push(part)?;
-        Ok(())
+        self.parts.reserve(1)?;
+        // `?` would move the part once more.
+        match self.translation.rule(rule, &mut self.body) {
+            Ok(part) => {
+                self.parts.push_reserved(part);
+                Ok(())
+            }
+            Err(error) => Err(error),
+        }
     }
 }
 

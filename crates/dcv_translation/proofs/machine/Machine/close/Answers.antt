@@ -10,14 +10,14 @@ rule-requires g c κs =
     let own : drop c.args.first (map meaning old) ≡ map meaning c.refill.new.self = drop-map meaning c.args.first old ∙ ap (map meaning) (sym c.in_ok-refill.ensures.parts) in
     ((refl, tt), subst (IsOfBody g.T.Translation.scheme c.args.rule) own c.requires.body)
 
-pub returns-clause-parts : goal.returns-clause-parts
-returns-clause-parts g c =
+pub returns-in-Ok-clause-parts : goal.returns-in-Ok-clause-parts
+returns-in-Ok-clause-parts g c =
     let meaning = g.T.Translation.meaning in
     let action = g.T.Translation.scheme.action c.args.rule in
     let old = c.args.self.now.parts.items in
     let first = c.args.first in
     let own : map meaning c.refill.new.self ≡ drop first (map meaning old) = ap (map meaning) c.in_ok-refill.ensures.parts ∙ sym (drop-map meaning first old) in
     let before : map meaning c.refill.new.stack.items ≡ take first (map meaning old) = ap (map meaning) c.in_ok-refill.ensures.stack ∙ sym (take-map meaning first old) in
-    ap (map meaning) c.in_ok-push.ensures.items
-    ∙ map-append meaning c.refill.new.stack.items (c.in_ok-part.part ∷ [])
-    ∙ (λ i. before i ++ (c.in_ok-part.ensures ∙ ap action own) i ∷ [])
+    ap (map meaning) (c.push_reserved.ensures.items ∙ ap (λ all. all ++ c.in-Ok.part ∷ []) c.in_ok-reserve.ensures.items)
+    ∙ map-append meaning c.refill.new.stack.items (c.in-Ok.part ∷ [])
+    ∙ (λ i. before i ++ (c.in-Ok.ensures ∙ ap action own) i ∷ [])

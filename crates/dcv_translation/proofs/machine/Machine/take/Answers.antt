@@ -21,11 +21,11 @@ returns-clause-taken g c =
     let scheme = g.T.Translation.scheme in
     let old = c.args.self.now in
     let parts = c.advance.new.self.parts.items in
-    let made : map meaning c.push.new.self.items ≡ map meaning parts ++ scheme.of_token (seen c.args.item) ∷ [] =
-    ap (map meaning) c.in_ok-push.ensures.items
+    let made : map meaning c.push_reserved.new.self.items ≡ map meaning parts ++ scheme.of_token (seen c.args.item) ∷ [] =
+    ap (map meaning) (c.push_reserved.ensures.items ∙ ap (λ all. all ++ c.token.result ∷ []) c.in_ok-reserve.ensures.items)
     ∙ map-append meaning parts (c.token.result ∷ [])
     ∙ ap (λ part. map meaning parts ++ part ∷ []) c.token.ensures in
     let wanted = c.in_ok-wanted.wanted in
     let same = same_class wanted c.args.item.class (not_true _ (sym c.ne.ensures ∙ c.if-ne.false)) in
     takes scheme (reverse old.steps.items) (reverse c.advance.new.self.steps.items) (map meaning old.parts.items) (map meaning parts) wanted
-    (seen c.args.item) c.args.item.class c.requires.class c.in_ok-wanted.ensures.advances same (map meaning c.push.new.self.items) made
+    (seen c.args.item) c.args.item.class c.requires.class c.in_ok-wanted.ensures.advances same (map meaning c.push_reserved.new.self.items) made
