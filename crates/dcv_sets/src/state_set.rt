@@ -1,5 +1,6 @@
 // A set of states as an ascending list, most of them short enough to need no allocation.
-ghost use Rattle.std.specs.Prelude.{◌≡◌, IfOk};
+ghost use Rattle.std.specs.Prelude.{◌≡◌, true, IfOk};
+ghost use Rattle.std.specs.List.Sorted.{IsStrictlyIncreasing};
 ghost use Rattle.dcv_language.specs.StateSet.{set_of};
 
 use smallvec::SmallVec;
@@ -21,12 +22,32 @@ impl Model for StateSet {
     ghost view = { λ set. set.states.items };
 }
 
+// Whether each state is below the next, as most lists are that machines make.
+fn is_ascending(states: &[u32]) -> bool
+    ensures { result ≡ true → IsStrictlyIncreasing states.now }
+{
+    let Some((first, others)) = states.split_first() else {
+        return true;
+    };
+    let mut last = *first;
+    for state in others {
+        if *state <= last {
+            return false;
+        }
+        last = *state;
+    }
+    true
+}
+
 impl StateSet {
     /// The set of these states, which may come in any order and repeat.
     pub fn of(alloc: Global, states: &[u32]) -> Result<StateSet, AllocError>
         ensures { IfOk result (λ set. set ≡ set_of states.now) }
     {
         let mut sorted = SmallVec::from_slice(alloc, states)?;
+        if is_ascending(states) {
+            return Ok(StateSet { states: sorted });
+        }
         sorted.sort_unstable();
         sorted.dedup();
         Ok(StateSet { states: sorted })

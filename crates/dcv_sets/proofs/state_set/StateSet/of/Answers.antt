@@ -1,8 +1,11 @@
 use Rattle.std.proofs.Common.{◌∙◌, subst, List, ℕ, rules}
 use Rattle.std.specs.List.Sorted.{IsPermutation}
 use Rattle.smallvec.proofs.SmallVecLemmas.{items-with_items}
-use Rattle.dcv_sets.proofs.SameSets.{sorted_is_set}
+use Rattle.dcv_sets.proofs.SameSets.{sorted_is_set, ascending_is_set}
 use Rattle.dcv_sets.proofs.state_set.StateSet.of.Goals as goal
+
+pub returns-then-is_ascending : goal.returns-then-is_ascending
+returns-then-is_ascending c = c.in_ok-sorted.ensures.ok ∙ ascending_is_set c.args.states.now (c.is_ascending.ensures c.if-is_ascending.true)
 
 pub returns : goal.returns
 returns c =
