@@ -20,12 +20,13 @@
 # Before, both observers were held as trees while they were written, and `all` of 23000_states and of arbiter_6_4 took 153 and 288 ms, in 23.1 and 39.5 MB.
 # Reading an observer, by hand: texts of `bench/observer_texts.py`, `replay-lustre` and `replay-c` with an empty trace. Of a program without its proofs, 29 November 2026,
 # beside helpers and a gate on four processors, so times are no measure and instructions (callgrind) are. `python3 bench/observer_texts.py 2000 5` gives 62,000 nodes; the memory is
-# of 30000 5, with 930,000 nodes. Before, a text was gone through twice: for its syntax fault, and then for its tree.
+# of 30000 5, with 930,000 nodes. In the first column a text was gone through twice: for its syntax fault, and then for its tree. In the second it is gone through once. In the
+# third symbols are told apart by their first byte, parts of bodies are moved without room for an answer that hands them back, and large parts of C stand on the heap.
 #
-#   text                      bytes     million instructions    before        MB of 930,000 nodes
-#   Lustre                3,534,436                      744     1,087                432 of  57 MB
-#   C                     2,915,468                      724     1,020                363 of  48 MB
-# With the proved program, on a machine with nothing else of ours to do, the same day: a node of Lustre of 132,823,728 bytes (16850 7) is read in 3.9 to 4.0 s with 986 MB, a unit of C of 111,432,758 bytes in 4.8 to 5.2 s with
+#   text                      bytes     million instructions: twice     once      now        MB of 930,000 nodes
+#   Lustre                3,534,436                           1,087      744      704                433 of  57 MB
+#   C                     2,915,468                           1,020      724      513                366 of  48 MB
+# Before the last column, with the proved program, on a machine with nothing else of ours to do, the same day: a node of Lustre of 132,823,728 bytes (16850 7) is read in 3.9 to 4.0 s with 986 MB, a unit of C of 111,432,758 bytes in 4.8 to 5.2 s with
 # 818 MB; 57 MB of Lustre in 1.7 to 2.0 s, 48 MB of C in 2.3 to 2.6 s, and the automaton's text of both (33 MB) in 0.18 s with 110 MB.
 set -euo pipefail
 here=$(cd "$(dirname "$(readlink -f "${BASH_SOURCE[0]}")")" && pwd)

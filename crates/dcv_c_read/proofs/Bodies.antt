@@ -4,7 +4,7 @@ use Rattle.std.proofs.lemmas.List.{map-append, reverse-append}
 use Rattle.dcv_lexer.specs.Cuts.{Token}
 use Rattle.dcv_c.specs.Actions.{Part, AToken, Tokens, Assignments, AReset, Statements, Compared, AReturned, AStep}
 use Rattle.dcv_c.specs.Actions.{unit_part, reset_part, step_part, statement_part, choice_part}
-use Rattle.dcv_c_read.specs.Translated.{behind_statics, behind_reset_name, behind_step_name, behind_condition, behind_second}
+use Rattle.dcv_c_read.specs.Translated.{behind_statics, behind_reset_name, behind_step_name, behind_condition, behind_second, behind_colon}
 
 pub forwards : {A B : Type 0} (f : A → B) (list : List A) → map f (reverse list) ≡ reverse (map f list)
 forwards f [] = refl
@@ -36,3 +36,6 @@ pub choice_in_steps : (first second third : Token) (parts : List Part) → choic
 choice_in_steps first second third (AToken otherwise ∷ []) = refl
 choice_in_steps first second third (AToken item ∷ AToken colon ∷ AToken otherwise ∷ []) = refl
 choice_in_steps first second third _ = refl
+
+pub longer_choice_in_steps : (second item colon : Token) (parts : List Part) → behind_second second (AToken item ∷ AToken colon ∷ parts) ≡ behind_colon second item parts
+longer_choice_in_steps second item colon parts = refl

@@ -1,5 +1,6 @@
 pub mod Judging
 pub mod Bodies
+pub mod ShortBodies
 pub mod Translated
 pub mod Found
 pub mod Declaring

@@ -1,7 +1,8 @@
 -- how clauses see a unit that stands in a text
 pub mod Seen
--- for proofs alone: the parts of the code, and the steps of long bodies
+-- for proofs alone: the parts of the code, and the steps of bodies
 pub mod Symbols
+pub mod ShortBodies
 pub mod Translated
 -- and how names are judged
 pub mod Judged

@@ -24,14 +24,14 @@ seen_choice choice = record { number = option_map seen choice.number; item = see
 
 abbrev pub seen_right : CodeRight → PlacedRight
 seen_right (CodePlain item) = PlacedPlain (seen item)
-seen_right (CodeChosen name choice) = PlacedChosen (seen name) (seen_choice choice)
+seen_right (CodeChosen name choice) = PlacedChosen (seen name) (seen_choice choice.value)
 
 abbrev pub seen_when : CodeWhenItem → PlacedStatement
 seen_when made = PlacedWhen (seen made.name) (option_map seen made.number) (seen made.left) (seen made.item)
 
 abbrev pub seen_statement : CodeStatement → PlacedStatement
 seen_statement (CodeAssign left right) = PlacedAssign (seen left) (seen_right right)
-seen_statement (CodeWhen made) = seen_when made
+seen_statement (CodeWhen made) = seen_when made.value
 
 abbrev pub seen_returned : CodeReturned → PlacedReturned
 seen_returned (CodeFixed number) = PlacedFixed (seen number)

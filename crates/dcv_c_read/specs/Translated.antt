@@ -64,8 +64,11 @@ behind_condition name number _ = Nothing
 
 -- ---- the items of a choice, behind its third token
 
+abbrev pub behind_colon : Token → Token → List Part → Part
+behind_colon number item (AToken otherwise ∷ []) = Choice (Some (record { number = Some number; item = item; otherwise = otherwise }))
+behind_colon number item _ = Nothing
+
 abbrev pub behind_second : Token → List Part → Part
 behind_second second (AToken otherwise ∷ []) = Choice (Some (record { number = None; item = second; otherwise = otherwise }))
-behind_second second (AToken item ∷ AToken colon ∷ AToken otherwise ∷ []) =
-    Choice (Some (record { number = Some second; item = item; otherwise = otherwise }))
+behind_second second (AToken item ∷ AToken colon ∷ parts) = behind_colon second item parts
 behind_second second _ = Nothing

@@ -1,10 +1,10 @@
 // What the rules of statements and of results stand for, by the parts of one of their bodies.
-ghost use Rattle.std.specs.Prelude.{◌≡◌, ◌∷◌, map, reverse, option_map, IfOk};
+ghost use Rattle.std.specs.Prelude.{◌≡◌, ◌∷◌, Some, map, reverse, option_map, IfOk};
 ghost use Rattle.dcv_observer.specs.Left.{seen};
-ghost use Rattle.dcv_c.specs.Actions.{statement_part, right_part, choice_part, returned_part};
-ghost use Rattle.dcv_c_read.specs.Seen.{seen_test};
+ghost use Rattle.dcv_c.specs.Actions.{AStatement, Choice, statement_part, right_part, choice_part, returned_part};
+ghost use Rattle.dcv_c_read.specs.Seen.{seen_choice, seen_when, seen_test};
 ghost use Rattle.dcv_c_read.specs.Symbols.{seen_part, seen_tests, IsMeant};
-ghost use Rattle.dcv_c_read.specs.Translated.{behind_condition, when_item, behind_second};
+ghost use Rattle.dcv_c_read.specs.Translated.{behind_condition, when_item, behind_second, behind_colon};
 
 use crate::parts::Part;
 use crate::placed::{
@@ -12,29 +12,33 @@ use crate::placed::{
 };
 use dcv_observer::Item;
 use dcv_translation::Body;
-use std::alloc::AllocError;
+use std::alloc::{AllocError, Global};
 
 // statement = "if" "(" condition ")" name "=" item ";" | name "=" right ";"
 #[tactic(auto, using(crate::proofs::Bodies::statement_in_steps))]
-pub(crate) fn statement<'a>(parts: &mut Body<Part<'a>>) -> Part<'a>
+pub(crate) fn statement<'a>(
+    alloc: Global,
+    parts: &mut Body<Part<'a>>,
+) -> Result<Part<'a>, AllocError>
     requires { IsMeant (statement_part (map seen_part parts.old)) }
-    ensures { seen_part result ≡ statement_part (map seen_part parts.old) }
+    ensures { IfOk result (λ part. seen_part part ≡ statement_part (map seen_part parts.old)) }
 {
     match (parts.next(), parts.next(), parts.next()) {
         (Some(Part::Token(_)), Some(Part::Token(_)), Some(Part::Compared(name, number))) => {
-            when(name, number, parts)
+            let placed = when(name, number, parts);
+            Ok(Part::Statement(PlacedStatement::When(Box::new(alloc, placed)?)))
         }
         (Some(Part::Token(left)), Some(Part::Token(_)), Some(Part::Right(right))) => {
-            Part::Statement(PlacedStatement::Assign(left, right))
+            Ok(Part::Statement(PlacedStatement::Assign(left, right)))
         }
         _ => unreachable!(),
     }
 }
 
 // What stands behind a condition.
-fn when<'a>(name: Item<'a>, number: Option<Item<'a>>, parts: &mut Body<Part<'a>>) -> Part<'a>
+fn when<'a>(name: Item<'a>, number: Option<Item<'a>>, parts: &mut Body<Part<'a>>) -> PlacedWhen<'a>
     requires { IsMeant (behind_condition (seen name) (option_map seen number) (map seen_part parts.old)) }
-    ensures { seen_part result
+    ensures { AStatement (seen_when result)
         ≡ behind_condition (seen name.entry) (option_map seen number.entry) (map seen_part parts.old) }
 {
     match (parts.next(), parts.next(), parts.next()) {
@@ -51,18 +55,18 @@ fn assigned_item<'a>(
     number: Option<Item<'a>>,
     left: Item<'a>,
     parts: &mut Body<Part<'a>>,
-) -> Part<'a>
+) -> PlacedWhen<'a>
     requires { IsMeant (when_item (seen name) (option_map seen number) (seen left) (map seen_part parts.old)) }
-    ensures { seen_part result
+    ensures { AStatement (seen_when result)
         ≡ when_item (seen name.entry) (option_map seen number.entry) (seen left.entry) (map seen_part parts.old) }
 {
     match parts.next() {
-        Some(Part::Token(item)) => Part::Statement(PlacedStatement::When(PlacedWhen {
+        Some(Part::Token(item)) => PlacedWhen {
             name,
             number,
             left,
             item,
-        })),
+        },
         _ => unreachable!(),
     }
 }
@@ -86,37 +90,52 @@ pub(crate) fn right<'a>(parts: &mut Body<Part<'a>>) -> Part<'a>
 
 // choice = ["?" item ":" item | "==" number "?" item ":" item]
 #[tactic(auto, using(crate::proofs::Bodies::choice_in_steps))]
-pub(crate) fn choice<'a>(parts: &mut Body<Part<'a>>) -> Part<'a>
+pub(crate) fn choice<'a>(alloc: Global, parts: &mut Body<Part<'a>>) -> Result<Part<'a>, AllocError>
     requires { IsMeant (choice_part (map seen_part parts.old)) }
-    ensures { seen_part result ≡ choice_part (map seen_part parts.old) }
+    ensures { IfOk result (λ part. seen_part part ≡ choice_part (map seen_part parts.old)) }
 {
     match (parts.next(), parts.next(), parts.next()) {
-        (None, _, _) => Part::Choice(None),
+        (None, _, _) => Ok(Part::Choice(None)),
         (Some(Part::Token(_)), Some(Part::Token(second)), Some(Part::Token(_))) => {
-            longer_choice(second, parts)
+            let placed = longer_choice(second, parts);
+            Ok(Part::Choice(Some(Box::new(alloc, placed)?)))
         }
         _ => unreachable!(),
     }
 }
 
 // What stands behind the `:` of a bare name's choice, or behind the `?` of one that compares.
-fn longer_choice<'a>(second: Item<'a>, parts: &mut Body<Part<'a>>) -> Part<'a>
+#[tactic(auto, using(crate::proofs::Bodies::longer_choice_in_steps))]
+fn longer_choice<'a>(second: Item<'a>, parts: &mut Body<Part<'a>>) -> PlacedChoice<'a>
     requires { IsMeant (behind_second (seen second) (map seen_part parts.old)) }
-    ensures { seen_part result ≡ behind_second (seen second.entry) (map seen_part parts.old) }
+    ensures { Choice (Some (seen_choice result)) ≡ behind_second (seen second.entry) (map seen_part parts.old) }
 {
-    match (parts.next(), parts.next(), parts.next()) {
-        (Some(Part::Token(otherwise)), None, _) => Part::Choice(Some(PlacedChoice {
+    match (parts.next(), parts.next()) {
+        (Some(Part::Token(otherwise)), None) => PlacedChoice {
             number: None,
             item: second,
             otherwise,
-        })),
-        (Some(Part::Token(item)), Some(Part::Token(_)), Some(Part::Token(otherwise))) => {
-            Part::Choice(Some(PlacedChoice {
-                number: Some(second),
-                item,
-                otherwise,
-            }))
-        }
+        },
+        (Some(Part::Token(item)), Some(Part::Token(_))) => compared_choice(second, item, parts),
+        _ => unreachable!(),
+    }
+}
+
+// What stands behind the `:` of a choice that compares.
+fn compared_choice<'a>(
+    number: Item<'a>,
+    item: Item<'a>,
+    parts: &mut Body<Part<'a>>,
+) -> PlacedChoice<'a>
+    requires { IsMeant (behind_colon (seen number) (seen item) (map seen_part parts.old)) }
+    ensures { Choice (Some (seen_choice result)) ≡ behind_colon (seen number.entry) (seen item.entry) (map seen_part parts.old) }
+{
+    match parts.next() {
+        Some(Part::Token(otherwise)) => PlacedChoice {
+            number: Some(number),
+            item,
+            otherwise,
+        },
         _ => unreachable!(),
     }
 }

@@ -3,7 +3,7 @@ ghost use Rattle.std.specs.Prelude.{◌≡◌, ◌∷◌, map, reverse, IfOk};
 ghost use Rattle.dcv_observer.specs.Left.{seen};
 ghost use Rattle.dcv_c.specs.Actions.{unit_part, reset_part, step_part};
 ghost use Rattle.dcv_c_read.specs.Seen.{seen_statement};
-ghost use Rattle.dcv_c_read.specs.Symbols.{seen_part, IsMeant};
+ghost use Rattle.dcv_c_read.specs.Symbols.{seen_part, seen_step, IsMeant};
 ghost use Rattle.dcv_c_read.specs.Translated.{behind_statics, behind_reset_name, reset_body};
 ghost use Rattle.dcv_c_read.specs.Translated.{behind_step_name, step_body, step_end};
 
@@ -52,7 +52,7 @@ fn reset_and_step<'a>(
             let placed = PlacedUnit {
                 statics,
                 reset,
-                step,
+                step: Box::into_inner(step),
             };
             Ok(Part::Unit(Box::new(alloc, placed)?))
         }
@@ -108,22 +108,23 @@ fn reset_assignments<'a>(name: Item<'a>, parts: &mut Body<Part<'a>>) -> Part<'a>
 
 // step = "int" name "(" parameters ")" "{" locals statements "return" returned ";" "}"
 #[tactic(auto, using(crate::proofs::Bodies::step_in_steps))]
-pub(crate) fn step<'a>(parts: &mut Body<Part<'a>>) -> Part<'a>
+pub(crate) fn step<'a>(alloc: Global, parts: &mut Body<Part<'a>>) -> Result<Part<'a>, AllocError>
     requires { IsMeant (step_part (map seen_part parts.old)) }
-    ensures { seen_part result ≡ step_part (map seen_part parts.old) }
+    ensures { IfOk result (λ part. seen_part part ≡ step_part (map seen_part parts.old)) }
 {
     match (parts.next(), parts.next(), parts.next()) {
         (Some(Part::Token(_)), Some(Part::Token(name)), Some(Part::Token(_))) => {
-            step_parameters(name, parts)
+            let placed = step_parameters(name, parts);
+            Ok(Part::Step(Box::new(alloc, placed)?))
         }
         _ => unreachable!(),
     }
 }
 
 // What stands behind the parenthesis that opens.
-fn step_parameters<'a>(name: Item<'a>, parts: &mut Body<Part<'a>>) -> Part<'a>
+fn step_parameters<'a>(name: Item<'a>, parts: &mut Body<Part<'a>>) -> PlacedStep<'a>
     requires { IsMeant (behind_step_name (seen name) (map seen_part parts.old)) }
-    ensures { seen_part result ≡ behind_step_name (seen name.entry) (map seen_part parts.old) }
+    ensures { seen_step result ≡ behind_step_name (seen name.entry) (map seen_part parts.old) }
 {
     match (parts.next(), parts.next(), parts.next()) {
         (Some(Part::Tokens(parameters)), Some(Part::Token(_)), Some(Part::Token(_))) => {
@@ -138,9 +139,9 @@ fn step_statements<'a>(
     name: Item<'a>,
     parameters: Vec<Item<'a>>,
     parts: &mut Body<Part<'a>>,
-) -> Part<'a>
+) -> PlacedStep<'a>
     requires { IsMeant (step_body (seen name) (reverse (map seen parameters.items)) (map seen_part parts.old)) }
-    ensures { seen_part result
+    ensures { seen_step result
         ≡ step_body (seen name.entry) (reverse (map seen parameters.entry.items)) (map seen_part parts.old) }
 {
     match (parts.next(), parts.next(), parts.next()) {
@@ -159,10 +160,10 @@ fn step_returned<'a>(
     mut locals: Vec<Item<'a>>,
     mut statements: Vec<PlacedStatement<'a>>,
     parts: &mut Body<Part<'a>>,
-) -> Part<'a>
+) -> PlacedStep<'a>
     requires { IsMeant (step_end (seen name) (reverse (map seen parameters.items)) (reverse (map seen locals.items))
         (reverse (map seen_statement statements.items)) (map seen_part parts.old)) }
-    ensures { seen_part result
+    ensures { seen_step result
         ≡ step_end (seen name.entry) (reverse (map seen parameters.entry.items)) (reverse (map seen locals.entry.items))
         (reverse (map seen_statement statements.entry.items)) (map seen_part parts.old) }
 {
@@ -171,13 +172,13 @@ fn step_returned<'a>(
             parameters.reverse();
             locals.reverse();
             statements.reverse();
-            Part::Step(PlacedStep {
+            PlacedStep {
                 name,
                 parameters,
                 locals,
                 statements,
                 returned,
-            })
+            }
         }
         _ => unreachable!(),
     }

@@ -17,7 +17,7 @@ pub(crate) enum Part<'a> {
     Statements(Vec<PlacedStatement<'a>>),
     Right(PlacedRight<'a>),
     // What may stand behind a name on a right side.
-    Choice(Option<PlacedChoice<'a>>),
+    Choice(Option<Box<PlacedChoice<'a>>>),
     // The number of a condition, which may not be there.
     Maybe(Option<Item<'a>>),
     // A condition.
@@ -27,7 +27,7 @@ pub(crate) enum Part<'a> {
     Tests(Vec<PlacedTest<'a>>),
     // What may stand behind the first name of a result.
     Behind(Option<PlacedTests<'a>>),
-    Step(PlacedStep<'a>),
-    // On the heap, since each part has the size of the largest.
+    // What is large stands on the heap, since each part has the size of the largest.
+    Step(Box<PlacedStep<'a>>),
     Unit(Box<PlacedUnit<'a>>),
 }

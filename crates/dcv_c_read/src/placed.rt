@@ -18,19 +18,21 @@ pub struct PlacedChoice<'a> {
 }
 
 /// What stands behind the `=` of an assignment.
-#[derive(Clone, Copy, Debug)]
+#[derive(Debug, Drop)]
 pub enum PlacedRight<'a> {
     Plain(Item<'a>),
-    Chosen(Item<'a>, PlacedChoice<'a>),
+    Chosen(Item<'a>, Box<PlacedChoice<'a>>),
 }
 
 /// A statement of a step.
-#[derive(Clone, Copy, Debug)]
+///
+/// What is large stands on the heap, since each statement, and each part of a body, has the size of the largest.
+#[derive(Debug, Drop)]
 pub enum PlacedStatement<'a> {
     /// `left = right;`.
     Assign(Item<'a>, PlacedRight<'a>),
     /// `if (name) left = item;`, or `if (name == number) left = item;`.
-    When(PlacedWhen<'a>),
+    When(Box<PlacedWhen<'a>>),
 }
 
 /// An assignment behind `if`.

@@ -3,20 +3,24 @@ ghost use Rattle.std.specs.Prelude.{◌≡◌, map, IfOk};
 ghost use Rattle.dcv_c.specs.Actions.{static_part, tokens_part, assignments_part, assignment_part, parameters_part};
 ghost use Rattle.dcv_c.specs.Actions.{more_parameters_part, parameter_part, local_part, statements_part, condition_part};
 ghost use Rattle.dcv_c.specs.Actions.{compared_part, item_part, tests_part, more_tests_part, test_part};
+ghost use Rattle.dcv_observer.specs.Left.{seen};
 ghost use Rattle.dcv_c_read.specs.Symbols.{seen_part, IsMeant};
+ghost use Rattle.dcv_c_read.specs.ShortBodies.{assigned_part, tested_part};
 
 use crate::parts::Part;
 use crate::placed::{PlacedAssignment, PlacedTest, PlacedTests};
+use dcv_observer::Item;
 use dcv_translation::Body;
 use std::alloc::{AllocError, Global};
 
-// static = "static" "int" name ";"
+// static = "static" "int" name ";", which goes on as a local
+#[tactic(auto, using(crate::proofs::ShortBodies::static_in_steps))]
 pub(crate) fn static_name<'a>(parts: &mut Body<Part<'a>>) -> Part<'a>
     requires { IsMeant (static_part (map seen_part parts.old)) }
     ensures { seen_part result ≡ static_part (map seen_part parts.old) }
 {
-    match (parts.next(), parts.next(), parts.next()) {
-        (Some(Part::Token(_)), Some(Part::Token(_)), Some(Part::Token(name))) => Part::Token(name),
+    match parts.next() {
+        Some(Part::Token(_)) => local(parts),
         _ => unreachable!(),
     }
 }
@@ -55,14 +59,24 @@ pub(crate) fn assignments<'a>(
 }
 
 // assignment = name "=" number ";"
+#[tactic(auto, using(crate::proofs::ShortBodies::assignment_in_steps))]
 pub(crate) fn assignment<'a>(parts: &mut Body<Part<'a>>) -> Part<'a>
     requires { IsMeant (assignment_part (map seen_part parts.old)) }
     ensures { seen_part result ≡ assignment_part (map seen_part parts.old) }
 {
-    match (parts.next(), parts.next(), parts.next()) {
-        (Some(Part::Token(name)), Some(Part::Token(_)), Some(Part::Token(number))) => {
-            Part::Assignment(PlacedAssignment { name, number })
-        }
+    match (parts.next(), parts.next()) {
+        (Some(Part::Token(name)), Some(Part::Token(_))) => assigned_number(name, parts),
+        _ => unreachable!(),
+    }
+}
+
+// What stands behind the `=`.
+fn assigned_number<'a>(name: Item<'a>, parts: &mut Body<Part<'a>>) -> Part<'a>
+    requires { IsMeant (assigned_part (seen name) (map seen_part parts.old)) }
+    ensures { seen_part result ≡ assigned_part (seen name.entry) (map seen_part parts.old) }
+{
+    match parts.next() {
+        Some(Part::Token(number)) => Part::Assignment(PlacedAssignment { name, number }),
         _ => unreachable!(),
     }
 }
@@ -210,14 +224,24 @@ pub(crate) fn more_tests<'a>(
 }
 
 // test = name "==" number
+#[tactic(auto, using(crate::proofs::ShortBodies::test_in_steps))]
 pub(crate) fn test<'a>(parts: &mut Body<Part<'a>>) -> Part<'a>
     requires { IsMeant (test_part (map seen_part parts.old)) }
     ensures { seen_part result ≡ test_part (map seen_part parts.old) }
 {
-    match (parts.next(), parts.next(), parts.next()) {
-        (Some(Part::Token(name)), Some(Part::Token(_)), Some(Part::Token(number))) => {
-            Part::Test(PlacedTest { name, number })
-        }
+    match (parts.next(), parts.next()) {
+        (Some(Part::Token(name)), Some(Part::Token(_))) => tested_number(name, parts),
+        _ => unreachable!(),
+    }
+}
+
+// What stands behind the `==`.
+fn tested_number<'a>(name: Item<'a>, parts: &mut Body<Part<'a>>) -> Part<'a>
+    requires { IsMeant (tested_part (seen name) (map seen_part parts.old)) }
+    ensures { seen_part result ≡ tested_part (seen name.entry) (map seen_part parts.old) }
+{
+    match parts.next() {
+        Some(Part::Token(number)) => Part::Test(PlacedTest { name, number }),
         _ => unreachable!(),
     }
 }

@@ -3,7 +3,7 @@ use Rattle.dcv_lexer.specs.Cuts.{Token}
 use Rattle.dcv_c.specs.Tree.{CUnit}
 use Rattle.dcv_c_read.specs.declared.placed.PlacedStatement.TheVariants.{When}
 use Rattle.dcv_c_read.specs.Scope.{Frame}
-use Rattle.dcv_c_read.proofs.Forms.{told_by_form, leads_with_knows, first_left, second_left}
+use Rattle.dcv_c_read.proofs.Forms.{told_by_form, told_of_same, leads_with_knows, first_left, second_left}
 use Rattle.dcv_c_read.proofs.scope.Scope.statement.Goals as goal
 
 pub returns-in-Assign : goal.returns-in-Assign
@@ -13,4 +13,6 @@ returns-in-Assign c = λ (frame : Frame) knows (unit : CUnit) lefts (whole : Opt
 pub returns-in-When : goal.returns-in-When
 returns-in-When c = λ (frame : Frame) knows (unit : CUnit) lefts (whole : Option ℕ) (words : List Token) (keeps : List Bool).
     told_by_form frame unit whole words keeps c.args.self.now c.when.result c.in-When.is (λ left.
-    leads_with_knows frame unit whole words keeps c.args.self.now (When c.in-When.made) c.when.result knows (c.when.ensures frame knows whole words keeps (second_left c.in-When.made.left.bytes.now lefts left)))
+    leads_with_knows frame unit whole words keeps c.args.self.now (When c.in-When.made) c.when.result knows
+    (told_of_same frame unit whole words keeps c.args.self.now c.when.result c.deref.ensures (c.when.ensures frame knows whole words keeps)
+    (second_left c.in-When.made.value.left.bytes.now lefts left)))

@@ -1,4 +1,4 @@
-use Rattle.std.proofs.Common.{◌≡◌, ℕ, List, Option, map, drop, [], ◌+◌, subst}
+use Rattle.std.proofs.Common.{◌≡◌, ℕ, List, Option, map, drop, [], ◌∷◌, ◌+◌, ap, sym, subst, ◌∙◌}
 use Rattle.std.specs.List.{AllByRecursion}
 use Rattle.std.proofs.lemmas.List.{drop_more, at_drop_all}
 use Rattle.dcv_lexer.specs.Cuts.{Token}
@@ -15,8 +15,9 @@ pub returns-in_err-statement : goal.returns-in_err-statement
 returns-in_err-statement c = λ (frame : Frame) knows (unit : CUnit) lefts (whole : Option ℕ) (words : List Token) left.
     let items = c.args.statements.now in
     let i = c.loop-statement.statement-index in
-    let sofar = subst (λ (later : List PlacedStatement). AreStatementsSoFar unit frame whole words items c.loop-statement.all.items later c.loop-statement.self)
-    (drop_more items i _ c.loop-statement-test.true)
+    let split : drop i items ≡ c.statement-item.result ∷ drop (i + 1) items =
+    drop_more items i c.statement-item.result c.loop-statement-test.true ∙ ap (λ (x : PlacedStatement). x ∷ drop (i + 1) items) (sym c.statement-item.is) in
+    let sofar = subst (λ (later : List PlacedStatement). AreStatementsSoFar unit frame whole words items c.loop-statement.all.items later c.loop-statement.self) split
     (c.loop-statement.invariant.1 frame knows unit lefts whole words left) in
     leads_on whole _ c.from_residual-in_err-statement.result c.in_err-statement.field-0.0 c.from_residual-in_err-statement.ensures.1
     (c.in_err-statement.ensures (with_known sofar.known frame) sofar.knows unit lefts whole _ _
@@ -26,7 +27,8 @@ pub loop-statement-preserved : goal.loop-statement-preserved
 loop-statement-preserved c =
     let items = c.args.statements.now in
     let i = c.loop-statement.statement-index in
-    let split = drop_more items i _ c.loop-statement-test.true in (
+    let split : drop i items ≡ c.statement-item.result ∷ drop (i + 1) items =
+    drop_more items i c.statement-item.result c.loop-statement-test.true ∙ ap (λ (x : PlacedStatement). x ∷ drop (i + 1) items) (sym c.statement-item.is) in (
       (subst (λ (later : List PlacedStatement). AllByRecursion AreWordsOfStatement (map seen_statement later)) split c.loop-statement.invariant.0).1,
       λ (frame : Frame) knows (unit : CUnit) lefts (whole : Option ℕ) (words : List Token) left.
           let sofar = subst (λ (later : List PlacedStatement). AreStatementsSoFar unit frame whole words items c.loop-statement.all.items later c.loop-statement.self) split
