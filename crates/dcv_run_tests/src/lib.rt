@@ -1,6 +1,7 @@
 //! Worked examples, as tests: `runs` has runs of `dcv_cli::run` over files and streams in memory, `automata` those of the
 //! command `automaton` and of limits, `comparing` those of `certify` and `implies`, `converting` those of `convert`, `replaying` those of
-//! `replay-lustre` and `replay-c`, `shifting` those over prior and next propositions, `sweeping` those of `sweep`, `synthesising` those of `synth`, `goals` a table of each form of the language
+//! `replay-lustre` and `replay-c`, `shifting` those over prior and next propositions, `sources` those over files that fail and
+//! are opened again, or that are too long to be taken, `sweeping` those of `sweep`, `synthesising` those of `synth`, `goals` a table of each form of the language
 //! with the behaviours on which it is true, and `recipes` the example files. The expected values were worked out by hand from the language's
 //! meaning.
 #![tactic(auto)]
@@ -23,6 +24,10 @@ mod replaying;
 mod runs;
 #[cfg(test)]
 mod shifting;
+#[cfg(test)]
+mod sources;
+#[cfg(test)]
+mod spaces;
 #[cfg(test)]
 mod sweeping;
 #[cfg(test)]

@@ -3,7 +3,7 @@ ghost use Rattle.std.specs.Prelude.{◌<◌};
 ghost use Rattle.std.specs.List.{All};
 
 use dcv_cli::{Words, run};
-use dcv_io::{MemFiles, MemSink, NotingFiles};
+use dcv_io::{Files, MemFiles, MemSink, NotingFiles};
 use std::alloc::{AllocError, Global};
 use std::process::Abort;
 use std::test::Fail;
@@ -45,20 +45,47 @@ fn run_of(alloc: Global, words: &[&str], text: &[u8], outside: &Outside) -> Resu
     requires reads { All (λ size. 0 < size) outside.now.reads.now }
     requires writes { All (λ size. 0 < size) outside.now.writes.now }
 {
+    let mut files = MemFiles::new(alloc, outside.reads, outside.failing_reads)?;
+    files.hold("f", text)?;
+    run_over(alloc, words, &mut files, outside)
+}
+
+// Runs the words over the files.
+fn run_over<F: Files>(
+    alloc: Global,
+    words: &[&str],
+    files: &mut F,
+    outside: &Outside,
+) -> Result<Ran, AllocError>
+    requires { All (λ size. 0 < size) outside.now.writes.now }
+{
     let mut given = Words::new(alloc);
     for word in words {
         given.push(word)?;
     }
-    let mut files = MemFiles::new(alloc, outside.reads, outside.failing_reads)?;
-    files.hold("f", text)?;
     let mut out = MemSink::new(alloc, ROOM, outside.writes, outside.failing_writes)?;
     let mut err = MemSink::new(alloc, ROOM, &[], outside.failing_messages)?;
-    let status = run(alloc, &given, &mut files, &mut out, &mut err);
+    let status = run(alloc, &given, files, &mut out, &mut err);
     Ok(Ran {
         status: status.code(),
         out: out.written().to_vec(alloc)?,
         err: err.written().to_vec(alloc)?,
     })
+}
+
+// Whether a run of the words over the files, which may have been run over before, ended with this status and wrote just this.
+pub(crate) fn expect_over<F: Files>(
+    rt: &impl Abort,
+    alloc: Global,
+    words: &[&str],
+    files: &mut F,
+    wanted: (u8, &str, &str),
+) -> Result<(), AllocError> {
+    let ran = run_over(alloc, words, files, &WHOLE)?;
+    assert_eq!(rt; ran.status, wanted.0, "{words:?}");
+    assert_eq!(rt; ran.out.as_slice(), wanted.1.as_bytes(), "{words:?}");
+    assert_eq!(rt; ran.err.as_slice(), wanted.2.as_bytes(), "{words:?}");
+    Ok(())
 }
 
 // Whether a run of the words over the text ended with this status and wrote just this.
