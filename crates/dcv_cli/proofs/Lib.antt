@@ -1,4 +1,6 @@
 pub mod Automata
+pub mod AutomatonForms
+pub mod AutomatonWords
 pub mod BothWays
 pub mod Budgets
 pub mod Certificates
@@ -21,12 +23,22 @@ pub mod TwoFiles
 pub mod Pieces
 pub mod Printed
 pub mod PrintedLengths
+pub mod Reaching
+pub mod RowLimits
+pub mod SomeAnswers
+pub mod SomeBudgets
 pub mod SomeOutcome
+pub mod SomeReports
+pub mod SomeTables
+pub mod SomeVerdicts
+pub mod ToldApart
+pub mod WordClasses
 pub mod SpansRead
 pub mod StepCounts
 pub mod StepSpans
 pub mod Sweeps
 pub mod Syntheses
+pub mod LeastWords
 pub mod LongTexts
 pub mod VariableNames
 mod Texts
