@@ -1,110 +1,299 @@
--- Some outcome is right for all words, where the files that they name are held and no formula file is asked for.
-use Rattle.std.proofs.Common.{◌≡◌, ◌⊎◌, ℕ, ◌≤◌, Bool, true, false, List, [], ◌∷◌, length, Option, None, Some, refl, sym, subst, ◌∙◌, inl, inr, arith}
+-- Some outcome is right for all words, where the files that they name are held, or they ask for an automaton, an observer or a controller of a
+-- formula file that is within the limits.
+use Rattle.std.proofs.Common.{◌≡◌, ◌⊎◌, inl, inr, ℕ, ◌≤◌, Bool, true, false, List, [], ◌∷◌, length, Option, None, Some, refl, sym, subst, ◌∙◌, arith}
 use Rattle.std.proofs.lemmas.Bool.Decides.{nat_tests}
 use Rattle.std.specs.Prelude.{IsSome, IsSomeAnd, nat_le}
 use Rattle.std.proofs.lemmas.List.Elements.{All-head, recursion_from_All}
 use mathlib.Core.Bool.{true≢false}
 use Rattle.dcv_syntax.specs.Plain.{PlainFile}
+use Rattle.dcv_automaton_text.specs.File.{AutomatonFile}
+use Rattle.dcv_automaton_text.specs.Form.{HasForm}
+use Rattle.dcv_automaton_text.specs.Rules.{first_broken, judged_words}
+use Rattle.dcv_automaton_text.specs.Spelled.{spelled}
+use Rattle.dcv_build.specs.Laws.{MachineAcceptsStep}
 use Rattle.dcv_c.specs.Laws.{SomeReading as SomeUnit}
+use Rattle.dcv_certify.specs.Certified.{HasFewestStates, HasGoodWords, IsCertified, WhereMinimal}
+use Rattle.dcv_certify.specs.Laws.{MinimalShowsFewestStates, MinimalReachesEachState}
+use Rattle.dcv_certify.specs.declared.answer.Answer.{Answer}
+use Rattle.dcv_certify.specs.declared.answer.Answer.TheVariants.{Minimal, Access, Pair}
+use Rattle.dcv_implies.specs.Laws.{NoneWhereIncluded}
+use Rattle.dcv_language.specs.Laws.{ComplementIsCanonical}
+use Rattle.dcv_language.specs.VerdictText.{line}
+use Rattle.dcv_language.proofs.Words.{WordLaws}
 use Rattle.dcv_command.specs.declared.words.Subset.{Subset}
+use Rattle.dcv_command.specs.declared.words.Version.{Version}
 use Rattle.dcv_lustre.specs.Laws.{SomeReading as SomeNode}
 use Rattle.dcv_reader.specs.Laws.{SomeReading}
 use Rattle.dcv_replay.specs.Laws.{SomeVerdict, GoodLinesAreAnswered}
 use Rattle.dcv_scope.specs.Faults.{fault_of_file}
+use Rattle.dcv_scope.specs.Laws.{WordsAreModels}
 use Rattle.dcv_scope.specs.declared.faults.ScopeFault.{ScopeFault}
-use Rattle.dcv_cli.specs.declared.refusal.Refusal.TheVariants.{Formula}
+use Rattle.dcv_cli.specs.declared.refusal.Refusal.{Refusal}
+use Rattle.dcv_cli.specs.declared.refusal.Refusal.TheVariants.{Formula, Automaton as AutomatonRefusal}
 use Rattle.dcv_cli.specs.declared.faults.FormulaFault.TheVariants.{Length}
-use Rattle.dcv_cli.specs.declared.status.Status.TheVariants.{Usage}
-use Rattle.dcv_cli.specs.Budget.{IsBudgeted}
+use Rattle.dcv_cli.specs.declared.faults.AutomatonFault.TheVariants.{Length as AutomatonLength, Syntax, Table}
+use Rattle.dcv_cli.specs.declared.status.Status.TheVariants.{Usage, Done}
+use Rattle.dcv_cli.specs.AutomatonFile.{IsRefusedAutomaton, TooLong as TooLongAutomaton, HasNoForm, BreaksARule, IsAutomatonText, OnAutomaton, Refused as RefusedAutomaton, Read as ReadAutomaton}
+use Rattle.dcv_cli.specs.Budget.{IsBudgeted, WithinBudget}
+use Rattle.dcv_cli.specs.Certificate.{IsCertificate, answer_words, status_of_answer}
+use Rattle.dcv_cli.specs.Comparison.{IsCompared}
+use Rattle.dcv_cli.specs.Conversion.{IsConverted, as_version}
 use Rattle.dcv_cli.specs.Report.{IsReport}
-use Rattle.dcv_cli.specs.FormulaFile.{TooLong, Faulty, HasNoCore, IsSentence, IsFormulaFile, OnText, Refused}
-use Rattle.dcv_cli.specs.Laws.{AreHeld, AskForAFormula, AskOtherwise, SomeOutcome}
-use Rattle.dcv_cli.specs.Held.{Texts}
+use Rattle.dcv_cli.specs.FormulaFile.{IsRefused, TooLong, Faulty, HasNoCore, IsSentence, IsFormulaFile, OnText, Refused, Read}
+use Rattle.dcv_cli.specs.Laws.{AreHeld, IsHeldWithin, IsLeftOpen, SomeOutcome}
+use Rattle.dcv_cli.specs.Held.{Texts, OnHeld}
 use Rattle.dcv_cli.specs.ObserverFile.{OnObserver}
 use Rattle.dcv_cli.specs.Outcome.{Outcome, refused}
 use Rattle.dcv_cli.specs.Replayed.{IsReplay}
-use Rattle.dcv_cli.specs.Refusal.{most_bytes, refusal_of_reading, refusal_of_scope}
-use Rattle.dcv_cli.specs.declared.refused.Which.TheVariants.{Only}
+use Rattle.dcv_cli.specs.Refusal.{most_bytes, most_automaton_bytes, refusal_of_reading, refusal_of_scope}
+use Rattle.dcv_cli.specs.declared.refused.Which.{Which}
+use Rattle.dcv_cli.specs.declared.refused.Which.TheVariants.{Only, First, Second}
 use Rattle.clap.specs.Words.{fault_of, Kinds}
 use Rattle.dcv_command.specs.Laws.{TakenWordsAsk}
 use Rattle.dcv_command.specs.Program.{program}
 use Rattle.dcv_explore.specs.declared.explorer.Limits.{Limits}
 use Rattle.dcv_print.specs.declared.report.Kind.{Kind}
+use Rattle.dcv_print.specs.declared.report.Kind.TheVariants.{Check, Automaton, Lustre, C, All as AllTexts}
 use Rattle.std.specs.List.{All}
 use Rattle.dcv_command.specs.Request.{Request, Report, Certify, Convert, Implies, Synth, Replay, Sweep, IsTaken, request_of, files_of}
 use Rattle.dcv_cli.specs.Request.{AsksFor}
-use Rattle.dcv_cli.specs.Right.{IsRight, Misused, Fulfilled}
+use Rattle.dcv_cli.specs.Right.{Fulfils, IsRight, Misused, Fulfilled}
+use Rattle.dcv_cli.specs.Synthesis.{IsSynthesised, IsSynthesisOf, can_be_divided, Undivided, Divided}
+use Rattle.dcv_cli.specs.declared.faults.FormulaFault.TheVariants.{Outputs}
+use Rattle.dcv_cli.proofs.AutomatonForms.{some_form}
 use Rattle.dcv_cli.proofs.OneReplay.{some_replay}
+use Rattle.dcv_cli.proofs.SomeAnswers.{some_answer}
+use Rattle.dcv_cli.proofs.SomeReports.{over_or_within, some_check, some_sweep, some_comparison}
 
--- what comes of a text: an outcome, or it is a formula file
-abbrev Comes : Kind → Limits → List ℕ → Type 0
-Comes kind limits text = ((outcome : Outcome) × OnText text Only (IsBudgeted limits Only (IsReport kind limits)) outcome) ⊎ ((file : PlainFile) × IsFormulaFile text file)
+-- ---- texts of formula files
 
--- an outcome that is right for the words, or a text of which they ask more
-abbrev Found : List (List ℕ) → Texts → Type 0
-Found words held = ((outcome : Outcome) × IsRight words held outcome) ⊎ AskForAFormula words held ⊎ AskOtherwise words
+-- a text is refused, or is a formula file
+abbrev RefusedOrFile : List ℕ → Type 0
+RefusedOrFile text = ((refusal : Refusal) × IsRefused text refusal) ⊎ ((file : PlainFile) × IsFormulaFile text file)
 
 -- a sentence is a formula file, or has no core
-some_on_sentence : (kind : Kind) (limits : Limits) (text : List ℕ) (file : PlainFile) → IsSentence text file → (fault : Option ScopeFault) → fault_of_file file ≡ fault → Comes kind limits text
-some_on_sentence kind limits text file holds (Some fault) is = inl (refused (refusal_of_scope fault) Only, Refused _ (HasNoCore file holds fault is refl) refl)
-some_on_sentence kind limits text file holds None is = inr (file, record { sentence = holds; has_core = is })
+some_on_sentence : (text : List ℕ) (file : PlainFile) → IsSentence text file → (fault : Option ScopeFault) → fault_of_file file ≡ fault → RefusedOrFile text
+some_on_sentence text file holds (Some fault) is = inl (refusal_of_scope fault, HasNoCore file holds fault is refl)
+some_on_sentence text file holds None is = inr (file, record { sentence = holds; has_core = is })
 
-module _ (some_reading : SomeReading) (words_ask : TakenWordsAsk) (some_node : SomeNode) (some_unit : SomeUnit) (some_verdict : SomeVerdict) (answered : GoodLinesAreAnswered) where
-  some_on_short : (kind : Kind) (limits : Limits) (text : List ℕ) → length text ≤ most_bytes → Comes kind limits text
-  some_on_short kind limits text short =
+module _ (some_reading : SomeReading) where
+  some_on_short : (text : List ℕ) → length text ≤ most_bytes → RefusedOrFile text
+  some_on_short text short =
       elim (some_reading text) [
-        | inl first ↦ inl (refused (refusal_of_reading first.0) Only, Refused _ (Faulty short first.0 first.1 refl) refl)
-        | inr read ↦ some_on_sentence kind limits text read.0 (record { fits = short; no_fault = read.2; spelled = read.1 }) (fault_of_file read.0) refl
+        | inl first ↦ inl (refusal_of_reading first.0, Faulty short first.0 first.1 refl)
+        | inr read ↦ some_on_sentence text read.0 (record { fits = short; no_fault = read.2; spelled = read.1 }) (fault_of_file read.0) refl
       ]
 
-  some_on_text : (kind : Kind) (limits : Limits) (text : List ℕ) (fits : Bool) → nat_le (length text) most_bytes ≡ fits → Comes kind limits text
-  some_on_text kind limits text true is = some_on_short kind limits text (grind (arith, nat_tests))
-  some_on_text kind limits text false is = inl (refused (Formula Length) Only, Refused (Formula Length) (TooLong (grind (arith, nat_tests)) refl) refl)
+  some_on_text : (text : List ℕ) (fits : Bool) → nat_le (length text) most_bytes ≡ fits → RefusedOrFile text
+  some_on_text text true is = some_on_short text (grind (arith, nat_tests))
+  some_on_text text false is = inl (Formula Length, TooLong (grind (arith, nat_tests)) refl)
 
-  some_for_text : (words : List (List ℕ)) (held : Texts) (kind : Kind) (name : List ℕ) (limits : Limits) (text : List ℕ)
-      → AsksFor words (Report kind name limits) → held 0 name ≡ Some text → Comes kind limits text → Found words held
-  some_for_text words held kind name limits text asked there (inl (outcome, right)) = inl (outcome, Fulfilled (Report kind name limits) asked (rw there right))
-  some_for_text words held kind name limits text asked there (inr (file, formula)) =
-      inr (inl (record { kind = kind; name = name; limits = limits; asked = asked; text = text; there = there; file = file; formula = formula }))
+  refused_or_file : (text : List ℕ) → RefusedOrFile text
+  refused_or_file text = some_on_text text (nat_le (length text) most_bytes) refl
 
-  some_for_file : (words : List (List ℕ)) (held : Texts) (kind : Kind) (name : List ℕ) (limits : Limits) (text : Option (List ℕ))
-      → AsksFor words (Report kind name limits) → held 0 name ≡ text → IsSome text → Found words held
-  some_for_file words held kind name limits None asked is there = absurd (true≢false (sym there))
-  some_for_file words held kind name limits (Some text) asked is there =
-      some_for_text words held kind name limits text asked is (some_on_text kind limits text (nat_le (length text) most_bytes) refl)
+-- ---- texts of automata
 
-  some_for_replay : (words : List (List ℕ)) (held : Texts) (subset : Subset) (observer trace : List ℕ) (text trace_text : Option (List ℕ))
-      → AsksFor words (Replay subset observer trace) → held 0 observer ≡ text → held 1 trace ≡ trace_text → IsSome text → IsSome trace_text → Found words held
-  some_for_replay words held subset observer trace None trace_text asked is is' there there' = absurd (true≢false (sym there))
-  some_for_replay words held subset observer trace (Some text) None asked is is' there there' = absurd (true≢false (sym there'))
-  some_for_replay words held subset observer trace (Some text) (Some trace_text) asked is is' there there' =
-      let found = some_replay some_node some_unit some_verdict answered subset text trace_text in
-      inl (
-        found.0,
-        Fulfilled (Replay subset observer trace) asked
-            (subst (λ (one : Option (List ℕ)). IsSomeAnd one (λ bytes. OnObserver subset bytes (λ o outcome. IsSomeAnd (held 1 trace) (λ t. IsReplay o t outcome)) found.0)) (sym is)
-            (subst (λ (other : Option (List ℕ)). OnObserver subset text (λ o outcome. IsSomeAnd other (λ t. IsReplay o t outcome)) found.0) (sym is') found.1)),
+-- a text is refused, or is an automaton's
+abbrev RefusedOrAutomaton : List ℕ → Type 0
+RefusedOrAutomaton text = ((refusal : Refusal) × IsRefusedAutomaton text refusal) ⊎ ((file : AutomatonFile) × IsAutomatonText text file)
+
+kept_or_broken : (text : List ℕ) (file : AutomatonFile) → length text ≤ most_automaton_bytes → HasForm text file → (broken : Option ℕ) → first_broken 0 (judged_words file) ≡ broken
+    → RefusedOrAutomaton text
+kept_or_broken text file short form None is = inr (file, record { fits = short; form = form; good = is })
+kept_or_broken text file short form (Some at) is = inl (AutomatonRefusal (Table at), BreaksARule short file form at is refl)
+
+automaton_on_short : (text : List ℕ) → length text ≤ most_automaton_bytes → RefusedOrAutomaton text
+automaton_on_short text short = elim (some_form text) [
+  | inl fault ↦ inl (AutomatonRefusal (Syntax fault.0), HasNoForm short fault.0 fault.1 refl)
+  | inr read ↦ kept_or_broken text read.0 short read.1 (first_broken 0 (judged_words read.0)) refl
+]
+
+automaton_on_text : (text : List ℕ) (fits : Bool) → nat_le (length text) most_automaton_bytes ≡ fits → RefusedOrAutomaton text
+automaton_on_text text true is = automaton_on_short text (grind (arith, nat_tests))
+automaton_on_text text false is = inl (AutomatonRefusal AutomatonLength, TooLongAutomaton (grind (arith, nat_tests)) refl)
+
+refused_or_automaton : (text : List ℕ) → RefusedOrAutomaton text
+refused_or_automaton text = automaton_on_text text (nat_le (length text) most_automaton_bytes) refl
+
+-- what is right for its file is right for the text
+on_automaton : (RightFor : AutomatonFile → Outcome → Type 0) (text : List ℕ) → ((file : AutomatonFile) → IsAutomatonText text file → (outcome : Outcome) × RightFor file outcome)
+    → (outcome : Outcome) × OnAutomaton text RightFor outcome
+on_automaton RightFor text right = elim (refused_or_automaton text) [
+  | inl refusal ↦ (refused refusal.0 Only, RefusedAutomaton refusal.0 refusal.1 refl)
+  | inr read ↦ let found = right read.0 read.1 in (found.0, ReadAutomaton read.0 read.1 found.1)
+]
+
+where_minimal : (fact : Type 0) (answer : Answer) → (answer ≡ Minimal → fact) → WhereMinimal fact answer
+where_minimal fact Minimal shows = shows refl
+where_minimal fact (Access state) shows = tt
+where_minimal fact (Pair first second) shows = tt
+
+module _ (fewest : MinimalShowsFewestStates) (reached : MinimalReachesEachState) where
+  some_certificate : (text : List ℕ) (file : AutomatonFile) → IsAutomatonText text file → (outcome : Outcome) × IsCertificate file outcome
+  some_certificate text file is =
+      let (answer, certified) = some_answer file in (
+        record { status = status_of_answer answer; out = line (answer_words file.states answer); err = [] },
+        record {
+          answer = answer;
+          is = certified;
+          fewest = where_minimal (HasFewestStates file) answer (λ minimal. fewest file is.good (subst (IsCertified file) minimal certified));
+          reached = where_minimal (HasGoodWords file) answer (λ minimal. reached file (subst (IsCertified file) minimal certified));
+          status = refl;
+          says = refl;
+          no_message = refl;
+        },
       )
 
-  some_for_request : (words : List (List ℕ)) (held : Texts) (request : Request) → AsksFor words request
-      → ((time : ℕ) → All (λ name. IsSome (held time name)) (files_of request)) → Found words held
-  some_for_request words held (Report kind name limits) asked there =
-      some_for_file words held kind name limits (held 0 name) asked refl (All-head (λ n. IsSome (held 0 n)) name [] (there 0))
-  some_for_request words held (Replay subset observer trace) asked there =
-      let first = recursion_from_All (λ n. IsSome (held 0 n)) (observer ∷ trace ∷ []) (there 0) in
-      let second = recursion_from_All (λ n. IsSome (held 1 n)) (observer ∷ trace ∷ []) (there 1) in
-      some_for_replay words held subset observer trace (held 0 observer) (held 1 trace) asked refl refl first.0 second.1.0
-  some_for_request words held (Certify name) asked there = inr (inr (Certify name, asked, refl))
-  some_for_request words held (Convert name to) asked there = inr (inr (Convert name to, asked, refl))
-  some_for_request words held (Implies first second limits) asked there = inr (inr (Implies first second limits, asked, refl))
-  some_for_request words held (Synth name inputs limits) asked there = inr (inr (Synth name inputs limits, asked, refl))
-  some_for_request words held (Sweep seed count) asked there = inr (inr (Sweep seed count, asked, refl))
+some_conversion : (to : Version) (file : AutomatonFile) → (outcome : Outcome) × IsConverted to file outcome
+some_conversion to file = (record { status = Done; out = spelled (as_version to file); err = [] }, record { status = refl; says = refl; no_message = refl })
+
+-- ---- what the words ask for
+
+-- an outcome that is right for the request, or what is left open
+abbrev Answered : Request → Texts → Type 0
+Answered request held = ((outcome : Outcome) × Fulfils request held outcome) ⊎ IsLeftOpen request held
+
+abbrev Found : List (List ℕ) → Texts → Type 0
+Found words held = ((outcome : Outcome) × IsRight words held outcome) ⊎ ((request : Request) × AsksFor words request × IsLeftOpen request held)
+
+-- what is right for the text that is held is right for its name
+held_under : (OfText : List ℕ → Outcome → Type 0) (held : List ℕ → Option (List ℕ)) (name : List ℕ) → IsSome (held name)
+    → ((text : List ℕ) → held name ≡ Some text → (outcome : Outcome) × OfText text outcome) → (outcome : Outcome) × OnHeld held name OfText outcome
+held_under OfText held name there right = by (held name) refl there
+  where
+    by : (text : Option (List ℕ)) → held name ≡ text → IsSome text → (outcome : Outcome) × IsSomeAnd text (λ one. OfText one outcome)
+    by None is some = absurd (true≢false (sym some))
+    by (Some text) is some = right text is
+
+-- the same, where something may be left open
+held_or_open : (OfText : List ℕ → Outcome → Type 0) (Open : Type 0) (held : List ℕ → Option (List ℕ)) (name : List ℕ) → IsSome (held name)
+    → ((text : List ℕ) → held name ≡ Some text → ((outcome : Outcome) × OfText text outcome) ⊎ Open) → ((outcome : Outcome) × OnHeld held name OfText outcome) ⊎ Open
+held_or_open OfText Open held name there right = by (held name) refl there
+  where
+    by : (text : Option (List ℕ)) → held name ≡ text → IsSome text → ((outcome : Outcome) × IsSomeAnd text (λ one. OfText one outcome)) ⊎ Open
+    by None is some = absurd (true≢false (sym some))
+    by (Some text) is some = right text is
+
+module _ (some_reading : SomeReading) (laws : WordLaws) (accept : MachineAcceptsStep) (outside_is : ComplementIsCanonical) (models_are : WordsAreModels) (none_included : NoneWhereIncluded)
+    (fewest : MinimalShowsFewestStates) (reached : MinimalReachesEachState)
+    (words_ask : TakenWordsAsk) (some_node : SomeNode) (some_unit : SomeUnit) (some_verdict : SomeVerdict) (answered : GoodLinesAreAnswered) where
+  -- ---- a formula file
+
+  on_text : (which : Which) (RightFor : PlainFile → Outcome → Type 0) (text : List ℕ) → ((file : PlainFile) → IsFormulaFile text file → (outcome : Outcome) × RightFor file outcome)
+      → (outcome : Outcome) × OnText text which RightFor outcome
+  on_text which RightFor text right = elim (refused_or_file some_reading text) [
+    | inl refusal ↦ (refused refusal.0 which, Refused refusal.0 refusal.1 refl)
+    | inr read ↦ let found = right read.0 read.1 in (found.0, Read read.0 read.1 found.1)
+  ]
+
+  text_or_open : (RightFor : PlainFile → Outcome → Type 0) (Open : Type 0) (text : List ℕ)
+      → ((file : PlainFile) → IsFormulaFile text file → ((outcome : Outcome) × RightFor file outcome) ⊎ Open) → ((outcome : Outcome) × OnText text Only RightFor outcome) ⊎ Open
+  text_or_open RightFor Open text right = elim (refused_or_file some_reading text) [
+    | inl refusal ↦ inl (refused refusal.0 Only, Refused refusal.0 refusal.1 refl)
+    | inr read ↦ elim (right read.0 read.1) [ inl found ↦ inl (found.0, Read read.0 read.1 found.1) | inr left ↦ inr left ]
+  ]
+
+  budgeted : (limits : Limits) (RightFor : PlainFile → Outcome → Type 0) (held : Texts) (name text : List ℕ) → held 0 name ≡ Some text → (file : PlainFile) → IsFormulaFile text file
+      → ((outcome : Outcome) × IsBudgeted limits Only RightFor file outcome) ⊎ IsHeldWithin held name limits
+  budgeted limits RightFor held name text there file formula = elim (over_or_within laws accept limits Only RightFor file) [
+    | inl over ↦ inl over
+    | inr within ↦ inr (record { text = text; there = there; file = file; formula = formula; within = within })
+  ]
+
+  -- a verdict
+  checked : (limits : Limits) (file : PlainFile) → fault_of_file file ≡ None → (outcome : Outcome) × IsBudgeted limits Only (IsReport Check limits) file outcome
+  checked limits file has_core = elim (over_or_within laws accept limits Only (IsReport Check limits) file) [
+    | inl over ↦ over
+    | inr within ↦ let found = some_check laws accept outside_is models_are limits file has_core within in (found.0, WithinBudget within found.1)
+  ]
+
+  check_held : (limits : Limits) (name : List ℕ) (held : Texts) → IsSome (held 0 name) → (outcome : Outcome) × Fulfils (Report Check name limits) held outcome
+  check_held limits name held there =
+      held_under (λ text. OnText text Only (IsBudgeted limits Only (IsReport Check limits))) (held 0) name there
+      (λ text is. on_text Only (IsBudgeted limits Only (IsReport Check limits)) text (λ file formula. checked limits file formula.has_core))
+
+  -- an automaton or an observer
+  report_held : (kind : Kind) (limits : Limits) (name : List ℕ) (held : Texts) → IsSome (held 0 name)
+      → ((outcome : Outcome) × Fulfils (Report kind name limits) held outcome) ⊎ IsHeldWithin held name limits
+  report_held kind limits name held there =
+      held_or_open (λ text. OnText text Only (IsBudgeted limits Only (IsReport kind limits))) (IsHeldWithin held name limits) (held 0) name there
+      (λ text is. text_or_open (IsBudgeted limits Only (IsReport kind limits)) (IsHeldWithin held name limits) text
+      (λ file formula. budgeted limits (IsReport kind limits) held name text is file formula))
+
+  report_or_open : (kind : Kind) (limits : Limits) (name : List ℕ) (held : Texts) → IsSome (held 0 name) → Answered (Report kind name limits) held
+  report_or_open Check limits name held there = inl (check_held limits name held there)
+  report_or_open Automaton limits name held there = report_held Automaton limits name held there
+  report_or_open Lustre limits name held there = report_held Lustre limits name held there
+  report_or_open C limits name held there = report_held C limits name held there
+  report_or_open AllTexts limits name held there = report_held AllTexts limits name held there
+
+  -- a controller
+  divided_or_not : (inputs : ℕ) (limits : Limits) (held : Texts) (name text : List ℕ) → held 0 name ≡ Some text → (file : PlainFile) → IsFormulaFile text file
+      → (divided : Bool) → can_be_divided inputs (length file.variables) ≡ divided → ((outcome : Outcome) × IsSynthesised inputs limits file outcome) ⊎ IsHeldWithin held name limits
+  divided_or_not inputs limits held name text there file formula false is = inl (refused (Formula Outputs) Only, Undivided is refl)
+  divided_or_not inputs limits held name text there file formula true is = elim (budgeted limits (IsSynthesisOf inputs) held name text there file formula) [
+    | inl over ↦ inl (over.0, Divided is over.1)
+    | inr within ↦ inr within
+  ]
+
+  synth_or_open : (name : List ℕ) (inputs : ℕ) (limits : Limits) (held : Texts) → IsSome (held 0 name) → Answered (Synth name inputs limits) held
+  synth_or_open name inputs limits held there =
+      held_or_open (λ text. OnText text Only (IsSynthesised inputs limits)) (IsHeldWithin held name limits) (held 0) name there
+      (λ text is. text_or_open (IsSynthesised inputs limits) (IsHeldWithin held name limits) text
+      (λ file formula. divided_or_not inputs limits held name text is file formula (can_be_divided inputs (length file.variables)) refl))
+
+  -- two files
+  implies_held : (first second : List ℕ) (limits : Limits) (held : Texts) → IsSome (held 0 first) → IsSome (held 1 second) → (outcome : Outcome) × Fulfils (Implies first second limits) held outcome
+  implies_held first second limits held there other =
+      held_under (λ text. OnText text First (λ one. OnHeld (held 1) second (λ other_text. OnText other_text Second (IsCompared limits one)))) (held 0) first there
+      (λ text is. on_text First (λ one. OnHeld (held 1) second (λ other_text. OnText other_text Second (IsCompared limits one))) text
+      (λ one formula. held_under (λ other_text. OnText other_text Second (IsCompared limits one)) (held 1) second other
+      (λ other_text has. on_text Second (IsCompared limits one) other_text
+      (λ file other_formula. some_comparison laws accept outside_is models_are none_included limits one file formula.has_core other_formula.has_core))))
+
+  -- ---- the others
+
+  certify_held : (name : List ℕ) (held : Texts) → IsSome (held 0 name) → (outcome : Outcome) × Fulfils (Certify name) held outcome
+  certify_held name held there =
+      held_under (λ text. OnAutomaton text IsCertificate) (held 0) name there (λ text is. on_automaton IsCertificate text (some_certificate fewest reached text))
+
+  convert_held : (name : List ℕ) (to : Version) (held : Texts) → IsSome (held 0 name) → (outcome : Outcome) × Fulfils (Convert name to) held outcome
+  convert_held name to held there =
+      held_under (λ text. OnAutomaton text (IsConverted to)) (held 0) name there (λ text is. on_automaton (IsConverted to) text (λ file read. some_conversion to file))
+
+  replay_held : (subset : Subset) (observer trace : List ℕ) (held : Texts) → IsSome (held 0 observer) → IsSome (held 1 trace) → (outcome : Outcome) × Fulfils (Replay subset observer trace) held outcome
+  replay_held subset observer trace held there other = by (held 0 observer) (held 1 trace) there other
+    where
+      by : (text trace_text : Option (List ℕ)) → IsSome text → IsSome trace_text
+          → (outcome : Outcome) × IsSomeAnd text (λ bytes. OnObserver subset bytes (λ o outcome. IsSomeAnd trace_text (λ t. IsReplay o t outcome)) outcome)
+      by None trace_text some also = absurd (true≢false (sym some))
+      by (Some text) None some also = absurd (true≢false (sym also))
+      by (Some text) (Some trace_text) some also = some_replay some_node some_unit some_verdict answered subset text trace_text
+
+  some_for_request : (held : Texts) (request : Request) → ((time : ℕ) → All (λ name. IsSome (held time name)) (files_of request)) → Answered request held
+  some_for_request held (Report kind name limits) there = report_or_open kind limits name held (All-head (λ n. IsSome (held 0 n)) name [] (there 0))
+  some_for_request held (Certify name) there = inl (certify_held name held (All-head (λ n. IsSome (held 0 n)) name [] (there 0)))
+  some_for_request held (Convert name to) there = inl (convert_held name to held (All-head (λ n. IsSome (held 0 n)) name [] (there 0)))
+  some_for_request held (Implies first second limits) there =
+      let one = recursion_from_All (λ n. IsSome (held 0 n)) (first ∷ second ∷ []) (there 0) in
+      let other = recursion_from_All (λ n. IsSome (held 1 n)) (first ∷ second ∷ []) (there 1) in
+      inl (implies_held first second limits held one.0 other.1.0)
+  some_for_request held (Synth name inputs limits) there = synth_or_open name inputs limits held (All-head (λ n. IsSome (held 0 n)) name [] (there 0))
+  some_for_request held (Replay subset observer trace) there =
+      let one = recursion_from_All (λ n. IsSome (held 0 n)) (observer ∷ trace ∷ []) (there 0) in
+      let other = recursion_from_All (λ n. IsSome (held 1 n)) (observer ∷ trace ∷ []) (there 1) in
+      inl (replay_held subset observer trace held one.0 other.1.0)
+  some_for_request held (Sweep seed count) there = inl (some_sweep laws accept outside_is seed count)
+
+  found_by : (words : List (List ℕ)) (held : Texts) (request : Request) → AsksFor words request → Answered request held → Found words held
+  found_by words held request asked (inl (outcome, right)) = inl (outcome, Fulfilled request asked right)
+  found_by words held request asked (inr left) = inr (request, asked, left)
 
   some_for_taken : (words : List (List ℕ)) (held : Texts) → AreHeld words held → IsTaken words → (request : Option Request)
       → request_of words ≡ request → IsSome request → Found words held
   some_for_taken words held there taken None is asks = absurd (true≢false (sym asks))
   some_for_taken words held there taken (Some request) is asks =
-      let asked : AsksFor words request = record { taken = taken; asked = is } in some_for_request words held request asked (there request asked)
+      let asked : AsksFor words request = record { taken = taken; asked = is } in found_by words held request asked (some_for_request held request (there request asked))
 
   -- words are taken where no fault is found in them
   some_for : (words : List (List ℕ)) (held : Texts) → AreHeld words held → (faults : Kinds) → fault_of program words ≡ faults

@@ -2,21 +2,26 @@
 ghost use Rattle.dcv_cli.specs.Laws.{OneOutcome, SomeOutcome, EqualMeanings, PrintedIsCertified, ConvertedBackIsTheText, ImpliesBothWays, NamesAscend};
 
 use dcv_automaton_text::laws::{one_file as one_automaton_text, versions_stand_for_the_same};
-use dcv_build::laws::{one_list_of_counts, one_step_is_over};
+use dcv_build::laws::{machines_accept_steps, one_list_of_counts, one_step_is_over};
 use dcv_c::laws::{texts_are_units_or_at_fault, texts_spell_units};
-use dcv_certify::laws::{one_answer, printed_is_certified as good_words_are_certified};
+use dcv_certify::laws::{
+    minimal_shows_fewest_states, one_answer, printed_is_certified as good_words_are_certified,
+};
 use dcv_command::laws::taken_words_ask;
 use dcv_implies::laws::{none_is_inclusion, one_answer as one_comparison};
-use dcv_language::laws::{one_canonical_table, one_verdict, verdict_of_same_behaviours};
+use dcv_language::laws::{
+    complement_is_canonical, one_canonical_table, one_verdict, verdict_of_same_behaviours,
+};
 use dcv_lustre::laws::{texts_are_nodes_or_at_fault, texts_spell_nodes};
 use dcv_print::laws::{
     automaton_of_same_behaviours, one_automaton, one_file, printed_observers_observe,
 };
 use dcv_reader::laws::{names_are_short, one_fault, one_tree, some_reading};
 use dcv_replay::laws::{letters_have_one_text_of_answers, traces_have_one_verdict};
-use dcv_scope::laws::measures_bound_core;
+use dcv_scope::laws::{core_means_text, measures_bound_core};
 use dcv_sweep::laws::one_summary;
 use dcv_synth::laws::{answers_are_one, one_side_is_right, units_are_one};
+use dcv_word::laws::{word_order_is_kept, words_are_in_order};
 
 /// One outcome at most is right for the words and the texts that are held. So each status, report and message that
 /// the clauses of [`run`](crate::run) call right is the only one.
@@ -46,8 +51,9 @@ pub fn one_outcome()
     units_are_one();
 }
 
-/// Some outcome is right for all words, where the files that they name are held, unless they ask for a report and name a formula file, or ask for
-/// something else than a report or a replay. So no words, no replay, and no text of a formula file that has a fault leave [`run`](crate::run) nothing to answer but that memory has run out.
+/// Some outcome is right for all words, where the files that they name are held, or they ask for an automaton, an observer or a controller of a
+/// formula file all of whose steps are within the limits. So no words, no replay, no text of an automaton, no comparison, no summary, no verdict and no
+/// formula file that has a fault or is over the limits leaves [`run`](crate::run) nothing to answer but that memory has run out.
 pub fn some_outcome()
     ensures { SomeOutcome }
 {
@@ -57,6 +63,13 @@ pub fn some_outcome()
     texts_are_units_or_at_fault();
     traces_have_one_verdict();
     letters_have_one_text_of_answers();
+    minimal_shows_fewest_states();
+    machines_accept_steps();
+    complement_is_canonical();
+    core_means_text();
+    none_is_inclusion();
+    words_are_in_order();
+    word_order_is_kept();
 }
 
 /// Formula files with the same variables and the same models have the same answer: the same verdict, the same observers, and the same
