@@ -47,22 +47,23 @@
 #   separation 600           6.5     369.7   0.02         2.4       5.2   0.46  not valid
 #   geometric mean of the times: 0.32; of the twelve large ones that were measured alone before, on the other machine, 0.255
 # Instructions of one run (callgrind, millions), which no other load disturbs, of a program that is built without its proofs (`bench/unproved.py`): before
-# the minimiser divided by hashes, with them, with a builder that also puts each automaton on a shelf and explores nothing twice, with one that does so but
-# for the automaton of the last operator, which is handed out as it is, and MONA's.
+# the minimiser divided by hashes, with them, with a builder that explores nothing twice, with shorter searches for shortest words, fewer lists where there are few
+# states and no memo for lists of operands with one slot to go (now), and MONA's.
 #
-#   arbiter 5 6        610     401     490     410     629
-#   arbiter 6 5       1636    1145    1421    1179    1312
-#   arbiter 8 3       1482    1233    1472    1288     891
-#   chain 700          4.1     4.2     4.4     4.3    2514
+#   arbiter 5 6        610     401     410     367     629
+#   arbiter 6 5       1636    1145    1179    1073    1312
+#   arbiter 8 3       1482    1233    1288    1202     891
+#   chain 700          4.1     4.2     4.3     3.9    2514
 #   count 8            0.4     0.4     0.4     0.4     159
-#   handshake 40      52.4    53.2    54.2    54.1     398
-#   layers 120         103     107      78      77     879
-#   mixture 12         342     285     335     305     202
-#   past 12            181     135     139     135     103
-#   quantified 8       0.8     0.7     0.8     0.8     160
-#   response 13        608     494     505     504     421
-#   separation 300    13.3    13.6    14.2    13.9    1234
-#   15 macros that double their number of conjunctions (`m14`): 574 before, 297 with the shelf, which explores 16,385 steps in place of 32,767
+#   handshake 40      52.4    53.2    54.1    51.9     398
+#   layers 120         103     107      77      73     879
+#   mixture 12         342     285     305     285     202
+#   past 12            181     135     135     126     103
+#   quantified 8       0.8     0.7     0.8     0.7     160
+#   response 13        608     494     504     435     421
+#   separation 300    13.3    13.6    13.9    12.7    1234
+#   15 macros that double their number of conjunctions (`m14`): 574 before, 306 with a builder that explores 16,385 steps in place of 32,767, and 223 now
+# Of `past 12` the memory is 3.7 MB now, in place of 6.1 (MONA 6.4), and its time is about MONA's: beside other work, the least of 250 turns was 11.7 ms to 12.1, and at another time 11.6 to 11.6 (13.8 before).
 set -euo pipefail
 here=$(cd "$(dirname "$(readlink -f "${BASH_SOURCE[0]}")")" && pwd)
 program=${PROGRAM:-$here/../crates/dcvalid/out/dcvalid}
