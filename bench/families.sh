@@ -7,45 +7,44 @@
 #   bench/families.sh CASE..     these, as `bench/families.sh 'past 12'`
 #
 # What is valid for one must be valid for the other; where MONA's question takes over a minute, no quotient is told.
-# The last figures: 29 November 2026, an Intel Xeon with nothing else of ours to do, but with neighbours: the least of twelve runs, and of `past 12` of two hundred, since its quotient
-# went from 0.93 to 1.46 from minute to minute. `past 12` alone is above MONA's time (in the night before, on another such machine, it took 15.0 ms to 16.8), and none is above its memory. What takes
-# a few milliseconds here takes 2 to 3 on a quieter one, most of it the start of the process.
+# The last figures: 29 November 2026, an Intel Xeon beside a gate on all four processors, with the priority of real time: the least of eight runs. None is above MONA's time or memory.
+# `past 12`, the nearest but for Boolean mixtures, took 11.1 to 11.4 ms in turns of 150 runs, and MONA 11.5 to 12.1. What takes a few milliseconds is most of it the start of the process.
 #
 #   case                      ms      MONA  times          MB      MONA  times  answer
-#   arbiter 2 4              3.7       5.6   0.65         2.0       4.5   0.45  not valid
-#   arbiter 3 4              3.8       5.5   0.69         2.2       4.7   0.46  not valid
-#   arbiter 4 4              5.3       7.1   0.75         2.4       4.9   0.50  not valid
-#   arbiter 5 6             57.2     148.0   0.39        15.5      42.0   0.37  not valid
-#   arbiter 6 5            242.1     504.2   0.48        43.6      81.7   0.53  not valid
-#   arbiter 8 3            279.5     382.9   0.73        43.2      82.1   0.53  not valid
-#   chain 1500               4.4     896.7   0.00         2.1       6.5   0.32  not valid
-#   chain 200                3.6      23.5   0.15         2.0       4.7   0.43  not valid
-#   chain 700                3.3     184.0   0.02         2.1       5.4   0.38  not valid
-#   count 4                  3.0       4.8   0.62         2.0       4.4   0.46  not valid
-#   count 6                  3.0       6.1   0.48         2.0       4.6   0.44  not valid
-#   count 8                  3.6      21.1   0.17         2.0       5.0   0.40  not valid
-#   handshake 14             5.7      12.2   0.47         2.3       4.9   0.47  valid
-#   handshake 25             6.2      18.1   0.34         2.7       4.9   0.55  valid
-#   handshake 40            11.7      44.8   0.26         4.0       5.9   0.67  valid
-#   layers 120              11.2      76.3   0.15         3.0      12.8   0.24  not valid
-#   layers 30                8.2      19.4   0.42         2.5       5.7   0.44  not valid
-#   layers 60               12.9      32.0   0.40         2.5       7.2   0.35  not valid
-#   mixture 12              47.3      52.8   0.90        12.4      15.8   0.79  not valid
-#   mixture 6                4.2       5.5   0.76         2.2       4.6   0.47  not valid
-#   mixture 9               16.5      36.6   0.45         5.6      13.8   0.41  not valid
-#   past 12                 16.0      14.5   1.11         6.0       6.4   0.93  not valid
-#   past 6                   3.6       4.9   0.73         2.0       4.4   0.46  not valid
-#   past 9                   5.0       5.7   0.87         2.5       4.6   0.54  not valid
-#   quantified 4             3.6       5.7   0.63         2.0       4.6   0.43  not valid
-#   quantified 6             3.7       7.7   0.48         2.0       4.6   0.44  not valid
-#   quantified 8             4.2      29.8   0.14         2.0       5.3   0.39  not valid
-#   response 11             18.3      19.5   0.94         4.9       7.5   0.65  not valid
-#   response 13             68.5     101.6   0.67        14.2      16.9   0.84  not valid
-#   response 8               5.9       6.9   0.86         2.4       5.1   0.48  not valid
-#   separation 100           4.7      16.1   0.29         2.2       4.6   0.47  not valid
-#   separation 300           5.3     113.5   0.05         2.3       4.6   0.49  not valid
-#   separation 600           6.5     369.7   0.02         2.4       5.2   0.46  not valid
-#   geometric mean of the times: 0.32; of the twelve large ones that were measured alone before, on the other machine, 0.255
+#   arbiter 2 4              3.2       4.3   0.75         2.0       4.6   0.44  not valid
+#   arbiter 3 4              3.3       5.0   0.65         2.1       4.7   0.45  not valid
+#   arbiter 4 4              4.4       7.2   0.61         2.5       4.9   0.51  not valid
+#   arbiter 5 6             49.8     121.8   0.41        15.5      42.1   0.37  not valid
+#   arbiter 6 5            289.0     496.2   0.58        48.8      81.7   0.60  not valid
+#   arbiter 8 3            278.8     421.4   0.66        48.1      82.1   0.59  not valid
+#   chain 1500               4.4    1111.9   0.00         2.2       6.4   0.34  not valid
+#   chain 200                3.5      23.6   0.15         2.0       4.7   0.42  not valid
+#   chain 700                3.7     221.0   0.02         2.1       5.4   0.38  not valid
+#   count 4                  2.9       5.2   0.56         2.0       4.4   0.45  not valid
+#   count 6                  2.8       7.2   0.39         2.0       4.6   0.43  not valid
+#   count 8                  3.3      21.6   0.15         2.0       5.0   0.39  not valid
+#   handshake 14             4.8       9.2   0.52         2.4       4.8   0.50  valid
+#   handshake 25             5.8      15.5   0.38         2.7       4.9   0.55  valid
+#   handshake 40             9.0      33.9   0.27         3.9       5.8   0.66  valid
+#   layers 120              11.2      85.7   0.13         2.9      12.7   0.22  not valid
+#   layers 30                6.0      17.3   0.35         2.6       5.7   0.45  not valid
+#   layers 60                9.1      31.0   0.29         2.5       7.3   0.34  not valid
+#   mixture 12              45.0      52.8   0.85        12.2      15.7   0.77  not valid
+#   mixture 6                3.3       5.2   0.64         2.1       4.7   0.45  not valid
+#   mixture 9               13.6      34.1   0.40         5.3      13.8   0.38  not valid
+#   past 12                 12.8      14.8   0.86         3.8       6.3   0.60  not valid
+#   past 6                   2.8       4.2   0.67         2.1       4.4   0.47  not valid
+#   past 9                   4.0       5.5   0.73         2.2       4.6   0.48  not valid
+#   quantified 4             3.0       5.2   0.58         2.0       4.6   0.44  not valid
+#   quantified 6             3.2       7.6   0.42         2.0       4.6   0.43  not valid
+#   quantified 8             3.5      21.3   0.16         2.0       5.2   0.38  not valid
+#   response 11             13.8      16.8   0.82         4.1       7.6   0.55  not valid
+#   response 13             43.4      75.3   0.58        11.1      17.0   0.65  not valid
+#   response 8               4.2       5.5   0.75         2.2       5.0   0.45  not valid
+#   separation 100           3.5      13.2   0.26         2.1       4.5   0.47  not valid
+#   separation 300           4.8     112.1   0.04         2.2       4.7   0.48  not valid
+#   separation 600           5.8     389.5   0.01         2.4       5.2   0.45  not valid
+#   geometric mean of the times: 0.292; of the twelve large ones (LARGE of families.py) 0.243
 # Instructions of one run (callgrind, millions), which no other load disturbs, of a program that is built without its proofs (`bench/unproved.py`): before
 # the minimiser divided by hashes, with them, with a builder that explores nothing twice, with shorter searches for shortest words, fewer lists where there are few
 # states and no memo for lists of operands with one slot to go (now), and MONA's.
@@ -63,7 +62,7 @@
 #   response 13        608     494     504     435     421
 #   separation 300    13.3    13.6    13.9    12.7    1234
 #   15 macros that double their number of conjunctions (`m14`): 574 before, 306 with a builder that explores 16,385 steps in place of 32,767, and 223 now
-# Of `past 12` the memory is 3.7 MB now, in place of 6.1 (MONA 6.4), and its time is about MONA's: beside other work, the least of 250 turns was 11.7 ms to 12.1, and at another time 11.6 to 11.6 (13.8 before).
+# Of `past 12` the memory is 3.8 MB now, in place of 6.1, and its time with it, since lists of operands that are not remembered take no pages.
 set -euo pipefail
 here=$(cd "$(dirname "$(readlink -f "${BASH_SOURCE[0]}")")" && pwd)
 program=${PROGRAM:-$here/../crates/dcvalid/out/dcvalid}

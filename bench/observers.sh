@@ -26,8 +26,9 @@
 #   text                      bytes     million instructions: twice     once      now        MB of 930,000 nodes
 #   Lustre                3,534,436                           1,087      744      704                433 of  57 MB
 #   C                     2,915,468                           1,020      724      513                366 of  48 MB
-# Before the last column, with the proved program, on a machine with nothing else of ours to do, the same day: a node of Lustre of 132,823,728 bytes (16850 7) is read in 3.9 to 4.0 s with 986 MB, a unit of C of 111,432,758 bytes in 4.8 to 5.2 s with
-# 818 MB; 57 MB of Lustre in 1.7 to 2.0 s, 48 MB of C in 2.3 to 2.6 s, and the automaton's text of both (33 MB) in 0.18 s with 110 MB.
+# With the proved program, the same day, beside a gate on all four processors but with the priority of real time: a unit of C of 134,157,556 bytes (20145 7) is read in 4.3 to 4.6 s with 970 MB
+# (before the last column one of 111,432,758 bytes took 4.8 to 5.2 s, on a machine with nothing else of ours to do), a node of Lustre of 132,823,728 bytes (16850 7) in 3.7 to 3.9 s with 986 MB. 57 MB of Lustre took 1.7 to 2.0 s before,
+# 48 MB of C 2.3 to 2.6 s, and the automaton's text of both (33 MB) 0.18 s with 110 MB: a text that a grammar reads takes eight to ten times that of one that is cut into lines.
 set -euo pipefail
 here=$(cd "$(dirname "$(readlink -f "${BASH_SOURCE[0]}")")" && pwd)
 program=${PROGRAM:-$here/../crates/dcvalid/out/dcvalid}
