@@ -99,6 +99,15 @@ impl Raw {
     {
         &self.arena
     }
+
+    /// The arena and the rows, for another automaton over the same.
+    pub fn into_rows(self) -> (Arena, Vec<Ref>)
+        ensures arena { result.0 ≡ self.arena }
+        ensures rows { result.1.items ≡ self.rows }
+        ensures raw { IsRaw self }
+    {
+        (self.arena, self.rows)
+    }
 }
 
 impl Raw {

@@ -1,5 +1,5 @@
 -- What the folding's steps give, from one to the next.
-use Rattle.std.proofs.Common.{◌≡◌, ℕ, ◌<◌, Bool, List, length, refl, ap, ◌∙◌, subst, subst₂, arith}
+use Rattle.std.proofs.Common.{◌≡◌, ℕ, ◌<◌, Bool, List, length, refl, subst, arith}
 use Rattle.std.specs.List.{All}
 use Rattle.std.proofs.lemmas.List.{get_or_default}
 use Rattle.std.proofs.lemmas.List.Elements.{All-weaker}
@@ -11,8 +11,8 @@ use Rattle.dcv_reach.specs.Reached.{states_of, words_of, IsReached}
 use Rattle.dcv_reach.specs.declared.reached.Found.{Found}
 use Rattle.dcv_minimise.specs.Minimal.{IsMinimalOf}
 use Rattle.dcv_minimise.specs.Partition.{IsPartition}
-use Rattle.dcv_minimise.specs.Classes.{AreKept, IsKeptList, AreNumbers}
-use Rattle.dcv_minimise.specs.Folded.{HasRows, flags_of, IsFolded}
+use Rattle.dcv_minimise.specs.Classes.{AreKept, IsKeptList}
+use Rattle.dcv_minimise.specs.Folded.{HasKeptRows, flags_of, IsFolded}
 use Rattle.dcv_minimise.proofs.LeastWords.{by_found, listed_inside}
 use Rattle.dcv_minimise.proofs.Numberings.{HasNumbering, kept_numbering}
 use Rattle.dcv_minimise.proofs.Fewest.{kept_no_more, new_is_raw, auto_with, minimal}
@@ -51,27 +51,22 @@ pub record IsMade (raw : RawValue) (alone : Bool) (new : RawValue) : Type 0 wher
   pub auto : IsAutoWith new alone
   pub minimal : IsMinimalOf raw new
 
--- of its rows and flags, each made of the same lists
+-- of its rows and flags
 pub made : (raw : RawValue) (is : IsRaw raw) (blocks : List ℕ) (partition : IsPartition raw blocks) (found given_found : List Found) (reached : IsReached raw.arena.slots (automaton_of raw) found)
-    (kept : List ℕ) (alone : Bool) (numbers first second third : List ℕ) (arena : ArenaValue) (rows : List Ref) (accepting : List Bool)
-    → given_found ≡ found → first ≡ kept → second ≡ kept → third ≡ numbers
-    → AreKept raw blocks (states_of given_found) kept alone → AreNumbers blocks first numbers → HasRows raw second third arena rows → length rows ≡ length second → accepting ≡ flags_of raw kept alone
+    (kept given_kept : List ℕ) (alone : Bool) (arena : ArenaValue) (rows : List Ref) (accepting : List Bool)
+    → given_found ≡ found → given_kept ≡ kept → AreKept raw blocks (states_of given_found) kept alone → HasKeptRows raw blocks given_kept arena rows → accepting ≡ flags_of raw kept alone
     → IsMade raw alone (raw_value arena rows accepting 0)
-made raw is blocks partition found given_found reached kept alone numbers first second third arena rows accepting is_found is_first is_second is_third given_kept given_numbers has count flags =
+made raw is blocks partition found given_found reached kept given_kept alone arena rows accepting is_found is_kept given_are given_rows flags =
     let new = raw_value arena rows accepting 0 in
-    let are = subst (λ found. AreKept raw blocks (states_of found) kept alone) is_found given_kept in
-    let are_numbers = subst (λ states. AreNumbers blocks states numbers) is_first given_numbers in
-    let folded : IsFolded raw kept numbers alone new = record {
-      start = refl;
-      count = count ∙ ap length is_second;
-      rows = subst₂ (λ states numbers. HasRows raw states numbers arena rows) is_second is_third has;
-      flags = flags;
-    } in
+    let are = subst (λ found. AreKept raw blocks (states_of found) kept alone) is_found given_are in
+    let has = subst (λ states. HasKeptRows raw blocks states arena rows) is_kept given_rows in
+    let numbers = has.numbers in
+    let folded : IsFolded raw kept numbers alone new = record { start = refl; count = has.count; rows = has.has; flags = flags } in
     let by = by_found raw.arena.slots (automaton_of raw) found reached in
     let numbered = kept_numbering raw is blocks (states_of found) (words_of found) by partition kept alone are in
     let order = numbered.is in
     record {
-      is_raw = new_is_raw raw is blocks partition kept order.some order.inside order.apart numbers are_numbers alone new folded;
-      auto = auto_with raw is blocks (states_of found) (words_of found) by partition kept numbered.access alone order numbers are_numbers new folded;
-      minimal = minimal raw is blocks (states_of found) (words_of found) by partition kept numbered.access alone order numbers are_numbers new folded;
+      is_raw = new_is_raw raw is blocks partition kept order.some order.inside order.apart numbers has.are alone new folded;
+      auto = auto_with raw is blocks (states_of found) (words_of found) by partition kept numbered.access alone order numbers has.are new folded;
+      minimal = minimal raw is blocks (states_of found) (words_of found) by partition kept numbered.access alone order numbers has.are new folded;
     }

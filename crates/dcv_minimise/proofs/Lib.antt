@@ -27,6 +27,8 @@ pub mod Keeping
 pub mod Numberings
 pub mod RowFacts
 pub mod BlockNumbers
+pub mod OwnNodes
+pub mod StayingRows
 pub mod Quotients
 pub mod Falling
 mod Fewest

@@ -11,3 +11,4 @@ pub mod Refining
 -- the classes with their numbers, and the automaton of these
 pub mod Classes
 pub mod Folded
+pub mod OwnNodes

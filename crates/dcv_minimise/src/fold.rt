@@ -1,15 +1,16 @@
 // The automaton whose states are blocks (after A. Nerode, 1958). Of each block that words lead to one state is kept, the one
 // with the least word, and the states are numbered in the order of these words. The start gets a state of its own only where
 // no block has its row: whether it accepts does not matter, since no word is empty.
-ghost use Rattle.std.specs.Prelude.{◌≡◌, ◌≢◌, ◌<◌, ◌^◌, [], ◌∷◌, length, drop, slice_index_or, IfOk};
+ghost use Rattle.std.specs.Prelude.{◌≡◌, ◌≢◌, ◌<◌, ◌^◌, ℕ, true, [], ◌∷◌, length, drop, slice_index_or, IfOk};
 ghost use Rattle.std.specs.List.{All, AllPairs};
 ghost use Rattle.dcv_dfa.specs.Raw.{IsRaw, automaton_of, next_in};
 ghost use Rattle.dcv_reach.specs.Reached.{IsReached, states_of};
 ghost use Rattle.dcv_minimise.specs.Minimal.{IsMinimalOf};
 ghost use Rattle.dcv_minimise.specs.Partition.{IsPartition, block_of};
-ghost use Rattle.dcv_minimise.specs.Classes.{HasFirsts, IsFirstLike, AreKept, IsKeptList, AreBlockNumbers, AreNumbers};
-ghost use Rattle.dcv_minimise.specs.Folded.{HasRows, flags_of};
+ghost use Rattle.dcv_minimise.specs.Classes.{HasFirsts, IsFirstLike, AreKept, IsKeptList, IsEach, AreBlockNumbers, AreNumbers};
+ghost use Rattle.dcv_minimise.specs.Folded.{HasRows, HasKeptRows, flags_of};
 
+use crate::own_nodes::has_only_own_nodes;
 use crate::refine::keys::Keys;
 use dcv_arena::{Arena, Ref};
 use dcv_dfa::{Auto, Raw};
@@ -37,21 +38,42 @@ struct Rows {
 /// where it stands alone.
 pub(crate) fn fold(
     alloc: Global,
-    raw: &Raw,
+    raw: Raw,
     reached: &Reached,
     blocks: &[u32],
 ) -> Result<Auto, AllocError>
-    requires partition { IsPartition raw.now blocks.now }
-    requires reached { IsReached raw.now.arena.slots (automaton_of raw.now) reached.now.found }
-    ensures { IfOk result (IsMinimalOf raw.now) }
+    requires partition { IsPartition raw blocks.now }
+    requires reached { IsReached raw.arena.slots (automaton_of raw) reached.now.found }
+    ensures { IfOk result (IsMinimalOf raw) }
 {
-    let found = reached.found();
-    let kept = keep(alloc, raw, found, blocks)?;
-    let numbers = numbers_of(alloc, &kept.states, blocks)?;
-    let new = rows_of(alloc, raw, &kept.states, &numbers)?;
-    let accepting = flags(alloc, raw, &kept)?;
+    let kept = keep(alloc, &raw, reached.found(), blocks)?;
+    let accepting = flags(alloc, &raw, &kept)?;
+    let new = rows_for(alloc, raw, &kept.states, blocks)?;
     let folded = Raw::new(new.arena, new.rows, accepting, 0);
     Ok(Auto::new(folded, kept.alone))
+}
+
+// The rows of the kept states, by the numbers of these. Where they may stay as they are, no node is made anew.
+fn rows_for(alloc: Global, raw: Raw, states: &[u32], blocks: &[u32]) -> Result<Rows, AllocError>
+    requires partition { IsPartition raw blocks.now }
+    requires kept { IsKeptList raw blocks.now states.now }
+    ensures rows { IfOk result (λ new. HasKeptRows raw blocks.now states.now new.arena new.rows.items) }
+    ensures raw { IsRaw raw }
+{
+    if are_all(states, raw.states()) && has_only_own_nodes(alloc, &raw)? {
+        return Ok(as_they_are(raw));
+    }
+    let numbers = numbers_of(alloc, states, blocks)?;
+    rows_of(alloc, &raw, states, &numbers)
+}
+
+// The rows as they are, with their arena.
+fn as_they_are(raw: Raw) -> Rows
+    ensures arena { result.arena ≡ raw.arena }
+    ensures rows { result.rows.items ≡ raw.rows }
+{
+    let (arena, rows) = raw.into_rows();
+    Rows { arena, rows }
 }
 
 // The start and the first state of each class, without the start where a class has its row. That class is then the first.
@@ -224,4 +246,23 @@ fn flags(alloc: Global, raw: &Raw, kept: &Kept) -> Result<Vec<bool>, AllocError>
         accepting[0] = false;
     }
     Ok(accepting)
+}
+
+// Whether these are so many states, each in its place.
+fn are_all(states: &[u32], count: u32) -> bool
+    ensures { result ≡ true → IsEach count states.now }
+{
+    states.len() == count as usize && stand_in_place(states)
+}
+
+// Whether each state stands at the place that is its number.
+fn stand_in_place(states: &[u32]) -> bool
+    ensures { result ≡ true → (place : ℕ) → place < length states.now → slice_index_or states.now place 0 ≡ place }
+{
+    for (place, state) in states.iter().enumerate() {
+        if *state as usize != place {
+            return false;
+        }
+    }
+    true
 }

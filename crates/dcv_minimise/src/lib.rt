@@ -8,6 +8,7 @@
 
 mod fold;
 mod minimiser;
+mod own_nodes;
 mod refine;
 
 pub use minimiser::minimise;

@@ -14,5 +14,5 @@ pub fn minimise(alloc: Global, raw: Raw) -> Result<Auto, AllocError>
 {
     let blocks = refine(alloc, &raw)?;
     let reached = reach(alloc, &raw)?;
-    fold(alloc, &raw, &reached, &blocks)
+    fold(alloc, raw, &reached, &blocks)
 }
