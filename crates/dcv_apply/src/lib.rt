@@ -10,6 +10,7 @@
 //! ```
 #![tactic(auto)]
 
+mod cache;
 mod faults;
 mod keys;
 mod memo;

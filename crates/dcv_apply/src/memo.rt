@@ -7,10 +7,10 @@ ghost use Rattle.std.specs.Prelude.{◌≡◌, ◌≤◌, ◌==◌, [], length, 
 ghost use Rattle.dcv_apply.specs.Remembered.{entry, KeepsEntries, Adds};
 ghost use Rattle.dcv_apply.specs.Pairs.{pair_operands};
 
+use crate::cache::Cache;
 use crate::keys::{Key, Pair};
 use dcv_arena::Ref;
 use indexmap::IndexMap;
-use lru::LruCache;
 use std::alloc::{AllocError, Global};
 use std::marker::Model;
 use std::mem::swap;
@@ -46,7 +46,7 @@ pub struct Memo {
     first: IndexMap<Key, Ref>,
     // How many entries the maps may have together.
     room: usize,
-    later: LruCache<Key, Ref>,
+    later: Cache,
 }
 
 impl Model for Memo {
@@ -65,20 +65,19 @@ impl Model for Memo {
 }
 
 impl Memo {
-    /// A memo with no entries, for this many at most. Little memory is taken before there are entries.
+    /// A memo with no entries, for this many at most. No memory is taken before there are entries.
     pub fn new(alloc: Global, capacity: usize) -> Result<Memo, AllocError>
         requires { 1 ≤ capacity }
         ensures empty { IfOk result (λ memo. memo.entries ≡ []) }
         ensures capacity { IfOk result (λ memo. memo.capacity ≡ capacity) }
     {
         let rest = (capacity / 8).max(1);
-        let later = LruCache::sparse(alloc, NonZeroUsize::new(rest).unwrap())?;
         Ok(Memo {
             younger: IndexMap::new(alloc),
             older: IndexMap::new(alloc),
             first: IndexMap::new(alloc),
             room: capacity - rest,
-            later,
+            later: Cache::new(NonZeroUsize::new(rest).unwrap()),
         })
     }
 
@@ -123,7 +122,7 @@ impl Memo {
         ensures capacity { self.new.capacity ≡ self.old.capacity }
     {
         let alloc = *self.first.allocator();
-        self.later.get(&pair.key(alloc)).copied()
+        self.later.get(&pair.key(alloc))
     }
 
     // Remembers the ref of two operands, unless memory runs out. Others may be forgotten for it, and then too.
@@ -156,7 +155,7 @@ impl Memo {
             drop(self.younger.insert(pair, root));
         } else {
             let alloc = *self.first.allocator();
-            drop(self.later.put(pair.key(alloc), root));
+            drop(self.later.put(alloc, pair.key(alloc), root));
         }
     }
 
@@ -170,7 +169,7 @@ impl Memo {
         if early.is_some() {
             return early;
         }
-        self.later.get(key).copied()
+        self.later.get(key)
     }
 
     // Remembers the ref, unless memory runs out. Another may be forgotten for it.
@@ -181,7 +180,8 @@ impl Memo {
         if self.first.len() + self.younger.len() + self.older.len() < self.room {
             drop(self.first.insert(key, root));
         } else {
-            drop(self.later.put(key, root));
+            let alloc = *self.first.allocator();
+            drop(self.later.put(alloc, key, root));
         }
     }
 }

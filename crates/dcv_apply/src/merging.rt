@@ -1,7 +1,8 @@
 // Functions are merged letter by letter: `Apply` of R. E. Bryant (1986) for any number of operands at once. A memo keeps
-// what operands were merged into, so that each list of operands is gone through once while the memo has room; what it
-// forgets is merged again. There is one recursion, over whatever form the operands of a visit have: a build of its own for two
-// operands moves 16 bytes from visit to visit, and takes no memory but for what it adds to the memo and the arena.
+// what operands were merged into, so that two of them are gone through once while the memo has room, and so is any other list
+// that has more than one slot to go (see `visits.rt`); what is not kept, or is forgotten, is merged again. There is one recursion, over
+// whatever form the operands of a visit have: a build of its own for two operands moves 16 bytes from visit to visit, and takes no memory
+// but for what it adds to the memo and the arena.
 ghost use Rattle.std.specs.Prelude.{◌≡◌, ◌≢◌, ◌≤◌, ◌<◌, ◌+◌, ℕ, List, Bool, Err, Ok, length, IfOk};
 ghost use Rattle.std.specs.List.{All};
 ghost use Rattle.dcv_arena.specs.Arena.{IsRef, IsArena, level_of, KeepsRefs};

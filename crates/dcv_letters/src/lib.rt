@@ -12,6 +12,8 @@
 #![tactic(auto)]
 
 mod first_letters;
+mod numbers;
 mod seen;
+mod truths;
 
 pub use first_letters::{LetterSearch, least_letters};

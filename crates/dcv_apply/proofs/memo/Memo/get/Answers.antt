@@ -19,7 +19,7 @@ returns-then-is_some-clause-found c =
 
 pub returns-clause-found : goal.returns-clause-found
 returns-clause-found c =
-    let found = c.copied.result in
+    let found = c.get-2.result in
     let own = entry c.args.key.now.round c.args.key.now.operands.items in
     let young = map entry_of_pair c.self.inside.younger.entries in
     let old = map entry_of_pair c.self.inside.older.entries in
@@ -27,7 +27,7 @@ returns-clause-found c =
     let later = map entry_of c.self.inside.later.entries in
     subst (λ (memo : MemoValue). IfSome found (λ root. Contains memo.entries (own root))) c.self.view_is
     (found_in young (old ++ (first ++ later)) own found (inr (found_in old (first ++ later) own found (inr (found_in first later own found
-    (inr (found_if key_eq.it entry_of same_entry c.self.inside.later.entries c.args.key.now found (c.copied.ensures ∙ c.get-2.ensures.value))))))))
+    (inr (found_if key_eq.it entry_of same_entry c.self.inside.later.entries c.args.key.now found c.get-2.ensures.value)))))))
 
 pub returns-clause-kept : goal.returns-clause-kept
 returns-clause-kept c one there =
@@ -38,4 +38,4 @@ returns-clause-kept c one there =
     subst (λ (memo : MemoValue). Contains memo.entries one) c.self.view_is
     (parts_keep young (old ++ (first ++ later)) _ (parts_keep old (first ++ later) _ (parts_keep first later _
     (λ one there. promoted_were key_eq.it entry_of same_entry c.self.inside.later.entries c.args.key.now one
-    (subst (λ cache. Contains (map entry_of cache.entries) one) c.get-2.follows.holds-at-none there)))) one there)
+    (subst (λ cache. Contains (map entry_of cache.entries) one) c.get-2.ensures.entries there)))) one there)
