@@ -61,7 +61,8 @@
 #   quantified 8       0.8     0.7     0.8     0.7     160
 #   response 13        608     494     504     435     421
 #   separation 300    13.3    13.6    13.9    12.7    1234
-#   15 macros that double their number of conjunctions (`m14`): 574 before, 306 with a builder that explores 16,385 steps in place of 32,767, and 223 now
+#   15 macros that double their number of conjunctions (`m14`): 574 before, 306 with a builder that explores 16,385 steps in place of 32,767, 223 with fewer lists, and 187 with rows that
+#   stay as they are, a cache that is made when it is needed and numbers that are known by their places; with these `mixture 12` takes 263, `past 12` 123 and `arbiter 5 6` 363
 # Of `past 12` the memory is 3.8 MB now, in place of 6.1, and its time with it, since lists of operands that are not remembered take no pages.
 set -euo pipefail
 here=$(cd "$(dirname "$(readlink -f "${BASH_SOURCE[0]}")")" && pwd)
