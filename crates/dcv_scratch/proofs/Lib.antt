@@ -1,0 +1,4 @@
+pub mod Reaching
+pub mod ToldApart
+pub mod LeastWords
+pub mod SomeCertificates
