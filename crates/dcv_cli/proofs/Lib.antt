@@ -30,6 +30,7 @@ pub mod SomeBudgets
 pub mod SomeCertificates
 pub mod SomeOutcome
 pub mod SomeReports
+pub mod SomeSpellings
 pub mod SomeTables
 pub mod SomeVerdicts
 pub mod ToldApart
