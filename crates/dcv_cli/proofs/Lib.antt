@@ -32,6 +32,7 @@ pub mod SomeOutcome
 pub mod SomeReports
 pub mod SomeSpellings
 pub mod SomeTables
+pub mod SomeTexts
 pub mod SomeVerdicts
 pub mod ToldApart
 pub mod WordClasses

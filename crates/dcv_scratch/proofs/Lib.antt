@@ -4,3 +4,4 @@ pub mod LeastWords
 pub mod WordClasses
 pub mod SomeCertificates
 pub mod SomeSpellings
+pub mod SomeTexts
