@@ -27,6 +27,7 @@ pub mod Reaching
 pub mod RowLimits
 pub mod SomeAnswers
 pub mod SomeBudgets
+pub mod SomeDiagrams
 pub mod SomeOutcome
 pub mod SomeReports
 pub mod SomeTables
