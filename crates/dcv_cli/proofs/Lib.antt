@@ -26,6 +26,7 @@ pub mod PrintedLengths
 pub mod Reaching
 pub mod RowLimits
 pub mod SomeAnswers
+pub mod SomeAutomata
 pub mod SomeBudgets
 pub mod SomeDiagrams
 pub mod SomeOutcome
