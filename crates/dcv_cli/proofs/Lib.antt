@@ -31,6 +31,7 @@ pub mod SomeBudgets
 pub mod SomeDiagrams
 pub mod SomeOutcome
 pub mod SomeReports
+pub mod SomeRows
 pub mod SomeTables
 pub mod SomeVerdicts
 pub mod ToldApart
