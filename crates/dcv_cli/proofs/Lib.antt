@@ -43,5 +43,6 @@ pub mod Sweeps
 pub mod Syntheses
 pub mod LeastWords
 pub mod LongTexts
+pub mod MergedRows
 pub mod VariableNames
 mod Texts
