@@ -26,11 +26,15 @@ pub mod PrintedLengths
 pub mod Reaching
 pub mod RowLimits
 pub mod SomeAnswers
+pub mod SomeAutomata
 pub mod SomeBudgets
 pub mod SomeCertificates
+pub mod SomeKinds
 pub mod SomeOutcome
 pub mod SomeReports
 pub mod SomeSpellings
+pub mod SomeDiagrams
+pub mod SomeRows
 pub mod SomeTables
 pub mod SomeTexts
 pub mod SomeVerdicts
@@ -43,5 +47,6 @@ pub mod Sweeps
 pub mod Syntheses
 pub mod LeastWords
 pub mod LongTexts
+pub mod MergedRows
 pub mod VariableNames
 mod Texts
