@@ -32,6 +32,7 @@ pub mod SomeCertificates
 pub mod SomeKinds
 pub mod SomeOutcome
 pub mod SomeReports
+pub mod SomeRight
 pub mod SomeSpellings
 pub mod SomeDiagrams
 pub mod SomeRows
