@@ -28,6 +28,7 @@ pub mod RowLimits
 pub mod SomeAnswers
 pub mod SomeAutomata
 pub mod SomeBudgets
+pub mod SomeControls
 pub mod SomeDiagrams
 pub mod SomeOutcome
 pub mod SomeReports
