@@ -30,11 +30,12 @@ pub mod SomeAutomata
 pub mod SomeBudgets
 pub mod SomeCertificates
 pub mod SomeKinds
+pub mod SomeControls
+pub mod SomeDiagrams
 pub mod SomeOutcome
 pub mod SomeReports
 pub mod SomeRight
 pub mod SomeSpellings
-pub mod SomeDiagrams
 pub mod SomeRows
 pub mod SomeTables
 pub mod SomeTexts
