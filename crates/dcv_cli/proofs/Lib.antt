@@ -41,6 +41,7 @@ pub mod Syntheses
 pub mod LeastWords
 pub mod LongTexts
 pub mod VariableNames
+pub mod TableBounds
 pub mod SomeVectors
 pub mod SomeWinners
 pub mod SomeSyntheses
