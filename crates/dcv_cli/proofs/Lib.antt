@@ -51,4 +51,8 @@ pub mod LeastWords
 pub mod LongTexts
 pub mod MergedRows
 pub mod VariableNames
+pub mod TableBounds
+pub mod SomeVectors
+pub mod SomeWinners
+pub mod SomeSyntheses
 mod Texts
