@@ -1,9 +1,8 @@
 -- Each formula file that is within the limits has a right report of each kind: its models have a canonical automaton, and that has a text.
---     TablesAreWithin      the canonical tables of cores whose steps are within limits are within them
---     HasAutomaton         the models of a file have an automaton that has a file
---     some_file            so it is where all steps are within the limits
---     some_report          the report of a kind
---     some_budgeted        or the outcome that names the first step that is over the limits
+--     HasAutomaton     the models of a file have an automaton that has a file
+--     some_file        so it is where all steps are within the limits
+--     some_report      the report of a kind
+--     some_budgeted    or the outcome that names the first step that is over the limits
 use Rattle.std.proofs.Common.{◌≡◌, ◌⊎◌, inl, inr, ℕ, ◌<◌, ◌≤◌, ◌^◌, List, [], length, map, None, refl, sym, ap, ◌∙◌, subst, arith}
 use Rattle.std.proofs.lemmas.List.{length-map}
 use Rattle.dcv_word.specs.Behaviour.{Word}
@@ -46,23 +45,15 @@ use Rattle.dcv_cli.specs.Outcome.{Outcome}
 use Rattle.dcv_cli.specs.Report.{Says, IsReport}
 use Rattle.dcv_cli.specs.Status.{status_of_verdict}
 use Rattle.dcv_cli.specs.declared.refused.Which.TheVariants.{Only}
+use Rattle.dcv_cli.proofs.CoreTables.{TablesAreWithin}
 use Rattle.dcv_cli.proofs.SomeAutomata.{rows_of, IsAutomatonOf, some_automaton}
 use Rattle.dcv_cli.proofs.SomeBudgets.{counts_within, table_of_core}
 use Rattle.dcv_cli.proofs.SomeReports.{over_or_within}
 use Rattle.dcv_cli.proofs.SomeTexts.{some_text}
 use Rattle.dcv_cli.proofs.SomeVerdicts.{some_verdict}
 use Rattle.dcv_cli.proofs.StepCounts.{printable_counts}
+use Rattle.dcv_cli.proofs.TableBounds.{IsTableWithin}
 use Rattle.dcv_cli.proofs.VariableNames.{none_of_both, are_names}
-
--- a table with no more states and nodes than the limits allow
-pub record IsTableWithin (k : ℕ) (limits : Limits) (table : Table) : Type 0 where
-  pub few_states : length table ≤ limits.states
-  pub few_nodes : node_count k (rows_of table) ≤ limits.nodes
-
--- of a core whose steps are all within the limits
-abbrev pub TablesAreWithin : Type 0
-TablesAreWithin = (k : ℕ) (tree : CoreTree) (limits : Limits) → IsWithinBudget (steps_of k tree) limits
-    → (table : Table) (access : List Word) → IsCanonical k (words_of tree) table access → IsTableWithin k limits table
 
 -- an automaton of the models of a formula file, with their canonical table
 pub record HasAutomaton (file : PlainFile) : Type 0 where
@@ -84,7 +75,7 @@ module _ (models_are : WordsAreModels) (short : NamesAreShort) (tables_within : 
       let names : AreNames (texts_of file.variables) = are_names short text file formula in
       let size : length (texts_of file.variables) ≡ k = length-map file.variables (λ (name : _). name.text) in
       let (raw, made) = some_automaton k (models file) table access (let count = names.count in omega arith) canonical
-      (let states = few.few_states in let most = range.few_states in omega arith) (let nodes = few.few_nodes in let most = range.few_nodes in omega arith) in
+      (let states = few.states in let most = range.few_states in omega arith) (let nodes = few.nodes in let most = range.few_nodes in omega arith) in
       record {
         table = table;
         access = access;
@@ -95,8 +86,8 @@ module _ (models_are : WordsAreModels) (short : NamesAreShort) (tables_within : 
           auto = made.auto;
           are_names = names;
           slots = size ∙ sym made.same_slots;
-          states = omega (arith, made.count, few.few_states, range.few_states);
-          nodes = omega (arith, made.nodes, few.few_nodes, range.few_nodes);
+          states = omega (arith, made.count, few.states, range.few_states);
+          nodes = omega (arith, made.nodes, few.nodes, range.few_nodes);
         };
         slots = made.same_slots;
         accepts = made.exact;
