@@ -5,3 +5,10 @@ pub mod WordClasses
 pub mod SomeCertificates
 pub mod SomeSpellings
 pub mod SomeTexts
+pub mod SomeTables
+pub mod RowLimits
+pub mod SomeBudgets
+pub mod TableBounds
+pub mod CoreTables
+pub mod SomeAutomata
+pub mod SomeDiagrams
