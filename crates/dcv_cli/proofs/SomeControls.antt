@@ -166,7 +166,8 @@ module _ (n m : ℕ) (table : Table) (is : IsTable (n + m) table) (can : IsReali
       → (control : ControlValue) × IsControlFor n m table control
   some_control narrow few small fits =
       let below : (state : ℕ) → state < length table → StaysBelow n 32768 next state = λ state inside input size. omega (arith, next_below state inside input size) in
-      let (nexts, nexts_are) = some_rows n 32768 chosen next narrow (All-weaker (λ state. state < length table) (StaysBelow n 32768 next) below chosen chosen_below) (omega (arith, next_nodes)) in
+      let all_below = All-weaker (λ state. state < length table) (StaysBelow n 32768 next) below chosen chosen_below in
+      let (nexts, nexts_are) = some_rows n 32768 chosen next narrow all_below (omega (arith, next_nodes)) in
       let (outputs, outputs_are) = some_rows n 256 chosen output narrow (λ place d within. output_below few (get_or chosen place d)) (omega (arith, output_nodes)) in (
         record { states = chosen; next = nexts; output = outputs },
         record {
