@@ -1,6 +1,6 @@
 -- A canonical table has a canonical automaton, whose rows are diagrams in one arena.
---     IsAutomatonOf k L table raw    the automaton is one, over so many slots, with this table, and accepts the set
---     some_automaton                 so there is one, where the numbers of states and of nodes fit
+--     IsAutomatonOf k L table access raw    the automaton is one, over so many slots, with this table, and accepts the set
+--     some_automaton                        so there is one, where the numbers of states and of nodes fit
 use Rattle.std.proofs.Common.{◌≡◌, ℕ, ◌^◌, ◌<◌, ◌≤◌, false, List, [], length, map, get_or, All, refl, sym, ap, ◌∙◌, subst, arith}
 use Rattle.std.proofs.lemmas.List.{length-map, get_or-map, get_or_default, same_lists}
 use Rattle.std.proofs.lemmas.List.Elements.{All-map}
