@@ -69,7 +69,8 @@ module _ (n m : ℕ) (merge : (List Bool → ℕ) → ℕ) (merges : Merges m me
     behind : (values output : List Bool) → whole ((split.front ++ values) ++ output) ≡ whole (split.front ++ (values ++ output))
     behind values output = ap whole (append_assoc split.front values output)
 
-    halves_alike : low_part whole split.front (rest + m) ≡ high_part whole split.front (rest + m) → low_part (merged merge whole) split.front rest ≡ high_part (merged merge whole) split.front rest
+    halves_alike : low_part whole split.front (rest + m) ≡ high_part whole split.front (rest + m)
+        → low_part (merged merge whole) split.front rest ≡ high_part (merged merge whole) split.front rest
     halves_alike same =
         let equal = same_values (rest + m) (λ values. whole (split.front ++ false ∷ values)) (λ values. whole (split.front ++ true ∷ values)) same in
         same_table rest (λ values. merged merge whole (split.front ++ false ∷ values)) (λ values. merged merge whole (split.front ++ true ∷ values)) (λ values size.
@@ -117,8 +118,11 @@ module _ (n m : ℕ) (merge : (List Bool → ℕ) → ℕ) (merges : Merges m me
           image_old (whole state) node split,
         )
 
-    pub merged_no_more : node_count n (map (λ state. as_table n (merged merge (whole state))) states) ≤ node_count (n + m) (map (λ state. as_table (n + m) (whole state)) states)
-    merged_no_more = images_no_more image (nodes_of_all n (map (λ state. as_table n (merged merge (whole state))) states)) (nodes_of_all (n + m) (map (λ state. as_table (n + m) (whole state)) states)) node_merged
+    pub merged_no_more : node_count n (map (λ state. as_table n (merged merge (whole state))) states)
+        ≤ node_count (n + m) (map (λ state. as_table (n + m) (whole state)) states)
+    merged_no_more =
+        images_no_more image (nodes_of_all n (map (λ state. as_table n (merged merge (whole state))) states))
+        (nodes_of_all (n + m) (map (λ state. as_table (n + m) (whole state)) states)) node_merged
 
   -- ---- the rows of a table
 
@@ -129,7 +133,8 @@ module _ (n m : ℕ) (merge : (List Bool → ℕ) → ℕ) (merges : Merges m me
       let some = tables_no_more (n + m) (map (λ state. as_table (n + m) (next_in table state)) states) (rows_of table) (λ row there.
       let (state, in_states, is_row) = Contains-map_cases (λ state. as_table (n + m) (next_in table state)) states row there in
       let within : state < length table = All-contains (λ state. state < length table) states state below in_states in
-      let same : as_table (n + m) (next_in table state) ≡ (get_or table state no_state).row = as_table-reading (n + m) (get_or table state no_state).row (is.rows state no_state within) in
+      let same : as_table (n + m) (next_in table state) ≡ (get_or table state no_state).row =
+      as_table-reading (n + m) (get_or table state no_state).row (is.rows state no_state within) in
       subst (Contains (rows_of table)) (sym same ∙ is_row)
       (Contains-map (λ (state : TableState). state.row) table (get_or table state no_state) (Contains-get_or table state no_state within))) in
       omega (arith, fewer, some)

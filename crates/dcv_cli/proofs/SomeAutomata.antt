@@ -1,6 +1,6 @@
 -- A canonical table has a canonical automaton, whose rows are diagrams in one arena.
---     IsAutomatonOf k L table raw    the automaton is one, over so many slots, with this table, and accepts the set
---     some_automaton                 so there is one, where the numbers of states and of nodes fit
+--     IsAutomatonOf k L table access raw    the automaton is one, over so many slots, with this table, and accepts the set
+--     some_automaton                        so there is one, where the numbers of states and of nodes fit
 use Rattle.std.proofs.Common.{◌≡◌, ℕ, ◌^◌, ◌<◌, ◌≤◌, false, List, [], length, map, get_or, All, refl, sym, ap, ◌∙◌, subst, arith}
 use Rattle.std.proofs.lemmas.List.{length-map, get_or-map, get_or_default, same_lists}
 use Rattle.std.proofs.lemmas.List.Elements.{All-map}
@@ -47,7 +47,8 @@ module _ (k : ℕ) (table : Table) (arena : ArenaValue) (refs : List Ref) (drawn
 
   same_state : (state : ℕ) (d : TableState) → state < length table → state_of raw state ≡ get_or table state d
   same_state state d within =
-      let flag : get_or raw.accepting state false ≡ (get_or table state no_state).accepting = get_or-map (λ (state : TableState). state.accepting) table state no_state false within in
+      let flag : get_or raw.accepting state false ≡ (get_or table state no_state).accepting =
+      get_or-map (λ (state : TableState). state.accepting) table state no_state false within in
       let row = row_at state (Leaf 0) within in
       let known : state_of raw state ≡ get_or table state no_state = λ i. record { accepting = flag i; row = row i } in
       known ∙ get_or_default table state no_state d within
@@ -87,7 +88,8 @@ pub some_automaton : (k : ℕ) (L : Language) (table : Table) (access : List Wor
     → length table < 2 ^ 32 → node_count k (rows_of table) < 2 ^ 32
     → (raw : RawValue) × IsAutomatonOf k L table access raw
 some_automaton k L table access narrow canonical few fewer =
-    let (arena, refs, drawn) = some_diagrams k (rows_of table) narrow (All-map (λ row. length row ≡ 2 ^ k) (λ (state : TableState). state.row) table canonical.states.rows) fewer in
+    let sizes = All-map (λ row. length row ≡ 2 ^ k) (λ (state : TableState). state.row) table canonical.states.rows in
+    let (arena, refs, drawn) = some_diagrams k (rows_of table) narrow sizes fewer in
     (raw k table arena refs drawn, of_drawn arena refs drawn)
   where
     of_drawn : (arena : ArenaValue) (refs : List Ref) (drawn : AreDiagramsOf k (rows_of table) arena refs) → IsAutomatonOf k L table access (raw k table arena refs drawn)
@@ -100,7 +102,8 @@ some_automaton k L table access narrow canonical few fewer =
         subst (λ slots. HaveSameBehaviours slots (table_accepts table) (raw_accepts made)) slots
         (subst (λ table. HaveSameBehaviours arena.slots (table_accepts table) (raw_accepts made)) same (table_accepts_as_the_states made is refl)) in
         let exact : HaveSameBehaviours k (raw_accepts made) L = λ word b. sym (by_table word b) ∙ canonical.exact word b in
-        let known : IsCanonical k (raw_accepts made) table access = canonical_for_same_behaviours k L (raw_accepts made) table access (λ word b. sym (exact word b)) canonical in
+        let known : IsCanonical k (raw_accepts made) table access =
+        canonical_for_same_behaviours k L (raw_accepts made) table access (λ word b. sym (exact word b)) canonical in
         record {
           same_slots = slots;
           is = is;

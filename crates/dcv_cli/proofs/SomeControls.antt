@@ -20,12 +20,20 @@ use Rattle.dcv_synth.specs.Tracks.{least_track}
 use Rattle.dcv_synth.specs.Realisable.{IsRealisable}
 use Rattle.dcv_synth.specs.Play.{answer_of, IsStartOr}
 use Rattle.dcv_synth.specs.Control.{ControlValue, IsControl, IsControlOf}
-use Rattle.dcv_synth.proofs.Tracks.{least-length}
 use Rattle.dcv_cli.proofs.MergedRows.{Merges, merged_rows_no_more}
 use Rattle.dcv_cli.proofs.SomeAutomata.{rows_of}
 use Rattle.dcv_cli.proofs.SomeRows.{StaysBelow, tables_for, some_rows}
 
--- ---- the least output depends on the outputs of the width alone
+-- ---- the least output has the width, and depends on the outputs of the width alone
+
+least-length : (m : ℕ) (p : List Bool → Bool) → length (least_track m p) ≡ m
+least-length zero p = refl
+least-length (suc m) p = by (some_track m (λ t. p (false ∷ t))) (least-length m (λ t. p (false ∷ t))) (least-length m (λ t. p (true ∷ t)))
+  where
+    by : (b : Bool) → length (least_track m (λ t. p (false ∷ t))) ≡ m → length (least_track m (λ t. p (true ∷ t))) ≡ m
+        → length (if b then false ∷ least_track m (λ t. p (false ∷ t)) else true ∷ least_track m (λ t. p (true ∷ t))) ≡ suc m
+    by true lo hi = ap suc lo
+    by false lo hi = ap suc hi
 
 some_track-same : (m : ℕ) (p q : List Bool → Bool) → ((track : List Bool) → length track ≡ m → p track ≡ q track) → some_track m p ≡ some_track m q
 some_track-same zero p q same = same [] refl
@@ -158,7 +166,8 @@ module _ (n m : ℕ) (table : Table) (is : IsTable (n + m) table) (can : IsReali
       → (control : ControlValue) × IsControlFor n m table control
   some_control narrow few small fits =
       let below : (state : ℕ) → state < length table → StaysBelow n 32768 next state = λ state inside input size. omega (arith, next_below state inside input size) in
-      let (nexts, nexts_are) = some_rows n 32768 chosen next narrow (All-weaker (λ state. state < length table) (StaysBelow n 32768 next) below chosen chosen_below) (omega (arith, next_nodes)) in
+      let all_below = All-weaker (λ state. state < length table) (StaysBelow n 32768 next) below chosen chosen_below in
+      let (nexts, nexts_are) = some_rows n 32768 chosen next narrow all_below (omega (arith, next_nodes)) in
       let (outputs, outputs_are) = some_rows n 256 chosen output narrow (λ place d within. output_below few (get_or chosen place d)) (omega (arith, output_nodes)) in (
         record { states = chosen; next = nexts; output = outputs },
         record {

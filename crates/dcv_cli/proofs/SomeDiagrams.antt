@@ -20,7 +20,8 @@ use Rattle.dcv_arena.specs.Laws.{MeansBehind}
 use Rattle.dcv_arena.specs.declared.nodes.Ref.{Ref}
 use Rattle.dcv_arena.specs.declared.nodes.Ref.TheVariants.{Leaf, Place}
 use Rattle.dcv_arena.proofs.Counts.{count_exact}
-use Rattle.dcv_arena.proofs.Growth.{grown, is_reduced_grown, keeps_grown, keeps_all, adds_grown, includes_itself, slice_get-push_last, ref_meant, level_meant, value_meant, lo_nodes_meant, hi_nodes_meant}
+use Rattle.dcv_arena.proofs.Growth.{grown, is_reduced_grown, keeps_grown, keeps_all, adds_grown, includes_itself, slice_get-push_last}
+use Rattle.dcv_arena.proofs.Growth.{ref_meant, level_meant, value_meant, lo_nodes_meant, hi_nodes_meant}
 use Rattle.dcv_arena.proofs.Members.{Contains-map_cases, Contains-flat_map_cases}
 use Rattle.dcv_arena.proofs.Roots.{of_root, kept_in_turn, no_nodes, one_more, parts_in_turn, parts_kept}
 use Rattle.dcv_arena.proofs.Same.{same_refs, same_nodes}
@@ -137,12 +138,14 @@ module _ (old : ArenaValue) (front : List Bool) (function : List Bool → ℕ) (
   high_later : length front < level_of high.new high.ref
   high_later = omega (arith, high.later, length-on front true)
 
-  low_means : (values : List Bool) → length front + suc (length values) ≡ high.new.slots → value_of high.new low.ref (front ++ false ∷ values) ≡ function (front ++ false ∷ values)
+  low_means : (values : List Bool) → length front + suc (length values) ≡ high.new.slots
+      → value_of high.new low.ref (front ++ false ∷ values) ≡ function (front ++ false ∷ values)
   low_means values size =
       high.kept.values low.ref (front ++ false ∷ values) low.one
       ∙ means_on low.new low.ref front function false low.means values (size ∙ high.kept.slots)
 
-  high_means : (values : List Bool) → length front + suc (length values) ≡ high.new.slots → value_of high.new high.ref (front ++ true ∷ values) ≡ function (front ++ true ∷ values)
+  high_means : (values : List Bool) → length front + suc (length values) ≡ high.new.slots
+      → value_of high.new high.ref (front ++ true ∷ values) ≡ function (front ++ true ∷ values)
   high_means values size = means_on high.new high.ref front function true high.means values size
 
   -- the same on both sides
@@ -198,7 +201,8 @@ module _ (old : ArenaValue) (front : List Bool) (function : List Bool → ℕ) (
               ≡ cond value (value_of high.new high.ref (front ++ value ∷ values)) (value_of high.new low.ref (front ++ value ∷ values))
           goes value values =
               value_meant high.new placed.new placed.is placed.kept placed.place (length front) low.ref high.ref placed.there low_one high.one (front ++ value ∷ values)
-              ∙ ap (λ side. cond side (value_of high.new high.ref (front ++ value ∷ values)) (value_of high.new low.ref (front ++ value ∷ values))) (value_behind front values value)
+              ∙ ap (λ side. cond side (value_of high.new high.ref (front ++ value ∷ values)) (value_of high.new low.ref (front ++ value ∷ values)))
+              (value_behind front values value)
 
           means : MeansBehind placed.new (Place placed.place) front function
           means [] size = absurd (omega (arith, slots_high, placed.kept.slots))
@@ -206,7 +210,8 @@ module _ (old : ArenaValue) (front : List Bool) (function : List Bool → ℕ) (
           means (true ∷ values) size = goes true values ∙ high_means values (size ∙ placed.kept.slots)
 
 -- by the number of slots that are left
-pub some_diagram : (rest : ℕ) (old : ArenaValue) (front : List Bool) (function : List Bool → ℕ) → IsReduced old → length front + rest ≡ old.slots → Behind old front function
+pub some_diagram : (rest : ℕ) (old : ArenaValue) (front : List Bool) (function : List Bool → ℕ)
+    → IsReduced old → length front + rest ≡ old.slots → Behind old front function
 some_diagram zero old front function is size = record {
   new = old;
   ref = Leaf (function front);
@@ -316,7 +321,9 @@ all_drawn slots limit [] sizes = record {
   mean = refl;
   only = no_nodes (record { slots = slots; limit = limit; nodes = [] }) refl;
 }
-all_drawn slots limit (table ∷ tables) sizes = one_drawn slots limit table tables (sizes 0 [] (omega arith)) (all_drawn slots limit tables (All-tail (λ table. length table ≡ 2 ^ slots) table tables sizes))
+all_drawn slots limit (table ∷ tables) sizes =
+    let rest = All-tail (λ table. length table ≡ 2 ^ slots) table tables sizes in
+    one_drawn slots limit table tables (sizes 0 [] (omega arith)) (all_drawn slots limit tables rest)
 
 -- ---- the whole
 

@@ -44,7 +44,8 @@ module _ (n bound : ℕ) (states : List ℕ) (f : ℕ → List Bool → ℕ) (ar
   count_of_refs : length refs ≡ length states
   count_of_refs = sym (length-map refs (table_of arena)) ∙ ap length drawn.mean ∙ length-map states (λ state. as_table n (f state))
 
-  value_at : (place : ℕ) (d : Ref) (input : List Bool) → place < length states → length input ≡ n → value_of arena (get_or refs place d) input ≡ f (get_or states place 0) input
+  value_at : (place : ℕ) (d : Ref) (input : List Bool) → place < length states → length input ≡ n
+      → value_of arena (get_or refs place d) input ≡ f (get_or states place 0) input
   value_at place d input within width =
       value_meant arena (get_or refs place d) n (f (get_or states place 0)) drawn.same_slots
       (sym (get_or-map (table_of arena) refs place d [] (omega (arith, count_of_refs)))
