@@ -45,4 +45,5 @@ pub mod TableBounds
 pub mod SomeVectors
 pub mod SomeWinners
 pub mod SomeSyntheses
+pub mod SomeControllers
 mod Texts
