@@ -46,4 +46,5 @@ pub mod SomeVectors
 pub mod SomeWinners
 pub mod SomeSyntheses
 pub mod SomeControllers
+pub mod SomeBounds
 mod Texts
