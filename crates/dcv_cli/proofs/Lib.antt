@@ -47,4 +47,5 @@ pub mod SomeWinners
 pub mod SomeSyntheses
 pub mod SomeControllers
 pub mod SomeBounds
+pub mod SomeSynthesised
 mod Texts

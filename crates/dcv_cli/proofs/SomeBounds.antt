@@ -1,9 +1,10 @@
 -- The canonical table of a core whose steps are all within the limits is within them.
 --     within_of_core       so it is with the table of its words
 --     within_of_set        and with that of a set that has the same behaviours
-use Rattle.std.proofs.Common.{◌≡◌, ℕ, ◌<◌, ◌≤◌, List, [], sym, ◌∙◌, subst, arith, Some, slice_get}
+--     within_of_file       and with that of what models a file
+use Rattle.std.proofs.Common.{◌≡◌, ℕ, List, [], length, None, sym, ◌∙◌, subst, arith}
 use Rattle.std.proofs.lemmas.Option.{slice_get_within, slice_get-get_or}
-use Rattle.dcv_word.specs.Behaviour.{Word, IsBehaviour}
+use Rattle.dcv_word.specs.Behaviour.{Word}
 use Rattle.dcv_language.specs.Automaton.{accepts}
 use Rattle.dcv_language.specs.Canonical.{IsCanonical}
 use Rattle.dcv_language.specs.Language.{Language, HaveSameBehaviours}
@@ -11,13 +12,22 @@ use Rattle.dcv_language.specs.Table.{Table}
 use Rattle.dcv_language.proofs.Canonicals.{canonical_for_same_behaviours}
 use Rattle.dcv_core.specs.Core.{CoreTree}
 use Rattle.dcv_core.specs.Holds.{words_of}
-use Rattle.dcv_core.specs.Steps.{PlainStep, steps_before, steps_of}
+use Rattle.dcv_core.specs.Steps.{steps_before, steps_of}
 use Rattle.dcv_core.proofs.StepList.{last_step_is_core}
 use Rattle.dcv_explore.specs.declared.explorer.Limits.{Limits}
+use Rattle.dcv_logic.specs.Models.{models}
+use Rattle.dcv_scope.specs.CoreOf.{core_of_file}
+use Rattle.dcv_scope.specs.Faults.{fault_of_file, fault_of_goal}
+use Rattle.dcv_scope.specs.Laws.{WordsAreModels}
+use Rattle.dcv_scope.specs.Names.{fault_of_names}
+use Rattle.dcv_scope.proofs.Faulting.{no_bound_shift}
+use Rattle.dcv_syntax.specs.Plain.{PlainFile}
 use Rattle.dcv_build.specs.Budget.{row_at, IsWithinBudget}
 use Rattle.dcv_build.specs.Laws.{MachineAcceptsStep, AreCanonicalBefore}
+use Rattle.dcv_cli.specs.Budget.{steps_of_file}
 use Rattle.dcv_cli.proofs.SomeBudgets.{table_at, row_slots}
 use Rattle.dcv_cli.proofs.TableBounds.{IsTableWithin, within_of_row}
+use Rattle.dcv_cli.proofs.VariableNames.{none_of_both}
 
 module _ (accept : MachineAcceptsStep) (k : ℕ) (tree : CoreTree) (limits : Limits) (within : IsWithinBudget (steps_of k tree) limits) where
   canonical_before : (n : ℕ) → AreCanonicalBefore (steps_of k tree) n within.tables
@@ -46,3 +56,9 @@ module _ (accept : MachineAcceptsStep) (k : ℕ) (tree : CoreTree) (limits : Lim
   pub within_of_set : (L : Language) → HaveSameBehaviours k (words_of tree) L → (table : Table) (access : List Word) → IsCanonical k L table access → IsTableWithin k limits table
   within_of_set L same table access canonical =
       within_of_core table access (canonical_for_same_behaviours k L (words_of tree) table access (λ word behaves. sym (same word behaves)) canonical)
+
+pub within_of_file : MachineAcceptsStep → WordsAreModels → (limits : Limits) (file : PlainFile) → fault_of_file file ≡ None → IsWithinBudget (steps_of_file file) limits
+    → (table : Table) (access : List Word) → IsCanonical (length file.variables) (models file) table access → IsTableWithin (length file.variables) limits table
+within_of_file accept models_are limits file none within =
+    let unbound = no_bound_shift file (none_of_both (fault_of_names file) (fault_of_goal file) none).1 in
+    within_of_set accept (length file.variables) (core_of_file file) limits within (models file) (λ word behaves. models_are file word unbound behaves)
