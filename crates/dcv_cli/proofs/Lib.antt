@@ -56,4 +56,7 @@ pub mod TableBounds
 pub mod SomeVectors
 pub mod SomeWinners
 pub mod SomeSyntheses
+pub mod SomeControllers
+pub mod SomeBounds
+pub mod SomeSynthesised
 mod Texts

@@ -29,7 +29,7 @@ use Rattle.dcv_cli.proofs.RowLimits.{within_or_exceeds, table_of_row}
 
 -- ---- the rows of earlier steps stay as they are where a table comes to the others
 
-abbrev table_at : List Table → ℕ → Table
+abbrev pub table_at : List Table → ℕ → Table
 table_at tables number = slice_index_or tables number []
 
 table_kept : (tables more : List Table) (number : ℕ) → number < length tables → table_at tables number ≡ table_at (tables ++ more) number
