@@ -7,7 +7,6 @@ pub mod Certificates
 pub mod Comparisons
 pub mod Conversions
 pub mod ConvertedBack
-pub mod CoreTables
 pub mod Endings
 pub mod EqualMeanings
 pub mod NamesInOrder

@@ -14,17 +14,13 @@ use Rattle.dcv_language.specs.Table.{Table}
 use Rattle.dcv_language.specs.Verdict.{Verdict, IsVerdict}
 use Rattle.dcv_language.proofs.Canonicals.{canonical_for_same_behaviours}
 use Rattle.dcv_language.proofs.Words.{WordLaws}
-use Rattle.dcv_arena.specs.Diagram.{node_count}
 use Rattle.dcv_automaton_file.specs.Laws.{HasFile}
 use Rattle.dcv_automaton_text.specs.Rules.{AreNames}
 use Rattle.dcv_build.specs.Budget.{IsWithinBudget}
 use Rattle.dcv_build.specs.Counts.{AreCounts}
 use Rattle.dcv_build.specs.Laws.{MachineAcceptsStep}
 use Rattle.dcv_command.specs.Request.{AreInRange}
-use Rattle.dcv_core.specs.Core.{CoreTree}
 use Rattle.dcv_core.specs.Holds.{words_of}
-use Rattle.dcv_core.specs.Steps.{steps_of}
-use Rattle.dcv_dfa.specs.Auto.{count_of_nodes}
 use Rattle.dcv_dfa.specs.Raw.{RawValue, raw_accepts}
 use Rattle.dcv_explore.specs.declared.explorer.Limits.{Limits}
 use Rattle.dcv_logic.specs.Models.{models}
@@ -45,8 +41,8 @@ use Rattle.dcv_cli.specs.Outcome.{Outcome}
 use Rattle.dcv_cli.specs.Report.{Says, IsReport}
 use Rattle.dcv_cli.specs.Status.{status_of_verdict}
 use Rattle.dcv_cli.specs.declared.refused.Which.TheVariants.{Only}
-use Rattle.dcv_cli.proofs.CoreTables.{TablesAreWithin}
-use Rattle.dcv_cli.proofs.SomeAutomata.{rows_of, IsAutomatonOf, some_automaton}
+use Rattle.dcv_cli.proofs.SomeAutomata.{some_automaton}
+use Rattle.dcv_cli.proofs.SomeBounds.{within_of_file}
 use Rattle.dcv_cli.proofs.SomeBudgets.{counts_within, table_of_core}
 use Rattle.dcv_cli.proofs.SomeReports.{over_or_within}
 use Rattle.dcv_cli.proofs.SomeTexts.{some_text}
@@ -65,7 +61,7 @@ pub record HasAutomaton (file : PlainFile) : Type 0 where
   pub slots : raw.arena.slots ≡ length file.variables
   pub accepts : HaveSameBehaviours (length file.variables) (raw_accepts raw) (models file)
 
-module _ (models_are : WordsAreModels) (short : NamesAreShort) (tables_within : TablesAreWithin)
+module _ (accept : MachineAcceptsStep) (models_are : WordsAreModels) (short : NamesAreShort)
     (text : List ℕ) (file : PlainFile) (formula : IsFormulaFile text file) (limits : Limits) (range : AreInRange limits) (within : IsWithinBudget (steps_of_file file) limits) where
   -- the automaton of a table that is within the limits has a file
   file_of_table : (table : Table) (access : List Word) → IsTableWithin (length file.variables) limits table
@@ -98,8 +94,9 @@ module _ (models_are : WordsAreModels) (short : NamesAreShort) (tables_within : 
       let k = length file.variables in
       let (table, (access, canonical)) = table_of_core k (core_of_file file) limits within in
       let unbound = no_bound_shift file (none_of_both (fault_of_names file) (fault_of_goal file) formula.has_core).1 in
-      file_of_table table access (tables_within k (core_of_file file) limits within table access canonical)
-      (canonical_for_same_behaviours k (words_of (core_of_file file)) (models file) table access (λ word behaves. models_are file word unbound behaves) canonical)
+      let of_models =
+      canonical_for_same_behaviours k (words_of (core_of_file file)) (models file) table access (λ word behaves. models_are file word unbound behaves) canonical in
+      file_of_table table access (within_of_file accept models_are limits file formula.has_core within table access of_models) of_models
 
   module _ (laws : WordLaws) (outside_is : ComplementIsCanonical) (steps_are_few : StepsAreFew)
       (printed : PrintedIsAutomaton) (say_node : FileSaysNode) (say_unit : FileSaysUnit) (move : AutomatonOfSameBehaviours) where
@@ -121,13 +118,13 @@ module _ (models_are : WordsAreModels) (short : NamesAreShort) (tables_within : 
         report_on kind has verdict is counts are
 
 module _ (laws : WordLaws) (accept : MachineAcceptsStep) (outside_is : ComplementIsCanonical) (models_are : WordsAreModels) (short : NamesAreShort) (steps_are_few : StepsAreFew)
-    (printed : PrintedIsAutomaton) (say_node : FileSaysNode) (say_unit : FileSaysUnit) (move : AutomatonOfSameBehaviours) (tables_within : TablesAreWithin) where
+    (printed : PrintedIsAutomaton) (say_node : FileSaysNode) (say_unit : FileSaysUnit) (move : AutomatonOfSameBehaviours) where
   -- whether the steps are within the limits or not
   pub some_budgeted : (kind : Kind) (limits : Limits) → AreInRange limits → (text : List ℕ) (file : PlainFile) → IsFormulaFile text file
       → (outcome : Outcome) × IsBudgeted limits Only (IsReport kind limits) file outcome
   some_budgeted kind limits range text file formula = elim (over_or_within laws accept limits Only (IsReport kind limits) file) [
     | inl over ↦ over
     | inr within ↦
-        let (outcome, is) = some_report models_are short tables_within text file formula limits range within laws outside_is steps_are_few printed say_node say_unit move kind in
+        let (outcome, is) = some_report accept models_are short text file formula limits range within laws outside_is steps_are_few printed say_node say_unit move kind in
         (outcome, WithinBudget within is)
   ]

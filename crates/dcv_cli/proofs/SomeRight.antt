@@ -1,12 +1,11 @@
 -- Some outcome is right for all words, where the files that they name are held: what `some_outcome` leaves open has a right outcome too.
 --     SomeReport         each formula file has a right report of each kind, or a step that is the first over the limits
---     SomeSynthesis      each formula file within the limits, whose variables can be divided, has a right synthesis
+--     SomeSynthesis      each formula file has a right answer where a controller is asked for
 --     closed             with both, what is left open has a right outcome
 --     some_right         and so all words have
-use Rattle.std.proofs.Common.{◌≡◌, ◌⊎◌, inl, inr, ℕ, Bool, true, false, List, length, Option, Some, refl, sym, subst}
-use Rattle.std.specs.Prelude.{IsTrue, IsSomeAnd}
+use Rattle.std.proofs.Common.{◌≡◌, ◌⊎◌, inl, inr, ℕ, List, Option, Some, sym, subst}
+use Rattle.std.specs.Prelude.{IsSomeAnd}
 use Rattle.clap.specs.Words.{subcommand_of}
-use Rattle.dcv_build.specs.Budget.{IsWithinBudget}
 use Rattle.dcv_command.specs.Program.{program}
 use Rattle.dcv_command.specs.Request.{Request, Report, Certify, Convert, Implies, Synth, Replay, Sweep, AreInRange, AreInputsInRange, IsInRange}
 use Rattle.dcv_command.proofs.Ranges.{request_is_in_range}
@@ -14,26 +13,25 @@ use Rattle.dcv_explore.specs.declared.explorer.Limits.{Limits}
 use Rattle.dcv_print.specs.declared.report.Kind.{Kind}
 use Rattle.dcv_print.specs.declared.report.Kind.TheVariants.{Check, Automaton, Lustre, C, All as AllTexts}
 use Rattle.dcv_syntax.specs.Plain.{PlainFile}
-use Rattle.dcv_cli.specs.Budget.{steps_of_file, IsBudgeted, WithinBudget}
+use Rattle.dcv_cli.specs.Budget.{IsBudgeted}
 use Rattle.dcv_cli.specs.FormulaFile.{IsFormulaFile, OnText, Read}
 use Rattle.dcv_cli.specs.Held.{Texts, OnHeld}
 use Rattle.dcv_cli.specs.Laws.{AreHeld, IsHeldWithin, IsLeftOpen, SomeOutcome}
-use Rattle.dcv_cli.specs.Outcome.{Outcome, refused}
+use Rattle.dcv_cli.specs.Outcome.{Outcome}
 use Rattle.dcv_cli.specs.Report.{IsReport}
 use Rattle.dcv_cli.specs.Request.{AsksFor}
 use Rattle.dcv_cli.specs.Right.{Fulfils, IsRight, Fulfilled}
-use Rattle.dcv_cli.specs.Synthesis.{can_be_divided, IsSynthesisOf, IsSynthesised, Undivided, Divided}
-use Rattle.dcv_cli.specs.declared.faults.FormulaFault.TheVariants.{Outputs}
-use Rattle.dcv_cli.specs.declared.refusal.Refusal.TheVariants.{Formula}
+use Rattle.dcv_cli.specs.Synthesis.{IsSynthesised}
 use Rattle.dcv_cli.specs.declared.refused.Which.TheVariants.{Only}
 
 abbrev pub SomeReport : Type 0
 SomeReport = (kind : Kind) (limits : Limits) → AreInRange limits → (text : List ℕ) (file : PlainFile) → IsFormulaFile text file
     → (outcome : Outcome) × IsBudgeted limits Only (IsReport kind limits) file outcome
 
+-- and a right answer where a controller is asked for
 abbrev pub SomeSynthesis : Type 0
 SomeSynthesis = (inputs : ℕ) (limits : Limits) → AreInputsInRange inputs limits → (text : List ℕ) (file : PlainFile) → IsFormulaFile text file
-    → IsWithinBudget (steps_of_file file) limits → IsTrue (can_be_divided inputs (length file.variables)) → (outcome : Outcome) × IsSynthesisOf inputs file outcome
+    → (outcome : Outcome) × IsSynthesised inputs limits file outcome
 
 -- what is right for the text that is held is right for its name
 under_name : (held : Texts) (name text : List ℕ) → held 0 name ≡ Some text → (OfText : List ℕ → Outcome → Type 0) (outcome : Outcome) → OfText text outcome
@@ -52,17 +50,10 @@ module _ (reports : SomeReport) (syntheses : SomeSynthesis) where
   report_right kind name limits held range within =
       on_file (IsBudgeted limits Only (IsReport kind limits)) held name limits within (reports kind limits range within.text within.file within.formula)
 
-  divided_or_not : (inputs : ℕ) (limits : Limits) (text : List ℕ) (file : PlainFile) → IsFormulaFile text file → AreInputsInRange inputs limits → IsWithinBudget (steps_of_file file) limits
-      → (divided : Bool) → can_be_divided inputs (length file.variables) ≡ divided → (outcome : Outcome) × IsSynthesised inputs limits file outcome
-  divided_or_not inputs limits text file formula range within false is = (refused (Formula Outputs) Only, Undivided is refl)
-  divided_or_not inputs limits text file formula range within true is =
-      let (outcome, right) = syntheses inputs limits range text file formula within is in (outcome, Divided is (WithinBudget within right))
-
   synth_right : (name : List ℕ) (inputs : ℕ) (limits : Limits) (held : Texts) → AreInputsInRange inputs limits → IsHeldWithin held name limits
       → (outcome : Outcome) × Fulfils (Synth name inputs limits) held outcome
   synth_right name inputs limits held range within =
-      on_file (IsSynthesised inputs limits) held name limits within
-      (divided_or_not inputs limits within.text within.file within.formula range within.within (can_be_divided inputs (length within.file.variables)) refl)
+      on_file (IsSynthesised inputs limits) held name limits within (syntheses inputs limits range within.text within.file within.formula)
 
   closed : (held : Texts) (request : Request) → IsInRange request → IsLeftOpen request held → (outcome : Outcome) × Fulfils request held outcome
   closed held (Report Check name limits) range left = absurd left
