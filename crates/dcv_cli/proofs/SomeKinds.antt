@@ -3,7 +3,7 @@
 --     some_file        so it is where all steps are within the limits
 --     some_report      the report of a kind
 --     some_budgeted    or the outcome that names the first step that is over the limits
-use Rattle.std.proofs.Common.{◌≡◌, ◌⊎◌, inl, inr, ℕ, ◌<◌, ◌≤◌, ◌^◌, List, [], length, map, None, refl, sym, ap, ◌∙◌, subst, arith}
+use Rattle.std.proofs.Common.{◌≡◌, inl, inr, ℕ, List, [], length, refl, sym, ◌∙◌, arith}
 use Rattle.std.proofs.lemmas.List.{length-map}
 use Rattle.dcv_word.specs.Behaviour.{Word}
 use Rattle.dcv_count.specs.declared.Count.{Count}
@@ -38,7 +38,7 @@ use Rattle.dcv_syntax.specs.Plain.{PlainFile}
 use Rattle.dcv_cli.specs.Budget.{steps_of_file, IsBudgeted, WithinBudget}
 use Rattle.dcv_cli.specs.FormulaFile.{IsFormulaFile}
 use Rattle.dcv_cli.specs.Outcome.{Outcome}
-use Rattle.dcv_cli.specs.Report.{Says, IsReport}
+use Rattle.dcv_cli.specs.Report.{IsReport}
 use Rattle.dcv_cli.specs.Status.{status_of_verdict}
 use Rattle.dcv_cli.specs.declared.refused.Which.TheVariants.{Only}
 use Rattle.dcv_cli.proofs.SomeAutomata.{some_automaton}

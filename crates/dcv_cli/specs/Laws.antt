@@ -94,6 +94,10 @@ abbrev pub SomeOutcome : Type 0
 SomeOutcome = (words : List (List ℕ)) (held : Texts) → AreHeld words held
     → ((outcome : Outcome) × IsRight words held outcome) ⊎ ((request : Request) × AsksFor words request × IsLeftOpen request held)
 
+-- and so for all words, where the files that they name are held
+abbrev pub SomeRightOutcome : Type 0
+SomeRightOutcome = (words : List (List ℕ)) (held : Texts) → AreHeld words held → (outcome : Outcome) × IsRight words held outcome
+
 -- ---- files that mean the same
 
 -- variables with the same names, and the same behaviours that model them

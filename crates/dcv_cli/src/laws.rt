@@ -1,5 +1,5 @@
 //! Laws on what is right, each the contract of a function that does nothing.
-ghost use Rattle.dcv_cli.specs.Laws.{OneOutcome, SomeOutcome, EqualMeanings, PrintedIsCertified, ConvertedBackIsTheText, ImpliesBothWays, NamesAscend};
+ghost use Rattle.dcv_cli.specs.Laws.{OneOutcome, SomeOutcome, SomeRightOutcome, EqualMeanings, PrintedIsCertified, ConvertedBackIsTheText, ImpliesBothWays, NamesAscend};
 
 use dcv_automaton_text::laws::{one_file as one_automaton_text, versions_stand_for_the_same};
 use dcv_build::laws::{machines_accept_steps, one_list_of_counts, one_step_is_over};
@@ -14,13 +14,17 @@ use dcv_language::laws::{
 };
 use dcv_lustre::laws::{texts_are_nodes_or_at_fault, texts_spell_nodes};
 use dcv_print::laws::{
-    automaton_of_same_behaviours, one_automaton, one_file, printed_observers_observe,
+    automaton_of_same_behaviours, one_automaton, one_file, printed_is_automaton,
+    printed_observers_observe,
 };
 use dcv_reader::laws::{names_are_short, one_fault, one_tree, some_reading};
 use dcv_replay::laws::{letters_have_one_text_of_answers, traces_have_one_verdict};
 use dcv_scope::laws::{core_means_text, measures_bound_core};
 use dcv_sweep::laws::one_summary;
-use dcv_synth::laws::{answers_are_one, one_side_is_right, units_are_one};
+use dcv_synth::laws::{
+    answers_are_one, controls_win, one_side_is_right, some_player_wins, strategies_beat,
+    units_answer, units_are_one, winners_of_same_behaviours,
+};
 use dcv_word::laws::{word_order_is_kept, words_are_in_order};
 
 /// One outcome at most is right for the words and the texts that are held. So each status, report and message that
@@ -70,6 +74,30 @@ pub fn some_outcome()
     none_is_inclusion();
     words_are_in_order();
     word_order_is_kept();
+}
+
+/// Some outcome is right for all words, where the files that they name are held. So nothing leaves [`run`](crate::run) nothing to answer but that
+/// memory has run out, or that a file cannot be read.
+pub fn some_right_outcome()
+    ensures { SomeRightOutcome }
+{
+    some_outcome();
+    words_are_in_order();
+    word_order_is_kept();
+    machines_accept_steps();
+    complement_is_canonical();
+    core_means_text();
+    names_are_short();
+    measures_bound_core();
+    printed_is_automaton();
+    printed_observers_observe();
+    automaton_of_same_behaviours();
+    some_player_wins();
+    controls_win();
+    strategies_beat();
+    winners_of_same_behaviours();
+    units_answer();
+    texts_spell_units();
 }
 
 /// Formula files with the same variables and the same models have the same answer: the same verdict, the same observers, and the same

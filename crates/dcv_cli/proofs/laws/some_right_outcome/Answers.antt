@@ -1,0 +1,40 @@
+-- What `some_outcome` leaves open has a right outcome: each report is said of an automaton that is made, and one side wins each game.
+use Rattle.dcv_language.proofs.Words.{WordLaws}
+use Rattle.dcv_cli.proofs.SomeControllers.{GameLaws}
+use Rattle.dcv_cli.proofs.SomeKinds.{some_budgeted}
+use Rattle.dcv_cli.proofs.SomeRight.{SomeReport, SomeSynthesis, some_right}
+use Rattle.dcv_cli.proofs.SomeSynthesised.{some_synthesised}
+use Rattle.dcv_cli.proofs.VariableNames.{are_names}
+use Rattle.dcv_cli.proofs.laws.some_right_outcome.Goals as goal
+
+pub returns : goal.returns
+returns c =
+    let laws : WordLaws = record {
+      total = c.words_are_in_order.ensures.total;
+      same = c.words_are_in_order.ensures.same;
+      shorter = c.words_are_in_order.ensures.shorter;
+      front = c.word_order_is_kept.ensures.front;
+      end = c.word_order_is_kept.ensures.end;
+      ends = c.word_order_is_kept.ensures.ends;
+    } in
+    let game : GameLaws = record {
+      not_beaten = c.some_player_wins.ensures.unbeaten;
+      win = c.some_player_wins.ensures.win;
+      held = c.some_player_wins.ensures.held;
+      controls = c.controls_win.ensures;
+      strategies = c.strategies_beat.ensures;
+      wins_over = c.winners_of_same_behaviours.ensures.wins;
+      beats_over = c.winners_of_same_behaviours.ensures.beats;
+      units_keep = c.units_answer.ensures.rules;
+      units_win = c.units_answer.ensures.wins;
+      read_back = c.texts_spell_units.ensures.back;
+    } in
+    let accept = c.machines_accept_steps.ensures in
+    let models_are = c.core_means_text.ensures.whole in
+    let short = c.names_are_short.ensures in
+    let reports : SomeReport =
+    some_budgeted laws accept c.complement_is_canonical.ensures models_are short c.measures_bound_core.ensures.steps
+    c.printed_is_automaton.ensures c.printed_observers_observe.ensures.node c.printed_observers_observe.ensures.unit c.automaton_of_same_behaviours.ensures in
+    let syntheses : SomeSynthesis = λ inputs limits range text file formula.
+    some_synthesised laws accept models_are game inputs limits file range.within.few_states range.within.few_nodes (are_names short text file formula) formula.has_core in
+    some_right reports syntheses c.some_outcome.ensures
