@@ -41,13 +41,15 @@ no_letter : (letter : List Bool) → length letter ≡ 0 → [] ≡ letter
 no_letter [] none = refl
 no_letter (value ∷ letter) none = absurd (omega arith)
 
-each_letter_or : (k : ℕ) (P : List Bool → Type 0) (Q : Type 0) → ((letter : List Bool) → length letter ≡ k → P letter ⊎ Q) → ((letter : List Bool) → length letter ≡ k → P letter) ⊎ Q
+each_letter_or : (k : ℕ) (P : List Bool → Type 0) (Q : Type 0) → ((letter : List Bool) → length letter ≡ k → P letter ⊎ Q)
+    → ((letter : List Bool) → length letter ≡ k → P letter) ⊎ Q
 each_letter_or zero P Q decide = elim (decide [] refl) [ inl holds ↦ inl (λ letter width. subst P (no_letter letter width) holds) | inr found ↦ inr found ]
 each_letter_or (suc k) P Q decide =
     by (each_letter_or k (λ letter. P (false ∷ letter)) Q (λ letter width. decide (false ∷ letter) (omega arith)))
     (each_letter_or k (λ letter. P (true ∷ letter)) Q (λ letter width. decide (true ∷ letter) (omega arith)))
   where
-    all : ((letter : List Bool) → length letter ≡ k → P (false ∷ letter)) → ((letter : List Bool) → length letter ≡ k → P (true ∷ letter)) → (letter : List Bool) → length letter ≡ suc k → P letter
+    all : ((letter : List Bool) → length letter ≡ k → P (false ∷ letter)) → ((letter : List Bool) → length letter ≡ k → P (true ∷ letter))
+        → (letter : List Bool) → length letter ≡ suc k → P letter
     all low high [] width = absurd (omega arith)
     all low high (false ∷ letter) width = low letter (omega arith)
     all low high (true ∷ letter) width = high letter (omega arith)
@@ -101,7 +103,8 @@ has_pair first second [] seconds there other = absurd there
 has_pair first second (one ∷ firsts) seconds (inl same) other =
     in_front (first, second) (beside one seconds) (pairs firsts seconds)
     (subst (λ (head : Word). Member (first, second) (beside head seconds)) same (has_beside first second seconds other))
-has_pair first second (one ∷ firsts) seconds (inr later) other = in_back (first, second) (beside one seconds) (pairs firsts seconds) (has_pair first second firsts seconds later other)
+has_pair first second (one ∷ firsts) seconds (inr later) other =
+    in_back (first, second) (beside one seconds) (pairs firsts seconds) (has_pair first second firsts seconds later other)
 
 only_beside : (first : Word) (seconds : List Word) (pair : Word × Word) → Member pair (beside first seconds) → (pair.0 ≡ first) × Member pair.1 seconds
 unfolding beside
@@ -166,7 +169,8 @@ module _ (k : ℕ) (L : Language) where
         record {
           first_goes_on = one;
           second_goes_on = other;
-          differ = λ e. tells.differ (alike k L table c.exact u x suffix same tells.first_goes_on one ∙ e ∙ sym (alike k L table c.exact v y suffix same' tells.second_goes_on other));
+          differ = λ e.
+              tells.differ (alike k L table c.exact u x suffix same tells.first_goes_on one ∙ e ∙ sym (alike k L table c.exact v y suffix same' tells.second_goes_on other));
         }
 
     one_on : (u v : Word) (letter : List Bool) (suffix : Word) → TellsApart k L u v (letter ∷ suffix) → TellsApart k L (u ++ letter ∷ []) (v ++ letter ∷ []) suffix
@@ -200,7 +204,8 @@ module _ (k : ℕ) (L : Language) where
     Closed suffixes = (suffix : Word) → Member suffix suffixes → (letter : List Bool) → length letter ≡ k → (u v : Word) → Member u access → Member v access
         → TellsApart k L u v (letter ∷ suffix) → Told suffixes u v
 
-    all_told : (suffixes : List Word) → Member [] suffixes → Closed suffixes → (word u v : Word) → Member u access → Member v access → TellsApart k L u v word → Told suffixes u v
+    all_told : (suffixes : List Word) → Member [] suffixes → Closed suffixes → (word u v : Word)
+        → Member u access → Member v access → TellsApart k L u v word → Told suffixes u v
     all_told suffixes begins closed [] u v one other tells = record { suffix = []; there = begins; tells = tells }
     all_told suffixes begins closed (letter ∷ word) u v one other tells =
         let on = one_on u v letter word tells in
@@ -208,7 +213,8 @@ module _ (k : ℕ) (L : Language) where
         let bv = longer_behaves v letter word on.second_goes_on in
         let (x, rx) = replaced (u ++ letter ∷ []) bu in
         let (y, ry) = replaced (v ++ letter ∷ []) bv in
-        let told = all_told suffixes begins closed word x y rx.there ry.there (carry (u ++ letter ∷ []) (v ++ letter ∷ []) x y word rx.behaves ry.behaves rx.leads ry.leads on) in
+        let told = all_told suffixes begins closed word x y rx.there ry.there
+        (carry (u ++ letter ∷ []) (v ++ letter ∷ []) x y word rx.behaves ry.behaves rx.leads ry.leads on) in
         let back = carry x y (u ++ letter ∷ []) (v ++ letter ∷ []) told.suffix bu bv (sym rx.leads) (sym ry.leads) told.tells in
         let width = Widths-head k letter [] (Widths-rest k u (letter ∷ []) bu.widths) in
         closed told.suffix told.there letter width u v one other (one_back u v letter told.suffix back)
@@ -265,11 +271,12 @@ module _ (k : ℕ) (L : Language) where
     abbrev TellsNoMore : List Word → Word → List Bool → (Word × Word) → Type 0
     TellsNoMore suffixes shorter letter pair = TellsApart k L pair.0 pair.1 (letter ∷ shorter) → Told suffixes pair.0 pair.1
 
-    no_more_or_new : (suffixes : List Word) (left : Pairs) (shorter : Word) → Member shorter suffixes → (letter : List Bool) → length letter ≡ k → (pair : Word × Word) → Member pair left
-        → TellsNoMore suffixes shorter letter pair ⊎ NewSuffix suffixes left
+    no_more_or_new : (suffixes : List Word) (left : Pairs) (shorter : Word) → Member shorter suffixes → (letter : List Bool) → length letter ≡ k
+        → (pair : Word × Word) → Member pair left → TellsNoMore suffixes shorter letter pair ⊎ NewSuffix suffixes left
     no_more_or_new suffixes left shorter from letter width pair there = by (told_or_not suffixes pair.0 pair.1) (tells_or_not pair.0 pair.1 (letter ∷ shorter))
       where
-        by : NoneTells suffixes pair.0 pair.1 ⊎ Told suffixes pair.0 pair.1 → (TellsApart k L pair.0 pair.1 (letter ∷ shorter) → ⊥) ⊎ TellsApart k L pair.0 pair.1 (letter ∷ shorter)
+        by : NoneTells suffixes pair.0 pair.1 ⊎ Told suffixes pair.0 pair.1
+            → (TellsApart k L pair.0 pair.1 (letter ∷ shorter) → ⊥) ⊎ TellsApart k L pair.0 pair.1 (letter ∷ shorter)
             → TellsNoMore suffixes shorter letter pair ⊎ NewSuffix suffixes left
         by (inr told) tells = inl (λ again. told)
         by (inl none) (inl not) = inl (λ tells. absurd (not tells))
@@ -327,7 +334,8 @@ module _ (k : ℕ) (L : Language) where
         access_words = λ pair there. are.access_words pair (none_is_new new.pair left new.there pair there);
         all = λ u v one other none.
             others_stay new.pair left new.there (u, v) (are.all u v one other (λ suffix there. none suffix (in_front suffix suffixes (one_more ∷ []) there)))
-            (λ same. none one_more (in_back one_more suffixes (one_more ∷ []) (inl refl)) (subst (λ (pair : Word × Word). TellsApart k L pair.0 pair.1 one_more) (sym same) new.tells));
+            (λ same. none one_more (in_back one_more suffixes (one_more ∷ []) (inl refl))
+            (subst (λ (pair : Word × Word). TellsApart k L pair.0 pair.1 one_more) (sym same) new.tells));
       }
 
     record Finished : Type 0 where
@@ -344,7 +352,8 @@ module _ (k : ℕ) (L : Language) where
 
     finished_by : (most : ℕ) (suffixes : List Word) (left : Pairs) → length left ≤ most → AreNext suffixes → AreLeft suffixes left → Finished
     finished_by zero suffixes left fits next are = one_step suffixes left next are (closed_or_new suffixes left are) (λ more rest fewer. absurd (omega arith))
-    finished_by (suc most) suffixes left fits next are = one_step suffixes left next are (closed_or_new suffixes left are) (λ more rest fewer. finished_by most more rest (omega arith))
+    finished_by (suc most) suffixes left fits next are =
+        one_step suffixes left next are (closed_or_new suffixes left are) (λ more rest fewer. finished_by most more rest (omega arith))
 
     -- ---- the certificate
 
@@ -382,7 +391,8 @@ module _ (k : ℕ) (L : Language) where
         told = λ i j d h l.
             let apart = c.apart i j d h l in
             told_by done.suffixes (get_or access i d) (get_or access j d)
-            (all_told done.suffixes done.next.begins done.closed apart.suffix (get_or access i d) (get_or access j d) (Member-at access i d (omega arith)) (Member-at access j d l) apart.tells);
+            (all_told done.suffixes done.next.begins done.closed apart.suffix (get_or access i d) (get_or access j d)
+            (Member-at access i d (omega arith)) (Member-at access j d l) apart.tells);
       },
     )
 
@@ -395,5 +405,6 @@ module _ (k : ℕ) (L : Language) where
     certified : (suffixes : List Word) × IsCertificate k L access suffixes
     certified = elim (cases_lt 1 (length access)) [ inl some ↦ certificate_of (finished some) | inr one ↦ ([], no_suffix one) ]
 
-pub some_certificate_of : (k : ℕ) (L : Language) (table : Table) (access : List Word) → IsCanonical k L table access → (suffixes : List Word) × IsCertificate k L access suffixes
+pub some_certificate_of : (k : ℕ) (L : Language) (table : Table) (access : List Word) → IsCanonical k L table access
+    → (suffixes : List Word) × IsCertificate k L access suffixes
 some_certificate_of = certified

@@ -3,7 +3,7 @@
 --     some_file        so it is where all steps are within the limits
 --     some_report      the report of a kind
 --     some_budgeted    or the outcome that names the first step that is over the limits
-use Rattle.std.proofs.Common.{◌≡◌, ◌⊎◌, inl, inr, ℕ, ◌<◌, ◌≤◌, ◌^◌, List, [], length, map, None, refl, sym, ap, ◌∙◌, subst, arith}
+use Rattle.std.proofs.Common.{◌≡◌, inl, inr, ℕ, List, [], length, refl, sym, ◌∙◌, arith}
 use Rattle.std.proofs.lemmas.List.{length-map}
 use Rattle.dcv_word.specs.Behaviour.{Word}
 use Rattle.dcv_count.specs.declared.Count.{Count}
@@ -38,7 +38,7 @@ use Rattle.dcv_syntax.specs.Plain.{PlainFile}
 use Rattle.dcv_cli.specs.Budget.{steps_of_file, IsBudgeted, WithinBudget}
 use Rattle.dcv_cli.specs.FormulaFile.{IsFormulaFile}
 use Rattle.dcv_cli.specs.Outcome.{Outcome}
-use Rattle.dcv_cli.specs.Report.{Says, IsReport}
+use Rattle.dcv_cli.specs.Report.{IsReport}
 use Rattle.dcv_cli.specs.Status.{status_of_verdict}
 use Rattle.dcv_cli.specs.declared.refused.Which.TheVariants.{Only}
 use Rattle.dcv_cli.proofs.SomeAutomata.{some_automaton}
@@ -62,7 +62,8 @@ pub record HasAutomaton (file : PlainFile) : Type 0 where
   pub accepts : HaveSameBehaviours (length file.variables) (raw_accepts raw) (models file)
 
 module _ (accept : MachineAcceptsStep) (models_are : WordsAreModels) (short : NamesAreShort)
-    (text : List ℕ) (file : PlainFile) (formula : IsFormulaFile text file) (limits : Limits) (range : AreInRange limits) (within : IsWithinBudget (steps_of_file file) limits) where
+    (text : List ℕ) (file : PlainFile) (formula : IsFormulaFile text file) (limits : Limits) (range : AreInRange limits)
+    (within : IsWithinBudget (steps_of_file file) limits) where
   -- the automaton of a table that is within the limits has a file
   file_of_table : (table : Table) (access : List Word) → IsTableWithin (length file.variables) limits table
       → IsCanonical (length file.variables) (models file) table access → HasAutomaton file
@@ -117,8 +118,8 @@ module _ (accept : MachineAcceptsStep) (models_are : WordsAreModels) (short : Na
         let (counts, are) = counts_within (length file.variables) (core_of_file file) limits within in
         report_on kind has verdict is counts are
 
-module _ (laws : WordLaws) (accept : MachineAcceptsStep) (outside_is : ComplementIsCanonical) (models_are : WordsAreModels) (short : NamesAreShort) (steps_are_few : StepsAreFew)
-    (printed : PrintedIsAutomaton) (say_node : FileSaysNode) (say_unit : FileSaysUnit) (move : AutomatonOfSameBehaviours) where
+module _ (laws : WordLaws) (accept : MachineAcceptsStep) (outside_is : ComplementIsCanonical) (models_are : WordsAreModels) (short : NamesAreShort)
+    (steps_are_few : StepsAreFew) (printed : PrintedIsAutomaton) (say_node : FileSaysNode) (say_unit : FileSaysUnit) (move : AutomatonOfSameBehaviours) where
   -- whether the steps are within the limits or not
   pub some_budgeted : (kind : Kind) (limits : Limits) → AreInRange limits → (text : List ℕ) (file : PlainFile) → IsFormulaFile text file
       → (outcome : Outcome) × IsBudgeted limits Only (IsReport kind limits) file outcome

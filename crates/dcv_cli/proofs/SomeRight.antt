@@ -3,7 +3,7 @@
 --     SomeSynthesis      each formula file has a right answer where a controller is asked for
 --     closed             with both, what is left open has a right outcome
 --     some_right         and so all words have
-use Rattle.std.proofs.Common.{◌≡◌, ◌⊎◌, inl, inr, ℕ, List, Option, Some, sym, subst}
+use Rattle.std.proofs.Common.{◌≡◌, inl, inr, ℕ, List, Option, Some, sym, subst}
 use Rattle.std.specs.Prelude.{IsSomeAnd}
 use Rattle.clap.specs.Words.{subcommand_of}
 use Rattle.dcv_command.specs.Program.{program}
@@ -19,7 +19,6 @@ use Rattle.dcv_cli.specs.Held.{Texts, OnHeld}
 use Rattle.dcv_cli.specs.Laws.{AreHeld, IsHeldWithin, IsLeftOpen, SomeOutcome}
 use Rattle.dcv_cli.specs.Outcome.{Outcome}
 use Rattle.dcv_cli.specs.Report.{IsReport}
-use Rattle.dcv_cli.specs.Request.{AsksFor}
 use Rattle.dcv_cli.specs.Right.{Fulfils, IsRight, Fulfilled}
 use Rattle.dcv_cli.specs.Synthesis.{IsSynthesised}
 use Rattle.dcv_cli.specs.declared.refused.Which.TheVariants.{Only}

@@ -30,7 +30,8 @@ use Rattle.dcv_cli.proofs.WordClasses.{last_of_behaviour}
 
 -- ---- suffixes
 
-suffix_words-push : (suffixes : List Suffix) (suffix : Suffix) → suffix_words (suffixes ++ suffix ∷ []) ≡ suffix_words suffixes ++ suffix_word (suffix_words suffixes) suffix ∷ []
+suffix_words-push : (suffixes : List Suffix) (suffix : Suffix)
+    → suffix_words (suffixes ++ suffix ∷ []) ≡ suffix_words suffixes ++ suffix_word (suffix_words suffixes) suffix ∷ []
 unfolding suffix_words
 suffix_words-push suffixes suffix = fold-append (λ (earlier : List Word) (suffix : Suffix). earlier ++ suffix_word earlier suffix ∷ []) [] suffixes (suffix ∷ [])
 
@@ -116,7 +117,8 @@ module _ (laws : WordLaws) (k : ℕ) (L : Language) (table : Table) (words : Lis
       subst (λ n. Before (access_word words n) (access_word words second)) one
       (subst (λ n. Before (access_word words (suc (first - 1))) (access_word words n)) two (dropped words (first - 1) (second - 1) ordered))
     where
-      dropped : (words : List Word) (i j : ℕ) → Before (get_or (drop 1 words) i []) (get_or (drop 1 words) j []) → Before (access_word words (suc i)) (access_word words (suc j))
+      dropped : (words : List Word) (i j : ℕ) → Before (get_or (drop 1 words) i []) (get_or (drop 1 words) j [])
+          → Before (access_word words (suc i)) (access_word words (suc j))
       dropped [] i j b = b
       dropped (word ∷ words) i j b = b
 
@@ -131,8 +133,8 @@ module _ (laws : WordLaws) (k : ℕ) (L : Language) (table : Table) (words : Lis
   abbrev Spelling : ℕ → Type 0
   Spelling state = (access : Access) × IsSpelled words state access
 
-  module _ (state : ℕ) (within : state < length words) (front : Word) (letter : List Bool) (is : access_word words state ≡ front ++ letter ∷ []) (behaves : IsBehaviour k front)
-      (least : IsAccessWord k table state (access_word words state)) where
+  module _ (state : ℕ) (within : state < length words) (front : Word) (letter : List Bool) (is : access_word words state ≡ front ++ letter ∷ [])
+      (behaves : IsBehaviour k front) (least : IsAccessWord k table state (access_word words state)) where
     width : length letter ≡ k
     width = Widths-head k letter [] (Widths-rest k front (letter ∷ []) (subst (Widths k) is least.behaviour.widths))
 
@@ -184,7 +186,10 @@ module _ (laws : WordLaws) (k : ℕ) (L : Language) (table : Table) (words : Lis
     ]
 
     after : Spelling state
-    after = (After before letter, record { word = is ∙ ap (λ (word : Word). word ++ letter ∷ []) (sym front_is); is_state = before_below; not_start = not_start; in_order = in_order })
+    after = (
+      After before letter,
+      record { word = is ∙ ap (λ (word : Word). word ++ letter ∷ []) (sym front_is); is_state = before_below; not_start = not_start; in_order = in_order },
+    )
 
   by_front : (state : ℕ) → state < length words → (front : Word) (letter : List Bool) → access_word words state ≡ front ++ letter ∷ []
       → IsAccessWord k table state (access_word words state) → Spelling state
@@ -224,7 +229,8 @@ module _ (laws : WordLaws) (k : ℕ) (L : Language) (table : Table) (words : Lis
         each = each here rest;
       }
     where
-      each : (here : Spelling first) (rest : SpelledFrom (suc first) count) (place : ℕ) (one : Access) → slice_get (here.0 ∷ rest.access) place ≡ Some one → IsSpelled words (first + place) one
+      each : (here : Spelling first) (rest : SpelledFrom (suc first) count) (place : ℕ) (one : Access) → slice_get (here.0 ∷ rest.access) place ≡ Some one
+          → IsSpelled words (first + place) one
       each here rest zero one there =
           let same : here.0 ≡ one = same_Some here.0 one there in
           let at : first ≡ first + 0 = omega arith in

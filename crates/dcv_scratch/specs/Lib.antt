@@ -1,3 +1,0 @@
-pub mod Laws
-pub mod Automaton
-pub mod Report
