@@ -34,7 +34,6 @@ pub mod SomeControls
 pub mod SomeDiagrams
 pub mod SomeOutcome
 pub mod SomeReports
-pub mod SomeRight
 pub mod SomeSpellings
 pub mod SomeRows
 pub mod SomeTables

@@ -1,5 +1,5 @@
 //! Laws on what is right, each the contract of a function that does nothing.
-ghost use Rattle.dcv_cli.specs.Laws.{OneOutcome, SomeOutcome, SomeRightOutcome, EqualMeanings, PrintedIsCertified, ConvertedBackIsTheText, ImpliesBothWays, NamesAscend};
+ghost use Rattle.dcv_cli.specs.Laws.{OneOutcome, SomeOutcome, EqualMeanings, PrintedIsCertified, ConvertedBackIsTheText, ImpliesBothWays, NamesAscend};
 
 use dcv_automaton_text::laws::{one_file as one_automaton_text, versions_stand_for_the_same};
 use dcv_build::laws::{machines_accept_steps, one_list_of_counts, one_step_is_over};
@@ -55,40 +55,25 @@ pub fn one_outcome()
     units_are_one();
 }
 
-/// Some outcome is right for all words, where the files that they name are held, or they ask for an automaton, an observer or a controller of a
-/// formula file all of whose steps are within the limits. So no words, no replay, no text of an automaton, no comparison, no summary, no verdict and no
-/// formula file that has a fault or is over the limits leaves [`run`](crate::run) nothing to answer but that memory has run out.
+/// Some outcome is right for all words, where the files that they name are held. So no words, and no texts, leave [`run`](crate::run)
+/// nothing to answer but that memory has run out.
 pub fn some_outcome()
     ensures { SomeOutcome }
 {
     some_reading();
+    names_are_short();
     taken_words_ask();
     texts_are_nodes_or_at_fault();
     texts_are_units_or_at_fault();
+    texts_spell_units();
     traces_have_one_verdict();
     letters_have_one_text_of_answers();
     minimal_shows_fewest_states();
     machines_accept_steps();
     complement_is_canonical();
     core_means_text();
-    none_is_inclusion();
-    words_are_in_order();
-    word_order_is_kept();
-}
-
-/// Some outcome is right for all words, where the files that they name are held. So nothing leaves [`run`](crate::run) nothing to answer but that
-/// memory has run out, or that a file cannot be read.
-pub fn some_right_outcome()
-    ensures { SomeRightOutcome }
-{
-    some_outcome();
-    words_are_in_order();
-    word_order_is_kept();
-    machines_accept_steps();
-    complement_is_canonical();
-    core_means_text();
-    names_are_short();
     measures_bound_core();
+    none_is_inclusion();
     printed_is_automaton();
     printed_observers_observe();
     automaton_of_same_behaviours();
@@ -97,7 +82,8 @@ pub fn some_right_outcome()
     strategies_beat();
     winners_of_same_behaviours();
     units_answer();
-    texts_spell_units();
+    words_are_in_order();
+    word_order_is_kept();
 }
 
 /// Formula files with the same variables and the same models have the same answer: the same verdict, the same observers, and the same
