@@ -1,8 +1,7 @@
 -- Functions of fewer slots that are made of others have no more nodes: where the number at an input is made of the numbers at the input with all
 -- that may follow, a node of the new function is made of a node of the old one at the same slot.
---     merged merge whole                   the function of the first slots that is made of a function of all
---     merged_no_more                       such functions have no more nodes
---     merged_rows_no_more                  nor those that are made of the rows of some states of a table
+--     Merges m merge           a number that is made of the numbers of a function at the letters of a width
+--     merged_rows_no_more      functions that are so made of the rows of some states of a table have no more nodes than its rows
 use Rattle.std.proofs.Common.{◌≡◌, ℕ, suc, ◌+◌, ◌-◌, ◌<◌, ◌≤◌, Bool, true, false, List, ◌∷◌, ◌++◌, length, map, get_or, Contains, All, refl, sym, ap, ◌∙◌, subst, arith}
 use Rattle.std.specs.Set.{unique_keys}
 use Rattle.std.proofs.lemmas.List.{append_assoc, length-append, length-map}
@@ -26,7 +25,7 @@ abbrev Node : Type 0
 Node = ℕ × List ℕ
 
 -- the table of a function is read as the function
-pub reading-as_table : (width : ℕ) (function : List Bool → ℕ) (letter : List Bool) → length letter ≡ width → reading (as_table width function) letter ≡ function letter
+reading-as_table : (width : ℕ) (function : List Bool → ℕ) (letter : List Bool) → length letter ≡ width → reading (as_table width function) letter ≡ function letter
 reading-as_table width function letter size =
     (λ i. reading (as_table (sym size i) function) letter)
     ∙ get_or_from_slice_get (as_table (length letter) function) (bits_of letter) (function letter) 0
@@ -47,11 +46,11 @@ images_no_more image few many made =
     (is_member-Decides same_node (map image once) q).1 (subst (Contains (map image once)) is (Contains-map image once old kept))) in
     omega (arith, no_more, length-map once image)
 
--- what is made of all the numbers of a function at the letters of a width
 pub record Merges (m : ℕ) (merge : (List Bool → ℕ) → ℕ) : Type 0 where
   pub alike : (one other : List Bool → ℕ) → ((output : List Bool) → length output ≡ m → one output ≡ other output) → merge one ≡ merge other
 
-abbrev pub merged : ((List Bool → ℕ) → ℕ) → (List Bool → ℕ) → List Bool → ℕ
+-- the function of the first slots that is made of a function of all
+abbrev merged : ((List Bool → ℕ) → ℕ) → (List Bool → ℕ) → List Bool → ℕ
 merged merge whole input = merge (λ output. whole (input ++ output))
 
 module _ (n m : ℕ) (merge : (List Bool → ℕ) → ℕ) (merges : Merges m merge) where
@@ -118,7 +117,7 @@ module _ (n m : ℕ) (merge : (List Bool → ℕ) → ℕ) (merges : Merges m me
           image_old (whole state) node split,
         )
 
-    pub merged_no_more : node_count n (map (λ state. as_table n (merged merge (whole state))) states)
+    merged_no_more : node_count n (map (λ state. as_table n (merged merge (whole state))) states)
         ≤ node_count (n + m) (map (λ state. as_table (n + m) (whole state)) states)
     merged_no_more =
         images_no_more image (nodes_of_all n (map (λ state. as_table n (merged merge (whole state))) states))

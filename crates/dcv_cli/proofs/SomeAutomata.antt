@@ -1,6 +1,7 @@
 -- A canonical table has a canonical automaton, whose rows are diagrams in one arena.
---     IsAutomatonOf k L table access raw    the automaton is one, over so many slots, with this table, and accepts the set
---     some_automaton                        so there is one, where the numbers of states and of nodes fit
+--     rows_of table                  its rows, without the flags
+--     IsAutomatonOf k L table raw    the automaton is one, over so many slots, with as many states and nodes as the table, and accepts the set
+--     some_automaton                 so there is one, where the numbers of states and of nodes fit
 use Rattle.std.proofs.Common.{◌≡◌, ℕ, ◌^◌, ◌<◌, ◌≤◌, false, List, [], length, map, get_or, All, refl, sym, ap, ◌∙◌, subst, arith}
 use Rattle.std.proofs.lemmas.List.{length-map, get_or-map, get_or_default, same_lists}
 use Rattle.std.proofs.lemmas.List.Elements.{All-map}
@@ -26,7 +27,7 @@ abbrev pub rows_of : Table → List (List ℕ)
 rows_of table = map (λ (state : TableState). state.row) table
 
 -- a ref of which the table has only numbers below the bound leads below it
-pub leads_below_from : (arena : ArenaValue) (ref : Ref) (bound : ℕ) → All (λ number. number < bound) (table_of arena ref) → LeadsBelow arena bound ref
+leads_below_from : (arena : ArenaValue) (ref : Ref) (bound : ℕ) → All (λ number. number < bound) (table_of arena ref) → LeadsBelow arena bound ref
 leads_below_from arena ref bound below letter size =
     let there = table_of-at arena ref letter size in
     let within = slice_get_within (table_of arena ref) (bits_of letter) (value_of arena ref letter) there in
@@ -53,14 +54,14 @@ module _ (k : ℕ) (table : Table) (arena : ArenaValue) (refs : List Ref) (drawn
       let known : state_of raw state ≡ get_or table state no_state = λ i. record { accepting = flag i; row = row i } in
       known ∙ get_or_default table state no_state d within
 
-  pub same_table : table_of_states raw ≡ table
+  same_table : table_of_states raw ≡ table
   same_table =
       let count = table_has_the_states raw in
       same_lists (table_of_states raw) table (count ∙ count_of_refs) (λ state d within.
       state-at raw state d (omega (arith, count)) ∙ same_state state d (omega (arith, count, count_of_refs)))
 
   module _ (is : IsTable k table) (few : length table < 2 ^ 32) where
-    pub is_raw : IsRaw raw
+    is_raw : IsRaw raw
     is_raw = record {
       arena = drawn.is;
       rows = drawn.ones;
@@ -74,25 +75,23 @@ module _ (k : ℕ) (table : Table) (arena : ArenaValue) (refs : List Ref) (drawn
       states = omega (arith, count_of_refs);
     }
 
-pub record IsAutomatonOf (k : ℕ) (L : Language) (table : Table) (access : List Word) (raw : RawValue) : Type 0 where
+pub record IsAutomatonOf (k : ℕ) (L : Language) (table : Table) (raw : RawValue) : Type 0 where
   pub same_slots : raw.arena.slots ≡ k
   pub is : IsRaw raw
   pub auto : IsAuto raw
-  pub words : auto.access ≡ access
-  pub states : table_of_states raw ≡ table
   pub exact : HaveSameBehaviours k (raw_accepts raw) L
   pub count : length raw.rows ≡ length table
   pub nodes : count_of_nodes raw ≡ node_count k (rows_of table)
 
 pub some_automaton : (k : ℕ) (L : Language) (table : Table) (access : List Word) → k ≤ 32 → IsCanonical k L table access
     → length table < 2 ^ 32 → node_count k (rows_of table) < 2 ^ 32
-    → (raw : RawValue) × IsAutomatonOf k L table access raw
+    → (raw : RawValue) × IsAutomatonOf k L table raw
 some_automaton k L table access narrow canonical few fewer =
     let sizes = All-map (λ row. length row ≡ 2 ^ k) (λ (state : TableState). state.row) table canonical.states.rows in
     let (arena, refs, drawn) = some_diagrams k (rows_of table) narrow sizes fewer in
     (raw k table arena refs drawn, of_drawn arena refs drawn)
   where
-    of_drawn : (arena : ArenaValue) (refs : List Ref) (drawn : AreDiagramsOf k (rows_of table) arena refs) → IsAutomatonOf k L table access (raw k table arena refs drawn)
+    of_drawn : (arena : ArenaValue) (refs : List Ref) (drawn : AreDiagramsOf k (rows_of table) arena refs) → IsAutomatonOf k L table (raw k table arena refs drawn)
     of_drawn arena refs drawn =
         let made = raw k table arena refs drawn in
         let is = is_raw k table arena refs drawn canonical.states few in
@@ -114,8 +113,6 @@ some_automaton k L table access narrow canonical few fewer =
                 (subst (λ table. IsCanonical k (raw_accepts made) table access) (sym same) known);
             nodes = drawn.only;
           };
-          words = refl;
-          states = same;
           exact = exact;
           count = count_of_refs k table arena refs drawn;
           nodes = λ i. node_count (slots i) (drawn.mean i);

@@ -48,12 +48,14 @@ module _ (accept : MachineAcceptsStep) (k : ℕ) (tree : CoreTree) (limits : Lim
       let same : HaveSameBehaviours step.slots (accepts row.machine.automaton) (words_of step.core) = accept k tree n step within.tables there (canonical_before n) in
       let of_core = subst (λ (core : CoreTree). IsCanonical k (words_of core) table access) (sym core_is) canonical in
       let over_slots = subst (λ slots. IsCanonical slots (words_of step.core) table access) (sym slots_are) of_core in
-      let of_machine = canonical_for_same_behaviours step.slots (words_of step.core) (accepts row.machine.automaton) table access (λ word behaves. sym (same word behaves)) over_slots in
+      let of_machine =
+      canonical_for_same_behaviours step.slots (words_of step.core) (accepts row.machine.automaton) table access (λ word behaves. sym (same word behaves)) over_slots in
       let own = row_slots step.op step.slots within.tables in
       let of_row = subst (λ slots. IsCanonical slots (accepts row.machine.automaton) table access) (sym own) of_machine in
       subst (λ slots. IsTableWithin slots limits table) (own ∙ slots_are) (within_of_row row limits done.within table access of_row)
 
-  pub within_of_set : (L : Language) → HaveSameBehaviours k (words_of tree) L → (table : Table) (access : List Word) → IsCanonical k L table access → IsTableWithin k limits table
+  pub within_of_set : (L : Language) → HaveSameBehaviours k (words_of tree) L → (table : Table) (access : List Word) → IsCanonical k L table access
+      → IsTableWithin k limits table
   within_of_set L same table access canonical =
       within_of_core table access (canonical_for_same_behaviours k L (words_of tree) table access (λ word behaves. sym (same word behaves)) canonical)
 

@@ -1,64 +1,24 @@
 -- Each canonical table has a certificate. It begins with the empty suffix; then, while some letter before a suffix tells two access words
 -- apart that none tells apart yet, that is the next one. There are finitely many pairs, so this ends; and then each word that tells two
 -- access words apart has a suffix that does, by induction on the word from its first letter.
---     each_or, each_letter_or      something is so of all, or something else is found
---     Told suffixes u v            one of the suffixes tells the words apart
---     told_or_not                  one does, or none
---     all_told                     where no letter before a suffix tells more, all that are apart are told
---     some_certificate_of          the certificate of a canonical table
+--     some_certificate_of      the certificate of a canonical table
 use Rattle.std.proofs.Common.{◌≡◌, ◌⊎◌, inl, inr, ℕ, zero, suc, ◌<◌, ◌≤◌, Bool, true, false, List, [], ◌∷◌, ◌++◌, length, get_or, refl, sym, ap, ◌∙◌, subst, arith, append-nil, append_assoc, length-append}
 use Rattle.std.proofs.lemmas.Bool.{cases_lt}
 use Rattle.dcv_word.specs.Behaviour.{Word, IsBehaviour}
 use Rattle.dcv_language.specs.Apart.{TellsApart}
 use Rattle.dcv_language.specs.Canonical.{access_word, IsCanonical}
-use Rattle.dcv_language.specs.Certificate.{GrowsInTurn, IsNextSuffix, AreToldBy, IsCertificate}
+use Rattle.dcv_language.specs.Certificate.{GrowsInTurn, IsNextSuffix, IsCertificate}
 use Rattle.dcv_language.specs.Language.{Language}
 use Rattle.dcv_language.specs.Table.{Table, leads_to}
 use Rattle.dcv_language.proofs.Ascending.{Member, Member-at, IsAmong-from_Member}
 use Rattle.dcv_language.proofs.Behaviours.{Widths-head, Widths-front, Widths-rest, goes_on}
 use Rattle.dcv_language.proofs.Bounds.{alike, leads_to-below}
 use Rattle.dcv_language.proofs.Canonicals.{entered_least}
-use Rattle.dcv_cli.proofs.LeastWords.{behaviour_or_not}
-use Rattle.dcv_cli.proofs.Reaching.{without, one_fewer, others_stay, none_is_new}
-use Rattle.dcv_cli.proofs.ToldApart.{same_truth, in_front, in_back, front_or_back}
+use Rattle.dcv_cli.proofs.Reaching.{letters_or, each_or, without, one_fewer, others_stay, none_is_new}
+use Rattle.dcv_cli.proofs.ToldApart.{in_front, in_back, pairs_of, among_pairs, only_pairs}
+use Rattle.dcv_cli.proofs.ToldWords.{tells_or_not, Told, told_or_not, told_by}
 
--- ---- searches
-
-each_or : {X : Type 0} (P : X → Type 0) (Q : Type 0) (xs : List X) → ((x : X) → Member x xs → P x ⊎ Q) → ((x : X) → Member x xs → P x) ⊎ Q
-each_or P Q [] decide = inl (λ x there. absurd there)
-each_or {X} P Q (x ∷ xs) decide = by (decide x (inl refl)) (each_or P Q xs (λ y later. decide y (inr later)))
-  where
-    all : P x → ((y : X) → Member y xs → P y) → (y : X) → Member y (x ∷ xs) → P y
-    all holds others y (inl same) = subst P (sym same) holds
-    all holds others y (inr later) = others y later
-
-    by : (P x ⊎ Q) → (((y : X) → Member y xs → P y) ⊎ Q) → ((y : X) → Member y (x ∷ xs) → P y) ⊎ Q
-    by (inr found) others = inr found
-    by (inl holds) (inr found) = inr found
-    by (inl holds) (inl others) = inl (all holds others)
-
-no_letter : (letter : List Bool) → length letter ≡ 0 → [] ≡ letter
-no_letter [] none = refl
-no_letter (value ∷ letter) none = absurd (omega arith)
-
-each_letter_or : (k : ℕ) (P : List Bool → Type 0) (Q : Type 0) → ((letter : List Bool) → length letter ≡ k → P letter ⊎ Q)
-    → ((letter : List Bool) → length letter ≡ k → P letter) ⊎ Q
-each_letter_or zero P Q decide = elim (decide [] refl) [ inl holds ↦ inl (λ letter width. subst P (no_letter letter width) holds) | inr found ↦ inr found ]
-each_letter_or (suc k) P Q decide =
-    by (each_letter_or k (λ letter. P (false ∷ letter)) Q (λ letter width. decide (false ∷ letter) (omega arith)))
-    (each_letter_or k (λ letter. P (true ∷ letter)) Q (λ letter width. decide (true ∷ letter) (omega arith)))
-  where
-    all : ((letter : List Bool) → length letter ≡ k → P (false ∷ letter)) → ((letter : List Bool) → length letter ≡ k → P (true ∷ letter))
-        → (letter : List Bool) → length letter ≡ suc k → P letter
-    all low high [] width = absurd (omega arith)
-    all low high (false ∷ letter) width = low letter (omega arith)
-    all low high (true ∷ letter) width = high letter (omega arith)
-
-    by : (((letter : List Bool) → length letter ≡ k → P (false ∷ letter)) ⊎ Q) → (((letter : List Bool) → length letter ≡ k → P (true ∷ letter)) ⊎ Q)
-        → ((letter : List Bool) → length letter ≡ suc k → P letter) ⊎ Q
-    by (inr found) high = inr found
-    by (inl low) (inr found) = inr found
-    by (inl low) (inl high) = inl (all low high)
+-- ---- words, one after another
 
 -- a list with one more at its end is split at that one, or before
 split_before : {X : Type 0} (xs : List X) (x : X) (earlier later : List X) (y : X) → xs ++ x ∷ [] ≡ earlier ++ y ∷ later
@@ -81,70 +41,9 @@ grown k [] letter shorter width there = absurd there
 grown k (first ∷ others) letter shorter width there =
     record { letter = letter; shorter = shorter; width = width; from = IsAmong-from_Member (first ∷ others) shorter there; grown = refl }
 
--- ---- pairs of words
-
-beside : Word → List Word → List (Word × Word)
-beside first [] = []
-beside first (second ∷ seconds) = (first, second) ∷ beside first seconds
-
-pairs : List Word → List Word → List (Word × Word)
-pairs [] seconds = []
-pairs (first ∷ firsts) seconds = beside first seconds ++ pairs firsts seconds
-
-has_beside : (first second : Word) (seconds : List Word) → Member second seconds → Member (first, second) (beside first seconds)
-unfolding beside
-has_beside first second [] there = absurd there
-has_beside first second (one ∷ seconds) (inl same) = inl (λ i. (first, same i))
-has_beside first second (one ∷ seconds) (inr later) = inr (has_beside first second seconds later)
-
-has_pair : (first second : Word) (firsts seconds : List Word) → Member first firsts → Member second seconds → Member (first, second) (pairs firsts seconds)
-unfolding pairs
-has_pair first second [] seconds there other = absurd there
-has_pair first second (one ∷ firsts) seconds (inl same) other =
-    in_front (first, second) (beside one seconds) (pairs firsts seconds)
-    (subst (λ (head : Word). Member (first, second) (beside head seconds)) same (has_beside first second seconds other))
-has_pair first second (one ∷ firsts) seconds (inr later) other =
-    in_back (first, second) (beside one seconds) (pairs firsts seconds) (has_pair first second firsts seconds later other)
-
-only_beside : (first : Word) (seconds : List Word) (pair : Word × Word) → Member pair (beside first seconds) → (pair.0 ≡ first) × Member pair.1 seconds
-unfolding beside
-only_beside first [] pair there = absurd there
-only_beside first (one ∷ seconds) pair (inl same) = ((λ i. (same i).0), inl (λ i. (same i).1))
-only_beside first (one ∷ seconds) pair (inr later) = let rest = only_beside first seconds pair later in (rest.0, inr rest.1)
-
-only_pairs : (firsts seconds : List Word) (pair : Word × Word) → Member pair (pairs firsts seconds) → Member pair.0 firsts × Member pair.1 seconds
-unfolding pairs
-only_pairs [] seconds pair there = absurd there
-only_pairs (one ∷ firsts) seconds pair there = elim (front_or_back pair (beside one seconds) (pairs firsts seconds) there) [
-  | inl front ↦ let both = only_beside one seconds pair front in (inl both.0, both.1)
-  | inr back ↦ let both = only_pairs firsts seconds pair back in (inr both.0, both.1)
-]
-
 -- ---- what is told
 
 module _ (k : ℕ) (L : Language) where
-  tells_or_not : (u v suffix : Word) → (TellsApart k L u v suffix → ⊥) ⊎ TellsApart k L u v suffix
-  tells_or_not u v suffix = by (behaviour_or_not k (u ++ suffix)) (behaviour_or_not k (v ++ suffix)) (same_truth (L (u ++ suffix)) (L (v ++ suffix)))
-    where
-      by : IsBehaviour k (u ++ suffix) ⊎ (IsBehaviour k (u ++ suffix) → ⊥) → IsBehaviour k (v ++ suffix) ⊎ (IsBehaviour k (v ++ suffix) → ⊥)
-          → (L (u ++ suffix) ≡ L (v ++ suffix)) ⊎ (L (u ++ suffix) ≡ L (v ++ suffix) → ⊥) → (TellsApart k L u v suffix → ⊥) ⊎ TellsApart k L u v suffix
-      by (inr none) other truth = inl (λ tells. none tells.first_goes_on)
-      by (inl one) (inr none) truth = inl (λ tells. none tells.second_goes_on)
-      by (inl one) (inl other) (inl same) = inl (λ tells. tells.differ same)
-      by (inl one) (inl other) (inr differ) = inr (record { first_goes_on = one; second_goes_on = other; differ = differ })
-
-  record Told (suffixes : List Word) (u v : Word) : Type 0 where
-    suffix : Word
-    there : Member suffix suffixes
-    tells : TellsApart k L u v suffix
-
-  abbrev NoneTells : List Word → Word → Word → Type 0
-  NoneTells suffixes u v = (suffix : Word) → Member suffix suffixes → TellsApart k L u v suffix → ⊥
-
-  told_or_not : (suffixes : List Word) (u v : Word) → NoneTells suffixes u v ⊎ Told suffixes u v
-  told_or_not suffixes u v = each_or (λ suffix. TellsApart k L u v suffix → ⊥) (Told suffixes u v) suffixes (λ suffix there.
-      elim (tells_or_not u v suffix) [ inl not ↦ inl not | inr tells ↦ inr (record { suffix = suffix; there = there; tells = tells }) ])
-
   module _ (table : Table) (access : List Word) (c : IsCanonical k L table access) where
     -- the access word of the state to which a behaviour leads
     record IsReplaced (word one : Word) : Type 0 where
@@ -202,10 +101,10 @@ module _ (k : ℕ) (L : Language) where
     -- a letter before a suffix tells no more apart than the suffixes do
     abbrev Closed : List Word → Type 0
     Closed suffixes = (suffix : Word) → Member suffix suffixes → (letter : List Bool) → length letter ≡ k → (u v : Word) → Member u access → Member v access
-        → TellsApart k L u v (letter ∷ suffix) → Told suffixes u v
+        → TellsApart k L u v (letter ∷ suffix) → Told k L u v suffixes
 
     all_told : (suffixes : List Word) → Member [] suffixes → Closed suffixes → (word u v : Word)
-        → Member u access → Member v access → TellsApart k L u v word → Told suffixes u v
+        → Member u access → Member v access → TellsApart k L u v word → Told k L u v suffixes
     all_told suffixes begins closed [] u v one other tells = record { suffix = []; there = begins; tells = tells }
     all_told suffixes begins closed (letter ∷ word) u v one other tells =
         let on = one_on u v letter word tells in
@@ -221,7 +120,8 @@ module _ (k : ℕ) (L : Language) where
 
     -- ---- the first suffix
 
-    record IsTold (suffix : Word) : Type 0 where
+    -- a suffix that tells two access words apart
+    record TellsSome (suffix : Word) : Type 0 where
       first : Word
       second : Word
       first_there : Member first access
@@ -229,7 +129,7 @@ module _ (k : ℕ) (L : Language) where
       tells : TellsApart k L first second suffix
 
     -- two states that are apart lead to two that one of accepts
-    empty_tells : 1 < length access → IsTold []
+    empty_tells : 1 < length access → TellsSome []
     empty_tells some =
         let apart = c.apart 0 1 [] (omega arith) some in
         let u = access_word access 0 ++ apart.suffix in
@@ -256,7 +156,7 @@ module _ (k : ℕ) (L : Language) where
     -- the pairs that are not told apart are among these
     record AreLeft (suffixes : List Word) (left : Pairs) : Type 0 where
       access_words : (pair : Word × Word) → Member pair left → Member pair.0 access × Member pair.1 access
-      all : (u v : Word) → Member u access → Member v access → NoneTells suffixes u v → Member (u, v) left
+      all : (u v : Word) → Member u access → Member v access → (Told k L u v suffixes → ⊥) → Member (u, v) left
 
     record NewSuffix (suffixes : List Word) (left : Pairs) : Type 0 where
       letter : List Bool
@@ -266,21 +166,21 @@ module _ (k : ℕ) (L : Language) where
       pair : Word × Word
       there : Member pair left
       tells : TellsApart k L pair.0 pair.1 (letter ∷ shorter)
-      new : NoneTells suffixes pair.0 pair.1
+      new : Told k L pair.0 pair.1 suffixes → ⊥
 
     abbrev TellsNoMore : List Word → Word → List Bool → (Word × Word) → Type 0
-    TellsNoMore suffixes shorter letter pair = TellsApart k L pair.0 pair.1 (letter ∷ shorter) → Told suffixes pair.0 pair.1
+    TellsNoMore suffixes shorter letter pair = TellsApart k L pair.0 pair.1 (letter ∷ shorter) → Told k L pair.0 pair.1 suffixes
 
     no_more_or_new : (suffixes : List Word) (left : Pairs) (shorter : Word) → Member shorter suffixes → (letter : List Bool) → length letter ≡ k
         → (pair : Word × Word) → Member pair left → TellsNoMore suffixes shorter letter pair ⊎ NewSuffix suffixes left
-    no_more_or_new suffixes left shorter from letter width pair there = by (told_or_not suffixes pair.0 pair.1) (tells_or_not pair.0 pair.1 (letter ∷ shorter))
+    no_more_or_new suffixes left shorter from letter width pair there = by (told_or_not k L pair.0 pair.1 suffixes) (tells_or_not k L pair.0 pair.1 (letter ∷ shorter))
       where
-        by : NoneTells suffixes pair.0 pair.1 ⊎ Told suffixes pair.0 pair.1
-            → (TellsApart k L pair.0 pair.1 (letter ∷ shorter) → ⊥) ⊎ TellsApart k L pair.0 pair.1 (letter ∷ shorter)
+        by : Told k L pair.0 pair.1 suffixes ⊎ (Told k L pair.0 pair.1 suffixes → ⊥)
+            → TellsApart k L pair.0 pair.1 (letter ∷ shorter) ⊎ (TellsApart k L pair.0 pair.1 (letter ∷ shorter) → ⊥)
             → TellsNoMore suffixes shorter letter pair ⊎ NewSuffix suffixes left
-        by (inr told) tells = inl (λ again. told)
-        by (inl none) (inl not) = inl (λ tells. absurd (not tells))
-        by (inl none) (inr tells) = inr (record { letter = letter; width = width; shorter = shorter; from = from; pair = pair; there = there; tells = tells; new = none })
+        by (inl told) tells = inl (λ again. told)
+        by (inr none) (inr not) = inl (λ tells. absurd (not tells))
+        by (inr none) (inl tells) = inr (record { letter = letter; width = width; shorter = shorter; from = from; pair = pair; there = there; tells = tells; new = none })
 
     abbrev NoMore : List Word → Pairs → Word → Type 0
     NoMore suffixes left shorter = (letter : List Bool) → length letter ≡ k → (pair : Word × Word) → Member pair left → TellsNoMore suffixes shorter letter pair
@@ -290,14 +190,14 @@ module _ (k : ℕ) (L : Language) where
       where
         searched : ((shorter : Word) → Member shorter suffixes → NoMore suffixes left shorter) ⊎ NewSuffix suffixes left
         searched = each_or (NoMore suffixes left) (NewSuffix suffixes left) suffixes (λ shorter from.
-            each_letter_or k (λ letter. (pair : Word × Word) → Member pair left → TellsNoMore suffixes shorter letter pair) (NewSuffix suffixes left) (λ letter width.
+            letters_or k (λ letter. (pair : Word × Word) → Member pair left → TellsNoMore suffixes shorter letter pair) (NewSuffix suffixes left) (λ letter width.
             each_or (TellsNoMore suffixes shorter letter) (NewSuffix suffixes left) left (λ pair there. no_more_or_new suffixes left shorter from letter width pair there)))
 
         by : ((shorter : Word) → Member shorter suffixes → NoMore suffixes left shorter) ⊎ NewSuffix suffixes left → Closed suffixes ⊎ NewSuffix suffixes left
         by (inr new) = inr new
-        by (inl no_more) = inl (λ suffix there letter width u v one other tells. elim (told_or_not suffixes u v) [
-          | inr told ↦ told
-          | inl none ↦ no_more suffix there letter width (u, v) (are.all u v one other none) tells
+        by (inl no_more) = inl (λ suffix there letter width u v one other tells. elim (told_or_not k L u v suffixes) [
+          | inl told ↦ told
+          | inr none ↦ no_more suffix there letter width (u, v) (are.all u v one other none) tells
         ])
 
     module _ (suffixes : List Word) (left : Pairs) (next : AreNext suffixes) (are : AreLeft suffixes left) (new : NewSuffix suffixes left) where
@@ -316,7 +216,7 @@ module _ (k : ℕ) (L : Language) where
           first_is_access = IsAmong-from_Member access new.pair.0 (are.access_words new.pair new.there).0;
           second_is_access = IsAmong-from_Member access new.pair.1 (are.access_words new.pair new.there).1;
           tells = new.tells;
-          is_new = λ i d h. new.new (get_or suffixes i d) (Member-at suffixes i d h);
+          is_new = λ i d h tells. new.new (record { suffix = get_or suffixes i d; there = Member-at suffixes i d h; tells = tells });
         };
       }
 
@@ -333,9 +233,15 @@ module _ (k : ℕ) (L : Language) where
       are_left = record {
         access_words = λ pair there. are.access_words pair (none_is_new new.pair left new.there pair there);
         all = λ u v one other none.
-            others_stay new.pair left new.there (u, v) (are.all u v one other (λ suffix there. none suffix (in_front suffix suffixes (one_more ∷ []) there)))
-            (λ same. none one_more (in_back one_more suffixes (one_more ∷ []) (inl refl))
-            (subst (λ (pair : Word × Word). TellsApart k L pair.0 pair.1 one_more) (sym same) new.tells));
+            others_stay new.pair left new.there (u, v) (are.all u v one other (λ told. none (record {
+              suffix = told.suffix;
+              there = in_front told.suffix suffixes (one_more ∷ []) told.there;
+              tells = told.tells;
+            }))) (λ same. none (record {
+              suffix = one_more;
+              there = in_back one_more suffixes (one_more ∷ []) (inl refl);
+              tells = subst (λ (pair : Word × Word). TellsApart k L pair.0 pair.1 one_more) (sym same) new.tells;
+            }));
       }
 
     record Finished : Type 0 where
@@ -359,9 +265,9 @@ module _ (k : ℕ) (L : Language) where
 
     finished : 1 < length access → Finished
     finished some =
-        finished_by (length (pairs access access)) ([] ∷ []) (pairs access access) (omega arith)
+        finished_by (length (pairs_of access access)) ([] ∷ []) (pairs_of access access) (omega arith)
         (record { begins = inl refl; each = first_is_next })
-        (record { access_words = λ pair there. only_pairs access access pair there; all = λ u v one other none. has_pair u v access access one other })
+        (record { access_words = λ pair there. only_pairs access access pair there; all = λ u v one other none. among_pairs u v access access one other })
       where
         first_is_next : (earlier later : List Word) (suffix : Word) → [] ∷ [] ≡ earlier ++ suffix ∷ later → IsNextSuffix k L access earlier suffix
         first_is_next (first ∷ earlier) later suffix split = absurd (let size = ap length split in omega (arith, length-append earlier (suffix ∷ later)))
@@ -380,9 +286,6 @@ module _ (k : ℕ) (L : Language) where
               };
             }
 
-    told_by : (suffixes : List Word) (u v : Word) → Told suffixes u v → AreToldBy k L suffixes u v
-    told_by suffixes u v told = record { suffix = told.suffix; listed = IsAmong-from_Member suffixes told.suffix told.there; tells = told.tells }
-
     certificate_of : Finished → (suffixes : List Word) × IsCertificate k L access suffixes
     certificate_of done = (
       done.suffixes,
@@ -390,7 +293,7 @@ module _ (k : ℕ) (L : Language) where
         each = done.next.each;
         told = λ i j d h l.
             let apart = c.apart i j d h l in
-            told_by done.suffixes (get_or access i d) (get_or access j d)
+            told_by k L (get_or access i d) (get_or access j d) done.suffixes
             (all_told done.suffixes done.next.begins done.closed apart.suffix (get_or access i d) (get_or access j d)
             (Member-at access i d (omega arith)) (Member-at access j d l) apart.tells);
       },

@@ -2,7 +2,7 @@
 -- wins, or a strategy that beats every controller.
 --     GameLaws               the laws that are cited
 --     some_synthesis_of      so there is one
-use Rattle.std.proofs.Common.{◌≡◌, inl, inr, ℕ, ◌+◌, ◌≤◌, List, [], length, map, refl, sym, ◌∙◌, subst, arith}
+use Rattle.std.proofs.Common.{◌≡◌, inl, inr, ℕ, ◌+◌, ◌≤◌, List, [], length, refl, sym, ◌∙◌, subst, arith}
 use Rattle.std.proofs.lemmas.List.{length-map}
 use Rattle.dcv_word.specs.Behaviour.{Word}
 use Rattle.dcv_automaton_text.specs.Rules.{AreNames}
@@ -16,7 +16,7 @@ use Rattle.dcv_dfa.proofs.NodeCounts.{few_numbered}
 use Rattle.dcv_dfa.proofs.Numberings.{rows_numbered}
 use Rattle.dcv_language.specs.Canonical.{IsCanonical}
 use Rattle.dcv_language.specs.Language.{Language}
-use Rattle.dcv_language.specs.Table.{TableState, Table, table_accepts, automaton_of}
+use Rattle.dcv_language.specs.Table.{Table, table_accepts, automaton_of}
 use Rattle.std.specs.List.{All}
 use Rattle.dcv_synth.specs.Control.{ControlValue, controller_by}
 use Rattle.dcv_synth.specs.Game.{Wins}
@@ -29,6 +29,7 @@ use Rattle.dcv_synth.specs.declared.strategy.Strategy.{Strategy}
 use Rattle.dcv_cli.specs.Outcome.{Outcome}
 use Rattle.dcv_cli.specs.declared.status.Status.TheVariants.{Valid, NotValid}
 use Rattle.dcv_cli.specs.Synthesis.{controller_text, strategy_text, SaysController, SaysStrategy, IsSynthesis, Realisable, Unrealisable}
+use Rattle.dcv_cli.proofs.SomeAutomata.{rows_of}
 use Rattle.dcv_cli.proofs.SomeControls.{IsControlFor, some_control}
 use Rattle.dcv_cli.proofs.SomeSyntheses.{some_synthesis}
 
@@ -41,6 +42,8 @@ few_lines arena rows is ones =
     let count = length-map places (line_of arena places) in
     let few = few_numbered arena is places (rows_numbered arena is rows ones).0 in
     omega arith
+
+-- ---- what is cited
 
 pub record GameLaws : Type 0 where
   pub not_beaten : HeldStatesAreNotBeaten
@@ -72,7 +75,7 @@ module _ (laws : GameLaws) (n m : ℕ) (L : Language) (table : Table) (access : 
   -- ---- a controller
 
   module _ (names : List (List ℕ)) (are : AreNames names) (inputs : length names ≡ n) where
-    has_unit : (control : ControlValue) → IsControlFor n m table control → node_count (n + m) (map (λ (state : TableState). state.row) table) ≤ 1000000 → HasUnit names control
+    has_unit : (control : ControlValue) → IsControlFor n m table control → node_count (n + m) (rows_of table) ≤ 1000000 → HasUnit names control
     has_unit control is few = record {
       is_control = is.is;
       are_names = are;
@@ -89,7 +92,8 @@ module _ (laws : GameLaws) (n m : ℕ) (L : Language) (table : Table) (access : 
           omega arith;
     }
 
-    says_controller : (control : ControlValue) → IsControlFor n m table control → HasUnit names control → SaysController n m L names (controller_text (text_of (unit_of names control)))
+    says_controller : (control : ControlValue) → IsControlFor n m table control → HasUnit names control
+        → SaysController n m L names (controller_text (text_of (unit_of names control)))
     says_controller control is has =
         let unit = unit_of names control in
         let (named, form) = laws.units_keep names control has in
@@ -110,7 +114,7 @@ module _ (laws : GameLaws) (n m : ℕ) (L : Language) (table : Table) (access : 
 
     -- ---- one of the two
 
-    pub some_synthesis_of : m ≤ 8 → length table ≤ 32000 → node_count (n + m) (map (λ (state : TableState). state.row) table) ≤ 1000000
+    pub some_synthesis_of : m ≤ 8 → length table ≤ 32000 → node_count (n + m) (rows_of table) ≤ 1000000
         → (outcome : Outcome) × IsSynthesis n m L names outcome
     some_synthesis_of outputs states nodes = elim (some_synthesis laws.not_beaten laws.win laws.held n m table canonical.states.nonempty (omega arith)) [
       | inl realisable ↦

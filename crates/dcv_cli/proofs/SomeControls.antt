@@ -15,6 +15,7 @@ use Rattle.dcv_word.proofs.Bits.{bits_of-lt}
 use Rattle.dcv_arena.specs.Diagram.{node_count}
 use Rattle.dcv_arena.proofs.Members.{Contains-filter, Contains-filter_cases, Contains-range, Contains-range_cases}
 use Rattle.dcv_language.specs.Operations.{some_track}
+use Rattle.dcv_language.proofs.Behaviours.{some_track-same}
 use Rattle.dcv_language.specs.Table.{TableState, Table, IsTable, no_state, automaton_of, next_in}
 use Rattle.dcv_synth.specs.Tracks.{least_track}
 use Rattle.dcv_synth.specs.Realisable.{IsRealisable}
@@ -34,13 +35,6 @@ least-length (suc m) p = by (some_track m (λ t. p (false ∷ t))) (least-length
         → length (if b then false ∷ least_track m (λ t. p (false ∷ t)) else true ∷ least_track m (λ t. p (true ∷ t))) ≡ suc m
     by true lo hi = ap suc lo
     by false lo hi = ap suc hi
-
-some_track-same : (m : ℕ) (p q : List Bool → Bool) → ((track : List Bool) → length track ≡ m → p track ≡ q track) → some_track m p ≡ some_track m q
-some_track-same zero p q same = same [] refl
-some_track-same (suc m) p q same =
-    let low = some_track-same m (λ track. p (false ∷ track)) (λ track. q (false ∷ track)) (λ track size. same (false ∷ track) (ap suc size)) in
-    let high = some_track-same m (λ track. p (true ∷ track)) (λ track. q (true ∷ track)) (λ track size. same (true ∷ track) (ap suc size)) in
-    λ i. low i || high i
 
 least_track-same : (m : ℕ) (p q : List Bool → Bool) → ((track : List Bool) → length track ≡ m → p track ≡ q track) → least_track m p ≡ least_track m q
 least_track-same zero p q same = refl
@@ -64,13 +58,13 @@ module _ (m : ℕ) (win : ℕ → Bool) where
   least_in-same : (one other : List Bool → ℕ) → ((output : List Bool) → length output ≡ m → one output ≡ other output) → least_in one ≡ least_in other
   least_in-same one other same = least_track-same m (λ output. win (one output)) (λ output. win (other output)) (λ output size. ap win (same output size))
 
-  pub next_merges : Merges m next_of
+  next_merges : Merges m next_of
   next_merges = record {
     alike = λ one other same.
         same (least_in one) (least-length m (λ output. win (one output))) ∙ ap other (least_in-same one other same);
   }
 
-  pub output_merges : Merges m output_of
+  output_merges : Merges m output_of
   output_merges = record { alike = λ one other same. ap bits_of (least_in-same one other same) }
 
 -- ---- the states, in order

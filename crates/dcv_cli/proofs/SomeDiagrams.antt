@@ -1,9 +1,8 @@
--- Functions have decision diagrams: for each list of tables there is an arena with a ref for each of them, and no other nodes.
---     Behind old front function     an arena that keeps the old one's refs, and a ref that means the function behind the front
---     some_diagram                  so there is one, by recursion on the slots that are left
---     Drawn slots limit tables      an arena with refs of these tables, whose nodes are theirs
---     AreDiagramsOf                 the same, where the limit of the arena is how many nodes the tables have
---     some_diagrams                 so there is one
+-- Functions have decision diagrams: for each list of tables there is an arena with a ref for each of them, and no other nodes. A function behind
+-- a front has a ref, by recursion on the slots that are left: the one of both sides where they are the same, or a node.
+--     reading table                     the function that a table is of
+--     AreDiagramsOf slots tables        an arena with refs of these tables, and as many nodes as they have
+--     some_diagrams                     so there is one
 use Rattle.std.proofs.Common.{◌≡◌, ◌≢◌, ◌⊎◌, inl, inr, ℕ, zero, suc, ◌+◌, ◌^◌, ◌<◌, ◌≤◌, Bool, true, false, cond, List, [], ◌∷◌, ◌++◌, length, map, Some, slice_get, get_or, Contains, All, refl, sym, ap, ◌∙◌, subst, arith, append-nil}
 use Rattle.std.specs.Bool.{Decides}
 use Rattle.std.proofs.lemmas.Bool.{false≢true}
@@ -62,13 +61,13 @@ stands_or_not {X} equal (first ∷ xs) x = by (equal first x) (stands_or_not equ
 
 -- ---- a node that is there, or is added
 
-pub record Placed (old : ArenaValue) (slot : ℕ) (lo hi : Ref) : Type 0 where
-  pub new : ArenaValue
-  pub place : ℕ
-  pub is : IsReduced new
-  pub kept : KeepsRefs old new
-  pub there : slice_get new.nodes place ≡ Some (node_of slot lo hi)
-  pub adds : AddsOnlyNodesOf old new (Place place)
+record Placed (old : ArenaValue) (slot : ℕ) (lo hi : Ref) : Type 0 where
+  new : ArenaValue
+  place : ℕ
+  is : IsReduced new
+  kept : KeepsRefs old new
+  there : slice_get new.nodes place ≡ Some (node_of slot lo hi)
+  adds : AddsOnlyNodesOf old new (Place place)
 
 some_place : (old : ArenaValue) (slot : ℕ) (lo hi : Ref) → IsReduced old → IsNodeAt old (length old.nodes) (node_of slot lo hi) → Placed old slot lo hi
 some_place old slot lo hi is right =
@@ -87,15 +86,15 @@ some_place old slot lo hi is right =
 
 -- ---- a function behind a front
 
-pub record Behind (old : ArenaValue) (front : List Bool) (function : List Bool → ℕ) : Type 0 where
-  pub new : ArenaValue
-  pub ref : Ref
-  pub is : IsReduced new
-  pub kept : KeepsRefs old new
-  pub one : IsRef new ref
-  pub later : length front ≤ level_of new ref
-  pub means : MeansBehind new ref front function
-  pub adds : AddsOnlyNodesOf old new ref
+record Behind (old : ArenaValue) (front : List Bool) (function : List Bool → ℕ) : Type 0 where
+  new : ArenaValue
+  ref : Ref
+  is : IsReduced new
+  kept : KeepsRefs old new
+  one : IsRef new ref
+  later : length front ≤ level_of new ref
+  means : MeansBehind new ref front function
+  adds : AddsOnlyNodesOf old new ref
 
 abbrev on : List Bool → Bool → List Bool
 on front value = front ++ value ∷ []
@@ -120,9 +119,6 @@ value_behind (first ∷ front) values value = value_behind front values value
 
 module _ (old : ArenaValue) (front : List Bool) (function : List Bool → ℕ) (low : Behind old (on front false) function) (high : Behind low.new (on front true) function)
     (inner : length front < old.slots) where
-  slots_low : low.new.slots ≡ old.slots
-  slots_low = low.kept.slots
-
   slots_high : high.new.slots ≡ old.slots
   slots_high = high.kept.slots ∙ low.kept.slots
 
@@ -210,7 +206,7 @@ module _ (old : ArenaValue) (front : List Bool) (function : List Bool → ℕ) (
           means (true ∷ values) size = goes true values ∙ high_means values (size ∙ placed.kept.slots)
 
 -- by the number of slots that are left
-pub some_diagram : (rest : ℕ) (old : ArenaValue) (front : List Bool) (function : List Bool → ℕ)
+some_diagram : (rest : ℕ) (old : ArenaValue) (front : List Bool) (function : List Bool → ℕ)
     → IsReduced old → length front + rest ≡ old.slots → Behind old front function
 some_diagram zero old front function is size = record {
   new = old;
@@ -253,15 +249,15 @@ as_table-reading slots table size =
     ∙ ap (λ at. get_or table at 0) (bits_of-letter_of slots place below)
     ∙ get_or_default table place 0 d (omega arith))
 
-pub record Drawn (slots limit : ℕ) (tables : List (List ℕ)) : Type 0 where
-  pub arena : ArenaValue
-  pub refs : List Ref
-  pub same_slots : arena.slots ≡ slots
-  pub same_limit : arena.limit ≡ limit
-  pub is : IsReduced arena
-  pub ones : All (IsRef arena) refs
-  pub mean : map (table_of arena) refs ≡ tables
-  pub only : HasOnlyNodesOf arena refs
+record Drawn (slots limit : ℕ) (tables : List (List ℕ)) : Type 0 where
+  arena : ArenaValue
+  refs : List Ref
+  same_slots : arena.slots ≡ slots
+  same_limit : arena.limit ≡ limit
+  is : IsReduced arena
+  ones : All (IsRef arena) refs
+  mean : map (table_of arena) refs ≡ tables
+  only : HasOnlyNodesOf arena refs
 
 -- the tables of refs that are kept
 tables_kept : (old new : ArenaValue) (refs : List Ref) → KeepsRefs old new → All (IsRef old) refs → map (table_of new) refs ≡ map (table_of old) refs
@@ -329,7 +325,6 @@ all_drawn slots limit (table ∷ tables) sizes =
 
 pub record AreDiagramsOf (slots : ℕ) (tables : List (List ℕ)) (arena : ArenaValue) (refs : List Ref) : Type 0 where
   pub same_slots : arena.slots ≡ slots
-  pub limit : arena.limit ≡ node_count slots tables
   pub count : length arena.nodes ≡ node_count slots tables
   pub is : IsArena arena
   pub ones : All (IsRef arena) refs
@@ -346,7 +341,6 @@ some_diagrams slots tables narrow sizes few =
       drawn.refs,
       record {
         same_slots = drawn.same_slots;
-        limit = drawn.same_limit;
         count = count;
         is = record {
           slots = omega (arith, drawn.same_slots);

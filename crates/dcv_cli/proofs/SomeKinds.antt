@@ -1,8 +1,5 @@
 -- Each formula file that is within the limits has a right report of each kind: its models have a canonical automaton, and that has a text.
---     HasAutomaton     the models of a file have an automaton that has a file
---     some_file        so it is where all steps are within the limits
---     some_report      the report of a kind
---     some_budgeted    or the outcome that names the first step that is over the limits
+--     some_budgeted    the report of a kind, or the outcome that names the first step that is over the limits
 use Rattle.std.proofs.Common.{◌≡◌, inl, inr, ℕ, List, [], length, refl, sym, ◌∙◌, arith}
 use Rattle.std.proofs.lemmas.List.{length-map}
 use Rattle.dcv_word.specs.Behaviour.{Word}
@@ -43,8 +40,8 @@ use Rattle.dcv_cli.specs.Status.{status_of_verdict}
 use Rattle.dcv_cli.specs.declared.refused.Which.TheVariants.{Only}
 use Rattle.dcv_cli.proofs.SomeAutomata.{some_automaton}
 use Rattle.dcv_cli.proofs.SomeBounds.{within_of_file}
-use Rattle.dcv_cli.proofs.SomeBudgets.{counts_within, table_of_core}
-use Rattle.dcv_cli.proofs.SomeReports.{over_or_within}
+use Rattle.dcv_cli.proofs.SomeBudgets.{counts_within}
+use Rattle.dcv_cli.proofs.SomeReports.{table_of_file, over_or_within}
 use Rattle.dcv_cli.proofs.SomeTexts.{some_text}
 use Rattle.dcv_cli.proofs.SomeVerdicts.{some_verdict}
 use Rattle.dcv_cli.proofs.StepCounts.{printable_counts}
@@ -52,14 +49,14 @@ use Rattle.dcv_cli.proofs.TableBounds.{IsTableWithin}
 use Rattle.dcv_cli.proofs.VariableNames.{none_of_both, are_names}
 
 -- an automaton of the models of a formula file, with their canonical table
-pub record HasAutomaton (file : PlainFile) : Type 0 where
-  pub table : Table
-  pub access : List Word
-  pub canonical : IsCanonical (length file.variables) (models file) table access
-  pub raw : RawValue
-  pub has_file : HasFile raw (texts_of file.variables)
-  pub slots : raw.arena.slots ≡ length file.variables
-  pub accepts : HaveSameBehaviours (length file.variables) (raw_accepts raw) (models file)
+record HasAutomaton (file : PlainFile) : Type 0 where
+  table : Table
+  access : List Word
+  canonical : IsCanonical (length file.variables) (models file) table access
+  raw : RawValue
+  has_file : HasFile raw (texts_of file.variables)
+  slots : raw.arena.slots ≡ length file.variables
+  accepts : HaveSameBehaviours (length file.variables) (raw_accepts raw) (models file)
 
 module _ (accept : MachineAcceptsStep) (models_are : WordsAreModels) (short : NamesAreShort)
     (text : List ℕ) (file : PlainFile) (formula : IsFormulaFile text file) (limits : Limits) (range : AreInRange limits)
@@ -90,14 +87,10 @@ module _ (accept : MachineAcceptsStep) (models_are : WordsAreModels) (short : Na
         accepts = made.exact;
       }
 
-  pub some_file : HasAutomaton file
+  some_file : HasAutomaton file
   some_file =
-      let k = length file.variables in
-      let (table, (access, canonical)) = table_of_core k (core_of_file file) limits within in
-      let unbound = no_bound_shift file (none_of_both (fault_of_names file) (fault_of_goal file) formula.has_core).1 in
-      let of_models =
-      canonical_for_same_behaviours k (words_of (core_of_file file)) (models file) table access (λ word behaves. models_are file word unbound behaves) canonical in
-      file_of_table table access (within_of_file accept models_are limits file formula.has_core within table access of_models) of_models
+      let (table, (access, canonical)) = table_of_file models_are limits file formula.has_core within in
+      file_of_table table access (within_of_file accept models_are limits file formula.has_core within table access canonical) canonical
 
   module _ (laws : WordLaws) (outside_is : ComplementIsCanonical) (steps_are_few : StepsAreFew)
       (printed : PrintedIsAutomaton) (say_node : FileSaysNode) (say_unit : FileSaysUnit) (move : AutomatonOfSameBehaviours) where
@@ -111,7 +104,7 @@ module _ (accept : MachineAcceptsStep) (models_are : WordsAreModels) (short : Na
           record { verdict = verdict; is_verdict = is; status = refl; counts = counts; are_counts = are; says = says; no_message = refl },
         )
 
-    pub some_report : (kind : Kind) → (outcome : Outcome) × IsReport kind limits file outcome
+    some_report : (kind : Kind) → (outcome : Outcome) × IsReport kind limits file outcome
     some_report kind =
         let has = some_file in
         let (verdict, is) = some_verdict laws outside_is (length file.variables) (models file) has.table has.access has.canonical in

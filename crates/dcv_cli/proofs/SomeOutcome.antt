@@ -98,7 +98,8 @@ module _ (some_reading : SomeReading) where
 abbrev RefusedOrAutomaton : List ℕ → Type 0
 RefusedOrAutomaton text = ((refusal : Refusal) × IsRefusedAutomaton text refusal) ⊎ ((file : AutomatonFile) × IsAutomatonText text file)
 
-kept_or_broken : (text : List ℕ) (file : AutomatonFile) → length text ≤ most_automaton_bytes → HasForm text file → (broken : Option ℕ) → first_broken 0 (judged_words file) ≡ broken
+kept_or_broken : (text : List ℕ) (file : AutomatonFile) → length text ≤ most_automaton_bytes → HasForm text file → (broken : Option ℕ)
+    → first_broken 0 (judged_words file) ≡ broken
     → RefusedOrAutomaton text
 kept_or_broken text file short form None is = inr (file, record { fits = short; form = form; good = is })
 kept_or_broken text file short form (Some at) is = inl (AutomatonRefusal (Table at), BreaksARule short file form at is refl)
@@ -174,7 +175,8 @@ module _ (some_reading : SomeReading) (reports : SomeReport) (syntheses : SomeSy
     (words_ask : TakenWordsAsk) (some_node : SomeNode) (some_unit : SomeUnit) (some_verdict : SomeVerdict) (answered : GoodLinesAreAnswered) where
   -- ---- a formula file
 
-  on_text : (which : Which) (RightFor : PlainFile → Outcome → Type 0) (text : List ℕ) → ((file : PlainFile) → IsFormulaFile text file → (outcome : Outcome) × RightFor file outcome)
+  on_text : (which : Which) (RightFor : PlainFile → Outcome → Type 0) (text : List ℕ)
+      → ((file : PlainFile) → IsFormulaFile text file → (outcome : Outcome) × RightFor file outcome)
       → (outcome : Outcome) × OnText text which RightFor outcome
   on_text which RightFor text right = elim (refused_or_file some_reading text) [
     | inl refusal ↦ (refused refusal.0 which, Refused refusal.0 refusal.1 refl)
@@ -194,7 +196,8 @@ module _ (some_reading : SomeReading) (reports : SomeReport) (syntheses : SomeSy
       (λ text is. on_text Only (IsSynthesised inputs limits) text (syntheses inputs limits range text))
 
   -- two files
-  implies_held : (first second : List ℕ) (limits : Limits) (held : Texts) → IsSome (held 0 first) → IsSome (held 1 second) → (outcome : Outcome) × Fulfils (Implies first second limits) held outcome
+  implies_held : (first second : List ℕ) (limits : Limits) (held : Texts) → IsSome (held 0 first) → IsSome (held 1 second)
+      → (outcome : Outcome) × Fulfils (Implies first second limits) held outcome
   implies_held first second limits held there other =
       held_under (λ text. OnText text First (λ one. OnHeld (held 1) second (λ other_text. OnText other_text Second (IsCompared limits one)))) (held 0) first there
       (λ text is. on_text First (λ one. OnHeld (held 1) second (λ other_text. OnText other_text Second (IsCompared limits one))) text
@@ -212,7 +215,8 @@ module _ (some_reading : SomeReading) (reports : SomeReport) (syntheses : SomeSy
   convert_held name to held there =
       held_under (λ text. OnAutomaton text (IsConverted to)) (held 0) name there (λ text is. on_automaton (IsConverted to) text (λ file read. some_conversion to file))
 
-  replay_held : (subset : Subset) (observer trace : List ℕ) (held : Texts) → IsSome (held 0 observer) → IsSome (held 1 trace) → (outcome : Outcome) × Fulfils (Replay subset observer trace) held outcome
+  replay_held : (subset : Subset) (observer trace : List ℕ) (held : Texts) → IsSome (held 0 observer) → IsSome (held 1 trace)
+      → (outcome : Outcome) × Fulfils (Replay subset observer trace) held outcome
   replay_held subset observer trace held there other = by (held 0 observer) (held 1 trace) there other
     where
       by : (text trace_text : Option (List ℕ)) → IsSome text → IsSome trace_text

@@ -1,12 +1,14 @@
 -- A function of states and inputs has rows: for each of these states a diagram of the function there.
---     RowsFor n bound states f rows    a row over n inputs for each state, with the numbers of the function, below the bound, and no node of any other
+--     tables_for n states f            the tables of the function at these states
+--     StaysBelow n bound f state       at each input the number is below the bound
+--     RowsFor n bound states f rows    a row over n inputs for each state, with the numbers of the function, below the bound, and as many nodes as it has
 --     some_rows                        so there are some, where the number of nodes fits
 use Rattle.std.proofs.Common.{◌≡◌, ℕ, ◌^◌, ◌<◌, ◌≤◌, Bool, List, [], length, map, get_or, All, sym, ap, ◌∙◌, subst, arith}
 use Rattle.std.proofs.lemmas.List.{length-map, get_or-map}
 use Rattle.std.proofs.lemmas.Option.{get_or_from_slice_get, slice_get_within}
 use Rattle.dcv_word.specs.Letter.{letters_of_width}
 use Rattle.dcv_word.proofs.AllLetters.{length-letters_of_width}
-use Rattle.dcv_arena.specs.Arena.{ArenaValue, value_of, table_of, HasOnlyNodesOf}
+use Rattle.dcv_arena.specs.Arena.{ArenaValue, value_of, table_of}
 use Rattle.dcv_arena.specs.Diagram.{as_table, node_count}
 use Rattle.dcv_arena.specs.declared.nodes.Ref.{Ref}
 use Rattle.dcv_arena.specs.declared.nodes.Ref.TheVariants.{Leaf}
@@ -14,19 +16,15 @@ use Rattle.dcv_arena.proofs.Tables.{same_values}
 use Rattle.dcv_synth.specs.Control.{RowsValue, IsRows, AreRowsBelow, AreRowsOf}
 use Rattle.dcv_cli.proofs.SomeDiagrams.{AreDiagramsOf, some_diagrams}
 
--- the tables of a function at these states
 abbrev pub tables_for : ℕ → List ℕ → (ℕ → List Bool → ℕ) → List (List ℕ)
 tables_for n states f = map (λ state. as_table n (f state)) states
 
--- at each input the number is below the bound
 abbrev pub StaysBelow : ℕ → ℕ → (ℕ → List Bool → ℕ) → ℕ → Type 0
 StaysBelow n bound f state = (input : List Bool) → length input ≡ n → f state input < bound
 
 pub record RowsFor (n bound : ℕ) (states : List ℕ) (f : ℕ → List Bool → ℕ) (rows : RowsValue) : Type 0 where
-  pub are : IsRows rows
   pub rows_of : AreRowsOf n states f rows
   pub below : AreRowsBelow bound states rows
-  pub only : HasOnlyNodesOf rows.arena rows.rows
   pub nodes : length rows.arena.nodes ≡ node_count n (tables_for n states f)
 
 -- a ref with the table of a function has its numbers
@@ -52,11 +50,10 @@ module _ (n bound : ℕ) (states : List ℕ) (f : ℕ → List Bool → ℕ) (ar
       ∙ ap (λ tables. get_or tables place []) drawn.mean
       ∙ get_or-map (λ state. as_table n (f state)) states place 0 [] within) input width
 
-  pub rows_for : RowsFor n bound states f made
+  rows_for : RowsFor n bound states f made
   rows_for =
       let are : IsRows made = record { arena = drawn.is; refs = drawn.ones } in
       record {
-        are = are;
         rows_of = record {
           slots = drawn.same_slots;
           count = count_of_refs;
@@ -72,7 +69,6 @@ module _ (n bound : ℕ) (states : List ℕ) (f : ℕ → List Bool → ℕ) (ar
               let size : length input ≡ n = width ∙ drawn.same_slots in
               subst (λ number. number < bound) (sym (value_at place d input inside size)) (below place 0 inside input size);
         };
-        only = drawn.only;
         nodes = drawn.count;
       }
 

@@ -2,8 +2,7 @@
 -- suffix by a letter and an earlier one.
 --     SpelledSuffixes listed      suffixes that spell these words
 --     some_suffixes               a certificate's words have such
---     spelled_state               how the access word of a state is spelled
---     some_spellings              and those of all
+--     some_spellings              how the access words of all states are spelled
 use Rattle.std.proofs.Common.{◌≡◌, ◌⊎◌, inl, inr, ℕ, zero, suc, ◌+◌, ◌-◌, ◌<◌, Bool, List, [], ◌∷◌, ◌++◌, length, drop, get_or, slice_get, Some, refl, sym, ap, ◌∙◌, subst, arith}
 use Rattle.std.proofs.lemmas.Bool.{cases_lt, cases_order}
 use Rattle.std.proofs.lemmas.List.{append-nil, append_assoc, length-append, length-drop, get_or_default}

@@ -1,4 +1,5 @@
--- A table's automaton can be held for ever, or it has a strategy of least moves.
+-- Of each table one side has its answer.
+--     some_synthesis      the table's automaton can be held for ever, or it has a strategy of least moves
 use Rattle.std.proofs.Common.{◌≡◌, ◌⊎◌, inl, inr, ℕ, ◌<◌, ◌≤◌, ◌^◌, false, length, ap, arith}
 use Rattle.std.proofs.lemmas.List.{get_or_past}
 use Rattle.dcv_language.specs.Table.{Table, TableState, no_state, is_accepting, automaton_of}
@@ -15,7 +16,8 @@ module _ (not_beaten : HeldStatesAreNotBeaten) (win : UnbeatenStatesAreWin) (hel
     rejects : (state : ℕ) → length table ≤ state → is_accepting table state ≡ false
     rejects state past = ap (λ (s : TableState). s.accepting) (get_or_past table state no_state past)
 
-    strategy_of_rank : length table < 2 ^ 63 → (rank : ℕ) → IsRank n m (automaton_of table) 0 rank → (strategy : Strategy) × IsUnrealisable n m (automaton_of table) strategy
+    strategy_of_rank : length table < 2 ^ 63 → (rank : ℕ) → IsRank n m (automaton_of table) 0 rank
+        → (strategy : Strategy) × IsUnrealisable n m (automaton_of table) strategy
     strategy_of_rank few rank is =
         let (moves, (are, short)) = some_moves n m (automaton_of table) (length table) rejects not_beaten win held rank is some in
         let within : length moves < 2 ^ 63 = omega arith in

@@ -29,7 +29,7 @@ use Rattle.dcv_cli.specs.Synthesis.{can_be_divided, IsSynthesisOf, IsSynthesised
 use Rattle.dcv_cli.proofs.SomeBounds.{within_of_file}
 use Rattle.dcv_cli.proofs.SomeBudgets.{table_of_core}
 use Rattle.dcv_cli.proofs.SomeControllers.{GameLaws, some_synthesis_of}
-use Rattle.dcv_cli.proofs.SomeReports.{over_or_within}
+use Rattle.dcv_cli.proofs.SomeReports.{table_of_file, over_or_within}
 use Rattle.dcv_cli.proofs.Syntheses.{AreDivided, divided, names_of_inputs, texts_of_some}
 use Rattle.dcv_cli.proofs.TableBounds.{IsTableWithin}
 use Rattle.dcv_cli.proofs.VariableNames.{none_of_both}
@@ -51,12 +51,10 @@ module _ (laws : WordLaws) (accept : MachineAcceptsStep) (models_are : WordsAreM
 
     within_limits : AreDivided inputs k → IsWithinBudget (steps_of_file file) limits → (outcome : Outcome) × IsSynthesisOf inputs file outcome
     within_limits are within =
-        let (table, (access, canonical)) = table_of_core k (core_of_file file) limits within in
-        let unbound = no_bound_shift file (none_of_both (fault_of_names file) (fault_of_goal file) none).1 in
+        let (table, (access, of_models)) = table_of_file models_are limits file none within in
         let some = are.some in
         let few = are.few in
         let width : k ≡ inputs + (k - inputs) = omega arith in
-        let of_models = canonical_for_same_behaviours k (words_of (core_of_file file)) (models file) table access (λ word behaves. models_are file word unbound behaves) canonical in
         let over_both = subst (λ count. IsCanonical count (models file) table access) width of_models in
         let bounds = subst (λ count. IsTableWithin count limits table) width (within_of_file accept models_are limits file none within table access of_models) in
         let states = bounds.states in

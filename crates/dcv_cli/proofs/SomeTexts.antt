@@ -1,8 +1,5 @@
 -- An automaton that has a file has a right text of each kind: of the canonical automaton itself, of its observers, and of all.
---     some_proof              words that show that the automaton has the fewest states, spelled
---     some_automaton_text     the text of the automaton of a set of behaviours
---     some_node, some_unit    the texts of its observers
---     some_text               the text of a kind
+--     some_text      the text of a kind, for a set of behaviours that the automaton accepts
 use Rattle.std.proofs.Common.{◌≡◌, ℕ, List, [], refl, sym, subst}
 use Rattle.dcv_count.specs.declared.Count.{Count}
 use Rattle.dcv_language.specs.Certificate.{IsCertificate}
@@ -37,13 +34,13 @@ use Rattle.dcv_cli.proofs.SomeCertificates.{some_certificate_of}
 use Rattle.dcv_cli.proofs.SomeSpellings.{some_spellings, some_suffixes}
 
 -- words of access and suffixes that show that the automaton has the fewest states
-pub record HasProof (raw : RawValue) : Type 0 where
-  pub access : List Access
-  pub suffixes : List Suffix
-  pub proof : IsProof raw access suffixes
+record HasProof (raw : RawValue) : Type 0 where
+  access : List Access
+  suffixes : List Suffix
+  proof : IsProof raw access suffixes
 
 module _ (laws : WordLaws) (raw : RawValue) (names : List (List ℕ)) (has_file : HasFile raw names) where
-  pub some_proof : HasProof raw
+  some_proof : HasProof raw
   some_proof =
       let k = raw.arena.slots in
       let L = raw_accepts raw in
@@ -67,7 +64,7 @@ module _ (laws : WordLaws) (raw : RawValue) (names : List (List ℕ)) (has_file 
 module _ (laws : WordLaws) (printed : PrintedIsAutomaton) (say_node : FileSaysNode) (say_unit : FileSaysUnit) (move : AutomatonOfSameBehaviours)
     (raw : RawValue) (names : List (List ℕ)) (has_file : HasFile raw names) (counts : List Count) (few : ArePrintableCounts counts)
     (k : ℕ) (L : Language) (slots : raw.arena.slots ≡ k) (accepts : HaveSameBehaviours k (raw_accepts raw) L) where
-  pub some_automaton_text : (text : List ℕ) × SaysAutomaton k L names counts text
+  some_automaton_text : (text : List ℕ) × SaysAutomaton k L names counts text
   some_automaton_text =
       let proof = some_proof laws raw names has_file in
       let file = printed_file raw names proof.access proof.suffixes counts in
@@ -81,10 +78,10 @@ module _ (laws : WordLaws) (printed : PrintedIsAutomaton) (say_node : FileSaysNo
   is_own_file : IsFileOf k L names own_file
   is_own_file = record { automaton = raw; has_file = has_file; slots = slots; accepts = accepts; is = refl }
 
-  pub some_node : (text : List ℕ) × SaysNode k L names text
+  some_node : (text : List ℕ) × SaysNode k L names text
   some_node = (lustre.text_of (node_of own_file), say_node k L names own_file is_own_file)
 
-  pub some_unit : (text : List ℕ) × SaysUnit k L names text
+  some_unit : (text : List ℕ) × SaysUnit k L names text
   some_unit = (c.text_of (unit_of own_file), say_unit k L names own_file is_own_file)
 
   pub some_all : (verdict : Verdict) → (text : List ℕ) × SaysAll k L names counts verdict text

@@ -1,7 +1,6 @@
 -- One of the two sides wins, from the states of an automaton of which only those below a number accept.
---     HasEnd bound                a bound behind which one letter more beats no further state that accepts
---     some_winner                 so the start can be held for ever, or it has a rank
---     some_moves                  where it has a rank there are the moves of all states, in order
+--     some_winner      the start can be held for ever, or it has a rank
+--     some_moves       where it has a rank there are the moves of all states, in order
 use Rattle.std.proofs.Common.{⊎_elim, ltb, ◌≡◌, ◌⊎◌, inl, inr, ℕ, zero, suc, ◌+◌, ◌<◌, ◌≤◌, Bool, true, false, not, ◌&&◌, ◌||◌, List, [], ◌∷◌, ◌++◌, length, get_or, length-append, Option, Some, None, Contains, refl, ap, sym, ◌∙◌, subst, arith}
 use Rattle.std.specs.Prelude.{if◌then◌else◌}
 use Rattle.std.proofs.lemmas.Bool.{true≢false, and_parts, and_from, or_left, or_right, cases_Bool, cases_lt, cases_eq, ltb-true, ltb-false}
@@ -110,7 +109,7 @@ module _ (n m : ℕ) (automaton : Automaton ℕ) where
 
   -- ---- ranks
 
-  pub some_rank : (bound state : ℕ) → beaten bound state ≡ true → (rank : ℕ) × IsRank n m automaton state rank
+  some_rank : (bound state : ℕ) → beaten bound state ≡ true → (rank : ℕ) × IsRank n m automaton state rank
   some_rank zero state e = absurd (true≢false (sym e))
   some_rank (suc bound) state e = by (some_rank bound state) (cases_Bool (beaten bound state))
     where
@@ -214,9 +213,10 @@ module _ (n m : ℕ) (automaton : Automaton ℕ) where
       by false a b is e = absurd (true≢false (sym is))
 
   module _ (states : ℕ) (rejects : (state : ℕ) → states ≤ state → automaton.accepting state ≡ false) where
-    pub record HasEnd : Type 0 where
-      pub bound : ℕ
-      pub stays : BeatsNoMore n m automaton bound
+    -- a bound behind which one letter more beats no further state that accepts
+    record HasEnd : Type 0 where
+      bound : ℕ
+      stays : BeatsNoMore n m automaton bound
 
     no_more : (bound : ℕ) → ((state : ℕ) → state < states → kept bound state ≡ kept (suc bound) state) → BeatsNoMore n m automaton bound
     no_more bound same state accepts = elim (cases_lt state states) [
@@ -233,7 +233,7 @@ module _ (n m : ℕ) (automaton : Automaton ℕ) where
         by later (inl same) = record { bound = bound; stays = no_more bound same.each }
         by later (inr fewer) = later (omega arith)
 
-    pub some_end : HasEnd
+    some_end : HasEnd
     some_end = end_within (suc (how_many (kept 0) states)) 0 (omega arith)
 
     -- ---- who wins

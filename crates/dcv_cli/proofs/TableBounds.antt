@@ -10,7 +10,7 @@ use Rattle.std.proofs.lemmas.Option.{slice_get-get_or, slice_get_within, get_or_
 use Rattle.std.proofs.lemmas.Simd.{map-map}
 use Rattle.dcv_word.specs.Behaviour.{Word, IsBehaviour}
 use Rattle.dcv_word.specs.Letter.{bits_of, letters_of_width}
-use Rattle.dcv_word.proofs.AllLetters.{length-letters_of_width, letters_of_width-once, letters_of_width-place}
+use Rattle.dcv_word.proofs.AllLetters.{letters_of_width-once, letters_of_width-place}
 use Rattle.dcv_arena.specs.Diagram.{node_count}
 use Rattle.dcv_arena.proofs.Members.{Contains-map, Contains-map_cases, Contains-flat_map, Contains-flat_map_cases}
 use Rattle.dcv_arena.proofs.Renumbered.{renumbered_no_more, tables_no_more}
@@ -29,17 +29,20 @@ use Rattle.dcv_explore.specs.Budget.{Row, IsWithin}
 use Rattle.dcv_explore.specs.Reached.{row_table, row_nodes}
 use Rattle.dcv_cli.proofs.Reaching.{AllFound, without, one_fewer, others_stay}
 use Rattle.dcv_cli.proofs.WordClasses.{st, st_more, reached_by, apart_not_alike}
+use Rattle.dcv_cli.proofs.SomeAutomata.{rows_of}
+use Rattle.dcv_cli.proofs.SomeDiagrams.{as_table-reading}
 use Rattle.dcv_cli.proofs.RowLimits.{contains_member, member_contained, all_found}
 
 -- ---- lists whose members are all among others
 
 module _ {X : Type 0} where
-  pub distinct_no_more : (xs ys : List X) → Ascends (λ first second. first ≢ second) xs → ((x : X) → Member x xs → Member x ys) → length xs ≤ length ys
+  distinct_no_more : (xs ys : List X) → Ascends (λ first second. first ≢ second) xs → ((x : X) → Member x xs → Member x ys) → length xs ≤ length ys
   distinct_no_more [] ys once among = omega arith
   distinct_no_more (x ∷ xs) ys once among =
       let there = among x (inl refl) in
       let sizes = one_fewer x ys there in
-      let rest = distinct_no_more xs (without x ys there) once.1 (λ other later. others_stay x ys there other (among other (inr later)) (λ same. once.0 other later (sym same))) in
+      let rest = distinct_no_more xs (without x ys there) once.1 (λ other later.
+      others_stay x ys there other (among other (inr later)) (λ same. once.0 other later (sym same))) in
       omega arith
 
 module _ {X Y : Type 0} (f : X → Y) where
@@ -54,18 +57,6 @@ module _ {X Y : Type 0} (f : X → Y) where
     (λ y later same. let found = Member-map_cases xs y later in differ x found.0 (order.0 found.0 found.1.0) (same ∙ found.1.1)),
     distinct_images R differ xs order.1,
   )
-
--- a row is the list of where the letters lead
-row_by_letters : (k : ℕ) (row : List ℕ) → length row ≡ 2 ^ k → row ≡ map (λ letter. get_or row (bits_of letter) 0) (letters_of_width k)
-row_by_letters k row size =
-    let letters = letters_of_width k in
-    let count = length-letters_of_width k in
-    let f : List Bool → ℕ = λ letter. get_or row (bits_of letter) 0 in
-    same_lists row (map f letters) (size ∙ sym count ∙ sym (length-map letters f))
-    (λ place default within.
-    let there : place < length letters = omega arith in
-    let at = (letters_of_width-once k place (get_or letters place []) (slice_get-get_or letters place [] there)).1 in
-    get_or_default row place default 0 within ∙ sym (ap (λ number. get_or row number 0) at) ∙ sym (get_or-map f letters place [] default there))
 
 module _ {S : Type 0} (machine : WorkingMachine S) (table : Table) (access : List Word) (canonical : IsCanonical machine.slots (accepts machine.automaton) table access) where
   abbrev k : ℕ
@@ -113,7 +104,7 @@ module _ {S : Type 0} (machine : WorkingMachine S) (table : Table) (access : Lis
 
   row_is : (state : ℕ) → state < length table → row_of table state ≡ map (λ letter. leads_to table (access_word access state ++ letter ∷ [])) (letters_of_width k)
   row_is state within =
-      row_by_letters k (row_of table state) (row_size state within)
+      sym (as_table-reading k (row_of table state) (row_size state within))
       ∙ same_table k (next_in table state) (λ letter. leads_to table (access_word access state ++ letter ∷ []))
       (λ letter width. sym (leads_more (access_word access state) letter ∙ ap (λ from. next_in table from letter) (leads_home state within)))
 
@@ -153,10 +144,11 @@ module _ {S : Type 0} (machine : WorkingMachine S) (table : Table) (access : Lis
         let (word, (among, is)) = Member-map_cases (st machine) access state there in
         subst (λ (s : S). Member s list) (sym is) (all.all (st machine word) (reached_by machine word (widths_of_member word among)))
 
-    pub no_more_states : length table ≤ length list
+    no_more_states : length table ≤ length list
     no_more_states =
         let few = distinct_no_more states_of_words list
-        (distinct_images (st machine) (AreApart k (accepts machine.automaton)) words_apart access (Ascends-from_pairs (AreApart k (accepts machine.automaton)) access canonical.apart)) reached_in in
+        (distinct_images (st machine) (AreApart k (accepts machine.automaton)) words_apart access
+        (Ascends-from_pairs (AreApart k (accepts machine.automaton)) access canonical.apart)) reached_in in
         let words = canonical.words in
         let images = length-map access (st machine) in
         omega arith
@@ -172,7 +164,8 @@ module _ {S : Type 0} (machine : WorkingMachine S) (table : Table) (access : Lis
       lookup [] n = 0
       lookup (word ∷ words) n = if nat_eq (number (st machine word)) n then leads_to table word else lookup words n
 
-      lookup_is : (words : List Word) → ((word : Word) → Member word words → IsBehaviour k word) → (word : Word) → Member word words → lookup words (number (st machine word)) ≡ leads_to table word
+      lookup_is : (words : List Word) → ((word : Word) → Member word words → IsBehaviour k word) → (word : Word) → Member word words
+          → lookup words (number (st machine word)) ≡ leads_to table word
       unfolding lookup
       lookup_is [] behave word there = absurd there
       lookup_is (first ∷ words) behave word there =
@@ -193,7 +186,8 @@ module _ {S : Type 0} (machine : WorkingMachine S) (table : Table) (access : Lis
 
       letter_there : (letter : List Bool) → length letter ≡ k → Contains (letters_of_width k) letter
       letter_there letter width =
-          let at : slice_get (letters_of_width k) (bits_of letter) ≡ Some letter = ap (λ n. slice_get (letters_of_width n) (bits_of letter)) (sym width) ∙ letters_of_width-place letter in
+          let at : slice_get (letters_of_width k) (bits_of letter) ≡ Some letter =
+          ap (λ n. slice_get (letters_of_width n) (bits_of letter)) (sym width) ∙ letters_of_width-place letter in
           (bits_of letter, slice_get_within (letters_of_width k) (bits_of letter) letter at, get_or_from_slice_get (letters_of_width k) (bits_of letter) letter letter at)
 
       goes_on_among : (word : Word) → Member word access → (letter : List Bool) → length letter ≡ k → Member (word ++ letter ∷ []) words_on
@@ -206,7 +200,8 @@ module _ {S : Type 0} (machine : WorkingMachine S) (table : Table) (access : Lis
       on_is_behaviour : (word : Word) → Member word words_on → IsBehaviour k word
       unfolding words_on
       on_is_behaviour word there =
-          let (front, among, goes) = Contains-flat_map_cases (λ (w : Word). map (λ (l : List Bool). w ++ l ∷ []) (letters_of_width k)) access word (contains_member words_on word there) in
+          let (front, among, goes) =
+          Contains-flat_map_cases (λ (w : Word). map (λ (l : List Bool). w ++ l ∷ []) (letters_of_width k)) access word (contains_member words_on word there) in
           let (letter, has, is) = Contains-map_cases (λ (l : List Bool). front ++ l ∷ []) (letters_of_width k) word goes in
           subst (λ (w : Word). IsBehaviour k w) is (goes_one_on front letter (widths_of_member front (member_contained access front among)) (width_of letter has))
         where
@@ -237,7 +232,7 @@ module _ {S : Type 0} (machine : WorkingMachine S) (table : Table) (access : Lis
           let words = canonical.words in
           row_is state within ∙ row_renumbered (access_word access state) (Member-at access state [] (omega arith))
 
-      rows_of_words : map (λ (state : TableState). state.row) table ≡ map row_of_word access
+      rows_of_words : rows_of table ≡ map row_of_word access
       rows_of_words =
           let words = canonical.words in
           let row : TableState → List ℕ = λ (state : TableState). state.row in
@@ -248,7 +243,7 @@ module _ {S : Type 0} (machine : WorkingMachine S) (table : Table) (access : Lis
           let word_there : state < length access = omega arith in
           get_or-map row table state no_state default there ∙ row_at_state state there ∙ sym (get_or-map row_of_word access state [] default word_there))
 
-      rows_are : map (λ (state : TableState). state.row) table ≡ map (map number_after) own_rows
+      rows_are : rows_of table ≡ map (map number_after) own_rows
       rows_are =
           rows_of_words
           ∙ sym (map-map (λ (state : S). map number_after (row_table machine number state)) (st machine) access)
@@ -260,7 +255,7 @@ module _ {S : Type 0} (machine : WorkingMachine S) (table : Table) (access : Lis
           subst (λ (r : List ℕ). Contains (map (row_table machine number) list) r) is
           (Contains-map (row_table machine number) list state (contains_member list state (reached_in state (member_contained states_of_words state has))))
 
-      pub no_more_nodes : node_count k (map (λ (state : TableState). state.row) table) ≤ row_nodes machine number list
+      no_more_nodes : node_count k (rows_of table) ≤ row_nodes machine number list
       no_more_nodes =
           let same = ap (node_count k) rows_are in
           let renumbered = renumbered_no_more number_after k own_rows in
@@ -271,7 +266,7 @@ module _ {S : Type 0} (machine : WorkingMachine S) (table : Table) (access : Lis
 
 pub record IsTableWithin (k : ℕ) (limits : Limits) (table : Table) : Type 0 where
   pub states : length table ≤ limits.states
-  pub nodes : node_count k (map (λ (state : TableState). state.row) table) ≤ limits.nodes
+  pub nodes : node_count k (rows_of table) ≤ limits.nodes
 
 pub within_of_row : (row : Row) (limits : Limits) → IsWithin row limits → (table : Table) (access : List Word)
     → IsCanonical row.machine.slots (accepts row.machine.automaton) table access → IsTableWithin row.machine.slots limits table
