@@ -2,7 +2,7 @@
 -- apart that none tells apart yet, that is the next one. There are finitely many pairs, so this ends; and then each word that tells two
 -- access words apart has a suffix that does, by induction on the word from its first letter.
 --     some_certificate_of      the certificate of a canonical table
-use Rattle.std.proofs.Common.{◌≡◌, ◌⊎◌, inl, inr, ℕ, zero, suc, ◌<◌, ◌≤◌, Bool, true, false, List, [], ◌∷◌, ◌++◌, length, get_or, refl, sym, ap, ◌∙◌, subst, arith, append-nil, append_assoc, length-append}
+use Rattle.std.proofs.Common.{◌≡◌, ◌⊎◌, inl, inr, ℕ, zero, suc, ◌<◌, ◌≤◌, Bool, List, [], ◌∷◌, ◌++◌, length, get_or, refl, sym, ap, ◌∙◌, subst, arith, append-nil, append_assoc, length-append}
 use Rattle.std.proofs.lemmas.Bool.{cases_lt}
 use Rattle.dcv_word.specs.Behaviour.{Word, IsBehaviour}
 use Rattle.dcv_language.specs.Apart.{TellsApart}

@@ -9,7 +9,6 @@ use Rattle.dcv_language.specs.Language.{HaveSameBehaviours}
 use Rattle.dcv_language.specs.Laws.{ComplementIsCanonical}
 use Rattle.dcv_language.specs.Table.{Table}
 use Rattle.dcv_language.specs.Verdict.{Verdict, IsVerdict}
-use Rattle.dcv_language.proofs.Canonicals.{canonical_for_same_behaviours}
 use Rattle.dcv_language.proofs.Words.{WordLaws}
 use Rattle.dcv_automaton_file.specs.Laws.{HasFile}
 use Rattle.dcv_automaton_text.specs.Rules.{AreNames}
@@ -17,7 +16,6 @@ use Rattle.dcv_build.specs.Budget.{IsWithinBudget}
 use Rattle.dcv_build.specs.Counts.{AreCounts}
 use Rattle.dcv_build.specs.Laws.{MachineAcceptsStep}
 use Rattle.dcv_command.specs.Request.{AreInRange}
-use Rattle.dcv_core.specs.Holds.{words_of}
 use Rattle.dcv_dfa.specs.Raw.{RawValue, raw_accepts}
 use Rattle.dcv_explore.specs.declared.explorer.Limits.{Limits}
 use Rattle.dcv_logic.specs.Models.{models}
@@ -27,10 +25,7 @@ use Rattle.dcv_print.specs.Printed.{texts_of}
 use Rattle.dcv_print.specs.declared.report.Kind.{Kind}
 use Rattle.dcv_reader.specs.Laws.{NamesAreShort}
 use Rattle.dcv_scope.specs.CoreOf.{core_of_file}
-use Rattle.dcv_scope.specs.Faults.{fault_of_goal}
 use Rattle.dcv_scope.specs.Laws.{WordsAreModels, StepsAreFew}
-use Rattle.dcv_scope.specs.Names.{fault_of_names}
-use Rattle.dcv_scope.proofs.Faulting.{no_bound_shift}
 use Rattle.dcv_syntax.specs.Plain.{PlainFile}
 use Rattle.dcv_cli.specs.Budget.{steps_of_file, IsBudgeted, WithinBudget}
 use Rattle.dcv_cli.specs.FormulaFile.{IsFormulaFile}
@@ -46,7 +41,7 @@ use Rattle.dcv_cli.proofs.SomeTexts.{some_text}
 use Rattle.dcv_cli.proofs.SomeVerdicts.{some_verdict}
 use Rattle.dcv_cli.proofs.StepCounts.{printable_counts}
 use Rattle.dcv_cli.proofs.TableBounds.{IsTableWithin}
-use Rattle.dcv_cli.proofs.VariableNames.{none_of_both, are_names}
+use Rattle.dcv_cli.proofs.VariableNames.{are_names}
 
 -- an automaton of the models of a formula file, with their canonical table
 record HasAutomaton (file : PlainFile) : Type 0 where

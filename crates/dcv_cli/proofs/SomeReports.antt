@@ -46,8 +46,6 @@ use Rattle.dcv_sweep.specs.SummaryText.{summary_text}
 use Rattle.dcv_sweep.specs.declared.findings.Finding.{Finding}
 use Rattle.dcv_sweep.specs.declared.findings.Finding.TheVariants.{Over as FoundOver, Within as FoundWithin}
 use Rattle.dcv_print.specs.Printed.{texts_of}
-use Rattle.dcv_language.specs.VerdictText.{verdict_text}
-use Rattle.dcv_print.specs.declared.report.Kind.TheVariants.{Check}
 use Rattle.dcv_cli.specs.declared.budget_line.Excess.{Excess}
 use Rattle.dcv_cli.specs.declared.budget_line.Excess.TheVariants.{States, Nodes}
 use Rattle.dcv_cli.specs.declared.budget_line.Over.{Over}
@@ -59,12 +57,10 @@ use Rattle.dcv_cli.specs.declared.status.Status.TheVariants.{Done}
 use Rattle.dcv_cli.specs.Budget.{steps_of_file, kind_of, limit_of, IsFirstOver, IsBudgeted, OverBudget, WithinBudget}
 use Rattle.dcv_cli.specs.Comparison.{compared, have_same_texts, IsDifference, OverProduct, WithinProduct, IsCompared, Undeclared, Declared}
 use Rattle.dcv_cli.specs.Outcome.{Outcome, refused}
-use Rattle.dcv_cli.specs.Report.{IsReport}
-use Rattle.dcv_cli.specs.Status.{status_of_verdict}
 use Rattle.dcv_cli.specs.Swept.{default_limits, IsSwept}
 use Rattle.dcv_cli.proofs.Comparisons.{names_same, names_differ}
 use Rattle.dcv_cli.proofs.RowLimits.{within_or_exceeds, table_of_row}
-use Rattle.dcv_cli.proofs.SomeBudgets.{some_budget, counts_within, table_of_core}
+use Rattle.dcv_cli.proofs.SomeBudgets.{some_budget, table_of_core}
 use Rattle.dcv_cli.proofs.SomeVerdicts.{some_least, some_verdict}
 use Rattle.dcv_cli.proofs.VariableNames.{none_of_both}
 

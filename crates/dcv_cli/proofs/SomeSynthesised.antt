@@ -5,19 +5,14 @@ use Rattle.std.proofs.Common.{◌≡◌, ◌⊎◌, inl, inr, ℕ, ◌+◌, ◌-
 use Rattle.std.proofs.lemmas.List.{length-map, length-take}
 use Rattle.dcv_automaton_file.specs.File.{texts_of}
 use Rattle.dcv_automaton_text.specs.Rules.{AreNames}
-use Rattle.dcv_core.specs.Holds.{words_of}
 use Rattle.dcv_explore.specs.declared.explorer.Limits.{Limits}
 use Rattle.dcv_build.specs.Budget.{IsWithinBudget}
 use Rattle.dcv_build.specs.Laws.{MachineAcceptsStep}
 use Rattle.dcv_language.specs.Canonical.{IsCanonical}
-use Rattle.dcv_language.proofs.Canonicals.{canonical_for_same_behaviours}
 use Rattle.dcv_language.proofs.Words.{WordLaws}
 use Rattle.dcv_logic.specs.Models.{models}
-use Rattle.dcv_scope.specs.CoreOf.{core_of_file}
-use Rattle.dcv_scope.specs.Faults.{fault_of_file, fault_of_goal}
+use Rattle.dcv_scope.specs.Faults.{fault_of_file}
 use Rattle.dcv_scope.specs.Laws.{WordsAreModels}
-use Rattle.dcv_scope.specs.Names.{fault_of_names}
-use Rattle.dcv_scope.proofs.Faulting.{no_bound_shift}
 use Rattle.dcv_syntax.specs.Plain.{PlainFile}
 use Rattle.dcv_syntax.specs.declared.names.Name.{Name}
 use Rattle.dcv_cli.specs.declared.refusal.Refusal.TheVariants.{Formula}
@@ -27,12 +22,10 @@ use Rattle.dcv_cli.specs.Budget.{steps_of_file, IsBudgeted, WithinBudget}
 use Rattle.dcv_cli.specs.Outcome.{Outcome, refused}
 use Rattle.dcv_cli.specs.Synthesis.{can_be_divided, IsSynthesisOf, IsSynthesised, Undivided, Divided}
 use Rattle.dcv_cli.proofs.SomeBounds.{within_of_file}
-use Rattle.dcv_cli.proofs.SomeBudgets.{table_of_core}
 use Rattle.dcv_cli.proofs.SomeControllers.{GameLaws, some_synthesis_of}
 use Rattle.dcv_cli.proofs.SomeReports.{table_of_file, over_or_within}
 use Rattle.dcv_cli.proofs.Syntheses.{AreDivided, divided, names_of_inputs, texts_of_some}
 use Rattle.dcv_cli.proofs.TableBounds.{IsTableWithin}
-use Rattle.dcv_cli.proofs.VariableNames.{none_of_both}
 
 -- the inputs have as many names
 inputs_named : (n : ℕ) (names : List Name) → n ≤ length names → length (take n (texts_of names)) ≡ n

@@ -1,10 +1,10 @@
 -- A canonical table has no more states than the machine whose words it accepts, and its rows have no more nodes than the machine's.
 --     IsTableWithin k limits table      the table's states and its rows' nodes are within the limits
 --     within_of_row                     so it is with the table of a row that is within them
-use Rattle.std.proofs.Common.{◌≡◌, ◌≢◌, ◌⊎◌, inl, inr, ℕ, ◌<◌, ◌≤◌, ◌^◌, Bool, true, false, nat_eq, Some, slice_get, if◌then◌else◌, List, [], ◌∷◌, ◌++◌, length, length-append, map, get_or, Contains, refl, sym, ap, ◌∙◌, subst, arith}
+use Rattle.std.proofs.Common.{◌≡◌, ◌≢◌, ◌⊎◌, inl, inr, ℕ, ◌<◌, ◌≤◌, ◌^◌, Bool, true, false, nat_eq, Some, slice_get, if◌then◌else◌, List, [], ◌∷◌, ◌++◌, length, length-append, map, Contains, refl, sym, ap, ◌∙◌, subst, arith}
 use Rattle.std.specs.List.{flat_map}
 use Rattle.std.proofs.lemmas.Bool.{cases_eq, eqb-true, eq-eqb}
-use Rattle.std.proofs.lemmas.List.{same_lists, length-map, get_or-map, get_or_default}
+use Rattle.std.proofs.lemmas.List.{same_lists, length-map, get_or-map}
 use Rattle.std.proofs.lemmas.List.Elements.{All-nil}
 use Rattle.std.proofs.lemmas.Option.{slice_get-get_or, slice_get_within, get_or_from_slice_get}
 use Rattle.std.proofs.lemmas.Simd.{map-map}
