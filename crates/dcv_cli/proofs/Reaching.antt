@@ -1,5 +1,6 @@
 -- The states that words reach in a machine, found one after another: all of them, where they are in a list or no more than a limit.
---     each_letter_or, each_member_or    something is so of all, or of one it is not
+--     letters_or, each_or               something is so of all letters or members, or something else is found
+--     each_letter_or, each_member_or    or of one it is not so
 --     AllFound machine list             the list has all states that are reached, each once
 --     found_within                      they are found where each is in some list
 --     found_or_more                     or where there are no more than a limit; else there are more
@@ -11,36 +12,54 @@ use Rattle.dcv_language.proofs.Runs.{reached_has, start_is_reached, next_is_reac
 
 -- ---- searches
 
+no_letter : (letter : List Bool) → length letter ≡ 0 → [] ≡ letter
+no_letter [] none = refl
+no_letter (value ∷ letter) none = absurd (omega arith)
+
+pub letters_or : (k : ℕ) (P : List Bool → Type 0) (Q : Type 0) → ((letter : List Bool) → length letter ≡ k → P letter ⊎ Q)
+    → ((letter : List Bool) → length letter ≡ k → P letter) ⊎ Q
+letters_or zero P Q decide = elim (decide [] refl) [ inl holds ↦ inl (λ letter width. subst P (no_letter letter width) holds) | inr found ↦ inr found ]
+letters_or (suc k) P Q decide =
+    by (letters_or k (λ letter. P (false ∷ letter)) Q (λ letter width. decide (false ∷ letter) (omega arith)))
+    (letters_or k (λ letter. P (true ∷ letter)) Q (λ letter width. decide (true ∷ letter) (omega arith)))
+  where
+    all : ((letter : List Bool) → length letter ≡ k → P (false ∷ letter)) → ((letter : List Bool) → length letter ≡ k → P (true ∷ letter))
+        → (letter : List Bool) → length letter ≡ suc k → P letter
+    all low high [] width = absurd (omega arith)
+    all low high (false ∷ letter) width = low letter (omega arith)
+    all low high (true ∷ letter) width = high letter (omega arith)
+
+    by : (((letter : List Bool) → length letter ≡ k → P (false ∷ letter)) ⊎ Q) → (((letter : List Bool) → length letter ≡ k → P (true ∷ letter)) ⊎ Q)
+        → ((letter : List Bool) → length letter ≡ suc k → P letter) ⊎ Q
+    by (inr found) high = inr found
+    by (inl low) (inr found) = inr found
+    by (inl low) (inl high) = inl (all low high)
+
 -- a letter of which it is not so
 pub record SomeLetter (k : ℕ) (P : List Bool → Type 0) : Type 0 where
   pub letter : List Bool
   pub width : length letter ≡ k
   pub fails : P letter → ⊥
 
-no_letter : (letter : List Bool) → length letter ≡ 0 → [] ≡ letter
-no_letter [] none = refl
-no_letter (value ∷ letter) none = absurd (omega arith)
-
 pub each_letter_or : (k : ℕ) (P : List Bool → Type 0) → ((letter : List Bool) → length letter ≡ k → P letter ⊎ (P letter → ⊥))
     → ((letter : List Bool) → length letter ≡ k → P letter) ⊎ SomeLetter k P
-each_letter_or zero P decide = elim (decide [] refl) [
-  | inl holds ↦ inl (λ letter width. subst P (no_letter letter width) holds)
-  | inr fails ↦ inr (record { letter = []; width = refl; fails = fails })
-]
-each_letter_or (suc k) P decide =
-    by (each_letter_or k (λ letter. P (false ∷ letter)) (λ letter width. decide (false ∷ letter) (omega arith)))
-    (each_letter_or k (λ letter. P (true ∷ letter)) (λ letter width. decide (true ∷ letter) (omega arith)))
-  where
-    all : ((letter : List Bool) → length letter ≡ k → P (false ∷ letter)) → ((letter : List Bool) → length letter ≡ k → P (true ∷ letter)) → (letter : List Bool) → length letter ≡ suc k → P letter
-    all low high [] width = absurd (omega arith)
-    all low high (false ∷ letter) width = low letter (omega arith)
-    all low high (true ∷ letter) width = high letter (omega arith)
+each_letter_or k P decide = letters_or k P (SomeLetter k P) (λ letter width. elim (decide letter width) [
+  | inl holds ↦ inl holds
+  | inr fails ↦ inr (record { letter = letter; width = width; fails = fails })
+])
 
-    by : (((letter : List Bool) → length letter ≡ k → P (false ∷ letter)) ⊎ SomeLetter k (λ letter. P (false ∷ letter)))
-        → (((letter : List Bool) → length letter ≡ k → P (true ∷ letter)) ⊎ SomeLetter k (λ letter. P (true ∷ letter))) → ((letter : List Bool) → length letter ≡ suc k → P letter) ⊎ SomeLetter (suc k) P
-    by (inr low) high = inr (record { letter = false ∷ low.letter; width = (let width = low.width in omega arith); fails = low.fails })
-    by (inl low) (inr high) = inr (record { letter = true ∷ high.letter; width = (let width = high.width in omega arith); fails = high.fails })
-    by (inl low) (inl high) = inl (all low high)
+pub each_or : {X : Type 0} (P : X → Type 0) (Q : Type 0) (xs : List X) → ((x : X) → Member x xs → P x ⊎ Q) → ((x : X) → Member x xs → P x) ⊎ Q
+each_or P Q [] decide = inl (λ x there. absurd there)
+each_or {X} P Q (x ∷ xs) decide = by (decide x (inl refl)) (each_or P Q xs (λ y later. decide y (inr later)))
+  where
+    all : P x → ((y : X) → Member y xs → P y) → (y : X) → Member y (x ∷ xs) → P y
+    all holds others y (inl same) = subst P (sym same) holds
+    all holds others y (inr later) = others y later
+
+    by : (P x ⊎ Q) → (((y : X) → Member y xs → P y) ⊎ Q) → ((y : X) → Member y (x ∷ xs) → P y) ⊎ Q
+    by (inr found) others = inr found
+    by (inl holds) (inr found) = inr found
+    by (inl holds) (inl others) = inl (all holds others)
 
 -- a member of which it is not so
 pub record SomeMember {X : Type 0} (P : X → Type 0) (xs : List X) : Type 0 where
@@ -49,17 +68,10 @@ pub record SomeMember {X : Type 0} (P : X → Type 0) (xs : List X) : Type 0 whe
   pub fails : P one → ⊥
 
 pub each_member_or : {X : Type 0} (P : X → Type 0) (xs : List X) → ((x : X) → Member x xs → P x ⊎ (P x → ⊥)) → ((x : X) → Member x xs → P x) ⊎ SomeMember P xs
-each_member_or P [] decide = inl (λ x there. absurd there)
-each_member_or {X} P (x ∷ xs) decide = by (decide x (inl refl)) (each_member_or P xs (λ y later. decide y (inr later)))
-  where
-    all : P x → ((y : X) → Member y xs → P y) → (y : X) → Member y (x ∷ xs) → P y
-    all holds others y (inl same) = subst P (sym same) holds
-    all holds others y (inr later) = others y later
-
-    by : (P x ⊎ (P x → ⊥)) → (((y : X) → Member y xs → P y) ⊎ SomeMember P xs) → ((y : X) → Member y (x ∷ xs) → P y) ⊎ SomeMember P (x ∷ xs)
-    by (inr fails) others = inr (record { one = x; there = inl refl; fails = fails })
-    by (inl holds) (inr some) = inr (record { one = some.one; there = inr some.there; fails = some.fails })
-    by (inl holds) (inl others) = inl (all holds others)
+each_member_or P xs decide = each_or P (SomeMember P xs) xs (λ x there. elim (decide x there) [
+  | inl holds ↦ inl holds
+  | inr fails ↦ inr (record { one = x; there = there; fails = fails })
+])
 
 -- ---- a list without one of its members
 

@@ -1,15 +1,13 @@
 -- Each file of the form has an answer: what is asked of its words can be decided.
-use Rattle.std.proofs.Common.{◌≡◌, ◌⊎◌, inl, inr, ℕ, zero, suc, ◌<◌, ◌≤◌, List, [], ◌∷◌, ◌++◌, length, refl, sym, subst, arith}
+use Rattle.std.proofs.Common.{◌≡◌, ◌⊎◌, inl, inr, ℕ, zero, suc, ◌<◌, ◌≤◌, List, length, sym, subst, arith}
 use Rattle.std.proofs.lemmas.Bool.{cases_eq, cases_lt}
-use Rattle.dcv_word.specs.Behaviour.{Word, IsBehaviour}
+use Rattle.dcv_word.specs.Behaviour.{Word}
 use Rattle.dcv_language.specs.Language.{Language}
-use Rattle.dcv_language.specs.Apart.{TellsApart}
 use Rattle.dcv_language.specs.Certificate.{AreToldBy}
-use Rattle.dcv_language.proofs.Ascending.{Member, Member-from_IsAmong, IsAmong-from_Member}
+use Rattle.dcv_language.proofs.Ascending.{Member-from_IsAmong}
 use Rattle.dcv_automaton_text.specs.File.{AutomatonFile}
 use Rattle.dcv_automaton_text.specs.Meaning.{suffix_words_of}
-use Rattle.dcv_cli.proofs.LeastWords.{behaviour_or_not}
-use Rattle.dcv_cli.proofs.ToldApart.{same_truth}
+use Rattle.dcv_cli.proofs.ToldWords.{told_or_not, told_by}
 use Rattle.dcv_certify.specs.Certified.{set_of, word_at, landed, HasGoodWords, AreTold, IsPair, IsNoLaterPair, IsFirstPair, IsCertified}
 use Rattle.dcv_certify.specs.declared.answer.Answer.{Answer}
 use Rattle.dcv_certify.specs.declared.answer.Answer.TheVariants.{Minimal, Access, Pair}
@@ -35,41 +33,12 @@ all_or_first P decide (suc n) = one_more P n (decide n) (all_or_first P decide n
 
 -- ---- words that are told apart
 
-module _ (k : ℕ) (L : Language) (first second : Word) where
-  told_or_not : (suffix : Word) → TellsApart k L first second suffix ⊎ (TellsApart k L first second suffix → ⊥)
-  told_or_not suffix = by (behaviour_or_not k (first ++ suffix)) (behaviour_or_not k (second ++ suffix)) (same_truth (L (first ++ suffix)) (L (second ++ suffix)))
-    where
-      by : (IsBehaviour k (first ++ suffix) ⊎ (IsBehaviour k (first ++ suffix) → ⊥)) → (IsBehaviour k (second ++ suffix) ⊎ (IsBehaviour k (second ++ suffix) → ⊥))
-          → ((L (first ++ suffix) ≡ L (second ++ suffix)) ⊎ (L (first ++ suffix) ≡ L (second ++ suffix) → ⊥))
-          → TellsApart k L first second suffix ⊎ (TellsApart k L first second suffix → ⊥)
-      by (inr not) other same = inr (λ tells. not tells.first_goes_on)
-      by (inl one) (inr not) same = inr (λ tells. not tells.second_goes_on)
-      by (inl one) (inl other) (inl same) = inr (λ tells. tells.differ same)
-      by (inl one) (inl other) (inr differ) = inl (record { first_goes_on = one; second_goes_on = other; differ = differ })
-
-  record IsTold (suffixes : List Word) : Type 0 where
-    suffix : Word
-    listed : Member suffix suffixes
-    tells : TellsApart k L first second suffix
-
-  some_or_none : (suffixes : List Word) → IsTold suffixes ⊎ (IsTold suffixes → ⊥)
-  some_or_none [] = inr (λ told. absurd told.listed)
-  some_or_none (suffix ∷ suffixes) = by (told_or_not suffix) (some_or_none suffixes)
-    where
-      by : (TellsApart k L first second suffix ⊎ (TellsApart k L first second suffix → ⊥)) → (IsTold suffixes ⊎ (IsTold suffixes → ⊥))
-          → IsTold (suffix ∷ suffixes) ⊎ (IsTold (suffix ∷ suffixes) → ⊥)
-      by (inl tells) rest = inl (record { suffix = suffix; listed = inl refl; tells = tells })
-      by (inr not) (inl told) = inl (record { suffix = told.suffix; listed = inr told.listed; tells = told.tells })
-      by (inr not) (inr none) = inr (λ told. elim told.listed [
-        | inl same ↦ not (subst (TellsApart k L first second) same told.tells)
-        | inr later ↦ none (record { suffix = told.suffix; listed = later; tells = told.tells })
-      ])
-
-  told_by_or_not : (suffixes : List Word) → AreToldBy k L suffixes first second ⊎ (AreToldBy k L suffixes first second → ⊥)
-  told_by_or_not suffixes = elim (some_or_none suffixes) [
-    | inl told ↦ inl (record { suffix = told.suffix; listed = IsAmong-from_Member suffixes told.suffix told.listed; tells = told.tells })
-    | inr none ↦ inr (λ told. none (record { suffix = told.suffix; listed = Member-from_IsAmong suffixes told.suffix told.listed; tells = told.tells }))
-  ]
+told_by_or_not : (k : ℕ) (L : Language) (first second : Word) (suffixes : List Word)
+    → AreToldBy k L suffixes first second ⊎ (AreToldBy k L suffixes first second → ⊥)
+told_by_or_not k L first second suffixes = elim (told_or_not k L first second suffixes) [
+  | inl told ↦ inl (told_by k L first second suffixes told)
+  | inr none ↦ inr (λ told. none (record { suffix = told.suffix; there = Member-from_IsAmong suffixes told.suffix told.listed; tells = told.tells }))
+]
 
 -- ---- the answer of a file
 

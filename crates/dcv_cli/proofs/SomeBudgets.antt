@@ -29,7 +29,7 @@ use Rattle.dcv_cli.proofs.RowLimits.{within_or_exceeds, table_of_row}
 
 -- ---- the rows of earlier steps stay as they are where a table comes to the others
 
-abbrev table_at : List Table → ℕ → Table
+abbrev pub table_at : List Table → ℕ → Table
 table_at tables number = slice_index_or tables number []
 
 table_kept : (tables more : List Table) (number : ℕ) → number < length tables → table_at tables number ≡ table_at (tables ++ more) number
@@ -62,7 +62,7 @@ module _ (steps : List PlainStep) (n : ℕ) (step : PlainStep) (one other : List
   row_over (OpStar d) is here = by_one (λ table. star_row (star_machine step.slots (automaton_of table))) d is.is_before here
   row_over (OpExists d) is here = by_one (λ table. set_row (exists_machine step.slots (automaton_of table))) d is.is_before here
 
-row_slots : (op : PlainOp) (slots : ℕ) (tables : List Table) → (row_of op slots tables).machine.slots ≡ slots
+pub row_slots : (op : PlainOp) (slots : ℕ) (tables : List Table) → (row_of op slots tables).machine.slots ≡ slots
 row_slots (OpAtom basic) slots tables = own_slots basic
   where
     own_slots : (form : PlainBasic) → (atom_machine slots form).slots ≡ slots

@@ -1,5 +1,7 @@
--- Some outcome is right for all words, where the files that they name are held, or they ask for an automaton, an observer or a controller of a
--- formula file that is within the limits.
+-- Some outcome is right for all words, where the files that they name are held.
+--     SomeReport         each formula file has a right report of each kind, or a step that is the first over the limits
+--     SomeSynthesis      each formula file has a right answer where a controller is asked for
+--     some_outcome       with both, all words have a right outcome
 use Rattle.std.proofs.Common.{◌≡◌, ◌⊎◌, inl, inr, ℕ, ◌≤◌, Bool, true, false, List, [], ◌∷◌, length, Option, None, Some, refl, sym, subst, ◌∙◌, arith}
 use Rattle.std.proofs.lemmas.Bool.Decides.{nat_tests}
 use Rattle.std.specs.Prelude.{IsSome, IsSomeAnd, nat_le}
@@ -34,13 +36,13 @@ use Rattle.dcv_cli.specs.declared.faults.FormulaFault.TheVariants.{Length}
 use Rattle.dcv_cli.specs.declared.faults.AutomatonFault.TheVariants.{Length as AutomatonLength, Syntax, Table}
 use Rattle.dcv_cli.specs.declared.status.Status.TheVariants.{Usage, Done}
 use Rattle.dcv_cli.specs.AutomatonFile.{IsRefusedAutomaton, TooLong as TooLongAutomaton, HasNoForm, BreaksARule, IsAutomatonText, OnAutomaton, Refused as RefusedAutomaton, Read as ReadAutomaton}
-use Rattle.dcv_cli.specs.Budget.{IsBudgeted, WithinBudget}
+use Rattle.dcv_cli.specs.Budget.{IsBudgeted}
 use Rattle.dcv_cli.specs.Certificate.{IsCertificate, answer_words, status_of_answer}
 use Rattle.dcv_cli.specs.Comparison.{IsCompared}
 use Rattle.dcv_cli.specs.Conversion.{IsConverted, as_version}
 use Rattle.dcv_cli.specs.Report.{IsReport}
 use Rattle.dcv_cli.specs.FormulaFile.{IsRefused, TooLong, Faulty, HasNoCore, IsSentence, IsFormulaFile, OnText, Refused, Read}
-use Rattle.dcv_cli.specs.Laws.{AreHeld, IsHeldWithin, IsLeftOpen, SomeOutcome}
+use Rattle.dcv_cli.specs.Laws.{AreHeld, SomeOutcome}
 use Rattle.dcv_cli.specs.Held.{Texts, OnHeld}
 use Rattle.dcv_cli.specs.ObserverFile.{OnObserver}
 use Rattle.dcv_cli.specs.Outcome.{Outcome, refused}
@@ -48,22 +50,21 @@ use Rattle.dcv_cli.specs.Replayed.{IsReplay}
 use Rattle.dcv_cli.specs.Refusal.{most_bytes, most_automaton_bytes, refusal_of_reading, refusal_of_scope}
 use Rattle.dcv_cli.specs.declared.refused.Which.{Which}
 use Rattle.dcv_cli.specs.declared.refused.Which.TheVariants.{Only, First, Second}
-use Rattle.clap.specs.Words.{fault_of, Kinds}
+use Rattle.clap.specs.Words.{fault_of, subcommand_of, Kinds}
 use Rattle.dcv_command.specs.Laws.{TakenWordsAsk}
 use Rattle.dcv_command.specs.Program.{program}
 use Rattle.dcv_explore.specs.declared.explorer.Limits.{Limits}
 use Rattle.dcv_print.specs.declared.report.Kind.{Kind}
-use Rattle.dcv_print.specs.declared.report.Kind.TheVariants.{Check, Automaton, Lustre, C, All as AllTexts}
 use Rattle.std.specs.List.{All}
-use Rattle.dcv_command.specs.Request.{Request, Report, Certify, Convert, Implies, Synth, Replay, Sweep, IsTaken, request_of, files_of}
+use Rattle.dcv_command.specs.Request.{Request, Report, Certify, Convert, Implies, Synth, Replay, Sweep, AreInRange, AreInputsInRange, IsInRange, IsTaken, request_of, files_of}
+use Rattle.dcv_command.proofs.Ranges.{request_is_in_range}
 use Rattle.dcv_cli.specs.Request.{AsksFor}
 use Rattle.dcv_cli.specs.Right.{Fulfils, IsRight, Misused, Fulfilled}
-use Rattle.dcv_cli.specs.Synthesis.{IsSynthesised, IsSynthesisOf, can_be_divided, Undivided, Divided}
-use Rattle.dcv_cli.specs.declared.faults.FormulaFault.TheVariants.{Outputs}
+use Rattle.dcv_cli.specs.Synthesis.{IsSynthesised}
 use Rattle.dcv_cli.proofs.AutomatonForms.{some_form}
 use Rattle.dcv_cli.proofs.OneReplay.{some_replay}
 use Rattle.dcv_cli.proofs.SomeAnswers.{some_answer}
-use Rattle.dcv_cli.proofs.SomeReports.{over_or_within, some_check, some_sweep, some_comparison}
+use Rattle.dcv_cli.proofs.SomeReports.{some_sweep, some_comparison}
 
 -- ---- texts of formula files
 
@@ -97,7 +98,8 @@ module _ (some_reading : SomeReading) where
 abbrev RefusedOrAutomaton : List ℕ → Type 0
 RefusedOrAutomaton text = ((refusal : Refusal) × IsRefusedAutomaton text refusal) ⊎ ((file : AutomatonFile) × IsAutomatonText text file)
 
-kept_or_broken : (text : List ℕ) (file : AutomatonFile) → length text ≤ most_automaton_bytes → HasForm text file → (broken : Option ℕ) → first_broken 0 (judged_words file) ≡ broken
+kept_or_broken : (text : List ℕ) (file : AutomatonFile) → length text ≤ most_automaton_bytes → HasForm text file → (broken : Option ℕ)
+    → first_broken 0 (judged_words file) ≡ broken
     → RefusedOrAutomaton text
 kept_or_broken text file short form None is = inr (file, record { fits = short; form = form; good = is })
 kept_or_broken text file short form (Some at) is = inl (AutomatonRefusal (Table at), BreaksARule short file form at is refl)
@@ -149,12 +151,15 @@ some_conversion to file = (record { status = Done; out = spelled (as_version to 
 
 -- ---- what the words ask for
 
--- an outcome that is right for the request, or what is left open
-abbrev Answered : Request → Texts → Type 0
-Answered request held = ((outcome : Outcome) × Fulfils request held outcome) ⊎ IsLeftOpen request held
+-- each formula file has a right report of each kind, or a step that is the first over the limits
+abbrev pub SomeReport : Type 0
+SomeReport = (kind : Kind) (limits : Limits) → AreInRange limits → (text : List ℕ) (file : PlainFile) → IsFormulaFile text file
+    → (outcome : Outcome) × IsBudgeted limits Only (IsReport kind limits) file outcome
 
-abbrev Found : List (List ℕ) → Texts → Type 0
-Found words held = ((outcome : Outcome) × IsRight words held outcome) ⊎ ((request : Request) × AsksFor words request × IsLeftOpen request held)
+-- and a right answer where a controller is asked for
+abbrev pub SomeSynthesis : Type 0
+SomeSynthesis = (inputs : ℕ) (limits : Limits) → AreInputsInRange inputs limits → (text : List ℕ) (file : PlainFile) → IsFormulaFile text file
+    → (outcome : Outcome) × IsSynthesised inputs limits file outcome
 
 -- what is right for the text that is held is right for its name
 held_under : (OfText : List ℕ → Outcome → Type 0) (held : List ℕ → Option (List ℕ)) (name : List ℕ) → IsSome (held name)
@@ -165,85 +170,34 @@ held_under OfText held name there right = by (held name) refl there
     by None is some = absurd (true≢false (sym some))
     by (Some text) is some = right text is
 
--- the same, where something may be left open
-held_or_open : (OfText : List ℕ → Outcome → Type 0) (Open : Type 0) (held : List ℕ → Option (List ℕ)) (name : List ℕ) → IsSome (held name)
-    → ((text : List ℕ) → held name ≡ Some text → ((outcome : Outcome) × OfText text outcome) ⊎ Open) → ((outcome : Outcome) × OnHeld held name OfText outcome) ⊎ Open
-held_or_open OfText Open held name there right = by (held name) refl there
-  where
-    by : (text : Option (List ℕ)) → held name ≡ text → IsSome text → ((outcome : Outcome) × IsSomeAnd text (λ one. OfText one outcome)) ⊎ Open
-    by None is some = absurd (true≢false (sym some))
-    by (Some text) is some = right text is
-
-module _ (some_reading : SomeReading) (laws : WordLaws) (accept : MachineAcceptsStep) (outside_is : ComplementIsCanonical) (models_are : WordsAreModels) (none_included : NoneWhereIncluded)
-    (fewest : MinimalShowsFewestStates) (reached : MinimalReachesEachState)
+module _ (some_reading : SomeReading) (reports : SomeReport) (syntheses : SomeSynthesis) (laws : WordLaws) (accept : MachineAcceptsStep)
+    (outside_is : ComplementIsCanonical) (models_are : WordsAreModels) (none_included : NoneWhereIncluded) (fewest : MinimalShowsFewestStates) (reached : MinimalReachesEachState)
     (words_ask : TakenWordsAsk) (some_node : SomeNode) (some_unit : SomeUnit) (some_verdict : SomeVerdict) (answered : GoodLinesAreAnswered) where
   -- ---- a formula file
 
-  on_text : (which : Which) (RightFor : PlainFile → Outcome → Type 0) (text : List ℕ) → ((file : PlainFile) → IsFormulaFile text file → (outcome : Outcome) × RightFor file outcome)
+  on_text : (which : Which) (RightFor : PlainFile → Outcome → Type 0) (text : List ℕ)
+      → ((file : PlainFile) → IsFormulaFile text file → (outcome : Outcome) × RightFor file outcome)
       → (outcome : Outcome) × OnText text which RightFor outcome
   on_text which RightFor text right = elim (refused_or_file some_reading text) [
     | inl refusal ↦ (refused refusal.0 which, Refused refusal.0 refusal.1 refl)
     | inr read ↦ let found = right read.0 read.1 in (found.0, Read read.0 read.1 found.1)
   ]
 
-  text_or_open : (RightFor : PlainFile → Outcome → Type 0) (Open : Type 0) (text : List ℕ)
-      → ((file : PlainFile) → IsFormulaFile text file → ((outcome : Outcome) × RightFor file outcome) ⊎ Open) → ((outcome : Outcome) × OnText text Only RightFor outcome) ⊎ Open
-  text_or_open RightFor Open text right = elim (refused_or_file some_reading text) [
-    | inl refusal ↦ inl (refused refusal.0 Only, Refused refusal.0 refusal.1 refl)
-    | inr read ↦ elim (right read.0 read.1) [ inl found ↦ inl (found.0, Read read.0 read.1 found.1) | inr left ↦ inr left ]
-  ]
+  report_held : (kind : Kind) (limits : Limits) (name : List ℕ) (held : Texts) → AreInRange limits → IsSome (held 0 name)
+      → (outcome : Outcome) × Fulfils (Report kind name limits) held outcome
+  report_held kind limits name held range there =
+      held_under (λ text. OnText text Only (IsBudgeted limits Only (IsReport kind limits))) (held 0) name there
+      (λ text is. on_text Only (IsBudgeted limits Only (IsReport kind limits)) text (reports kind limits range text))
 
-  budgeted : (limits : Limits) (RightFor : PlainFile → Outcome → Type 0) (held : Texts) (name text : List ℕ) → held 0 name ≡ Some text → (file : PlainFile) → IsFormulaFile text file
-      → ((outcome : Outcome) × IsBudgeted limits Only RightFor file outcome) ⊎ IsHeldWithin held name limits
-  budgeted limits RightFor held name text there file formula = elim (over_or_within laws accept limits Only RightFor file) [
-    | inl over ↦ inl over
-    | inr within ↦ inr (record { text = text; there = there; file = file; formula = formula; within = within })
-  ]
-
-  -- a verdict
-  checked : (limits : Limits) (file : PlainFile) → fault_of_file file ≡ None → (outcome : Outcome) × IsBudgeted limits Only (IsReport Check limits) file outcome
-  checked limits file has_core = elim (over_or_within laws accept limits Only (IsReport Check limits) file) [
-    | inl over ↦ over
-    | inr within ↦ let found = some_check laws accept outside_is models_are limits file has_core within in (found.0, WithinBudget within found.1)
-  ]
-
-  check_held : (limits : Limits) (name : List ℕ) (held : Texts) → IsSome (held 0 name) → (outcome : Outcome) × Fulfils (Report Check name limits) held outcome
-  check_held limits name held there =
-      held_under (λ text. OnText text Only (IsBudgeted limits Only (IsReport Check limits))) (held 0) name there
-      (λ text is. on_text Only (IsBudgeted limits Only (IsReport Check limits)) text (λ file formula. checked limits file formula.has_core))
-
-  -- an automaton or an observer
-  report_held : (kind : Kind) (limits : Limits) (name : List ℕ) (held : Texts) → IsSome (held 0 name)
-      → ((outcome : Outcome) × Fulfils (Report kind name limits) held outcome) ⊎ IsHeldWithin held name limits
-  report_held kind limits name held there =
-      held_or_open (λ text. OnText text Only (IsBudgeted limits Only (IsReport kind limits))) (IsHeldWithin held name limits) (held 0) name there
-      (λ text is. text_or_open (IsBudgeted limits Only (IsReport kind limits)) (IsHeldWithin held name limits) text
-      (λ file formula. budgeted limits (IsReport kind limits) held name text is file formula))
-
-  report_or_open : (kind : Kind) (limits : Limits) (name : List ℕ) (held : Texts) → IsSome (held 0 name) → Answered (Report kind name limits) held
-  report_or_open Check limits name held there = inl (check_held limits name held there)
-  report_or_open Automaton limits name held there = report_held Automaton limits name held there
-  report_or_open Lustre limits name held there = report_held Lustre limits name held there
-  report_or_open C limits name held there = report_held C limits name held there
-  report_or_open AllTexts limits name held there = report_held AllTexts limits name held there
-
-  -- a controller
-  divided_or_not : (inputs : ℕ) (limits : Limits) (held : Texts) (name text : List ℕ) → held 0 name ≡ Some text → (file : PlainFile) → IsFormulaFile text file
-      → (divided : Bool) → can_be_divided inputs (length file.variables) ≡ divided → ((outcome : Outcome) × IsSynthesised inputs limits file outcome) ⊎ IsHeldWithin held name limits
-  divided_or_not inputs limits held name text there file formula false is = inl (refused (Formula Outputs) Only, Undivided is refl)
-  divided_or_not inputs limits held name text there file formula true is = elim (budgeted limits (IsSynthesisOf inputs) held name text there file formula) [
-    | inl over ↦ inl (over.0, Divided is over.1)
-    | inr within ↦ inr within
-  ]
-
-  synth_or_open : (name : List ℕ) (inputs : ℕ) (limits : Limits) (held : Texts) → IsSome (held 0 name) → Answered (Synth name inputs limits) held
-  synth_or_open name inputs limits held there =
-      held_or_open (λ text. OnText text Only (IsSynthesised inputs limits)) (IsHeldWithin held name limits) (held 0) name there
-      (λ text is. text_or_open (IsSynthesised inputs limits) (IsHeldWithin held name limits) text
-      (λ file formula. divided_or_not inputs limits held name text is file formula (can_be_divided inputs (length file.variables)) refl))
+  synth_held : (name : List ℕ) (inputs : ℕ) (limits : Limits) (held : Texts) → AreInputsInRange inputs limits → IsSome (held 0 name)
+      → (outcome : Outcome) × Fulfils (Synth name inputs limits) held outcome
+  synth_held name inputs limits held range there =
+      held_under (λ text. OnText text Only (IsSynthesised inputs limits)) (held 0) name there
+      (λ text is. on_text Only (IsSynthesised inputs limits) text (syntheses inputs limits range text))
 
   -- two files
-  implies_held : (first second : List ℕ) (limits : Limits) (held : Texts) → IsSome (held 0 first) → IsSome (held 1 second) → (outcome : Outcome) × Fulfils (Implies first second limits) held outcome
+  implies_held : (first second : List ℕ) (limits : Limits) (held : Texts) → IsSome (held 0 first) → IsSome (held 1 second)
+      → (outcome : Outcome) × Fulfils (Implies first second limits) held outcome
   implies_held first second limits held there other =
       held_under (λ text. OnText text First (λ one. OnHeld (held 1) second (λ other_text. OnText other_text Second (IsCompared limits one)))) (held 0) first there
       (λ text is. on_text First (λ one. OnHeld (held 1) second (λ other_text. OnText other_text Second (IsCompared limits one))) text
@@ -261,7 +215,8 @@ module _ (some_reading : SomeReading) (laws : WordLaws) (accept : MachineAccepts
   convert_held name to held there =
       held_under (λ text. OnAutomaton text (IsConverted to)) (held 0) name there (λ text is. on_automaton (IsConverted to) text (λ file read. some_conversion to file))
 
-  replay_held : (subset : Subset) (observer trace : List ℕ) (held : Texts) → IsSome (held 0 observer) → IsSome (held 1 trace) → (outcome : Outcome) × Fulfils (Replay subset observer trace) held outcome
+  replay_held : (subset : Subset) (observer trace : List ℕ) (held : Texts) → IsSome (held 0 observer) → IsSome (held 1 trace)
+      → (outcome : Outcome) × Fulfils (Replay subset observer trace) held outcome
   replay_held subset observer trace held there other = by (held 0 observer) (held 1 trace) there other
     where
       by : (text trace_text : Option (List ℕ)) → IsSome text → IsSome trace_text
@@ -270,37 +225,36 @@ module _ (some_reading : SomeReading) (laws : WordLaws) (accept : MachineAccepts
       by (Some text) None some also = absurd (true≢false (sym also))
       by (Some text) (Some trace_text) some also = some_replay some_node some_unit some_verdict answered subset text trace_text
 
-  some_for_request : (held : Texts) (request : Request) → ((time : ℕ) → All (λ name. IsSome (held time name)) (files_of request)) → Answered request held
-  some_for_request held (Report kind name limits) there = report_or_open kind limits name held (All-head (λ n. IsSome (held 0 n)) name [] (there 0))
-  some_for_request held (Certify name) there = inl (certify_held name held (All-head (λ n. IsSome (held 0 n)) name [] (there 0)))
-  some_for_request held (Convert name to) there = inl (convert_held name to held (All-head (λ n. IsSome (held 0 n)) name [] (there 0)))
-  some_for_request held (Implies first second limits) there =
+  some_for_request : (held : Texts) (request : Request) → IsInRange request → ((time : ℕ) → All (λ name. IsSome (held time name)) (files_of request))
+      → (outcome : Outcome) × Fulfils request held outcome
+  some_for_request held (Report kind name limits) range there = report_held kind limits name held range (All-head (λ n. IsSome (held 0 n)) name [] (there 0))
+  some_for_request held (Certify name) range there = certify_held name held (All-head (λ n. IsSome (held 0 n)) name [] (there 0))
+  some_for_request held (Convert name to) range there = convert_held name to held (All-head (λ n. IsSome (held 0 n)) name [] (there 0))
+  some_for_request held (Implies first second limits) range there =
       let one = recursion_from_All (λ n. IsSome (held 0 n)) (first ∷ second ∷ []) (there 0) in
       let other = recursion_from_All (λ n. IsSome (held 1 n)) (first ∷ second ∷ []) (there 1) in
-      inl (implies_held first second limits held one.0 other.1.0)
-  some_for_request held (Synth name inputs limits) there = synth_or_open name inputs limits held (All-head (λ n. IsSome (held 0 n)) name [] (there 0))
-  some_for_request held (Replay subset observer trace) there =
+      implies_held first second limits held one.0 other.1.0
+  some_for_request held (Synth name inputs limits) range there = synth_held name inputs limits held range (All-head (λ n. IsSome (held 0 n)) name [] (there 0))
+  some_for_request held (Replay subset observer trace) range there =
       let one = recursion_from_All (λ n. IsSome (held 0 n)) (observer ∷ trace ∷ []) (there 0) in
       let other = recursion_from_All (λ n. IsSome (held 1 n)) (observer ∷ trace ∷ []) (there 1) in
-      inl (replay_held subset observer trace held one.0 other.1.0)
-  some_for_request held (Sweep seed count) there = inl (some_sweep laws accept outside_is seed count)
-
-  found_by : (words : List (List ℕ)) (held : Texts) (request : Request) → AsksFor words request → Answered request held → Found words held
-  found_by words held request asked (inl (outcome, right)) = inl (outcome, Fulfilled request asked right)
-  found_by words held request asked (inr left) = inr (request, asked, left)
+      replay_held subset observer trace held one.0 other.1.0
+  some_for_request held (Sweep seed count) range there = some_sweep laws accept outside_is seed count
 
   some_for_taken : (words : List (List ℕ)) (held : Texts) → AreHeld words held → IsTaken words → (request : Option Request)
-      → request_of words ≡ request → IsSome request → Found words held
+      → request_of words ≡ request → IsSome request → (outcome : Outcome) × IsRight words held outcome
   some_for_taken words held there taken None is asks = absurd (true≢false (sym asks))
   some_for_taken words held there taken (Some request) is asks =
-      let asked : AsksFor words request = record { taken = taken; asked = is } in found_by words held request asked (some_for_request held request (there request asked))
+      let asked : AsksFor words request = record { taken = taken; asked = is } in
+      let (outcome, right) = some_for_request held request (request_is_in_range (subcommand_of program words) request is) (there request asked) in
+      (outcome, Fulfilled request asked right)
 
   -- words are taken where no fault is found in them
   some_for : (words : List (List ℕ)) (held : Texts) → AreHeld words held → (faults : Kinds) → fault_of program words ≡ faults
-      → Found words held
+      → (outcome : Outcome) × IsRight words held outcome
   some_for words held there [] is = some_for_taken words held there is (request_of words) refl (words_ask words is)
   some_for words held there (fault ∷ faults) is =
-      inl (record { status = Usage; out = []; err = [] }, Misused (λ taken. let wrong : fault ∷ faults ≡ [] = sym is ∙ taken in cc) refl refl)
+      (record { status = Usage; out = []; err = [] }, Misused (λ taken. let wrong : fault ∷ faults ≡ [] = sym is ∙ taken in cc) refl refl)
 
   pub some_outcome : SomeOutcome
   some_outcome words held there = some_for words held there (fault_of program words) refl

@@ -1,6 +1,6 @@
 -- Each formula file has a step that is the first over the limits, or an answer: what is right for it is found.
+--     table_of_file        the canonical table of the models of a file all of whose steps are within the limits
 --     over_or_within       the outcome that names the step, or all steps are within the limits
---     some_check           the verdict of a file that is within them
 --     some_sweep           the summary of formulas that are drawn
 --     some_comparison      what is said of two files, whether they are within or not
 use Rattle.std.proofs.Common.{◌≡◌, ◌⊎◌, ◌↔◌, inl, inr, ℕ, Bool, true, false, not, List, [], ◌∷◌, length, Option, None, Some, refl, sym, ap, ◌∙◌, subst}
@@ -46,8 +46,6 @@ use Rattle.dcv_sweep.specs.SummaryText.{summary_text}
 use Rattle.dcv_sweep.specs.declared.findings.Finding.{Finding}
 use Rattle.dcv_sweep.specs.declared.findings.Finding.TheVariants.{Over as FoundOver, Within as FoundWithin}
 use Rattle.dcv_print.specs.Printed.{texts_of}
-use Rattle.dcv_language.specs.VerdictText.{verdict_text}
-use Rattle.dcv_print.specs.declared.report.Kind.TheVariants.{Check}
 use Rattle.dcv_cli.specs.declared.budget_line.Excess.{Excess}
 use Rattle.dcv_cli.specs.declared.budget_line.Excess.TheVariants.{States, Nodes}
 use Rattle.dcv_cli.specs.declared.budget_line.Over.{Over}
@@ -59,14 +57,27 @@ use Rattle.dcv_cli.specs.declared.status.Status.TheVariants.{Done}
 use Rattle.dcv_cli.specs.Budget.{steps_of_file, kind_of, limit_of, IsFirstOver, IsBudgeted, OverBudget, WithinBudget}
 use Rattle.dcv_cli.specs.Comparison.{compared, have_same_texts, IsDifference, OverProduct, WithinProduct, IsCompared, Undeclared, Declared}
 use Rattle.dcv_cli.specs.Outcome.{Outcome, refused}
-use Rattle.dcv_cli.specs.Report.{IsReport}
-use Rattle.dcv_cli.specs.Status.{status_of_verdict}
 use Rattle.dcv_cli.specs.Swept.{default_limits, IsSwept}
 use Rattle.dcv_cli.proofs.Comparisons.{names_same, names_differ}
 use Rattle.dcv_cli.proofs.RowLimits.{within_or_exceeds, table_of_row}
-use Rattle.dcv_cli.proofs.SomeBudgets.{some_budget, counts_within, table_of_core}
+use Rattle.dcv_cli.proofs.SomeBudgets.{some_budget, table_of_core}
 use Rattle.dcv_cli.proofs.SomeVerdicts.{some_least, some_verdict}
 use Rattle.dcv_cli.proofs.VariableNames.{none_of_both}
+
+-- ---- the models of a file
+
+pub table_of_file : WordsAreModels → (limits : Limits) (file : PlainFile) → fault_of_file file ≡ None → IsWithinBudget (steps_of_file file) limits
+    → (table : Table) × ((access : List Word) × IsCanonical (length file.variables) (models file) table access)
+table_of_file models_are limits file none within =
+    let (table, (access, canonical)) = table_of_core (length file.variables) (core_of_file file) limits within in
+    let unbound = no_bound_shift file (none_of_both (fault_of_names file) (fault_of_goal file) none).1 in (
+      table,
+      (
+        access,
+        canonical_for_same_behaviours (length file.variables) (words_of (core_of_file file)) (models file) table access
+            (λ word behaves. models_are file word unbound behaves) canonical,
+      ),
+    )
 
 -- ---- the first step over the limits
 
@@ -144,31 +155,6 @@ module _ (laws : WordLaws) (accept : MachineAcceptsStep) where
         )
 
     module _ (models_are : WordsAreModels) where
-      -- ---- the models of a file
-
-      table_of_file : (limits : Limits) (file : PlainFile) → fault_of_file file ≡ None → IsWithinBudget (steps_of_file file) limits
-          → (table : Table) × ((access : List Word) × IsCanonical (length file.variables) (models file) table access)
-      table_of_file limits file none within =
-          let (table, (access, canonical)) = table_of_core (length file.variables) (core_of_file file) limits within in
-          let unbound = no_bound_shift file (none_of_both (fault_of_names file) (fault_of_goal file) none).1 in (
-            table,
-            (
-              access,
-              canonical_for_same_behaviours (length file.variables) (words_of (core_of_file file)) (models file) table access
-                  (λ word behaves. models_are file word unbound behaves) canonical,
-            ),
-          )
-
-      pub some_check : (limits : Limits) (file : PlainFile) → fault_of_file file ≡ None → IsWithinBudget (steps_of_file file) limits
-          → (outcome : Outcome) × IsReport Check limits file outcome
-      some_check limits file none within =
-          let (table, (access, canonical)) = table_of_file limits file none within in
-          let (verdict, is) = some_verdict laws outside_is (length file.variables) (models file) table access canonical in
-          let (counts, are) = counts_within (length file.variables) (core_of_file file) limits within in (
-            record { status = status_of_verdict verdict; out = verdict_text verdict; err = [] },
-            record { verdict = verdict; is_verdict = is; status = refl; counts = counts; are_counts = are; says = refl; no_message = refl },
-          )
-
       -- ---- two files
 
       module _ (none_included : NoneWhereIncluded) where
@@ -200,8 +186,8 @@ module _ (laws : WordLaws) (accept : MachineAcceptsStep) where
             → IsWithinBudget (steps_of_file one) limits → IsWithinBudget (steps_of_file other) limits → (outcome : Outcome) × IsDifference limits one other outcome
         some_difference limits one other same here there within within_other =
             let k = length one.variables in
-            let (first, (first_access, first_is)) = table_of_file limits one here within in
-            let (table, (access, canonical)) = table_of_file limits other there within_other in
+            let (first, (first_access, first_is)) = table_of_file models_are limits one here within in
+            let (table, (access, canonical)) = table_of_file models_are limits other there within_other in
             let width : length other.variables ≡ length one.variables =
             sym (length-map other.variables (λ (name : _). name.text)) ∙ ap length (sym same) ∙ length-map one.variables (λ (name : _). name.text) in
             let second_is = outside_is k (models other) table access (subst (λ n. IsCanonical n (models other) table access) width canonical) in

@@ -2,6 +2,7 @@
 --     Alike p q            each word is accepted from both or from neither
 --     Differ p q           some word is accepted from one alone
 --     alike_or_differ      one of the two is so
+--     pairs_of             the pairs of the members of two lists
 use Rattle.std.proofs.Common.{◌≡◌, ◌≢◌, ◌⊎◌, inl, inr, Bool, true, false, List, [], ◌∷◌, ◌++◌, refl, sym, ◌∙◌, subst}
 use Rattle.dcv_word.specs.Behaviour.{Word}
 use Rattle.dcv_language.specs.Automaton.{WorkingMachine, IsReached, state_from, accepts_from}
@@ -38,7 +39,7 @@ with_first : {S : Type 0} → S → List S → List (S × S)
 with_first first [] = []
 with_first first (second ∷ seconds) = (first, second) ∷ with_first first seconds
 
-pairs_of : {S : Type 0} → List S → List S → List (S × S)
+pub pairs_of : {S : Type 0} → List S → List S → List (S × S)
 pairs_of [] seconds = []
 pairs_of (first ∷ firsts) seconds = with_first first seconds ++ pairs_of firsts seconds
 
@@ -48,13 +49,27 @@ beside_first first second [] there = absurd there
 beside_first first second (one ∷ seconds) (inl same) = inl (λ i. (first, same i))
 beside_first first second (one ∷ seconds) (inr later) = inr (beside_first first second seconds later)
 
-among_pairs : {S : Type 0} (first second : S) (firsts seconds : List S) → Member first firsts → Member second seconds → Member (first, second) (pairs_of firsts seconds)
+pub among_pairs : {S : Type 0} (first second : S) (firsts seconds : List S) → Member first firsts → Member second seconds → Member (first, second) (pairs_of firsts seconds)
 unfolding pairs_of
 among_pairs first second [] seconds there other = absurd there
 among_pairs first second (one ∷ firsts) seconds (inl same) other =
     in_front (first, second) (with_first one seconds) (pairs_of firsts seconds)
     (subst (λ (head : _). Member (first, second) (with_first head seconds)) same (beside_first first second seconds other))
 among_pairs first second (one ∷ firsts) seconds (inr later) other = in_back (first, second) (with_first one seconds) (pairs_of firsts seconds) (among_pairs first second firsts seconds later other)
+
+only_beside : {S : Type 0} (first : S) (seconds : List S) (pair : S × S) → Member pair (with_first first seconds) → (pair.0 ≡ first) × Member pair.1 seconds
+unfolding with_first
+only_beside first [] pair there = absurd there
+only_beside first (one ∷ seconds) pair (inl same) = ((λ i. (same i).0), inl (λ i. (same i).1))
+only_beside first (one ∷ seconds) pair (inr later) = let rest = only_beside first seconds pair later in (rest.0, inr rest.1)
+
+pub only_pairs : {S : Type 0} (firsts seconds : List S) (pair : S × S) → Member pair (pairs_of firsts seconds) → Member pair.0 firsts × Member pair.1 seconds
+unfolding pairs_of
+only_pairs [] seconds pair there = absurd there
+only_pairs (one ∷ firsts) seconds pair there = elim (front_or_back pair (with_first one seconds) (pairs_of firsts seconds) there) [
+  | inl front ↦ let both = only_beside one seconds pair front in (inl both.0, both.1)
+  | inr back ↦ let both = only_pairs firsts seconds pair back in (inr both.0, both.1)
+]
 
 module _ {S : Type 0} (machine : WorkingMachine S) where
   abbrev pub Alike : S → S → Type 0

@@ -1,5 +1,5 @@
 -- The laws that `src/laws.rt` proves.
-use Rattle.std.specs.Prelude.{◌≡◌, ◌≢◌, ◌⊎◌, ℕ, List, Some, IsSome, IsTrue, length, map, codes}
+use Rattle.std.specs.Prelude.{◌≡◌, ◌≢◌, ℕ, List, Some, IsSome, IsTrue, length, map, codes}
 use Rattle.std.specs.List.{All}
 use Rattle.std.specs.List.Sorted.{IsStrictlyIncreasing}
 use Rattle.dcv_syntax.specs.Plain.{PlainFile}
@@ -11,7 +11,7 @@ use Rattle.dcv_scope.specs.Names.{occurrences_in_file}
 use Rattle.dcv_print.specs.Printed.{texts_of}
 use Rattle.dcv_explore.specs.Budget.{Kind as KindOfExcess}
 use Rattle.dcv_explore.specs.declared.explorer.Limits.{Limits}
-use Rattle.dcv_build.specs.Budget.{IsOver, IsWithinBudget}
+use Rattle.dcv_build.specs.Budget.{IsOver}
 use Rattle.dcv_cli.specs.declared.budget_line.Over.{Over}
 use Rattle.dcv_cli.specs.declared.refusal.Refusal.TheVariants.{Budget}
 use Rattle.dcv_cli.specs.declared.status.Status.TheVariants.{Done, Valid, Budget as StatusBudget}
@@ -22,8 +22,8 @@ use Rattle.dcv_cli.specs.Held.{Texts}
 use Rattle.dcv_cli.specs.Outcome.{Outcome, Agrees, AgreeInMeaning}
 use Rattle.dcv_print.specs.Sections.{all_text}
 use Rattle.dcv_print.specs.declared.report.Kind.{Kind}
-use Rattle.dcv_print.specs.declared.report.Kind.TheVariants.{Check, Automaton, All as AllTexts}
-use Rattle.dcv_command.specs.Request.{Request, Report, Certify, Convert, Implies, Synth, files_of}
+use Rattle.dcv_print.specs.declared.report.Kind.TheVariants.{Automaton, All as AllTexts}
+use Rattle.dcv_command.specs.Request.{Request, Report, Certify, Convert, Implies, files_of}
 use Rattle.dcv_command.specs.declared.words.Version.{Version}
 use Rattle.dcv_command.specs.declared.words.Version.TheVariants.{One, Two}
 use Rattle.dcv_cli.specs.Request.{AsksFor}
@@ -72,27 +72,9 @@ OneOutcome = (words : List (List ℕ)) (held : Texts) (one other : Outcome) → 
 abbrev pub AreHeld : List (List ℕ) → (Texts) → Type 0
 AreHeld words held = (request : Request) → AsksFor words request → (time : ℕ) → All (λ name. IsSome (held time name)) (files_of request)
 
--- What is held under the name is a formula file all of whose steps are within the limits.
-pub record IsHeldWithin (held : Texts) (name : List ℕ) (limits : Limits) : Type 0 where
-  pub text : List ℕ
-  pub there : held 0 name ≡ Some text
-  pub file : PlainFile
-  pub formula : IsFormulaFile text file
-  pub within : IsWithinBudget (steps_of_file file) limits
-
--- Such a file whose automaton, observer or controller is asked for: nothing is said here of whether there is a text that is right for it. A
--- verdict alone is no such case.
-abbrev pub IsLeftOpen : Request → Texts → Type 0
-IsLeftOpen (Report Check name limits) held = ⊥
-IsLeftOpen (Report kind name limits) held = IsHeldWithin held name limits
-IsLeftOpen (Synth name inputs limits) held = IsHeldWithin held name limits
-IsLeftOpen request held = ⊥
-
--- Some outcome is right for all words, where the files that they name are held, or they ask for an automaton, an observer or a controller of a
--- formula file that is within the limits.
+-- some outcome is right for all words, where the files that they name are held
 abbrev pub SomeOutcome : Type 0
-SomeOutcome = (words : List (List ℕ)) (held : Texts) → AreHeld words held
-    → ((outcome : Outcome) × IsRight words held outcome) ⊎ ((request : Request) × AsksFor words request × IsLeftOpen request held)
+SomeOutcome = (words : List (List ℕ)) (held : Texts) → AreHeld words held → (outcome : Outcome) × IsRight words held outcome
 
 -- ---- files that mean the same
 

@@ -14,13 +14,17 @@ use dcv_language::laws::{
 };
 use dcv_lustre::laws::{texts_are_nodes_or_at_fault, texts_spell_nodes};
 use dcv_print::laws::{
-    automaton_of_same_behaviours, one_automaton, one_file, printed_observers_observe,
+    automaton_of_same_behaviours, one_automaton, one_file, printed_is_automaton,
+    printed_observers_observe,
 };
 use dcv_reader::laws::{names_are_short, one_fault, one_tree, some_reading};
 use dcv_replay::laws::{letters_have_one_text_of_answers, traces_have_one_verdict};
 use dcv_scope::laws::{core_means_text, measures_bound_core};
 use dcv_sweep::laws::one_summary;
-use dcv_synth::laws::{answers_are_one, one_side_is_right, units_are_one};
+use dcv_synth::laws::{
+    answers_are_one, controls_win, one_side_is_right, some_player_wins, strategies_beat,
+    units_answer, units_are_one, winners_of_same_behaviours,
+};
 use dcv_word::laws::{word_order_is_kept, words_are_in_order};
 
 /// One outcome at most is right for the words and the texts that are held. So each status, report and message that
@@ -51,23 +55,33 @@ pub fn one_outcome()
     units_are_one();
 }
 
-/// Some outcome is right for all words, where the files that they name are held, or they ask for an automaton, an observer or a controller of a
-/// formula file all of whose steps are within the limits. So no words, no replay, no text of an automaton, no comparison, no summary, no verdict and no
-/// formula file that has a fault or is over the limits leaves [`run`](crate::run) nothing to answer but that memory has run out.
+/// Some outcome is right for all words, where the files that they name are held. So no words, and no texts, leave [`run`](crate::run)
+/// nothing to answer but that memory has run out.
 pub fn some_outcome()
     ensures { SomeOutcome }
 {
     some_reading();
+    names_are_short();
     taken_words_ask();
     texts_are_nodes_or_at_fault();
     texts_are_units_or_at_fault();
+    texts_spell_units();
     traces_have_one_verdict();
     letters_have_one_text_of_answers();
     minimal_shows_fewest_states();
     machines_accept_steps();
     complement_is_canonical();
     core_means_text();
+    measures_bound_core();
     none_is_inclusion();
+    printed_is_automaton();
+    printed_observers_observe();
+    automaton_of_same_behaviours();
+    some_player_wins();
+    controls_win();
+    strategies_beat();
+    winners_of_same_behaviours();
+    units_answer();
     words_are_in_order();
     word_order_is_kept();
 }

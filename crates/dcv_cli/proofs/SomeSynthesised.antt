@@ -1,0 +1,70 @@
+-- Where a controller is asked for, each formula file has a right answer: its variables cannot be divided, a step is over the limits, or there is
+-- the controller or the strategy of what models it.
+--     some_synthesised      so there is one
+use Rattle.std.proofs.Common.{◌≡◌, ◌⊎◌, inl, inr, ℕ, ◌+◌, ◌-◌, ◌≤◌, Bool, true, false, List, length, take, None, refl, sym, subst, arith}
+use Rattle.std.proofs.lemmas.List.{length-map, length-take}
+use Rattle.dcv_automaton_file.specs.File.{texts_of}
+use Rattle.dcv_automaton_text.specs.Rules.{AreNames}
+use Rattle.dcv_explore.specs.declared.explorer.Limits.{Limits}
+use Rattle.dcv_build.specs.Budget.{IsWithinBudget}
+use Rattle.dcv_build.specs.Laws.{MachineAcceptsStep}
+use Rattle.dcv_language.specs.Canonical.{IsCanonical}
+use Rattle.dcv_language.proofs.Words.{WordLaws}
+use Rattle.dcv_logic.specs.Models.{models}
+use Rattle.dcv_scope.specs.Faults.{fault_of_file}
+use Rattle.dcv_scope.specs.Laws.{WordsAreModels}
+use Rattle.dcv_syntax.specs.Plain.{PlainFile}
+use Rattle.dcv_syntax.specs.declared.names.Name.{Name}
+use Rattle.dcv_cli.specs.declared.refusal.Refusal.TheVariants.{Formula}
+use Rattle.dcv_cli.specs.declared.faults.FormulaFault.TheVariants.{Outputs}
+use Rattle.dcv_cli.specs.declared.refused.Which.TheVariants.{Only}
+use Rattle.dcv_cli.specs.Budget.{steps_of_file, IsBudgeted, WithinBudget}
+use Rattle.dcv_cli.specs.Outcome.{Outcome, refused}
+use Rattle.dcv_cli.specs.Synthesis.{can_be_divided, IsSynthesisOf, IsSynthesised, Undivided, Divided}
+use Rattle.dcv_cli.proofs.SomeBounds.{within_of_file}
+use Rattle.dcv_cli.proofs.SomeControllers.{GameLaws, some_synthesis_of}
+use Rattle.dcv_cli.proofs.SomeReports.{table_of_file, over_or_within}
+use Rattle.dcv_cli.proofs.Syntheses.{AreDivided, divided, names_of_inputs, texts_of_some}
+use Rattle.dcv_cli.proofs.TableBounds.{IsTableWithin}
+
+-- the inputs have as many names
+inputs_named : (n : ℕ) (names : List Name) → n ≤ length names → length (take n (texts_of names)) ≡ n
+inputs_named n names within =
+    let count = length-map names (λ (name : Name). name.text) in
+    omega (arith, length-take n (texts_of names))
+
+module _ (laws : WordLaws) (accept : MachineAcceptsStep) (models_are : WordsAreModels) (game : GameLaws) where
+  module _ (inputs : ℕ) (limits : Limits) (file : PlainFile) (few_states : limits.states ≤ 32000) (few_nodes : limits.nodes ≤ 1000000)
+      (named : AreNames (texts_of file.variables)) (none : fault_of_file file ≡ None) where
+    abbrev k : ℕ
+    k = length file.variables
+
+    of_inputs : AreNames (take inputs (texts_of file.variables))
+    of_inputs = subst AreNames (sym (texts_of_some inputs file.variables)) (names_of_inputs inputs file.variables named)
+
+    within_limits : AreDivided inputs k → IsWithinBudget (steps_of_file file) limits → (outcome : Outcome) × IsSynthesisOf inputs file outcome
+    within_limits are within =
+        let (table, (access, of_models)) = table_of_file models_are limits file none within in
+        let some = are.some in
+        let few = are.few in
+        let width : k ≡ inputs + (k - inputs) = omega arith in
+        let over_both = subst (λ count. IsCanonical count (models file) table access) width of_models in
+        let bounds = subst (λ count. IsTableWithin count limits table) width (within_of_file accept models_are limits file none within table access of_models) in
+        let states = bounds.states in
+        let nodes = bounds.nodes in
+        some_synthesis_of game inputs (k - inputs) (models file) table access over_both (take inputs (texts_of file.variables)) of_inputs (inputs_named inputs file.variables some)
+        (omega arith) (omega arith) (omega arith)
+
+    budgeted : AreDivided inputs k → ((outcome : Outcome) × IsBudgeted limits Only (IsSynthesisOf inputs) file outcome) ⊎ IsWithinBudget (steps_of_file file) limits
+        → (outcome : Outcome) × IsBudgeted limits Only (IsSynthesisOf inputs) file outcome
+    budgeted are (inl over) = over
+    budgeted are (inr within) = let (outcome, is) = within_limits are within in (outcome, WithinBudget within is)
+
+    by_division : (test : Bool) → can_be_divided inputs k ≡ test → (outcome : Outcome) × IsSynthesised inputs limits file outcome
+    by_division false not = (refused (Formula Outputs) Only, Undivided not refl)
+    by_division true is =
+        let (outcome, right) = budgeted (divided inputs k is) (over_or_within laws accept limits Only (IsSynthesisOf inputs) file) in
+        (outcome, Divided is right)
+
+    pub some_synthesised : (outcome : Outcome) × IsSynthesised inputs limits file outcome
+    some_synthesised = by_division (can_be_divided inputs k) refl
