@@ -8,7 +8,7 @@ mod Forced
 mod Keeping
 mod LeastMoves
 mod LeastOutputs
-mod Listed
+pub mod Listed
 mod Losing
 mod Merges
 mod NodeNames
@@ -22,7 +22,7 @@ mod RowRanks
 mod SameJoins
 mod SameSets
 mod SameSteps
-mod Tracks
+pub mod Tracks
 mod Unbeaten
 mod UnitForms
 mod UnitLines
