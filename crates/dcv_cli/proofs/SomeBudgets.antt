@@ -2,29 +2,25 @@
 --     some_budget          one of the two is so
 --     counts_within        where all are within, there are their counts
 --     table_of_core        and the core's words have a canonical table
-use Rattle.std.proofs.Common.{◌≡◌, ◌⊎◌, inl, inr, ℕ, zero, suc, ◌+◌, ◌<◌, ◌≤◌, List, [], ◌∷◌, ◌++◌, length, Some, slice_get, slice_index_or, refl, sym, ap, ◌∙◌, subst, arith, length-append}
+use Rattle.std.proofs.Common.{◌≡◌, ◌⊎◌, inl, inr, ℕ, zero, suc, ◌+◌, ◌<◌, ◌≤◌, List, [], ◌∷◌, ◌++◌, length, Some, slice_get, refl, sym, ap, ◌∙◌, subst, arith, length-append}
 use Rattle.std.proofs.lemmas.Option.{slice_get_within, slice_get-get_or}
 use Rattle.dcv_count.specs.declared.Count.{Count}
 use Rattle.dcv_word.specs.Behaviour.{Word}
 use Rattle.dcv_language.specs.Automaton.{accepts}
 use Rattle.dcv_language.specs.Canonical.{IsCanonical}
-use Rattle.dcv_language.specs.OperationMachines.{not_machine, and_machine, or_machine, iff_machine, chop_machine, star_machine, exists_machine}
-use Rattle.dcv_language.specs.Table.{Table, automaton_of}
+use Rattle.dcv_language.specs.Table.{Table}
 use Rattle.dcv_language.proofs.Canonicals.{canonical_for_same_behaviours}
 use Rattle.dcv_language.proofs.Words.{WordLaws}
-use Rattle.dcv_core.specs.Core.{CoreTree, PlainBasic, BasicConstant, BasicPoint, BasicRun, BasicEvery, BasicUnit, BasicSlen, BasicScount, BasicSdur, BasicBack, BasicFore}
+use Rattle.dcv_core.specs.Core.{CoreTree}
 use Rattle.dcv_core.specs.Holds.{words_of}
-use Rattle.dcv_core.specs.Steps.{PlainOp, OpAtom, OpNot, OpAnd, OpOr, OpIff, OpChop, OpStar, OpExists, PlainStep, steps_before, steps_of}
-use Rattle.dcv_core.specs.StepWords.{IsOperation}
+use Rattle.dcv_core.specs.Steps.{PlainStep, steps_before, steps_of}
 use Rattle.dcv_core.proofs.StepList.{some_same, steps_are_operations, last_step_is_core}
-use Rattle.dcv_atoms.specs.AtomRows.{atom_machine}
 use Rattle.dcv_explore.specs.declared.explorer.Limits.{Limits}
-use Rattle.dcv_explore.specs.Budget.{Kind, Row, IsWithin}
+use Rattle.dcv_explore.specs.Budget.{Kind, IsWithin}
 use Rattle.dcv_explore.proofs.Places.{pushed_cases}
 use Rattle.dcv_build.specs.Budget.{row_at, IsStepDone, IsDone, IsWithinBudget, IsOver}
 use Rattle.dcv_build.specs.Counts.{IsCount, AreCounts}
 use Rattle.dcv_build.specs.Laws.{MachineAcceptsStep, AreCanonicalBefore}
-use Rattle.dcv_build.specs.Rows.{row_of}
 use Rattle.dcv_build.proofs.Progress.{row_slots}
 use Rattle.dcv_build.proofs.SameRows.{table_at, row_over}
 use Rattle.dcv_cli.proofs.RowLimits.{within_or_exceeds, table_of_row}

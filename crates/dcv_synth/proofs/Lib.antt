@@ -16,7 +16,7 @@ mod OneAnswer
 mod OneRound
 mod OneUnit
 mod RankEnds
-mod Ranking
+pub mod Ranking
 mod Rounds
 mod RowRanks
 mod SameJoins
