@@ -9,8 +9,8 @@ mod Negation
 mod Operands
 mod OverLaws
 mod PostOrder
-mod Progress
-mod SameRows
+pub mod Progress
+pub mod SameRows
 mod Settled
 mod ShelfTables
 mod StepMachines

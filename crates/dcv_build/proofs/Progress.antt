@@ -78,7 +78,7 @@ waiting_grown steps limits tables more (one ∷ others) n waits =
 
 -- ---- the slots of a row
 
-row_slots : (op : PlainOp) (slots : ℕ) (tables : List Table) → (row_of op slots tables).machine.slots ≡ slots
+pub row_slots : (op : PlainOp) (slots : ℕ) (tables : List Table) → (row_of op slots tables).machine.slots ≡ slots
 row_slots (OpAtom basic) slots tables = own_slots basic
   where
     own_slots : (form : PlainBasic) → (atom_machine slots form).slots ≡ slots

@@ -25,7 +25,8 @@ use Rattle.dcv_syntax.specs.Plain.{PlainFile}
 use Rattle.dcv_build.specs.Budget.{row_at, IsWithinBudget}
 use Rattle.dcv_build.specs.Laws.{MachineAcceptsStep, AreCanonicalBefore}
 use Rattle.dcv_cli.specs.Budget.{steps_of_file}
-use Rattle.dcv_cli.proofs.SomeBudgets.{table_at, row_slots}
+use Rattle.dcv_build.proofs.Progress.{row_slots}
+use Rattle.dcv_build.proofs.SameRows.{table_at}
 use Rattle.dcv_cli.proofs.TableBounds.{IsTableWithin, within_of_row}
 use Rattle.dcv_cli.proofs.VariableNames.{none_of_both}
 

@@ -2,87 +2,35 @@
 --     some_budget          one of the two is so
 --     counts_within        where all are within, there are their counts
 --     table_of_core        and the core's words have a canonical table
-use Rattle.std.proofs.Common.{◌≡◌, ◌⊎◌, inl, inr, ℕ, zero, suc, ◌+◌, ◌<◌, ◌≤◌, List, [], ◌∷◌, ◌++◌, length, Some, slice_get, slice_index_or, refl, sym, ap, ◌∙◌, subst, arith, length-append}
+use Rattle.std.proofs.Common.{◌≡◌, ◌⊎◌, inl, inr, ℕ, zero, suc, ◌+◌, ◌<◌, ◌≤◌, List, [], ◌∷◌, ◌++◌, length, Some, slice_get, refl, sym, ap, ◌∙◌, subst, arith, length-append}
 use Rattle.std.proofs.lemmas.Option.{slice_get_within, slice_get-get_or}
 use Rattle.dcv_count.specs.declared.Count.{Count}
 use Rattle.dcv_word.specs.Behaviour.{Word}
 use Rattle.dcv_language.specs.Automaton.{accepts}
 use Rattle.dcv_language.specs.Canonical.{IsCanonical}
-use Rattle.dcv_language.specs.OperationMachines.{not_machine, and_machine, or_machine, iff_machine, chop_machine, star_machine, exists_machine}
-use Rattle.dcv_language.specs.Table.{Table, automaton_of}
+use Rattle.dcv_language.specs.Table.{Table}
 use Rattle.dcv_language.proofs.Canonicals.{canonical_for_same_behaviours}
 use Rattle.dcv_language.proofs.Words.{WordLaws}
-use Rattle.dcv_core.specs.Core.{CoreTree, PlainBasic, BasicConstant, BasicPoint, BasicRun, BasicEvery, BasicUnit, BasicSlen, BasicScount, BasicSdur, BasicBack, BasicFore}
+use Rattle.dcv_core.specs.Core.{CoreTree}
 use Rattle.dcv_core.specs.Holds.{words_of}
-use Rattle.dcv_core.specs.Steps.{PlainOp, OpAtom, OpNot, OpAnd, OpOr, OpIff, OpChop, OpStar, OpExists, PlainStep, steps_before, steps_of}
-use Rattle.dcv_core.specs.StepWords.{IsOperation}
+use Rattle.dcv_core.specs.Steps.{PlainStep, steps_before, steps_of}
 use Rattle.dcv_core.proofs.StepList.{some_same, steps_are_operations, last_step_is_core}
-use Rattle.dcv_atoms.specs.AtomRows.{atom_machine}
 use Rattle.dcv_explore.specs.declared.explorer.Limits.{Limits}
-use Rattle.dcv_explore.specs.Budget.{Kind, Row, IsWithin}
+use Rattle.dcv_explore.specs.Budget.{Kind, IsWithin}
 use Rattle.dcv_explore.proofs.Places.{pushed_cases}
 use Rattle.dcv_build.specs.Budget.{row_at, IsStepDone, IsDone, IsWithinBudget, IsOver}
 use Rattle.dcv_build.specs.Counts.{IsCount, AreCounts}
 use Rattle.dcv_build.specs.Laws.{MachineAcceptsStep, AreCanonicalBefore}
-use Rattle.dcv_build.specs.Rows.{number_row, pair_row, chop_row, star_row, set_row, row_of}
+use Rattle.dcv_build.proofs.Progress.{row_slots}
+use Rattle.dcv_build.proofs.SameRows.{table_at, row_over}
 use Rattle.dcv_cli.proofs.RowLimits.{within_or_exceeds, table_of_row}
 
 -- ---- the rows of earlier steps stay as they are where a table comes to the others
-
-abbrev pub table_at : List Table → ℕ → Table
-table_at tables number = slice_index_or tables number []
 
 table_kept : (tables more : List Table) (number : ℕ) → number < length tables → table_at tables number ≡ table_at (tables ++ more) number
 table_kept [] more number within = absurd (omega arith)
 table_kept (table ∷ tables) more zero within = refl
 table_kept (table ∷ tables) more (suc number) within = table_kept tables more number (omega arith)
-
-module _ (steps : List PlainStep) (n : ℕ) (step : PlainStep) (one other : List Table)
-    (same : (number : ℕ) → number < n → table_at one number ≡ table_at other number) (P : Row → Type 0) where
-  by_one : (row : Table → Row) (operand : ℕ) → suc operand ≡ n → P (row (table_at one operand)) → P (row (table_at other operand))
-  by_one row operand before here = subst (λ (table : Table). P (row table)) (same operand (omega (arith, before))) here
-
-  by_two : (row : Table → Table → Row) (first second between : ℕ) → suc first + between ≡ second → suc second ≡ n
-      → P (row (table_at one first) (table_at one second)) → P (row (table_at other first) (table_at other second))
-  by_two row first second between apart before here =
-      subst (λ (table : Table). P (row table (table_at other second))) (same first (omega (arith, apart, before)))
-      (subst (λ (table : Table). P (row (table_at one first) table)) (same second (omega (arith, before))) here)
-
-  row_over : (op : PlainOp) → IsOperation steps n step op → P (row_of op step.slots one) → P (row_of op step.slots other)
-  row_over (OpAtom basic) is here = here
-  row_over (OpNot d) is here = by_one (λ table. number_row (not_machine step.slots (automaton_of table))) d is.is_before here
-  row_over (OpAnd c d) is here =
-      by_two (λ first second. pair_row (and_machine step.slots (automaton_of first) (automaton_of second))) c d (steps_before is.second_step.core) is.first_is_before is.second_is_before here
-  row_over (OpOr c d) is here =
-      by_two (λ first second. pair_row (or_machine step.slots (automaton_of first) (automaton_of second))) c d (steps_before is.second_step.core) is.first_is_before is.second_is_before here
-  row_over (OpIff c d) is here =
-      by_two (λ first second. pair_row (iff_machine step.slots (automaton_of first) (automaton_of second))) c d (steps_before is.second_step.core) is.first_is_before is.second_is_before here
-  row_over (OpChop c d) is here =
-      by_two (λ first second. chop_row (chop_machine step.slots (automaton_of first) (automaton_of second))) c d (steps_before is.second_step.core) is.first_is_before is.second_is_before here
-  row_over (OpStar d) is here = by_one (λ table. star_row (star_machine step.slots (automaton_of table))) d is.is_before here
-  row_over (OpExists d) is here = by_one (λ table. set_row (exists_machine step.slots (automaton_of table))) d is.is_before here
-
-pub row_slots : (op : PlainOp) (slots : ℕ) (tables : List Table) → (row_of op slots tables).machine.slots ≡ slots
-row_slots (OpAtom basic) slots tables = own_slots basic
-  where
-    own_slots : (form : PlainBasic) → (atom_machine slots form).slots ≡ slots
-    own_slots (BasicConstant truth) = refl
-    own_slots (BasicPoint p) = refl
-    own_slots (BasicRun p) = refl
-    own_slots (BasicEvery p) = refl
-    own_slots (BasicUnit p) = refl
-    own_slots (BasicSlen relation m) = refl
-    own_slots (BasicScount p relation m) = refl
-    own_slots (BasicSdur p relation m) = refl
-    own_slots (BasicBack p slot) = refl
-    own_slots (BasicFore p slot) = refl
-row_slots (OpNot d) slots tables = refl
-row_slots (OpAnd c d) slots tables = refl
-row_slots (OpOr c d) slots tables = refl
-row_slots (OpIff c d) slots tables = refl
-row_slots (OpChop c d) slots tables = refl
-row_slots (OpStar d) slots tables = refl
-row_slots (OpExists d) slots tables = refl
 
 some_at : {X : Type 0} (xs : List X) (place : ℕ) → place < length xs → (x : X) × (slice_get xs place ≡ Some x)
 some_at [] place within = absurd (omega arith)

@@ -14,27 +14,18 @@ use Rattle.dcv_word.specs.Letter.{bits_of}
 use Rattle.dcv_word.proofs.Bits.{bits_of-lt}
 use Rattle.dcv_arena.specs.Diagram.{node_count}
 use Rattle.dcv_arena.proofs.Members.{Contains-filter, Contains-filter_cases, Contains-range, Contains-range_cases}
-use Rattle.dcv_language.specs.Operations.{some_track}
 use Rattle.dcv_language.proofs.Behaviours.{some_track-same}
 use Rattle.dcv_language.specs.Table.{TableState, Table, IsTable, no_state, automaton_of, next_in}
 use Rattle.dcv_synth.specs.Tracks.{least_track}
 use Rattle.dcv_synth.specs.Realisable.{IsRealisable}
 use Rattle.dcv_synth.specs.Play.{answer_of, IsStartOr}
 use Rattle.dcv_synth.specs.Control.{ControlValue, IsControl, IsControlOf}
+use Rattle.dcv_synth.proofs.Tracks.{least-length}
 use Rattle.dcv_cli.proofs.MergedRows.{Merges, merged_rows_no_more}
 use Rattle.dcv_cli.proofs.SomeAutomata.{rows_of}
 use Rattle.dcv_cli.proofs.SomeRows.{StaysBelow, tables_for, some_rows}
 
--- ---- the least output has the width, and depends on the outputs of the width alone
-
-least-length : (m : ℕ) (p : List Bool → Bool) → length (least_track m p) ≡ m
-least-length zero p = refl
-least-length (suc m) p = by (some_track m (λ t. p (false ∷ t))) (least-length m (λ t. p (false ∷ t))) (least-length m (λ t. p (true ∷ t)))
-  where
-    by : (b : Bool) → length (least_track m (λ t. p (false ∷ t))) ≡ m → length (least_track m (λ t. p (true ∷ t))) ≡ m
-        → length (if b then false ∷ least_track m (λ t. p (false ∷ t)) else true ∷ least_track m (λ t. p (true ∷ t))) ≡ suc m
-    by true lo hi = ap suc lo
-    by false lo hi = ap suc hi
+-- ---- the least output depends on the outputs of the width alone
 
 least_track-same : (m : ℕ) (p q : List Bool → Bool) → ((track : List Bool) → length track ≡ m → p track ≡ q track) → least_track m p ≡ least_track m q
 least_track-same zero p q same = refl

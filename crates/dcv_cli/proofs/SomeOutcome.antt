@@ -163,12 +163,12 @@ SomeSynthesis = (inputs : ℕ) (limits : Limits) → AreInputsInRange inputs lim
 
 -- what is right for the text that is held is right for its name
 held_under : (OfText : List ℕ → Outcome → Type 0) (held : List ℕ → Option (List ℕ)) (name : List ℕ) → IsSome (held name)
-    → ((text : List ℕ) → held name ≡ Some text → (outcome : Outcome) × OfText text outcome) → (outcome : Outcome) × OnHeld held name OfText outcome
-held_under OfText held name there right = by (held name) refl there
+    → ((text : List ℕ) → (outcome : Outcome) × OfText text outcome) → (outcome : Outcome) × OnHeld held name OfText outcome
+held_under OfText held name there right = by (held name) there
   where
-    by : (text : Option (List ℕ)) → held name ≡ text → IsSome text → (outcome : Outcome) × IsSomeAnd text (λ one. OfText one outcome)
-    by None is some = absurd (true≢false (sym some))
-    by (Some text) is some = right text is
+    by : (text : Option (List ℕ)) → IsSome text → (outcome : Outcome) × IsSomeAnd text (λ one. OfText one outcome)
+    by None some = absurd (true≢false (sym some))
+    by (Some text) some = right text
 
 module _ (some_reading : SomeReading) (reports : SomeReport) (syntheses : SomeSynthesis) (laws : WordLaws) (accept : MachineAcceptsStep)
     (outside_is : ComplementIsCanonical) (models_are : WordsAreModels) (none_included : NoneWhereIncluded) (fewest : MinimalShowsFewestStates) (reached : MinimalReachesEachState)
@@ -187,33 +187,33 @@ module _ (some_reading : SomeReading) (reports : SomeReport) (syntheses : SomeSy
       → (outcome : Outcome) × Fulfils (Report kind name limits) held outcome
   report_held kind limits name held range there =
       held_under (λ text. OnText text Only (IsBudgeted limits Only (IsReport kind limits))) (held 0) name there
-      (λ text is. on_text Only (IsBudgeted limits Only (IsReport kind limits)) text (reports kind limits range text))
+      (λ text. on_text Only (IsBudgeted limits Only (IsReport kind limits)) text (reports kind limits range text))
 
   synth_held : (name : List ℕ) (inputs : ℕ) (limits : Limits) (held : Texts) → AreInputsInRange inputs limits → IsSome (held 0 name)
       → (outcome : Outcome) × Fulfils (Synth name inputs limits) held outcome
   synth_held name inputs limits held range there =
       held_under (λ text. OnText text Only (IsSynthesised inputs limits)) (held 0) name there
-      (λ text is. on_text Only (IsSynthesised inputs limits) text (syntheses inputs limits range text))
+      (λ text. on_text Only (IsSynthesised inputs limits) text (syntheses inputs limits range text))
 
   -- two files
   implies_held : (first second : List ℕ) (limits : Limits) (held : Texts) → IsSome (held 0 first) → IsSome (held 1 second)
       → (outcome : Outcome) × Fulfils (Implies first second limits) held outcome
   implies_held first second limits held there other =
       held_under (λ text. OnText text First (λ one. OnHeld (held 1) second (λ other_text. OnText other_text Second (IsCompared limits one)))) (held 0) first there
-      (λ text is. on_text First (λ one. OnHeld (held 1) second (λ other_text. OnText other_text Second (IsCompared limits one))) text
+      (λ text. on_text First (λ one. OnHeld (held 1) second (λ other_text. OnText other_text Second (IsCompared limits one))) text
       (λ one formula. held_under (λ other_text. OnText other_text Second (IsCompared limits one)) (held 1) second other
-      (λ other_text has. on_text Second (IsCompared limits one) other_text
+      (λ other_text. on_text Second (IsCompared limits one) other_text
       (λ file other_formula. some_comparison laws accept outside_is models_are none_included limits one file formula.has_core other_formula.has_core))))
 
   -- ---- the others
 
   certify_held : (name : List ℕ) (held : Texts) → IsSome (held 0 name) → (outcome : Outcome) × Fulfils (Certify name) held outcome
   certify_held name held there =
-      held_under (λ text. OnAutomaton text IsCertificate) (held 0) name there (λ text is. on_automaton IsCertificate text (some_certificate fewest reached text))
+      held_under (λ text. OnAutomaton text IsCertificate) (held 0) name there (λ text. on_automaton IsCertificate text (some_certificate fewest reached text))
 
   convert_held : (name : List ℕ) (to : Version) (held : Texts) → IsSome (held 0 name) → (outcome : Outcome) × Fulfils (Convert name to) held outcome
   convert_held name to held there =
-      held_under (λ text. OnAutomaton text (IsConverted to)) (held 0) name there (λ text is. on_automaton (IsConverted to) text (λ file read. some_conversion to file))
+      held_under (λ text. OnAutomaton text (IsConverted to)) (held 0) name there (λ text. on_automaton (IsConverted to) text (λ file read. some_conversion to file))
 
   replay_held : (subset : Subset) (observer trace : List ℕ) (held : Texts) → IsSome (held 0 observer) → IsSome (held 1 trace)
       → (outcome : Outcome) × Fulfils (Replay subset observer trace) held outcome

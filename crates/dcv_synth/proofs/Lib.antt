@@ -8,7 +8,7 @@ mod Forced
 mod Keeping
 mod LeastMoves
 mod LeastOutputs
-mod Listed
+pub mod Listed
 mod Losing
 mod Merges
 mod NodeNames
@@ -16,13 +16,13 @@ mod OneAnswer
 mod OneRound
 mod OneUnit
 mod RankEnds
-mod Ranking
+pub mod Ranking
 mod Rounds
 mod RowRanks
 mod SameJoins
 mod SameSets
 mod SameSteps
-mod Tracks
+pub mod Tracks
 mod Unbeaten
 mod UnitForms
 mod UnitLines
