@@ -30,7 +30,7 @@ abbrev mutual
   parts (TruthOr operands) = all_parts operands ++ TruthOr operands ∷ []
   parts (TruthIff operands) = all_parts operands ++ TruthIff operands ∷ []
   -- of no core
-  parts (TruthShift forward p span) = []
+  parts (TruthShift direction p span) = []
 
   pub all_parts : PlainTruths → List PlainTruth
   all_parts no_truths = []

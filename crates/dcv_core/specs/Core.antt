@@ -6,6 +6,7 @@
 use Rattle.std.specs.Prelude.{ℕ, Bool}
 use Rattle.dcv_syntax.specs.declared.names.Span.{Span}
 use Rattle.dcv_syntax.specs.declared.formulas.Relation.{Relation}
+use Rattle.dcv_core.specs.declared.truths.Direction.{Direction}
 
 mutual
   pub data PlainTruth : Type 0 where
@@ -15,8 +16,8 @@ mutual
     TruthAnd : (operands : PlainTruths) → PlainTruth
     TruthOr : (operands : PlainTruths) → PlainTruth
     TruthIff : (operands : PlainTruths) → PlainTruth
-    -- a proposition one instant later, or earlier, with its place: of a goal whose shifts have no slots yet
-    TruthShift : (forward : Bool) → (operand : PlainTruth) → (span : Span) → PlainTruth
+    -- a proposition one instant earlier or later, with its place: of a goal whose shifts have no slots yet
+    TruthShift : (direction : Direction) → (operand : PlainTruth) → (span : Span) → PlainTruth
 
   pub data PlainTruths : Type 0 where
     no_truths : PlainTruths

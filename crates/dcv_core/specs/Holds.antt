@@ -6,13 +6,15 @@
 --     core_holds       a core, from instant b to instant e
 --     expanded_holds   a goal with shifts
 --     words_of         the set of words on the whole of which a core holds
-use Rattle.std.specs.Prelude.{if◌then◌else◌, ℕ, ◌+◌, ◌-◌, Bool, true, false, ◌&&◌, ◌||◌, not, ◌==◌, nat_lt, List, [], ◌∷◌, length, slice_index_or, take, drop, suc}
+use Rattle.std.specs.Prelude.{ℕ, ◌+◌, ◌-◌, Bool, true, false, ◌&&◌, ◌||◌, not, ◌==◌, nat_lt, List, [], ◌∷◌, length, slice_index_or, take, drop, suc}
 use Rattle.dcv_logic.specs.Search.{some_between, each_between, count_from, count_between}
 use Rattle.dcv_language.specs.Operations.{some_track, iff, with_track}
 use Rattle.dcv_logic.specs.Track.{truth_at}
 use Rattle.dcv_logic.specs.Satisfaction.{compares, star}
 use Rattle.dcv_word.specs.Behaviour.{Word}
 use Rattle.dcv_language.specs.Language.{Language}
+use Rattle.dcv_core.specs.declared.truths.Direction.{Direction}
+use Rattle.dcv_core.specs.declared.truths.Direction.TheVariants.{Prior, Next}
 use Rattle.dcv_core.specs.Core.{PlainTruth, TruthConstant, TruthSlot, TruthNot, TruthAnd, TruthOr, TruthIff, TruthShift, PlainTruths, no_truths, truth_operand}
 use Rattle.dcv_core.specs.Core.{PlainBasic, BasicConstant, BasicPoint, BasicRun, BasicEvery, BasicUnit, BasicSlen, BasicScount, BasicSdur, BasicBack, BasicFore, CoreTree}
 use Rattle.dcv_core.specs.Core.{CoreAtom, CoreNot, CoreAnd, CoreOr, CoreIff, CoreChop, CoreStar, CoreExists}
@@ -30,7 +32,7 @@ abbrev mutual
   truth_holds (TruthOr operands) letter = some_truth operands letter
   truth_holds (TruthIff operands) letter = iff_truths true operands letter
   -- a letter alone says nothing of other instants
-  truth_holds (TruthShift forward p span) letter = false
+  truth_holds (TruthShift direction p span) letter = false
 
   pub all_truths : PlainTruths → List Bool → Bool
   all_truths no_truths letter = true
@@ -49,9 +51,10 @@ abbrev mutual
 abbrev pub holds_at : PlainTruth → Word → ℕ → Bool
 holds_at p word i = truth_holds p (letter_at word i)
 
--- what f is one instant later, or earlier, where that is one of the n instants
-abbrev pub shifted : Bool → ℕ → (ℕ → Bool) → ℕ → Bool
-shifted forward n f i = if forward then nat_lt (i + 1) n && f (i + 1) else nat_lt 0 i && f (i - 1)
+-- what f is one instant earlier, or later, where that is one of the n instants
+abbrev pub shifted : Direction → ℕ → (ℕ → Bool) → ℕ → Bool
+shifted Prior n f i = nat_lt 0 i && f (i - 1)
+shifted Next n f i = nat_lt (i + 1) n && f (i + 1)
 
 -- the same of a proposition with shifts, which look at other instants of the word
 abbrev mutual
@@ -62,7 +65,7 @@ abbrev mutual
   value_at (TruthAnd operands) word i = all_values operands word i
   value_at (TruthOr operands) word i = some_value operands word i
   value_at (TruthIff operands) word i = iff_values true operands word i
-  value_at (TruthShift forward p span) word i = shifted forward (length word) (value_at p word) i
+  value_at (TruthShift direction p span) word i = shifted direction (length word) (value_at p word) i
 
   pub all_values : PlainTruths → Word → ℕ → Bool
   all_values no_truths word i = true

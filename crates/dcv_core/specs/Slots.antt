@@ -1,7 +1,10 @@
--- Which slots a proposition names.
+-- Which slots a proposition names, and whether a shift stands in it.
 --     IsBelow k p        each slot in the proposition is one of the first k
 --     OpIsBelow k op     so is each slot in the operator's proposition, where it has one
 --     CoreIsBelow k c    so is each slot in the core's propositions, where a quantifier has one slot more in use
+--     HasNoShift p       no shift stands in the proposition
+--     OpHasNoShift op    nor in the operator's proposition, where it has one
+--     CoreHasNoShift c   nor in the core's propositions
 use Rattle.std.specs.Prelude.{ℕ, ◌+◌, ◌<◌}
 use Rattle.dcv_core.specs.Core.{PlainTruth, TruthConstant, TruthSlot, TruthNot, TruthAnd, TruthOr, TruthIff, TruthShift, PlainTruths, no_truths, truth_operand, PlainBasic, BasicConstant, BasicPoint, BasicRun, BasicEvery, BasicUnit}
 use Rattle.dcv_core.specs.Core.{BasicSlen, BasicScount, BasicSdur, BasicBack, BasicFore}
@@ -16,7 +19,7 @@ abbrev mutual
   IsBelow k (TruthAnd operands) = AreBelow k operands
   IsBelow k (TruthOr operands) = AreBelow k operands
   IsBelow k (TruthIff operands) = AreBelow k operands
-  IsBelow k (TruthShift forward p span) = IsBelow k p
+  IsBelow k (TruthShift direction p span) = IsBelow k p
 
   pub AreBelow : ℕ → PlainTruths → Type 0
   AreBelow k no_truths = Unit {0}
@@ -53,3 +56,51 @@ CoreIsBelow k (CoreIff c d span) = CoreIsBelow k c × CoreIsBelow k d
 CoreIsBelow k (CoreChop c d span) = CoreIsBelow k c × CoreIsBelow k d
 CoreIsBelow k (CoreStar d span) = CoreIsBelow k d
 CoreIsBelow k (CoreExists d span) = CoreIsBelow (k + 1) d
+
+-- ---- shifts
+
+abbrev mutual
+  pub HasNoShift : PlainTruth → Type 0
+  HasNoShift (TruthConstant truth) = Unit {0}
+  HasNoShift (TruthSlot slot) = Unit {0}
+  HasNoShift (TruthNot p) = HasNoShift p
+  HasNoShift (TruthAnd operands) = HaveNoShift operands
+  HasNoShift (TruthOr operands) = HaveNoShift operands
+  HasNoShift (TruthIff operands) = HaveNoShift operands
+  HasNoShift (TruthShift direction p span) = ⊥
+
+  pub HaveNoShift : PlainTruths → Type 0
+  HaveNoShift no_truths = Unit {0}
+  HaveNoShift (truth_operand p operands) = HasNoShift p × HaveNoShift operands
+
+abbrev pub BasicHasNoShift : PlainBasic → Type 0
+BasicHasNoShift (BasicConstant truth) = Unit {0}
+BasicHasNoShift (BasicPoint p) = HasNoShift p
+BasicHasNoShift (BasicRun p) = HasNoShift p
+BasicHasNoShift (BasicEvery p) = HasNoShift p
+BasicHasNoShift (BasicUnit p) = HasNoShift p
+BasicHasNoShift (BasicSlen relation n) = Unit {0}
+BasicHasNoShift (BasicScount p relation n) = HasNoShift p
+BasicHasNoShift (BasicSdur p relation n) = HasNoShift p
+BasicHasNoShift (BasicBack p slot) = HasNoShift p
+BasicHasNoShift (BasicFore p slot) = HasNoShift p
+
+abbrev pub OpHasNoShift : PlainOp → Type 0
+OpHasNoShift (OpAtom basic) = BasicHasNoShift basic
+OpHasNoShift (OpNot d) = Unit {0}
+OpHasNoShift (OpAnd c d) = Unit {0}
+OpHasNoShift (OpOr c d) = Unit {0}
+OpHasNoShift (OpIff c d) = Unit {0}
+OpHasNoShift (OpChop c d) = Unit {0}
+OpHasNoShift (OpStar d) = Unit {0}
+OpHasNoShift (OpExists d) = Unit {0}
+
+abbrev pub CoreHasNoShift : CoreTree → Type 0
+CoreHasNoShift (CoreAtom basic span) = BasicHasNoShift basic
+CoreHasNoShift (CoreNot d span) = CoreHasNoShift d
+CoreHasNoShift (CoreAnd c d span) = CoreHasNoShift c × CoreHasNoShift d
+CoreHasNoShift (CoreOr c d span) = CoreHasNoShift c × CoreHasNoShift d
+CoreHasNoShift (CoreIff c d span) = CoreHasNoShift c × CoreHasNoShift d
+CoreHasNoShift (CoreChop c d span) = CoreHasNoShift c × CoreHasNoShift d
+CoreHasNoShift (CoreStar d span) = CoreHasNoShift d
+CoreHasNoShift (CoreExists d span) = CoreHasNoShift d

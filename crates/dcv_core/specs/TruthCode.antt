@@ -1,9 +1,11 @@
--- Propositions over slots as lists of numbers, which give them back: the code by which proofs tell the values of a `Core` apart.
--- A proposition is written behind its operands, and is read by a machine with a stack of propositions and one of lists.
+-- An encoding of propositions over slots as lists of numbers, and its inverse. The model of `Core` needs it, so that proofs can
+-- tell its values apart. A proposition is written behind its operands, and is read by a machine with a stack of propositions and one of lists.
 use Rattle.std.specs.Prelude.{◌≡◌, ℕ, zero, suc, Bool, true, false, List, [], ◌∷◌, ◌++◌, refl}
 use Rattle.std.specs.Coded.{Coded, code_by, coded×, coded_list, coded_ℕ}
 use Rattle.std.proofs.Common.{ap, sym, ◌∙◌}
 use Rattle.std.proofs.lemmas.List.{append_assoc, append-nil}
+use Rattle.dcv_core.specs.declared.truths.Direction.{Direction}
+use Rattle.dcv_core.specs.declared.truths.Direction.TheVariants.{Prior, Next}
 use Rattle.dcv_core.specs.Core.{PlainTruth, TruthConstant, TruthSlot, TruthNot, TruthAnd, TruthOr, TruthIff, TruthShift, PlainTruths, no_truths, truth_operand}
 
 abbrev Written : Type 0
@@ -13,6 +15,10 @@ abbrev bit : Bool → ℕ
 bit false = zero
 bit true = suc zero
 
+abbrev direction_bit : Direction → ℕ
+direction_bit Prior = zero
+direction_bit Next = suc zero
+
 abbrev mutual
   written : PlainTruth → Written
   written (TruthConstant truth) = (0, bit truth) ∷ []
@@ -21,7 +27,7 @@ abbrev mutual
   written (TruthAnd operands) = all_written operands ++ (3, 0) ∷ []
   written (TruthOr operands) = all_written operands ++ (4, 0) ∷ []
   written (TruthIff operands) = all_written operands ++ (5, 0) ∷ []
-  written (TruthShift forward p span) = written p ++ (8, span.start) ∷ (9, span.end) ∷ (10, bit forward) ∷ []
+  written (TruthShift direction p span) = written p ++ (8, span.start) ∷ (9, span.end) ∷ (10, direction_bit direction) ∷ []
 
   all_written : PlainTruths → Written
   all_written no_truths = (6, 0) ∷ []
@@ -50,23 +56,23 @@ denied (p ∷ truths) = TruthNot p ∷ truths
 -- a shift is read in three steps: its start, its end, and its direction
 abbrev shifted : ℕ → List PlainTruth → List PlainTruth
 shifted start [] = []
-shifted start (p ∷ truths) = TruthShift false p (record { start = start; end = 0 }) ∷ truths
+shifted start (p ∷ truths) = TruthShift Prior p (record { start = start; end = 0 }) ∷ truths
 
 abbrev with_end : ℕ → PlainTruth → PlainTruth
-with_end end (TruthShift forward p span) = TruthShift forward p (record { start = span.start; end = end })
+with_end end (TruthShift direction p span) = TruthShift direction p (record { start = span.start; end = end })
 with_end end p = p
 
-abbrev with_direction : Bool → PlainTruth → PlainTruth
-with_direction forward (TruthShift other p span) = TruthShift forward p span
-with_direction forward p = p
+abbrev with_direction : Direction → PlainTruth → PlainTruth
+with_direction direction (TruthShift other p span) = TruthShift direction p span
+with_direction direction p = p
 
 abbrev first_changed : (PlainTruth → PlainTruth) → List PlainTruth → List PlainTruth
 first_changed f [] = []
 first_changed f (p ∷ truths) = f p ∷ truths
 
-abbrev is_one : ℕ → Bool
-is_one zero = false
-is_one (suc n) = true
+abbrev direction_of_bit : ℕ → Direction
+direction_of_bit zero = Prior
+direction_of_bit (suc n) = Next
 
 abbrev listed : (PlainTruths → PlainTruth) → List PlainTruths → List PlainTruth → Stacks
 listed f [] truths = record { truths = truths; lists = [] }
@@ -87,7 +93,7 @@ step (suc (suc (suc (suc (suc (suc zero)))))) n s = with_list no_truths s
 step (suc (suc (suc (suc (suc (suc (suc zero))))))) m s = longer s.truths s.lists
 step (suc (suc (suc (suc (suc (suc (suc (suc zero)))))))) n s = record s { truths = shifted n s.truths }
 step (suc (suc (suc (suc (suc (suc (suc (suc (suc zero))))))))) n s = record s { truths = first_changed (with_end n) s.truths }
-step (suc (suc (suc (suc (suc (suc (suc (suc (suc (suc m)))))))))) n s = record s { truths = first_changed (with_direction (is_one n)) s.truths }
+step (suc (suc (suc (suc (suc (suc (suc (suc (suc (suc m)))))))))) n s = record s { truths = first_changed (with_direction (direction_of_bit n)) s.truths }
 
 abbrev run : Written → Stacks → Stacks
 run [] s = s
@@ -102,9 +108,9 @@ read word = first_truth (run word (record { truths = []; lists = [] })).truths
 
 -- ---- what was written is read
 
-one-read : (truth : Bool) → is_one (bit truth) ≡ truth
-one-read false = refl
-one-read true = refl
+direction-read : (direction : Direction) → direction_of_bit (direction_bit direction) ≡ direction
+direction-read Prior = refl
+direction-read Next = refl
 
 bit-read : (truth : Bool) → truth_of_bit (bit truth) ≡ TruthConstant truth
 bit-read false = refl
@@ -118,10 +124,10 @@ mutual
   runs (TruthAnd operands) rest s = ap (λ word. run word s) (append_assoc (all_written operands) ((3, 0) ∷ []) rest) ∙ all_run operands ((3, 0) ∷ rest) s
   runs (TruthOr operands) rest s = ap (λ word. run word s) (append_assoc (all_written operands) ((4, 0) ∷ []) rest) ∙ all_run operands ((4, 0) ∷ rest) s
   runs (TruthIff operands) rest s = ap (λ word. run word s) (append_assoc (all_written operands) ((5, 0) ∷ []) rest) ∙ all_run operands ((5, 0) ∷ rest) s
-  runs (TruthShift forward p span) rest s =
-      ap (λ word. run word s) (append_assoc (written p) ((8, span.start) ∷ (9, span.end) ∷ (10, bit forward) ∷ []) rest)
-      ∙ runs p ((8, span.start) ∷ (9, span.end) ∷ (10, bit forward) ∷ rest) s
-      ∙ ap (λ b. run rest (with_truth (TruthShift b p span) s)) (one-read forward)
+  runs (TruthShift direction p span) rest s =
+      ap (λ word. run word s) (append_assoc (written p) ((8, span.start) ∷ (9, span.end) ∷ (10, direction_bit direction) ∷ []) rest)
+      ∙ runs p ((8, span.start) ∷ (9, span.end) ∷ (10, direction_bit direction) ∷ rest) s
+      ∙ ap (λ d. run rest (with_truth (TruthShift d p span) s)) (direction-read direction)
 
   all_run : (operands : PlainTruths) (rest : Written) (s : Stacks) → run (all_written operands ++ rest) s ≡ run rest (with_list operands s)
   all_run no_truths rest s = refl

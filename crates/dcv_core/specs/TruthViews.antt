@@ -15,7 +15,7 @@ abbrev mutual
   plain_truth (And' shape operands) = TruthAnd (plain_truths operands)
   plain_truth (Or' shape operands) = TruthOr (plain_truths operands)
   plain_truth (Iff' shape operands) = TruthIff (plain_truths operands)
-  plain_truth (Shift' forward pointer operand span) = TruthShift forward (plain_truth operand) span
+  plain_truth (Shift' direction pointer operand span) = TruthShift direction (plain_truth operand) span
 
   pub plain_truths : {m : _} → Row_of-Truth m → PlainTruths
   plain_truths end_of-Truth = no_truths

@@ -20,4 +20,4 @@ mod truths;
 
 pub use dcv_syntax::Relation as Rel;
 pub use steps::{Core, Op, Operator};
-pub use truths::{Basic, Truth};
+pub use truths::{Basic, Direction, Truth};

@@ -1,5 +1,5 @@
 // The core of a formula, as the list of its steps: its operators in post-order, each after its operands.
-ghost use Rattle.std.specs.Prelude.{◌≡◌, ◌<◌, ◌+◌, ◌^◌, [], length, Some, slice_get, IfOk};
+ghost use Rattle.std.specs.Prelude.{◌≡◌, ◌<◌, ◌+◌, ◌^◌, [], length, Some, slice_get, IfOk, OnErr};
 ghost use Rattle.std.specs.Option.{option_map};
 ghost use Rattle.dcv_core.specs.Steps.{Pushed};
 ghost use Rattle.dcv_core.specs.StepViews.{plain_op, plain_operator};
@@ -119,7 +119,8 @@ impl Core {
     /// Adds a step, and gives its number.
     pub fn push(&mut self, operator: Operator, span: Span, slots: u8) -> Result<u32, AllocError>
         requires { length self.old.steps + 1 < 2 ^ 32 }
-        ensures { IfOk result (Pushed self.old (plain_operator operator) span slots self.new) }
+        ensures ok { IfOk result (Pushed self.old (plain_operator operator) span slots self.new) }
+        ensures err { OnErr result (self.new ≡ self.old) }
     {
         let number = self.steps.len() as u32;
         self.steps.push(Step {

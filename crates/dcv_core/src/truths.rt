@@ -5,6 +5,15 @@ ghost use Rattle.dcv_core.specs.TruthViews.{plain_truth};
 use dcv_syntax::{Relation as Rel, Span};
 use std::alloc::{AllocError, Global};
 
+/// Where a shifted proposition looks.
+#[derive(Clone, Copy, Debug, PartialEq, Eq)]
+pub enum Direction {
+    /// At the instant before, as `-P` does.
+    Prior,
+    /// At the next instant, as `+P` does.
+    Next,
+}
+
 /// A proposition over slots. A list may have any number of operands; `Iff` groups to the left.
 #[cycle(truth)]
 #[derive(Debug, Drop)]
@@ -16,9 +25,9 @@ pub enum Truth {
     And(Vec<Truth>),
     Or(Vec<Truth>),
     Iff(Vec<Truth>),
-    /// The operand one instant later, where the first part is true, or else earlier, with its place. It stands in a goal whose shifts have no
-    /// slots yet, and in no core.
-    Shift(bool, Box<Truth>, Span),
+    /// The operand one instant earlier or later, with its place. Only a goal has it whose shifts have no slots yet: none is
+    /// left in the core that `dcv_scope::expand` makes.
+    Shift(Direction, Box<Truth>, Span),
 }
 
 /// A form without a formula in it.
@@ -59,8 +68,8 @@ impl Truth {
             Truth::And(operands) => Ok(Truth::And(copy_all(alloc, operands)?)),
             Truth::Or(operands) => Ok(Truth::Or(copy_all(alloc, operands)?)),
             Truth::Iff(operands) => Ok(Truth::Iff(copy_all(alloc, operands)?)),
-            Truth::Shift(forward, operand, span) => Ok(Truth::Shift(
-                *forward,
+            Truth::Shift(direction, operand, span) => Ok(Truth::Shift(
+                *direction,
                 Box::new(alloc, operand.copy(alloc)?)?,
                 *span,
             )),

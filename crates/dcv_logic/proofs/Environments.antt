@@ -1,7 +1,8 @@
 -- What the environment of a scope has under a name.
-use Rattle.std.proofs.Common.{◌≡◌, ◌≢◌, ℕ, Bool, true, false, cond, List, [], ◌∷◌, ◌++◌, Option, Some, None, map, refl, ap, ◌∙◌}
+use Rattle.std.proofs.Common.{◌≡◌, ◌≢◌, ℕ, Bool, true, false, cond, List, [], ◌∷◌, ◌++◌, Option, Some, None, Bor, map, refl, ap, ◌∙◌}
 use Rattle.std.specs.Str.{bytes_eq}
-use Rattle.std.specs.List.{AllByRecursion}
+use Rattle.std.specs.List.{AllByRecursion, find}
+use Rattle.std.specs.Option.{option_map}
 use Rattle.std.proofs.lemmas.Bool.{false_from_ne_true}
 use Rattle.std.proofs.lemmas.List.{map-append}
 use Rattle.std.proofs.lemmas.Slice.Eq.{bytes_eq-Decides}
@@ -30,6 +31,25 @@ found-append [] ys name = refl
 found-append (x ∷ xs) ys name =
     ap (cond (bytes_eq x.0 name) (Some x.1)) (found-append xs ys name)
     ∙ found_in (bytes_eq x.0 name) x.1 (found xs name) (found ys name)
+
+-- the first binding of a name has what is found under it
+pub track_of_first : (bindings : List Binding) (name : List ℕ) →
+    option_map (λ (b : Binding). b.track.items) (find (λ (b : Binding). bytes_eq b.name name) bindings) ≡ found (tracks_of bindings) name
+track_of_first [] name = refl
+track_of_first (b ∷ bindings) name = here_or_later (bytes_eq b.name name) (track_of_first bindings name)
+  where
+    here_or_later : (here : Bool) →
+        option_map (λ (b : Binding). b.track.items) (find (λ (b : Binding). bytes_eq b.name name) bindings) ≡ found (tracks_of bindings) name →
+        option_map (λ (b : Binding). b.track.items) (cond here (Some b) (find (λ (b : Binding). bytes_eq b.name name) bindings))
+        ≡ cond here (Some b.track.items) (found (tracks_of bindings) name)
+    here_or_later true later = refl
+    here_or_later false later = later
+
+pub track_found : (r : Option (Bor Binding)) (bindings : List Binding) (name : List ℕ) →
+    option_map (λ (b : Bor Binding). b.now) r ≡ find (λ (b : Binding). bytes_eq b.name name) bindings →
+    option_map (λ (b : Bor Binding). b.now.track.items) r ≡ found (tracks_of bindings) name
+track_found None bindings name is = ap (option_map (λ (b : Binding). b.track.items)) is ∙ track_of_first bindings name
+track_found (Some b) bindings name is = ap (option_map (λ (b : Binding). b.track.items)) is ∙ track_of_first bindings name
 
 pub environment_of-tracks : (s : Scope) → (environment_of s).tracks ≡ tracks_of s.locals.items ++ tracks_of s.declared.now
 unfolding environment_of

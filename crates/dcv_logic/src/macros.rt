@@ -13,7 +13,7 @@ pub fn newest<'a>(macros: &'a [Macro], name: &Text) -> Option<(&'a Macro, &'a [M
 {
     let mut earlier = macros;
     while let Some((last, before)) = earlier.split_last() {
-        if last.name.text.as_bytes() == name.as_bytes() {
+        if last.name.text == *name {
             return Some((last, before));
         }
         earlier = before;

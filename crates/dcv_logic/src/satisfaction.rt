@@ -225,7 +225,7 @@ impl Scope<'_> {
         Ok(false)
     }
 
-    // Whether the body is true, or false, on some part.
+    // Whether some part gives the body this truth.
     #[cycle(satisfies)]
     fn somewhere(
         &self,
@@ -269,7 +269,7 @@ impl Scope<'_> {
         Ok(false)
     }
 
-    // Whether the body is true, or false, where the name stands for some track.
+    // Whether some track for the name gives the body this truth.
     #[cycle(satisfies)]
     fn some_track(
         &self,

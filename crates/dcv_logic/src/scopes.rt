@@ -47,12 +47,8 @@ pub(crate) struct Scope<'a> {
 fn track_in<'a>(bindings: &'a [Binding], name: &Text) -> Option<&'a [bool]>
     ensures { option_copied result ≡ found (tracks_of bindings.now) name.now }
 {
-    for binding in bindings {
-        if binding.name.as_bytes() == name.as_bytes() {
-            return Some(binding.track.as_slice());
-        }
-    }
-    None
+    let binding = bindings.iter().find(|binding| binding.name == *name)?;
+    Some(binding.track.as_slice())
 }
 
 impl<'a> Scope<'a> {

@@ -14,6 +14,7 @@ use Rattle.dcv_syntax.specs.Views.{plain_macro}
 use Rattle.dcv_logic.specs.Environment.{found}
 use Rattle.dcv_logic.specs.Newest.{IsNewest}
 use Rattle.dcv_scope.specs.declared.measures.MacroMeasure.{MacroMeasure}
+use Rattle.dcv_core.specs.declared.truths.Direction.TheVariants.{Prior, Next}
 use Rattle.dcv_core.specs.Core.{PlainTruth, TruthConstant, TruthNot, TruthAnd, TruthOr, TruthIff, TruthShift, no_truths, truth_operand}
 use Rattle.dcv_scope.specs.CoreOf.{Sight, expansion_of, with_expansions, declared_slots, truth_of, truth_of_call}
 use Rattle.dcv_scope.specs.CoreOf.{argument_truths, operand_truths}
@@ -148,8 +149,8 @@ module _ (sight : Sight) (k : ℕ) where
     truth-slots (PropOr operands) = ap TruthOr (operands-slots operands)
     truth-slots (PropImplies p p_span q q_span) = λ i. TruthOr (truth_operand (TruthNot (truth-slots p i)) (truth_operand (truth-slots q i) no_truths))
     truth-slots (PropIff operands) = ap TruthIff (operands-slots operands)
-    truth-slots (PropPrior form p span) = ap (λ truth. TruthShift false truth form) (truth-slots p)
-    truth-slots (PropNext form p span) = ap (λ truth. TruthShift true truth form) (truth-slots p)
+    truth-slots (PropPrior form p span) = ap (λ truth. TruthShift Prior truth form) (truth-slots p)
+    truth-slots (PropNext form p span) = ap (λ truth. TruthShift Next truth form) (truth-slots p)
 
     arguments-slots : (arguments : PlainArguments) → argument_truths (record sight { slots = k }) arguments ≡ argument_truths sight arguments
     arguments-slots no_arguments = refl

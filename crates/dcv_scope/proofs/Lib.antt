@@ -2,6 +2,7 @@ pub mod Calls
 pub mod Capped
 pub mod Examples
 pub mod Faulting
+pub mod Finding
 pub mod GoalCore
 pub mod GoalRoom
 pub mod InSight

@@ -15,6 +15,7 @@ use Rattle.dcv_syntax.specs.Plain.{FormulaAnd, FormulaOr, FormulaImplies, Formul
 use Rattle.dcv_syntax.specs.Plain.{FormulaExists, FormulaForAll, PlainFormulaOperands, no_formula_operands, formula_operand, arguments_of, PlainMacroBody}
 use Rattle.dcv_syntax.specs.Plain.{FormulaBody, PropBody, PlainMacro}
 use Rattle.dcv_logic.specs.Environment.{found}
+use Rattle.dcv_core.specs.declared.truths.Direction.TheVariants.{Prior, Next}
 use Rattle.dcv_core.specs.Core.{PlainTruth, TruthSlot, TruthNot, TruthAnd, TruthOr, TruthIff, TruthShift, no_truths, truth_operand, BasicPoint, BasicRun}
 use Rattle.dcv_core.specs.Core.{BasicEvery, BasicUnit, BasicScount, BasicSdur, CoreTree, CoreAtom, CoreNot, CoreAnd, CoreOr, CoreIff, CoreChop, CoreStar}
 use Rattle.dcv_core.specs.Core.{CoreExists}
@@ -87,8 +88,8 @@ module _ (bound : ℕ) where
           let two = truth_agrees q (omega (arith, lt)) in
           λ i. TruthOr (truth_operand (TruthNot (one i)) (truth_operand (two i) no_truths))
       truth_agrees (PropIff operands) lt = ap TruthIff (operands_agree operands (omega (arith, lt)))
-      truth_agrees (PropPrior form p span) lt = ap (λ truth. TruthShift false truth form) (truth_agrees p (omega (arith, lt)))
-      truth_agrees (PropNext form p span) lt = ap (λ truth. TruthShift true truth form) (truth_agrees p (omega (arith, lt)))
+      truth_agrees (PropPrior form p span) lt = ap (λ truth. TruthShift Prior truth form) (truth_agrees p (omega (arith, lt)))
+      truth_agrees (PropNext form p span) lt = ap (λ truth. TruthShift Next truth form) (truth_agrees p (omega (arith, lt)))
 
       arguments_agree : (arguments : PlainArguments) → ArgumentsAgree (measures_of_arguments measured arguments) (argument_truths s arguments) (argument_truths t arguments)
       arguments_agree no_arguments = tt

@@ -44,7 +44,7 @@ mutual
   more_slots (TruthAnd operands) k j le b = more_slots_in operands k j le b
   more_slots (TruthOr operands) k j le b = more_slots_in operands k j le b
   more_slots (TruthIff operands) k j le b = more_slots_in operands k j le b
-  more_slots (TruthShift forward p span) k j le b = more_slots p k j le b
+  more_slots (TruthShift direction p span) k j le b = more_slots p k j le b
 
   more_slots_in : (operands : PlainTruths) (k j : ℕ) → k ≤ j → AreBelow k operands → AreBelow j operands
   more_slots_in no_truths k j le b = tt

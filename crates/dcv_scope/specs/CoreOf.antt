@@ -21,6 +21,7 @@ use Rattle.dcv_syntax.specs.Plain.{FormulaSomewhere, FormulaEverywhere, FormulaE
 use Rattle.dcv_syntax.specs.Plain.{formula_operand, arguments_of, PlainMacroBody, FormulaBody, PropBody, PlainMacro, PlainFile}
 use Rattle.dcv_logic.specs.Environment.{found}
 use Rattle.dcv_tracks.specs.Shifting.{shifted_core}
+use Rattle.dcv_core.specs.declared.truths.Direction.TheVariants.{Prior, Next}
 use Rattle.dcv_core.specs.Core.{PlainTruth, TruthConstant, TruthSlot, TruthNot, TruthAnd, TruthOr, TruthIff, TruthShift, PlainTruths, no_truths, truth_operand}
 use Rattle.dcv_core.specs.Core.{PlainBasic, BasicConstant, BasicPoint, BasicRun, BasicEvery, BasicUnit, BasicSlen, BasicScount, BasicSdur, CoreTree}
 use Rattle.dcv_core.specs.Core.{CoreAtom, CoreNot, CoreAnd, CoreOr, CoreIff, CoreChop, CoreStar, CoreExists}
@@ -81,8 +82,8 @@ abbrev mutual
   -- P <=> Q <=> ..
   truth_of sight (PropIff operands) = TruthIff (operand_truths sight operands)
   -- -P, +P
-  truth_of sight (PropPrior form p span) = TruthShift false (truth_of sight p) form
-  truth_of sight (PropNext form p span) = TruthShift true (truth_of sight p) form
+  truth_of sight (PropPrior form p span) = TruthShift Prior (truth_of sight p) form
+  truth_of sight (PropNext form p span) = TruthShift Next (truth_of sight p) form
 
   pub argument_truths : Sight → PlainArguments → List PlainTruth
   argument_truths sight no_arguments = []

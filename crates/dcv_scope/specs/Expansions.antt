@@ -1,4 +1,4 @@
--- For the proofs alone: what the expansion has in sight, in the words of `CoreOf`.
+-- For private functions and proofs: what the expansion has in sight, in the words of `CoreOf`.
 use Rattle.std.specs.Prelude.{◌≡◌, ℕ, ◌+◌, ◌<◌, true, false, List, [], ◌∷◌, ◌++◌, Some, map, length, if◌then◌else◌}
 use Rattle.std.specs.Prelude.{Option, None, slice_index_or}
 use Rattle.dcv_syntax.specs.declared.names.Span.{Span}
@@ -96,7 +96,7 @@ pub record IsParameter (parameters : List Name) (p : PlainPropKind) (j : ℕ) : 
 pub record IsSight (s : SightOfCode) : Type 0 where
   pub few : length s.variables.now < 256
   pub relays : AreRelays s.variables.now s.macros.now s.relays.now
-  pub measured : AreMeasuresOf (variables_alone s.variables.now) (map plain_macro s.macros.now) s.uses.now
+  pub measured : AreMeasuresOf (variables_alone s.variables.now) (map plain_macro s.macros.now) s.measures.now
 
 -- what a macro stands for does not depend on its argument at place j
 abbrev pub ExpansionPassesOver : ℕ → Expansion → Type 0
@@ -107,7 +107,7 @@ ExpansionPassesOver j (FormulaExpansion c) = (k : ℕ) → PassesOver j (c k)
 pub record IsCalled (s : SightOfCode) (name : List ℕ) (called : Called) : Type 0 where
   pub newest : IsNewest s.macros.now name called.defined.now called.macros.now
   pub few : length called.variables.now < 256
-  pub measured : AreMeasuresOf (variables_alone called.variables.now) (map plain_macro called.macros.now) called.uses.now
+  pub measured : AreMeasuresOf (variables_alone called.variables.now) (map plain_macro called.macros.now) called.measures.now
   pub relays : AreRelays called.variables.now called.macros.now called.relays.now
   pub expansion : found (sight_of s).macros name ≡ Some (expansion_of (top_sight_of called.variables.now called.macros.now) (plain_macro called.defined.now))
   pub skips : (j : ℕ) → uses_parameter called.measure.now j ≡ false

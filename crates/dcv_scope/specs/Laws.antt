@@ -8,7 +8,7 @@ use Rattle.dcv_logic.specs.Track.{Track}
 use Rattle.dcv_word.specs.Behaviour.{Word, IsBehaviour}
 use Rattle.dcv_core.specs.Holds.{core_holds, expanded_holds, words_of}
 use Rattle.dcv_core.specs.Steps.{PlainStep, steps_of}
-use Rattle.dcv_core.specs.Slots.{OpIsBelow}
+use Rattle.dcv_core.specs.Slots.{OpIsBelow, OpHasNoShift}
 use Rattle.dcv_tracks.specs.Shifting.{shifts_in, placed_core, bound_shift}
 use Rattle.dcv_tracks.specs.Tracks.{with_tracks, AreTracks}
 use Rattle.dcv_scope.specs.CoreOf.{expanded_file, core_of_file}
@@ -50,3 +50,8 @@ SlotsAreFew = (file : PlainFile) (n : ℕ) (step : PlainStep)
 abbrev pub SlotsAreInUse : Type 0
 SlotsAreInUse = (file : PlainFile) → HasNoBoundShift file → (n : ℕ) (step : PlainStep)
     → slice_get (steps_of (length file.variables) (core_of_file file)) n ≡ Some step → OpIsBelow step.slots step.op
+
+-- and no shift is left in it
+abbrev pub NoShiftIsLeft : Type 0
+NoShiftIsLeft = (file : PlainFile) (n : ℕ) (step : PlainStep)
+    → slice_get (steps_of (length file.variables) (core_of_file file)) n ≡ Some step → OpHasNoShift step.op

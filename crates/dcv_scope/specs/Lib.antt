@@ -4,7 +4,7 @@ pub mod Measures
 pub mod Faults
 pub mod CoreOf
 pub mod Laws
--- For the proofs alone: measures as functions of arguments, and what the walks over the text have in sight.
+-- For private functions and proofs: measures as functions of arguments, and what the walks over the text have in sight.
 pub mod Unused
 pub mod Linear
 pub mod Sights

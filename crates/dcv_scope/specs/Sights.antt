@@ -1,4 +1,4 @@
--- For the proofs alone: what the walk over the names has in sight, in the words of `Names`.
+-- For private functions and proofs: what the walk over the names has in sight, in the words of `Names`.
 use Rattle.std.specs.Prelude.{List, [], ◌∷◌, ◌++◌, Option, Some, None, map, ℕ}
 use denote.Bor.{Bor}
 use Rattle.std.specs.Option.{option_or}
@@ -6,7 +6,7 @@ use Rattle.dcv_syntax.specs.declared.names.Name.{Name}
 use Rattle.dcv_syntax.specs.declared.files.Macro.{Macro}
 use Rattle.dcv_syntax.specs.Views.{plain_macro}
 use Rattle.dcv_scope.specs.declared.faults.ScopeFault.{ScopeFault}
-use Rattle.dcv_scope.specs.declared.naming.Names.{Names}
+use Rattle.dcv_scope.specs.declared.naming.Sight.{Sight}
 use Rattle.dcv_scope.specs.Names.{InSight, Signature, macro_in_sight, texts, first_fault, occurrences_in_macro}
 
 abbrev pub texts_of : List (Bor Name) → List (List ℕ)
@@ -20,11 +20,11 @@ abbrev pub signatures_of : List Macro → List (List ℕ × Signature)
 signatures_of = map (λ (m : Macro). macro_in_sight (plain_macro m))
 
 -- what the walk has in sight
-abbrev pub in_sight_of : Names → InSight
-in_sight_of names = record {
-  variables = texts_of names.variables.items;
-  macros = signatures_of names.macros.now;
-  defining = defining_of names.defining;
+abbrev pub in_sight_of : Sight → InSight
+in_sight_of sight = record {
+  variables = texts_of sight.variables.items;
+  macros = signatures_of sight.macros.now;
+  defining = defining_of sight.defining;
 }
 
 -- the first fault of a list, each of whose members has this

@@ -1,4 +1,4 @@
--- For the proofs alone: the exact linear measures of a text, which the walk over it computes as far as numbers go.
+-- For private functions and proofs: the exact linear measures of a text, which the walk over it computes as far as numbers go.
 use Rattle.std.specs.Prelude.{◌≡◌, ℕ, ◌+◌, ◌*◌, max, List, [], ◌∷◌, ◌++◌, Option, Some, None, map, replicate, slice_set}
 use denote.Bor.{Bor}
 use Rattle.dcv_syntax.specs.declared.names.Name.{Name}

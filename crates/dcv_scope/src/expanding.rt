@@ -18,9 +18,9 @@ use dcv_syntax::File;
 use dcv_tracks::{GatherFault, Shift, bound_shift_of, core_of, shifts_of};
 use std::alloc::Global;
 
-/// The core of the file's goal. A file with a fault has none, and its first fault is the answer: of its names, whether their
-/// macros are called or not, and else of its goal, whose size, depth and quantifiers are found before its macros are replaced by
-/// their bodies, and whose prior and next propositions then.
+/// The core of the file's goal, or the first fault of the file: of its names in the order of the text, whether a macro is called
+/// or not; then of the goal's size, depth and slots; then of a prior or next proposition that looks at a quantified variable.
+/// Size and depth are found before any step is made.
 pub fn expand(alloc: Global, file: &File) -> Result<Core, ScopeFault>
     ensures declared { IfOk result (λ core. core.declared ≡ length (plain_file file.now).variables) }
     ensures steps { IfOk result (λ core. core.steps ≡ map without_core

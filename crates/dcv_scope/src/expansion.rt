@@ -23,7 +23,7 @@ mod relays;
 
 use self::relays::relays_of;
 use crate::measures::MacroMeasure;
-use dcv_core::{Basic, Core, Operator, Truth};
+use dcv_core::{Basic, Core, Direction, Operator, Truth};
 use dcv_logic::newest;
 use dcv_syntax::{
     File, Formula, FormulaKind, FormulaOperand, Macro, MacroBody, Name, Prop, PropKind,
@@ -66,7 +66,7 @@ struct Sight<'a> {
     variables: &'a [Name],
     // The macros before this one, in order, with their measures, and the places to which relays hand on.
     macros: &'a [Macro],
-    uses: &'a [MacroMeasure],
+    measures: &'a [MacroMeasure],
     relays: &'a [Option<usize>],
 }
 
@@ -77,7 +77,7 @@ struct Called<'a> {
     measure: &'a MacroMeasure,
     variables: &'a [Name],
     macros: &'a [Macro],
-    uses: &'a [MacroMeasure],
+    measures: &'a [MacroMeasure],
     relays: &'a [Option<usize>],
 }
 
@@ -107,7 +107,7 @@ impl<'a> Called<'a> {
         arguments: &'a [Truth],
     ) -> Result<Sight<'a>, AllocError>
         requires few { length self.now.variables.now < 256 }
-        requires measured { AreMeasuresOf (variables_alone self.now.variables.now) (map plain_macro self.now.macros.now) self.now.uses.now }
+        requires measured { AreMeasuresOf (variables_alone self.now.variables.now) (map plain_macro self.now.macros.now) self.now.measures.now }
         requires relays { AreRelays self.now.variables.now self.now.macros.now self.now.relays.now }
         ensures sight { IfOk result (λ inner. sight_of inner ≡ record (bind_arguments
             (top_sight_of self.now.variables.now self.now.macros.now)
@@ -128,7 +128,7 @@ impl<'a> Called<'a> {
             names: with_variables(names, self.variables)?,
             variables: self.variables,
             macros: self.macros,
-            uses: self.uses,
+            measures: self.measures,
             relays: self.relays,
         })
     }
@@ -139,12 +139,11 @@ impl<'a> Sight<'a> {
     fn meaning(&self, name: &Text) -> Option<Meaning<'a>>
         ensures { option_map meant result ≡ found (sight_of self.now).truths name.now }
     {
-        for binding in &self.names {
-            if binding.name.text.as_bytes() == name.as_bytes() {
-                return Some(binding.meaning);
-            }
-        }
-        None
+        let binding = self
+            .names
+            .iter()
+            .find(|binding| binding.name.text == *name)?;
+        Some(binding.meaning)
     }
 
     // The macro that a name stands for.
@@ -159,10 +158,10 @@ impl<'a> Sight<'a> {
         };
         Some(Called {
             defined,
-            measure: &self.uses[macros.len()],
+            measure: &self.measures[macros.len()],
             variables: self.variables,
             macros,
-            uses: &self.uses[..macros.len()],
+            measures: &self.measures[..macros.len()],
             relays: self.relays,
         })
     }
@@ -194,8 +193,8 @@ impl<'a> Sight<'a> {
             PropKind::Or(operands) => Ok(Truth::Or(self.prop_operands(operands)?)),
             PropKind::Implies(premise, conclusion) => self.implication(premise, conclusion),
             PropKind::Iff(operands) => Ok(Truth::Iff(self.prop_operands(operands)?)),
-            PropKind::Prior(form, operand) => self.shifted(false, operand, *form),
-            PropKind::Next(form, operand) => self.shifted(true, operand, *form),
+            PropKind::Prior(form, operand) => self.shifted(Direction::Prior, operand, *form),
+            PropKind::Next(form, operand) => self.shifted(Direction::Next, operand, *form),
         }
     }
 
@@ -211,12 +210,12 @@ impl<'a> Sight<'a> {
 
     // `-P` or `+P`, which has this span
     #[cycle(truths)]
-    fn shifted(&self, forward: bool, prop: &Prop, span: Span) -> Result<Truth, AllocError>
+    fn shifted(&self, direction: Direction, prop: &Prop, span: Span) -> Result<Truth, AllocError>
         requires is_sight { IsSight self.now }
         ensures { IfOk result (λ truth. plain_truth truth
-            ≡ TruthShift forward (truth_of (sight_of self.now) (plain_prop_kind prop.now.kind)) span) }
+            ≡ TruthShift direction (truth_of (sight_of self.now) (plain_prop_kind prop.now.kind)) span) }
     {
-        Ok(Truth::Shift(forward, Box::new(self.alloc, self.prop(prop)?)?, span))
+        Ok(Truth::Shift(direction, Box::new(self.alloc, self.prop(prop)?)?, span))
     }
 
     // `P => Q`, which is `!P || Q`
@@ -612,11 +611,11 @@ impl<'a> Sight<'a> {
 pub(crate) fn expanded_goal(
     alloc: Global,
     file: &File,
-    uses: &[MacroMeasure],
+    measures: &[MacroMeasure],
 ) -> Result<Core, AllocError>
     requires size { (measure_of_file (plain_file file.now)).size ≤ most_nodes }
     requires slots { length (plain_file file.now).variables + (measure_of_file (plain_file file.now)).quantifiers ≤ most_slots }
-    requires measured { AreMeasuresOf (variables_alone file.now.variables.items) (plain_file file.now).macros uses.now }
+    requires measured { AreMeasuresOf (variables_alone file.now.variables.items) (plain_file file.now).macros measures.now }
     ensures declared { IfOk result (λ core. core.declared ≡ length (plain_file file.now).variables) }
     ensures steps { IfOk result (λ core. core.steps ≡ map without_core
         (steps_of (length (plain_file file.now).variables) (expanded_file (plain_file file.now)))) }
@@ -629,7 +628,7 @@ pub(crate) fn expanded_goal(
         names: with_variables(Vec::new(alloc), &file.variables)?,
         variables: &file.variables,
         macros: &file.macros,
-        uses,
+        measures,
         relays: &relays,
     };
     let mut core = Core::new(alloc, declared);

@@ -18,9 +18,9 @@ pub const MOST_DEPTH: u32 = 512;
 /// The most slots of a goal: its declared variables, one for each shift, and one for each quantifier that stands inside another.
 pub const MOST_SLOTS: u32 = 32;
 
-/// The first fault of a file's names, or else of its goal. Its place is the offset of the name, or of the goal, in bytes,
-/// counted from 0. Of faults of names at one offset the first in the order of the variants counts, and so it does of those
-/// of a goal.
+/// The first fault of a file's names, or else of its goal. Its place is the offset of the name, of the goal's first token,
+/// or of the prior or next proposition, in bytes, counted from 0. Of faults of names at one offset the first in the order of
+/// the variants counts, and so it does of those of a goal.
 #[derive(Clone, Copy, Debug, PartialEq, Eq, Error)]
 pub enum ScopeFault {
     /// The 17th declared variable, the 9th parameter of a macro, or the 257th macro.

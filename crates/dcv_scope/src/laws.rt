@@ -1,5 +1,5 @@
 //! Laws of a file's core. Each function here does nothing: its contract is the law.
-ghost use Rattle.dcv_scope.specs.Laws.{GoalMeansText, CoreMeansText, WordsAreModels, StepsAreFew, SlotsAreFew, SlotsAreInUse};
+ghost use Rattle.dcv_scope.specs.Laws.{GoalMeansText, CoreMeansText, WordsAreModels, StepsAreFew, SlotsAreFew, SlotsAreInUse, NoShiftIsLeft};
 
 /// The goal without its macros means what the text means, whether or not its names are well used. So does the core, on the tracks of its prior and next
 /// propositions, where none of these looks at a quantified variable.
@@ -15,4 +15,9 @@ pub fn measures_bound_core()
     ensures steps { StepsAreFew }
     ensures slots { SlotsAreFew }
     ensures in_use { SlotsAreInUse }
+{}
+
+/// No prior or next proposition is left in the core: each stands behind the slot that it has.
+pub fn no_shift_is_left()
+    ensures { NoShiftIsLeft }
 {}

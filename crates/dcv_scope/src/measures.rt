@@ -13,7 +13,7 @@ ghost use Rattle.dcv_scope.specs.Walk.{linear_of_name, linear_of_macro, linear_o
 ghost use Rattle.dcv_scope.specs.Walk.{linear_in_sight, leaves, quantified_leaves, parameters_from, name_too, first_linear, all_in_turn, IsMeasured};
 ghost use Rattle.dcv_scope.specs.Walk.{linear_of, with_linears, declared_alone, linear_measures};
 
-use crate::faults::MOST_PARAMETERS as PARAMETERS;
+use crate::faults::MOST_PARAMETERS;
 use dcv_syntax::{
     File, Formula, FormulaKind, FormulaOperand, Macro, MacroBody, Name, Prop, PropKind,
     PropOperand, Text,
@@ -131,7 +131,7 @@ impl Share {
 #[derive(Clone, Copy, Debug)]
 pub(crate) struct MacroMeasure {
     own: Measure,
-    shares: [Option<Share>; PARAMETERS],
+    shares: [Option<Share>; MOST_PARAMETERS],
 }
 
 impl MacroMeasure {
@@ -142,7 +142,7 @@ impl MacroMeasure {
     {
         MacroMeasure {
             own,
-            shares: [None; PARAMETERS],
+            shares: [None; MOST_PARAMETERS],
         }
     }
 
@@ -151,8 +151,8 @@ impl MacroMeasure {
     fn argument(place: usize) -> MacroMeasure
         ensures { result ≡ capped_macro (argument_at place) }
     {
-        let mut shares = [None; PARAMETERS];
-        if place < PARAMETERS {
+        let mut shares = [None; MOST_PARAMETERS];
+        if place < MOST_PARAMETERS {
             shares[place] = Some(Share {
                 uses: 1,
                 depth: 0,
@@ -170,7 +170,7 @@ impl MacroMeasure {
         ensures { result ≡ capped_macro (linear_beside self other) }
     {
         let mut shares = self.shares;
-        for place in 0..PARAMETERS {
+        for place in 0..MOST_PARAMETERS {
             shares[place] = beside(self.shares[place], other.shares[place]);
         }
         MacroMeasure {
@@ -184,7 +184,7 @@ impl MacroMeasure {
         ensures { result ≡ capped_macro (linear_under nodes deeper quantifiers self) }
     {
         let mut shares = self.shares;
-        for place in 0..PARAMETERS {
+        for place in 0..MOST_PARAMETERS {
             shares[place] = under(self.shares[place], deeper, quantifiers);
         }
         MacroMeasure {
@@ -199,7 +199,7 @@ impl MacroMeasure {
         ensures { result ≡ capped_macro (linear_within share self) }
     {
         let mut shares = self.shares;
-        for place in 0..PARAMETERS {
+        for place in 0..MOST_PARAMETERS {
             shares[place] = within(share, self.shares[place]);
         }
         MacroMeasure {
@@ -266,36 +266,27 @@ impl<'a> Sight<'a> {
     fn bound(&self, name: &Text) -> Option<MacroMeasure>
         ensures { result ≡ option_map capped_macro (found (quantified_leaves self.now.quantified.items) name.now) }
     {
-        for other in &self.quantified {
-            if other.text.as_bytes() == name.as_bytes() {
-                return Some(leaf());
-            }
-        }
-        None
+        let is_bound = self.quantified.iter().any(|other| other.text == *name);
+        is_bound.then_some(leaf())
     }
 
     // The argument for which the parameter of that name stands.
     fn parameter(&self, name: &Text) -> Option<MacroMeasure>
         ensures { result ≡ option_map capped_macro (found (parameters_from 0 self.now.parameters.now) name.now) }
     {
-        for (place, parameter) in self.parameters.iter().enumerate() {
-            if parameter.text.as_bytes() == name.as_bytes() {
-                return Some(MacroMeasure::argument(place));
-            }
-        }
-        None
+        let place = self
+            .parameters
+            .iter()
+            .position(|parameter| parameter.text == *name)?;
+        Some(MacroMeasure::argument(place))
     }
 
     // The measure of the declared variable.
     fn variable(&self, name: &Text) -> Option<MacroMeasure>
         ensures { result ≡ option_map capped_macro (found (leaves self.now.declared.now) name.now) }
     {
-        for other in self.declared {
-            if other.text.as_bytes() == name.as_bytes() {
-                return Some(leaf());
-            }
-        }
-        None
+        let is_declared = self.declared.iter().any(|other| other.text == *name);
+        is_declared.then_some(leaf())
     }
 
     // A quantified name hides a parameter, and a parameter a declared variable.
@@ -314,7 +305,7 @@ impl<'a> Sight<'a> {
         ensures { result ≡ option_map capped_macro (found (linear_in_sight self.now).macros name.now) }
     {
         for place in (0..self.macros.len()).rev() {
-            if self.macros[place].name.text.as_bytes() == name.as_bytes() {
+            if self.macros[place].name.text == *name {
                 return Some(self.measures[place]);
             }
         }
@@ -404,7 +395,7 @@ impl<'a> Sight<'a> {
     {
         let own = MacroMeasure::constant(called.own);
         let mut whole = Box::new(self.alloc, own)?;
-        for place in 0..PARAMETERS {
+        for place in 0..MOST_PARAMETERS {
             whole = self.with_argument(whole, called.shares[place], arguments, place)?;
         }
         Ok(whole)
@@ -623,7 +614,7 @@ fn measure_of_macro<'a>(
     Ok(measure)
 }
 
-/// The measure of each macro, as a function of its arguments', in order. The work is linear in the text.
+/// The measure of each macro, as a function of its arguments', in order.
 pub(crate) fn measures_of_macros(
     alloc: Global,
     file: &File,

@@ -19,7 +19,7 @@ use std::alloc::{AllocError, Global};
 
 // What is in sight at a name.
 #[derive(Drop)]
-struct Names<'a> {
+struct Sight<'a> {
     alloc: Global,
     // Declared variables, parameters and quantified names.
     variables: Vec<&'a Name>,
@@ -29,16 +29,11 @@ struct Names<'a> {
     defining: Option<&'a Name>,
 }
 
-impl<'a> Names<'a> {
+impl<'a> Sight<'a> {
     fn is_variable(&self, name: &Text) -> bool
         ensures { result ≡ stands_in name.now (in_sight_of self.now).variables }
     {
-        for other in &self.variables {
-            if other.text.as_bytes() == name.as_bytes() {
-                return true;
-            }
-        }
-        false
+        self.variables.iter().any(|other| other.text == *name)
     }
 
     // The macro of that name.
@@ -49,12 +44,7 @@ impl<'a> Names<'a> {
             (λ called. found (in_sight_of self.now).macros name.now
             ≡ Some (macro_in_sight (plain_macro called.now)).1) }
     {
-        for called in self.macros {
-            if called.name.text.as_bytes() == name.as_bytes() {
-                return Some(called);
-            }
-        }
-        None
+        self.macros.iter().find(|called| called.name.text == *name)
     }
 
     // A macro has the name, or it is that of the macro being defined.
@@ -62,9 +52,7 @@ impl<'a> Names<'a> {
         ensures { result ≡ stands_in name.now (taken_names (in_sight_of self.now)) }
     {
         match self.defining {
-            Some(defining) => {
-                defining.text.as_bytes() == name.as_bytes() || self.called(name).is_some()
-            }
+            Some(defining) => { defining.text == *name || self.called(name).is_some() }
             None => self.called(name).is_some(),
         }
     }
@@ -82,7 +70,7 @@ impl<'a> Names<'a> {
         };
         match called.body {
             MacroBody::Prop(_) => Some(ScopeFault::Kind { at }),
-            MacroBody::Formula(_) => arity(called, arguments, at),
+            MacroBody::Formula(_) => fault_of_arity(called, arguments, at),
         }
     }
 
@@ -103,14 +91,14 @@ impl<'a> Names<'a> {
         };
         match called.body {
             MacroBody::Formula(_) => Some(ScopeFault::Kind { at }),
-            MacroBody::Prop(_) => arity(called, arguments, at),
+            MacroBody::Prop(_) => fault_of_arity(called, arguments, at),
         }
     }
 
     // The first fault in a proposition.
     #[cycle(names)]
     #[tactic(auto, using(crate::proofs::NameRows::rows))]
-    fn prop(&self, prop: &Prop) -> Option<ScopeFault>
+    fn fault_in_prop(&self, prop: &Prop) -> Option<ScopeFault>
         ensures { result ≡ first_fault
             (occurrences_in_prop (in_sight_of self.now) (plain_prop_kind prop.now.kind)) }
     {
@@ -119,12 +107,14 @@ impl<'a> Names<'a> {
             PropKind::Call(name, arguments) => self
                 .at_proposition(name, arguments.len())
                 .or(self.arguments(arguments)),
-            PropKind::Not(operand) => self.prop(operand),
+            PropKind::Not(operand) => self.fault_in_prop(operand),
             PropKind::And(operands) => self.prop_operands(operands),
             PropKind::Or(operands) => self.prop_operands(operands),
-            PropKind::Implies(premise, conclusion) => self.prop(premise).or(self.prop(conclusion)),
+            PropKind::Implies(premise, conclusion) => self
+                .fault_in_prop(premise)
+                .or(self.fault_in_prop(conclusion)),
             PropKind::Iff(operands) => self.prop_operands(operands),
-            PropKind::Prior(_, operand) | PropKind::Next(_, operand) => self.prop(operand),
+            PropKind::Prior(_, operand) | PropKind::Next(_, operand) => self.fault_in_prop(operand),
         }
     }
 
@@ -134,7 +124,7 @@ impl<'a> Names<'a> {
             (occurrences_in_prop (in_sight_of self.now) (plain_prop_kind p.kind))) arguments.now }
     {
         for argument in arguments {
-            let fault = self.prop(argument);
+            let fault = self.fault_in_prop(argument);
             if fault.is_some() {
                 return fault;
             }
@@ -148,7 +138,7 @@ impl<'a> Names<'a> {
             (occurrences_in_prop (in_sight_of self.now) (plain_prop_kind o.prop.kind))) operands.now }
     {
         for operand in operands {
-            let fault = self.prop(&operand.prop);
+            let fault = self.fault_in_prop(&operand.prop);
             if fault.is_some() {
                 return fault;
             }
@@ -157,9 +147,9 @@ impl<'a> Names<'a> {
     }
 }
 
-impl<'a> Names<'a> {
+impl<'a> Sight<'a> {
     // What is in sight behind a quantifier.
-    fn bind(&self, name: &'a Name) -> Result<Names<'a>, AllocError>
+    fn bind(&self, name: &'a Name) -> Result<Sight<'a>, AllocError>
         ensures { IfOk result (λ inner.
             in_sight_of inner ≡ in_sight_too (in_sight_of self.now) name.now.text) }
     {
@@ -168,11 +158,11 @@ impl<'a> Names<'a> {
         for outer in &self.variables {
             variables.push(*outer)?;
         }
-        Ok(Names { variables, ..*self })
+        Ok(Sight { variables, ..*self })
     }
 
     // What is in sight in a macro of that name, behind these parameters.
-    fn defining(&self, name: &'a Name, parameters: &'a [Name]) -> Result<Names<'a>, AllocError>
+    fn defining(&self, name: &'a Name, parameters: &'a [Name]) -> Result<Sight<'a>, AllocError>
         ensures { IfOk result (λ inner. in_sight_of inner ≡ record (in_sight_of self.now) {
           defining = name.now.text ∷ [];
           variables = texts parameters.now ++ (in_sight_of self.now).variables;
@@ -185,7 +175,7 @@ impl<'a> Names<'a> {
         for outer in &self.variables {
             variables.push(*outer)?;
         }
-        Ok(Names {
+        Ok(Sight {
             variables,
             defining: Some(name),
             ..*self
@@ -207,7 +197,7 @@ impl<'a> Names<'a> {
     // The first fault in a formula.
     #[cycle(names_of_formula)]
     #[tactic(auto, using(crate::proofs::NameRows::formula_rows))]
-    fn formula(&self, formula: &'a Formula) -> Result<Option<ScopeFault>, AllocError>
+    fn fault_in_formula(&self, formula: &'a Formula) -> Result<Option<ScopeFault>, AllocError>
         ensures { IfOk result (λ fault. fault ≡ first_fault
             (occurrences_in_formula (in_sight_of self.now) (plain_formula_kind formula.now.kind))) }
     {
@@ -215,29 +205,29 @@ impl<'a> Names<'a> {
             FormulaKind::Constant(_) => Ok(None),
             FormulaKind::Pt => Ok(None),
             FormulaKind::Ext => Ok(None),
-            FormulaKind::Point(prop) => Ok(self.prop(prop)),
-            FormulaKind::Run(prop) => Ok(self.prop(prop)),
-            FormulaKind::Every(prop) => Ok(self.prop(prop)),
-            FormulaKind::Unit(prop) => Ok(self.prop(prop)),
+            FormulaKind::Point(prop) => Ok(self.fault_in_prop(prop)),
+            FormulaKind::Run(prop) => Ok(self.fault_in_prop(prop)),
+            FormulaKind::Every(prop) => Ok(self.fault_in_prop(prop)),
+            FormulaKind::Unit(prop) => Ok(self.fault_in_prop(prop)),
             FormulaKind::Slen(_, _) => Ok(None),
-            FormulaKind::Scount(prop, _, _) => Ok(self.prop(prop)),
-            FormulaKind::Sdur(prop, _, _) => Ok(self.prop(prop)),
+            FormulaKind::Scount(prop, _, _) => Ok(self.fault_in_prop(prop)),
+            FormulaKind::Sdur(prop, _, _) => Ok(self.fault_in_prop(prop)),
             FormulaKind::Call(name, arguments) => Ok(
                 self.at_formula(name, arguments.len())
                     .or(self.arguments(arguments)),
             ),
-            FormulaKind::Not(body) => self.formula(body),
+            FormulaKind::Not(body) => self.fault_in_formula(body),
             FormulaKind::And(operands) => self.operands(operands),
             FormulaKind::Or(operands) => self.operands(operands),
             FormulaKind::Implies(premise, conclusion) => {
-                let first = self.formula(premise)?;
-                Ok(first.or(self.formula(conclusion)?))
+                let first = self.fault_in_formula(premise)?;
+                Ok(first.or(self.fault_in_formula(conclusion)?))
             }
             FormulaKind::Iff(operands) => self.operands(operands),
             FormulaKind::Chop(operands) => self.operands(operands),
-            FormulaKind::Star(body) => self.formula(body),
-            FormulaKind::Somewhere(body) => self.formula(body),
-            FormulaKind::Everywhere(body) => self.formula(body),
+            FormulaKind::Star(body) => self.fault_in_formula(body),
+            FormulaKind::Somewhere(body) => self.fault_in_formula(body),
+            FormulaKind::Everywhere(body) => self.fault_in_formula(body),
             FormulaKind::Exists(name, body) => self.quantified(name, body),
             FormulaKind::ForAll(name, body) => self.quantified(name, body),
         }
@@ -249,7 +239,7 @@ impl<'a> Names<'a> {
             (occurrences_in_formula (in_sight_of self.now) (plain_formula_kind o.formula.kind))) operands.now) }
     {
         for operand in operands {
-            let fault = self.formula(&operand.formula)?;
+            let fault = self.fault_in_formula(&operand.formula)?;
             if fault.is_some() {
                 return Ok(fault);
             }
@@ -269,17 +259,19 @@ impl<'a> Names<'a> {
             (first_fault (occurrences_in_formula
             (in_sight_too (in_sight_of self.now) name.now.text) (plain_formula_kind body.now.kind)))) }
     {
+        if let Some(fault) = self.at_quantifier(name) {
+            return Ok(Some(fault));
+        }
         let inside = self.bind(name)?;
-        let fault = inside.formula(body)?;
-        Ok(self.at_quantifier(name).or(fault))
+        inside.fault_in_formula(body)
     }
 
     // The first fault of a list of parameters.
-    fn parameters(&self, names: &[Name]) -> Option<ScopeFault>
+    fn fault_of_parameters(&self, names: &[Name]) -> Option<ScopeFault>
         ensures { result ≡ first_fault (occurrences_in_list Parameter (in_sight_of self.now) [] names.now) }
     {
         for (place, name) in names.iter().enumerate() {
-            let fault = self.parameter(name, &names[..place]);
+            let fault = self.fault_of_parameter(name, &names[..place]);
             if fault.is_some() {
                 return fault;
             }
@@ -288,7 +280,7 @@ impl<'a> Names<'a> {
     }
 
     // The fault of a parameter behind these.
-    fn parameter(&self, name: &Name, before: &[Name]) -> Option<ScopeFault>
+    fn fault_of_parameter(&self, name: &Name, before: &[Name]) -> Option<ScopeFault>
         ensures { result ≡ fault_at (occurs name.now (Parameter (texts before.now)) (in_sight_of self.now)) }
     {
         let at = name.span.start;
@@ -319,13 +311,13 @@ impl<'a> Names<'a> {
     }
 
     // The first fault in what a macro stands for.
-    fn body(&self, body: &'a MacroBody) -> Result<Option<ScopeFault>, AllocError>
+    fn fault_in_body(&self, body: &'a MacroBody) -> Result<Option<ScopeFault>, AllocError>
         ensures { IfOk result (λ fault. fault ≡ first_fault
             (occurrences_in_body (in_sight_of self.now) (plain_body body.now))) }
     {
         match body {
-            MacroBody::Formula(formula) => self.formula(formula),
-            MacroBody::Prop(prop) => Ok(self.prop(prop)),
+            MacroBody::Formula(formula) => self.fault_in_formula(formula),
+            MacroBody::Prop(prop) => Ok(self.fault_in_prop(prop)),
         }
     }
 }
@@ -334,16 +326,11 @@ impl<'a> Names<'a> {
 fn is_among(text: &Text, names: &[Name]) -> bool
     ensures { result ≡ stands_in text.now (texts names.now) }
 {
-    for other in names {
-        if other.text.as_bytes() == text.as_bytes() {
-            return true;
-        }
-    }
-    false
+    names.iter().any(|other| other.text == *text)
 }
 
 // The fault of a macro that is called with so many arguments.
-fn arity(called: &Macro, arguments: usize, at: u32) -> Option<ScopeFault>
+fn fault_of_arity(called: &Macro, arguments: usize, at: u32) -> Option<ScopeFault>
     ensures { result ≡ (if arguments == length called.now.parameters.items then None else Some (Arity at)) }
 {
     if called.parameters.len() == arguments {
@@ -354,7 +341,7 @@ fn arity(called: &Macro, arguments: usize, at: u32) -> Option<ScopeFault>
 }
 
 // The fault of a declared variable behind these.
-fn variable(name: &Name, before: &[Name]) -> Option<ScopeFault>
+fn fault_of_variable(name: &Name, before: &[Name]) -> Option<ScopeFault>
     ensures { result ≡ fault_at (occurs name.now (Declared (texts before.now)) nothing_in_sight) }
 {
     let at = name.span.start;
@@ -368,11 +355,11 @@ fn variable(name: &Name, before: &[Name]) -> Option<ScopeFault>
 }
 
 // The first fault of the declared variables.
-fn variables(names: &[Name]) -> Option<ScopeFault>
+fn fault_of_variables(names: &[Name]) -> Option<ScopeFault>
     ensures { result ≡ first_fault (occurrences_in_list Declared nothing_in_sight [] names.now) }
 {
     for (place, name) in names.iter().enumerate() {
-        let fault = variable(name, &names[..place]);
+        let fault = fault_of_variable(name, &names[..place]);
         if fault.is_some() {
             return fault;
         }
@@ -385,14 +372,14 @@ fn outermost<'a>(
     alloc: Global,
     variables: &'a [Name],
     macros: &'a [Macro],
-) -> Result<Names<'a>, AllocError>
+) -> Result<Sight<'a>, AllocError>
     ensures { IfOk result (λ names. in_sight_of names ≡ top_sight variables.now macros.now) }
 {
     let mut names = Vec::new(alloc);
     for name in variables {
         names.push(name)?;
     }
-    Ok(Names {
+    Ok(Sight {
         alloc,
         variables: names,
         macros,
@@ -412,19 +399,19 @@ fn in_macro<'a>(
         (occurrences_in_macro (top_sight variables.now earlier.now) (plain_macro defined.now))) }
 {
     let outside = outermost(alloc, variables, earlier)?;
+    if let Some(fault) = outside.at_definition(&defined.name) {
+        return Ok(Some(fault));
+    }
     let heading = outside.defining(&defined.name, &[])?;
+    if let Some(fault) = heading.fault_of_parameters(&defined.parameters) {
+        return Ok(Some(fault));
+    }
     let inside = outside.defining(&defined.name, &defined.parameters)?;
-    let body = inside.body(&defined.body)?;
-    Ok(
-        outside
-            .at_definition(&defined.name)
-            .or(heading.parameters(&defined.parameters))
-            .or(body),
-    )
+    inside.fault_in_body(&defined.body)
 }
 
 // The first fault of the macros.
-fn macros(alloc: Global, file: &File) -> Result<Option<ScopeFault>, AllocError>
+fn fault_of_macros(alloc: Global, file: &File) -> Result<Option<ScopeFault>, AllocError>
     ensures { IfOk result (λ fault. fault ≡ faults_of_macros file.now.variables.items [] file.now.macros.items) }
 {
     for (place, defined) in file.macros.iter().enumerate() {
@@ -442,8 +429,12 @@ fn macros(alloc: Global, file: &File) -> Result<Option<ScopeFault>, AllocError>
 pub fn fault_of_names(alloc: Global, file: &File) -> Result<Option<ScopeFault>, AllocError>
     ensures { IfOk result (λ fault. fault ≡ fault_of_names (plain_file file.now)) }
 {
+    if let Some(fault) = fault_of_variables(&file.variables) {
+        return Ok(Some(fault));
+    }
+    if let Some(fault) = fault_of_macros(alloc, file)? {
+        return Ok(Some(fault));
+    }
     let at_goal = outermost(alloc, &file.variables, &file.macros)?;
-    let macros = macros(alloc, file)?;
-    let goal = at_goal.formula(&file.goal.formula)?;
-    Ok(variables(&file.variables).or(macros).or(goal))
+    at_goal.fault_in_formula(&file.goal.formula)
 }

@@ -1,6 +1,6 @@
 // The cores of texts, each step in a short form: its operator with the numbers of its operands, its place, and the number of slots
 // over which it is judged, as in `and(0,1)@6..16/1`.
-use dcv_core::{Basic, Core, Op, Rel, Truth};
+use dcv_core::{Basic, Core, Direction, Op, Rel, Truth};
 use dcv_reader::read_file;
 use dcv_scope::{ScopeFault, expand};
 use std::alloc::{AllocError, Global};
@@ -19,8 +19,11 @@ fn truth(text: &mut String, shown: &Truth) -> Result<(), AllocError> {
         Truth::And(operands) => truths(text, "&&", operands),
         Truth::Or(operands) => truths(text, "||", operands),
         Truth::Iff(operands) => truths(text, "<=>", operands),
-        Truth::Shift(forward, operand, _) => {
-            text.push(if *forward { '+' } else { '-' })?;
+        Truth::Shift(direction, operand, _) => {
+            text.push(match direction {
+                Direction::Prior => '-',
+                Direction::Next => '+',
+            })?;
             truth(text, operand)
         }
     }

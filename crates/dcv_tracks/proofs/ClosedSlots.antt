@@ -3,12 +3,14 @@ use Rattle.std.proofs.Common.{◌≡◌, ℕ, suc, ◌+◌, ◌*◌, ◌<◌, �
 use Rattle.std.specs.Prelude.{nat_lt, if◌then◌else◌}
 use Rattle.std.proofs.lemmas.Bool.Decides.{nat_tests}
 use Rattle.std.proofs.lemmas.List.{append_assoc, append-nil}
+use Rattle.dcv_core.specs.declared.truths.Direction.{Direction}
+use Rattle.dcv_core.specs.declared.truths.Direction.TheVariants.{Prior, Next}
 use Rattle.dcv_core.specs.Core.{PlainTruth, TruthConstant, TruthSlot, TruthNot, TruthAnd, TruthOr, TruthIff, TruthShift, PlainTruths, no_truths, truth_operand}
 use Rattle.dcv_core.specs.Core.{PlainBasic, BasicConstant, BasicPoint, BasicRun, BasicEvery, BasicUnit, BasicSlen, BasicScount, BasicSdur, BasicBack, BasicFore}
 use Rattle.dcv_core.specs.Core.{CoreTree, CoreAtom, CoreNot, CoreAnd, CoreOr, CoreIff, CoreChop, CoreStar, CoreExists}
 use Rattle.dcv_core.specs.Steps.{steps_before, nesting}
 use Rattle.dcv_core.specs.Slots.{IsBelow, AreBelow, BasicIsBelow, CoreIsBelow}
-use Rattle.dcv_tracks.specs.Shifting.{Shift, placed_slot, placed, all_placed, placed_basic, placed_core, shift_basic, closed_from, shifted_core, shifts_in, bound_shift}
+use Rattle.dcv_tracks.specs.Shifting.{Shift, placed_slot, placed, all_placed, placed_basic, placed_core, shift_row, shift_basic, closed_from, shifted_core, shifts_in, bound_shift}
 use Rattle.dcv_tracks.proofs.Standing.{IsCovered, AreCovered, BasicIsCovered, CoreIsCovered, position}
 use Rattle.dcv_tracks.proofs.Order.{AreOrdered, shifts_ordered, goal_covered}
 use Rattle.dcv_tracks.proofs.Unbound.{AreUnbound, unbound_below, shifts_unbound}
@@ -65,8 +67,8 @@ module _ (k : ℕ) (all seen rest : List Shift) (is : all ≡ seen ++ rest) wher
       placed_below (TruthAnd operands) c b = all_placed_below operands c b
       placed_below (TruthOr operands) c b = all_placed_below operands c b
       placed_below (TruthIff operands) c b = all_placed_below operands c b
-      placed_below (TruthShift forward p span) c b =
-          let has = position k all seen rest (record { forward = forward; operand = p; span = span }) is c in
+      placed_below (TruthShift direction p span) c b =
+          let has = position k all seen rest (record { direction = direction; operand = p; span = span }) is c in
           let at = has.slot in
           let inside = has.inside in
           omega (arith, at, inside, enough)
@@ -117,11 +119,11 @@ module _ (k : ℕ) (all : List Shift) where
 
   -- what a shift's row names
   row_below : (shift : Shift) (slot : ℕ) → IsBelow (slot + 1) (placed k all shift.operand) → BasicIsBelow (slot + 1) (shift_basic k all shift slot)
-  row_below shift slot b = by_direction shift.forward
+  row_below shift slot b = by_direction shift.direction
     where
-      by_direction : (forward : Bool) → BasicIsBelow (slot + 1) (if forward then BasicFore (placed k all shift.operand) slot else BasicBack (placed k all shift.operand) slot)
-      by_direction true = (b, omega arith)
-      by_direction false = (b, omega arith)
+      by_direction : (direction : Direction) → BasicIsBelow (slot + 1) (shift_row direction (placed k all shift.operand) slot)
+      by_direction Next = (b, omega arith)
+      by_direction Prior = (b, omega arith)
 
   closed_below : (seen shifts : List Shift) → all ≡ seen ++ shifts → AreOrdered seen shifts → AreUnbound k shifts → (slot : ℕ) → slot ≡ k + length seen
       → (core : CoreTree) → CoreIsBelow (k + length all) core → CoreIsBelow slot (closed_from k all slot shifts core)

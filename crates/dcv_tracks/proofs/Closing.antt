@@ -8,6 +8,8 @@ use Rattle.dcv_word.specs.Behaviour.{Word, IsBehaviour}
 use Rattle.dcv_language.specs.Operations.{with_track, some_track}
 use Rattle.dcv_logic.specs.Track.{Track}
 use Rattle.dcv_logic.proofs.InWords.{some_track-found}
+use Rattle.dcv_core.specs.declared.truths.Direction.{Direction}
+use Rattle.dcv_core.specs.declared.truths.Direction.TheVariants.{Prior, Next}
 use Rattle.dcv_core.specs.Core.{CoreTree}
 use Rattle.dcv_core.specs.Holds.{letter_at, truth_holds, value_at, shifted, basic_holds, core_holds}
 use Rattle.dcv_core.proofs.Chops.{and-parts, by_both}
@@ -24,13 +26,13 @@ use Rattle.dcv_tracks.proofs.OneList.{own_track, own_only, operand_avoids, wider
 -- ---- tracks of shifts stand for them
 
 -- shifts of values that are equal at the instants
-shifted_within : (forward : Bool) (n : ℕ) (f g : ℕ → Bool) → ((i : ℕ) → i < n → f i ≡ g i) → (i : ℕ) → i < n → shifted forward n f i ≡ shifted forward n g i
-shifted_within true n f g same i lt = later (nat_lt (i + 1) n) refl
+shifted_within : (direction : Direction) (n : ℕ) (f g : ℕ → Bool) → ((i : ℕ) → i < n → f i ≡ g i) → (i : ℕ) → i < n → shifted direction n f i ≡ shifted direction n g i
+shifted_within Next n f g same i lt = later (nat_lt (i + 1) n) refl
   where
     later : (there : Bool) → nat_lt (i + 1) n ≡ there → (there && f (i + 1)) ≡ (there && g (i + 1))
     later true is = same (i + 1) (grind (arith, nat_tests))
     later false is = refl
-shifted_within false n f g same i lt = ap (λ b. nat_lt 0 i && b) (same (i - 1) (omega (arith, lt)))
+shifted_within Prior n f g same i lt = ap (λ b. nat_lt 0 i && b) (same (i - 1) (omega (arith, lt)))
 
 module _ (k : ℕ) (all : List Shift) (word : Word) (some : 0 < length word) where
   stand_on : (seen shifts : List Shift) → all ≡ seen ++ shifts → AreOrdered seen shifts → (slot : ℕ) → slot ≡ k + length seen → (other : Word) → Stands k all seen 0 word other
@@ -42,11 +44,11 @@ module _ (k : ℕ) (all : List Shift) (word : Word) (some : 0 < length word) whe
       let level : length track ≡ length word = are.0 ∙ stands.level in
       let widths = λ (i : ℕ) (lt : i < length other). stands.other_widths i (omega (arith, lt, stands.level)) ∙ omega (arith, at) in
       let avoids = subst (λ s. Avoids s (placed k all shift.operand)) (sym at) (operand_avoids k all seen shift shifts is shift.operand ordered.0) in
-      let follows = (row_follows (placed k all shift.operand) slot avoids other (omega (arith, some, stands.level)) widths track are.0 shift.forward).0 are.1 in
+      let follows = (row_follows (placed k all shift.operand) slot avoids other (omega (arith, some, stands.level)) widths track are.0 shift.direction).0 are.1 in
       let values = λ (i : ℕ) (lt : i < length word).
       follows i (omega (arith, lt, stands.level))
-      ∙ ap (λ n. shifted shift.forward n (λ j. truth_holds (placed k all shift.operand) (letter_at other j)) i) stands.level
-      ∙ shifted_within shift.forward (length word) (λ j. truth_holds (placed k all shift.operand) (letter_at other j)) (value_at shift.operand word)
+      ∙ ap (λ n. shifted shift.direction n (λ j. truth_holds (placed k all shift.operand) (letter_at other j)) i) stands.level
+      ∙ shifted_within shift.direction (length word) (λ j. truth_holds (placed k all shift.operand) (letter_at other j)) (value_at shift.operand word)
       (λ j within. placed_value k all seen (shift ∷ shifts) is 0 word other stands j within shift.operand ordered.0) i lt in
       stand_on (seen ++ shift ∷ []) shifts (is ∙ sym (append_assoc seen (shift ∷ []) shifts)) ordered.1 (suc slot) (omega (arith, at, length-append seen (shift ∷ [])))
       (with_track other track) (one_shift_more k all seen shifts shift is word other stands track level values) tracks are.2

@@ -60,8 +60,8 @@ mutual
   collected-grows (TruthAnd operands) seen = all_collected-grows operands seen
   collected-grows (TruthOr operands) seen = all_collected-grows operands seen
   collected-grows (TruthIff operands) seen = all_collected-grows operands seen
-  collected-grows (TruthShift forward p span) seen =
-      omega (arith, collected-grows p seen, with_shift-grows (collected seen p) (record { forward = forward; operand = p; span = span }))
+  collected-grows (TruthShift direction p span) seen =
+      omega (arith, collected-grows p seen, with_shift-grows (collected seen p) (record { direction = direction; operand = p; span = span }))
 
   pub all_collected-grows : (ps : PlainTruths) (seen : List Shift) → length seen ≤ length (all_collected seen ps)
   all_collected-grows no_truths seen = omega arith

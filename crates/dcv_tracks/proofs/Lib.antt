@@ -12,3 +12,4 @@ pub mod Rows
 pub mod OneList
 pub mod Closing
 pub mod ClosedSlots
+pub mod NoShifts

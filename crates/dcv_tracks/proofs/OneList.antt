@@ -42,8 +42,8 @@ module _ (k : ℕ) (all seen : List Shift) (own : Shift) (rest : List Shift) (is
     operand_avoids (TruthAnd operands) c = operands_avoid operands c
     operand_avoids (TruthOr operands) c = operands_avoid operands c
     operand_avoids (TruthIff operands) c = operands_avoid operands c
-    operand_avoids (TruthShift forward p span) c =
-        let shift : Shift = record { forward = forward; operand = p; span = span } in
+    operand_avoids (TruthShift direction p span) c =
+        let shift : Shift = record { direction = direction; operand = p; span = span } in
         let slot = position k all seen (own ∷ rest) shift is c in
         let at = slot.slot in
         let before = slot.inside in
@@ -76,7 +76,7 @@ wider word track width level widths i lt =
 
 -- what a shift is on a word, where its operand has slots for the shifts in it
 abbrev pub own_track : ℕ → List Shift → Shift → Word → Track
-own_track k all shift word = track_of (length word) (shifted shift.forward (length word) (λ i. truth_holds (placed k all shift.operand) (letter_at word i)))
+own_track k all shift word = track_of (length word) (shifted shift.direction (length word) (λ i. truth_holds (placed k all shift.operand) (letter_at word i)))
 
 module _ (k : ℕ) (all : List Shift) where
   -- the row of a shift over this slot accepts its own track and no other
@@ -89,15 +89,15 @@ module _ (k : ℕ) (all : List Shift) where
       → (slot : ℕ) → slot ≡ k + length seen → (word : Word) → 0 < length word → ((i : ℕ) → i < length word → length (letter_at word i) ≡ slot)
       → Only shift slot word (own_track k all shift word)
   own_only seen shift rest is covered slot at word some widths =
-      let f = shifted shift.forward (length word) (λ i. truth_holds (placed k all shift.operand) (letter_at word i)) in
+      let f = shifted shift.direction (length word) (λ i. truth_holds (placed k all shift.operand) (letter_at word i)) in
       let own = track_of (length word) f in
       let own_level = track-length (length word) f in
       let avoids = subst (λ s. Avoids s (placed k all shift.operand)) (sym at) (operand_avoids k all seen shift rest is shift.operand covered) in
       record {
         level = own_level;
-        accepts = (row_follows (placed k all shift.operand) slot avoids word some widths own own_level shift.forward).1 (track-values (length word) f);
+        accepts = (row_follows (placed k all shift.operand) slot avoids word some widths own own_level shift.direction).1 (track-values (length word) f);
         alone = λ other level accepted.
-            let follows = (row_follows (placed k all shift.operand) slot avoids word some widths other level shift.forward).0 accepted in
+            let follows = (row_follows (placed k all shift.operand) slot avoids word some widths other level shift.direction).0 accepted in
             same_track other own (level ∙ sym own_level) (λ i lt.
             let in_word : i < length word = omega (arith, lt, level) in
             follows i in_word ∙ sym (track-values (length word) f i in_word));

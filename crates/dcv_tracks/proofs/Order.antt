@@ -38,7 +38,7 @@ mutual
   covered_more seen more (TruthAnd operands) c = all_covered_more seen more operands c
   covered_more seen more (TruthOr operands) c = all_covered_more seen more operands c
   covered_more seen more (TruthIff operands) c = all_covered_more seen more operands c
-  covered_more seen more (TruthShift forward p span) c = any_more (same_shift (record { forward = forward; operand = p; span = span })) seen more c
+  covered_more seen more (TruthShift direction p span) c = any_more (same_shift (record { direction = direction; operand = p; span = span })) seen more c
 
   all_covered_more : (seen more : List Shift) (operands : PlainTruths) → AreCovered seen operands → AreCovered (seen ++ more) operands
   all_covered_more seen more no_truths c = tt
@@ -118,8 +118,8 @@ mutual
   truth_grows (TruthAnd operands) seen = truths_grow operands seen
   truth_grows (TruthOr operands) seen = truths_grow operands seen
   truth_grows (TruthIff operands) seen = truths_grow operands seen
-  truth_grows (TruthShift forward p span) seen =
-      let shift : Shift = record { forward = forward; operand = p; span = span } in
+  truth_grows (TruthShift direction p span) seen =
+      let shift : Shift = record { direction = direction; operand = p; span = span } in
       let inner = truth_grows p seen in
       let outer = shift_added (collected seen p) shift inner.1 in
       (grown_on seen (collected seen p) (with_shift (collected seen p) shift) inner.0 outer.0, outer.1)

@@ -23,7 +23,7 @@ abbrev mutual
   parts (TruthAnd operands) = suc (all_parts operands)
   parts (TruthOr operands) = suc (all_parts operands)
   parts (TruthIff operands) = suc (all_parts operands)
-  parts (TruthShift forward p span) = suc (parts p)
+  parts (TruthShift direction p span) = suc (parts p)
 
   pub all_parts : PlainTruths → ℕ
   all_parts no_truths = 0
@@ -39,7 +39,7 @@ mutual
   more_slots (TruthAnd operands) k j le b = more_slots_in operands k j le b
   more_slots (TruthOr operands) k j le b = more_slots_in operands k j le b
   more_slots (TruthIff operands) k j le b = more_slots_in operands k j le b
-  more_slots (TruthShift forward p span) k j le b = more_slots p k j le b
+  more_slots (TruthShift direction p span) k j le b = more_slots p k j le b
 
   more_slots_in : (operands : PlainTruths) (k j : ℕ) → k ≤ j → AreBelow k operands → AreBelow j operands
   more_slots_in no_truths k j le b = tt

@@ -1,7 +1,7 @@
 -- The row of a shift accepts a word with a track exactly where the track is what the shift is at each instant, since the shift's operand does not name the track's
 -- slot.
 use Rattle.std.proofs.Common.{◌≡◌, ℕ, zero, suc, ◌+◌, ◌-◌, ◌<◌, ◌≤◌, Bool, true, false, List, [], ◌∷◌, ◌++◌, ◌⊎◌, inl, inr, length, length-append, refl, sym, ap, subst, ◌∙◌, arith, true≢false}
-use Rattle.std.specs.Prelude.{◌||◌, ◌&&◌, not, nat_eq, nat_lt, if◌then◌else◌}
+use Rattle.std.specs.Prelude.{◌||◌, ◌&&◌, not, nat_eq, nat_lt}
 use Rattle.std.specs.Bool.{Decides}
 use Rattle.std.proofs.lemmas.Bool.Decides.{nat_tests}
 use Rattle.std.proofs.lemmas.List.{get_or_past}
@@ -10,11 +10,14 @@ use Rattle.dcv_language.specs.Operations.{with_track, iff}
 use Rattle.dcv_logic.specs.Search.{each_between}
 use Rattle.dcv_logic.specs.Track.{Track, truth_at}
 use Rattle.dcv_logic.proofs.InWords.{each_between-every}
+use Rattle.dcv_core.specs.declared.truths.Direction.{Direction}
+use Rattle.dcv_core.specs.declared.truths.Direction.TheVariants.{Prior, Next}
 use Rattle.dcv_core.specs.Core.{PlainTruth, TruthConstant, TruthSlot, TruthNot, TruthAnd, TruthOr, TruthIff, TruthShift, PlainTruths, no_truths, truth_operand}
-use Rattle.dcv_core.specs.Core.{PlainBasic, BasicBack, BasicFore}
+use Rattle.dcv_core.specs.Core.{BasicBack, BasicFore}
 use Rattle.dcv_core.specs.Holds.{letter_at, truth_holds, all_truths, some_truth, iff_truths, holds_at, basic_holds, shifted}
 use Rattle.dcv_core.proofs.Tracks.{with_track-letter, slot_further, slot_behind}
 use Rattle.dcv_core.proofs.Chops.{and-parts}
+use Rattle.dcv_tracks.specs.Shifting.{shift_row}
 
 -- ---- a proposition that does not name a slot
 
@@ -26,7 +29,7 @@ abbrev mutual
   Avoids slot (TruthAnd operands) = AllAvoid slot operands
   Avoids slot (TruthOr operands) = AllAvoid slot operands
   Avoids slot (TruthIff operands) = AllAvoid slot operands
-  Avoids slot (TruthShift forward p span) = Unit {0}
+  Avoids slot (TruthShift direction p span) = Unit {0}
 
   pub AllAvoid : ℕ → PlainTruths → Type 0
   AllAvoid slot no_truths = Unit {0}
@@ -50,7 +53,7 @@ module _ (letter : List Bool) (truth : Bool) where
     avoids_same (TruthAnd operands) a = all_avoid_same operands a
     avoids_same (TruthOr operands) a = some_avoid_same operands a
     avoids_same (TruthIff operands) a = iff_avoid_same true operands a
-    avoids_same (TruthShift forward p span) a = refl
+    avoids_same (TruthShift direction p span) a = refl
 
     all_avoid_same : (operands : PlainTruths) → AllAvoid (length letter) operands → all_truths operands (letter ++ truth ∷ []) ≡ all_truths operands letter
     all_avoid_same no_truths a = refl
@@ -106,10 +109,6 @@ later_or_last i n lt = grind arith
 
 -- ---- the rows
 
--- the row of a shift with this operand
-abbrev pub row : Bool → PlainTruth → ℕ → PlainBasic
-row forward p slot = if forward then BasicFore p slot else BasicBack p slot
-
 module _ (p : PlainTruth) (slot : ℕ) (avoids : Avoids slot p) (word : Word) (some : 0 < length word) (widths : (i : ℕ) → i < length word → length (letter_at word i) ≡ slot)
     (track : Track) (level : length track ≡ length word) where
   slot_here : (i : ℕ) → i < length word → holds_at (TruthSlot slot) (with_track word track) i ≡ truth_at track i
@@ -123,8 +122,8 @@ module _ (p : PlainTruth) (slot : ℕ) (avoids : Avoids slot p) (word : Word) (s
       ap (truth_holds p) (with_track-letter word track i level lt)
       ∙ avoids_same (letter_at word i) (truth_at track i) p (subst (λ width. Avoids width p) (sym (widths i lt)) avoids)
 
-  abbrev Follows : Bool → Type 0
-  Follows forward = (i : ℕ) → i < length word → truth_at track i ≡ shifted forward (length word) (λ j. truth_holds p (letter_at word j)) i
+  abbrev Follows : Direction → Type 0
+  Follows direction = (i : ℕ) → i < length word → truth_at track i ≡ shifted direction (length word) (λ j. truth_holds p (letter_at word j)) i
 
   -- what the rows ask at each instant but the first
   abbrev back_test : ℕ → Bool
@@ -141,7 +140,7 @@ module _ (p : PlainTruth) (slot : ℕ) (avoids : Avoids slot p) (word : Word) (s
       → (not (holds_at (TruthSlot slot) (with_track word track) (length word - 1)) ≡ true) × (each_between 1 (length word - 1) fore_test ≡ true)
   fore_parts is = and-parts (not (holds_at (TruthSlot slot) (with_track word track) (length word - 1))) (each_between 1 (length word - 1) fore_test) is
 
-  back_follows : basic_holds (BasicBack p slot) (with_track word track) 0 (length word - 1) ≡ true → Follows false
+  back_follows : basic_holds (BasicBack p slot) (with_track word track) 0 (length word - 1) ≡ true → Follows Prior
   back_follows is zero lt = sym (slot_here 0 lt) ∙ not_only (holds_at (TruthSlot slot) (with_track word track) 0) (back_parts is).0
   back_follows is (suc i) lt =
       let test = (each_between-every 1 (length word - 1) back_test).0 (back_parts is).1 (suc i) (omega arith) (omega (arith, lt)) in
@@ -150,7 +149,7 @@ module _ (p : PlainTruth) (slot : ℕ) (avoids : Avoids slot p) (word : Word) (s
       ∙ operand_here (suc i - 1) (omega (arith, lt))
       ∙ sym (earlier_there (suc i) (truth_holds p (letter_at word (suc i - 1))) (omega arith))
 
-  follows_back : Follows false → basic_holds (BasicBack p slot) (with_track word track) 0 (length word - 1) ≡ true
+  follows_back : Follows Prior → basic_holds (BasicBack p slot) (with_track word track) 0 (length word - 1) ≡ true
   follows_back follows =
       let first : not (holds_at (TruthSlot slot) (with_track word track) 0) ≡ true = ap not (slot_here 0 some ∙ follows 0 some) in
       let later = (each_between-every 1 (length word - 1) back_test).1 (λ m lo hi.
@@ -159,7 +158,7 @@ module _ (p : PlainTruth) (slot : ℕ) (avoids : Avoids slot p) (word : Word) (s
       (slot_here m lt ∙ follows m lt ∙ earlier_there m (truth_holds p (letter_at word (m - 1))) (omega (arith, lo)) ∙ sym (operand_here (m - 1) (omega (arith, lt))))) in
       λ i. first i && later i
 
-  fore_follows : basic_holds (BasicFore p slot) (with_track word track) 0 (length word - 1) ≡ true → Follows true
+  fore_follows : basic_holds (BasicFore p slot) (with_track word track) 0 (length word - 1) ≡ true → Follows Next
   fore_follows is i lt = elim (later_or_last i (length word) lt) [
     | inl more ↦
         let test = (each_between-every 1 (length word - 1) fore_test).0 (fore_parts is).1 (i + 1) (omega arith) (omega (arith, more)) in
@@ -176,7 +175,7 @@ module _ (p : PlainTruth) (slot : ℕ) (avoids : Avoids slot p) (word : Word) (s
         ∙ sym (none_later i (length word) (truth_holds p (letter_at word (i + 1))) (omega (arith, last)))
   ]
 
-  follows_fore : Follows true → basic_holds (BasicFore p slot) (with_track word track) 0 (length word - 1) ≡ true
+  follows_fore : Follows Next → basic_holds (BasicFore p slot) (with_track word track) 0 (length word - 1) ≡ true
   follows_fore follows =
       let end : length word - 1 < length word = omega (arith, some) in
       let last : not (holds_at (TruthSlot slot) (with_track word track) (length word - 1)) ≡ true =
@@ -193,6 +192,6 @@ module _ (p : PlainTruth) (slot : ℕ) (avoids : Avoids slot p) (word : Word) (s
       ∙ sym (operand_here m lt))) in
       λ i. last i && earlier i
 
-  pub row_follows : (forward : Bool) → Decides (basic_holds (row forward p slot) (with_track word track) 0 (length word - 1)) (Follows forward)
-  row_follows true = (fore_follows, follows_fore)
-  row_follows false = (back_follows, follows_back)
+  pub row_follows : (direction : Direction) → Decides (basic_holds (shift_row direction p slot) (with_track word track) 0 (length word - 1)) (Follows direction)
+  row_follows Next = (fore_follows, follows_fore)
+  row_follows Prior = (back_follows, follows_back)

@@ -13,6 +13,8 @@ use Rattle.dcv_language.specs.Operations.{with_track, some_track, iff}
 use Rattle.dcv_language.proofs.Behaviours.{some_track-same}
 use Rattle.dcv_logic.specs.Track.{Track, truth_at}
 use Rattle.dcv_logic.specs.Satisfaction.{compares}
+use Rattle.dcv_core.specs.declared.truths.Direction.{Direction}
+use Rattle.dcv_core.specs.declared.truths.Direction.TheVariants.{Prior, Next}
 use Rattle.dcv_core.specs.Core.{PlainTruth, TruthConstant, TruthSlot, TruthNot, TruthAnd, TruthOr, TruthIff, TruthShift, PlainTruths, no_truths, truth_operand}
 use Rattle.dcv_core.specs.Core.{PlainBasic, BasicConstant, BasicPoint, BasicRun, BasicEvery, BasicUnit, BasicSlen, BasicScount, BasicSdur, BasicBack, BasicFore}
 use Rattle.dcv_core.specs.Core.{CoreTree, CoreAtom, CoreNot, CoreAnd, CoreOr, CoreIff, CoreChop, CoreStar, CoreExists}
@@ -44,7 +46,7 @@ abbrev mutual
   IsCovered seen (TruthAnd operands) = AreCovered seen operands
   IsCovered seen (TruthOr operands) = AreCovered seen operands
   IsCovered seen (TruthIff operands) = AreCovered seen operands
-  IsCovered seen (TruthShift forward p span) = list_any (same_shift (record { forward = forward; operand = p; span = span })) seen ≡ true
+  IsCovered seen (TruthShift direction p span) = list_any (same_shift (record { direction = direction; operand = p; span = span })) seen ≡ true
 
   pub AreCovered : List Shift → PlainTruths → Type 0
   AreCovered seen no_truths = Unit {0}
@@ -137,7 +139,7 @@ position k all seen rest shift is some =
 -- ---- words with slots for shifts
 
 abbrev pub shift_value : Shift → Word → ℕ → Bool
-shift_value shift word i = value_at (TruthShift shift.forward shift.operand shift.span) word i
+shift_value shift word i = value_at (TruthShift shift.direction shift.operand shift.span) word i
 
 -- The other word has beside this one's slots one for each of the shifts seen, which are the first of all. Both have so many slots of quantifiers.
 pub record Stands (k : ℕ) (all seen : List Shift) (deep : ℕ) (word other : Word) : Type 0 where
@@ -153,8 +155,8 @@ module _ (k : ℕ) (all seen rest : List Shift) (is : all ≡ seen ++ rest) (dee
   placed_shift : (shift : Shift) → list_any (same_shift shift) seen ≡ true → truth_at (letter_at other i) (slot_of k all shift) ≡ shift_value shift word i
   placed_shift shift covered =
       let at : HasSlot k all seen shift = position k all seen rest shift is covered in
-      let own = TruthShift shift.forward shift.operand shift.span in
-      let listed = TruthShift at.found.forward at.found.operand at.found.span in
+      let own = TruthShift shift.direction shift.operand shift.span in
+      let listed = TruthShift at.found.direction at.found.operand at.found.span in
       ap (truth_at (letter_at other i)) at.slot ∙ s.values i at.place at.found lt at.there ∙ sym (same_value word own listed at.same i)
 
   mutual
@@ -165,7 +167,7 @@ module _ (k : ℕ) (all seen rest : List Shift) (is : all ≡ seen ++ rest) (dee
     placed_value (TruthAnd operands) covered = all_placed_values operands covered
     placed_value (TruthOr operands) covered = some_placed_value operands covered
     placed_value (TruthIff operands) covered = iff_placed_values operands covered true
-    placed_value (TruthShift forward p span) covered = placed_shift (record { forward = forward; operand = p; span = span }) covered
+    placed_value (TruthShift direction p span) covered = placed_shift (record { direction = direction; operand = p; span = span }) covered
 
     all_placed_values : (ps : PlainTruths) → AreCovered seen ps → all_truths (all_placed k all ps) (letter_at other i) ≡ all_values ps word i
     all_placed_values no_truths covered = refl
@@ -241,9 +243,9 @@ module _ (k : ℕ) (all : List Shift) (letter other : List Bool) (truth : Bool) 
 -- ---- shifts that look at declared variables alone
 
 -- shifts of what is the same at each instant
-shifted_within : (forward : Bool) (n : ℕ) (f g : ℕ → Bool) → ((i : ℕ) → i < n → f i ≡ g i) → (i : ℕ) → i < n → shifted forward n f i ≡ shifted forward n g i
-shifted_within true n f g same i lt = and_given (nat_lt (i + 1) n) (f (i + 1)) (g (i + 1)) (λ less. same (i + 1) (less_only (i + 1) n less))
-shifted_within false n f g same i lt = ap (λ b. nat_lt 0 i && b) (same (i - 1) (omega (arith, lt)))
+shifted_within : (direction : Direction) (n : ℕ) (f g : ℕ → Bool) → ((i : ℕ) → i < n → f i ≡ g i) → (i : ℕ) → i < n → shifted direction n f i ≡ shifted direction n g i
+shifted_within Next n f g same i lt = and_given (nat_lt (i + 1) n) (f (i + 1)) (g (i + 1)) (λ less. same (i + 1) (less_only (i + 1) n less))
+shifted_within Prior n f g same i lt = ap (λ b. nat_lt 0 i && b) (same (i - 1) (omega (arith, lt)))
 
 module _ (k : ℕ) (word : Word) (track : Track) (level : length track ≡ length word) (declared : (i : ℕ) → i < length word → k ≤ length (letter_at word i)) where
   mutual
@@ -257,9 +259,9 @@ module _ (k : ℕ) (word : Word) (track : Track) (level : length track ≡ lengt
     unbound_value (TruthAnd operands) unbound i lt = all_unbound operands unbound i lt
     unbound_value (TruthOr operands) unbound i lt = some_unbound operands unbound i lt
     unbound_value (TruthIff operands) unbound i lt = iff_unbound operands unbound i lt true
-    unbound_value (TruthShift forward p span) unbound i lt =
-        ap (λ n. shifted forward n (value_at p (with_track word track)) i) (with_track-length word track level)
-        ∙ shifted_within forward (length word) (value_at p (with_track word track)) (value_at p word) (unbound_value p unbound) i lt
+    unbound_value (TruthShift direction p span) unbound i lt =
+        ap (λ n. shifted direction n (value_at p (with_track word track)) i) (with_track-length word track level)
+        ∙ shifted_within direction (length word) (value_at p (with_track word track)) (value_at p word) (unbound_value p unbound) i lt
 
     all_unbound : (ps : PlainTruths) → some_names_bound k ps ≡ false → (i : ℕ) → i < length word → all_values ps (with_track word track) i ≡ all_values ps word i
     all_unbound no_truths unbound i lt = refl
@@ -315,7 +317,7 @@ module _ (k : ℕ) (all : List Shift) (deep : ℕ) (word other : Word) (s : Stan
 
     value_stays : (place : ℕ) (shift : Shift) → slice_get all place ≡ Some shift → shift_value shift (with_track word track) i ≡ shift_value shift word i
     value_stays place shift there =
-        unbound_value k word track level (λ j within. omega (arith, s.widths j within)) (TruthShift shift.forward shift.operand shift.span) (unbound place shift there) i in_word
+        unbound_value k word track level (λ j within. omega (arith, s.widths j within)) (TruthShift shift.direction shift.operand shift.span) (unbound place shift there) i in_word
 
     placed_values : (place : ℕ) (shift : Shift) → slice_get all place ≡ Some shift → truth_at (letter_at (with_track other track) i) (k + place) ≡ shift_value shift (with_track word track) i
     placed_values place shift there =

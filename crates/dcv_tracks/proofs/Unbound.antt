@@ -47,7 +47,7 @@ module _ (k : ℕ) where
     unbound_within (TruthAnd operands) is = unbound_among operands is
     unbound_within (TruthOr operands) is = unbound_among operands is
     unbound_within (TruthIff operands) is = unbound_among operands is
-    unbound_within (TruthShift forward p span) is = ap (λ (bound : Bool). if bound then Some span.start else None) is
+    unbound_within (TruthShift direction p span) is = ap (λ (bound : Bool). if bound then Some span.start else None) is
 
     unbound_among : (operands : PlainTruths) → some_names_bound k operands ≡ false → first_bound k operands ≡ None
     unbound_among no_truths is = refl
@@ -67,7 +67,7 @@ module _ (k : ℕ) where
     unbound_below (TruthAnd operands) is = all_unbound_below operands is
     unbound_below (TruthOr operands) is = all_unbound_below operands is
     unbound_below (TruthIff operands) is = all_unbound_below operands is
-    unbound_below (TruthShift forward p span) is = unbound_below p is
+    unbound_below (TruthShift direction p span) is = unbound_below p is
 
     all_unbound_below : (operands : PlainTruths) → some_names_bound k operands ≡ false → AreBelow k operands
     all_unbound_below no_truths is = tt
@@ -113,9 +113,9 @@ module _ (k : ℕ) where
     unbound_collected (TruthAnd operands) seen is u = unbound_all operands seen is u
     unbound_collected (TruthOr operands) seen is u = unbound_all operands seen is u
     unbound_collected (TruthIff operands) seen is u = unbound_all operands seen is u
-    unbound_collected (TruthShift forward p span) seen is u =
+    unbound_collected (TruthShift direction p span) seen is u =
         let names = unbound_only (names_bound k p) span.start is in
-        unbound_added (collected seen p) (record { forward = forward; operand = p; span = span }) (unbound_collected p seen (unbound_within p names) u) names
+        unbound_added (collected seen p) (record { direction = direction; operand = p; span = span }) (unbound_collected p seen (unbound_within p names) u) names
 
     unbound_all : (operands : PlainTruths) (seen : List Shift) → first_bound k operands ≡ None → AreUnbound seen → AreUnbound (all_collected seen operands)
     unbound_all no_truths seen is u = u

@@ -10,16 +10,23 @@ use Rattle.std.specs.Bool.{beq}
 use Rattle.std.specs.List.{list_any, position_or_len}
 use Rattle.std.specs.Option.{option_or}
 use Rattle.dcv_syntax.specs.declared.names.Span.{Span}
+use Rattle.dcv_core.specs.declared.truths.Direction.{Direction}
+use Rattle.dcv_core.specs.declared.truths.Direction.TheVariants.{Prior, Next}
 use Rattle.dcv_core.specs.Core.{PlainTruth, TruthConstant, TruthSlot, TruthNot, TruthAnd, TruthOr, TruthIff, TruthShift, PlainTruths, no_truths, truth_operand}
 use Rattle.dcv_core.specs.Core.{PlainBasic, BasicConstant, BasicPoint, BasicRun, BasicEvery, BasicUnit, BasicSlen, BasicScount, BasicSdur, BasicBack, BasicFore}
 use Rattle.dcv_core.specs.Core.{CoreTree, CoreAtom, CoreNot, CoreAnd, CoreOr, CoreIff, CoreChop, CoreStar, CoreExists}
 
 pub record Shift : Type 0 where
-  pub forward : Bool
+  pub direction : Direction
   pub operand : PlainTruth
   pub span : Span
 
 -- ---- the same but for places
+
+abbrev pub same_direction : Direction → Direction → Bool
+same_direction Prior Prior = true
+same_direction Next Next = true
+same_direction _ _ = false
 
 abbrev mutual
   pub same_truth : PlainTruth → PlainTruth → Bool
@@ -29,7 +36,7 @@ abbrev mutual
   same_truth (TruthAnd operands) (TruthAnd others) = same_truths operands others
   same_truth (TruthOr operands) (TruthOr others) = same_truths operands others
   same_truth (TruthIff operands) (TruthIff others) = same_truths operands others
-  same_truth (TruthShift forward p span) (TruthShift other q other_span) = beq forward other && same_truth p q
+  same_truth (TruthShift direction p span) (TruthShift other q other_span) = same_direction direction other && same_truth p q
   same_truth _ _ = false
 
   pub same_truths : PlainTruths → PlainTruths → Bool
@@ -38,7 +45,7 @@ abbrev mutual
   same_truths _ _ = false
 
 abbrev pub same_shift : Shift → Shift → Bool
-same_shift shift other = beq shift.forward other.forward && same_truth shift.operand other.operand
+same_shift shift other = same_direction shift.direction other.direction && same_truth shift.operand other.operand
 
 -- ---- the shifts of a goal
 
@@ -54,7 +61,7 @@ abbrev mutual
   collected seen (TruthAnd operands) = all_collected seen operands
   collected seen (TruthOr operands) = all_collected seen operands
   collected seen (TruthIff operands) = all_collected seen operands
-  collected seen (TruthShift forward p span) = with_shift (collected seen p) (record { forward = forward; operand = p; span = span })
+  collected seen (TruthShift direction p span) = with_shift (collected seen p) (record { direction = direction; operand = p; span = span })
 
   pub all_collected : List Shift → PlainTruths → List Shift
   all_collected seen no_truths = seen
@@ -107,7 +114,7 @@ abbrev mutual
   placed k all (TruthAnd operands) = TruthAnd (all_placed k all operands)
   placed k all (TruthOr operands) = TruthOr (all_placed k all operands)
   placed k all (TruthIff operands) = TruthIff (all_placed k all operands)
-  placed k all (TruthShift forward p span) = TruthSlot (slot_of k all (record { forward = forward; operand = p; span = span }))
+  placed k all (TruthShift direction p span) = TruthSlot (slot_of k all (record { direction = direction; operand = p; span = span }))
 
   pub all_placed : ℕ → List Shift → PlainTruths → PlainTruths
   all_placed k all no_truths = no_truths
@@ -137,9 +144,14 @@ placed_core k all (CoreExists d span) = CoreExists (placed_core k all d) span
 
 -- ---- a track for each slot
 
+-- the row of a shift with this operand: the slot is what the operand is one instant earlier, or later
+abbrev pub shift_row : Direction → PlainTruth → ℕ → PlainBasic
+shift_row Prior p slot = BasicBack p slot
+shift_row Next p slot = BasicFore p slot
+
 -- the slot is what the shift is
 abbrev pub shift_basic : ℕ → List Shift → Shift → ℕ → PlainBasic
-shift_basic k all shift slot = if shift.forward then BasicFore (placed k all shift.operand) slot else BasicBack (placed k all shift.operand) slot
+shift_basic k all shift slot = shift_row shift.direction (placed k all shift.operand) slot
 
 -- these shifts have the slots from the next on; the last of them is closed first
 abbrev pub closed_from : ℕ → List Shift → ℕ → List Shift → CoreTree → CoreTree
@@ -165,7 +177,7 @@ abbrev mutual
   names_bound k (TruthAnd operands) = some_names_bound k operands
   names_bound k (TruthOr operands) = some_names_bound k operands
   names_bound k (TruthIff operands) = some_names_bound k operands
-  names_bound k (TruthShift forward p span) = names_bound k p
+  names_bound k (TruthShift direction p span) = names_bound k p
 
   pub some_names_bound : ℕ → PlainTruths → Bool
   some_names_bound k no_truths = false
@@ -180,7 +192,7 @@ abbrev mutual
   bound_in k (TruthAnd operands) = first_bound k operands
   bound_in k (TruthOr operands) = first_bound k operands
   bound_in k (TruthIff operands) = first_bound k operands
-  bound_in k (TruthShift forward p span) = if names_bound k p then Some span.start else None
+  bound_in k (TruthShift direction p span) = if names_bound k p then Some span.start else None
 
   pub first_bound : ℕ → PlainTruths → Option ℕ
   first_bound k no_truths = None

@@ -64,7 +64,8 @@ fn first_bound_among(declared: u8, truths: &[Truth]) -> Option<u32>
     None
 }
 
-/// The byte at which the first shift of a goal begins that looks at a quantified variable, an outer one before those in it.
+/// The offset of the first shift of a goal whose operand has a quantified variable, or none. An outer shift comes before those
+/// in its operand.
 pub fn bound_shift_of(goal: &Core) -> Option<u32>
     ensures { (tree : CoreTree) → IsCoreOf tree goal.now → result ≡ bound_shift goal.now.declared tree }
 {

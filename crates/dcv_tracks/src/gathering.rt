@@ -11,9 +11,10 @@ ghost use Rattle.dcv_tracks.specs.Shifting.{shifts_in, most_shifts};
 ghost use Rattle.dcv_tracks.specs.ShiftViews.{plain_shift};
 ghost use Rattle.dcv_tracks.specs.ShiftSteps.{truth_in, step_truth};
 
-use dcv_core::{Basic, Core, Op, Truth};
+use dcv_core::{Basic, Core, Direction, Op, Truth};
 use dcv_syntax::Span;
-use std::alloc::{AllocError, Global};
+use std::alloc::{AllocFailed, Global};
+use thiserror::Error;
 
 /// The most shifts of a goal.
 pub const MOST_SHIFTS: usize = 32;
@@ -21,28 +22,29 @@ pub const MOST_SHIFTS: usize = 32;
 /// A prior or next proposition, with the first place where it stands.
 #[derive(Clone, Copy, Drop)]
 pub struct Shift<'a> {
-    /// Whether it looks at the next instant, or else at the one before.
-    pub(crate) forward: bool,
+    pub(crate) direction: Direction,
     pub(crate) operand: &'a Truth,
     pub(crate) span: Span,
 }
 
 /// Why the shifts of a goal were not gathered.
-#[derive(Clone, Copy, Debug, PartialEq, Eq, Drop)]
+#[derive(Clone, Copy, Debug, PartialEq, Eq, Error)]
 pub enum GatherFault {
     /// There are more than [`MOST_SHIFTS`].
+    #[error("there are more than 32 prior and next propositions")]
     TooMany,
     /// Memory ran out.
+    #[error("out of memory")]
     Memory,
 }
 
-impl From<AllocError> for GatherFault {
+impl<T: Drop> From<AllocFailed<T>> for GatherFault {
     ghost use Rattle.std.specs.Prelude.{◌≡◌};
     ghost use Rattle.dcv_tracks.specs.declared.gathering.GatherFault.TheVariants.{Memory};
 
     ghost from_gives = { λ _ fault. fault ≡ Memory };
 
-    fn from(_: AllocError) -> Self {
+    fn from(_: AllocFailed<T>) -> Self {
         GatherFault::Memory
     }
 }
@@ -89,8 +91,8 @@ fn same(one: &Truth, other: &Truth) -> bool
         (Truth::And(ones), Truth::And(others)) => same_all(ones, others),
         (Truth::Or(ones), Truth::Or(others)) => same_all(ones, others),
         (Truth::Iff(ones), Truth::Iff(others)) => same_all(ones, others),
-        (Truth::Shift(forward, one, _), Truth::Shift(other_forward, other, _)) => {
-            forward == other_forward && same(one, other)
+        (Truth::Shift(direction, one, _), Truth::Shift(other_direction, other, _)) => {
+            direction == other_direction && same(one, other)
         }
         _ => false,
     }
@@ -116,7 +118,7 @@ impl Shift<'_> {
     fn is(&self, shift: &Shift<'_>) -> bool
         ensures { result ≡ same_shift (plain_shift shift.now) (plain_shift self.now) }
     {
-        shift.forward == self.forward && same(shift.operand, self.operand)
+        shift.direction == self.direction && same(shift.operand, self.operand)
     }
 }
 
@@ -152,10 +154,8 @@ fn add<'a>(shift: Shift<'a>, shifts: &mut Vec<Shift<'a>>) -> Result<(), GatherFa
     if shifts.len() >= MOST_SHIFTS {
         return Err(GatherFault::TooMany);
     }
-    match shifts.push(shift) {
-        Ok(()) => Ok(()),
-        Err(failed) => Err(AllocError::from(failed).into()),
-    }
+    shifts.push(shift)?;
+    Ok(())
 }
 
 // The shifts of a proposition behind those that are there, an inner one before the outer one.
@@ -174,10 +174,10 @@ fn gather<'a>(truth: &'a Truth, shifts: &mut Vec<Shift<'a>>) -> Result<(), Gathe
         Truth::And(operands) | Truth::Or(operands) | Truth::Iff(operands) => {
             gather_all(operands, shifts)
         }
-        Truth::Shift(forward, operand, span) => {
+        Truth::Shift(direction, operand, span) => {
             gather(operand, shifts)?;
             let shift = Shift {
-                forward: *forward,
+                direction: *direction,
                 operand,
                 span: *span,
             };

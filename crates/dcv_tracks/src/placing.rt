@@ -11,7 +11,7 @@ ghost use Rattle.dcv_tracks.specs.ShiftViews.{plain_shift};
 ghost use Rattle.dcv_tracks.specs.ShiftSteps.{with_steps, placed_op, placed_step, closed_step, closed_steps};
 
 use crate::gathering::{Shift, place_of};
-use dcv_core::{Basic, Core, Op, Operator, Truth};
+use dcv_core::{Basic, Core, Direction, Op, Operator, Truth};
 use std::alloc::{AllocError, Global};
 
 // The shifts of a goal over so many declared variables.
@@ -58,9 +58,9 @@ impl Placing<'_> {
             Truth::And(operands) => Ok(Truth::And(self.truths(operands)?)),
             Truth::Or(operands) => Ok(Truth::Or(self.truths(operands)?)),
             Truth::Iff(operands) => Ok(Truth::Iff(self.truths(operands)?)),
-            Truth::Shift(forward, operand, span) => {
+            Truth::Shift(direction, operand, span) => {
                 let shift = Shift {
-                    forward: *forward,
+                    direction: *direction,
                     operand,
                     span: *span,
                 };
@@ -162,10 +162,9 @@ impl Placing<'_> {
         ensures { IfOk result (λ result. plain_basic result ≡ shift_basic self.now.declared (map plain_shift self.now.shifts.now) (plain_shift shift.now) slot) }
     {
         let operand = self.truth(shift.operand)?;
-        Ok(if shift.forward {
-            Basic::Fore(operand, slot)
-        } else {
-            Basic::Back(operand, slot)
+        Ok(match shift.direction {
+            Direction::Prior => Basic::Back(operand, slot),
+            Direction::Next => Basic::Fore(operand, slot),
         })
     }
 
@@ -221,7 +220,7 @@ pub fn core_of(alloc: Global, goal: &Core, shifts: &[Shift<'_>]) -> Result<Core,
     };
     let mut core = Core::new(alloc, goal.declared());
     placing.place(goal, &mut core)?;
-    // a goal without steps has nothing that could be closed
+    // A goal without steps has nothing to close.
     if core.steps() > 0 {
         placing.close(&mut core)?;
     }

@@ -1,5 +1,6 @@
 // Relays: macros that stand for one of their arguments, whatever the others are. A call of one is no node, and its argument
-// takes its place, so that calls in calls of relays, of which a text may have thousands, cost neither time nor stack.
+// takes its place, so calls in calls of relays, of which a text may have thousands, are passed over before anything is made of
+// them.
 ghost use Rattle.std.specs.Prelude.{◌≡◌, ◌<◌, ◌≤◌, ◌++◌, None, Some, IfOk, IfSome, map, length, slice_index_or};
 ghost use Rattle.dcv_syntax.specs.declared.propositions.Prop.{size-Prop};
 ghost use Rattle.dcv_syntax.specs.Views.{plain_prop_kind, plain_macro};
@@ -60,12 +61,9 @@ impl<'a> Sight<'a> {
 fn place_of(parameters: &[Name], name: &Text) -> Option<usize>
     ensures { result ≡ found (places_from 0 parameters.now) name.now }
 {
-    for (place, parameter) in parameters.iter().enumerate() {
-        if parameter.text.as_bytes() == name.as_bytes() {
-            return Some(place);
-        }
-    }
-    None
+    parameters
+        .iter()
+        .position(|parameter| parameter.text == *name)
 }
 
 // What is in sight in a macro of these parameters, whatever they stand for.
@@ -108,7 +106,7 @@ fn relay_of<'a>(
         names: with_parameters(alloc, &defined.parameters, variables)?,
         variables,
         macros,
-        uses: &[],
+        measures: &[],
         relays,
     };
     let behind = sight.behind(body);

@@ -38,17 +38,17 @@ operation-push-requires-in-6 t c = omega (arith, c.requires.room, drawn_length c
 pub operation-returns-in_ok-operand-in-1 : goal.operation-returns-in_ok-operand-in-1
 operation-returns-in_ok-operand-in-1 t c =
     let same = ap (λ kind. operation_of kind (drawn_core c.args.depth) c.args.slots c.args.draw.now) (sym c.in-1.is) in
-    then_ok c.push.result c.push.ensures (λ last pushed. adds_same same (adds_one not_is_one c.in_ok-operand-in-1.ensures pushed))
+    then_ok c.push.result c.push.ensures.ok (λ last pushed. adds_same same (adds_one not_is_one c.in_ok-operand-in-1.ensures pushed))
 
 pub operation-returns-in_ok-operand-in-5 : goal.operation-returns-in_ok-operand-in-5
 operation-returns-in_ok-operand-in-5 t c =
     let same = ap (λ kind. operation_of kind (drawn_core c.args.depth) c.args.slots c.args.draw.now) (sym c.in-5.is) in
-    then_ok c.push-in-5.result c.push-in-5.ensures (λ last pushed. adds_same same (adds_one star_is_one c.in_ok-operand-in-5.ensures pushed))
+    then_ok c.push-in-5.result c.push-in-5.ensures.ok (λ last pushed. adds_same same (adds_one star_is_one c.in_ok-operand-in-5.ensures pushed))
 
 pub operation-returns-in_ok-operand-in-6 : goal.operation-returns-in_ok-operand-in-6
 operation-returns-in_ok-operand-in-6 t c =
     let same = ap (λ kind. operation_of kind (drawn_core c.args.depth) c.args.slots c.args.draw.now) (sym c.in-6.is) in
-    then_ok c.push-in-6.result c.push-in-6.ensures (λ last pushed. adds_same same (adds_one exists_is_one c.in_ok-operand-in-6.ensures pushed))
+    then_ok c.push-in-6.result c.push-in-6.ensures.ok (λ last pushed. adds_same same (adds_one exists_is_one c.in_ok-operand-in-6.ensures pushed))
 
 pub operation-returns-in_default : goal.operation-returns-in_default
 operation-returns-in_default t c =

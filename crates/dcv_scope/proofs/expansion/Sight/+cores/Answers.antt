@@ -52,7 +52,7 @@ everywhere-push-requires t c =
 
 pub everywhere-returns : goal.everywhere-returns
 everywhere-returns t c =
-    then_ok c.push.result c.push.ensures (λ last. made_one not_is_one (made_round c.in_ok-before.ensures c.in_ok-part.ensures c.in_ok-somewhere.ensures))
+    then_ok c.push.result c.push.ensures.ok (λ last. made_one not_is_one (made_round c.in_ok-before.ensures c.in_ok-part.ensures c.in_ok-somewhere.ensures))
 
 pub implies-formula-requires : goal.implies-formula-requires
 implies-formula-requires t c = (
@@ -70,13 +70,13 @@ pub implies-push-requires : goal.implies-push-requires
 implies-push-requires t c = omega (arith, c.requires.room.enough_steps, made_length c.in_ok-first.ensures, made_length c.in_ok-second.ensures)
 
 pub implies-returns : goal.implies-returns
-implies-returns t c = then_ok c.push.result c.push.ensures (λ last. made_two or_is_two c.in_ok-first.ensures c.in_ok-second.ensures)
+implies-returns t c = then_ok c.push.result c.push.ensures.ok (λ last. made_two or_is_two c.in_ok-first.ensures c.in_ok-second.ensures)
 
 pub not-push-requires : goal.not-push-requires
 not-push-requires t c = omega (arith, c.requires.room.enough_steps, made_length c.in_ok-operand.ensures)
 
 pub not-returns : goal.not-returns
-not-returns t c = then_ok c.push.result c.push.ensures (λ last. made_one not_is_one c.in_ok-operand.ensures)
+not-returns t c = then_ok c.push.result c.push.ensures.ok (λ last. made_one not_is_one c.in_ok-operand.ensures)
 
 pub somewhere-chop_round-requires : goal.somewhere-chop_round-requires
 somewhere-chop_round-requires t c = omega (arith, c.requires.room.enough_steps, made_length c.in_ok-before.ensures, made_length c.in_ok-part.ensures)
@@ -88,7 +88,7 @@ pub star-push-requires : goal.star-push-requires
 star-push-requires t c = omega (arith, c.requires.room.enough_steps, made_length c.in_ok-operand.ensures)
 
 pub star-returns : goal.star-returns
-star-returns t c = then_ok c.push.result c.push.ensures (λ last. made_one star_is_one c.in_ok-operand.ensures)
+star-returns t c = then_ok c.push.result c.push.ensures.ok (λ last. made_one star_is_one c.in_ok-operand.ensures)
 
 -- ---- quantifiers
 
@@ -100,7 +100,7 @@ exists-push-requires t c =
 pub exists-returns : goal.exists-returns
 exists-returns t c =
     let core : Sight → CoreTree = λ s. core_of s (plain_formula_kind c.args.body.now.kind) c.args.body.now.span in
-    then_ok c.push.result c.push.ensures (λ last. made_one exists_is_one (made_in core c.in_ok-bind.ensures.sight c.in_ok-operand.ensures))
+    then_ok c.push.result c.push.ensures.ok (λ last. made_one exists_is_one (made_in core c.in_ok-bind.ensures.sight c.in_ok-operand.ensures))
 
 pub for_all-push-requires : goal.for_all-push-requires
 for_all-push-requires t c =
@@ -110,13 +110,13 @@ for_all-push-requires t c =
 pub for_all-push-requires-2 : goal.for_all-push-requires-2
 for_all-push-requires-2 t c =
     let core : Sight → CoreTree = λ s. CoreNot (core_of s (plain_formula_kind c.args.body.now.kind) c.args.body.now.span) c.args.span in
-    omega (arith, c.requires.room.enough_steps, made_length (made_one exists_is_one (made_in core c.in_ok-bind.ensures.sight c.in_ok-operand.ensures) c.in_ok-exists.ensures))
+    omega (arith, c.requires.room.enough_steps, made_length (made_one exists_is_one (made_in core c.in_ok-bind.ensures.sight c.in_ok-operand.ensures) c.in_ok-exists.ensures.ok))
 
 pub for_all-returns : goal.for_all-returns
 for_all-returns t c =
     let core : Sight → CoreTree = λ s. CoreNot (core_of s (plain_formula_kind c.args.body.now.kind) c.args.body.now.span) c.args.span in
-    then_ok c.push-2.result c.push-2.ensures
-    (λ last. made_one not_is_one (made_one exists_is_one (made_in core c.in_ok-bind.ensures.sight c.in_ok-operand.ensures) c.in_ok-exists.ensures))
+    then_ok c.push-2.result c.push-2.ensures.ok
+    (λ last. made_one not_is_one (made_one exists_is_one (made_in core c.in_ok-bind.ensures.sight c.in_ok-operand.ensures) c.in_ok-exists.ensures.ok))
 
 -- ---- the forms that hold a vector
 
@@ -257,7 +257,7 @@ list-loop-operand-preserved t c =
     let core = core_of sight (plain_formula_kind item.formula.kind) item.formula.span in
     let all = goes_on sight (join_of c.args.join) first.span rest c.loop-operand.operand-index item far.0 _ c.loop-operand-test.true c.operand-item.is far.2 in (
       join_of c.args.join far.0 core (covering first.span item.span),
-      made_two (join_is_two c.args.join) far.1 c.in_ok-second.ensures (pushed_as c.in_ok-last-2.ensures c.operator.ensures c.reach-covered.ensures),
+      made_two (join_is_two c.args.join) far.1 c.in_ok-second.ensures (pushed_as c.in_ok-last-2.ensures.ok c.operator.ensures c.reach-covered.ensures),
       all,
     )
 

@@ -1,5 +1,5 @@
 use Rattle.std.proofs.Common.{◌-◌, [], Some, length, ap, sym, ◌∙◌, arith}
-use Rattle.std.specs.Prelude.{bytes_eq, slice_index_or}
+use Rattle.std.specs.Prelude.{slice_index_or}
 use Rattle.std.specs.Option.{option_map}
 use Rattle.dcv_scope.specs.declared.measures.MacroMeasure.{MacroMeasure}
 use Rattle.dcv_scope.specs.Linear.{capped_macro}
@@ -18,7 +18,7 @@ returns-then-eq c =
     let sight = declared_alone c.args.self.now.declared.now in
     let macros = c.args.self.now.macros.now in
     let place = c.loop-place.place in
-    let here = (λ i. bytes_eq (sym c.as_bytes.ensures i) (sym c.as_bytes-in-loop-place.ensures i)) ∙ sym c.eq.ensures ∙ c.if-eq.true in
+    let here = sym c.eq.ensures ∙ c.if-eq.true in
     let found_here = newest_here sight macros place c.index-self-place.result c.args.name.now c.loop-place-test.true c.loop-place.auto.place here in
     let numbers = measured_at sight macros (place - 1) c.index-self-place.result nothing (omega (arith, c.loop-place-test.true, c.loop-place.auto.place)) in
     ap Some (ap (λ ms. slice_index_or ms (place - 1) nothing) c.requires.measured ∙ numbers)
@@ -29,6 +29,6 @@ loop-place-preserved c =
     let sight = declared_alone c.args.self.now.declared.now in
     let macros = c.args.self.now.macros.now in
     let place = c.loop-place.place in
-    let there = (λ i. bytes_eq (sym c.as_bytes.ensures i) (sym c.as_bytes-in-loop-place.ensures i)) ∙ sym c.eq.ensures ∙ c.if-eq.false in
+    let there = sym c.eq.ensures ∙ c.if-eq.false in
     sym (older_there sight macros place c.index-self-place.result c.args.name.now c.loop-place-test.true c.loop-place.auto.place there)
     ∙ c.loop-place.invariant

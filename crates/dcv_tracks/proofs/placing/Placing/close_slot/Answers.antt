@@ -10,4 +10,4 @@ returns c =
     let goal_is : c.steps-goal.result - 1 ≡ length old.steps - 1 = ap (λ n. n - 1) c.steps-goal.ensures in
     slot_closed c.args.self.now.declared (map plain_shift c.args.self.now.shifts.now) c.args.slot (c.args.slot + 1) (plain_shift c.args.shift.now)
     (plain_basic c.in_ok-track.field-0) (c.steps-goal.result - 1) c.in_ok-track-2.track c.in_ok-both.both c.in_ok-push.field-0 old c.push.new.self c.push-2.new.self c.push-3.new.self
-    c.in_ok-track.ensures goal_is refl c.in_ok-track-2.ensures c.in_ok-both.ensures c.in_ok-push.ensures
+    c.in_ok-track.ensures goal_is refl c.in_ok-track-2.ensures.ok c.in_ok-both.ensures.ok c.in_ok-push.ensures.ok

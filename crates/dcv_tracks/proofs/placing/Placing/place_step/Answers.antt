@@ -17,4 +17,4 @@ pub returns : goal.returns
 returns c step is =
     let shifts = c.args.self.now.shifts.now in
     let over : c.slots.result + length shifts ≡ c.slots.result + length (map plain_shift shifts) = ap (λ m. c.slots.result + m) (sym (length-map shifts plain_shift)) in
-    step_placed c.args.self.now.declared (map plain_shift shifts) _ _ _ _ _ _ _ _ _ c.op.ensures c.span.ensures c.slots.ensures c.in_ok-operator.ensures over c.in_ok-push.ensures step is
+    step_placed c.args.self.now.declared (map plain_shift shifts) _ _ _ _ _ _ _ _ _ c.op.ensures c.span.ensures c.slots.ensures c.in_ok-operator.ensures over c.in_ok-push.ensures.ok step is

@@ -3,7 +3,7 @@ use Rattle.dcv_syntax.specs.declared.formulas.FormulaOperand.{FormulaOperand}
 use Rattle.dcv_syntax.specs.Views.{plain_formula_kind}
 use Rattle.dcv_scope.specs.Names.{occurrences_in_formula, first_fault}
 use Rattle.dcv_scope.specs.Sights.{in_sight_of, first_of}
-use Rattle.dcv_scope.proofs.naming.Names.+names_of_formula.Given as goal
+use Rattle.dcv_scope.proofs.naming.Sight.+names_of_formula.Given as goal
 
 -- what is left has the first fault of the whole
 abbrev pub invariant-operands-loop-operand : goal.invariant-operands-loop-operand

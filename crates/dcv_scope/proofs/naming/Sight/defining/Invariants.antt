@@ -1,7 +1,7 @@
 use Rattle.std.proofs.Common.{◌≡◌, ◌++◌, drop}
 use Rattle.dcv_scope.specs.Names.{texts}
 use Rattle.dcv_scope.specs.Sights.{texts_of}
-use Rattle.dcv_scope.proofs.naming.Names.defining.Given as goal
+use Rattle.dcv_scope.proofs.naming.Sight.defining.Given as goal
 
 -- the names so far and those to come are the parameters, and then the outer names
 abbrev pub invariant-loop-parameter : goal.invariant-loop-parameter

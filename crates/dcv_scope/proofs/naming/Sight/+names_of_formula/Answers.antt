@@ -5,10 +5,10 @@ use Rattle.dcv_scope.specs.declared.faults.ScopeFault.{ScopeFault}
 use Rattle.dcv_scope.specs.Names.{AtFormula, occurs, fault_at, occurrences_in_formula, first_fault}
 use Rattle.dcv_scope.specs.Sights.{in_sight_of, first_of}
 use Rattle.dcv_scope.proofs.NameRows.{fault_in, formula-Call}
-use Rattle.dcv_scope.proofs.naming.Names.+names_of_formula.Goals as goal
+use Rattle.dcv_scope.proofs.naming.Sight.+names_of_formula.Goals as goal
 
-pub formula-returns-in-Call : goal.formula-returns-in-Call
-formula-returns-in-Call t c =
+pub fault_in_formula-returns-in-Call : goal.fault_in_formula-returns-in-Call
+fault_in_formula-returns-in-Call t c =
     let sight = in_sight_of c.args.self.now in
     let name = c.in-Call.name in
     let arguments = c.in-Call.arguments in

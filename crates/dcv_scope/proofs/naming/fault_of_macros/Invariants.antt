@@ -1,6 +1,6 @@
 use Rattle.std.proofs.Common.{◌≡◌, [], take, drop}
 use Rattle.dcv_scope.specs.Sights.{faults_of_macros}
-use Rattle.dcv_scope.proofs.naming.macros.Given as goal
+use Rattle.dcv_scope.proofs.naming.fault_of_macros.Given as goal
 
 -- what is left has the first fault of the whole
 abbrev pub invariant-loop-place : goal.invariant-loop-place

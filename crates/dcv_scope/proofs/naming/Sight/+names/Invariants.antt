@@ -4,7 +4,7 @@ use Rattle.dcv_syntax.specs.declared.propositions.PropOperand.{PropOperand}
 use Rattle.dcv_syntax.specs.Views.{plain_prop_kind}
 use Rattle.dcv_scope.specs.Names.{occurrences_in_prop, first_fault}
 use Rattle.dcv_scope.specs.Sights.{in_sight_of, first_of}
-use Rattle.dcv_scope.proofs.naming.Names.+names.Given as goal
+use Rattle.dcv_scope.proofs.naming.Sight.+names.Given as goal
 
 -- In each loop what is left has the first fault of the whole.
 abbrev pub invariant-arguments-loop-argument : goal.invariant-arguments-loop-argument

@@ -1,6 +1,6 @@
 use Rattle.std.proofs.Common.{◌≡◌, ◌∷◌, ◌++◌, drop}
 use Rattle.dcv_scope.specs.Sights.{texts_of}
-use Rattle.dcv_scope.proofs.naming.Names.bind.Given as goal
+use Rattle.dcv_scope.proofs.naming.Sight.bind.Given as goal
 
 -- the names so far and those to come are the new name and the outer ones
 abbrev pub invariant-loop-outer : goal.invariant-loop-outer

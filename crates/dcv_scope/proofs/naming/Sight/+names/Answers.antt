@@ -5,10 +5,10 @@ use Rattle.dcv_scope.specs.declared.faults.ScopeFault.{ScopeFault}
 use Rattle.dcv_scope.specs.Names.{AtProposition, occurs, fault_at, occurrences_in_prop, first_fault}
 use Rattle.dcv_scope.specs.Sights.{in_sight_of, first_of}
 use Rattle.dcv_scope.proofs.NameRows.{fault_in, names-Call}
-use Rattle.dcv_scope.proofs.naming.Names.+names.Goals as goal
+use Rattle.dcv_scope.proofs.naming.Sight.+names.Goals as goal
 
-pub prop-returns-in-Call : goal.prop-returns-in-Call
-prop-returns-in-Call t c =
+pub fault_in_prop-returns-in-Call : goal.fault_in_prop-returns-in-Call
+fault_in_prop-returns-in-Call t c =
     let sight = in_sight_of c.args.self.now in
     let name = c.in-Call.name in
     let arguments = c.in-Call.arguments in
