@@ -49,6 +49,7 @@ pub trait Classified {
     /// The number of its class.
     ghost class_of: { Self → ℕ };
 
+    /// The number of the token's class.
     fn class(&self) -> u8
         ensures { result ≡ class_of self.now };
 }

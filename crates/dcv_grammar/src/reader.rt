@@ -84,7 +84,7 @@ pub fn first_fault<T: Classified>(
     Ok(None)
 }
 
-/// Takes bodies in the place of their rules, as the next class picks them, until a class is on top, and takes it off.
+// Takes bodies in the place of their rules, as the next class picks them, until a class is on top, and takes it off.
 fn wanted_class(
     grammar: &ContextFree<'_>,
     stack: &mut Vec<Symbol>,
@@ -106,7 +106,7 @@ fn wanted_class(
     Ok(None)
 }
 
-/// Pushes symbols, the first one on top.
+// Pushes symbols, the first one on top.
 fn push_symbols(stack: &mut Vec<Symbol>, symbols: &[Symbol]) -> Result<(), AllocError>
     ensures { OnOk result (reverse stack.new.items ≡ symbols.now ++ reverse stack.old.items) }
 {

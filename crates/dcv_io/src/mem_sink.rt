@@ -41,7 +41,8 @@ impl MemSink {
     /// An empty sink with room for `room` bytes.
     ///
     /// The n-th write that takes bytes takes at most the n-th of `sizes`, and once they are used up as many as there
-    /// is room for. The writes whose numbers, from 1, are in `fails` fail.
+    /// is room for. The writes whose numbers, from 1, are in `fails` fail, and so does a write of some bytes where no room is
+    /// left; of no bytes it does not.
     pub fn new(
         alloc: Global,
         room: usize,

@@ -3,7 +3,7 @@ ghost use Rattle.std.specs.Prelude.{◌≡◌, ◌+◌, ◌^◌, ◌<◌, min, I
 ghost use Rattle.dcv_lexer.specs.Lexicon.{is_number};
 ghost use Rattle.dcv_lexer.specs.Decimal.{value_of};
 
-/// What the digits stand for, up to a number, and one more where it is larger.
+/// The value of the decimal digits, or `largest + 1` where it is above `largest`. The first digits may be 0.
 pub fn value_up_to(digits: &[u8], largest: u32) -> u32
     requires number { IsTrue (is_number digits.now) }
     requires in_range { largest < 2 ^ 16 }

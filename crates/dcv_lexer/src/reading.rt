@@ -1,4 +1,4 @@
-// The tokens of a text, one after another: a lexer by the longest match, which looks at each byte a few times.
+// The tokens of a text, one after another: a lexer by the longest match.
 ghost use Rattle.std.specs.Prelude.{◌≡◌, ◌+◌, ◌^◌, ◌<◌, length, IsTrue};
 ghost use Rattle.dcv_lexer.specs.Lexicon.{lexicon_of, is_orderly};
 

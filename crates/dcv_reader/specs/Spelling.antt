@@ -1,6 +1,7 @@
 -- Which file a text spells.
-use Rattle.std.specs.Prelude.{◌≡◌, ℕ, List, [], ◌∷◌}
+use Rattle.std.specs.Prelude.{◌≡◌, ◌↔◌, ℕ, List, [], ◌∷◌, map}
 use Rattle.dcv_syntax.specs.Plain.{PlainFile}
+use Rattle.dcv_grammar.specs.Grammar.{IsSentence}
 use Rattle.dcv_grammar.specs.Trees.{Nodes, IsTree}
 use Rattle.dcv_tokens.specs.Tokens.{Token, IsCut, tokens_from}
 use Rattle.dcv_sentence.specs.Language.{language}
@@ -18,3 +19,11 @@ Spells text file = (pieces : List (List ℕ)) × IsCut text pieces [] × SpellsF
 -- a text spells one file at most
 abbrev pub SpellsOne : Type 0
 SpellsOne = (text : List ℕ) (file other : PlainFile) → Spells text file → Spells text other → file ≡ other
+
+-- so does a list of tokens
+abbrev pub TokensSpellOne : Type 0
+TokensSpellOne = (tokens : List Token) (file other : PlainFile) → SpellsFile tokens file → SpellsFile tokens other → file ≡ other
+
+-- a list of tokens is a sentence of the grammar exactly where it spells a file
+abbrev pub SentencesSpell : Type 0
+SentencesSpell = (tokens : List Token) → IsSentence language (map token_class tokens) ↔ ((file : PlainFile) × SpellsFile tokens file)

@@ -3,8 +3,8 @@
 // A function for a rule is called where the rule begins, and has no error but want of memory: the reader of faults has
 // been there before.
 //
-// It is recursive descent, with a call for each level of operators: 500 parentheses, the most that a text may have, take
-// some 4 MB of stack.
+// It is recursive descent, with a call for each level of operators. It nests no deeper than the 500 nesting tokens that one
+// definition or the goal may have; `docs/PROVED.md` says what that takes of the stack.
 //
 // For the prover: `'more:` names a loop in the proofs, and `_comma` and the like name a call of `take`.
 ghost use Rattle.std.specs.Prelude.{◌≡◌, ◌<◌, length, map, IfOk, IsTrue};

@@ -1,4 +1,4 @@
-//! Why a text was not read.
+// Why a text was not read.
 ghost use Rattle.std.specs.Prelude.{◌≡◌};
 ghost use Rattle.dcv_sentence.specs.declared.faults.ReadFault.TheVariants.{Memory};
 
@@ -21,7 +21,7 @@ pub enum ReadFault {
     /// What stands before may begin a formula file, but not with the token there, or the end.
     #[error("the token at offset {at} is misplaced")]
     Syntax { at: u32 },
-    /// The 501st of the tokens `(`, `!`, `<>`, `[]`, `ex`, `all`, `=>` and `*` of one definition or of the goal.
+    /// The 501st of the tokens `(`, `!`, `<>`, `[]`, `ex`, `all`, `=>`, `*`, `-` and `+` of one definition or of the goal.
     #[error("the token at offset {at} is nested too deeply")]
     Nest { at: u32 },
     /// Memory ran out.

@@ -15,7 +15,7 @@ use crate::scan::Scan;
 use dcv_tokens::Token;
 use std::alloc::Global;
 
-/// The tokens of a text without faults, which are a sentence of the grammar; else the first of its faults.
+/// The tokens of a text without faults, which are a sentence of the grammar; else the first of its faults, or that memory ran out.
 pub fn sentence_of<'a>(alloc: Global, text: &'a [u8]) -> Result<Vec<Token<'a>>, ReadFault>
     requires { length text.now < 2 ^ 32 }
     ensures tokens { IfOk result (λ tokens. IsTokenized text.now (map seen tokens.items) []) }

@@ -1,5 +1,5 @@
-//! What a track that says what a test was one instant before, or is one instant later, has to keep to: the words in which it does, and machines
-//! that accept these words. The definitions stand in `specs/`; here are their [`laws`].
+//! Prior and next propositions as sets of words: those in which one test of a letter says, at each instant, what another was one
+//! instant earlier or is one instant later; and machines that accept exactly these. The definitions stand in `specs/`; here are their [`laws`].
 #![tactic(auto)]
 
 pub mod laws;
