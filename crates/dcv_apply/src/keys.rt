@@ -5,7 +5,7 @@ ghost use Rattle.dcv_apply.specs.Remembered.{entry_of, entry_of_pair};
 ghost use Rattle.dcv_arena.specs.declared.nodes.Ref.{Ref as AnyRef};
 ghost use Rattle.dcv_apply.specs.Pairs.{operand_at, pair_operands, plain, word_of_pair};
 
-use crate::operands::{Kind, Operand, Operands, told};
+use crate::operands::{IN_PLACE, Kind, Operand, Operands, told};
 use dcv_arena::Ref;
 use smallvec::SmallVec;
 use std::alloc::Global;
@@ -124,6 +124,16 @@ impl Key {
             operands,
         }
     }
+
+    // Whether there is one operand. That decides the time and the memory alone, so no clause says it.
+    pub(crate) fn is_alone(&self) -> bool {
+        self.operands.len() == 1
+    }
+
+    // Whether the operands take no memory of their own. That decides no more than the other.
+    pub(crate) fn is_in_place(&self) -> bool {
+        self.operands.len() <= IN_PLACE
+    }
 }
 
 impl Hash for Key {
@@ -139,6 +149,10 @@ impl Hash for Key {
         state.write_u32(self.digest);
     }
 }
+
+// 2^64 over the golden ratio: multiplicative hashing (D. E. Knuth, "The Art of Computer Programming", volume 3, section 6.4) spreads numbers
+// that are near each other by it.
+const GOLDEN_RATIO: u64 = 0x9E37_79B9_7F4A_7C15;
 
 // The digest of operands in a round.
 fn digest_of(round: u32, operands: &[Operand]) -> u32 {
@@ -159,6 +173,6 @@ fn mixed_with(before: u64, operand: &Operand) -> u64 {
         Ref::Leaf(number) => u64::from(number) << 1 | 1,
         Ref::Place(number) => u64::from(number) << 1,
     };
-    let mixed = (before ^ number ^ u64::from(place) << 33).wrapping_mul(0x9E37_79B9_7F4A_7C15);
+    let mixed = (before ^ number ^ u64::from(place) << 33).wrapping_mul(GOLDEN_RATIO);
     mixed ^ mixed >> 29
 }

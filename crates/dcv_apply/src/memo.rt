@@ -3,7 +3,7 @@
 // and an older: when the younger is full the older one is forgotten, which takes no list by last use and no memory for an entry
 // alone. Of other numbers of operands the first entries stand in a map too, and what comes after them goes through a cache, from
 // which the entry that was used least lately goes first.
-ghost use Rattle.std.specs.Prelude.{◌≡◌, ◌≤◌, ◌==◌, [], length, IfOk, IfSome, Contains};
+ghost use Rattle.std.specs.Prelude.{◌≡◌, ◌≤◌, ◌==◌, [], length, IfOk, IfSome, OnErr, Contains};
 ghost use Rattle.dcv_apply.specs.Remembered.{entry, KeepsEntries, Adds};
 ghost use Rattle.dcv_apply.specs.Pairs.{pair_operands};
 
@@ -70,6 +70,7 @@ impl Memo {
         requires { 1 ≤ capacity }
         ensures empty { IfOk result (λ memo. memo.entries ≡ []) }
         ensures capacity { IfOk result (λ memo. memo.capacity ≡ capacity) }
+        ensures made { OnErr result ⊥ }
     {
         let rest = (capacity / 8).max(1);
         Ok(Memo {

@@ -18,7 +18,7 @@ use crate::faults::{ApplyFault, MergeFault};
 use crate::keys::{Key, Pair};
 use crate::memo::Memo;
 use crate::operands::{LastSlot, Numbers, Operand, Sources};
-use crate::visits::Visit;
+use crate::visits::{SlotsLeft, Visit};
 use dcv_arena::{Arena, Ref};
 use smallvec::SmallVec;
 use std::alloc::{AllocError, Global};
@@ -234,12 +234,12 @@ impl Operation<'_> {
         if slot == slots {
             return self.merge_numbers(arena, &visit, merge);
         }
-        let last = slot + 1 == slots;
-        match visit.remembered(memo, last) {
+        let left = SlotsLeft::at(slot, slots);
+        match visit.remembered(memo, left) {
             Some(root) => Ok(root),
             None => {
                 let root = self.merge_sides(arena, &visit, slot, merge, memo)?;
-                visit.remember(memo, root, last);
+                visit.remember(memo, root, left);
                 Ok(root)
             }
         }

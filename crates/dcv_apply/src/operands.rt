@@ -16,9 +16,12 @@ use std::alloc::{AllocError, Global};
 pub(crate) type Operand = (u32, Ref);
 
 // The operands of one visit that has not two, and the numbers that are merged in one. Few take no memory of their own.
-pub(crate) type Operands = SmallVec<Operand, 3>;
+pub(crate) type Operands = SmallVec<Operand, IN_PLACE>;
 
 pub(crate) type Numbers = SmallVec<u32, FEW>;
+
+// So many operands lie in place: an atom has three.
+pub(crate) const IN_PLACE: usize = 3;
 
 // So many numbers lie in place.
 const FEW: usize = 16;

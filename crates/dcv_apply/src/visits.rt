@@ -1,6 +1,6 @@
 // What is visited while functions are merged: operands that are followed together, in the form in which a memo has them. Two, as most
 // visits have, are copied from visit to visit and take no memory of their own; any other number of them stand in a list.
-ghost use Rattle.std.specs.Prelude.{◌≡◌, ◌≤◌, ℕ, List, Bool, length, false, true, IfOk, IfSome, Contains};
+ghost use Rattle.std.specs.Prelude.{◌≡◌, ◌≤◌, ◌<◌, ℕ, List, Bool, length, false, true, IfOk, IfSome, Contains};
 ghost use Rattle.std.specs.List.{All};
 ghost use Rattle.dcv_arena.specs.declared.nodes.Ref.{Ref as AnyRef};
 ghost use Rattle.dcv_apply.specs.Sources.{IsIn, IsFrom, IsSide, merged_by};
@@ -12,6 +12,32 @@ use crate::merging::Operation;
 use crate::operands::{Numbers, Sources};
 use dcv_arena::Ref;
 use std::alloc::AllocError;
+
+// How many slots are left from the first one on that the operands depend on.
+#[derive(Clone, Copy)]
+pub(crate) enum SlotsLeft {
+    // The only slot that the letters have.
+    Only,
+    // The last of several slots.
+    Last,
+    More,
+}
+
+impl SlotsLeft {
+    // Those from this slot on. They decide the time and the memory alone, so no clause says which they are.
+    #[inline(always)]
+    pub(crate) fn at(slot: u8, slots: u8) -> SlotsLeft
+        requires { slot < slots }
+    {
+        if slots - slot > 1 {
+            SlotsLeft::More
+        } else if slot > 0 {
+            SlotsLeft::Last
+        } else {
+            SlotsLeft::Only
+        }
+    }
+}
 
 // Operands in a round.
 pub(crate) trait Visit: Drop {
@@ -40,14 +66,14 @@ pub(crate) trait Visit: Drop {
         ensures { IfOk result (λ numbers. (letter : List Bool) → length letter ≡ slots
             → numbers.items ≡ merged_by operation.now (operands self.now) letter) };
 
-    // The ref that is remembered. `last` says that the operands depend on the last slot alone.
-    fn remembered(&self, memo: &mut Memo, last: bool) -> Option<Ref>
+    // The ref that is remembered.
+    fn remembered(&self, memo: &mut Memo, left: SlotsLeft) -> Option<Ref>
         ensures found { IfSome result (λ root. Contains memo.old.entries (entry (round self.now) (operands self.now) root)) }
         ensures kept { KeepsEntries memo.old memo.new }
         ensures capacity { memo.new.capacity ≡ memo.old.capacity };
 
     // Remembers the ref, unless it is as good to merge the operands again, or memory runs out. Others may be forgotten for it, and then too.
-    fn remember(self, memo: &mut Memo, root: Ref, last: bool)
+    fn remember(self, memo: &mut Memo, root: Ref, left: SlotsLeft)
         ensures adds { Adds (entry (round self) (operands self) root) memo.old memo.new }
         ensures capacity { memo.new.capacity ≡ memo.old.capacity };
 }
@@ -79,12 +105,12 @@ impl Visit for Pair {
     }
 
     #[inline(always)]
-    fn remembered(&self, memo: &mut Memo, _last: bool) -> Option<Ref> {
+    fn remembered(&self, memo: &mut Memo, _left: SlotsLeft) -> Option<Ref> {
         memo.get_pair(self)
     }
 
     #[inline(always)]
-    fn remember(self, memo: &mut Memo, root: Ref, _last: bool) {
+    fn remember(self, memo: &mut Memo, root: Ref, _left: SlotsLeft) {
         memo.put_pair(self, root);
     }
 }
@@ -112,18 +138,27 @@ impl Visit for Key {
         operation.numbers(&self.operands, slots)
     }
 
-    // A list of operands that has one slot to go is merged as soon as it is found again, and many such lists take more memory than all else.
-    fn remembered(&self, memo: &mut Memo, last: bool) -> Option<Ref> {
-        if last {
+    fn remembered(&self, memo: &mut Memo, left: SlotsLeft) -> Option<Ref> {
+        if !is_kept(self, left) {
             return None;
         }
         memo.get(self)
     }
 
-    fn remember(self, memo: &mut Memo, root: Ref, last: bool) {
-        if last {
+    fn remember(self, memo: &mut Memo, root: Ref, left: SlotsLeft) {
+        if !is_kept(&self, left) {
             return;
         }
         memo.put(self, root);
+    }
+}
+
+// Whether such operands are remembered. A list that has one slot to go is merged as soon as it is found again, and many such lists take more
+// memory than all else. So only an operand alone is kept there, and short lists where letters have one slot, since all lists are such then.
+fn is_kept(operands: &Key, left: SlotsLeft) -> bool {
+    match left {
+        SlotsLeft::Only => operands.is_in_place(),
+        SlotsLeft::Last => operands.is_alone(),
+        SlotsLeft::More => true,
     }
 }

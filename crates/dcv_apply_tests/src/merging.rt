@@ -360,19 +360,19 @@ fn parity_merged(
     Ok((sum.calls, memo.len(), arena.len()))
 }
 
-// Two nodes stand at each slot but the first, and each is gone through once while it is remembered; those at the last slot are not, so each is
-// gone through below both nodes before it. A memo of one entry has always just remembered the other node, so every letter is merged. Of a memo of
-// two entries the first stays: one of the two nodes with one slot behind them is gone through once, and the other each of the 2^13 times that it is met.
+// Two nodes stand at the last slot, and each is gone through once while it is remembered. A memo of one entry has always
+// just remembered the other node, so every letter is merged. Of a memo of two entries the first stays: one of the two nodes is
+// gone through once, and the other below each of the 2^14 nodes that are met at the slot before.
 #[test]
 fn what_was_merged_is_remembered(rt: HostRuntime) -> Result<(), Fail> {
     let alloc = rt.alloc();
-    assert_eq!(rt; parity_merged(alloc, 1, 16, 64, 8)?, (8, 29, 31));
-    assert_eq!(rt; parity_merged(alloc, 1, 16, 31, 8)?, (8, 29, 31));
+    assert_eq!(rt; parity_merged(alloc, 1, 16, 64, 4)?, (4, 31, 31));
+    assert_eq!(rt; parity_merged(alloc, 1, 16, 31, 4)?, (4, 31, 31));
     assert_eq!(rt; parity_merged(alloc, 1, 16, 1, 65_536)?, (65_536, 1, 31));
-    assert_eq!(rt; parity_merged(alloc, 1, 16, 2, 65_536)?, (32_772, 2, 31));
+    assert_eq!(rt; parity_merged(alloc, 1, 16, 2, 65_536)?, (32_770, 2, 31));
     assert_eq!(rt;
-        parity_merged(alloc, 1, 16, 64, 7),
-        Err(ApplyFault::States { limit: 7 })
+        parity_merged(alloc, 1, 16, 64, 3),
+        Err(ApplyFault::States { limit: 3 })
     );
     Ok(())
 }
@@ -461,9 +461,9 @@ fn too_many_states(rt: HostRuntime) -> Result<(), Fail> {
     Ok(())
 }
 
-// What was merged once is not gone through again, but for what has one slot to go, so 2 ^ 32 letters are no trouble.
+// What was merged once is not gone through again, so 2 ^ 32 letters are no trouble.
 #[test]
 fn thirty_two_slots(rt: HostRuntime) -> Result<(), Fail> {
-    assert_eq!(rt; parity_merged(rt.alloc(), 1, 32, 100, 8)?, (8, 61, 63));
+    assert_eq!(rt; parity_merged(rt.alloc(), 1, 32, 100, 4)?, (4, 63, 63));
     Ok(())
 }

@@ -1,7 +1,7 @@
 -- The two sides of a slot: what is given with false there, and with true. What comes of a side is what comes of the whole at the letters with that
 -- value in the slot, so what was built for a side is of each function that may come of the whole.
 use Rattle.std.proofs.Common.{◌≡◌, ℕ, suc, ◌+◌, ◌-◌, ◌<◌, ◌≤◌, Bool, true, false, cond, List, [], ◌∷◌, ◌++◌, length, replicate, set, get_or, Contains, inl, inr, refl, sym, ap, subst, ◌∙◌, arith}
-use Rattle.std.proofs.lemmas.List.{append_assoc, length-append, length-replicate, set-get_or, set-append_left, get_or-append_right, get_or_append_left}
+use Rattle.std.proofs.lemmas.List.{append_assoc, length-append, length-replicate, set-get_or, get_or-append_right, get_or_append_left}
 use Rattle.dcv_arena.specs.Arena.{ArenaValue, IsArena, IsRef, IsNew, level_of, value_of, table_of, KeepsRefs, AddsOnlyNodesOf, AddsOnlyNodesOfFunction, count_with}
 use Rattle.dcv_arena.specs.Diagram.{as_table, nodes_of}
 use Rattle.dcv_arena.specs.Pointwise.{MeansMerged, AgreesBehind, FixesSlot}

@@ -64,9 +64,8 @@ impl StoredNode {
         ensures { result ≡ code_of self }
     {
         let numbers = u128::from(self.lo) + u128::from(self.hi) * 0x1_0000_0000;
-        let lo_is_leaf = if self.lo_is_leaf { 1 } else { 0 };
-        let hi_is_leaf = if self.hi_is_leaf { 2 } else { 0 };
-        numbers + (u128::from(self.slot) * 4 + lo_is_leaf + hi_is_leaf) * 0x1_0000_0000_0000_0000
+        let leaves = u128::from(self.lo_is_leaf) + u128::from(self.hi_is_leaf) * 2;
+        numbers + (u128::from(self.slot) * 4 + leaves) * 0x1_0000_0000_0000_0000
     }
 
     // The form of a node.

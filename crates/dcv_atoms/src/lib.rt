@@ -1,5 +1,5 @@
-//! The machines of the forms without a formula in them: constants, one instant, more than one, each instant, two instants, and
-//! the three measures.
+//! The machines of the forms without a formula in them: constants, one instant, more than one, each instant, two instants, the
+//! three measures, and a slot that says what a proposition was one instant before or will be one later.
 //!
 //! A proposition is kept as the diagram of the letters in which it holds, in an arena that has the nodes of its parts and no
 //! others. The rows stand in `specs/AtomRows`, and which parts are counted in `specs/Parts`. `laws` has what is proved of these

@@ -1,5 +1,5 @@
 // What the joins of one proposition remember. They share a memo, and each has a round of its own, so that none finds what another left.
-ghost use Rattle.std.specs.Prelude.{◌≡◌, List, Bool, length, IfOk, OnOk};
+ghost use Rattle.std.specs.Prelude.{◌≡◌, List, Bool, length, IfOk, OnOk, OnErr};
 ghost use Rattle.std.specs.List.{All};
 ghost use Rattle.dcv_arena.specs.Arena.{IsRef, IsArena, value_of};
 ghost use Rattle.dcv_apply.specs.Operands.{IsOperand, numbers_at};
@@ -32,14 +32,15 @@ impl Model for Rounds {
 impl Rounds {
     // Nothing is remembered.
     pub(crate) fn new(alloc: Global) -> Result<Rounds, AllocError>
-        ensures { IfOk result (λ rounds. rounds ≡ 0) }
+        ensures first { IfOk result (λ rounds. rounds ≡ 0) }
+        ensures made { OnErr result ⊥ }
     {
         let memo = Memo::new(alloc, USUAL_CAPACITY)?;
         Ok(Rounds { memo, next: 0 })
     }
 
-    // The function that has, at each letter, what the two operands' numbers there are joined to. After the last number of rounds there is
-    // none more, which counts as want of memory.
+    // The function that has, at each letter, what the two operands' numbers there are joined to. Behind the round with the largest
+    // number there is none, which counts as want of memory.
     pub(crate) fn join(
         &mut self,
         alloc: Global,

@@ -7,10 +7,11 @@ ghost use Rattle.dcv_atoms.specs.Leaves.{number_of, count_of, state_told};
 pub enum AtomMacro {
     /// Nothing was read. A constant remembers nothing more either.
     Start,
-    /// One letter was read, with the proposition, and the word may not end here. Of a shift, the letter before was one with the proposition
-    /// (back), or the proposition is owed to the next (fore).
+    /// One letter was read, with the proposition, and the word may not end here. Of `back`: the last letter was one with the proposition, and
+    /// the word may end. Of `fore`: the next letter has to be one with it, and the word may not end.
     First,
-    /// The word may end here.
+    /// The word may end here. Of a shift: the last letter was not one with the proposition (`back`), or the next has to be one without it
+    /// (`fore`).
     Good,
     /// The word may end here, and not go on.
     Last,

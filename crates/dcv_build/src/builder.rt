@@ -22,7 +22,9 @@ use std::marker::Model;
 /// The canonical automaton of a goal's words, and what each step took, in the order of the steps.
 #[derive(Debug, Drop)]
 pub struct Built {
+    /// The automaton, over the variables that the core declares.
     pub auto: Auto,
+    /// What each step took.
     pub counts: Vec<Count>,
 }
 
@@ -142,7 +144,8 @@ impl Builder {
         })
     }
 
-    /// How many steps of the last build were explored, of which it was not known what their exploration gives.
+    /// How many explorations the last build made: one for each atom, and one for each other operator but `!` that it had not met over the same
+    /// operands. No clause says so.
     pub fn explored(&self) -> u32 {
         self.explored
     }

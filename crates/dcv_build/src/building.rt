@@ -63,7 +63,7 @@ impl Building {
         }
     }
 
-    // How often was explored.
+    // How many explorations there were.
     pub(crate) fn explored(&self) -> u32 {
         self.known.explored()
     }

@@ -48,7 +48,7 @@ impl Model for Known {
 }
 
 impl Known {
-    // Nothing yet, but for how often was explored before.
+    // Nothing is known yet. `explored` counts the explorations before.
     pub(crate) fn new(alloc: Global, limits: Limits, explored: u32) -> Known
         ensures tables { result.tables ≡ [] }
         ensures limits { result.limits ≡ limits }
@@ -64,14 +64,14 @@ impl Known {
         }
     }
 
-    // Within which limits is explored.
+    // The limits of each exploration.
     pub(crate) fn limits(&self) -> Limits
         ensures { result ≡ self.now.limits }
     {
         self.limits
     }
 
-    // How often was explored.
+    // How many explorations there were.
     pub(crate) fn explored(&self) -> u32 {
         self.explored
     }
@@ -176,7 +176,7 @@ impl Known {
         }
     }
 
-    // Once more was explored.
+    // Counts one exploration more.
     pub(crate) fn count(&mut self)
         ensures { self.new ≡ self.old }
     {

@@ -1,19 +1,13 @@
 // From a machine to its canonical automaton, within the limits.
 ghost use Rattle.std.specs.Prelude.{◌≡◌, ◌≤◌, ◌-◌, IfOk};
 ghost use Rattle.dcv_dfa.specs.Raw.{IsRaw};
-ghost use Rattle.dcv_explore.specs.Explored.{Explores};
 ghost use Rattle.dcv_build.specs.Settled.{IsLeastOf, Settles, fault_at};
 
 use crate::faults::BuildFault;
-use dcv_apply::Memo;
 use dcv_dfa::{Auto, Raw};
-use dcv_explore::{ExploreFault, Limits, Machine, explore_with};
+use dcv_explore::{ExploreFault, Limits, Machine, explore_large};
 use dcv_minimise::minimise;
 use std::alloc::{AllocError, Global};
-
-// How many merged operands a step may remember. It is a bound alone: a memo grows with its entries, of which there are about as many as nodes
-// in the step's rows. So it is above the most nodes that a step may have, since what a memo forgets is gone through again.
-const MOST_REMEMBERED: usize = 1_048_576;
 
 // An automaton, and what was counted as its machine was explored.
 #[derive(Drop)]
@@ -35,7 +29,7 @@ pub(crate) fn settle<M: Machine>(
     requires { parts ≤ limits.nodes }
     ensures { Settles (M.machine machine.now) parts limits step result }
 {
-    match explored(alloc, machine, without_parts(limits, parts)) {
+    match explore_large(alloc, machine, without_parts(limits, parts)) {
         Ok(raw) => {
             let states = raw.states();
             let nodes = parts + raw.arena().len();
@@ -48,14 +42,6 @@ pub(crate) fn settle<M: Machine>(
         }
         Err(fault) => Err(at_step(step, limits, fault)),
     }
-}
-
-// The automaton of the states that some word reaches in the machine, by an exploration that remembers so much.
-fn explored<M: Machine>(alloc: Global, machine: &M, limits: Limits) -> Result<Raw, ExploreFault>
-    ensures { Explores (M.machine machine.now) limits result }
-{
-    let mut memo = Memo::new(alloc, MOST_REMEMBERED)?;
-    explore_with(alloc, machine, limits, &mut memo)
 }
 
 // What the parts of a proposition leave to the rows.

@@ -10,17 +10,16 @@ use dcv_explore::{Limits, explore_with};
 use std::alloc::{AllocError, Global};
 use std::test::Fail;
 
-// The automaton of an atom of 9 states and 8 nodes, and how many entries a memo of this capacity has then. It has two variables, since lists of
-// operands that have one slot to go are not remembered.
+// The automaton of an atom of 9 states and 4 nodes, and how many entries a memo of this capacity has then.
 fn explored(alloc: Global, capacity: usize) -> Result<(Raw, usize), Fail>
     requires { 1 ≤ capacity }
 {
-    let core = core_of(alloc, "var p, q; infer sdur (p && q) >= 2;")?;
-    let atom = atom_of(alloc, &core, 3)??;
+    let core = core_of(alloc, "var p; infer sdur p >= 2;")?;
+    let atom = atom_of(alloc, &core, 1)??;
     let mut memo = Memo::new(alloc, capacity)?;
     let limits = Limits {
         states: 9,
-        nodes: 8,
+        nodes: 4,
     };
     let raw = explore_with(alloc, &atom, limits, &mut memo)?;
     Ok((raw, memo.len()))
@@ -68,7 +67,7 @@ fn one_entry_and_many(rt: HostRuntime) -> Result<(), Fail> {
     let (one, entry) = explored(alloc, 1)?;
     let (other, entries) = explored(alloc, 65_536)?;
     assert!(rt; entry >= 1 && entries >= 1);
-    assert_eq!(rt; (one.states(), one.arena().len()), (9, 8));
+    assert_eq!(rt; (one.states(), one.arena().len()), (9, 4));
     assert!(rt; are_same(alloc, &one, &other)?);
     Ok(())
 }

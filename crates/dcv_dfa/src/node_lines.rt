@@ -26,6 +26,7 @@ pub enum Child {
 /// A node of the rows: the slot of its variable, and what comes next where that is true and where it is false.
 #[derive(Clone, Copy, Debug, PartialEq, Eq)]
 pub struct NodeLine {
+    /// The slot of its variable, counted from 0.
     pub slot: u8,
     /// Where the variable is true.
     pub hi: Child,

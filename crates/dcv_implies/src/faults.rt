@@ -1,4 +1,4 @@
-//! Why two automata were not compared.
+// Why two automata were not compared.
 ghost use Rattle.std.specs.Prelude.{◌≡◌};
 ghost use Rattle.dcv_implies.specs.declared.faults.OutsideFault.TheVariants.{Memory};
 ghost use Rattle.dcv_implies.specs.Faults.{fault_of_exploring};

@@ -43,7 +43,7 @@ pub fn remap(
 
 /// Renumbers many functions of one arena by one list, into another arena, and goes through each of their nodes once.
 ///
-/// All calls of `remap` are given one arena for the results, where only other operations may have been at work between.
+/// Give all calls of `remap` one arena for their results. Between two calls other operations may add nodes to it.
 #[derive(Drop)]
 pub struct Remapping<'a> {
     numbers: Numbers<'a>,

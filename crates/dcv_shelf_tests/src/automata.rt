@@ -1,7 +1,4 @@
 // Small automata, and the text of one: for each state whether it accepts, and the states that come next, in the letters' order.
-ghost use Rattle.std.specs.Prelude.{◌≡◌, length, IfOk};
-ghost use Rattle.std.specs.List.{All};
-
 use dcv_arena::{Arena, Ref};
 use dcv_dfa::{Auto, Raw, Table};
 use dcv_minimise::minimise;
@@ -32,9 +29,7 @@ pub(crate) fn is_one_true(alloc: Global) -> Result<Auto, Fail> {
 }
 
 // The letters of one slot or two, in order.
-fn letters(alloc: Global, slots: u8) -> Result<Vec<Letter>, Fail>
-    ensures { IfOk result (λ letters. All (λ letter. length letter ≡ slots) letters.items) }
-{
+fn letters(alloc: Global, slots: u8) -> Result<Vec<Letter>, Fail> {
     match slots {
         1 => Ok(vec![in alloc; Letter::new(1, 0), Letter::new(1, 1)]?),
         2 => Ok(vec![in alloc;
@@ -47,9 +42,14 @@ fn letters(alloc: Global, slots: u8) -> Result<Vec<Letter>, Fail>
     }
 }
 
-// The text of a table, as `reject 0 1; accept 0 1`, with letters that are as wide as the arena of its rows.
+// The text of a table, as `reject 0 1; accept 0 1`, with letters that have its slots.
 pub(crate) fn text_of<T: Table>(alloc: Global, table: &T) -> Result<String, Fail> {
-    let letters = letters(alloc, table.arena().slots())?;
+    text_over(alloc, table, table.slots())
+}
+
+// The same with letters of so many slots, which may be more or fewer than the arena of the rows has.
+pub(crate) fn text_over<T: Table>(alloc: Global, table: &T, slots: u8) -> Result<String, Fail> {
+    let letters = letters(alloc, slots)?;
     let mut text = String::new(alloc);
     for state in 0..table.states() {
         let separator = if state == 0 { "" } else { "; " };

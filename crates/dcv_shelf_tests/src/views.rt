@@ -1,5 +1,5 @@
 // Views, which step as the automata do and are operands of machines.
-use crate::automata::{ends_true, is_one_true, text_of};
+use crate::automata::{ends_true, is_one_true, text_of, text_over};
 use crate::numbers::add;
 use dcv_dfa::{Raw, Table};
 use dcv_explore::{Limits, explore};
@@ -28,18 +28,23 @@ fn both<T: Table>(alloc: Global, first: &T, second: &T) -> Result<Raw, Fail> {
     Ok(explore(alloc, &And::new(first, second), limits)?)
 }
 
-// At letters of the shelf's width a row goes by the automaton's own variables, which come first.
+// A row goes by the automaton's own variables, which come first: at letters of its own width, and at those of the shelf's.
 #[test]
 fn views_step_as_the_automata(rt: HostRuntime) -> Result<(), Fail> {
     let alloc = rt.alloc();
     let mut shelf = Shelf::new(alloc, 2);
     let narrow = add(&mut shelf, &ends_true(alloc, 1)?)?;
     let wide = add(&mut shelf, &ends_true(alloc, 2)?)?;
-    for (number, slots) in [(narrow, 1), (wide, 2)] {
+    let own = [
+        (narrow, 1, "reject 0 1; accept 0 1"),
+        (wide, 2, "reject 0 0 1 1; accept 0 0 1 1"),
+    ];
+    for (number, slots, text) in own {
         let view = view_of(&shelf, number)?;
         assert_eq!(rt; (view.slots(), view.nodes(), view.start()), (slots, 1, 0));
+        assert_eq!(rt; text_of(alloc, &view)?.as_str(), text);
         assert_eq!(rt;
-            text_of(alloc, &view)?.as_str(),
+            text_over(alloc, &view, 2)?.as_str(),
             "reject 0 0 1 1; accept 0 0 1 1"
         );
     }

@@ -30,5 +30,5 @@ returns-in-Err g c =
     let machine = g.M.Machine.machine c.args.machine.now in
     let left = c.without_parts.ensures in
     subst (λ fault. Settles machine c.args.parts c.args.limits c.args.step (Err fault)) (sym c.at_step.ensures)
-    (settled_fault machine c.args.parts c.args.limits c.args.step c.without_parts.result left.states left.nodes c.explored.result
-    c.explored.ensures.states c.explored.ensures.nodes c.in-Err.fault c.in-Err.is)
+    (settled_fault machine c.args.parts c.args.limits c.args.step c.without_parts.result left.states left.nodes c.explore_large.result
+    c.explore_large.ensures.states c.explore_large.ensures.nodes c.in-Err.fault c.in-Err.is)

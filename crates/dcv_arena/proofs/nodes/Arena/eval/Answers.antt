@@ -12,5 +12,5 @@ pub returns-in-Leaf-clause-value : goal.returns-in-Leaf-clause-value
 returns-in-Leaf-clause-value c = number c
 
 pub returns-in-Leaf-clause-table : goal.returns-in-Leaf-clause-table
-returns-in-Leaf-clause-table c =
-    table_of-at c.args.self.now c.args.root c.args.letter.now c.requires.width ∙ ap Some (sym (number c))
+returns-in-Leaf-clause-table c size =
+    table_of-at c.args.self.now c.args.root c.args.letter.now size ∙ ap Some (sym (number c))
