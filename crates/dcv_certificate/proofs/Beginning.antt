@@ -5,10 +5,11 @@ use Rattle.std.proofs.lemmas.List.{length-map, get_or-map}
 use Rattle.dcv_dfa.specs.Raw.{RawValue, is_accepting}
 use Rattle.dcv_language.specs.declared.certificate.Suffix.{Suffix}
 use Rattle.dcv_language.specs.declared.certificate.Suffix.TheVariants.{Empty}
+use Rattle.dcv_members.specs.Members.{block_of}
 use Rattle.dcv_certificate.specs.Proof.{suffix_words, GoOnFromEarlier}
 use Rattle.dcv_certificate.specs.Vertices.{HasFlagged}
 use Rattle.dcv_certificate.proofs.Counting.{one_if}
-use Rattle.dcv_certificate.specs.Separation.{AreVertices, Agree, TellAlike, has, block_of, AreListed, AreBlocks, AreParts, IsSeparation, accepts_at}
+use Rattle.dcv_certificate.specs.Separation.{AreVertices, Agree, TellAlike, has, AreListed, AreBlocks, AreParts, IsSeparation, accepts_at}
 
 same_flag : (a b : Bool) → one_if a ≡ one_if b → a ≡ b
 same_flag true true e = refl

@@ -4,8 +4,9 @@ use Rattle.std.specs.Cmp.{nat_eq_equiv}
 use Rattle.std.proofs.lemmas.Bool.{cases_eq, cases_Bool, true≢false, eqb-true, eq-eqb, ne_eqb}
 use Rattle.std.proofs.lemmas.List.Elements.{All-weaker, All-contains_itself}
 use Rattle.std.proofs.lemmas.Map.Views.{Contains-from_any, list_any-from_Contains}
+use Rattle.dcv_members.specs.Members.{block_of}
 use Rattle.dcv_certificate.specs.declared.ones.Ones.{Ones}
-use Rattle.dcv_certificate.specs.Separation.{block_of, count_below}
+use Rattle.dcv_certificate.specs.Separation.{count_below}
 use Rattle.dcv_certificate.specs.Ones.{is_one, ones_in, AreNoOnes, IsOneMore, AreCounted}
 use Rattle.dcv_certificate.proofs.Counting.{one_if, count_same, count_change, count_none}
 use Rattle.dcv_certificate.proofs.Truths.{or_right, or_neither, or_other, and_left, and_first, and_second}

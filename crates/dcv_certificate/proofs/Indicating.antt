@@ -10,6 +10,7 @@ use Rattle.dcv_arena.specs.Arena.{ArenaValue, IsRef, level_of, value_of, KeepsRe
 use Rattle.dcv_arena.specs.declared.nodes.Ref.{Ref}
 use Rattle.dcv_arena.specs.declared.nodes.Ref.TheVariants.{Leaf, Place}
 use Rattle.dcv_index.specs.Leads.{row_at, index_of, LeadsInto, IsRowInto}
+use Rattle.dcv_index.proofs.Fitted.{leads_at}
 use Rattle.dcv_dfa.specs.Raw.{RawValue, next_in}
 use Rattle.dcv_certificate.specs.declared.indicators.Part.{Part}
 use Rattle.dcv_certificate.specs.Separation.{has, AreVertices}
@@ -121,7 +122,7 @@ module _ (raw : RawValue) (v : AreVertices raw) (states : List ℕ) (inside : Al
       let there = contained states value (sym (leads_is (Place place) letter) ∙ goes) in
       let ref : IsRef raw.arena (Place place) = subst (λ (arena : ArenaValue). IsRef arena (Place place)) arena is_ref in
       let found : Contains above place =
-      all_above place (record { is_ref = ref; letter = letter; below = All-contains (λ state. state < length raw.rows) states value inside there; leaf = there }) in
+      all_above place (leads_at (index_of raw.arena raw.rows) states (Place place) letter v.arena ref (All-contains (λ state. state < length raw.rows) states value inside there) there) in
       list_any-from_Contains nat_eq_equiv place part.above.now (subst (λ keys. Contains keys place) (sym above_is) found)
 
   pub all_marked : (scratch : ArenaValue) (marks : List (ℕ × Ref)) → AreIndicators part raw.rows looked scratch marks → (state : ℕ) (letter : List Bool) → state < length raw.rows
@@ -134,7 +135,8 @@ module _ (raw : RawValue) (v : AreVertices raw) (states : List ℕ) (inside : Al
             let there = contained states next is_there in
             let ref = v.rows state (Leaf 0) below in
             let in_rows = All-contains (λ state. state < length raw.rows) states next inside there in
-            let into : LeadsInto (index_of raw.arena raw.rows) states (row_at raw.rows state) = record { is_ref = ref; letter = letter; below = in_rows; leaf = there } in
+            let into : LeadsInto (index_of raw.arena raw.rows) states (row_at raw.rows state) =
+            leads_at (index_of raw.arena raw.rows) states (row_at raw.rows state) letter v.arena ref in_rows there in
             let seen = all_looked state (record { below = below; leads = into }) in
             and_left (has looked state) (leads part (row_at raw.rows state) letter) (has_contained looked state seen) ∙ goes
         | inr isnt ↦ and_second (has looked state) (leads part (row_at raw.rows state) letter) (goes ∙ isnt) ∙ sym isnt

@@ -4,8 +4,9 @@ use Rattle.std.specs.Bool.{beq}
 use Rattle.std.proofs.lemmas.Bool.{cases_Bool, true≢false, eqb-true, eq-eqb}
 use Rattle.std.proofs.lemmas.List.Elements.{All-contains}
 use Rattle.dcv_dfa.specs.Raw.{RawValue}
+use Rattle.dcv_members.specs.Members.{block_of}
 use Rattle.dcv_certificate.specs.declared.ones.Ones.{Ones}
-use Rattle.dcv_certificate.specs.Separation.{TellAlike, AreTogether, has, block_of, count_below}
+use Rattle.dcv_certificate.specs.Separation.{TellAlike, AreTogether, has, count_below}
 use Rattle.dcv_certificate.specs.Marks.{SplitsSome, IsSplitOff}
 use Rattle.dcv_certificate.specs.Tallies.{AreSizes}
 use Rattle.dcv_certificate.specs.Ones.{is_one, ones_in, AreCounted, are_few_in, AreCandidates, AreRarer}

@@ -12,8 +12,9 @@ use Rattle.std.specs.Bool.{beq}
 use Rattle.std.specs.List.{All}
 use Rattle.indexmap.specs.IndexMap.{get}
 use Rattle.indexmap.specs.IndexSet.{contains}
+use Rattle.dcv_members.specs.Members.{block_of}
 use Rattle.dcv_certificate.specs.declared.ones.Ones.{Ones}
-use Rattle.dcv_certificate.specs.Separation.{block_of, has, count_below}
+use Rattle.dcv_certificate.specs.Separation.{has, count_below}
 
 abbrev pub is_one : Ones → ℕ → Bool
 is_one ones state = contains nat_eq ones.states state

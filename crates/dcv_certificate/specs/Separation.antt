@@ -15,6 +15,7 @@
 --     Advances raw ..                  suffixes were added, and blocks were split
 use Rattle.std.specs.Prelude.{◌≡◌, ◌≢◌, ◌↔◌, ℕ, zero, suc, ◌+◌, ◌<◌, ◌≤◌, ◌==◌, Bool, if◌then◌else◌, List, [], ◌∷◌, length, slice_index_or}
 use Rattle.std.specs.List.{All, list_any}
+use Rattle.dcv_members.specs.Members.{block_of}
 use Rattle.dcv_word.specs.Behaviour.{Word}
 use Rattle.dcv_arena.specs.Arena.{IsArena, IsRef}
 use Rattle.dcv_language.specs.Automaton.{accepts_from}
@@ -51,9 +52,6 @@ has numbers number = list_any (λ one. one == number) numbers
 
 abbrev pub part_at : List (List ℕ) → ℕ → List ℕ
 part_at parts place = slice_index_or parts place []
-
-abbrev pub block_of : List ℕ → ℕ → ℕ
-block_of blocks state = slice_index_or blocks state 0
 
 -- two states, of those that there are, in one block
 pub record AreTogether (raw : RawValue) (blocks : List ℕ) (first second : ℕ) : Type 0 where

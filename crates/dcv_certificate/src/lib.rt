@@ -10,7 +10,6 @@
 mod access;
 mod certificate;
 mod indicators;
-mod numbers;
 mod ones;
 mod partition;
 mod proof;

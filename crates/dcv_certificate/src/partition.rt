@@ -14,12 +14,11 @@ ghost use Rattle.dcv_index.specs.Leads.{index_of};
 ghost use Rattle.dcv_members.specs.Members.{list_of, HaveTheirOwn};
 
 use crate::indicators::Part;
-use crate::numbers::number_of;
 use crate::vertices::Vertices;
 use dcv_arena::{Arena, Ref};
 use dcv_index::{Above, Index};
 use dcv_language::Suffix;
-use dcv_members::Members;
+use dcv_members::{Members, number_of};
 use dcv_word::Letter;
 use indexmap::IndexSet;
 use std::alloc::{AllocError, Global};
@@ -116,8 +115,8 @@ impl Partition<'_> {
     {
         let leaves = &self.parts[place];
         index.above(leaves, found)?;
-        let part = Part::new(self.alloc, self.vertices.arena, leaves, &found.marked)?;
-        part.marks(self.alloc, scratch, &self.vertices.rows, &found.looked)
+        let part = Part::new(self.alloc, self.vertices.arena, leaves, &found.nodes)?;
+        part.marks(self.alloc, scratch, &self.vertices.rows, &found.rows)
     }
 
     // Gives new blocks to these states, one for all that come from one block.

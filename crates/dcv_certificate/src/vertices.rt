@@ -4,8 +4,8 @@ ghost use Rattle.std.specs.Prelude.{◌≡◌, ◌<◌, true, length, map, if◌
 ghost use Rattle.std.specs.List.{All};
 ghost use Rattle.dcv_certificate.specs.Vertices.{raw_of, with_start, HasFlagged};
 
-use crate::numbers::number_of;
 use dcv_arena::{Arena, Ref};
+use dcv_members::number_of;
 use std::alloc::{AllocError, Global};
 
 #[derive(Drop)]
@@ -48,7 +48,7 @@ impl Vertices<'_> {
         Ok(states)
     }
 
-    // Whether no more states accept than do not.
+    // The flag that no more than half of the states have. It decides the time alone, so it has no clause.
     pub(crate) fn rarer_flag(&self) -> bool {
         let accepting = self.flags.iter().filter(|flag| **flag).count();
         accepting <= self.flags.len() / 2

@@ -1,3 +1,4 @@
+pub mod Fitted
 pub mod MarkFacts
 mod IndexFacts
 mod WayFacts

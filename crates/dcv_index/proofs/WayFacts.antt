@@ -1,8 +1,8 @@
 -- What is marked and looked at on the way up leads to the leaves.
-use Rattle.std.proofs.Common.{◌≡◌, ◌≢◌, ℕ, zero, suc, ◌<◌, ◌≤◌, ◌+◌, Bool, false, List, [], ◌∷◌, ◌++◌, length, replicate, set, eqb, get_or, ◌⊎◌, inl, inr, Contains, refl, sym, subst, ◌∙◌, arith}
+use Rattle.std.proofs.Common.{◌≡◌, ◌≢◌, ℕ, ◌<◌, ◌≤◌, ◌+◌, false, List, [], ◌++◌, length, replicate, set, eqb, get_or, ◌⊎◌, inl, inr, Contains, sym, subst, ◌∙◌, arith}
 use Rattle.std.specs.List.{IsDistinct}
 use Rattle.std.proofs.lemmas.Bool.{eqb-true}
-use Rattle.std.proofs.lemmas.List.{get_or-set_same, get_or-set_other, length-append, length-replicate}
+use Rattle.std.proofs.lemmas.List.{get_or-set_same, get_or-set_other, length-set, length-replicate}
 use Rattle.std.proofs.lemmas.List.Elements.{All-contains, All-append}
 use Rattle.std.proofs.lemmas.List.Folds.{Any-from_list_any}
 use Rattle.std.proofs.lemmas.Map.Steps.{length-le_from_distinct_below}
@@ -17,33 +17,22 @@ use Rattle.dcv_index.specs.Index.{GoesDown, IsIndex, IsMet, IsMarked}
 use Rattle.dcv_index.specs.declared.lists.Lists.{Lists}
 use Rattle.dcv_index.proofs.MarkFacts.{all_from_contains}
 
--- a letter reads false behind its end, so it may be longer
-false_there : (count slot : ℕ) → get_or (replicate count false) slot false ≡ false
-false_there zero slot = refl
-false_there (suc count) zero = refl
-false_there (suc count) (suc slot) = false_there count slot
-
-longer : (letter : List Bool) (count slot : ℕ) → get_or (letter ++ replicate count false) slot false ≡ get_or letter slot false
-longer [] count slot = false_there count slot
-longer (value ∷ letter) count zero = refl
-longer (value ∷ letter) count (suc slot) = longer letter count slot
-
 module _ (arena : ArenaValue) (is : IsArena arena) (refs : List Ref) (leaves : List ℕ) where
   -- a node leads where the ref does that it goes to
   pub step_up : (place : ℕ) (ref : Ref) → GoesDown arena place ref → LeadsInto (index_of arena refs) leaves ref → LeadsInto (index_of arena refs) leaves (Place place)
   step_up place ref down leads =
-      let long = leads.letter ++ replicate arena.slots false in
-      let letter = set long down.slot down.side in
-      let size : down.slot < length long = omega (arith, down.inner, length-append leads.letter (replicate arena.slots false), length-replicate arena.slots false) in
+      let letter = set leads.letter down.slot down.side in
+      let size : down.slot < length leads.letter = omega (arith, down.inner, leads.width) in
       let agrees : AgreeFrom (down.slot + 1) letter leads.letter = λ slot later.
       let other : slot ≢ down.slot = λ e. omega arith in
-      get_or-set_other long down.slot slot down.side false other ∙ longer leads.letter arena.slots slot in
+      get_or-set_other leads.letter down.slot slot down.side false other in
       let same : value_of arena (Place place) letter ≡ value_of arena ref leads.letter =
-      down.value letter (get_or-set_same long down.slot down.side false size)
+      down.value letter (get_or-set_same leads.letter down.slot down.side false size)
       ∙ ignores_earlier arena is.reduced (down.slot + 1) ref down.is_ref (omega (arith, down.later)) letter leads.letter agrees in
       record {
         is_ref = down.within;
         letter = letter;
+        width = length-set leads.letter down.slot down.side ∙ leads.width;
         below = subst (λ number. number < length refs) (sym same) leads.below;
         leaf = subst (Contains leaves) (sym same) leads.leaf;
       }
@@ -53,7 +42,8 @@ module _ (arena : ArenaValue) (is : IsArena arena) (refs : List Ref) (leaves : L
       → LeadsInto (index_of arena refs) leaves ref
   leads_listed lists (Leaf leaf) x size c met = record {
     is_ref = tt;
-    letter = [];
+    letter = replicate arena.slots false;
+    width = length-replicate arena.slots false;
     below = omega (arith, size, last_within lists.entries.items lists.leaves.items leaf x c);
     leaf = met;
   }

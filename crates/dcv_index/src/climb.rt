@@ -15,20 +15,20 @@ use std::alloc::{AllocError, Global};
 #[derive(Debug, Drop)]
 pub struct Above {
     /// The places of the nodes, in the order in which they were met on the way up.
-    pub marked: SparseSet,
+    pub nodes: SparseSet,
     /// The places of the rows.
-    pub looked: Vec<u32>,
+    pub rows: Vec<u32>,
 }
 
 impl Above {
     /// Nothing was found yet.
     pub fn new(alloc: Global) -> Above
-        ensures marked { result.marked ≡ [] }
-        ensures looked { result.looked.items ≡ [] }
+        ensures nodes { result.nodes ≡ [] }
+        ensures rows { result.rows.items ≡ [] }
     {
         Above {
-            marked: SparseSet::new(alloc),
-            looked: Vec::new(alloc),
+            nodes: SparseSet::new(alloc),
+            rows: Vec::new(alloc),
         }
     }
 }
@@ -47,12 +47,12 @@ impl Climb<'_> {
     // All that stands above the leaves.
     pub(crate) fn climb(&self, found: &mut Above) -> Result<(), AllocError>
         requires { IsIndex self.now.arena.now self.now.refs.now self.now.nodes.now self.now.rows.now }
-        ensures closed { OnOk result (IsClosed self.now.nodes.now self.now.rows.now self.now.leaves.now found.new.marked found.new.looked.items) }
+        ensures closed { OnOk result (IsClosed self.now.nodes.now self.now.rows.now self.now.leaves.now found.new.nodes found.new.rows.items) }
         ensures marked { OnOk result (IsMarked (index_of self.now.arena.now self.now.refs.now) self.now.leaves.now
-            found.new.marked found.new.looked.items) }
+            found.new.nodes found.new.rows.items) }
     {
-        found.marked.clear();
-        found.looked.clear();
+        found.nodes.clear();
+        found.rows.clear();
         for leaf in self.leaves {
             self.follow(Ref::Leaf(*leaf), found)?;
         }
@@ -63,16 +63,16 @@ impl Climb<'_> {
     // Follows each marked place, those too that are marked on the way.
     fn close(&self, found: &mut Above) -> Result<(), AllocError>
         requires index { IsIndex self.now.arena.now self.now.refs.now self.now.nodes.now self.now.rows.now }
-        requires marked { IsMarked (index_of self.now.arena.now self.now.refs.now) self.now.leaves.now found.old.marked found.old.looked.items }
-        ensures followed { OnOk result ((place : ℕ) → Contains found.new.marked place
-            → IsFollowed self.now.nodes.now self.now.rows.now (AnyPlace place) found.new.marked found.new.looked.items) }
+        requires marked { IsMarked (index_of self.now.arena.now self.now.refs.now) self.now.leaves.now found.old.nodes found.old.rows.items }
+        ensures followed { OnOk result ((place : ℕ) → Contains found.new.nodes place
+            → IsFollowed self.now.nodes.now self.now.rows.now (AnyPlace place) found.new.nodes found.new.rows.items) }
         ensures marked { OnOk result (IsMarked (index_of self.now.arena.now self.now.refs.now) self.now.leaves.now
-            found.new.marked found.new.looked.items) }
-        ensures grows { OnOk result (Grows found.old.marked found.old.looked.items found.new.marked found.new.looked.items) }
+            found.new.nodes found.new.rows.items) }
+        ensures grows { OnOk result (Grows found.old.nodes found.old.rows.items found.new.nodes found.new.rows.items) }
     {
         let mut next = 0;
-        'places: while next < found.marked.len() {
-            let place = found.marked.as_slice()[next];
+        'places: while next < found.nodes.len() {
+            let place = found.nodes.as_slice()[next];
             self.follow(Ref::Place(place), found)?;
             next += 1;
         }
@@ -83,14 +83,14 @@ impl Climb<'_> {
     fn follow(&self, at: Ref, found: &mut Above) -> Result<(), AllocError>
         requires index { IsIndex self.now.arena.now self.now.refs.now self.now.nodes.now self.now.rows.now }
         requires met { IsMet (index_of self.now.arena.now self.now.refs.now) self.now.leaves.now at }
-        requires marked { IsMarked (index_of self.now.arena.now self.now.refs.now) self.now.leaves.now found.old.marked found.old.looked.items }
-        ensures followed { OnOk result (IsFollowed self.now.nodes.now self.now.rows.now at found.new.marked found.new.looked.items) }
+        requires marked { IsMarked (index_of self.now.arena.now self.now.refs.now) self.now.leaves.now found.old.nodes found.old.rows.items }
+        ensures followed { OnOk result (IsFollowed self.now.nodes.now self.now.rows.now at found.new.nodes found.new.rows.items) }
         ensures marked { OnOk result (IsMarked (index_of self.now.arena.now self.now.refs.now) self.now.leaves.now
-            found.new.marked found.new.looked.items) }
-        ensures grows { OnOk result (Grows found.old.marked found.old.looked.items found.new.marked found.new.looked.items) }
+            found.new.nodes found.new.rows.items) }
+        ensures grows { OnOk result (Grows found.old.nodes found.old.rows.items found.new.nodes found.new.rows.items) }
     {
-        look(&mut found.looked, &self.rows.entries, self.rows.last(at))?;
-        mark(&mut found.marked, &self.nodes.entries, self.nodes.last(at))?;
+        look(&mut found.rows, &self.rows.entries, self.rows.last(at))?;
+        mark(&mut found.nodes, &self.nodes.entries, self.nodes.last(at))?;
         Ok(())
     }
 }

@@ -8,8 +8,9 @@ ghost use Rattle.dcv_index.specs.Leads.{index_of, LeadsInto, IsRowInto};
 ghost use Rattle.dcv_index.specs.Index.{AreNodesAbove, AreRowsAbove};
 
 use crate::climb::{Above, Climb};
-use crate::lists::{Lists, number_of};
+use crate::lists::Lists;
 use dcv_arena::{Arena, Ref};
+use dcv_members::number_of;
 use std::alloc::{AllocError, Global};
 use std::marker::Model;
 
@@ -51,12 +52,12 @@ impl<'a> Index<'a> {
 }
 
 impl Index<'_> {
-    /// Finds what stands above these leaves: the rows from which some letter leads to one of them, and the nodes, no others. What was found
+    /// Finds what stands above these leaves: the nodes from which some letter leads to one of them, and the rows, no others. What was found
     /// before is forgotten, but its memory is used again.
     pub fn above(&self, leaves: &[u32], found: &mut Above) -> Result<(), AllocError>
-        ensures looked { OnOk result ((row : ℕ) → Contains found.new.looked.items row ↔ IsRowInto self.now leaves.now row) }
-        ensures marked { OnOk result ((place : ℕ) → Contains found.new.marked place ↔ LeadsInto self.now leaves.now (AnyPlace place)) }
-        ensures rows { OnOk result (All (λ row. row < length self.now.rows) found.new.looked.items) }
+        ensures nodes { OnOk result ((place : ℕ) → Contains found.new.nodes place ↔ LeadsInto self.now leaves.now (AnyPlace place)) }
+        ensures rows { OnOk result ((row : ℕ) → Contains found.new.rows.items row ↔ IsRowInto self.now leaves.now row) }
+        ensures below { OnOk result (All (λ row. row < length self.now.rows) found.new.rows.items) }
     {
         let climb = Climb {
             arena: self.arena,

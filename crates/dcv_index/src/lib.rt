@@ -2,9 +2,10 @@
 //!
 //! ```text
 //! let index = Index::new(alloc, arena, rows)?;
-//! let found = index.above(alloc, &leaves)?;
-//! found.looked // the rows from which some letter leads to one of these leaves, by their places
-//! found.marked // the nodes from which one does
+//! let mut found = Above::new(alloc);
+//! index.above(&leaves, &mut found)?;
+//! found.rows             // the rows from which some letter leads to one of these leaves, by their places
+//! found.nodes.as_slice() // the nodes from which one does
 //! ```
 #![tactic(auto)]
 

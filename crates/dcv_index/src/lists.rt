@@ -4,6 +4,7 @@ ghost use Rattle.std.specs.Prelude.{◌≡◌, ◌+◌, ℕ, [], ◌∷◌, ◌+
 ghost use Rattle.dcv_index.specs.Lists.{Adds, AreEmpty, AreLinked, entry, last_of};
 
 use dcv_arena::Ref;
+use dcv_members::number_of;
 use std::alloc::{AllocError, Global};
 
 // A number in a list, and the entry before it, counted from 1, or 0 where it is the first.
@@ -87,14 +88,4 @@ fn put(lasts: &mut Vec<u32>, at: u32, last: u32)
         return;
     }
     lasts[at as usize] = last;
-}
-
-// A count as a 32-bit number. One without such a number would count as want of memory.
-pub(crate) fn number_of(count: usize) -> Result<u32, AllocError>
-    ensures { IfOk result (λ number. number ≡ count) }
-{
-    match u32::try_from(count) {
-        Ok(number) => Ok(number),
-        Err(_) => Err(AllocError),
-    }
 }

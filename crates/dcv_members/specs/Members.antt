@@ -4,11 +4,15 @@
 --     IsPut old block member new       the list of the block has the member more, and no list has anything else more
 --     IsMended blocks block old new    the list of the block has those of its members that it had, and no others; each other list is as it was
 --     HaveTheirOwn blocks members      each list has all members of its block
+--     block_of blocks member           the number of a member's block
 use Rattle.std.specs.Prelude.{◌≡◌, ◌≢◌, ◌⊎◌, ◌↔◌, ℕ, ◌<◌, ◌==◌, Bool, false, List, [], length, slice_get, slice_index_or, Contains}
 use Rattle.std.specs.Option.{option_map_or}
 
 abbrev pub list_of : List (List ℕ) → ℕ → List ℕ
 list_of members block = slice_index_or members block []
+
+abbrev pub block_of : List ℕ → ℕ → ℕ
+block_of blocks member = slice_index_or blocks member 0
 
 abbrev pub is_in : List ℕ → ℕ → ℕ → Bool
 is_in blocks block member = option_map_or (λ own. own == block) (slice_get blocks member) false

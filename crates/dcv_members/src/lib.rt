@@ -1,4 +1,4 @@
-//! The members of blocks that have numbers, while members move from block to block, and sets of small numbers.
+//! The members of blocks that have numbers, while members move from block to block, sets of small numbers, and counts as 32-bit numbers.
 //!
 //! ```text
 //! let mut members = Members::new(alloc);
@@ -10,12 +10,16 @@
 //! let mut set = SparseSet::new(alloc);
 //! set.insert(7)?; // at place 0
 //! set.clear();    // takes no time, and keeps the memory
+//!
+//! let count = number_of(set.len())?; // 0, as a 32-bit number
 //! ```
 #![tactic(auto)]
 
 mod lists;
 mod members;
+mod numbers;
 mod sparse_set;
 
 pub use members::Members;
+pub use numbers::number_of;
 pub use sparse_set::SparseSet;

@@ -1,12 +1,13 @@
 // Lists of numbers, each at a place.
-ghost use Rattle.std.specs.Prelude.{◌≡◌, ◌≤◌, ℕ, length, OnOk};
+ghost use Rattle.std.specs.Prelude.{◌≡◌, ◌≤◌, ℕ, length, OnOk, OnErr};
 ghost use Rattle.dcv_members.specs.Lists.{AddsAt, list_at};
 
 use std::alloc::{AllocError, Global};
 
 // Adds a number to the list at a place, where there is one.
 pub(crate) fn add_to(lists: &mut [Vec<u32>], at: u32, number: u32) -> Result<(), AllocError>
-    ensures { OnOk result (AddsAt lists.old lists.new at number) }
+    ensures added { OnOk result (AddsAt lists.old lists.new at number) }
+    ensures err { OnErr result ((at : ℕ) → list_at lists.new at ≡ list_at lists.old at) }
 {
     if at as usize >= lists.len() {
         return Ok(());
@@ -25,10 +26,10 @@ pub(crate) fn list(lists: &[Vec<u32>], at: u32) -> &[u32]
     }
 }
 
-// Adds empty lists until there are so many.
+// Adds empty lists until there are so many. Where memory runs out some of them may be there, and no list has changed.
 pub(crate) fn grow(alloc: Global, lists: &mut Vec<Vec<u32>>, count: usize) -> Result<(), AllocError>
     ensures size { OnOk result (count ≤ length lists.new.items) }
-    ensures same { OnOk result ((at : ℕ) → list_at lists.new.items at ≡ list_at lists.old.items at) }
+    ensures same { (at : ℕ) → list_at lists.new.items at ≡ list_at lists.old.items at }
 {
     for _place in lists.len()..count {
         lists.push(Vec::new(alloc))?;

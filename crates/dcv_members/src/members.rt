@@ -1,6 +1,6 @@
 // The members of blocks, in lists that are only mended when a block is gone through: a list may have some that have moved on. So a move
 // takes the time of what moves, whatever the size of the block that it leaves.
-ghost use Rattle.std.specs.Prelude.{◌≡◌, [], filter, OnOk};
+ghost use Rattle.std.specs.Prelude.{◌≡◌, ℕ, [], filter, OnOk, OnErr};
 ghost use Rattle.dcv_members.specs.Members.{list_of, is_in, IsPut, IsMended};
 
 use crate::lists::{add_to, grow, list};
@@ -40,7 +40,8 @@ impl Members {
 
     /// Puts a member into the list of a block. Where it comes from another one, it is in that list too until that is mended.
     pub fn put(&mut self, alloc: Global, block: u32, member: u32) -> Result<(), AllocError>
-        ensures { OnOk result (IsPut (list_of self.old) block member (list_of self.new)) }
+        ensures put { OnOk result (IsPut (list_of self.old) block member (list_of self.new)) }
+        ensures err { OnErr result ((at : ℕ) → list_of self.new at ≡ list_of self.old at) }
     {
         grow(alloc, &mut self.lists, block as usize + 1)?;
         add_to(&mut self.lists, block, member)

@@ -5,6 +5,7 @@ ghost use Rattle.std.specs.Prelude.{◌≡◌, ◌<◌, ℕ, [], eqb, length, fa
 ghost use Rattle.std.specs.List.{IsDistinct};
 ghost use Rattle.dcv_members.specs.SparseSet.{has, with_number, is_at, IsPlaceOf};
 
+use crate::numbers::number_of;
 use std::alloc::{AllocError, Global};
 use std::marker::Model;
 
@@ -127,7 +128,7 @@ fn stands(numbers: &[u32], place: usize, number: u32) -> bool
     }
 }
 
-// Lengthens the list of places so that it has one for this number. That is rare, so it stands apart and `add` stays small.
+// Lengthens the list of places so that it has one for this number, where it has none.
 fn reach(places: &mut Vec<u32>, number: u32) -> Result<(), AllocError>
     ensures room { OnOk result (number < length places.new.items) }
     ensures same { (at : ℕ) → slice_index_or places.new.items at 0 ≡ slice_index_or places.old.items at 0 }
@@ -136,14 +137,4 @@ fn reach(places: &mut Vec<u32>, number: u32) -> Result<(), AllocError>
         return Ok(());
     }
     places.resize(number as usize + 1, 0)
-}
-
-// The place as a 32-bit number. One without such a number would count as want of memory.
-fn number_of(place: usize) -> Result<u32, AllocError>
-    ensures { IfOk result (λ number. number ≡ place) }
-{
-    match u32::try_from(place) {
-        Ok(number) => Ok(number),
-        Err(_) => Err(AllocError),
-    }
 }

@@ -4,7 +4,7 @@ use Rattle.std.specs.List.{All}
 use Rattle.std.proofs.lemmas.Bool.{cases_eq}
 use Rattle.std.proofs.lemmas.List.{length-set, length-replicate, get_or-set_same, get_or-set_other, length_push, get_or_append_left, get_or_push}
 use Rattle.std.proofs.lemmas.List.Elements.{All-replicate, All-set, All-push}
-use Rattle.dcv_minimise.specs.Partition.{block_of}
+use Rattle.dcv_members.specs.Members.{block_of}
 use Rattle.dcv_minimise.specs.Classes.{block_at, AreBlockNumbers, AreNumbers}
 
 -- the first so many kept states have given their blocks their numbers

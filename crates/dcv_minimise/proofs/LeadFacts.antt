@@ -9,5 +9,5 @@ use Rattle.dcv_minimise.proofs.RoundFacts.{next_state}
 pub leads : (raw : RawValue) → IsRaw raw → (moved looked : List ℕ) → ((row : ℕ) → IsRowInto (index_of raw.arena raw.rows) moved row → Contains looked row) → LeadTo raw moved looked
 leads raw is moved looked all state letter inside size c = all state (record {
   below = inside;
-  leads = record { is_ref = is.rows state (Leaf 0) inside; letter = letter; below = next_state raw is state letter inside size; leaf = c };
+  leads = record { is_ref = is.rows state (Leaf 0) inside; letter = letter; width = size; below = next_state raw is state letter inside size; leaf = c };
 })

@@ -4,7 +4,7 @@ use Rattle.std.specs.List.{All}
 use Rattle.std.proofs.lemmas.List.{get_or_default}
 use Rattle.std.proofs.lemmas.List.Elements.{All-contains, Contains-get_or, Contains-push_cases, Contains-append_left, Contains-append_right, Contains-append_cases}
 use Rattle.dcv_members.specs.SparseSet.{with_number}
-use Rattle.dcv_minimise.specs.Partition.{block_of}
+use Rattle.dcv_members.specs.Members.{block_of}
 use Rattle.dcv_minimise.specs.Rounds.{witness_of}
 use Rattle.dcv_minimise.specs.Listing.{IsListed, IsAlone, IsSingle, IsListing, IsBlockAdded, IsBlockListed, LooksAt}
 use Rattle.dcv_index.proofs.MarkFacts.{inserted_only, all_from_contains}
@@ -38,15 +38,17 @@ module _ (blocks : List ℕ) (block : ℕ) (own : List ℕ) (is : (state : ℕ) 
 
   pub block_listed : (states full new_states new_full : List ℕ) → IsBlockAdded own block states full new_states new_full → IsBlockListed blocks block states full new_states new_full
   block_listed states full new_states new_full added = record {
-    grows = added.grows;
-    only = λ state c. elim (added.only state c) [
-      | inl before ↦ inl before
-      | inr here ↦ inr ((is state).0 here).0
-    ];
-    full_only = λ one c. elim (added.full_only one c) [
-      | inl before ↦ inl before
-      | inr here ↦ inr (subst (IsListed blocks new_states) (sym here.0) (listed_by new_states here.1))
-    ];
+    more = record {
+      grows = added.grows;
+      only = λ state c. elim (added.only state c) [
+        | inl before ↦ inl before
+        | inr here ↦ inr ((is state).0 here).0
+      ];
+      full_only = λ one c. elim (added.full_only one c) [
+        | inl before ↦ inl before
+        | inr here ↦ inr (subst (IsListed blocks new_states) (sym here.0) (listed_by new_states here.1))
+      ];
+    };
     all = elim added.all [
       | inl few ↦ inl (single few)
       | inr listed ↦ inr (listed_by new_states listed)
@@ -58,17 +60,17 @@ module _ (blocks : List ℕ) (block : ℕ) (own : List ℕ) (is : (state : ℕ) 
 module _ (blocks witness done states full : List ℕ) (state : ℕ) (new_states new_full : List ℕ) (was : IsListing blocks witness done states full)
     (looks : LooksAt blocks witness state states full new_states new_full) where
   still_listed : (block : ℕ) → IsListed blocks states block → IsListed blocks new_states block
-  still_listed block listed one within is = looks.grows one (listed one within is)
+  still_listed block listed one within is = looks.more.grows one (listed one within is)
 
   pub listing_more : IsListing blocks witness (done ++ state ∷ []) new_states new_full
   listing_more = record {
-    states = all_from_contains (λ state. state < length blocks) new_states (λ one c. elim (looks.only one c) [
+    states = all_from_contains (λ state. state < length blocks) new_states (λ one c. elim (looks.more.only one c) [
       | inl before ↦ All-contains (λ state. state < length blocks) states one was.states before
       | inr inside ↦ inside
     ]);
     each_looked = λ one c. elim (Contains-push_cases done state one c) [
       | inl before ↦ elim (was.each_looked one before) [
-        | inl there ↦ inl (looks.grows one there)
+        | inl there ↦ inl (looks.more.grows one there)
         | inr alone ↦ inr alone
       ]
       | inr here ↦ subst (λ one. Contains new_states one ⊎ IsAlone blocks witness (block_of blocks one)) here looks.looked
@@ -82,7 +84,7 @@ module _ (blocks witness done states full : List ℕ) (state : ℕ) (new_states 
           subst (λ one. IsListed blocks new_states (block_of blocks one) ⊎ IsAlone blocks witness (block_of blocks one)) here
           (looks.as_witness (subst (λ one. one ≡ witness_of blocks witness one) (sym here) same))
     ];
-    each_full = λ block c. elim (looks.full_only block c) [
+    each_full = λ block c. elim (looks.more.full_only block c) [
       | inl before ↦ still_listed block (was.each_full block before)
       | inr listed ↦ listed
     ];

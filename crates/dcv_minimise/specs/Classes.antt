@@ -10,13 +10,12 @@
 --     kept_of start firsts place                the start and the first states; where there is a place, the state there takes the start's
 --     AreKept raw blocks states kept alone      the raw states that the canonical automaton keeps, that of each number at its place
 --     IsKeptList raw blocks kept                some states of which no two are in one block
---     IsEach count states                       these are so many states, each in its place
 --     AreBlockNumbers blocks kept numbers       for the block of each kept state its number
 --     AreNumbers blocks kept numbers            for each state the number of the kept state in its block
 use Rattle.std.specs.Prelude.{◌≡◌, ◌≢◌, ℕ, ◌^◌, ◌<◌, ◌≤◌, Bool, true, false, List, ◌∷◌, length, map, take, slice_index_or, Contains, Option, None, Some, is_none}
 use Rattle.std.specs.List.{All, AllPairs, remove}
 use Rattle.dcv_dfa.specs.Raw.{RawValue, next_in}
-use Rattle.dcv_minimise.specs.Partition.{block_of}
+use Rattle.dcv_members.specs.Members.{block_of}
 
 abbrev pub block_at : List ℕ → List ℕ → ℕ → ℕ
 block_at blocks states place = block_of blocks (slice_index_or states place 0)
@@ -92,10 +91,6 @@ pub record IsKeptList (raw : RawValue) (blocks kept : List ℕ) : Type 0 where
   pub inside : All (λ state. state < length raw.rows) kept
   pub inside_blocks : All (λ state. state < length blocks) kept
   pub apart : AllPairs (λ first second. block_of blocks first ≢ block_of blocks second) kept
-
-pub record IsEach (count : ℕ) (states : List ℕ) : Type 0 where
-  pub all : length states ≡ count
-  pub each : (place : ℕ) → place < length states → slice_index_or states place 0 ≡ place
 
 -- ---- numbers
 

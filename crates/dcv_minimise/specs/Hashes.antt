@@ -1,4 +1,5 @@
 -- Hashes by blocks: a ref's hash goes with the function that has, at each letter, the block of the state to which the ref leads.
+--     golden_ratio, mixer              the numbers by which a hash is multiplied
 --     stirred slot lo hi               a number from three
 --     mixed slot lo hi                 the hash of a node at this slot whose children have these; where they have one, it is that one
 --     hash_at blocks hashes ref        the hash of a ref
@@ -15,14 +16,22 @@ use Rattle.dcv_arena.specs.declared.nodes.Ref.{Ref}
 use Rattle.dcv_arena.specs.declared.nodes.Ref.TheVariants.{Leaf, Place}
 use Rattle.dcv_dfa.specs.NodeLines.{lo_of, hi_of}
 use Rattle.dcv_dfa.specs.Raw.{RawValue, row_of}
-use Rattle.dcv_minimise.specs.Partition.{block_of}
+use Rattle.dcv_members.specs.Members.{block_of}
 use Rattle.dcv_minimise.specs.Rounds.{IsState, AreAlike}
 use Rattle.dcv_minimise.specs.declared.refine.hashes.Alike.{Alike}
 
+-- 2^64 over the golden ratio, odd
+abbrev pub golden_ratio : ℕ
+golden_ratio = 11400714819323198485
+
+-- odd, without pattern
+abbrev pub mixer : ℕ
+mixer = 15485907386658061715
+
 unfoldable pub stirred : ℕ → ℕ → ℕ → ℕ
 stirred slot lo hi =
-    let first = rotate_left w64 ((lo + slot) % 2 ^ 64 * 11400714819323198485 % 2 ^ 64) 29 in
-    rotate_left w64 ((first + hi) % 2 ^ 64 * 15485907386658061715 % 2 ^ 64) 32
+    let first = rotate_left w64 ((lo + slot) % 2 ^ 64 * golden_ratio % 2 ^ 64) 29 in
+    rotate_left w64 ((first + hi) % 2 ^ 64 * mixer % 2 ^ 64) 32
 
 abbrev pub mixed : ℕ → ℕ → ℕ → ℕ
 mixed slot lo hi = if lo == hi then lo else stirred slot lo hi

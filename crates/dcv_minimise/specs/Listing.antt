@@ -5,12 +5,13 @@
 --         is looked at; and all of the blocks that are listed in full
 --     IsSingle blocks block             the block has one state
 --     IsBlockAdded                      the states of a list are listed with the others, if there are more than one
+--     ListsMore                         what is listed grows, by states that there are, and each block listed in full has all of its states listed
 --     IsBlockListed                     the states of a block are, if there are more than one
 --     LooksAt                           what looking at a state adds to what is listed
 --     IsChosen blocks full old new      a witness is what it was, or another state of a block that is listed in full
 use Rattle.std.specs.Prelude.{◌≡◌, ℕ, ◌<◌, ◌≤◌, List, length, slice_index_or, Contains, ◌⊎◌}
 use Rattle.std.specs.List.{All}
-use Rattle.dcv_minimise.specs.Partition.{block_of}
+use Rattle.dcv_members.specs.Members.{block_of}
 use Rattle.dcv_minimise.specs.Rounds.{witness_of}
 
 abbrev pub IsListed : List ℕ → List ℕ → ℕ → Type 0
@@ -35,16 +36,18 @@ pub record IsBlockAdded (own : List ℕ) (block : ℕ) (states full new_states n
   pub full_only : (one : ℕ) → Contains new_full one → Contains full one ⊎ ((one ≡ block) × All (Contains new_states) own)
   pub all : (length own ≤ 1) ⊎ All (Contains new_states) own
 
-pub record IsBlockListed (blocks : List ℕ) (block : ℕ) (states full new_states new_full : List ℕ) : Type 0 where
+-- states are listed with the others, and a block is listed in full only where all of its states are
+pub record ListsMore (blocks states full new_states new_full : List ℕ) : Type 0 where
   pub grows : (state : ℕ) → Contains states state → Contains new_states state
   pub only : (state : ℕ) → Contains new_states state → Contains states state ⊎ (state < length blocks)
   pub full_only : (one : ℕ) → Contains new_full one → Contains full one ⊎ IsListed blocks new_states one
+
+pub record IsBlockListed (blocks : List ℕ) (block : ℕ) (states full new_states new_full : List ℕ) : Type 0 where
+  pub more : ListsMore blocks states full new_states new_full
   pub all : IsSingle blocks block ⊎ IsListed blocks new_states block
 
 pub record LooksAt (blocks witness : List ℕ) (state : ℕ) (states full new_states new_full : List ℕ) : Type 0 where
-  pub grows : (one : ℕ) → Contains states one → Contains new_states one
-  pub only : (one : ℕ) → Contains new_states one → Contains states one ⊎ (one < length blocks)
-  pub full_only : (one : ℕ) → Contains new_full one → Contains full one ⊎ IsListed blocks new_states one
+  pub more : ListsMore blocks states full new_states new_full
   pub looked : Contains new_states state ⊎ IsAlone blocks witness (block_of blocks state)
   pub as_witness : state ≡ witness_of blocks witness state → IsListed blocks new_states (block_of blocks state) ⊎ IsAlone blocks witness (block_of blocks state)
 

@@ -1,12 +1,9 @@
 -- The states of a raw automaton in blocks, by which words they go on to accept.
---     block_of blocks state      the number of a state's block
 --     IsPartition raw blocks     states in one block go on alike, and states in two blocks are apart
-use Rattle.std.specs.Prelude.{◌≡◌, ◌≢◌, ℕ, ◌<◌, Bool, List, length, slice_index_or}
+use Rattle.std.specs.Prelude.{◌≡◌, ◌≢◌, ℕ, ◌<◌, Bool, List, length}
+use Rattle.dcv_members.specs.Members.{block_of}
 use Rattle.dcv_language.specs.Folding.{AreApartFrom}
 use Rattle.dcv_dfa.specs.Raw.{RawValue, is_accepting, next_in, automaton_of}
-
-abbrev pub block_of : List ℕ → ℕ → ℕ
-block_of blocks state = slice_index_or blocks state 0
 
 pub record IsPartition (raw : RawValue) (blocks : List ℕ) : Type 0 where
   -- a block for each state, with a number below the number of states

@@ -1,13 +1,14 @@
 // The automaton whose states are blocks (after A. Nerode, 1958). Of each block that words lead to one state is kept, the one
 // with the least word, and the states are numbered in the order of these words. The start gets a state of its own only where
 // no block has its row: whether it accepts does not matter, since no word is empty.
-ghost use Rattle.std.specs.Prelude.{◌≡◌, ◌≢◌, ◌<◌, ◌^◌, ℕ, true, [], ◌∷◌, length, drop, slice_index_or, IfOk};
-ghost use Rattle.std.specs.List.{All, AllPairs};
+ghost use Rattle.std.specs.Prelude.{◌≡◌, ◌≢◌, ◌<◌, ◌^◌, ◌==◌, ℕ, true, [], ◌∷◌, length, drop, slice_index_or, IfOk};
+ghost use Rattle.std.specs.List.{All, AllPairs, enumerate_from, list_all, range_with_len};
 ghost use Rattle.dcv_dfa.specs.Raw.{IsRaw, automaton_of, next_in};
 ghost use Rattle.dcv_reach.specs.Reached.{IsReached, states_of};
+ghost use Rattle.dcv_members.specs.Members.{block_of};
 ghost use Rattle.dcv_minimise.specs.Minimal.{IsMinimalOf};
-ghost use Rattle.dcv_minimise.specs.Partition.{IsPartition, block_of};
-ghost use Rattle.dcv_minimise.specs.Classes.{HasFirsts, IsFirstLike, AreKept, IsKeptList, IsEach, AreBlockNumbers, AreNumbers};
+ghost use Rattle.dcv_minimise.specs.Partition.{IsPartition};
+ghost use Rattle.dcv_minimise.specs.Classes.{HasFirsts, IsFirstLike, AreKept, IsKeptList, AreBlockNumbers, AreNumbers};
 ghost use Rattle.dcv_minimise.specs.Folded.{HasRows, HasKeptRows, flags_of};
 
 use crate::own_nodes::has_only_own_nodes;
@@ -34,8 +35,8 @@ struct Rows {
     rows: Vec<Ref>,
 }
 
-/// The canonical automaton whose states are the blocks of the reached states, in the order of their least words, and the start
-/// where it stands alone.
+// The canonical automaton whose states are the blocks of the reached states, in the order of their least words, and the start
+// where it stands alone.
 pub(crate) fn fold(
     alloc: Global,
     raw: Raw,
@@ -248,21 +249,19 @@ fn flags(alloc: Global, raw: &Raw, kept: &Kept) -> Result<Vec<bool>, AllocError>
     Ok(accepting)
 }
 
-// Whether these are so many states, each in its place.
+// Whether these are the states 0, 1, 2, .., so many of them.
 fn are_all(states: &[u32], count: u32) -> bool
-    ensures { result ≡ true → IsEach count states.now }
+    ensures { result ≡ true → states.now ≡ range_with_len 0 count }
 {
     states.len() == count as usize && stand_in_place(states)
 }
 
 // Whether each state stands at the place that is its number.
 fn stand_in_place(states: &[u32]) -> bool
-    ensures { result ≡ true → (place : ℕ) → place < length states.now → slice_index_or states.now place 0 ≡ place }
+    ensures { result ≡ list_all (λ at. at.1 == at.0) (enumerate_from 0 states.now) }
 {
-    for (place, state) in states.iter().enumerate() {
-        if *state as usize != place {
-            return false;
-        }
-    }
-    true
+    states
+        .iter()
+        .enumerate()
+        .all(|(place, state)| *state as usize == place)
 }

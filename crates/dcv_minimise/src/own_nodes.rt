@@ -11,7 +11,7 @@ use dcv_arena::{Arena, Ref};
 use dcv_dfa::Raw;
 use std::alloc::{AllocError, Global};
 
-/// Whether each node of the arena is one of a row, which takes one pass over the nodes.
+// Whether each node of the arena is one of a row, which takes one pass over the nodes.
 pub(crate) fn has_only_own_nodes(alloc: Global, raw: &Raw) -> Result<bool, AllocError>
     ensures { IfOk result (λ own. own ≡ true → HasOnlyNodesOf raw.now.arena raw.now.rows) }
 {

@@ -25,10 +25,10 @@ use listing::{Listed, follow};
 use partition::Partition;
 use std::alloc::{AllocError, Global};
 
-/// The block of each state: two states have one block exactly where they go on to accept the same words.
-///
-/// Once few states move, the time is that of the nodes above and below the states that move. A state moves only with a
-/// part that is no more than half of its block, so it moves as often as the logarithm of their number at most.
+// The block of each state: two states have one block exactly where they go on to accept the same words.
+//
+// Once few states move, the time is that of the nodes above and below the states that move. A state moves only with a
+// part that is no more than half of its block, so it moves as often as the logarithm of their number at most.
 pub(crate) fn refine(alloc: Global, raw: &Raw) -> Result<Vec<u32>, AllocError>
     ensures { IfOk result (λ blocks. IsPartition raw.now blocks.items) }
 {
@@ -111,7 +111,7 @@ impl Refining {
     {
         let states = raw.states();
         'rounds: while self.moves_many(raw) {
-            self.found.looked = every_state(alloc, states)?;
+            self.found.rows = every_state(alloc, states)?;
             self.round(alloc, raw)?;
         }
         Ok(())
@@ -133,20 +133,19 @@ impl Refining {
 
     // One round, in which the states that lead to one that moved are looked at.
     fn round(&mut self, alloc: Global, raw: &Raw) -> Result<(), AllocError>
-        requires looked { LeadTo raw.now self.old.moved.items self.old.found.looked.items }
-        requires states { All (IsState raw.now) self.old.found.looked.items }
+        requires looked { LeadTo raw.now self.old.moved.items self.old.found.rows.items }
+        requires states { All (IsState raw.now) self.old.found.rows.items }
         requires refining { IsRefining raw.now self.old.partition.blocks.items self.old.partition.witness.items (list_of self.old.members) self.old.moved.items }
         ensures refining { OnOk result (IsRefining raw.now self.new.partition.blocks.items self.new.partition.witness.items (list_of self.new.members) self.new.moved.items) }
         ensures more { OnOk result (0 < length self.new.moved.items → length self.old.partition.witness.items < length self.new.partition.witness.items) }
         ensures no_fewer { OnOk result (length self.old.partition.witness.items ≤ length self.new.partition.witness.items) }
     {
-        self.counts
-            .count(&self.partition.blocks, &self.found.looked)?;
+        self.counts.count(&self.partition.blocks, &self.found.rows)?;
         self.listed.fill(
             &mut self.members,
             &self.partition.blocks,
             &self.partition.witness,
-            &self.found.looked,
+            &self.found.rows,
             &self.counts,
         )?;
         self.moved = self

@@ -34,9 +34,8 @@ impl Counts {
     // No block has any again, in the time of those that had some.
     fn forget(&mut self) {
         for block in &self.blocks {
-            match self.counts.get_mut(*block as usize) {
-                Some(count) => *count = 0,
-                None => {}
+            if let Some(count) = self.counts.get_mut(*block as usize) {
+                *count = 0;
             }
         }
         self.blocks.clear();
@@ -47,14 +46,11 @@ impl Counts {
         if block as usize >= self.counts.len() {
             self.counts.resize(block as usize + 1, 0)?;
         }
-        match self.counts.get_mut(block as usize) {
-            Some(count) => {
-                if *count == 0 {
-                    self.blocks.push(block)?;
-                }
-                *count = count.saturating_add(1);
+        if let Some(count) = self.counts.get_mut(block as usize) {
+            if *count == 0 {
+                self.blocks.push(block)?;
             }
-            None => {}
+            *count = count.saturating_add(1);
         }
         Ok(())
     }

@@ -14,6 +14,13 @@ use std::alloc::{AllocError, Global};
 // How often blocks are divided by hashes at most.
 const MOST_ROUNDS: u32 = 24;
 
+// 2^64 over the golden ratio, an odd number whose multiples spread over all of its 64 bits (D. E. Knuth, "The Art of Computer Programming",
+// volume 3, section 6.4).
+const GOLDEN_RATIO: u64 = 11_400_714_819_323_198_485;
+
+// An odd number without pattern.
+const MIXER: u64 = 15_485_907_386_658_061_715;
+
 // What the states of a new block have in common: their block, and the hash of their rows.
 #[derive(Clone, Copy, Debug, PartialEq, Eq, Hash)]
 pub(crate) struct Alike {
@@ -148,10 +155,7 @@ fn stirred(slot: u8, lo: u64, hi: u64) -> u64
 {
     let first = lo
         .wrapping_add(u64::from(slot))
-        .wrapping_mul(11_400_714_819_323_198_485)
+        .wrapping_mul(GOLDEN_RATIO)
         .rotate_left(29);
-    first
-        .wrapping_add(hi)
-        .wrapping_mul(15_485_907_386_658_061_715)
-        .rotate_left(32)
+    first.wrapping_add(hi).wrapping_mul(MIXER).rotate_left(32)
 }

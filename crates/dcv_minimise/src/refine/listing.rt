@@ -4,8 +4,7 @@
 // blocks' sizes say which part is the smaller.
 ghost use Rattle.std.specs.Prelude.{◌≡◌, ◌<◌, ◌⊎◌, ℕ, length, slice_index_or, IfOk, OnOk, Contains};
 ghost use Rattle.std.specs.List.{All};
-ghost use Rattle.dcv_members.specs.Members.{list_of, HaveTheirOwn};
-ghost use Rattle.dcv_minimise.specs.Partition.{block_of};
+ghost use Rattle.dcv_members.specs.Members.{list_of, HaveTheirOwn, block_of};
 ghost use Rattle.dcv_minimise.specs.Listing.{IsListed, IsListing, IsBlockAdded, IsBlockListed, LooksAt};
 
 use super::counts::Counts;

@@ -3,7 +3,7 @@
 // is no more than half of its block (J. Hopcroft, "An n log n Algorithm for Minimizing States in a Finite Automaton", 1971).
 ghost use Rattle.std.specs.Prelude.{◌<◌, ℕ, length, OnOk};
 ghost use Rattle.std.specs.List.{All};
-ghost use Rattle.dcv_minimise.specs.Partition.{block_of};
+ghost use Rattle.dcv_members.specs.Members.{block_of};
 ghost use Rattle.dcv_minimise.specs.Listing.{IsChosen};
 
 use super::keys::Keyed;

@@ -1,5 +1,5 @@
-use Rattle.std.proofs.Common.{sym, subst, subst₂}
-use Rattle.dcv_minimise.specs.Classes.{IsEach}
+use Rattle.std.proofs.Common.{ap, sym, subst₂, ◌∙◌}
+use Rattle.std.specs.List.{range_with_len}
 use Rattle.dcv_minimise.specs.Folded.{HasKeptRows}
 use Rattle.dcv_minimise.proofs.Ends.{blocks_inside}
 use Rattle.dcv_minimise.proofs.StayingRows.{stay}
@@ -9,7 +9,7 @@ pub returns-then-branch-clause-rows : goal.returns-then-branch-clause-rows
 returns-then-branch-clause-rows c =
     let raw = c.args.raw in
     let kept = c.args.states.now in
-    let each = subst (λ count. IsEach count kept) c.states.ensures.states (c.are_all.ensures c.if-are_all.true) in
+    let each = c.are_all.ensures c.if-are_all.true ∙ ap (range_with_len 0) c.states.ensures.states in
     subst₂ (HasKeptRows raw c.args.blocks.now kept) (sym c.as_they_are.ensures.arena) (sym c.as_they_are.ensures.rows)
     (stay raw c.states.ensures.raw c.args.blocks.now c.requires.partition kept c.requires.kept each (c.in_ok-has_only_own_nodes.ensures c.if-branch.true))
 

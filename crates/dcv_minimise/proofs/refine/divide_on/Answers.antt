@@ -15,16 +15,16 @@ pub round-requires-clause-looked : goal.round-requires-clause-looked
 round-requires-clause-looked c =
     let raw = c.args.raw.now in
     let moved = c.rounds.refining.moved.items in
-    let looked = c.above.new.found.looked.items in
+    let looked = c.above.new.found.rows.items in
     let index : c.in_ok-index.index ≡ index_of raw.arena raw.rows = c.in_ok-index.ensures ∙ (λ i. index_of (c.arena.ensures.arena i) (c.rows.ensures.rows i)) in
     leads raw c.arena.ensures.raw moved looked
     (subst (λ (index : IndexedRows). (row : ℕ) → IsRowInto index moved row → Contains looked row) index
-    (subst (λ (moved : List ℕ). (row : ℕ) → IsRowInto c.in_ok-index.index moved row → Contains looked row) c.deref.ensures.value (λ row. (c.in_ok-above.ensures.looked row).1)))
+    (subst (λ (moved : List ℕ). (row : ℕ) → IsRowInto c.in_ok-index.index moved row → Contains looked row) c.deref.ensures.value (λ row. (c.in_ok-above.ensures.rows row).1)))
 
 pub round-requires-clause-states : goal.round-requires-clause-states
 round-requires-clause-states c =
-    let looked = c.above.new.found.looked.items in
-    let rows = c.in_ok-above.ensures.rows in
+    let looked = c.above.new.found.rows.items in
+    let rows = c.in_ok-above.ensures.below in
     subst (λ (index : IndexedRows). All (λ state. state < length index.rows) looked) (c.in_ok-index.ensures ∙ (λ i. index_of (c.arena.ensures.arena i) (c.rows.ensures.rows i))) rows
 
 pub rounds-smaller : goal.rounds-smaller

@@ -2,9 +2,8 @@ use Rattle.std.proofs.Common.{◌≡◌, ◌<◌, ◌≤◌, ◌+◌, ◌-◌, �
 use Rattle.std.proofs.lemmas.Bool.{eq-eqb, ne_eqb}
 use Rattle.std.proofs.lemmas.List.{get_or_default, length-set}
 use Rattle.dcv_certificate.specs.declared.partition.Partition.{Partition}
-use Rattle.dcv_certificate.specs.Separation.{block_of}
 use Rattle.dcv_certificate.specs.Tallies.{AreSizes, count_up}
-use Rattle.dcv_members.specs.Members.{list_of, HaveTheirOwn}
+use Rattle.dcv_members.specs.Members.{list_of, HaveTheirOwn, block_of}
 use Rattle.dcv_members.proofs.MemberFacts.{own_put}
 use Rattle.dcv_certificate.proofs.Shifting.{sizes_grown, size_some, fewer, shifted, size_fits, sizes_shifted}
 use Rattle.dcv_certificate.proofs.partition.Partition.move_to.Goals as goal
@@ -124,4 +123,4 @@ returns-clause-members c =
     let j = (goal.at.returns-clause-members c).Joined-block-len in
     let mid = c.if-block-len.self in
     subst (λ blocks. HaveTheirOwn (set blocks c.args.state c.args.block) (list_of c.put.new.self)) (sym (mid_blocks j))
-    (own_put (blocks j) (list_of mid.members) (list_of c.put.new.self) c.args.block c.args.state c.requires.state c.in_ok-put.ensures (mid_members j))
+    (own_put (blocks j) (list_of mid.members) (list_of c.put.new.self) c.args.block c.args.state c.requires.state c.in_ok-put.ensures.put (mid_members j))

@@ -26,9 +26,9 @@ loop-leaf-preserved c =
     let new = c.follow.new.found in
     record {
       marked = all.marked;
-      followed = All-more (λ leaf. IsFollowed nodes rows (Leaf leaf) new.marked new.looked.items) leaves c.loop-leaf.leaf-index 0 c.loop-leaf-test.true
-          (All-weaker (λ leaf. IsFollowed nodes rows (Leaf leaf) old.marked old.looked.items) (λ leaf. IsFollowed nodes rows (Leaf leaf) new.marked new.looked.items)
-          (λ leaf one. followed_on nodes rows (Leaf leaf) old.marked old.looked.items new.marked new.looked.items all.grows one) (take c.loop-leaf.leaf-index leaves) was.followed)
+      followed = All-more (λ leaf. IsFollowed nodes rows (Leaf leaf) new.nodes new.rows.items) leaves c.loop-leaf.leaf-index 0 c.loop-leaf-test.true
+          (All-weaker (λ leaf. IsFollowed nodes rows (Leaf leaf) old.nodes old.rows.items) (λ leaf. IsFollowed nodes rows (Leaf leaf) new.nodes new.rows.items)
+          (λ leaf one. followed_on nodes rows (Leaf leaf) old.nodes old.rows.items new.nodes new.rows.items all.grows one) (take c.loop-leaf.leaf-index leaves) was.followed)
           all.followed;
     }
 
@@ -40,9 +40,9 @@ returns-clause-closed c =
     let all = c.in_ok-close.ensures in
     let old = c.loop-leaf.found in
     let new = c.close.new.found in
-    let each = subst (All (λ leaf. IsFollowed nodes rows (Leaf leaf) old.marked old.looked.items)) (take_all c.loop-leaf.leaf-index leaves c.loop-leaf-test.false) c.loop-leaf.invariant.followed in
+    let each = subst (All (λ leaf. IsFollowed nodes rows (Leaf leaf) old.nodes old.rows.items)) (take_all c.loop-leaf.leaf-index leaves c.loop-leaf-test.false) c.loop-leaf.invariant.followed in
     record {
-      at_leaves = λ leaf there. followed_on nodes rows (Leaf leaf) old.marked old.looked.items new.marked new.looked.items all.grows
-          (All-contains (λ leaf. IsFollowed nodes rows (Leaf leaf) old.marked old.looked.items) leaves leaf each there);
+      at_leaves = λ leaf there. followed_on nodes rows (Leaf leaf) old.nodes old.rows.items new.nodes new.rows.items all.grows
+          (All-contains (λ leaf. IsFollowed nodes rows (Leaf leaf) old.nodes old.rows.items) leaves leaf each there);
       places = all.followed;
     }

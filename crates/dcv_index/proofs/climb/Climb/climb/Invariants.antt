@@ -7,6 +7,6 @@ use Rattle.dcv_index.proofs.climb.Climb.climb.Given as goal
 
 abbrev pub invariant-loop-leaf : goal.invariant-loop-leaf
 invariant-loop-leaf l = record {
-  marked : IsMarked (index_of l.self.arena.now l.self.refs.now) l.self.leaves.now l.found.marked l.found.looked.items;
-  followed : All (λ leaf. IsFollowed l.self.nodes.now l.self.rows.now (Leaf leaf) l.found.marked l.found.looked.items) (take l.leaf-index l.self.leaves.now);
+  marked : IsMarked (index_of l.self.arena.now l.self.refs.now) l.self.leaves.now l.found.nodes l.found.rows.items;
+  followed : All (λ leaf. IsFollowed l.self.nodes.now l.self.rows.now (Leaf leaf) l.found.nodes l.found.rows.items) (take l.leaf-index l.self.leaves.now);
 }

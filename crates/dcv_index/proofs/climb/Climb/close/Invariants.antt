@@ -7,10 +7,10 @@ use Rattle.dcv_index.proofs.climb.Climb.close.Given as goal
 -- the marked places so far are followed
 abbrev pub invariant-places : goal.invariant-places
 invariant-places l = record {
-  marked : IsMarked (index_of l.self.arena.now l.self.refs.now) l.self.leaves.now l.found.marked l.found.looked.items;
-  grows : Grows l.fn.found.marked l.fn.found.looked.items l.found.marked l.found.looked.items;
-  followed : (at place : ℕ) → at < l.next → slice_get l.found.marked at ≡ Some place
-      → IsFollowed l.self.nodes.now l.self.rows.now (Place place) l.found.marked l.found.looked.items;
+  marked : IsMarked (index_of l.self.arena.now l.self.refs.now) l.self.leaves.now l.found.nodes l.found.rows.items;
+  grows : Grows l.fn.found.nodes l.fn.found.rows.items l.found.nodes l.found.rows.items;
+  followed : (at place : ℕ) → at < l.next → slice_get l.found.nodes at ≡ Some place
+      → IsFollowed l.self.nodes.now l.self.rows.now (Place place) l.found.nodes l.found.rows.items;
 }
 
 -- each place is marked once

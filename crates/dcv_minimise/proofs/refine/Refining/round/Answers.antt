@@ -1,8 +1,7 @@
 use Rattle.std.proofs.Common.{◌≡◌, ◌<◌, length, Contains, inl, inr, sym, ap, subst, ◌∙◌, arith}
 use Rattle.indexmap.proofs.MapLemmas.{OnOk-map}
-use Rattle.dcv_minimise.specs.Partition.{block_of}
 use Rattle.dcv_minimise.specs.Listing.{IsListing}
-use Rattle.dcv_members.specs.Members.{list_of, HaveTheirOwn}
+use Rattle.dcv_members.specs.Members.{list_of, HaveTheirOwn, block_of}
 use Rattle.dcv_minimise.proofs.MemberFacts.{is_in, others_go}
 use Rattle.dcv_minimise.proofs.RoundFacts.{refined_on}
 use Rattle.dcv_minimise.proofs.refine.Refining.round.Goals as goal
@@ -11,7 +10,7 @@ use Rattle.dcv_minimise.proofs.refine.Refining.round.Goals.{In_ok-fill, After-de
 pub fill-requires-clause-members : goal.fill-requires-clause-members
 fill-requires-clause-members c = subst (λ blocks. HaveTheirOwn blocks (list_of c.args.self.now.members)) (sym c.deref-3.ensures.value) c.requires.refining.own
 
-listing : (c : In_ok-fill) → IsListing c.args.self.now.partition.blocks.items c.args.self.now.partition.witness.items c.args.self.now.found.looked.items c.fill.new.self.states.items c.fill.new.self.full
+listing : (c : In_ok-fill) → IsListing c.args.self.now.partition.blocks.items c.args.self.now.partition.witness.items c.args.self.now.found.rows.items c.fill.new.self.states.items c.fill.new.self.full
 listing c =
     let states = c.fill.new.self.states.items in
     let full = c.fill.new.self.full in
@@ -27,7 +26,7 @@ split-requires-clause-others c =
     let raw = c.args.raw.now in
     let is = c.requires.refining.is_raw in
     let moved = c.args.self.now.moved.items in
-    let looked = c.args.self.now.found.looked.items in
+    let looked = c.args.self.now.found.rows.items in
     others_go raw is c.args.self.now.partition.blocks.items c.args.self.now.partition.witness.items moved looked c.fill.new.self.states.items c.fill.new.self.full
     c.requires.refining.refined.witnessed c.requires.refining.refined.stable c.requires.looked (listing (goal.at.split-requires-clause-others c).In_ok-fill)
 

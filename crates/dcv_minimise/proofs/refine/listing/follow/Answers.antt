@@ -2,8 +2,7 @@ use Rattle.std.proofs.Common.{inl, inr, take, Contains, subst}
 use Rattle.std.specs.List.{All}
 use Rattle.std.proofs.lemmas.List.{take_all}
 use Rattle.std.proofs.lemmas.List.Elements.{All-contains, All-more, All-weaker}
-use Rattle.dcv_members.specs.Members.{list_of}
-use Rattle.dcv_minimise.specs.Partition.{block_of}
+use Rattle.dcv_members.specs.Members.{list_of, block_of}
 use Rattle.dcv_minimise.proofs.refine.listing.follow.Goals as goal
 
 pub loop-state-preserved : goal.loop-state-preserved
@@ -14,7 +13,7 @@ loop-state-preserved c =
     let place = c.loop-state.state-index in
     let old = list_of c.loop-state.members in
     let new = list_of c.put.new.self in
-    let put = c.in_ok-put.ensures in
+    let put = c.in_ok-put.ensures.put in
     record {
       keeps = λ at one there. put.keeps at one (was.keeps at one there);
       moved = All-more (λ state. Contains (new (block_of blocks state)) state) moved place 0 c.loop-state-test.true
