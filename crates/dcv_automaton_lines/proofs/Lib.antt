@@ -18,3 +18,9 @@ pub mod StepLines
 pub mod NameSets
 -- and the whole text
 pub mod WholeText
+-- what stands at the front of any text: its words
+pub mod ReadWords
+-- and its lines, so that each text has the form or a fault
+pub mod ReadForms
+-- and one fault at most
+pub mod OneFault

@@ -9,26 +9,34 @@ pub enum Target {
     Node(u32),
 }
 
-/// A node: its number, its variable's name, and what comes next where that is true and where it is false.
+/// A node of the rows.
 #[derive(Clone, Copy, Debug)]
 pub struct NodeLine<'a> {
+    /// The node's own number.
     pub number: u32,
+    /// The name of its variable.
     pub name: &'a [u8],
+    /// What comes next where the variable is true.
     pub hi: Target,
+    /// What comes next where it is false.
     pub lo: Target,
 }
 
-/// A state: its number, whether it accepts, and its row.
+/// A state.
 #[derive(Clone, Copy, Debug)]
 pub struct StateLine {
+    /// Its own number.
     pub number: u32,
+    /// Whether it accepts.
     pub accepting: bool,
+    /// What comes first in its row.
     pub row: Target,
 }
 
 /// How an access word is spelled. A letter is as in a trace.
 #[derive(Clone, Copy, Debug)]
 pub enum AccessWord<'a> {
+    /// The word with no letter.
     Empty,
     /// A word of this letter alone.
     Start(&'a [u8]),
@@ -39,13 +47,16 @@ pub enum AccessWord<'a> {
 /// The access word of the state with this number.
 #[derive(Clone, Copy, Debug)]
 pub struct AccessLine<'a> {
+    /// The number of the state.
     pub number: u32,
+    /// How its access word is spelled.
     pub access: AccessWord<'a>,
 }
 
 /// How a suffix is spelled. A letter is as in a trace.
 #[derive(Clone, Copy, Debug)]
 pub enum SuffixWord<'a> {
+    /// The suffix with no letter.
     Empty,
     /// The letter, and then the suffix with this number.
     Then(&'a [u8], u32),
@@ -54,35 +65,48 @@ pub enum SuffixWord<'a> {
 /// The suffix with this number.
 #[derive(Clone, Copy, Debug)]
 pub struct SuffixLine<'a> {
+    /// The suffix's own number.
     pub number: u32,
+    /// How it is spelled.
     pub suffix: SuffixWord<'a>,
 }
 
 /// What a step of the requirement took.
 #[derive(Clone, Copy, Debug)]
 pub struct StepLine {
+    /// The step's own number.
     pub number: u32,
     /// The byte of the source at which the step's span starts.
     pub at: u32,
+    /// How many states it took.
     pub states: u32,
+    /// How many nodes it took.
     pub nodes: u32,
 }
 
-/// How many steps there are, and the line of each, in order.
+/// What the steps of the requirement took, in order.
 #[derive(Debug, Drop)]
 pub struct StepPart {
+    /// How many steps it says there are.
     pub count: u32,
+    /// The line of each step.
     pub lines: Vec<StepLine>,
 }
 
-/// The variables, the number of states, and the lines of each kind, in order.
+/// What the lines of a text say, those of each kind in order.
 #[derive(Debug, Drop)]
 pub struct Lines<'a> {
+    /// The names of the variables.
     pub names: Vec<&'a [u8]>,
+    /// How many states it says there are.
     pub states: u32,
+    /// The lines of the nodes.
     pub node_lines: Vec<NodeLine<'a>>,
+    /// The lines of the states.
     pub state_lines: Vec<StateLine>,
+    /// The lines of the access words.
     pub access_lines: Vec<AccessLine<'a>>,
+    /// The lines of the suffixes.
     pub suffix_lines: Vec<SuffixLine<'a>>,
     /// The step part of a text of version 2. Version 1 has none.
     pub steps: Option<StepPart>,

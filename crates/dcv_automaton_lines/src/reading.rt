@@ -18,7 +18,8 @@ use std::alloc::Global;
 /// Why a text has no lines of the form.
 #[derive(Clone, Copy, Debug, PartialEq, Eq)]
 pub enum LinesFault {
-    /// Up to this byte the text begins one of the form, and no further.
+    /// Up to this byte, counted from 0, the text begins one of the form, and no further. It is the text's length where the text merely
+    /// stops too early.
     Syntax { at: u32 },
     /// Memory ran out.
     Memory,

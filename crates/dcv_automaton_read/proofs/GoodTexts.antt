@@ -1,34 +1,66 @@
--- A text that has the form, and whose file keeps the rules, has no fault.
-use Rattle.std.proofs.Common.{◌≡◌, ℕ, ◌+◌, List, Some, None, refl, sym, ◌∙◌, subst, inl, inr, drop, Err}
-use Rattle.std.proofs.lemmas.List.{take-append-drop}
+-- A text has one fault, or is that of an automaton: it has the form, and its file keeps the rules.
+use Rattle.std.proofs.Common.{◌≡◌, ◌⊎◌, ℕ, List, Option, Some, None, inl, inr, refl, sym, ap, ◌∙◌, Err}
 use Rattle.dcv_automaton_text.specs.File.{AutomatonFile}
-use Rattle.dcv_automaton_text.specs.Form.{HasForm, IsSyntaxFault}
+use Rattle.dcv_automaton_text.specs.Form.{HasForm}
 use Rattle.dcv_automaton_text.specs.Laws.{OneFile}
-use Rattle.dcv_automaton_text.specs.Rules.{IsGood, first_broken, judged_words}
+use Rattle.dcv_automaton_text.specs.Rules.{IsGood, IsTableFault, first_broken, judged_words}
+use Rattle.dcv_automaton_lines.specs.Laws.{FormOrFault, NoFaultOfForm, OneSyntaxFault}
+use Rattle.dcv_automaton_lines.proofs.OneFault.{no_fault_of_form}
 use Rattle.dcv_automaton_read.specs.declared.faults.AutoFault.{AutoFault}
 use Rattle.dcv_automaton_read.specs.declared.faults.AutoFault.TheVariants.{Syntax, Table, Memory}
-use Rattle.dcv_automaton_read.specs.Laws.{GoodTextsAreRead}
-use Rattle.dcv_automaton_read.specs.Read.{IsFaultOf, HasTableFault}
+use Rattle.dcv_automaton_read.specs.Laws.{GoodTextsAreRead, SomeReading, NoFaultWhereRead, OneFault}
+use Rattle.dcv_automaton_read.specs.Read.{IsFaultOf, HasFault}
 
-module _ (one : OneFile) (text : List ℕ) (file : AutomatonFile) (form : HasForm text file) (good : IsGood file) where
-  no_syntax_fault : (at : ℕ) → IsSyntaxFault text at → ⊥
-  no_syntax_fault at fault =
-      elim fault.fault [
-        | inl (within, stuck) ↦ stuck (record { more = drop (at + 1) text; file = file; form = subst (λ whole. HasForm whole file) (sym (take-append-drop (at + 1) text)) form })
-        | inr (end, none) ↦ none file form
-      ]
+module _ (one_file : OneFile) where
+  -- ---- the faults of files of one text
 
-  no_table_fault : (at : ℕ) → HasTableFault text at → ⊥
-  no_table_fault at fault =
-      let same : fault.file ≡ file = one text fault.file file fault.form form in
-      let broken : first_broken 0 (judged_words file) ≡ Some at = subst (λ other. first_broken 0 (judged_words other) ≡ Some at) same fault.fault in
-      let bad : None ≡ Some at = sym good ∙ broken in
+  pub one_broken : (text : List ℕ) (f g : AutomatonFile) (at other : ℕ) → HasForm text f → HasForm text g → IsTableFault f at → IsTableFault g other → at ≡ other
+  one_broken text f g at other form form' fault fault' =
+      let same : f ≡ g = one_file text f g form form' in
+      let there : Some at ≡ Some other = sym fault ∙ ap (λ file. first_broken 0 (judged_words file)) same ∙ fault' in
       cc
 
-  no_fault : (fault : AutoFault) → IsFaultOf {Whole = AutomatonFile} text (Err fault) → fault ≡ Memory
-  no_fault (Syntax at) fault = absurd (no_syntax_fault at fault)
-  no_fault (Table at) fault = absurd (no_table_fault at fault)
-  no_fault Memory fault = refl
+  pub broken_or_good : (text : List ℕ) (f g : AutomatonFile) (at : ℕ) → HasForm text f → HasForm text g → IsTableFault f at → IsGood g → ⊥
+  broken_or_good text f g at form form' fault good =
+      let same : f ≡ g = one_file text f g form form' in
+      let wrong : Some at ≡ None = sym fault ∙ ap (λ file. first_broken 0 (judged_words file)) same ∙ good in
+      cc
 
-pub good_texts_are_read : OneFile → GoodTextsAreRead
-good_texts_are_read one text file form good = record { no_fault = no_fault one text file form good; no_other = λ other is. one text other file is form }
+  -- ---- a text that is read
+
+  pub no_fault_where_read : NoFaultWhereRead
+  no_fault_where_read text file (Syntax at) form good fault = no_fault_of_form text file at form fault
+  no_fault_where_read text file (Table at) form good fault = broken_or_good text fault.file file at fault.form form fault.fault good
+  no_fault_where_read text file Memory form good fault = fault
+
+  pub good_texts_are_read : GoodTextsAreRead
+  good_texts_are_read text file form good = record { no_fault = no_fault; no_other = λ other is. one_file text other file is form }
+    where
+      no_fault : (fault : AutoFault) → IsFaultOf {Whole = AutomatonFile} text (Err fault) → fault ≡ Memory
+      no_fault (Syntax at) fault = absurd (no_fault_where_read text file (Syntax at) form good fault)
+      no_fault (Table at) fault = absurd (no_fault_where_read text file (Table at) form good fault)
+      no_fault Memory fault = refl
+
+  -- ---- a text at fault
+
+  pub one_fault : OneSyntaxFault → NoFaultOfForm → OneFault
+  one_fault one none text (Syntax at) (Syntax other) is its = ap Syntax (one text at other is its)
+  one_fault one none text (Syntax at) (Table other) is its = absurd (none text its.file at its.form is)
+  one_fault one none text (Syntax at) Memory is its = absurd its
+  one_fault one none text (Table at) (Syntax other) is its = absurd (none text is.file other is.form its)
+  one_fault one none text (Table at) (Table other) is its = ap Table (one_broken text is.file its.file at other is.form its.form is.fault its.fault)
+  one_fault one none text (Table at) Memory is its = absurd its
+  one_fault one none text Memory other is its = absurd is
+
+-- ---- either
+
+pub some_reading : FormOrFault → SomeReading
+some_reading form_or_fault text = elim (form_or_fault text) [
+  | inl (at, fault) ↦ inl (Syntax at, fault)
+  | inr (file, form) ↦ by file form (first_broken 0 (judged_words file)) refl
+]
+  where
+    by : (file : AutomatonFile) → HasForm text file → (broken : Option ℕ) → first_broken 0 (judged_words file) ≡ broken
+        → ((fault : AutoFault) × HasFault text fault) ⊎ ((file : AutomatonFile) × HasForm text file × IsGood file)
+    by file form None is = inr (file, form, is)
+    by file form (Some at) is = inl (Table at, record { file = file; form = form; fault = is })

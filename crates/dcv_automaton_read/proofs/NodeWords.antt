@@ -2,16 +2,17 @@
 use Rattle.std.proofs.Common.{◌≡◌, ℕ, zero, suc, ◌+◌, ◌<◌, ◌≤◌, Bool, true, false, not, ◌&&◌, ◌||◌, List, [], ◌∷◌, ◌++◌, length, map, take, get_or, slice_get, Some, Result, inl, inr, refl, sym, ap, ◌∙◌, subst, arith}
 use Rattle.std.specs.Prelude.{nat_lt, nat_eq, if◌then◌else◌}
 use Rattle.indexmap.specs.IndexSet.{insert_key}
-use Rattle.std.specs.List.{All, list_any, position_or_len, zip}
+use Rattle.std.specs.List.{All, list_any, zip}
 use Rattle.std.specs.Str.{bytes_eq}
-use Rattle.std.proofs.lemmas.Bool.{cases_Bool, cases_lt, lt-ltb, le-ltb, ltb-true, not-true}
-use Rattle.std.proofs.lemmas.Bool.Decides.{nat_tests, same_from_decides, Decides-eqb, Decides-like}
+use Rattle.std.proofs.lemmas.Bool.{cases_lt, lt-ltb, le-ltb, ltb-true, not-true}
+use Rattle.std.proofs.lemmas.Bool.Decides.{same_from_decides, Decides-eqb, Decides-like}
 use Rattle.std.proofs.lemmas.List.{get_or-map, get_or-take, length-map, length-take-le, take_more}
 use Rattle.std.proofs.lemmas.List.Elements.{All-append}
 use Rattle.std.proofs.lemmas.List.Sums.{passes_at_first}
 use Rattle.std.proofs.lemmas.Option.{get_or_from_slice_get}
 use Rattle.std.proofs.lemmas.Slice.Eq.{bytes_eq-Decides}
 use Rattle.dcv_automaton_text.specs.File.{Target, ToState, ToNode, NodeLine, AutomatonFile}
+use Rattle.dcv_automaton_text.proofs.InWords.{listed_slot}
 use Rattle.dcv_automaton_text.specs.Rules.{slot_of, is_listed, slot_of_node, keeps_child, is_same_target, is_same_node, keeps_node, most_nodes}
 use Rattle.dcv_automaton_text.specs.Spelled.{node_words}
 use Rattle.dcv_automaton_read.specs.declared.faults.Stop.{Stop}
@@ -61,19 +62,6 @@ added nodes node is_new more below new_is more_is =
     }
 
 -- ---- slots
-
-below_next : (p n : ℕ) → nat_lt p n ≡ nat_lt (1 + p) (suc n)
-below_next p n = grind (arith, nat_tests)
-
-place_found : (p : List ℕ → Bool) (names : List (List ℕ)) → list_any p names ≡ nat_lt (position_or_len p names) (length names)
-place_found p [] = refl
-place_found p (name ∷ names) = elim (cases_Bool (p name)) [
-  | inl there ↦ let below = lt-ltb 0 (suc (length names)) (omega arith) in rw (there, below) refl
-  | inr not_here ↦ rw not_here (place_found p names ∙ below_next (position_or_len p names) (length names))
-]
-
-pub listed_slot : (names : List (List ℕ)) (name : List ℕ) → is_listed names name ≡ nat_lt (slot_of names name) (length names)
-listed_slot names name = place_found (bytes_eq name) names
 
 pub name_there : (names : List (List ℕ)) (name : List ℕ) → slot_of names name < length names → name ≡ get_or names (slot_of names name) []
 name_there names name below = (bytes_eq-Decides name (get_or names (slot_of names name) [])).0 (passes_at_first (bytes_eq name) names [] below)

@@ -25,7 +25,8 @@ use Rattle.dcv_automaton_read.specs.File.{target_from, access_from, suffix_from,
 use Rattle.dcv_automaton_read.specs.Parts.{judged_lines, judged_step_lines}
 use Rattle.dcv_automaton_read.specs.Seen.{child_of, node_of, AreNodesOf}
 use Rattle.dcv_automaton_read.proofs.Kept.{AreKept, kept_parts, kept_at, made_again, Parts, good_parts, names_are_few, all_states}
-use Rattle.dcv_automaton_read.proofs.NodeWords.{listed_slot, name_there}
+use Rattle.dcv_automaton_text.proofs.InWords.{listed_slot}
+use Rattle.dcv_automaton_read.proofs.NodeWords.{name_there}
 
 -- ---- letters are narrow
 

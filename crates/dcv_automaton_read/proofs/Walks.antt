@@ -21,7 +21,7 @@ use Rattle.dcv_automaton_read.specs.File.{target_from, state_line, IsRead}
 use Rattle.dcv_automaton_read.specs.Seen.{child_of, node_of}
 use Rattle.dcv_automaton_read.specs.Walk.{child_at, leaf_at, leaves_of, IsEarlier, AreOrdered}
 use Rattle.dcv_automaton_read.proofs.Kept.{AreKept, kept_at, good_parts}
-use Rattle.dcv_automaton_read.proofs.NodeWords.{listed_slot}
+use Rattle.dcv_automaton_text.proofs.InWords.{listed_slot}
 use Rattle.dcv_automaton_read.proofs.ReadFiles.{row_there, state_there}
 
 -- ---- the states of nodes, one after another

@@ -1,4 +1,4 @@
--- what public clauses cite: an automaton that was read as plain data, what the reader answers, and its law
+-- what public clauses cite: an automaton that was read as plain data, what the reader answers, and its laws
 pub mod Seen
 pub mod File
 pub mod Read

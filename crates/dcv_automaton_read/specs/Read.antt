@@ -1,5 +1,6 @@
 -- What the reader answers.
 --     HasTableFault text at      the text has the form, and its file has this table fault
+--     HasFault text fault        the text has this fault; want of memory is none
 --     IsFaultOf text answer      where the answer is a fault, it is that of the text
 use Rattle.std.specs.Prelude.{ℕ, List, Result, Ok, Err}
 use Rattle.dcv_automaton_text.specs.File.{AutomatonFile}
@@ -12,6 +13,11 @@ pub record HasTableFault (text : List ℕ) (at : ℕ) : Type 0 where
   pub file : AutomatonFile
   pub form : HasForm text file
   pub fault : IsTableFault file at
+
+abbrev pub HasFault : List ℕ → AutoFault → Type 0
+HasFault text (Syntax at) = IsSyntaxFault text at
+HasFault text (Table at) = HasTableFault text at
+HasFault text Memory = ⊥
 
 -- where memory ran out, nothing is said
 abbrev pub IsFaultOf : {Whole : Type 0} → List ℕ → Result Whole AutoFault → Type 0

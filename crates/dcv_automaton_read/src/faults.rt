@@ -4,7 +4,8 @@ use std::alloc::{AllocError, AllocFailed};
 /// Why a text stands for no automaton.
 #[derive(Clone, Copy, Debug, PartialEq, Eq)]
 pub enum AutoFault {
-    /// Up to this byte the text begins one of the form, and no further.
+    /// Up to this byte, counted from 0, the text begins one of the form, and no further. It is the text's length where the text merely
+    /// stops too early.
     Syntax { at: u32 },
     /// The text has the form. At this byte begins its first word that breaks a table rule.
     Table { at: u32 },

@@ -15,8 +15,8 @@ use dcv_automaton_lines::{Lines, NodeLine, Target};
 use indexmap::IndexSet;
 use std::alloc::AllocFailed;
 
-// How many nodes there may be.
-pub(crate) const MOST_NODES: usize = 1_000_000;
+/// How many nodes a text may have.
+pub const MOST_NODES: u32 = 1_000_000;
 
 /// What comes next in a row.
 #[derive(Clone, Copy, Debug, PartialEq, Eq, Hash)]
@@ -27,13 +27,14 @@ pub enum Child {
     Node(u32),
 }
 
-/// A node of the rows: the slot of its variable, and what comes next where that is true and where it is false.
+/// A node of the rows.
 #[derive(Clone, Copy, Debug, PartialEq, Eq, Hash)]
 pub struct Node {
+    /// The place of its variable.
     pub slot: usize,
-    /// Where the variable is true.
+    /// What comes next where the variable is true.
     pub hi: Child,
-    /// Where it is false.
+    /// What comes next where it is false.
     pub lo: Child,
 }
 
@@ -60,7 +61,7 @@ fn keeps_child(nodes: &[Node], states: u32, slot: usize, child: Child) -> bool
     }
 }
 
-// The same of the child where the variable is false, which is another.
+// Whether the child where the variable is false is one that there may be, and not the other child once more.
 fn keeps_other(nodes: &[Node], states: u32, node: Node) -> bool
     ensures { result ≡ (child_kept states nodes.now node.slot node.lo && not (same_child node.hi node.lo)) }
 {
@@ -71,7 +72,7 @@ fn keeps_other(nodes: &[Node], states: u32, node: Node) -> bool
 fn add_node(nodes: &mut IndexSet<Node>, node: Node) -> Result<bool, AllocFailed<Node>>
     ensures { IfOk result (λ kept. IsAdded nodes.old.keys node kept nodes.new.keys) }
 {
-    let few = nodes.len() < MOST_NODES;
+    let few = nodes.len() < MOST_NODES as usize;
     let is_new = nodes.insert(node)?;
     Ok(few && is_new)
 }

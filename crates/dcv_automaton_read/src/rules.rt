@@ -197,7 +197,7 @@ fn judge_step(part: &StepPart, place: usize, line: &StepLine, first: u64) -> Res
     let keeps_number = line.number as usize == place;
     let keeps_at = line.at <= MOST_START;
     let keeps_states = keeps_count(line.states);
-    let keeps_nodes = line.nodes as usize <= MOST_NODES;
+    let keeps_nodes = line.nodes <= MOST_NODES;
     judge(
         first,
         &[

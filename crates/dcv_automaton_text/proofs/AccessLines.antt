@@ -133,12 +133,12 @@ module _ (file : AutomatonFile) where
       by true e kept = absurd (let zero_is = (unsigned_Decides place 0).0 e in omega arith)
       by false e kept = ltb-true before place kept
 
-  record GoesBefore (place before : ℕ) : Type 0 where
-    not_start : 0 < before
-    is_state : before < file.states
-    in_order : 0 < place → before < place
+  pub record GoesBefore (place before : ℕ) : Type 0 where
+    pub not_start : 0 < before
+    pub is_state : before < file.states
+    pub in_order : 0 < place → before < place
 
-  goes : (place before : ℕ) → goes_before file place before ≡ true → GoesBefore place before
+  pub goes : (place before : ℕ) → goes_before file place before ≡ true → GoesBefore place before
   goes place before kept =
       let parts = both (nat_lt 0 before && nat_lt before file.states) (nat_eq place 0 || nat_lt before place) kept in
       let states = both (nat_lt 0 before) (nat_lt before file.states) parts.0 in

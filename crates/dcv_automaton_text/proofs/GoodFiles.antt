@@ -1,4 +1,5 @@
--- What the table rules say of a file that keeps them all: its lines stand at their numbers, and what they name is there.
+-- What the table rules say of a file that keeps them all, as the tests that they are: its lines stand at their numbers, and what they name
+-- is there. `InWords` goes on from here.
 use Rattle.std.proofs.Common.{◌≡◌, ◌≢◌, ℕ, zero, suc, ◌+◌, ◌<◌, ◌≤◌, Bool, true, false, not, ◌&&◌, List, [], ◌∷◌, ◌++◌}
 use Rattle.std.proofs.Common.{length, map, take, get_or, None, Some, inl, inr, refl, sym, ap, ◌∙◌, subst, arith}
 use Rattle.std.specs.Prelude.{codes, nat_lt, nat_le}
@@ -18,7 +19,7 @@ use Rattle.dcv_automaton_text.specs.Rules.{keeps_how_access, has_all_states, kee
 use Rattle.dcv_automaton_text.specs.Rules.{judged, keeps_names, keeps_head, judged_words, first_broken, IsGood}
 use Rattle.dcv_automaton_text.proofs.Kept.{AreKept, keeps, AllKeep, both}
 
-turned : (b : Bool) → not b ≡ true → b ≡ false
+pub turned : (b : Bool) → not b ≡ true → b ≡ false
 turned true h = absurd (false≢true h)
 turned false h = refl
 
@@ -56,18 +57,18 @@ module _ {Line : Type 0} (words : Line → List (List ℕ)) (kept : ℕ → Line
       let parts = in_parts (zip (words line) (kept first line)) is in
       subst (λ at. AreKept (kept at (get_or lines k d))) next (kept_lines lines (first + 1) parts.1 k d (omega arith))
 
-  kept_kind : (lines : List Line) → AllKeep (judged_from 0 lines) → (k : ℕ) (d : Line) → k < length lines → AreKept (kept k (get_or lines k d))
+  pub kept_kind : (lines : List Line) → AllKeep (judged_from 0 lines) → (k : ℕ) (d : Line) → k < length lines → AreKept (kept k (get_or lines k d))
   kept_kind lines is k d within = subst (λ at. AreKept (kept at (get_or lines k d))) (let here : 0 + k ≡ k = omega arith in here) (kept_lines lines 0 is k d within)
 
 -- ---- names
 
-length-keeps_names : (names : List (List ℕ)) → length (keeps_names names) ≤ length (name_words names)
+pub length-keeps_names : (names : List (List ℕ)) → length (keeps_names names) ≤ length (name_words names)
 length-keeps_names [] = omega arith
 length-keeps_names (name ∷ names) =
     let numbered = enumerate_from 0 (name ∷ names) in
     omega (arith, length-map numbered (λ (numbered : ℕ × List ℕ). keeps_name (name ∷ names) numbered.0 numbered.1), length-enumerate_from 0 (name ∷ names))
 
-each_name : (names rest : List (List ℕ)) (first : ℕ) → AreKept (map (λ numbered. keeps_name names numbered.0 numbered.1) (enumerate_from first rest))
+pub each_name : (names rest : List (List ℕ)) (first : ℕ) → AreKept (map (λ numbered. keeps_name names numbered.0 numbered.1) (enumerate_from first rest))
     → (k : ℕ) → k < length rest → keeps_name names (first + k) (get_or rest k []) ≡ true
 each_name names [] first are k within = absurd (omega arith)
 each_name names (name ∷ rest) first are zero within = subst (λ at. keeps_name names at name ≡ true) (let here : first ≡ first + 0 = omega arith in here) are.0
@@ -75,7 +76,7 @@ each_name names (name ∷ rest) first are (suc k) within =
     subst (λ at. keeps_name names at (get_or rest k []) ≡ true) (let next : first + 1 + k ≡ first + suc k = omega arith in next)
     (each_name names rest (first + 1) are.1 k (omega arith))
 
-few_names : (names : List (List ℕ)) → AreKept (keeps_names names) → length names ≤ most_names
+pub few_names : (names : List (List ℕ)) → AreKept (keeps_names names) → length names ≤ most_names
 few_names [] are = omega arith
 few_names (name ∷ names) are =
     elim (cases_lt 16 (length (name ∷ names))) [
@@ -134,7 +135,7 @@ good_access file place line are =
 -- ---- the file
 
 -- no more lines than places that keep the rules
-no_more : (count states : ℕ) → (states < count → states < states) → count ≤ states
+pub no_more : (count states : ℕ) → (states < count → states < states) → count ≤ states
 no_more count states each =
     elim (cases_lt states count) [
       | inl many ↦ absurd (let wrong = each many in omega arith)

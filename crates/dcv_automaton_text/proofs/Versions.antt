@@ -32,7 +32,7 @@ pub record AreKeptBefore (file : AutomatonFile) : Type 0 where
   pub has_all_access : has_all_access file ≡ true
   pub has_all_steps : has_all_steps file.steps ≡ true
 
-kept_before : (file : AutomatonFile) → IsGood file → AreKeptBefore file
+pub kept_before : (file : AutomatonFile) → IsGood file → AreKeptBefore file
 unfolding judged_words
 kept_before file is =
     let head = in_parts (head_judged file) (all_keep (judged_words file) 0 is) in
@@ -60,7 +60,7 @@ kept_before file is =
     }
 
 -- a file keeps the rules where these parts of it do
-good_again : (file : AutomatonFile) → AreKeptBefore file → IsGood file
+pub good_again : (file : AutomatonFile) → AreKeptBefore file → IsGood file
 unfolding judged_words
 good_again file are =
     let first = kept_words (codes "automaton" ∷ version_word file.steps ∷ []) (true ∷ true ∷ []) (refl, (refl, tt)) in

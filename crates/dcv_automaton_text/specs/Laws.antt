@@ -1,10 +1,11 @@
 -- The laws that `src/laws.rt` proves, of the text of an automaton.
-use Rattle.std.specs.Prelude.{◌≡◌, ◌≢◌, ℕ, ◌≤◌, List, ◌++◌, None, length, take, drop, codes}
+use Rattle.std.specs.Prelude.{◌≡◌, ◌≢◌, ◌↔◌, ℕ, ◌≤◌, List, ◌++◌, None, length, take, drop, codes}
 use Rattle.dcv_language.specs.Certificate.{IsCertificate}
 use Rattle.dcv_language.specs.Language.{Language}
 use Rattle.dcv_language.specs.Table.{Table, IsTable, AcceptsExactly}
 use Rattle.dcv_automaton_text.specs.File.{AutomatonFile}
 use Rattle.dcv_automaton_text.specs.Form.{HasForm, IsSpellable}
+use Rattle.dcv_automaton_text.specs.GoodFile.{IsGoodFile}
 use Rattle.dcv_automaton_text.specs.Meaning.{table_of, access_words_of, suffix_words_of}
 use Rattle.dcv_automaton_text.specs.Rules.{IsGood}
 use Rattle.dcv_automaton_text.specs.Spelled.{spelled, spelled_front}
@@ -13,6 +14,10 @@ use Rattle.dcv_automaton_text.specs.Versions.{first_version, second_version}
 -- a text has one file at most
 abbrev pub OneFile : Type 0
 OneFile = (text : List ℕ) (file other : AutomatonFile) → HasForm text file → HasForm text other → file ≡ other
+
+-- the table rules, which judge a text word by word, ask of a file just what its automaton needs
+abbrev pub GoodFilesInWords : Type 0
+GoodFilesInWords = (file : AutomatonFile) → IsGood file ↔ IsGoodFile file
 
 -- a file that keeps the table rules stands for a table automaton over its variables
 abbrev pub GoodFilesAreTables : Type 0

@@ -1,4 +1,5 @@
--- The table rules, by which a file of the form stands for an automaton. Each word of the text keeps them or breaks one of them.
+-- The table rules, by which a file of the form stands for an automaton. Each word of the text keeps them or breaks one of them. What they
+-- ask of the automaton stands in `GoodFile`, and `good_files_in_words` proves that it is the same.
 --     most_names, most_states, most_nodes    how many there may be
 --     most_steps, most_start                 how many steps there may be, and where the last of them may start
 --     AreNames names                         these may be the names of the variables

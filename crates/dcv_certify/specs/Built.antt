@@ -4,7 +4,7 @@
 --     IsLater nodes slot child            a child that is a node has a later slot
 --     AreNodes width nodes                children stand before their nodes, and have later slots
 --     AreRefsOf nodes count arena refs    the refs of the first so many nodes
---     StandsFor nodes arena refs          so it is with all nodes
+--     StandFor width nodes arena refs     so it is with all nodes
 use Rattle.std.specs.Prelude.{◌≡◌, ℕ, ◌<◌, ◌≤◌, Bool, List, length, slice_index_or}
 use Rattle.dcv_arena.specs.Arena.{ArenaValue, IsArena, IsRef, level_of, value_of}
 use Rattle.dcv_arena.specs.declared.nodes.Ref.{Ref}

@@ -18,18 +18,18 @@ pub(crate) fn first_pair(alloc: Global, file: &AutoFile) -> Result<Option<(u32, 
     ensures some { IfOk result (λ found. IfSome found (λ pair. IsFirstPair file.now pair.0 pair.1)) }
     ensures none { IfOk result (λ found. IfNone found (HasAllTold file.now)) }
 {
-    // for the prover: the file keeps the table rules.
-    let states = file.states();
+    // for the prover: what is true of every file.
+    file.keeps_the_rules();
     let numbers = least_alike(alloc, file)?;
-    Ok(first_joined(&numbers, states))
+    Ok(first_joined(&numbers, file.states()))
 }
 
 // A column of bits for each suffix in turn splits the entries. Nothing is left to be told apart once each entry is the least alike to it.
 fn least_alike(alloc: Global, file: &AutoFile) -> Result<Vec<u32>, AllocError>
     ensures { IfOk result (λ numbers. AreNumbersOf file.now numbers.items) }
 {
-    // for the prover: the file keeps the table rules.
-    let _states = file.states();
+    // for the prover: what is true of every file.
+    file.keeps_the_rules();
     let suffixes = file.suffixes();
     let lasts = last_uses(alloc, suffixes)?;
     let mut columns = Vec::new(alloc);
@@ -62,8 +62,8 @@ fn entries(file: &AutoFile) -> usize
 fn starts_with_no_letters(file: &AutoFile) -> bool
     ensures { result ≡ has_no_letters file.now }
 {
-    // for the prover: the file keeps the table rules.
-    let _states = file.states();
+    // for the prover: what is true of every file.
+    file.keeps_the_rules();
     let access = file.access();
     is_empty(access[0])
 }

@@ -8,14 +8,11 @@ ghost use Rattle.dcv_certify.specs.Built.{ref_at, AreNodes, StandFor};
 ghost use Rattle.dcv_certify.specs.Certified.{set_of};
 
 use dcv_arena::{Arena, ArenaFault, Ref};
-use dcv_automaton_read::{AutoFile, Child, Node, Row};
+use dcv_automaton_read::{AutoFile, Child, MOST_NODES, Node, Row};
 use dcv_automaton_text::laws::good_files_are_tables;
 use dcv_dfa::Raw;
 use dcv_word::laws::letters_of_width_are_all;
 use std::alloc::{AllocError, Global};
-
-// As many nodes as a text may have.
-const MOST_NODES: u32 = 1_000_000;
 
 // The nodes of an arena, and for each node of a text the ref that stands for it.
 #[derive(Drop)]
@@ -31,8 +28,8 @@ pub(crate) fn automaton_of(alloc: Global, file: &AutoFile) -> Result<Raw, ArenaF
 {
     letters_of_width_are_all();
     good_files_are_tables();
-    // for the prover: the file keeps the table rules.
-    let _states = file.states();
+    // for the prover: what is true of every file.
+    file.keeps_the_rules();
     let built = refs_of(alloc, file.names().len() as u8, file.nodes())?;
     let states = file.rows();
     let rows = rows_of(alloc, &built.refs, states)?;

@@ -91,6 +91,8 @@ fn flags(alloc: Global, file: &AutoFile) -> Result<Vec<bool>, AllocError>
     ensures { IfOk result (λ column. IsColumn (table_of file.now) [] column.items) }
 {
     good_files_are_tables();
+    // for the prover: what is true of every file.
+    file.keeps_the_rules();
     let mut column = Vec::new(alloc);
     for state in 0..file.states() {
         column.push(file.accepting(state))?;
@@ -112,6 +114,8 @@ fn behind(
         → IsColumn (table_of file.now) (letter ∷ word) column.items) }
 {
     good_files_are_tables();
+    // for the prover: what is true of every file.
+    file.keeps_the_rules();
     let mut column = Vec::new(alloc);
     for state in 0..file.states() {
         column.push(from[file.next(state, &letter) as usize])?;

@@ -14,6 +14,8 @@ use std::alloc::{AllocError, Global};
 pub(crate) fn lists_own_words(alloc: Global, file: &AutoFile) -> Result<bool, AllocError>
     ensures { IfOk result (λ own. IsTrue own → HasAllTold file.now) }
 {
+    // for the prover: what is true of every file.
+    file.keeps_the_rules();
     let raw = match automaton_of(alloc, file) {
         Ok(raw) => raw,
         Err(ArenaFault::Full { .. }) => return Ok(false),

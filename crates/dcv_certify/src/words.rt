@@ -16,8 +16,8 @@ pub(crate) fn first_astray(alloc: Global, file: &AutoFile) -> Result<Option<u32>
     ensures some { IfOk result (λ found. IfSome found (IsFirstAstray file.now)) }
     ensures none { IfOk result (λ found. IfNone found (HasGoodWords file.now)) }
 {
-    // for the prover: the file keeps the table rules.
-    let _states = file.states();
+    // for the prover: what is true of every file.
+    file.keeps_the_rules();
     let states = landed(alloc, file)?;
     for (place, state) in states.iter().enumerate() {
         if *state as usize != place {
@@ -32,8 +32,8 @@ fn landed(alloc: Global, file: &AutoFile) -> Result<Vec<u32>, AllocError>
     ensures { IfOk result (λ states. AreLanded file.now states.items) }
 {
     good_files_are_tables();
-    // for the prover: the file keeps the table rules.
-    let _states = file.states();
+    // for the prover: what is true of every file.
+    file.keeps_the_rules();
     let access = file.access();
     let mut states = Vec::new(alloc);
     states.push(0)?;

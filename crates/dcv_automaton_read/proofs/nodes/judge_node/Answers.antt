@@ -7,7 +7,8 @@ use Rattle.dcv_automaton_text.specs.Rules.{slot_of}
 use Rattle.dcv_automaton_lines.specs.Seen.{file_of, node_line_of}
 use Rattle.dcv_automaton_read.specs.declared.nodes.Node.{Node}
 use Rattle.dcv_automaton_read.specs.Seen.{texts_of, node_of, child_kept, same_child, IsAdded}
-use Rattle.dcv_automaton_read.proofs.NodeWords.{node_judged, next_nodes, listed_slot}
+use Rattle.dcv_automaton_read.proofs.NodeWords.{node_judged, next_nodes}
+use Rattle.dcv_automaton_text.proofs.InWords.{listed_slot}
 use Rattle.dcv_automaton_read.proofs.nodes.judge_node.Goals as goal
 use Rattle.dcv_automaton_read.proofs.nodes.judge_node.Goals.{After-judge}
 

@@ -13,11 +13,11 @@ use Rattle.dcv_certify.proofs.alike.least_alike.Goals as goal
 use Rattle.dcv_certify.proofs.alike.least_alike.Goals.{After-suffix-item, In_ok-column, After-release}
 
 pub last_uses-requires : goal.last_uses-requires
-last_uses-requires c = read_go_on c.args.file.now c.states-states.ensures.good c.suffixes-suffixes.result.now c.suffixes-suffixes.ensures
+last_uses-requires c = read_go_on c.args.file.now c.keeps_the_rules.ensures c.suffixes-suffixes.result.now c.suffixes-suffixes.ensures
 
 pub loop-suffix-init : goal.loop-suffix-init
 loop-suffix-init c =
-    first_alike c.args.file.now c.states-states.ensures.good c.in_ok-lasts.lasts.items c.new-columns.result.items c.in_ok-numbers.numbers.items c.new-columns.ensures.items
+    first_alike c.args.file.now c.keeps_the_rules.ensures c.in_ok-lasts.lasts.items c.new-columns.result.items c.in_ok-numbers.numbers.items c.new-columns.ensures.items
     (c.in_ok-numbers.ensures.items_if_clones_equal (λ y same. same) ∙ ap noughts c.entries.ensures)
 
 -- the suffix that was read at this place
@@ -32,7 +32,7 @@ returns-then-are_own c =
 pub column-requires : goal.column-requires
 column-requires c =
     subst (λ columns. GoesOnBehind c.args.file.now columns (suffix_from c.suffix-item.result)) (sym c.deref-in-loop-suffix.ensures.value)
-    (goes_on_next c.args.file.now c.states-states.ensures.good c.suffixes-suffixes.result.now c.suffixes-suffixes.ensures c.in_ok-lasts.lasts.items c.in_ok-lasts.ensures
+    (goes_on_next c.args.file.now c.keeps_the_rules.ensures c.suffixes-suffixes.result.now c.suffixes-suffixes.ensures c.in_ok-lasts.lasts.items c.in_ok-lasts.ensures
     c.loop-suffix.suffix-index c.loop-suffix.columns.items c.loop-suffix.numbers.items c.suffix-item.result c.loop-suffix-test.true
     (here (goal.at.column-requires c).After-suffix-item) c.loop-suffix.invariant)
 
@@ -43,7 +43,7 @@ made c is =
     let words = words_upto c.args.file.now c.loop-suffix.suffix-index in
     c.in_ok-column.ensures words
     (subst (λ columns. IsBehindColumn (table_of c.args.file.now) words columns (suffix_from c.suffix-item.result)) (sym c.deref-in-loop-suffix.ensures.value)
-    (behind_next c.args.file.now c.states-states.ensures.good c.suffixes-suffixes.result.now c.suffixes-suffixes.ensures c.in_ok-lasts.lasts.items c.in_ok-lasts.ensures
+    (behind_next c.args.file.now c.keeps_the_rules.ensures c.suffixes-suffixes.result.now c.suffixes-suffixes.ensures c.in_ok-lasts.lasts.items c.in_ok-lasts.ensures
     c.loop-suffix.suffix-index c.loop-suffix.columns.items c.loop-suffix.numbers.items c.suffix-item.result c.loop-suffix-test.true is c.loop-suffix.invariant))
 
 pub split-requires-clause-count : goal.split-requires-clause-count
@@ -54,7 +54,7 @@ split-requires-clause-count c =
       column.count,
       c.loop-suffix.invariant.count,
       entries_few c.args.file.now,
-      table_has_the_files_states c.args.file.now c.states-states.ensures.good,
+      table_has_the_files_states c.args.file.now c.keeps_the_rules.ensures,
       ap length c.deref-in-loop-suffix-2.ensures.value,
       ap length c.deref-in-loop-suffix-3.ensures.value,
     )
@@ -62,15 +62,15 @@ split-requires-clause-count c =
 pub split-requires-clause-own : goal.split-requires-clause-own
 split-requires-clause-own c =
     subst AreOwn (sym c.deref-in-loop-suffix-2.ensures.value)
-    (own_so_far c.args.file.now c.states-states.ensures.good c.in_ok-lasts.lasts.items c.loop-suffix.suffix-index c.loop-suffix.columns.items c.loop-suffix.numbers.items c.loop-suffix.invariant)
+    (own_so_far c.args.file.now c.keeps_the_rules.ensures c.in_ok-lasts.lasts.items c.loop-suffix.suffix-index c.loop-suffix.columns.items c.loop-suffix.numbers.items c.loop-suffix.invariant)
 
 pub split-requires-clause-few : goal.split-requires-clause-few
 split-requires-clause-few c =
-    omega (arith, few_entries c.args.file.now c.states-states.ensures.good, c.loop-suffix.invariant.count, ap length c.deref-in-loop-suffix-2.ensures.value)
+    omega (arith, few_entries c.args.file.now c.keeps_the_rules.ensures, c.loop-suffix.invariant.count, ap length c.deref-in-loop-suffix-2.ensures.value)
 
 pub release-requires-clause-from : goal.release-requires-clause-from
 release-requires-clause-from c =
-    goes_before c.args.file.now c.states-states.ensures.good c.suffixes-suffixes.result.now c.suffixes-suffixes.ensures c.in_ok-lasts.lasts.items c.in_ok-lasts.ensures
+    goes_before c.args.file.now c.keeps_the_rules.ensures c.suffixes-suffixes.result.now c.suffixes-suffixes.ensures c.in_ok-lasts.lasts.items c.in_ok-lasts.ensures
     c.loop-suffix.suffix-index c.loop-suffix.columns.items c.loop-suffix.numbers.items c.suffix-item.result c.loop-suffix-test.true
     (here (goal.at.release-requires-clause-from c).After-suffix-item) c.loop-suffix.invariant
 
@@ -108,11 +108,11 @@ loop-suffix-preserved c =
     (released (goal.at.loop-suffix-preserved c).After-release) in
     let kept = subst (λ lasts. HasColumns table lasts (words ++ word ∷ []) (length words + 1) c.keep.new.columns.items) c.deref-in-loop-suffix-5.ensures.value
     (c.in_ok-keep.ensures table words word has column) in
-    more_alike file c.states-states.ensures.good c.suffixes-suffixes.result.now c.suffixes-suffixes.ensures c.in_ok-lasts.lasts.items c.in_ok-lasts.ensures
+    more_alike file c.keeps_the_rules.ensures c.suffixes-suffixes.result.now c.suffixes-suffixes.ensures c.in_ok-lasts.lasts.items c.in_ok-lasts.ensures
     c.loop-suffix.suffix-index c.loop-suffix.columns.items c.keep.new.columns.items c.loop-suffix.numbers.items c.in_ok-numbers-2.numbers.items c.suffix-item.result
     c.in_ok-column.column.items c.loop-suffix-test.true is c.loop-suffix.invariant column split kept
 
 pub returns : goal.returns
 returns c =
     all_numbers c.args.file.now c.in_ok-lasts.lasts.items c.loop-suffix.suffix-index c.loop-suffix.columns.items c.loop-suffix.numbers.items c.loop-suffix.invariant
-    (omega (arith, c.loop-suffix-test.false, length_read_suffixes c.args.file.now c.states-states.ensures.good c.suffixes-suffixes.result.now c.suffixes-suffixes.ensures))
+    (omega (arith, c.loop-suffix-test.false, length_read_suffixes c.args.file.now c.keeps_the_rules.ensures c.suffixes-suffixes.result.now c.suffixes-suffixes.ensures))

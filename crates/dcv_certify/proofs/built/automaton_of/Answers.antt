@@ -11,7 +11,7 @@ use Rattle.dcv_certify.proofs.built.automaton_of.Goals as goal
 use Rattle.dcv_certify.proofs.built.automaton_of.Goals.{In_ok-flags}
 
 pub overflow_cast-names : goal.overflow_cast-names
-overflow_cast-names c = omega (arith, (good_file c.args.file.now c.states-states.ensures.good).names, ap length c.names.ensures)
+overflow_cast-names c = omega (arith, (good_file c.args.file.now c.keeps_the_rules.ensures).names, ap length c.names.ensures)
 
 pub refs_of-requires : goal.refs_of-requires
 refs_of-requires c = subst (λ width. AreNodes width c.nodes.result.now) (sym (ap length c.names.ensures)) (are_nodes c.args.file.now c.nodes.result.now c.nodes.ensures)
@@ -22,7 +22,7 @@ rows_of-requires c i d within =
     let rows = c.rows-states.result.now in
     let count : length c.nodes.result.now ≡ length c.deref.result.now = sym c.in_ok-built.ensures.size ∙ sym (ap length c.deref.ensures.value) in
     subst (λ count. IsEarlier count (slice_index_or rows i d).next) count
-    (rows_are_earlier file c.nodes.result.now c.nodes.ensures rows c.rows-states.ensures (c.good_files_are_tables.ensures.table file c.states-states.ensures.good)
+    (rows_are_earlier file c.nodes.result.now c.nodes.ensures rows c.rows-states.ensures (c.good_files_are_tables.ensures.table file c.keeps_the_rules.ensures)
     (count_of_rows file rows c.rows-states.ensures) i d within)
 
 made_is : (c : In_ok-flags) → raw_value c.in_ok-built.built.arena c.in_ok-rows.rows.items c.in_ok-flags.flags.items 0 ≡ raw_value c.in_ok-built.built.arena
@@ -39,7 +39,7 @@ new-requires c =
     let file = c.args.file.now in
     let rows = c.rows-states.result.now in
     subst IsRaw (sym (made_is c))
-    (is_made file c.nodes.result.now c.nodes.ensures rows c.rows-states.ensures (c.good_files_are_tables.ensures.table file c.states-states.ensures.good)
+    (is_made file c.nodes.result.now c.nodes.ensures rows c.rows-states.ensures (c.good_files_are_tables.ensures.table file c.keeps_the_rules.ensures)
     (count_of_rows file rows c.rows-states.ensures) c.letters_of_width_are_all.ensures.place c.in_ok-built.built.arena c.in_ok-built.built.refs.items (stand c))
 
 pub returns-clause-accepts : goal.returns-clause-accepts
@@ -48,5 +48,5 @@ returns-clause-accepts c word is =
     let rows = c.rows-states.result.now in
     let here = (goal.at.returns-clause-accepts c).In_ok-flags in
     ap (λ raw. raw_accepts raw word) (c.new.ensures ∙ made_is here)
-    ∙ accepts_same file c.nodes.result.now c.nodes.ensures rows c.rows-states.ensures (c.good_files_are_tables.ensures.table file c.states-states.ensures.good)
+    ∙ accepts_same file c.nodes.result.now c.nodes.ensures rows c.rows-states.ensures (c.good_files_are_tables.ensures.table file c.keeps_the_rules.ensures)
     (count_of_rows file rows c.rows-states.ensures) c.letters_of_width_are_all.ensures.place c.in_ok-built.built.arena c.in_ok-built.built.refs.items (stand here) word is

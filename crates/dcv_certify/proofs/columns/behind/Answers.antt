@@ -8,10 +8,10 @@ use Rattle.dcv_certify.proofs.columns.behind.Goals as goal
 use Rattle.dcv_certify.proofs.columns.behind.Goals.{After-states-state-end}
 
 size : (c : After-states-state-end) → length (table_of c.args.file.now) ≡ c.states-state-end.result
-size c = c.good_files_are_tables.ensures.states c.args.file.now c.states-state-end.ensures.good ∙ sym c.states-state-end.ensures.states
+size c = c.good_files_are_tables.ensures.states c.args.file.now c.keeps_the_rules.ensures ∙ sym c.states-state-end.ensures
 
 some : (c : After-states-state-end) → 0 < length (table_of c.args.file.now)
-some c = (c.good_files_are_tables.ensures.table c.args.file.now c.states-state-end.ensures.good).nonempty
+some c = (c.good_files_are_tables.ensures.table c.args.file.now c.keeps_the_rules.ensures).nonempty
 
 pub loop-state-init : goal.loop-state-init
 loop-state-init c = behind_first (table_of c.args.file.now) c.args.letter c.args.from.now c.new-column.result.items c.new-column.ensures.items
@@ -22,7 +22,7 @@ loop-state-preserved c =
     let here = (goal.at.loop-state-preserved c).After-states-state-end in
     let within : c.loop-state.state < length table = omega (arith, c.loop-state-test.true, size here) in
     let below : c.next.result < length table = subst (λ n. n < length table) (sym c.next.ensures)
-    (next-below (length c.args.file.now.names) table (c.good_files_are_tables.ensures.table c.args.file.now c.states-state-end.ensures.good) c.loop-state.state c.args.letter within) in
+    (next-below (length c.args.file.now.names) table (c.good_files_are_tables.ensures.table c.args.file.now c.keeps_the_rules.ensures) c.loop-state.state c.args.letter within) in
     subst (λ column. IsBehindSoFar table c.args.letter c.args.from.now column (c.loop-state.state + 1)) (sym c.in_ok-push.ensures.items)
     (behind_more table c.args.letter c.args.from.now c.loop-state.column.items c.loop-state.state c.next.result _ c.loop-state.invariant within below c.next.ensures refl)
 

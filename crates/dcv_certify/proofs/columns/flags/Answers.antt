@@ -8,10 +8,10 @@ use Rattle.dcv_certify.proofs.columns.flags.Goals.{After-states-state-end}
 
 -- the table has as many states as the file
 size : (c : After-states-state-end) → length (table_of c.args.file.now) ≡ c.states-state-end.result
-size c = c.good_files_are_tables.ensures.states c.args.file.now c.states-state-end.ensures.good ∙ sym c.states-state-end.ensures.states
+size c = c.good_files_are_tables.ensures.states c.args.file.now c.keeps_the_rules.ensures ∙ sym c.states-state-end.ensures
 
 some : (c : After-states-state-end) → 0 < length (table_of c.args.file.now)
-some c = (c.good_files_are_tables.ensures.table c.args.file.now c.states-state-end.ensures.good).nonempty
+some c = (c.good_files_are_tables.ensures.table c.args.file.now c.keeps_the_rules.ensures).nonempty
 
 pub loop-state-init : goal.loop-state-init
 loop-state-init c = column_first (table_of c.args.file.now) [] c.new-column.result.items c.new-column.ensures.items

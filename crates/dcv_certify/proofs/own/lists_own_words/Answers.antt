@@ -8,6 +8,6 @@ returns c own =
     let file = c.args.file.now in
     let minimal = c.in_ok-auto.ensures in
     own_words_tell file c.in_ok-proof.proof.access c.in_ok-proof.proof.suffixes (c.is_spelled_so.ensures.access own) (c.is_spelled_so.ensures.suffixes own) c.in_ok-auto.auto
-    c.states-2.ensures.good (minimal.slots ∙ c.in-Ok.ensures.slots)
+    c.keeps_the_rules.ensures (minimal.slots ∙ c.in-Ok.ensures.slots)
     (λ word is. sym (c.in-Ok.ensures.accepts word is) ∙ sym (minimal.accepts word (subst (λ k. IsBehaviour k word) (sym c.in-Ok.ensures.slots) is)))
     c.in_ok-proof.ensures

@@ -1,4 +1,5 @@
 use Rattle.std.proofs.Common.{◌∙◌, sym, ap, arith, length}
+use Rattle.dcv_automaton_text.proofs.GoodFiles.{good_file}
 use Rattle.dcv_certify.proofs.Landings.{lands_at, one_more}
 use Rattle.dcv_certify.proofs.words.first_astray.Goals as goal
 
@@ -16,3 +17,8 @@ pub returns-clause-none : goal.returns-clause-none
 returns-clause-none c state within =
     c.loop-place.invariant state
     (omega (arith, within, c.loop-place-test.false, ap length c.deref-state-items.ensures.value, c.in_ok-states.ensures.count))
+
+pub overflow_cast-result : goal.overflow_cast-result
+overflow_cast-result c =
+    let few = (good_file c.args.file.now c.keeps_the_rules.ensures).few in
+    omega (arith, few, c.loop-place-test.true, ap length c.deref-state-items.ensures.value, c.in_ok-states.ensures.count)
