@@ -43,6 +43,6 @@ mod unit;
 
 pub use dcv_observer::{Condition, ObsFault, Test};
 pub use layout::{put, text};
-pub use observer::of_auto;
+pub use observer::{of_auto, parameter_texts, reset_to_start};
 pub use straight::put_observer;
 pub use unit::{Assignment, CUnit, Item, Reset, Returned, Right, Statement, Step};

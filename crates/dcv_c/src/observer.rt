@@ -47,7 +47,7 @@ pub fn of_auto(alloc: Global, auto: &Auto, names: &[Name]) -> Result<CUnit, Allo
     let returned = returned_by(alloc, count, auto)?;
     let mut statics = Vec::new(alloc);
     statics.push(Text::copy_of(alloc, b"st")?)?;
-    let reset = reset_to_start(alloc)?;
+    let reset = reset_to_start(alloc, b"observer_reset")?;
     let name = Text::copy_of(alloc, b"observer_step")?;
     let step = Step {
         name,
@@ -59,19 +59,19 @@ pub fn of_auto(alloc: Global, auto: &Auto, names: &[Name]) -> Result<CUnit, Allo
     Ok(CUnit::new(statics, reset, step))
 }
 
-// `st = 0;`, and nothing else.
-fn reset_to_start(alloc: Global) -> Result<Reset, AllocError>
-    ensures name { IfOk result (λ reset. reset.name ≡ reset_name) }
+/// The reset of a unit that has one static, a state: it is of this name, and makes the static 0.
+pub fn reset_to_start(alloc: Global, name: &[u8]) -> Result<Reset, AllocError>
+    ensures name { IfOk result (λ reset. reset.name ≡ name.now) }
     ensures assignments { IfOk result (λ reset. reset.assignments.items ≡ record { name = 0; number = 0 } ∷ []) }
 {
-    let name = Text::copy_of(alloc, b"observer_reset")?;
+    let name = Text::copy_of(alloc, name)?;
     let mut assignments = Vec::new(alloc);
     assignments.push(Assignment { name: 0, number: 0 })?;
     Ok(Reset { name, assignments })
 }
 
-// `v_NAME`, for each variable.
-fn parameter_texts(alloc: Global, names: &[Name]) -> Result<Vec<Text>, AllocError>
+/// The names of a unit's parameters: `v_NAME`, for each of these variables.
+pub fn parameter_texts(alloc: Global, names: &[Name]) -> Result<Vec<Text>, AllocError>
     ensures { IfOk result (λ parameters. parameters.items ≡ map parameter_name (texts_of names.now)) }
 {
     let mut parameters = Vec::new(alloc);

@@ -120,10 +120,6 @@ all_are_known frame functions declared items knows = rows_known frame.lefts fram
 
 -- ---- what the rules ask of a name, by its row
 
-pub is_true : (b : Bool) → not b ≡ false → b ≡ true
-is_true true h = refl
-is_true false h = absurd (false≢true (sym h))
-
 not_both : (a b : Bool) → b ≡ false → (a && b) ≡ false
 not_both true b is = is
 not_both false b is = refl

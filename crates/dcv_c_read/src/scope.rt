@@ -48,6 +48,13 @@ impl Declaration {
     {
         self.sort.is_variable()
     }
+
+    /// Whether a statement may read it.
+    pub(crate) fn is_read(&self) -> bool
+        ensures { result ≡ self.now.known }
+    {
+        self.known
+    }
 }
 
 /// The names that are declared.

@@ -31,7 +31,7 @@ impl<'a> Scope<'a> {
         let Some(name) = self.find(word.bytes) else {
             return Err(broken(word));
         };
-        if !name.known {
+        if !name.is_read() {
             return Err(broken(word));
         }
         Ok(name.place)

@@ -1,6 +1,6 @@
 -- How a run ends.
 use Rattle.std.proofs.Common.{◌≡◌, ◌≢◌, ℕ, false, Result, Ok, Err, List, [], ◌++◌, length, Option, Some, None, inl, inr, refl, sym, ap, subst, ◌∙◌, arith}
-use Rattle.std.specs.Option.{IfSome}
+use Rattle.std.specs.Option.{IfSome, IfNone}
 use Rattle.std.specs.Result.{OnOk, is_err}
 use Rattle.std.proofs.lemmas.Bool.{false≢true}
 use Rattle.std.proofs.lemmas.List.{append-nil}
@@ -168,3 +168,13 @@ replayed_unopened name told told' replay written = record {
 pub where_ok : {T E : Type 0} {P : Type 0} (result : Result T E) → is_err result ≡ false → OnOk result P → P
 where_ok (Ok value) fine fact = fact
 where_ok (Err fault) fine fact = absurd (false≢true (sym fine))
+
+-- where a run ends without a fault, nothing stopped it
+pub read_to_end : {T : Type 0} {written written' : Option (List ℕ)} {block : List ℕ} (X : Type 0) (why : Option Stop) (result : Result T ReplayFault)
+    → EndsBy why written written' block result → IfNone why X → OnOk result X
+read_to_end X None (Ok done) ends x = x
+read_to_end X (Some stop) (Ok done) ends x = elim ends.is [
+  | inl (is, left) ↦ absurd (false≢true (ap is_err is))
+  | inr (left, is) ↦ absurd is
+]
+read_to_end X why (Err fault) ends x = tt

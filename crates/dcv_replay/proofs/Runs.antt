@@ -1,7 +1,7 @@
 -- The run over an open trace.
-use Rattle.std.proofs.Common.{◌≡◌, ◌≢◌, ℕ, ◌+◌, ◌≤◌, Bool, Result, Ok, Err, List, [], ◌∷◌, ◌++◌, length}
+use Rattle.std.proofs.Common.{◌≡◌, ◌≢◌, ℕ, ◌+◌, ◌*◌, ◌≤◌, Bool, Result, Ok, Err, List, [], ◌∷◌, ◌++◌, length}
 use Rattle.std.proofs.Common.{take, Option, Some, None, inr, refl, sym, ap, subst, ◌∙◌, arith, append_assoc, length-append, rules}
-use Rattle.std.specs.Option.{IfSome, IsSome}
+use Rattle.std.specs.Option.{IfSome, IfNone, IsSome}
 use Rattle.std.specs.Result.{IfOk, OnErr}
 use Rattle.std.proofs.lemmas.List.{append-nil, length-take}
 use Rattle.dcv_io.specs.Faults.{raised}
@@ -9,7 +9,7 @@ use Rattle.dcv_io.specs.Disk.{Disk, WhereTold, Gives, IsAtEnd}
 use Rattle.dcv_io.proofs.Giving.{gives_in_turn}
 use Rattle.dcv_word.specs.Behaviour.{Word}
 use Rattle.dcv_word.specs.TraceLine.{trace_line}
-use Rattle.dcv_replay.specs.TraceText.{AreWide, AreLines, BeginsWithNoLine, IsTrace, HasBadLine}
+use Rattle.dcv_replay.specs.TraceText.{most_lines, AreWide, AreLines, BeginsWithNoLine, IsTrace, HasBadLine}
 use Rattle.dcv_replay.specs.Coming.{LinesValue, budget, IsLines, HasCome, IsAtFault}
 use Rattle.dcv_replay.specs.Program.{ReplayValue}
 use Rattle.dcv_replay.specs.Replayed.{HasLines}
@@ -280,8 +280,14 @@ read_failed first second third read stays given = subst (WhereTold (Gives read) 
 
 -- ---- counts
 
-pub start_budget : (calls : ℕ) (lines : LinesValue) (width : ℕ) → lines ≡ record { width = width; line = []; count = 0 } → calls + budget lines ≤ calls + 35000034
-start_budget calls lines width is = subst (λ (lines : LinesValue). calls + budget lines ≤ calls + 35000034) (sym is) (omega arith)
+-- a file that was read to its end
+pub at_end : {E X : Type 0} (result : Result (Option Stop) E) → X → IfOk result (λ stop. IfNone stop X)
+at_end (Ok None) x = x
+at_end (Ok (Some stop)) x = tt
+at_end (Err fault) x = tt
+
+pub start_budget : (calls : ℕ) (lines : LinesValue) (width : ℕ) → lines ≡ record { width = width; line = []; count = 0 } → calls + budget lines ≤ calls + 35 * most_lines + 34
+start_budget calls lines width is = subst (λ (lines : LinesValue). calls + budget lines ≤ calls + 35 * most_lines + 34) (sym is) (omega arith)
 
 pub calls_on : (calls calls' spent spent' count : ℕ) (buffer : List ℕ) (total : ℕ) → calls' ≡ raised calls
     → spent' + length (take count buffer) ≤ spent → (count ≡ 0 → ⊥) → count ≤ length buffer → calls + spent ≤ total → calls' + spent' ≤ total

@@ -54,6 +54,11 @@ IsBad width line = (more : List ℕ) → BeginsWithNoLine width (line ++ more)
 abbrev pub budget : LinesValue → ℕ
 budget lines = 35 * (most_lines - lines.count) + (34 - length lines.line)
 
+-- the most reads that a trace asks for: one for each byte of the longest one, where a line has at most 34 bytes and its end, and of a line
+-- too many, and one at the end
+abbrev pub most_reads : ℕ
+most_reads = 35 * most_lines + 35
+
 -- one letter or none
 abbrev pub letters_of : Option (List Bool) → Word
 letters_of None = []

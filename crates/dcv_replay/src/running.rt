@@ -4,7 +4,7 @@ ghost use Rattle.dcv_io.specs.Asked.{Asks};
 ghost use Rattle.dcv_io.specs.Disk.{WhereTold, Gives, IsAtEnd, held_of};
 ghost use Rattle.dcv_io.specs.Faults.{RisesIf};
 ghost use Rattle.dcv_word.specs.Behaviour.{Word};
-ghost use Rattle.dcv_replay.specs.Coming.{IsLines, budget};
+ghost use Rattle.dcv_replay.specs.Coming.{IsLines, budget, most_reads};
 ghost use Rattle.dcv_replay.specs.Observer.{Observer, Follows};
 ghost use Rattle.dcv_replay.specs.Replayed.{Replayed, HasLines, ReadCount, is_open, is_write};
 ghost use Rattle.dcv_replay.specs.Running.{going, Answered, Leads, Breaks, Ran, IsEnding, IsCut, EndsSo, BreaksOff, EndsBy, RunsOver, is_read};
@@ -23,8 +23,8 @@ impl Replay {
     /// Answers each line of a trace, the file of this name, by a line `1` or `0`: whether the observer accepts the letters so far. Lines end by a
     /// line feed or by a carriage return and a line feed; the last may lack its end.
     ///
-    /// It takes no memory, reads blocks of 4,096 bytes, and no further than the first fault. Answers are written in blocks of 4,096 bytes, and
-    /// before a fault is told; where that write fails, the answer is `Write`.
+    /// It takes no memory. It reads blocks of 4,096 bytes, the last of them the one in which the first fault stands. Answers are written in
+    /// blocks of 4,096 bytes, and before a fault is told; where that write fails, the answer is `Write`.
     pub fn run<F: Files, S: Sink>(
         &mut self,
         files: &mut F,
@@ -42,9 +42,12 @@ impl Replay {
         ensures read_faults { ReadCount result (F.read_faults files.old) (F.read_faults files.new) }
         ensures faults { RisesIf (is_write result) (S.faults sink.old) (S.faults sink.new) }
 
+        // Without a fault the trace was read to its end.
+        ensures end { OnOk result (IsAtEnd (F.told files.new)) }
+
         // Whatever the outcome: one open, and no more reads than a trace can have bytes.
         ensures asked { Asks (name.now ∷ []) (F.asked files.old) (F.asked files.new) }
-        ensures calls { F.calls files.new ≤ F.calls files.old + 35000036 }
+        ensures calls { F.calls files.new ≤ F.calls files.old + 1 + most_reads }
         ensures held { held_of (F.told files.new) ≡ held_of (F.told files.old) }
     {
         self.run_file(files, name, sink)
@@ -64,8 +67,9 @@ impl Replay {
         ensures open_faults { RisesIf (is_open result) (F.open_faults files.old) (F.open_faults files.new) }
         ensures read_faults { ReadCount result (F.read_faults files.old) (F.read_faults files.new) }
         ensures faults { RisesIf (is_write result) (S.faults sink.old) (S.faults sink.new) }
+        ensures end { OnOk result (IsAtEnd (F.told files.new)) }
         ensures asked { Asks (name.now ∷ []) (F.asked files.old) (F.asked files.new) }
-        ensures calls { F.calls files.new ≤ F.calls files.old + 35000036 }
+        ensures calls { F.calls files.new ≤ F.calls files.old + 1 + most_reads }
         ensures held { held_of (F.told files.new) ≡ held_of (F.told files.old) }
     {
         if files.open_file(name).is_err() {
@@ -93,9 +97,10 @@ impl Replay {
         ensures err { OnErr result ((left : List ℕ) × (left ≢ []) × Ran (HasLines self.old.program.width) (λ read letters. Unit {0})
             (F.told files.old) (F.told files.new) self.old (S.written sink.old) answers.old
             self.new (S.written sink.new) left) }
+        ensures end { IfOk result (λ stop. IfNone stop (IsAtEnd (F.told files.new))) }
         ensures held { held_of (F.told files.new) ≡ held_of (F.told files.old) }
         ensures asked { F.asked files.new ≡ F.asked files.old }
-        ensures calls { F.calls files.new ≤ F.calls files.old + 35000035 }
+        ensures calls { F.calls files.new ≤ F.calls files.old + most_reads }
         ensures open_faults { F.open_faults files.new ≡ F.open_faults files.old }
         ensures read_faults { IfOk result (λ stop. RisesIf (is_read stop) (F.read_faults files.old) (F.read_faults files.new)) }
         ensures no_read_fault { OnErr result (F.read_faults files.new ≡ F.read_faults files.old) }

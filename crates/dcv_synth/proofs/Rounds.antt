@@ -10,11 +10,12 @@ use Rattle.std.proofs.lemmas.List.FromFn.{get_or-map-range_with_len, length-map-
 use Rattle.std.proofs.lemmas.Map.Made.{is_member-Decides}
 use Rattle.dcv_language.specs.Automaton.{Automaton}
 use Rattle.dcv_language.specs.Operations.{some_track}
-use Rattle.dcv_arena.specs.Arena.{ArenaValue, IsRef, value_of}
+use Rattle.dcv_arena.specs.Arena.{ArenaValue, IsArena, IsRef, value_of}
 use Rattle.dcv_arena.specs.declared.nodes.Ref.{Ref}
 use Rattle.dcv_arena.specs.declared.nodes.Ref.TheVariants.{Leaf, Place}
 use Rattle.dcv_dfa.specs.Raw.{RawValue, IsRaw, automaton_of, row_of}
 use Rattle.dcv_index.specs.Leads.{IndexedRows, index_of, LeadsInto, IsRowInto}
+use Rattle.dcv_index.proofs.Fitted.{leads_at}
 use Rattle.dcv_synth.specs.Tracks.{each_track}
 use Rattle.dcv_synth.specs.Winning.{is_lost, is_beaten, IsWin, is_held}
 use Rattle.dcv_synth.specs.Forced.{lost_at, HasLost, IsApart}
@@ -111,7 +112,7 @@ module _ (n : ℕ) (raw : RawValue) (bound : ℕ) (beaten : List ℕ) (new : Are
           by : (b : Bool) → ltb next (length raw.rows) ≡ b → lost_in (suc bound) next ≡ lost_in bound next
           by true e =
               stays_lost n raw bound beaten new next (λ there.
-              absent ((finds state).1 (record { below = within; leads = record { is_ref = row_is; letter = letter; below = ltb-true next (length raw.rows) e; leaf = there } })))
+              absent ((finds state).1 (record { below = within; leads = leads_at (index_of raw.arena raw.rows) beaten row letter is.arena row_is (ltb-true next (length raw.rows) e) there })))
           by false e =
               let rejects : not ((automaton_of raw).accepting next) ≡ true =
               ap not (get_or_past raw.accepting next false (omega (arith, ltb-false next (length raw.rows) e, is.flags))) in
@@ -119,11 +120,11 @@ module _ (n : ℕ) (raw : RawValue) (bound : ℕ) (beaten : List ℕ) (new : Are
               ∙ sym (or_left (not ((automaton_of raw).accepting next)) (is_beaten n m (automaton_of raw) bound next) rejects)
 
 -- a place that is not marked leads to none of them
-pub apart_places : (arena : ArenaValue) (index : IndexedRows) (beaten marked : List ℕ) (count : ℕ) → index.arena ≡ arena → length index.rows ≡ count
+pub apart_places : (arena : ArenaValue) (index : IndexedRows) (beaten marked : List ℕ) (count : ℕ) → IsArena arena → index.arena ≡ arena → length index.rows ≡ count
     → ((place : ℕ) → Contains marked place ↔ LeadsInto index beaten (Place place)) → (place : ℕ) → place < length arena.nodes → ¬ Contains marked place → IsApart arena count beaten place
-apart_places arena index beaten marked count same size finds place within absent letter below there =
+apart_places arena index beaten marked count is same size finds place within absent letter below there =
     absent ((finds place).1 (subst (λ (of : ArenaValue). LeadsInto (index_of of index.rows) beaten (Place place)) (sym same)
-    (record { is_ref = within; letter = letter; below = omega (arith, below, size); leaf = there })))
+    (leads_at (index_of arena index.rows) beaten (Place place) letter is within (omega (arith, below, size)) there)))
 
 pub marked_within : (arena : ArenaValue) (index : IndexedRows) (beaten marked : List ℕ) → index.arena ≡ arena
     → ((place : ℕ) → Contains marked place ↔ LeadsInto index beaten (Place place)) → All (λ place. place < length arena.nodes) marked

@@ -102,14 +102,14 @@ impl Standing<'_> {
     {
         index.above(&self.beaten, found)?;
         self.forcing
-            .lose(alloc, &self.beaten, found.marked.as_slice())?;
+            .lose(alloc, &self.beaten, found.nodes.as_slice())?;
         self.bound += 1;
         self.beaten = rank_each(
             alloc,
             auto,
             &self.forcing,
             self.bound,
-            &found.looked,
+            &found.rows,
             &mut self.ranks,
         )?;
         Ok(())

@@ -1,34 +1,11 @@
 // The names of a controller's unit, as texts.
-ghost use Rattle.std.specs.Prelude.{◌≡◌, ◌++◌, map, IfOk, OnOk};
-ghost use Rattle.dcv_automaton_file.specs.File.{texts_of};
-ghost use Rattle.dcv_c.specs.Observer.{parameter_name};
+ghost use Rattle.std.specs.Prelude.{◌≡◌, ◌++◌, IfOk, OnOk};
 ghost use Rattle.dcv_synth.specs.Units.{local_names, names_of_nodes};
 ghost use Rattle.dcv_synth.specs.Placing.{numbered};
 
-use dcv_syntax::{Name, Text};
+use dcv_syntax::Text;
 use itoa::Buffer;
 use std::alloc::{AllocError, Global};
-
-// `v_NAME`, for each input.
-pub(crate) fn parameters(alloc: Global, names: &[Name]) -> Result<Vec<Text>, AllocError>
-    ensures { IfOk result (λ parameters. parameters.items ≡ map parameter_name (texts_of names.now)) }
-{
-    let mut parameters = Vec::new(alloc);
-    for name in names {
-        parameters.push(parameter(alloc, name)?)?;
-    }
-    Ok(parameters)
-}
-
-// `v_NAME`.
-fn parameter(alloc: Global, name: &Name) -> Result<Text, AllocError>
-    ensures { IfOk result (λ text. text ≡ parameter_name name.now.text) }
-{
-    let mut bytes = Vec::new(alloc);
-    bytes.extend_from_slice(b"v_")?;
-    bytes.extend_from_slice(name.text.as_bytes())?;
-    Text::copy_of(alloc, &bytes)
-}
 
 // `nx` and `y`, and the nodes of both kinds.
 pub(crate) fn locals(alloc: Global, nexts: u32, outputs: u32) -> Result<Vec<Text>, AllocError>

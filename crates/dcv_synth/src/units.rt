@@ -10,14 +10,14 @@ ghost use Rattle.dcv_c.specs.Observer.{parameter_name};
 ghost use Rattle.dcv_c.specs.Seen.{seen_statement, seen_returned};
 ghost use Rattle.dcv_synth.specs.Game.{Wins};
 ghost use Rattle.dcv_synth.specs.Control.{controller_by};
-ghost use Rattle.dcv_synth.specs.Units.{reset_name, step_name, output_name, local_names, statements_of, unit_of, controller_in};
+ghost use Rattle.dcv_synth.specs.Units.{step_name, output_name, local_names, statements_of, unit_of, controller_in};
 ghost use Rattle.dcv_synth.specs.Placing.{unit_names, AreFitting};
 
 use crate::control::Control;
 use crate::laws::units_answer;
 use crate::statements::{Places, statements};
-use crate::unit_names::{locals, parameters};
-use dcv_c::{Assignment, CUnit, Reset, Returned, Step};
+use crate::unit_names::locals;
+use dcv_c::{CUnit, Returned, Step, parameter_texts, reset_to_start};
 use dcv_dfa::NodeLines;
 use dcv_syntax::{Name, Text};
 use std::alloc::{AllocError, Global};
@@ -46,20 +46,9 @@ impl Control {
         let step = step_of(alloc, names, self.states(), &next, &output)?;
         let mut statics = Vec::new(alloc);
         statics.push(Text::copy_of(alloc, b"st")?)?;
-        let reset = reset_to_start(alloc)?;
+        let reset = reset_to_start(alloc, b"controller_reset")?;
         Ok(CUnit::new(statics, reset, step))
     }
-}
-
-// `st = 0;`, and nothing else.
-fn reset_to_start(alloc: Global) -> Result<Reset, AllocError>
-    ensures name { IfOk result (λ reset. reset.name ≡ reset_name) }
-    ensures assignments { IfOk result (λ reset. reset.assignments.items ≡ record { name = 0; number = 0 } ∷ []) }
-{
-    let name = Text::copy_of(alloc, b"controller_reset")?;
-    let mut assignments = Vec::new(alloc);
-    assignments.push(Assignment { name: 0, number: 0 })?;
-    Ok(Reset { name, assignments })
 }
 
 // The function that makes a step.
@@ -90,7 +79,7 @@ fn step_of(
         nexts: next.lines().len() as u32,
     };
     let name = Text::copy_of(alloc, b"controller_step")?;
-    let parameters = parameters(alloc, names)?;
+    let parameters = parameter_texts(alloc, names)?;
     let locals = locals(alloc, places.nexts, output.lines().len() as u32)?;
     let statements = statements(alloc, places, states, next, output)?;
     Ok(Step {

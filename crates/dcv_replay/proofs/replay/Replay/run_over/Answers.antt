@@ -3,7 +3,7 @@ use Rattle.dcv_io.proofs.Giving.{gives_in_turn}
 use Rattle.dcv_replay.specs.Coming.{LinesValue}
 use Rattle.dcv_replay.proofs.Steps.{passes_in_turn, stops_in_turn, breaks_in_turn, leads_on, leads_stop, on_err_from}
 use Rattle.dcv_replay.proofs.Runs.{ran_cut, ran_stop, ran_broken, ran_end, ran_off, if_ok_weaker, on_err_weaker}
-use Rattle.dcv_replay.proofs.Runs.{given_nothing, passes_start, read_none, none_taken, read_failed, start_budget, calls_on}
+use Rattle.dcv_replay.proofs.Runs.{given_nothing, passes_start, read_none, none_taken, read_failed, at_end, start_budget, calls_on}
 use Rattle.dcv_replay.proofs.replay.Replay.run_over.Goals as goal
 
 pub loop-count-init : goal.loop-count-init
@@ -37,6 +37,9 @@ returns-then-count-eq0-clause-err g c =
     on_err_weaker _ (λ breaks. ran_off _ _ _ _ _ c.loop-count.invariant.passed breaks
     (read_none _ _ _ _ _ (none_taken _ _ c.if-count-eq0.true) c.loop-count.invariant.given c.in-Ok.ensures.gives)
     (c.in-Ok.ensures.end c.if-count-eq0.true (omega (arith, c.loop-count.invariant.buffer)))) c.take_end.ensures.err
+
+pub returns-then-count-eq0-clause-end : goal.returns-then-count-eq0-clause-end
+returns-then-count-eq0-clause-end g c = at_end _ (c.in-Ok.ensures.end c.if-count-eq0.true (omega (arith, c.loop-count.invariant.buffer)))
 
 pub returns-in_err-stop-clause-err : goal.returns-in_err-stop-clause-err
 returns-in_err-stop-clause-err g c =

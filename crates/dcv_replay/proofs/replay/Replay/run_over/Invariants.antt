@@ -1,5 +1,6 @@
-use Rattle.std.proofs.Common.{◌≡◌, ℕ, ◌+◌, ◌≤◌, List, [], length}
+use Rattle.std.proofs.Common.{◌≡◌, ℕ, ◌+◌, ◌*◌, ◌≤◌, List, [], length}
 use Rattle.dcv_io.specs.Disk.{held_of, WhereTold, Gives}
+use Rattle.dcv_replay.specs.TraceText.{most_lines}
 use Rattle.dcv_replay.specs.Coming.{IsLines, budget}
 use Rattle.dcv_replay.specs.Running.{going, Passes}
 use Rattle.dcv_replay.proofs.replay.Replay.run_over.Given as goal
@@ -17,7 +18,7 @@ invariant-loop-count g l =
       width : l.lines.width ≡ l.self.program.width;
       buffer : length l.block ≡ 4096;
       asked : g.F.Files.asked l.files ≡ g.F.Files.asked l.fn.files;
-      calls : g.F.Files.calls l.files + budget l.lines ≤ g.F.Files.calls l.fn.files + 35000034;
+      calls : g.F.Files.calls l.files + budget l.lines ≤ g.F.Files.calls l.fn.files + 35 * most_lines + 34;
       held : held_of (told l.files) ≡ held_of (told l.fn.files);
       open_faults : g.F.Files.open_faults l.files ≡ g.F.Files.open_faults l.fn.files;
       read_faults : g.F.Files.read_faults l.files ≡ g.F.Files.read_faults l.fn.files;

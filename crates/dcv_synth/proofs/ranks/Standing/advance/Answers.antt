@@ -1,7 +1,7 @@
 use Rattle.std.proofs.Common.{◌≡◌, ◌↔◌, ℕ, suc, ◌+◌, ◌-◌, ◌<◌, List, length, Option, Contains, sym, subst, ap, ◌∙◌, arith}
 use Rattle.std.specs.List.{All}
 use Rattle.std.proofs.lemmas.List.FromFn.{length-map-range_with_len}
-use Rattle.dcv_arena.specs.Arena.{ArenaValue}
+use Rattle.dcv_arena.specs.Arena.{ArenaValue, IsArena}
 use Rattle.dcv_arena.specs.declared.nodes.Ref.TheVariants.{Place}
 use Rattle.dcv_dfa.specs.Raw.{automaton_of}
 use Rattle.dcv_index.specs.Leads.{IndexedRows, index_of, LeadsInto, IsRowInto}
@@ -22,7 +22,7 @@ arena_is c = ap (λ (index : IndexedRows). index.arena) c.requires.index ∙ sym
 marked : (c : After-as_slice) → (place : ℕ) → Contains c.as_slice.result.now place ↔ LeadsInto c.args.index.now c.deref-2.result.now (Place place)
 marked c =
     subst (λ (lists : List ℕ × List ℕ). (place : ℕ) → Contains lists.0 place ↔ LeadsInto c.args.index.now lists.1 (Place place))
-    (λ i. (sym c.as_slice.ensures i, (c.deref.ensures.value ∙ sym c.deref-2.ensures.value) i)) c.in_ok-above.ensures.marked
+    (λ i. (sym c.as_slice.ensures i, (c.deref.ensures.value ∙ sym c.deref-2.ensures.value) i)) c.in_ok-above.ensures.nodes
 
 pub lose-requires-clause-forced : goal.lose-requires-clause-forced
 lose-requires-clause-forced c =
@@ -42,7 +42,8 @@ lose-requires-clause-apart c =
     let lost = is_lost (automaton_of raw) (is_beaten forcing.inputs (raw.arena.slots - forcing.inputs) (automaton_of raw) c.args.self.now.bound) in
     let size : length c.args.index.now.rows ≡ length forcing.lost.items =
     ap (λ (index : IndexedRows). length index.rows) c.requires.index ∙ sym (ap length c.requires.standing.forced.lost ∙ length-map-range_with_len lost 0 (length raw.rows)) in
-    apart_places forcing.arena.now c.args.index.now c.deref-2.result.now c.as_slice.result.now (length forcing.lost.items) (arena_is known) size (marked known)
+    apart_places forcing.arena.now c.args.index.now c.deref-2.result.now c.as_slice.result.now (length forcing.lost.items)
+    (subst IsArena (sym c.requires.standing.forced.arena) c.requires.standing.forced.raw_is.arena) (arena_is known) size (marked known)
 
 -- ---- the next round
 
@@ -62,7 +63,7 @@ forced_next c =
 looked : (c : After-deref_mut) → (row : ℕ) → Contains c.deref-3.result.now row ↔ IsRowInto (index_of c.args.auto.now.arena c.args.auto.now.rows) c.args.self.now.beaten.items row
 looked c =
     subst (λ (parts : List ℕ × IndexedRows × List ℕ). (row : ℕ) → Contains parts.0 row ↔ IsRowInto parts.1 parts.2 row)
-    (λ i. (sym c.deref-3.ensures.value i, c.requires.index i, c.deref.ensures.value i)) c.in_ok-above.ensures.looked
+    (λ i. (sym c.deref-3.ensures.value i, c.requires.index i, c.deref.ensures.value i)) c.in_ok-above.ensures.rows
 
 next_is : (bound : ℕ) → suc bound ≡ bound + 1
 next_is bound = omega arith
@@ -73,7 +74,7 @@ rank_each-requires-clause-forced c =
 
 pub rank_each-requires-clause-looked : goal.rank_each-requires-clause-looked
 rank_each-requires-clause-looked c =
-    subst (λ (parts : List ℕ × IndexedRows). All (λ row. row < length parts.1.rows) parts.0) (λ i. (sym c.deref-3.ensures.value i, c.requires.index i)) c.in_ok-above.ensures.rows
+    subst (λ (parts : List ℕ × IndexedRows). All (λ row. row < length parts.1.rows) parts.0) (λ i. (sym c.deref-3.ensures.value i, c.requires.index i)) c.in_ok-above.ensures.below
 
 pub rank_each-requires-clause-others : goal.rank_each-requires-clause-others
 rank_each-requires-clause-others c =
