@@ -11,6 +11,7 @@ use Rattle.dcv_implies.specs.Comparison.{IsIncluded}
 use Rattle.dcv_implies.specs.Laws.{IncludedBothWays}
 use Rattle.dcv_print.specs.Printed.{texts_of}
 use Rattle.dcv_reader.specs.Spelling.{SpellsOne}
+use Rattle.dcv_cli.proofs.FormulaFiles.{one_file}
 use Rattle.dcv_cli.specs.Budget.{OverBudget, WithinBudget, limit_of}
 use Rattle.dcv_cli.specs.Comparison.{IsCompared, Undeclared, Declared, IsComparison, OverProduct, WithinProduct, compared, status_of_least}
 use Rattle.dcv_cli.specs.FormulaFile.{IsFormulaFile, OnText, Refused, Read}
@@ -86,15 +87,12 @@ includes first second is =
     is.first_there is.right)
 
 module _ (one_tree : SpellsOne) (both : IncludedBothWays) where
-  one_file : (text : List ℕ) (file other : PlainFile) → IsFormulaFile text file → IsFormulaFile text other → file ≡ other
-  one_file text file other is is' = one_tree text file other is.sentence.spelled is'.sentence.spelled
-
   pub implies_both_ways : ImpliesBothWays
   implies_both_ways first second forth back =
       let there = includes first second forth in
       let here = includes second first back in
-      let file : here.other_file ≡ there.file = one_file first here.other_file there.file here.other_formula there.formula in
-      let other : here.file ≡ there.other_file = one_file second here.file there.other_file here.formula there.other_formula in
+      let file : here.other_file ≡ there.file = one_file one_tree first here.other_file there.file here.other_formula there.formula in
+      let other : here.file ≡ there.other_file = one_file one_tree second here.file there.other_file here.formula there.other_formula in
       let count : length there.other_file.variables ≡ length there.file.variables =
       sym (length-map there.other_file.variables (λ (name : Name). name.text)) ∙ ap length (sym there.same) ∙ length-map there.file.variables (λ (name : Name). name.text) in
       let moved : IsIncluded (length there.other_file.variables) (models there.other_file) (models there.file) =

@@ -19,7 +19,7 @@ use Rattle.dcv_cli.proofs.OneCertificate.{one_on_automaton, refuses_as_automaton
 
 one_conversion : (to : Version) (file : AutomatonFile) (a b : Outcome) → IsConverted to file a → IsConverted to file b → Agrees a b
 one_conversion to file a b p q =
-    record { status = p.status ∙ sym q.status; report = inl (p.says ∙ sym q.says); message = λ taken within. p.no_message ∙ sym q.no_message }
+    record { status = p.status ∙ sym q.status; report = inl (p.says ∙ sym q.says); message = λ taken. inl (p.no_message ∙ sym q.no_message) }
 
 pub one_held_conversion : OneFile → (to : Version) (text : Option (List ℕ)) (a b : Outcome) → IsSomeAnd text (λ bytes. OnAutomaton bytes (IsConverted to) a)
     → IsSomeAnd text (λ bytes. OnAutomaton bytes (IsConverted to) b) → Agrees a b

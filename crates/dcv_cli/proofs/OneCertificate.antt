@@ -1,12 +1,10 @@
 -- One outcome at most is right where it is asked what the words of an automaton's text show.
-use Rattle.std.proofs.Common.{◌≡◌, ◌≢◌, inl, inr, refl, ℕ, ◌+◌, ◌<◌, ◌≤◌, Bool, zero, suc, true, false, List, [], ◌∷◌, take, drop, ◌++◌, Option, None, Some, sym, ap, ◌∙◌, subst, arith, append_assoc}
-use Rattle.std.specs.Prelude.{IsSomeAnd, nat_lt}
-use Rattle.std.proofs.lemmas.Bool.Decides.{nat_tests}
-use Rattle.std.proofs.lemmas.List.{take-append-drop}
+use Rattle.std.proofs.Common.{◌≡◌, ◌≢◌, inl, ℕ, List, Option, None, Some, sym, ap, ◌∙◌, subst, arith}
+use Rattle.std.specs.Prelude.{IsSomeAnd}
 use Rattle.dcv_automaton_text.specs.File.{AutomatonFile}
-use Rattle.dcv_automaton_text.specs.Form.{HasForm, IsViable, IsSyntaxFault}
 use Rattle.dcv_automaton_text.specs.Laws.{OneFile}
-use Rattle.dcv_automaton_text.specs.Rules.{IsGood, IsTableFault, first_broken, judged_words}
+use Rattle.dcv_automaton_lines.proofs.OneFault.{one_place, no_fault_of_form}
+use Rattle.dcv_automaton_read.proofs.GoodTexts.{one_broken, broken_or_good}
 use Rattle.dcv_certify.specs.Laws.{OneAnswer}
 use Rattle.dcv_certify.specs.declared.answer.Answer.{Answer}
 use Rattle.dcv_certify.specs.declared.answer.Answer.TheVariants.{Minimal, Access, Pair}
@@ -26,71 +24,12 @@ pub same_agrees : (one other : Outcome) → one ≡ other → Agrees one other
 same_agrees one other e = record {
   status = ap (λ (o : Outcome). o.status) e;
   report = inl (ap (λ (o : Outcome). o.out) e);
-  message = λ taken within. ap (λ (o : Outcome). o.err) e;
+  message = λ taken. inl (ap (λ (o : Outcome). o.err) e);
 }
 
--- ---- one place of a syntax fault
-
--- a front of a viable text is viable
-front_is_viable : (text : List ℕ) (n : ℕ) → IsViable text → IsViable (take n text)
-front_is_viable text n is = record {
-  more = drop n text ++ is.more;
-  file = is.file;
-  form =
-      subst (λ whole. HasForm whole is.file)
-      (ap (λ whole. whole ++ is.more) (sym (take-append-drop n text)) ∙ append_assoc (take n text) (drop n text) is.more) is.form;
-}
-
-take_take : (text : List ℕ) (n m : ℕ) → n ≤ m → take n (take m text) ≡ take n text
-take_take text zero m few = refl
-take_take text (suc n) zero few = absurd (omega (arith, few))
-take_take [] (suc n) (suc m) few = refl
-take_take (byte ∷ text) (suc n) (suc m) few = ap (λ bytes. byte ∷ bytes) (take_take text n m (omega (arith, few)))
-
--- a later fault leaves no fault before it
-earlier_is_viable : (text : List ℕ) (at later : ℕ) → at < later → IsSyntaxFault text later → IsViable (take (at + 1) text)
-earlier_is_viable text at later before fault =
-    subst IsViable (take_take text (at + 1) later (omega arith)) (front_is_viable (take later text) (at + 1) fault.viable)
-
-no_earlier_fault : (text : List ℕ) (at later : ℕ) → at < later → IsSyntaxFault text at → IsSyntaxFault text later → ⊥
-no_earlier_fault text at later before fault other =
-    elim fault.fault [
-      | inl (within, stuck) ↦ stuck (earlier_is_viable text at later before other)
-      | inr (end, none) ↦ elim other.fault [
-        | inl (within, stuck) ↦ absurd (omega (arith, before, end, within))
-        | inr (there, none') ↦ absurd (omega (arith, before, end, there))
-      ]
-    ]
-
-one_place : (text : List ℕ) (at other : ℕ) → IsSyntaxFault text at → IsSyntaxFault text other → at ≡ other
-one_place text at other fault fault' = by (nat_lt at other) refl (nat_lt other at) refl
-  where
-    by : (before : Bool) → nat_lt at other ≡ before → (behind : Bool) → nat_lt other at ≡ behind → at ≡ other
-    by true is behind e = absurd (no_earlier_fault text at other (grind (arith, nat_tests)) fault fault')
-    by false is true e = absurd (no_earlier_fault text other at (grind (arith, nat_tests)) fault' fault)
-    by false is false e = grind (arith, nat_tests)
-
--- a text of the form has no syntax fault
-no_fault_of_form : (text : List ℕ) (file : AutomatonFile) (at : ℕ) → HasForm text file → IsSyntaxFault text at → ⊥
-no_fault_of_form text file at form fault =
-    elim fault.fault [
-      | inl (within, stuck) ↦ stuck (record { more = drop (at + 1) text; file = file; form = subst (λ whole. HasForm whole file) (sym (take-append-drop (at + 1) text)) form })
-      | inr (end, none) ↦ none file form
-    ]
+-- ---- one refusal
 
 module _ (one_file : OneFile) where
-  one_broken : (text : List ℕ) (f g : AutomatonFile) (at other : ℕ) → HasForm text f → HasForm text g → IsTableFault f at → IsTableFault g other → at ≡ other
-  one_broken text f g at other form form' fault fault' =
-      let same : f ≡ g = one_file text f g form form' in
-      let there : Some at ≡ Some other = sym fault ∙ ap (λ file. first_broken 0 (judged_words file)) same ∙ fault' in
-      cc
-
-  broken_or_good : (text : List ℕ) (f g : AutomatonFile) (at : ℕ) → HasForm text f → HasForm text g → IsTableFault f at → IsGood g → ⊥
-  broken_or_good text f g at form form' fault good =
-      let same : f ≡ g = one_file text f g form form' in
-      let wrong : Some at ≡ None = sym fault ∙ ap (λ file. first_broken 0 (judged_words file)) same ∙ good in
-      cc
-
   one_refusal : (text : List ℕ) (r s : Refusal) → IsRefusedAutomaton text r → IsRefusedAutomaton text s → r ≡ s
   one_refusal text r s (TooLong long e) (TooLong long' e') = e ∙ sym e'
   one_refusal text r s (TooLong long e) (HasNoForm short at fault e') = absurd (omega arith)
@@ -102,12 +41,12 @@ module _ (one_file : OneFile) where
   one_refusal text r s (BreaksARule short file form at fault e) (TooLong long e') = absurd (omega arith)
   one_refusal text r s (BreaksARule short file form at fault e) (HasNoForm short' other fault' e') = absurd (no_fault_of_form text file other form fault')
   one_refusal text r s (BreaksARule short f form at fault e) (BreaksARule short' g form' other fault' e') =
-      e ∙ ap (λ place. Automaton (Table place)) (one_broken text f g at other form form' fault fault') ∙ sym e'
+      e ∙ ap (λ place. Automaton (Table place)) (one_broken one_file text f g at other form form' fault fault') ∙ sym e'
 
   pub refused_or_read : (text : List ℕ) (refusal : Refusal) (file : AutomatonFile) → IsRefusedAutomaton text refusal → IsAutomatonText text file → ⊥
   refused_or_read text refusal file (TooLong long e) is = let fits = is.fits in omega arith
   refused_or_read text refusal file (HasNoForm short at fault e) is = no_fault_of_form text file at is.form fault
-  refused_or_read text refusal file (BreaksARule short other form at fault e) is = broken_or_good text other file at form is.form fault is.good
+  refused_or_read text refusal file (BreaksARule short other form at fault e) is = broken_or_good one_file text other file at form is.form fault is.good
 
   pub one_on_automaton : (text : List ℕ) (RightFor : AutomatonFile → Outcome → Type 0)
       → ((file : AutomatonFile) (a b : Outcome) → RightFor file a → RightFor file b → Agrees a b)
@@ -126,7 +65,7 @@ module _ (one_file : OneFile) where
         record {
           status = p.status ∙ ap status_of_answer same ∙ sym q.status;
           report = inl (p.says ∙ ap (λ answer. line (answer_words file.states answer)) same ∙ sym q.says);
-          message = λ taken within. p.no_message ∙ sym q.no_message;
+          message = λ taken. inl (p.no_message ∙ sym q.no_message);
         }
 
     pub one_held_certificate : (text : Option (List ℕ)) (a b : Outcome) → IsSomeAnd text (λ bytes. OnAutomaton bytes IsCertificate a)

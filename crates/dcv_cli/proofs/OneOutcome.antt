@@ -1,5 +1,5 @@
 -- One outcome at most is right.
-use Rattle.std.proofs.Common.{◌≡◌, ◌≢◌, inl, refl, ℕ, ◌<◌, Bool, true, false, List, length, Option, None, Some, sym, ap, ◌∙◌, subst, arith}
+use Rattle.std.proofs.Common.{◌≡◌, ◌≢◌, ◌⊎◌, inl, inr, refl, ℕ, Bool, true, false, List, length, Option, None, Some, sym, ap, ◌∙◌, subst, arith}
 use Rattle.std.specs.Prelude.{IsSomeAnd, is_none, slice_get, if◌then◌else◌}
 use Rattle.std.specs.Option.{option_map}
 use mathlib.Core.Bool.{true≢false}
@@ -24,22 +24,24 @@ use Rattle.dcv_cli.specs.declared.budget_line.Excess.{Excess}
 use Rattle.dcv_cli.specs.declared.budget_line.Excess.TheVariants.{States, Nodes}
 use Rattle.dcv_cli.specs.declared.budget_line.Over.{Over}
 use Rattle.dcv_cli.specs.declared.refusal.Refusal.{Refusal}
-use Rattle.dcv_cli.specs.declared.refusal.Refusal.TheVariants.{Budget}
+use Rattle.dcv_cli.specs.declared.refusal.Refusal.TheVariants.{Budget, Product}
 use Rattle.dcv_cli.specs.declared.status.Status.TheVariants.{Valid, NotValid, Usage, Formula, Budget as StatusBudget, Memory as OutOfMemory}
 use Rattle.dcv_cli.specs.Budget.{steps_of_file, kind_of, limit_of, IsFirstOver, IsBudgeted, OverBudget, WithinBudget}
 use Rattle.dcv_print.specs.Laws.{OneAutomaton, OneFile}
 use Rattle.dcv_print.specs.declared.report.Kind.{Kind as ReportKind}
 use Rattle.dcv_cli.specs.Report.{IsReport}
 use Rattle.dcv_cli.proofs.Texts.{one_text}
-use Rattle.dcv_cli.specs.FormulaFile.{IsRefused, TooLong, Faulty, HasNoCore, IsSentence, IsFormulaFile, OnText, Refused, Read}
+use Rattle.dcv_cli.specs.FormulaFile.{IsRefused, TooLong, Faulty, HasNoCore, IsFormulaFile, OnText, Refused, Read}
 use Rattle.dcv_cli.specs.Laws.{NameOneStep, OneOutcome, AskForAReport}
 use Rattle.dcv_cli.specs.Held.{Texts}
-use Rattle.dcv_cli.specs.Outcome.{Outcome, refused, Agrees}
-use Rattle.dcv_cli.specs.Refusal.{most_bytes, message_of, only, status_of, refusal_of_reading, refusal_of_scope}
+use Rattle.dcv_cli.specs.Outcome.{Outcome, line_of, refused, OfStep, OfProduct, Agrees}
+use Rattle.dcv_cli.specs.Refusal.{message_of, only, status_of, refusal_of_reading, refusal_of_scope}
 use Rattle.dcv_cli.specs.declared.refused.Which.{Which}
 use Rattle.dcv_cli.specs.declared.refused.Which.TheVariants.{Only, First, Second}
 use Rattle.dcv_automaton_text.specs.Laws.{OneFile as OneAutomatonText}
 use Rattle.dcv_certify.specs.Laws.{OneAnswer}
+use Rattle.dcv_cli.proofs.FormulaFiles.{long_or_read, one_sentence, one_file, refused_or_read}
+use Rattle.dcv_cli.proofs.OneRequest.{one_request}
 use Rattle.dcv_cli.proofs.OneCertificate.{same_agrees, one_held_certificate}
 use Rattle.dcv_cli.proofs.ConvertedBack.{one_held_conversion}
 use Rattle.dcv_cli.proofs.OneReplay.{AreSubsets, one_held_replay}
@@ -102,6 +104,12 @@ answer_is_no_refusal verdict e = by (is_none verdict.counterexample) e
     by true e = cc
     by false e = cc
 
+same_or_other : (one other : Excess) → (one ≡ other) ⊎ (one ≢ other)
+same_or_other States States = inl refl
+same_or_other Nodes Nodes = inl refl
+same_or_other States Nodes = inr (λ e. cc)
+same_or_other Nodes States = inr (λ e. cc)
+
 one_some : (first second : ℕ) → Some first ≡ Some second → first ≡ second
 one_some first second e = cc
 
@@ -109,17 +117,6 @@ module _ (one_tree : SpellsOne) (one_fault : FaultIsUnique) (one_verdict : OneVe
     (one_automaton_text : OneAutomatonText) (one_answer : OneAnswer) (one_comparison : OneComparison) (subsets : AreSubsets) (one_trace_verdict : OneTraceVerdict)
     (one_text_of_answers : OneTextOfAnswers) (one_summary : OneSummary)
     (one_synthesis_of : (inputs : ℕ) (file : PlainFile) (a b : Outcome) → IsSynthesisOf inputs file a → IsSynthesisOf inputs file b → Agrees a b) where
-  one_sentence : (text : List ℕ) (f g : PlainFile) → IsSentence text f → IsSentence text g → f ≡ g
-  one_sentence text f g s t = one_tree text f g s.spelled t.spelled
-
-  -- a text that is too long or has a fault is no sentence
-  long_or_read : (text : List ℕ) (file : PlainFile) → most_bytes < length text → IsSentence text file → ⊥
-  long_or_read text file long is = let fits = is.fits in omega arith
-
-  -- a file that has a fault is not without one
-  has_or_none : (f g : PlainFile) (fault : ScopeFault) → f ≡ g → fault_of_file f ≡ Some fault → fault_of_file g ≡ None → ⊥
-  has_or_none f g fault same has none = let wrong : Some fault ≡ None = cc in cc
-
   -- one file has one first fault
   one_scope_fault : (f g : PlainFile) (fault other : ScopeFault) → f ≡ g → fault_of_file f ≡ Some fault → fault_of_file g ≡ Some other
       → refusal_of_scope fault ≡ refusal_of_scope other
@@ -135,27 +132,17 @@ module _ (one_tree : SpellsOne) (one_fault : FaultIsUnique) (one_verdict : OneVe
   one_refusal text r s (Faulty short fault first e) (HasNoCore file is other has e') = absurd (is.no_fault fault first.has)
   one_refusal text r s (HasNoCore file is other has e) (Faulty short fault first e') = absurd (is.no_fault fault first.has)
   one_refusal text r s (HasNoCore f is fault has e) (HasNoCore g is' other has' e') =
-      e ∙ one_scope_fault f g fault other (one_sentence text f g is is') has has' ∙ sym e'
-
-  -- a text is refused, or is a formula file
-  refused_or_read : (text : List ℕ) (refusal : Refusal) (file : PlainFile) → IsRefused text refusal → IsFormulaFile text file → ⊥
-  refused_or_read text refusal file (TooLong long e) is = long_or_read text file long is.sentence
-  refused_or_read text refusal file (Faulty short fault first e) is = is.sentence.no_fault fault first.has
-  refused_or_read text refusal file (HasNoCore other holds fault has e) is =
-      has_or_none other file fault (one_sentence text other file holds is.sentence) has is.has_core
-
-  one_file : (text : List ℕ) (f g : PlainFile) → IsFormulaFile text f → IsFormulaFile text g → f ≡ g
-  one_file text f g s t = one_sentence text f g s.sentence t.sentence
+      e ∙ one_scope_fault f g fault other (one_sentence one_tree text f g is is') has has' ∙ sym e'
 
   one_on_text : (text : List ℕ) (which : Which) (RightFor : PlainFile → Outcome → Type 0)
       → ((file : PlainFile) (a b : Outcome) → RightFor file a → RightFor file b → Agrees a b)
       → (a b : Outcome) → OnText text which RightFor a → OnText text which RightFor b → Agrees a b
   one_on_text text which RightFor one a b (Refused r is e) (Refused s is' e') =
       same_agrees a b (e ∙ ap (λ r. refused r which) (one_refusal text r s is is') ∙ sym e')
-  one_on_text text which RightFor one a b (Refused r is e) (Read file is' right) = absurd (refused_or_read text r file is is')
-  one_on_text text which RightFor one a b (Read file is right) (Refused s is' e') = absurd (refused_or_read text s file is' is)
+  one_on_text text which RightFor one a b (Refused r is e) (Read file is' right) = absurd (refused_or_read one_tree text r file is is')
+  one_on_text text which RightFor one a b (Read file is right) (Refused s is' e') = absurd (refused_or_read one_tree text s file is' is)
   one_on_text text which RightFor one a b (Read f is right) (Read g is' right') =
-      one f a b right (subst (λ (file : PlainFile). RightFor file b) (one_file text g f is' is) right')
+      one f a b right (subst (λ (file : PlainFile). RightFor file b) (one_file one_tree text g f is' is) right')
 
   one_on_file : (text : Option (List ℕ)) (which : Which) (RightFor : PlainFile → Outcome → Type 0)
       → ((file : PlainFile) (a b : Outcome) → RightFor file a → RightFor file b → Agrees a b)
@@ -168,15 +155,19 @@ module _ (one_tree : SpellsOne) (one_fault : FaultIsUnique) (one_verdict : OneVe
   one_first limits file over another is is' =
       one_step (length file.variables) (core_of_file file) limits (kind_of over.excess) (kind_of another.excess) over.step another.step is.is_over is'.is_over
 
+  one_place : (limits : Limits) (file : PlainFile) (over another : Over) → IsFirstOver limits file over → IsFirstOver limits file another → over.at ≡ another.at
+  one_place limits file over another is is' =
+      one_some over.at another.at
+      (sym is.begins ∙ ap (λ number. option_map (λ (step : PlainStep). step.span.start) (slice_get (steps_of_file file) number)) (one_first limits file over another is is')
+      ∙ is'.begins)
+
   -- what there is too much of decides what is said of it
   one_excess : (limits : Limits) (file : PlainFile) (over another : Over) → IsFirstOver limits file over → IsFirstOver limits file another
       → over.excess ≡ another.excess → over ≡ another
   one_excess limits file over another is is' excess =
-      let step : over.step ≡ another.step = one_first limits file over another is is' in
+      let step = one_first limits file over another is is' in
       let limit : over.limit ≡ another.limit = is.limit ∙ ap (λ (e : Excess). limit_of e limits) excess ∙ sym is'.limit in
-      let places : Some over.at ≡ Some another.at =
-      sym is.begins ∙ ap (λ number. option_map (λ (step : PlainStep). step.span.start) (slice_get (steps_of_file file) number)) step ∙ is'.begins in
-      let place = one_some over.at another.at places in
+      let place = one_place limits file over another is is' in
       λ i. record { excess = excess i; limit = limit i; at = place i; step = step i }
 
   -- and of two things of which there is too much, both kinds are
@@ -213,7 +204,7 @@ module _ (one_tree : SpellsOne) (one_fault : FaultIsUnique) (one_verdict : OneVe
   module _ (words : List (List ℕ)) (held : Texts) (kind : ReportKind) (name : List ℕ) (limits : Limits) (asks : AsksFor words (Report kind name limits)) where
     two_names : (text : List ℕ) (a b : Outcome) → held 0 name ≡ Some text → Names limits text a → Names limits text b → NameOneStep words held a.err b.err
     two_names text a b there one other =
-        let second = subst (λ (file : PlainFile). IsFirstOver limits file other.over) (one_file text other.file one.file other.formula one.formula) other.is in
+        let second = subst (λ (file : PlainFile). IsFirstOver limits file other.over) (one_file one_tree text other.file one.file other.formula one.formula) other.is in
         record {
           asks = record { kind = kind; name = name; limits = limits; asked = asks; text = text; there = there; file = one.file; formula = one.formula };
           first = one.over;
@@ -233,13 +224,20 @@ module _ (one_tree : SpellsOne) (one_fault : FaultIsUnique) (one_verdict : OneVe
     one_step_named a b None there p q over over' = absurd p
     one_step_named a b (Some text) there p q over over' = two_names text a b there (named kind limits text a p over) (named kind limits text b q over')
 
-  -- two messages of one step agree but for the message
-  one_over : (limits : Limits) (which : Which) (file : PlainFile) (a b : Outcome) (over another : Over) → a ≡ refused (Budget over) which → b ≡ refused (Budget another) which → Agrees a b
-  one_over limits which file a b over another e e' = record {
-    status = ap (λ (o : Outcome). o.status) e ∙ sym (ap (λ (o : Outcome). o.status) e');
-    report = inl (ap (λ (o : Outcome). o.out) e ∙ sym (ap (λ (o : Outcome). o.out) e'));
-    message = λ taken within. absurd (within (ap (λ (o : Outcome). o.status) e));
-  }
+  -- two messages of one step are the same, or name one excess each
+  one_over : (limits : Limits) (which : Which) (file : PlainFile) (a b : Outcome) (over another : Over) → IsFirstOver limits file over → IsFirstOver limits file another
+      → a ≡ refused (Budget over) which → b ≡ refused (Budget another) which → Agrees a b
+  one_over limits which file a b over another is is' e e' =
+      let said = ap (λ (o : Outcome). o.err) e in
+      let other_said = ap (λ (o : Outcome). o.err) e' in
+      record {
+        status = ap (λ (o : Outcome). o.status) e ∙ sym (ap (λ (o : Outcome). o.status) e');
+        report = inl (ap (λ (o : Outcome). o.out) e ∙ sym (ap (λ (o : Outcome). o.out) e'));
+        message = λ taken. elim (same_or_other over.excess another.excess) [
+          | inl same ↦ inl (said ∙ ap (λ (o : Over). line_of (Budget o) which) (one_excess limits file over another is is' same) ∙ sym other_said)
+          | inr differ ↦ inr (OfStep which over another differ (one_first limits file over another is is') (one_place limits file over another is is') said other_said)
+        ];
+      }
 
   one_report : (kind : ReportKind) (limits : Limits) (file : PlainFile) (a b : Outcome) → IsReport kind limits file a → IsReport kind limits file b → Agrees a b
   one_report kind limits file a b r s =
@@ -249,13 +247,13 @@ module _ (one_tree : SpellsOne) (one_fault : FaultIsUnique) (one_verdict : OneVe
         status = r.status ∙ ap status_of_verdict same ∙ sym s.status;
         report = one_text one_automaton one_automaton_file (length file.variables) (models file) (texts_of file.variables) r.verdict s.verdict r.counts s.counts a.out b.out kind same
             counts r.says s.says;
-        message = λ taken within. r.no_message ∙ sym s.no_message;
+        message = λ taken. inl (r.no_message ∙ sym s.no_message);
       }
 
   one_budgeted : (limits : Limits) (which : Which) (RightFor : PlainFile → Outcome → Type 0)
       → ((file : PlainFile) (a b : Outcome) → RightFor file a → RightFor file b → Agrees a b)
       → (file : PlainFile) (a b : Outcome) → IsBudgeted limits which RightFor file a → IsBudgeted limits which RightFor file b → Agrees a b
-  one_budgeted limits which RightFor one file a b (OverBudget over is e) (OverBudget another is' e') = one_over limits which file a b over another e e'
+  one_budgeted limits which RightFor one file a b (OverBudget over is e) (OverBudget another is' e') = one_over limits which file a b over another is is' e e'
   one_budgeted limits which RightFor one file a b (OverBudget over is e) (WithinBudget within right) =
       absurd (none_over (length file.variables) (core_of_file file) limits (kind_of over.excess) over.step within is.is_over)
   one_budgeted limits which RightFor one file a b (WithinBudget within right) (OverBudget over is e) =
@@ -263,11 +261,17 @@ module _ (one_tree : SpellsOne) (one_fault : FaultIsUnique) (one_verdict : OneVe
   one_budgeted limits which RightFor one file a b (WithinBudget within right) (WithinBudget within' right') = one file a b right right'
 
   one_difference : (limits : Limits) (one other : PlainFile) (a b : Outcome) → IsDifference limits one other a → IsDifference limits one other b → Agrees a b
-  one_difference limits one other a b (OverProduct excess over e) (OverProduct excess' over' e') = record {
-    status = ap (λ (o : Outcome). o.status) e ∙ sym (ap (λ (o : Outcome). o.status) e');
-    report = inl (ap (λ (o : Outcome). o.out) e ∙ sym (ap (λ (o : Outcome). o.out) e'));
-    message = λ taken within. absurd (within (ap (λ (o : Outcome). o.status) e));
-  }
+  one_difference limits one other a b (OverProduct excess over e) (OverProduct excess' over' e') =
+      let said = ap (λ (o : Outcome). o.err) e in
+      let other_said = ap (λ (o : Outcome). o.err) e' in
+      record {
+        status = ap (λ (o : Outcome). o.status) e ∙ sym (ap (λ (o : Outcome). o.status) e');
+        report = inl (ap (λ (o : Outcome). o.out) e ∙ sym (ap (λ (o : Outcome). o.out) e'));
+        message = λ taken. elim (same_or_other excess excess') [
+          | inl same ↦ inl (said ∙ ap (λ (x : Excess). line_of (Product x (limit_of x limits)) Only) same ∙ sym other_said)
+          | inr differ ↦ inr (OfProduct excess excess' (limit_of excess limits) (limit_of excess' limits) differ said other_said)
+        ];
+      }
   one_difference limits one other a b (OverProduct excess over e) (WithinProduct within is) =
       absurd (one_comparison limits (length one.variables) (models one) (models other) (TooMany (kind_of excess)) (Least is.least) over (within, is.is_least))
   one_difference limits one other a b (WithinProduct within is) (OverProduct excess over e) =
@@ -297,7 +301,7 @@ module _ (one_tree : SpellsOne) (one_fault : FaultIsUnique) (one_verdict : OneVe
       record {
         status = p.status ∙ sym q.status;
         report = inl (p.says ∙ ap summary_text same ∙ sym q.says);
-        message = λ taken within. p.no_message ∙ sym q.no_message;
+        message = λ taken. inl (p.no_message ∙ sym q.no_message);
       }
 
   one_fulfilled : (request : Request) (held : Texts) (a b : Outcome) → Fulfils request held a → Fulfils request held b → Agrees a b
@@ -313,16 +317,9 @@ module _ (one_tree : SpellsOne) (one_fault : FaultIsUnique) (one_verdict : OneVe
       one_held_replay subsets one_trace_verdict one_text_of_answers subset (held 0 observer) (held 1 trace) a b p q
   one_fulfilled (Sweep seed count) held a b p q = one_swept seed count a b p q
 
-  -- words ask for one thing
-  one_request : (words : List (List ℕ)) (r s : Request) → AsksFor words r → AsksFor words s → r ≡ s
-  one_request words r s asks asks' = some_same r s (sym asks.asked ∙ asks'.asked)
-    where
-      some_same : (r s : Request) → Some r ≡ Some s → r ≡ s
-      some_same r s e = cc
-
   one_right : (words : List (List ℕ)) (held : Texts) (one other : Outcome) → IsRight words held one → IsRight words held other → Agrees one other
   one_right words held one other (Misused not s o) (Misused not' s' o') =
-      record { status = s ∙ sym s'; report = inl (o ∙ sym o'); message = λ told within. absurd (told s) }
+      record { status = s ∙ sym s'; report = inl (o ∙ sym o'); message = λ taken. absurd (taken s) }
   one_right words held one other (Misused not s o) (Fulfilled request asked right) = absurd (not asked.taken)
   one_right words held one other (Fulfilled request asked right) (Misused not s o) = absurd (not asked.taken)
   one_right words held one other (Fulfilled r asked right) (Fulfilled s asked' right') =

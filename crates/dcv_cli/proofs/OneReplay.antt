@@ -81,7 +81,7 @@ module _ (subsets : AreSubsets) where
         record {
           status = p.status ∙ ap (λ verdict. status_of_trace (fault_of_trace verdict)) (sym same) ∙ sym q.status;
           report = inl (one_text observer [] (good_letters p.verdict) a.out b.out p.answers answers);
-          message = λ taken within. p.message ∙ ap (λ verdict. message_of_trace (fault_of_trace verdict)) (sym same) ∙ sym q.message;
+          message = λ taken. inl (p.message ∙ ap (λ verdict. message_of_trace (fault_of_trace verdict)) (sym same) ∙ sym q.message);
         }
 
     one_on_trace : (trace : Option (List ℕ)) (observer : Observer) (a b : Outcome) → IsSomeAnd trace (λ text. IsReplay observer text a)

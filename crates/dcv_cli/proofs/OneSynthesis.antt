@@ -43,11 +43,11 @@ module _ (one_table : OneCanonicalTable) (one_unit : OneUnitIsRight) (one_strate
 
     one_synthesis : (a b : Outcome) → IsSynthesis n m L names a → IsSynthesis n m L names b → Agrees a b
     one_synthesis a b (Realisable x status message) (Realisable y status' message') =
-        record { status = status ∙ sym status'; report = inl (one_controller a.out b.out x y); message = λ told within. message ∙ sym message' }
+        record { status = status ∙ sym status'; report = inl (one_controller a.out b.out x y); message = λ taken. inl (message ∙ sym message') }
     one_synthesis a b (Realisable x status message) (Unrealisable y status' message') = absurd (not_both_are_said a.out b.out x y)
     one_synthesis a b (Unrealisable x status message) (Realisable y status' message') = absurd (not_both_are_said b.out a.out y x)
     one_synthesis a b (Unrealisable x status message) (Unrealisable y status' message') =
-        record { status = status ∙ sym status'; report = inl (one_list_of_moves a.out b.out x y); message = λ told within. message ∙ sym message' }
+        record { status = status ∙ sym status'; report = inl (one_list_of_moves a.out b.out x y); message = λ taken. inl (message ∙ sym message') }
 
   pub one_synthesis_of : (inputs : ℕ) (file : PlainFile) (a b : Outcome) → IsSynthesisOf inputs file a → IsSynthesisOf inputs file b → Agrees a b
   one_synthesis_of inputs file a b x y = one_synthesis inputs (length file.variables - inputs) (models file) (take inputs (texts_of file.variables)) a b x y

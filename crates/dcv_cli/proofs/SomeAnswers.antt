@@ -7,7 +7,7 @@ use Rattle.dcv_language.specs.Certificate.{AreToldBy}
 use Rattle.dcv_language.proofs.Ascending.{Member-from_IsAmong}
 use Rattle.dcv_automaton_text.specs.File.{AutomatonFile}
 use Rattle.dcv_automaton_text.specs.Meaning.{suffix_words_of}
-use Rattle.dcv_cli.proofs.ToldWords.{told_or_not, told_by}
+use Rattle.dcv_quotient.proofs.ToldWords.{told_or_not, told_by}
 use Rattle.dcv_certify.specs.Certified.{set_of, word_at, landed, HasGoodWords, AreTold, IsPair, IsNoLaterPair, IsFirstPair, IsCertified}
 use Rattle.dcv_certify.specs.declared.answer.Answer.{Answer}
 use Rattle.dcv_certify.specs.declared.answer.Answer.TheVariants.{Minimal, Access, Pair}

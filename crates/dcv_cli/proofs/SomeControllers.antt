@@ -29,9 +29,9 @@ use Rattle.dcv_synth.specs.declared.strategy.Strategy.{Strategy}
 use Rattle.dcv_cli.specs.Outcome.{Outcome}
 use Rattle.dcv_cli.specs.declared.status.Status.TheVariants.{Valid, NotValid}
 use Rattle.dcv_cli.specs.Synthesis.{controller_text, strategy_text, SaysController, SaysStrategy, IsSynthesis, Realisable, Unrealisable}
-use Rattle.dcv_cli.proofs.SomeAutomata.{rows_of}
-use Rattle.dcv_cli.proofs.SomeControls.{IsControlFor, some_control}
-use Rattle.dcv_cli.proofs.SomeSyntheses.{some_synthesis}
+use Rattle.dcv_existence.proofs.SomeAutomata.{rows_of}
+use Rattle.dcv_existence.proofs.SomeControls.{IsControlFor, some_control}
+use Rattle.dcv_existence.proofs.SomeSyntheses.{some_synthesis}
 
 -- ---- lines
 

@@ -61,7 +61,7 @@ use Rattle.dcv_command.proofs.Ranges.{request_is_in_range}
 use Rattle.dcv_cli.specs.Request.{AsksFor}
 use Rattle.dcv_cli.specs.Right.{Fulfils, IsRight, Misused, Fulfilled}
 use Rattle.dcv_cli.specs.Synthesis.{IsSynthesised}
-use Rattle.dcv_cli.proofs.AutomatonForms.{some_form}
+use Rattle.dcv_automaton_lines.proofs.ReadForms.{some_form}
 use Rattle.dcv_cli.proofs.OneReplay.{some_replay}
 use Rattle.dcv_cli.proofs.SomeAnswers.{some_answer}
 use Rattle.dcv_cli.proofs.SomeReports.{some_sweep, some_comparison}

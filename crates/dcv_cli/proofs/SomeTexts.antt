@@ -30,8 +30,8 @@ use Rattle.dcv_print.specs.declared.report.Kind.{Kind}
 use Rattle.dcv_print.specs.declared.report.Kind.TheVariants.{Check, Automaton, Lustre, C, All}
 use Rattle.dcv_cli.specs.Automaton.{SaysAutomaton}
 use Rattle.dcv_cli.specs.Report.{SaysAll, Says}
-use Rattle.dcv_cli.proofs.SomeCertificates.{some_certificate_of}
-use Rattle.dcv_cli.proofs.SomeSpellings.{some_spellings, some_suffixes}
+use Rattle.dcv_quotient.proofs.SomeCertificates.{some_certificate_of}
+use Rattle.dcv_existence.proofs.SomeSpellings.{some_spellings, some_suffixes}
 
 -- words of access and suffixes that show that the automaton has the fewest states
 record HasProof (raw : RawValue) : Type 0 where

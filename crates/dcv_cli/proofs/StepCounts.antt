@@ -23,8 +23,7 @@ use Rattle.dcv_scope.specs.declared.faults.ScopeFault.{ScopeFault}
 use Rattle.dcv_syntax.specs.Plain.{PlainFile}
 use Rattle.dcv_cli.specs.Budget.{steps_of_file}
 use Rattle.dcv_cli.specs.FormulaFile.{IsFormulaFile}
-use Rattle.dcv_cli.proofs.SpansRead.{file_begins}
-use Rattle.dcv_cli.proofs.StepSpans.{step_of_file_begins}
+use Rattle.dcv_places.proofs.StepSpans.{steps_begin_in_text}
 use Rattle.dcv_cli.proofs.VariableNames.{none_of_both}
 
 -- ---- a row
@@ -86,7 +85,7 @@ module _ (steps_are_few : StepsAreFew) (text : List ℕ) (file : PlainFile) (is 
       let done = are.done.each place step.0 _ step.1 (slice_get-get_or are.tables place [] (omega (arith, within, are.one_each, are.all))) in
       let row = row_at step.0 are.tables in
       let short = is.sentence.fits in
-      let begins = step_of_file_begins (length text) file place step.0 (file_begins text file is.sentence.spelled) step.1 in
+      let begins = steps_begin_in_text text file is.sentence.spelled place step.0 step.1 in
       let states = states_within row limits done.within count.states count.nodes one.counts in
       let nodes = nodes_within row limits done.within count.states count.nodes one.counts in
       record {

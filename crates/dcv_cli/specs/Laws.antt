@@ -1,13 +1,10 @@
 -- The laws that `src/laws.rt` proves.
-use Rattle.std.specs.Prelude.{◌≡◌, ◌≢◌, ℕ, List, Some, IsSome, IsTrue, length, map, codes}
+use Rattle.std.specs.Prelude.{◌≡◌, ◌≢◌, ℕ, List, Some, IsSome, IsTrue, length, codes}
 use Rattle.std.specs.List.{All}
-use Rattle.std.specs.List.Sorted.{IsStrictlyIncreasing}
 use Rattle.dcv_syntax.specs.Plain.{PlainFile}
 use Rattle.dcv_language.specs.Language.{HaveSameBehaviours}
 use Rattle.dcv_logic.specs.Models.{models}
-use Rattle.dcv_reader.specs.Spelling.{Spells}
 use Rattle.dcv_tokens.specs.Tokens.{BeginsWith}
-use Rattle.dcv_scope.specs.Names.{occurrences_in_file}
 use Rattle.dcv_print.specs.Printed.{texts_of}
 use Rattle.dcv_explore.specs.Budget.{Kind as KindOfExcess}
 use Rattle.dcv_explore.specs.declared.explorer.Limits.{Limits}
@@ -43,8 +40,8 @@ pub record AskForAFormula (words : List (List ℕ)) (held : Texts) : Type 0 wher
 
 -- ---- one outcome
 
--- Both messages are of the first step over the limits of the file that the words name. Where they name one excess they are the same;
--- where one names the states and the other the nodes, the step has too many of both.
+-- Of a report both messages are of the first step over the limits of the file that the words name. Where they name one excess they are the
+-- same; where one names the states and the other the nodes, the step has too many of both.
 pub record NameOneStep (words : List (List ℕ)) (held : Texts) (one other : List ℕ) : Type 0 where
   pub asks : AskForAFormula words held
   pub first : Over
@@ -161,10 +158,3 @@ pub record AreOneRequirement (first second : List ℕ) : Type 0 where
 -- those that imply each other do, so that all that is printed of one is printed of the other, but for suffixes and what the steps took
 abbrev pub ImpliesBothWays : Type 0
 ImpliesBothWays = (first second : List ℕ) → Implied first second → Implied second first → AreOneRequirement first second
-
--- ---- the order of names
-
--- the names of a file that a text spells occur in the order of their offsets, so the first fault among them is that at the least
-abbrev pub NamesAscend : Type 0
-NamesAscend = (text : List ℕ) (file : PlainFile) → Spells text file
-    → IsStrictlyIncreasing (map (λ o. o.name.span.start) (occurrences_in_file file))

@@ -18,10 +18,11 @@ pub mod Replayed
 pub mod Synthesis
 pub mod Swept
 pub mod Right
+pub mod Headline
 pub mod Ending
-pub mod Performed
 pub mod Laws
 -- what clauses within the crate cite
+pub mod Performed
 pub mod Expanded
 pub mod Judged
 pub mod Synthesised

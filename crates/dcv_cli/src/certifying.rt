@@ -1,13 +1,9 @@
 // The command that asks whether the words of an automaton's text show that it is minimal.
-ghost use Rattle.std.specs.Prelude.{◌≡◌, ◌≤◌, length, is_err, IfOk, IfErr, OnOk, OnErr, IsTrue};
-ghost use Rattle.dcv_io.specs.Faults.{RisesIf};
-ghost use Rattle.dcv_io.specs.Putting.{Puts};
-ghost use Rattle.dcv_io.specs.Written.{Appends, AppendsStrictPrefix};
-ghost use Rattle.dcv_language.specs.VerdictText.{line};
+ghost use Rattle.std.specs.Prelude.{◌≡◌, ◌≤◌, length, IfOk, IfErr, IsTrue};
 ghost use Rattle.dcv_command.specs.Request.{Certify};
 ghost use Rattle.std.specs.Bool.{OnTrue};
 ghost use Rattle.dcv_cli.specs.AutomatonFile.{IsRefusedAutomaton};
-ghost use Rattle.dcv_cli.specs.Certificate.{answer_words, status_of_answer, IsCertifiedText};
+ghost use Rattle.dcv_cli.specs.Certificate.{status_of_answer, IsCertifiedText};
 ghost use Rattle.dcv_cli.specs.Status.{is_determined};
 ghost use Rattle.dcv_cli.specs.Outside.{outside};
 ghost use Rattle.dcv_cli.specs.Performed.{PerformsRequest};
@@ -16,11 +12,12 @@ ghost use Rattle.dcv_cli.specs.Refusal.{most_automaton_bytes, is_of_text, status
 use crate::faults::{AutomatonFault, MOST_AUTOMATON_BYTES};
 use crate::refusal::Refusal;
 use crate::refused::Refused;
+use crate::replying::{Reply, send};
 use crate::status::Status;
 use crate::taking::take;
 use dcv_automaton_read::automaton_read;
 use dcv_certify::{Answer, certify};
-use dcv_io::{Block, Failed, Files, Sink, Target, put_pieces};
+use dcv_io::{Files, Sink, Target, put_pieces};
 use itoa::Buffer;
 use std::alloc::Global;
 
@@ -50,7 +47,7 @@ pub(crate) fn certify_file<F: Files, O: Sink>(
         Refusal::Automaton(AutomatonFault::Length),
     )?;
     let certified = judge(alloc, &text)?;
-    certified.send(out)?;
+    send(&certified, out)?;
     Ok(certified.status())
 }
 
@@ -78,21 +75,15 @@ impl Certified {
             Answer::Access { .. } | Answer::Pair { .. } => Status::NotValid,
         }
     }
+}
 
-    // Writes the line that says it.
-    fn send<S: Sink>(self, sink: &mut S) -> Result<(), Failed>
-        ensures ok { OnOk result (Appends (S.written sink.old) (S.written sink.new) (line (answer_words self.states self.answer))) }
-        ensures failed { OnErr result (AppendsStrictPrefix (S.written sink.old) (S.written sink.new) (line (answer_words self.states self.answer))) }
-        ensures faults { RisesIf (is_err result) (S.faults sink.old) (S.faults sink.new) }
-    {
-        let mut block = Block::new(sink);
-        self.put(&mut block);
-        block.finish()
-    }
+impl Reply for Certified {
+    ghost use Rattle.dcv_language.specs.VerdictText.{line};
+    ghost use Rattle.dcv_cli.specs.Certificate.{answer_words};
 
-    fn put<T: Target>(self, target: &mut T)
-        ensures { Puts (T.standing target.old) (T.standing target.new) (line (answer_words self.states self.answer)) }
-    {
+    ghost text = { λ certified. line (answer_words certified.states certified.answer) };
+
+    fn put<T: Target>(&self, target: &mut T) {
         let (mut one, mut other) = (Buffer::new(), Buffer::new());
         match self.answer {
             Answer::Minimal => put_pieces(

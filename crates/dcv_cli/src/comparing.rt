@@ -1,14 +1,11 @@
 // The command that compares the requirements of two formula files.
-ghost use Rattle.std.specs.Prelude.{◌≡◌, [], ◌∷◌, is_err, IfOk, IfErr, OnOk, OnErr, IsTrue};
+ghost use Rattle.std.specs.Prelude.{◌≡◌, [], ◌∷◌, IfOk, IfErr, IsTrue};
 ghost use Rattle.std.specs.Bool.{OnTrue};
-ghost use Rattle.dcv_io.specs.Faults.{RisesIf};
-ghost use Rattle.dcv_io.specs.Putting.{Puts};
-ghost use Rattle.dcv_io.specs.Written.{Appends, AppendsStrictPrefix};
 ghost use Rattle.dcv_syntax.specs.Plain.{PlainFile};
 ghost use Rattle.dcv_command.specs.Request.{Implies, AreInRange};
 ghost use Rattle.dcv_implies.specs.Comparison.{letters_of};
 ghost use Rattle.dcv_print.specs.Printed.{texts_of};
-ghost use Rattle.dcv_cli.specs.Comparison.{comparison_text, status_of_least, compared, have_same_texts, IsCompared, FulfilsSecond};
+ghost use Rattle.dcv_cli.specs.Comparison.{status_of_least, compared, have_same_texts, IsCompared, FulfilsSecond};
 ghost use Rattle.dcv_cli.specs.Ending.{has_cause};
 ghost use Rattle.dcv_cli.specs.Expanded.{IsExpanded, IsOfFile};
 ghost use Rattle.dcv_cli.specs.Outcome.{IsExplained};
@@ -22,11 +19,12 @@ use crate::expanded::{Expanded, built, expanded_file};
 use crate::faults::FormulaFault;
 use crate::refusal::Refusal;
 use crate::refused::{Refused, Which};
+use crate::replying::{Reply, send};
 use crate::status::Status;
 use dcv_explore::Limits;
 use dcv_implies::laws::{answers_are_of_sets, none_is_inclusion};
 use dcv_implies::least_outside;
-use dcv_io::{Block, Failed, Files, Sink, Target};
+use dcv_io::{Files, Sink, Target};
 use dcv_print::put_word;
 use dcv_syntax::Name;
 use dcv_word::Word;
@@ -78,7 +76,7 @@ fn compare_with<F: Files, O: Sink>(
         Err(refusal) => return Err(refusal.in_file(Which::Second)),
     };
     let compared = compare(alloc, one, &other, limits)?;
-    compared.send(out)?;
+    send(&compared, out)?;
     Ok(compared.status())
 }
 
@@ -145,21 +143,15 @@ impl Compared {
             Status::NotValid
         }
     }
+}
 
-    // Writes the lines that say it.
-    fn send<S: Sink>(&self, sink: &mut S) -> Result<(), Failed>
-        ensures ok { OnOk result (Appends (S.written sink.old) (S.written sink.new) (comparison_text (letters_of self.now.least))) }
-        ensures failed { OnErr result (AppendsStrictPrefix (S.written sink.old) (S.written sink.new) (comparison_text (letters_of self.now.least))) }
-        ensures faults { RisesIf (is_err result) (S.faults sink.old) (S.faults sink.new) }
-    {
-        let mut block = Block::new(sink);
-        self.put(&mut block);
-        block.finish()
-    }
+impl Reply for Compared {
+    ghost use Rattle.dcv_implies.specs.Comparison.{letters_of};
+    ghost use Rattle.dcv_cli.specs.Comparison.{comparison_text};
 
-    fn put<T: Target>(&self, target: &mut T)
-        ensures { Puts (T.standing target.old) (T.standing target.new) (comparison_text (letters_of self.now.least)) }
-    {
+    ghost text = { λ compared. comparison_text (letters_of compared.least) };
+
+    fn put<T: Target>(&self, target: &mut T) {
         if self.least.is_none() {
             target.put(b"implies\n");
             return;

@@ -1,9 +1,6 @@
 // The command that asks for an automaton's text in a version.
-ghost use Rattle.std.specs.Prelude.{◌≡◌, ◌≤◌, length, is_err, IfOk, IfErr, OnOk, OnErr, IsTrue};
+ghost use Rattle.std.specs.Prelude.{◌≡◌, ◌≤◌, length, IfOk, IfErr, IsTrue};
 ghost use Rattle.std.specs.Bool.{OnTrue};
-ghost use Rattle.dcv_io.specs.Faults.{RisesIf};
-ghost use Rattle.dcv_io.specs.Putting.{Puts};
-ghost use Rattle.dcv_io.specs.Written.{Appends, AppendsStrictPrefix};
 ghost use Rattle.dcv_automaton_text.specs.Form.{HasForm};
 ghost use Rattle.dcv_automaton_text.specs.Spelled.{spelled};
 ghost use Rattle.dcv_command.specs.Request.{Convert};
@@ -17,12 +14,13 @@ ghost use Rattle.dcv_cli.specs.Refusal.{most_automaton_bytes, is_of_text, status
 use crate::faults::{AutomatonFault, MOST_AUTOMATON_BYTES};
 use crate::refusal::Refusal;
 use crate::refused::Refused;
+use crate::replying::{Reply, send};
 use crate::status::Status;
 use crate::taking::take;
 use dcv_automaton_read::{AutoFile, automaton_read};
 use dcv_automaton_text::laws::versions_stand_for_the_same;
 use dcv_command::Version;
-use dcv_io::{Block, Failed, Files, Sink, Target};
+use dcv_io::{Files, Sink, Target};
 use std::alloc::Global;
 
 // How many bytes of a text say which version it is of: those of `automaton 1`.
@@ -56,7 +54,7 @@ pub(crate) fn convert_file<F: Files, O: Sink>(
         Refusal::Automaton(AutomatonFault::Length),
     )?;
     let conversion = convert(alloc, &text, to)?;
-    conversion.send(out)?;
+    send(&conversion, out)?;
     Ok(Status::Done)
 }
 
@@ -116,21 +114,12 @@ fn unchanged<'a>(text: &'a [u8]) -> Conversion<'a>
     }
 }
 
-impl Conversion<'_> {
-    // Writes the text.
-    fn send<S: Sink>(self, sink: &mut S) -> Result<(), Failed>
-        ensures ok { OnOk result (Appends (S.written sink.old) (S.written sink.new) (conversion_text self.entry)) }
-        ensures failed { OnErr result (AppendsStrictPrefix (S.written sink.old) (S.written sink.new) (conversion_text self.entry)) }
-        ensures faults { RisesIf (is_err result) (S.faults sink.old) (S.faults sink.new) }
-    {
-        let mut block = Block::new(sink);
-        self.put(&mut block);
-        block.finish()
-    }
+impl Reply for Conversion<'_> {
+    ghost use Rattle.dcv_cli.specs.Conversion.{conversion_text};
 
-    fn put<T: Target>(self, target: &mut T)
-        ensures { Puts (T.standing target.old) (T.standing target.new) (conversion_text self.entry) }
-    {
+    ghost text = { conversion_text };
+
+    fn put<T: Target>(&self, target: &mut T) {
         target.put(self.head);
         target.put(self.said);
         target.put(self.end);

@@ -1,5 +1,6 @@
 //! Laws on what is right, each the contract of a function that does nothing.
-ghost use Rattle.dcv_cli.specs.Laws.{OneOutcome, SomeOutcome, EqualMeanings, PrintedIsCertified, ConvertedBackIsTheText, ImpliesBothWays, NamesAscend};
+ghost use Rattle.dcv_cli.specs.Headline.{Headline, HeadlineIsComplete};
+ghost use Rattle.dcv_cli.specs.Laws.{OneOutcome, SomeOutcome, EqualMeanings, PrintedIsCertified, ConvertedBackIsTheText, ImpliesBothWays};
 
 use dcv_automaton_text::laws::{one_file as one_automaton_text, versions_stand_for_the_same};
 use dcv_build::laws::{machines_accept_steps, one_list_of_counts, one_step_is_over};
@@ -14,8 +15,8 @@ use dcv_language::laws::{
 };
 use dcv_lustre::laws::{texts_are_nodes_or_at_fault, texts_spell_nodes};
 use dcv_print::laws::{
-    automaton_of_same_behaviours, one_automaton, one_file, printed_is_automaton,
-    printed_observers_observe,
+    automaton_has_fewest_states, automaton_of_same_behaviours, one_automaton, one_file,
+    printed_is_automaton, printed_observers_observe,
 };
 use dcv_reader::laws::{names_are_short, one_fault, one_tree, some_reading};
 use dcv_replay::laws::{letters_have_one_text_of_answers, traces_have_one_verdict};
@@ -25,7 +26,20 @@ use dcv_synth::laws::{
     answers_are_one, controls_win, one_side_is_right, some_player_wins, strategies_beat,
     units_answer, units_are_one, winners_of_same_behaviours,
 };
-use dcv_word::laws::{word_order_is_kept, words_are_in_order};
+
+/// The promise of the program, of whatever is right where the words ask for `all` of a text: its first fault is named, or the first step that
+/// is over the limits; or an automaton, a Lustre observer and a C observer are printed that each, by its own written meaning, accept exactly the
+/// behaviours that satisfy the formula, no automaton with fewer states does, as its printed words show, and the status is 0 exactly where
+/// every behaviour satisfies it, with a shortest counterexample where one does not. All of it is printed of each formula file whose steps are
+/// within the limits.
+pub fn headline()
+    ensures answered { Headline }
+    ensures complete { HeadlineIsComplete }
+{
+    one_tree();
+    one_step_is_over();
+    automaton_has_fewest_states();
+}
 
 /// One outcome at most is right for the words and the texts that are held. So each status, report and message that
 /// the clauses of [`run`](crate::run) call right is the only one.
@@ -82,8 +96,6 @@ pub fn some_outcome()
     strategies_beat();
     winners_of_same_behaviours();
     units_answer();
-    words_are_in_order();
-    word_order_is_kept();
 }
 
 /// Formula files with the same variables and the same models have the same answer: the same verdict, the same observers, and the same
@@ -126,9 +138,3 @@ pub fn implies_both_ways()
     one_tree();
     none_is_inclusion();
 }
-
-/// The names of a text occur in the order of their offsets. So the first fault of names, which counts, is the one at the least
-/// offset.
-pub fn names_ascend()
-    ensures { NamesAscend }
-{}

@@ -29,6 +29,7 @@ mod performing;
 mod refusal;
 mod refused;
 mod replaying;
+mod replying;
 mod reporting;
 mod running;
 mod status;

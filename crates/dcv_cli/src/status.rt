@@ -35,8 +35,8 @@ pub enum Status {
 }
 
 impl Status {
-    /// Of a run that answers with this verdict: valid where there is no counterexample.
-    pub fn of(verdict: &Verdict) -> Status
+    // Of a run that answers with this verdict: valid where there is no counterexample.
+    pub(crate) fn of(verdict: &Verdict) -> Status
         ensures { result ≡ status_of_verdict (seen_verdict verdict.now) }
     {
         if verdict.is_valid() {

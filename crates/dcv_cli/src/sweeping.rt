@@ -1,17 +1,15 @@
 // The command that counts what holds of formulas that are drawn.
-ghost use Rattle.std.specs.Prelude.{◌≡◌, ℕ, List, Option, is_err, OnOk, OnErr};
+ghost use Rattle.std.specs.Prelude.{◌≡◌, ℕ, List, Option};
 ghost use Rattle.dcv_io.specs.Disk.{Disk};
-ghost use Rattle.dcv_io.specs.Faults.{RisesIf};
-ghost use Rattle.dcv_io.specs.Written.{Appends, AppendsStrictPrefix};
-ghost use Rattle.dcv_sweep.specs.SummaryText.{summary_text};
 ghost use Rattle.dcv_command.specs.Request.{Sweep, CanBeDrawn};
 ghost use Rattle.dcv_cli.specs.Outside.{outside};
 ghost use Rattle.dcv_cli.specs.Performed.{PerformsRequest};
 
 use crate::refused::Refused;
+use crate::replying::{Reply, send};
 use crate::status::Status;
 use dcv_explore::Limits;
-use dcv_io::{Block, Failed, Sink};
+use dcv_io::{Sink, Target};
 use dcv_sweep::{Summary, sweep};
 use std::alloc::Global;
 
@@ -39,13 +37,12 @@ pub(crate) fn sweep_formulas<O: Sink>(
     Ok(Status::Done)
 }
 
-// Writes the lines of the summary.
-fn send<S: Sink>(summary: &Summary, sink: &mut S) -> Result<(), Failed>
-    ensures ok { OnOk result (Appends (S.written sink.old) (S.written sink.new) (summary_text summary.now)) }
-    ensures failed { OnErr result (AppendsStrictPrefix (S.written sink.old) (S.written sink.new) (summary_text summary.now)) }
-    ensures faults { RisesIf (is_err result) (S.faults sink.old) (S.faults sink.new) }
-{
-    let mut block = Block::new(sink);
-    summary.put(&mut block);
-    block.finish()
+impl Reply for Summary {
+    ghost use Rattle.dcv_sweep.specs.SummaryText.{summary_text};
+
+    ghost text = { summary_text };
+
+    fn put<T: Target>(&self, target: &mut T) {
+        Summary::put(self, target);
+    }
 }

@@ -1,9 +1,7 @@
 // The command that asks for a controller which keeps to the requirement of a formula file.
-ghost use Rattle.std.specs.Prelude.{◌≡◌, ◌≤◌, ◌<◌, ◌-◌, ◌∷◌, [], ℕ, length, take, is_err, IfOk, OnOk, OnErr, IsTrue};
+ghost use Rattle.std.specs.Prelude.{◌≡◌, ◌≤◌, ◌<◌, ◌-◌, ◌∷◌, [], ℕ, length, take, IfOk, IsTrue};
 ghost use Rattle.std.specs.List.{flat_map};
-ghost use Rattle.dcv_io.specs.Faults.{RisesIf};
 ghost use Rattle.dcv_io.specs.Putting.{Puts};
-ghost use Rattle.dcv_io.specs.Written.{Appends, AppendsStrictPrefix};
 ghost use Rattle.dcv_language.specs.Language.{Language};
 ghost use Rattle.dcv_automaton_text.specs.Rules.{most_nodes};
 ghost use Rattle.dcv_dfa.specs.Raw.{automaton_of};
@@ -15,19 +13,20 @@ ghost use Rattle.dcv_cli.specs.Judged.{CanBePrinted};
 ghost use Rattle.dcv_cli.specs.Outside.{outside};
 ghost use Rattle.dcv_cli.specs.Performed.{PerformsRequest};
 ghost use Rattle.dcv_cli.specs.Synthesis.{can_be_divided as can_be_divided_so, move_line, strategy_text, IsSynthesis};
-ghost use Rattle.dcv_cli.specs.Synthesised.{status_of_synthesis, synthesis_text, synthesised};
+ghost use Rattle.dcv_cli.specs.Synthesised.{status_of_synthesis, synthesised};
 
 use crate::expanded::expanded_file;
 use crate::faults::FormulaFault;
 use crate::judged::Judged;
 use crate::refusal::Refusal;
 use crate::refused::{Refused, Which};
+use crate::replying::{Reply, send};
 use crate::reporting::judge;
 use crate::status::Status;
 use dcv_c::laws::texts_spell_units;
 use dcv_c::{CUnit, put as put_unit};
 use dcv_explore::Limits;
-use dcv_io::{Block, Failed, Files, Sink, Target, put_pieces};
+use dcv_io::{Files, Sink, Target, put_pieces};
 use dcv_print::put_letter;
 use dcv_syntax::Name;
 use dcv_synth::laws::{
@@ -70,7 +69,7 @@ pub(crate) fn synthesise_file<F: Files, O: Sink>(
     }
     let judged = judge(alloc, expanded, limits)?;
     let found = synthesise(alloc, &judged, inputs as u8)?;
-    found.send(out)?;
+    send(&found, out)?;
     Ok(found.status())
 }
 
@@ -137,21 +136,14 @@ impl Synthesis {
             Synthesis::Strategy(_) => Status::NotValid,
         }
     }
+}
 
-    // Writes the lines that say it.
-    fn send<S: Sink>(&self, sink: &mut S) -> Result<(), Failed>
-        ensures ok { OnOk result (Appends (S.written sink.old) (S.written sink.new) (synthesis_text self.now)) }
-        ensures failed { OnErr result (AppendsStrictPrefix (S.written sink.old) (S.written sink.new) (synthesis_text self.now)) }
-        ensures faults { RisesIf (is_err result) (S.faults sink.old) (S.faults sink.new) }
-    {
-        let mut block = Block::new(sink);
-        self.put(&mut block);
-        block.finish()
-    }
+impl Reply for Synthesis {
+    ghost use Rattle.dcv_cli.specs.Synthesised.{synthesis_text};
 
-    fn put<T: Target>(&self, target: &mut T)
-        ensures { Puts (T.standing target.old) (T.standing target.new) (synthesis_text self.now) }
-    {
+    ghost text = { synthesis_text };
+
+    fn put<T: Target>(&self, target: &mut T) {
         match self {
             Synthesis::Controller(unit) => {
                 target.put(b"realisable\n");

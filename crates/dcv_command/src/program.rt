@@ -27,10 +27,12 @@ const EXAMPLE_AND_STATUS: &str =
   dcvalid certify door.auto
   dcvalid convert door.auto --to 1 > door.auto1
   dcvalid implies door.dc other.dc
-  dcvalid synth door.dc --inputs 0 > controller.c
+  dcvalid synth door.dc --inputs 0 | tail -n +2 > controller.c
   dcvalid c door.dc > door.c
   dcvalid replay-c door.c door.trace
   dcvalid sweep 7 200
+The file door.trace has a line for each instant, with a digit for each variable: 1 where the door is closed.
+The report is on standard output, and the line of a fault on standard error. /dev/stdin is a file too.
 
 Status:
   0  each behaviour satisfies the formula; the automaton is shown to be minimal; A implies B; there is a controller;

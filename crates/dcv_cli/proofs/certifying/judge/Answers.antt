@@ -12,7 +12,7 @@ pub returns-clause-certified : goal.returns-clause-certified
 returns-clause-certified c = record {
   file = c.in_ok-file.file;
   spelled = record { fits = c.requires; form = c.in_ok-file.ensures.form; good = c.in_ok-file.ensures.good };
-  count = c.states.ensures.states;
+  count = c.states.ensures;
   certified = c.in_ok-answer.ensures.answer;
   fewest = c.in_ok-answer.ensures.fewest;
   reached = c.in_ok-answer.ensures.reached;

@@ -3,4 +3,4 @@ use Rattle.dcv_cli.proofs.BothWays.{implies_both_ways}
 use Rattle.dcv_cli.proofs.laws.implies_both_ways.Goals as goal
 
 pub returns : goal.returns
-returns c = implies_both_ways c.one_tree.ensures c.none_is_inclusion.ensures.both
+returns c = implies_both_ways c.one_tree.ensures.text c.none_is_inclusion.ensures.both

@@ -5,7 +5,7 @@ use Rattle.dcv_cli.proofs.laws.one_outcome.Goals as goal
 
 pub returns : goal.returns
 returns c =
-    one_outcome c.one_tree.ensures c.one_fault.ensures c.one_verdict.ensures c.one_step_is_over.ensures.one c.one_step_is_over.ensures.within c.one_list_of_counts.ensures c.one_automaton.ensures
+    one_outcome c.one_tree.ensures.text c.one_fault.ensures c.one_verdict.ensures c.one_step_is_over.ensures.one c.one_step_is_over.ensures.within c.one_list_of_counts.ensures c.one_automaton.ensures
     c.one_file.ensures.one c.one_file-2.ensures c.one_answer.ensures c.one_answer-2.ensures
     (record {
       one_node = c.texts_spell_nodes.ensures.one;

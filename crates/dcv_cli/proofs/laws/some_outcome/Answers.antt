@@ -1,6 +1,6 @@
 -- A text has a first fault or is what it is read as, and what is asked of it is decided: each report is said of an automaton that is made, and
 -- one side wins each game.
-use Rattle.dcv_language.proofs.Words.{WordLaws}
+use Rattle.dcv_quotient.proofs.WordOrder.{word_laws}
 use Rattle.dcv_cli.proofs.SomeControllers.{GameLaws}
 use Rattle.dcv_cli.proofs.SomeKinds.{some_budgeted}
 use Rattle.dcv_cli.proofs.SomeOutcome.{SomeReport, SomeSynthesis, some_outcome}
@@ -10,14 +10,6 @@ use Rattle.dcv_cli.proofs.laws.some_outcome.Goals as goal
 
 pub returns : goal.returns
 returns c =
-    let laws : WordLaws = record {
-      total = c.words_are_in_order.ensures.total;
-      same = c.words_are_in_order.ensures.same;
-      shorter = c.words_are_in_order.ensures.shorter;
-      front = c.word_order_is_kept.ensures.front;
-      end = c.word_order_is_kept.ensures.end;
-      ends = c.word_order_is_kept.ensures.ends;
-    } in
     let game : GameLaws = record {
       not_beaten = c.some_player_wins.ensures.unbeaten;
       win = c.some_player_wins.ensures.win;
@@ -35,11 +27,11 @@ returns c =
     let models_are = c.core_means_text.ensures.whole in
     let short = c.names_are_short.ensures in
     let reports : SomeReport =
-    some_budgeted laws accept outside_is models_are short c.measures_bound_core.ensures.steps
+    some_budgeted word_laws accept outside_is models_are short c.measures_bound_core.ensures.steps
     c.printed_is_automaton.ensures c.printed_observers_observe.ensures.node c.printed_observers_observe.ensures.unit c.automaton_of_same_behaviours.ensures in
     let syntheses : SomeSynthesis = λ inputs limits range text file formula.
-    some_synthesised laws accept models_are game inputs limits file range.within.few_states range.within.few_nodes (are_names short text file formula) formula.has_core in
-    some_outcome c.some_reading.ensures reports syntheses laws accept outside_is models_are c.none_is_inclusion.ensures.none
+    some_synthesised word_laws accept models_are game inputs limits file range.within.few_states range.within.few_nodes (are_names short text file formula) formula.has_core in
+    some_outcome c.some_reading.ensures reports syntheses word_laws accept outside_is models_are c.none_is_inclusion.ensures.none
     c.minimal_shows_fewest_states.ensures.fewest c.minimal_shows_fewest_states.ensures.reached
     c.taken_words_ask.ensures c.texts_are_nodes_or_at_fault.ensures.some c.texts_are_units_or_at_fault.ensures.some
     c.traces_have_one_verdict.ensures.some c.letters_have_one_text_of_answers.ensures.some

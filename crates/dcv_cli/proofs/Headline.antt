@@ -1,0 +1,117 @@
+-- What is right for `all` is what its user is promised.
+use Rattle.std.proofs.Common.{◌≡◌, ◌↔◌, ℕ, Bool, true, false, List, length, Option, None, Some, refl, sym, ap, ◌∙◌, subst}
+use Rattle.std.specs.Prelude.{IsSomeAnd, not}
+use Rattle.std.proofs.lemmas.Bool.{false≢true}
+use Rattle.dcv_word.specs.Behaviour.{Word}
+use Rattle.dcv_syntax.specs.Plain.{PlainFile}
+use Rattle.dcv_logic.specs.Models.{models}
+use Rattle.dcv_language.specs.Language.{Language, HasEvery, outside}
+use Rattle.dcv_language.specs.Verdict.{IsLeastOf, Verdict}
+use Rattle.dcv_language.specs.VerdictText.{verdict_text}
+use Rattle.dcv_reader.specs.Spelling.{SpellsOne}
+use Rattle.dcv_scope.specs.CoreOf.{core_of_file}
+use Rattle.dcv_lustre.specs.Observer.{observer_of as node_of}
+use Rattle.dcv_c.specs.Observer.{observer_of as unit_of}
+use Rattle.dcv_explore.specs.declared.explorer.Limits.{Limits}
+use Rattle.dcv_build.specs.Laws.{WithinExcludesOver}
+use Rattle.dcv_build.specs.Budget.{IsWithinBudget}
+use Rattle.dcv_print.specs.Laws.{AutomatonHasFewestStates}
+use Rattle.dcv_print.specs.Printed.{texts_of}
+use Rattle.dcv_print.specs.Sections.{all_text}
+use Rattle.dcv_print.specs.declared.report.Kind.TheVariants.{All}
+use Rattle.dcv_command.specs.Request.{Request, Report}
+use Rattle.dcv_cli.specs.declared.refused.Which.TheVariants.{Only}
+use Rattle.dcv_cli.specs.declared.status.Status.{Status}
+use Rattle.dcv_cli.specs.declared.status.Status.TheVariants.{Valid, NotValid}
+use Rattle.dcv_cli.specs.Budget.{steps_of_file, kind_of, IsBudgeted, OverBudget, WithinBudget}
+use Rattle.dcv_cli.specs.FormulaFile.{IsFormulaFile, OnText, Refused, Read}
+use Rattle.dcv_cli.specs.Headline.{AllIsSaid, IsAnswered, FirstFault, FirstStep, Said, Headline, HeadlineIsComplete}
+use Rattle.dcv_cli.specs.Outcome.{Outcome}
+use Rattle.dcv_cli.specs.Report.{IsReport}
+use Rattle.dcv_cli.specs.Right.{Fulfils, Misused, Fulfilled}
+use Rattle.dcv_cli.specs.Status.{status_of_verdict}
+use Rattle.dcv_cli.proofs.FormulaFiles.{one_file, refused_or_read}
+use Rattle.dcv_cli.proofs.OneRequest.{one_request}
+
+-- ---- validity
+
+twice_denied : (b : Bool) → not (not b) ≡ true → b ≡ true
+twice_denied true is = refl
+twice_denied false is = is
+
+denied_or_so : (b : Bool) → not b ≡ true → b ≡ true → ⊥
+denied_or_so true is so = false≢true is
+denied_or_so false is so = false≢true so
+
+no_valid : NotValid ≡ Valid → ⊥
+no_valid e = cc
+
+valid_exactly : (k : ℕ) (L : Language) (verdict : Verdict) → IsLeastOf k (outside L) verdict.counterexample → (status_of_verdict verdict ≡ Valid) ↔ HasEvery k L
+valid_exactly k L verdict is = by verdict.counterexample is
+  where
+    of : Option Word → Status
+    of found = status_of_verdict (record { counterexample = found; example = None })
+
+    by : (found : Option Word) → IsLeastOf k (outside L) found → (of found ≡ Valid) ↔ HasEvery k L
+    by None none = (λ valid word behaves. twice_denied (L word) (none word behaves), λ every. refl)
+    by (Some word) least = (λ valid. absurd (no_valid valid), λ every. absurd (denied_or_so (L word) least.member (every word least.behaviour)))
+
+-- ---- what is said
+
+module _ (fewest : AutomatonHasFewestStates) where
+  all_is_said : (limits : Limits) (file : PlainFile) (outcome : Outcome) → IsReport All limits file outcome → AllIsSaid file outcome
+  all_is_said limits file outcome is =
+      let k = length file.variables in
+      let says = is.says in
+      let automaton = says.says_automaton in
+      let valid = valid_exactly k (models file) is.verdict is.is_verdict.counterexample in
+      record {
+        verdict = is.verdict;
+        automaton = automaton.automaton;
+        node = node_of says.says_node.file;
+        unit = unit_of says.says_unit.file;
+        node_text = says.node;
+        unit_text = says.unit;
+        report = says.says ∙ ap (λ text. all_text (verdict_text is.verdict) text says.node says.unit) automaton.says;
+        form = automaton.is.form;
+        rules = automaton.is.rules;
+        accepts = automaton.is.canonical.exact;
+        fewest = λ table are exact. fewest k (models file) (texts_of file.variables) automaton.automaton table automaton.is are exact;
+        certificate = automaton.is.certificate;
+        node_read = says.says_node.read;
+        node_observes = says.says_node.observes;
+        unit_read = says.says_unit.read;
+        unit_observes = says.says_unit.observes;
+        valid = (λ e. valid.0 (sym is.status ∙ e), λ every. is.status ∙ valid.1 every);
+        counterexample = is.is_verdict.counterexample;
+        example = is.is_verdict.example;
+      }
+
+  on_text : (text : List ℕ) (limits : Limits) (outcome : Outcome) → OnText text Only (IsBudgeted limits Only (IsReport All limits)) outcome → IsAnswered text limits outcome
+  on_text text limits outcome (Refused refusal is e) = FirstFault refusal is e
+  on_text text limits outcome (Read file is (OverBudget over first e)) = FirstStep file is over first e
+  on_text text limits outcome (Read file is (WithinBudget within report)) = Said file is (all_is_said limits file outcome report)
+
+  pub headline : Headline
+  headline words held name limits text outcome asks there (Misused not s o) = absurd (not asks.taken)
+  headline words held name limits text outcome asks there (Fulfilled request asked right) =
+      on_text text limits outcome
+      (subst (λ (found : Option (List ℕ)). IsSomeAnd found (λ bytes. OnText bytes Only (IsBudgeted limits Only (IsReport All limits)) outcome)) there
+      (subst (λ (request : Request). Fulfils request held outcome) (one_request words request (Report All name limits) asked asks) right))
+
+  -- ---- where all can be said
+
+  module _ (one_tree : SpellsOne) (none_over : WithinExcludesOver) where
+    said_within : (text : List ℕ) (limits : Limits) (outcome : Outcome) (file : PlainFile) → IsFormulaFile text file → IsWithinBudget (steps_of_file file) limits
+        → IsAnswered text limits outcome → AllIsSaid file outcome
+    said_within text limits outcome file formula within (FirstFault refusal is e) = absurd (refused_or_read one_tree text refusal file is formula)
+    said_within text limits outcome file formula within (FirstStep other is over first e) =
+        let same = one_file one_tree text file other formula is in
+        absurd (none_over (length other.variables) (core_of_file other) limits (kind_of over.excess) over.step
+        (subst (λ (f : PlainFile). IsWithinBudget (steps_of_file f) limits) same within) first.is_over)
+    said_within text limits outcome file formula within (Said other is said) =
+        subst (λ (f : PlainFile). AllIsSaid f outcome) (one_file one_tree text other file is formula) said
+
+    pub headline_is_complete : HeadlineIsComplete
+    headline_is_complete words held name limits text outcome file asks there right formula within =
+        said_within text limits outcome file formula within (headline words held name limits text outcome asks there right)

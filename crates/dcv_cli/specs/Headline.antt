@@ -1,0 +1,82 @@
+-- The promise of the program in one place: what a run of `all` says of a text. It is what `Right` says of that command, in the words of a user.
+--     AllIsSaid file outcome           a verdict, an automaton and two observers of exactly the behaviours that model the file
+--     IsAnswered text limits outcome   so it is said; or the text's first fault is named, or the first step that is over the limits
+use Rattle.std.specs.Prelude.{◌≡◌, ◌↔◌, ℕ, ◌≤◌, List, Some, length}
+use Rattle.dcv_syntax.specs.Plain.{PlainFile}
+use Rattle.dcv_logic.specs.Models.{models}
+use Rattle.dcv_language.specs.Certificate.{IsCertificate}
+use Rattle.dcv_language.specs.Language.{HasEvery, outside}
+use Rattle.dcv_language.specs.Table.{Table, IsTable, AcceptsExactly}
+use Rattle.dcv_language.specs.Verdict.{Verdict, IsLeastOf}
+use Rattle.dcv_language.specs.VerdictText.{verdict_text}
+use Rattle.dcv_automaton_text.specs.File.{AutomatonFile}
+use Rattle.dcv_automaton_text.specs.Form.{IsSpellable}
+use Rattle.dcv_automaton_text.specs.Meaning.{table_of, access_words_of, suffix_words_of}
+use Rattle.dcv_automaton_text.specs.Rules.{IsGood}
+use Rattle.dcv_automaton_text.specs.Spelled.{spelled}
+use Rattle.dcv_lustre.specs.Tree.{Node}
+use Rattle.dcv_lustre.specs.Faults.{IsReadAs as IsReadAsNode}
+use Rattle.dcv_lustre.specs.Laws.{Observes as ObservesByNode}
+use Rattle.dcv_c.specs.Tree.{CUnit}
+use Rattle.dcv_c.specs.Faults.{IsReadAs as IsReadAsUnit}
+use Rattle.dcv_c.specs.Laws.{Observes as ObservesByUnit}
+use Rattle.dcv_explore.specs.declared.explorer.Limits.{Limits}
+use Rattle.dcv_build.specs.Budget.{IsWithinBudget}
+use Rattle.dcv_print.specs.Sections.{all_text}
+use Rattle.dcv_print.specs.declared.report.Kind.TheVariants.{All}
+use Rattle.dcv_command.specs.Request.{Report}
+use Rattle.dcv_cli.specs.declared.budget_line.Over.{Over}
+use Rattle.dcv_cli.specs.declared.refusal.Refusal.{Refusal}
+use Rattle.dcv_cli.specs.declared.refusal.Refusal.TheVariants.{Budget}
+use Rattle.dcv_cli.specs.declared.refused.Which.TheVariants.{Only}
+use Rattle.dcv_cli.specs.declared.status.Status.TheVariants.{Valid}
+use Rattle.dcv_cli.specs.Budget.{steps_of_file, IsFirstOver}
+use Rattle.dcv_cli.specs.FormulaFile.{IsRefused, IsFormulaFile}
+use Rattle.dcv_cli.specs.Held.{Texts}
+use Rattle.dcv_cli.specs.Outcome.{Outcome, refused}
+use Rattle.dcv_cli.specs.Request.{AsksFor}
+use Rattle.dcv_cli.specs.Right.{IsRight}
+
+pub record AllIsSaid (file : PlainFile) (outcome : Outcome) : Type 0 where
+  pub verdict : Verdict
+  pub automaton : AutomatonFile
+  pub node : Node
+  pub unit : CUnit
+  pub node_text : List ℕ
+  pub unit_text : List ℕ
+  -- the report is these four texts, each behind a line that names it
+  pub report : outcome.out ≡ all_text (verdict_text verdict) (spelled automaton) node_text unit_text
+  -- The automaton's text has the form and keeps the rules, and its table accepts exactly the behaviours that model the file. No table automaton
+  -- for these has fewer states, as its own words show.
+  pub form : IsSpellable automaton
+  pub rules : IsGood automaton
+  pub accepts : AcceptsExactly (length file.variables) (table_of automaton) (models file)
+  pub fewest : (table : Table) → IsTable (length file.variables) table → AcceptsExactly (length file.variables) table (models file)
+      → automaton.states ≤ length table
+  pub certificate : IsCertificate (length file.variables) (models file) (access_words_of automaton) (suffix_words_of automaton)
+  -- Each observer's text is read as a program of its subset, and accepts exactly these behaviours by the meaning of that subset.
+  pub node_read : IsReadAsNode node_text node
+  pub node_observes : ObservesByNode (length file.variables) node (models file)
+  pub unit_read : IsReadAsUnit unit_text unit
+  pub unit_observes : ObservesByUnit (length file.variables) unit (models file)
+  -- The run ends with 0 exactly where every behaviour models the file. Else the counterexample is a shortest behaviour that does not.
+  pub valid : (outcome.status ≡ Valid) ↔ HasEvery (length file.variables) (models file)
+  pub counterexample : IsLeastOf (length file.variables) (outside (models file)) verdict.counterexample
+  pub example : IsLeastOf (length file.variables) (models file) verdict.example
+
+pub data IsAnswered (text : List ℕ) (limits : Limits) (outcome : Outcome) : Type 0 where
+  FirstFault : (refusal : Refusal) → IsRefused text refusal → outcome ≡ refused refusal Only → IsAnswered text limits outcome
+  FirstStep : (file : PlainFile) → IsFormulaFile text file → (over : Over) → IsFirstOver limits file over → outcome ≡ refused (Budget over) Only
+      → IsAnswered text limits outcome
+  Said : (file : PlainFile) → IsFormulaFile text file → AllIsSaid file outcome → IsAnswered text limits outcome
+
+-- whatever is right where the words ask for `all` of a text answers it
+abbrev pub Headline : Type 0
+Headline = (words : List (List ℕ)) (held : Texts) (name : List ℕ) (limits : Limits) (text : List ℕ) (outcome : Outcome)
+    → AsksFor words (Report All name limits) → held 0 name ≡ Some text → IsRight words held outcome → IsAnswered text limits outcome
+
+-- and says all of a formula file whose steps are within the limits
+abbrev pub HeadlineIsComplete : Type 0
+HeadlineIsComplete = (words : List (List ℕ)) (held : Texts) (name : List ℕ) (limits : Limits) (text : List ℕ) (outcome : Outcome) (file : PlainFile)
+    → AsksFor words (Report All name limits) → held 0 name ≡ Some text → IsRight words held outcome
+    → IsFormulaFile text file → IsWithinBudget (steps_of_file file) limits → AllIsSaid file outcome

@@ -1,0 +1,3 @@
+-- the statements that `src` proves
+pub mod Diagrams
+pub mod Laws

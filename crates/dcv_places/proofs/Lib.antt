@@ -1,0 +1,4 @@
+pub mod NamesRead
+pub mod SpansRead
+pub mod StepSpans
+pub mod NamesInOrder

@@ -1,0 +1,2 @@
+-- the statements that `src` proves
+pub mod Laws

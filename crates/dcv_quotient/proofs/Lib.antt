@@ -1,0 +1,10 @@
+pub mod Reaching
+pub mod ToldApart
+pub mod LeastWords
+pub mod WordClasses
+pub mod SomeTables
+pub mod SomeVerdicts
+pub mod ToldWords
+pub mod SomeCertificates
+pub mod WordOrder
+pub mod TableQuotients
