@@ -1,4 +1,5 @@
-// The example files and those of the language's page, each with a behaviour that satisfies it and one that does not, worked out by hand.
+// The recipes of the language's page for which it shows two behaviours, with the small numbers that it gives there, and formulas of its
+// first sections: each with a behaviour that satisfies it and one that does not, worked out by hand.
 ghost use Rattle.std.specs.Prelude.{◌≡◌, ◌≤◌, IfOk, length};
 
 use dcv_logic::holds;
@@ -17,7 +18,7 @@ struct Recipe {
     truths: &'static str,
 }
 
-const RECIPES: [Recipe; 13] = [
+const RECIPES: [Recipe; 15] = [
     Recipe {
         text: "var lamp, door; infer [lamp] ^ [[door && !lamp]];",
         width: 2,
@@ -41,17 +42,33 @@ const RECIPES: [Recipe; 13] = [
         truths: "10",
     },
     Recipe {
-        text: "var alarm; infer [](slen = 4 => scount alarm <= 2);",
+        text: "var alarm; infer []((<alarm> ^ true ^ <alarm>) && scount alarm = 3 => slen >= 5);",
         width: 1,
         satisfying: "1 1 0 0 0 1",
         other: "1 1 0 0 1",
         truths: "10",
     },
     Recipe {
-        text: "var request, grant; infer []((<request> ^ slen = 3) => <><grant>);",
+        text: "var request, grant; define first(p) as <p> || [!p] ^ <p>;
+            define late as [[!grant]] && first(request) ^ slen >= 3;
+            infer !((late || true ^ {{grant}} ^ late) ^ true);",
         width: 2,
         satisfying: "10 00 00 01",
         other: "10 00 00 00",
+        truths: "10",
+    },
+    Recipe {
+        text: "var launch; infer []({{launch}} ^ (pt || [!launch]) ^ <launch> => slen >= 3);",
+        width: 1,
+        satisfying: "1 0 0 1",
+        other: "1 0 1",
+        truths: "10",
+    },
+    Recipe {
+        text: "var beat; infer []([[!beat]] => slen < 2);",
+        width: 1,
+        satisfying: "0 0 1 0",
+        other: "1 0 0 0",
         truths: "10",
     },
     Recipe {
@@ -71,7 +88,7 @@ const RECIPES: [Recipe; 13] = [
     Recipe {
         text: "var ask_a, ask_b, grant_a, grant_b; prop one_at_most as !(grant_a && grant_b);
             prop asked as (grant_a => ask_a) && (grant_b => ask_b);
-            define served(ask, grant) as []([[ask]] && slen = 3 => <><grant>);
+            define served(ask, grant) as []([[ask && !grant]] => slen < 3);
             infer [[one_at_most && asked]] && served(ask_a, grant_a) && served(ask_b, grant_b);",
         width: 4,
         satisfying: "1010 0101",

@@ -22,7 +22,7 @@ const TWICE: &str = "node f(a: bool) returns (ok: bool); let ok = true; ok = fal
 const NEVER_SET: &str = "static int s;void r(void){}int t(void){return 0;}";
 
 // A command, an observer, a trace, and what is answered.
-const REPLAYS: [(&str, &str, Option<&str>, (u8, &str, &str)); 19] = [
+const REPLAYS: [(&str, &str, Option<&str>, (u8, &str, &str)); 22] = [
     (
         "replay-lustre",
         ALWAYS_P,
@@ -46,6 +46,12 @@ const REPLAYS: [(&str, &str, Option<&str>, (u8, &str, &str)); 19] = [
         ALWAYS_P_IN_C,
         Some("1\n2\n"),
         (8, "1\n", "fault line 2\n"),
+    ),
+    (
+        "replay-lustre",
+        ALWAYS_P,
+        Some(""),
+        (8, "", "fault trace empty\n"),
     ),
     (
         "replay-c",
@@ -53,7 +59,14 @@ const REPLAYS: [(&str, &str, Option<&str>, (u8, &str, &str)); 19] = [
         Some(""),
         (8, "", "fault trace empty\n"),
     ),
+    ("replay-lustre", ALWAYS_P, Some("1\r\n"), (0, "1\n", "")),
     ("replay-c", ALWAYS_P_IN_C, Some("1\r\n"), (0, "1\n", "")),
+    (
+        "replay-lustre",
+        ALWAYS_P,
+        Some("10\n"),
+        (8, "", "fault line 1\n"),
+    ),
     (
         "replay-c",
         ALWAYS_P_IN_C,

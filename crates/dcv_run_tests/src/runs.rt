@@ -73,7 +73,14 @@ fn run_over<F: Files>(
     })
 }
 
-// Whether a run of the words over the files, which may have been run over before, ended with this status and wrote just this.
+// Whether a run of the words ended with this status and wrote just this.
+fn expect_ran(rt: &impl Abort, words: &[&str], ran: &Ran, wanted: (u8, &str, &str)) {
+    assert_eq!(rt; ran.status, wanted.0, "{words:?}");
+    assert_eq!(rt; ran.out.as_slice(), wanted.1.as_bytes(), "{words:?}");
+    assert_eq!(rt; ran.err.as_slice(), wanted.2.as_bytes(), "{words:?}");
+}
+
+// The same of a run over the files, which may have been run over before.
 pub(crate) fn expect_over<F: Files>(
     rt: &impl Abort,
     alloc: Global,
@@ -82,13 +89,11 @@ pub(crate) fn expect_over<F: Files>(
     wanted: (u8, &str, &str),
 ) -> Result<(), AllocError> {
     let ran = run_over(alloc, words, files, &WHOLE)?;
-    assert_eq!(rt; ran.status, wanted.0, "{words:?}");
-    assert_eq!(rt; ran.out.as_slice(), wanted.1.as_bytes(), "{words:?}");
-    assert_eq!(rt; ran.err.as_slice(), wanted.2.as_bytes(), "{words:?}");
+    expect_ran(rt, words, &ran, wanted);
     Ok(())
 }
 
-// Whether a run of the words over the text ended with this status and wrote just this.
+// The same of a run over the text.
 pub(crate) fn expect(
     rt: &impl Abort,
     alloc: Global,
@@ -101,9 +106,7 @@ pub(crate) fn expect(
     requires writes { All (λ size. 0 < size) outside.now.writes.now }
 {
     let ran = run_of(alloc, words, text, outside)?;
-    assert_eq!(rt; ran.status, wanted.0, "{words:?}");
-    assert_eq!(rt; ran.out.as_slice(), wanted.1.as_bytes(), "{words:?}");
-    assert_eq!(rt; ran.err.as_slice(), wanted.2.as_bytes(), "{words:?}");
+    expect_ran(rt, words, &ran, wanted);
     Ok(())
 }
 
@@ -116,20 +119,10 @@ pub(crate) fn expect_of_two(
     second: &str,
     wanted: (u8, &str, &str),
 ) -> Result<(), AllocError> {
-    let mut given = Words::new(alloc);
-    for word in words {
-        given.push(word)?;
-    }
     let mut files = MemFiles::new(alloc, &[], &[])?;
     files.hold("f", first.as_bytes())?;
     files.hold("g", second.as_bytes())?;
-    let mut out = MemSink::new(alloc, ROOM, &[], &[])?;
-    let mut err = MemSink::new(alloc, ROOM, &[], &[])?;
-    let status = run(alloc, &given, &mut files, &mut out, &mut err);
-    assert_eq!(rt; status.code(), wanted.0, "{first} {second}");
-    assert_eq!(rt; out.written(), wanted.1.as_bytes(), "{first} {second}");
-    assert_eq!(rt; err.written(), wanted.2.as_bytes(), "{first} {second}");
-    Ok(())
+    expect_over(rt, alloc, words, &mut files, wanted)
 }
 
 // The same of a replay, whose observer is held under the name `f`, and whose trace, if there is one, under the name `g`.
@@ -145,21 +138,14 @@ pub(crate) fn expect_replayed(
     requires reads { All (λ size. 0 < size) outside.now.reads.now }
     requires writes { All (λ size. 0 < size) outside.now.writes.now }
 {
-    let mut given = Words::new(alloc);
-    for word in [command, "f", "g"] {
-        given.push(word)?;
-    }
     let mut files = MemFiles::new(alloc, outside.reads, outside.failing_reads)?;
     files.hold("f", observer.as_bytes())?;
     if let Some(trace) = trace {
         files.hold("g", trace.as_bytes())?;
     }
-    let mut out = MemSink::new(alloc, ROOM, outside.writes, outside.failing_writes)?;
-    let mut err = MemSink::new(alloc, ROOM, &[], outside.failing_messages)?;
-    let status = run(alloc, &given, &mut files, &mut out, &mut err);
-    assert_eq!(rt; status.code(), wanted.0, "{command}");
-    assert_eq!(rt; out.written(), wanted.1.as_bytes(), "{command}");
-    assert_eq!(rt; err.written(), wanted.2.as_bytes(), "{command}");
+    let words = [command, "f", "g"];
+    let ran = run_over(alloc, &words, &mut files, outside)?;
+    expect_ran(rt, &words, &ran, wanted);
     Ok(())
 }
 
@@ -636,6 +622,13 @@ const NO_MESSAGES: Outside<'static> = Outside {
     ..WHOLE
 };
 
+// Four bytes at each write, of which the second fails.
+const SHORT: Outside<'static> = Outside {
+    writes: &[4; 16],
+    failing_writes: &[2],
+    ..WHOLE
+};
+
 #[test]
 fn faults_of_the_outside(rt: HostRuntime) -> Result<(), Fail> {
     let alloc = rt.alloc();
@@ -650,6 +643,14 @@ fn faults_of_the_outside(rt: HostRuntime) -> Result<(), Fail> {
         text,
         &WHOLE,
         (5, "", "fault open\n"),
+    )?;
+    expect(
+        &rt,
+        alloc,
+        &words,
+        text,
+        &SHORT,
+        (6, "not ", "fault write\n"),
     )?;
     Ok(())
 }

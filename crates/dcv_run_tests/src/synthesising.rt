@@ -159,7 +159,7 @@ const FORETOLD: &str =
     "unrealisable\nbound 2\nstate 0 rank 2 input 0\nstate 1 rank 1 input 1\nend\n";
 
 // Texts, how many of their variables are inputs, and what is answered.
-const CONTROLLERS: [(&str, &str, (u8, &str, &str)); 21] = [
+const CONTROLLERS: [(&str, &str, (u8, &str, &str)); 22] = [
     ("var a, b; infer [[a <=> b]];", "1", (0, COPIED, "")),
     ("var a; infer [[a]];", "0", (0, NO_INPUTS, "")),
     ("var a; infer true;", "1", (0, ANYTHING, "")),
@@ -184,6 +184,7 @@ const CONTROLLERS: [(&str, &str, (u8, &str, &str)); 21] = [
         "1",
         (1, FORETOLD, ""),
     ),
+    ("var a, b; infer [[+a <=> b]];", "1", (1, FORETOLD, "")),
     (
         "var a; infer [[a]];",
         "1",
