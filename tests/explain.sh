@@ -42,7 +42,8 @@ fault() {
 fault 'infer pt & pt;'                               byte      9   1   10   'Write &&'
 fault 'infer <p> | pt;'                              byte      10  1   11   'Write ||'
 fault 'var p;\ninfer {p};'                           byte      13  2   7    '{{p}}'
-fault 'infer pt -> pt;'                              byte      9   1   10   'Write =>'
+fault 'infer pt -> pt;'                              syntax    9   1   10   'Write =>'
+fault 'var p, q; infer [[p - q]];'                   syntax    20  1   21   'arithmetic'
 fault '\xef\xbb\xbfinfer pt;'                        byte      0   1   1    'byte order mark'
 fault '// \xe2\x89\xa4\nvar p; infer \xe2\x89\xa4;'  byte      20  2   14   'no ASCII'
 fault 'var p\ninfer <p>;\n'                          syntax    6   2   1    'end of line 1'
@@ -88,6 +89,13 @@ grep -q '^That line of the trace' "$work/err" || fail 'what is said of a line'
 STUB_ERR='fault observer names at 56' STUB_STATUS=9 DCVALID=$work/stub "$here/explain" replay-lustre "$work/observer" "$work/text.dc" >"$work/out" 2>"$work/err"
 [ $? -eq 9 ] || fail 'the status of an observer'
 grep -q 'line 3' "$work/err" || fail "the line of an observer: $(cat "$work/err")"
+
+# Observers are programs: they are printed as they are, alone and in the text of all reports.
+for command in lustre c all; do
+  got=$(STUB_OUT='--- c\nstatic int st;\n0\n' STUB_STATUS=1 DCVALID=$work/stub "$here/explain" "$command" "$work/text.dc" 2>&1)
+  [ $? -eq 1 ] || fail "the status of $command"
+  [ "$got" = $'--- c\nstatic int st;\n0' ] || fail "the text of $command: $got"
+done
 
 # Counts over drawn formulas, which are read from no file.
 got=$(STUB_OUT='formulas 1\nvalid 0\nsatisfiable 1\nover 0\nstates 3\n' STUB_STATUS=0 DCVALID=$work/stub "$here/explain" sweep 0 1 2>&1)
