@@ -9,4 +9,4 @@ loop-state-preserved c =
     let state = c.loop-state.state in
     let old = list_of c.loop-state.members in
     let new = list_of c.put.new.self in
-    own_more blocks old new state (subst (λ (number : ℕ). IsPut old (block_of blocks state) number new) c.in_ok-number_of.ensures c.in_ok-put.ensures.put) c.loop-state.invariant
+    own_more blocks old new state (subst (λ (number : ℕ). IsPut old (block_of blocks state) number new) c.in_ok-number_of.ensures.number c.in_ok-put.ensures.put) c.loop-state.invariant

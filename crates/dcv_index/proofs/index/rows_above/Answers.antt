@@ -11,7 +11,7 @@ loop-place-preserved c =
     let was = c.loop-place.invariant in
     let place = c.loop-place.place in
     let inside : place < length rows = c.loop-place-test.true in
-    let adds = subst (Adds c.loop-place.lists c.add.new.self (row_at rows place)) c.in_ok-number_of.ensures c.in_ok-add.ensures in
+    let adds = subst (Adds c.loop-place.lists c.add.new.self (row_at rows place)) c.in_ok-number_of.ensures.number c.in_ok-add.ensures in
     record {
       linked = adds.linked;
       leaves = adds.leaves ∙ was.leaves;

@@ -18,7 +18,7 @@ walk-requires-clause-told c = λ first second letter t width agree.
     let raw = raw_in self in
     let told = told_by_part raw c.requires.vertices self.suffixes.items self.blocks.items (parts_in self) c.args.place c.requires.separates.separation c.requires.finished c.requires.place first second letter t width in
     let at : TellAlike (accepts_word raw (letter ∷ word_at (listed_in self) c.in_ok-from.from)) (λ state. has (part_at (parts_in self) c.args.place) (next_in raw state letter)) first second =
-    subst (λ place. TellAlike (accepts_word raw (letter ∷ word_at (listed_in self) place)) (λ state. has (part_at (parts_in self) c.args.place) (next_in raw state letter)) first second) (sym c.in_ok-from.ensures) told in
+    subst (λ place. TellAlike (accepts_word raw (letter ∷ word_at (listed_in self) place)) (λ state. has (part_at (parts_in self) c.args.place) (next_in raw state letter)) first second) (sym c.in_ok-from.ensures.number) told in
     let marks = c.in_ok-marks.marks.items in
     let one : marked c.marks.new.scratch c.deref.result.now letter first ≡ has (part_at (parts_in self) c.args.place) (next_in raw first letter) =
     ap (λ marks. marked c.marks.new.scratch marks letter first) c.deref.ensures.value ∙ c.in_ok-marks.ensures.marked first letter t.first_is width in
@@ -35,6 +35,6 @@ returns-clause-finished c =
     on_ok_two c.walk.result (GoesOn raw self new) (AreDone raw new.blocks.items (word_at (listed_in self) c.in_ok-from.from) 0 c.new.result)
     (AreFinished raw (listed_in new) new.blocks.items (c.args.place + 1))
     (λ goes done. subst (AreFinished raw (listed_in new) new.blocks.items) (omega arith) (finished_more raw (listed_in self) (listed_in new) self.blocks.items new.blocks.items c.args.place there goes c.requires.finished
-    (λ first second letter t width. subst (λ place. accepts_word raw (letter ∷ word_at (listed_in self) place) first ≡ accepts_word raw (letter ∷ word_at (listed_in self) place) second) c.in_ok-from.ensures
+    (λ first second letter t width. subst (λ place. accepts_word raw (letter ∷ word_at (listed_in self) place) first ≡ accepts_word raw (letter ∷ word_at (listed_in self) place) second) c.in_ok-from.ensures.number
     (done first second letter t width (λ slot h. absurd (omega arith))))))
     c.walk.ensures.goes_on c.walk.ensures.done
