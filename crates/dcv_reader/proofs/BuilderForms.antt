@@ -26,6 +26,10 @@ next_of_there [] [] is = absurd cc
 next_of_there (c ∷ cs) [] is = next_of_there cs [] is
 next_of_there cs (token ∷ tokens) is = omega arith
 
+-- what was asked of a class, of the class that it is
+pub next_by : {class separator : ℕ} {asked is : Bool} (tokens : List Token) → class ≡ separator → asked ≡ is_next class tokens → asked ≡ is → is_next separator tokens ≡ is
+next_by tokens same e f = sym (e ∙ ap (λ c. is_next c tokens) same) ∙ f
+
 -- ---- a rule with one body
 
 pub always_picked : (body : List Symbol) (tokens : List Token) → body_for (always body) (next_class token_class tokens) ≡ body

@@ -18,11 +18,14 @@ use Rattle.dcv_grammar.proofs.Builders as builders
 use Rattle.dcv_tokens.specs.Tokens.{Token, span_of, span_over}
 use Rattle.dcv_tokens.specs.Classes as classes
 use Rattle.dcv_sentence.specs.RuleNumbers as rules
-use Rattle.dcv_sentence.specs.Language.{language, file_rules, formula_rules, prop_rules, formula_rule, formula_iff_rule, formula_iff_more_rule, formula_implies_rule, formula_implied_rule, formula_or_rule, formula_or_more_rule, formula_and_rule, formula_and_more_rule, formula_chop_rule, formula_chop_more_rule, formula_prefix_rule, formula_star_rule, stars_rule, formula_atom_rule, relation_rule}
+use Rattle.dcv_sentence.specs.Language.{language, file_rules, formula_rules, prop_rules, always, optional, formula_rule, formula_implies_rule, formula_implied_rule, formula_prefix_rule, formula_star_rule, stars_rule, formula_atom_rule, relation_rule}
 use Rattle.dcv_syntax.specs.Spans.{covering}
 use Rattle.dcv_reader.specs.Nodes.{token_class, number_of, relation_of, bare, formula_word, starred, starred_by, last_span, formula_list}
 use Rattle.dcv_reader.specs.Actions.{AToken, AFormula, Formulas, ARelation, Stars, action, parts_of}
 use Rattle.dcv_reader.specs.Building.{is_next, is_next_of, BeginWithRule, RuleReadAs}
+use Rattle.dcv_reader.specs.declared.builder.formulas.FormulaList.{FormulaList}
+use Rattle.dcv_reader.specs.declared.builder.formulas.FormulaList.TheVariants.{And, Or, Iff, Chop}
+use Rattle.dcv_reader.specs.FormulaLists.{formula_list_kind, formula_separator, formula_list_rule, formula_operand_rule}
 use Rattle.dcv_sentence.proofs.Grammar.{predictive}
 use Rattle.dcv_reader.proofs.BuilderParts.{parts_of-join, next_is, token_next, reads_nothing, reads_token, reads_next, begins_first, begins_next, begins_token, no_longer, body_begins, rule_read}
 use Rattle.dcv_reader.proofs.BuilderForms.{always_picked, optional_picked, nothing_picked, word_read, one_of, none_of}
@@ -62,53 +65,62 @@ module _ (kind : PlainFormulaOperands → PlainFormulaKind) where
 
 -- ---- levels
 
-pub iff_more_at : slice_get language.productions rules.formula_iff_more ≡ Some formula_iff_more_rule
+-- the rule of what stands behind the first operand
+abbrev more_rule : FormulaList → ℕ
+more_rule And = rules.formula_and_more
+more_rule Or = rules.formula_or_more
+more_rule Iff = rules.formula_iff_more
+more_rule Chop = rules.formula_chop_more
+
+pub more_at : (list : FormulaList) → slice_get language.productions (more_rule list) ≡ Some (optional (formula_separator list) (Rule (formula_operand_rule list) ∷ Rule (more_rule list) ∷ []))
 unfolding language file_rules formula_rules prop_rules
-iff_more_at = refl
+more_at And = refl
+more_at Or = refl
+more_at Iff = refl
+more_at Chop = refl
 
-abbrev pub iff_operands : Separated AFormula Formulas
-iff_operands =
-    record { item = Rule rules.formula_implies; more = rules.formula_iff_more; separator = classes.double_arrow; more_at = iff_more_at; none = refl; one = λ token d ds. refl }
+pub more_none : (list : FormulaList) → action (more_rule list) [] ≡ Formulas []
+more_none And = refl
+more_none Or = refl
+more_none Iff = refl
+more_none Chop = refl
 
-pub iff_at : slice_get language.productions rules.formula_iff ≡ Some formula_iff_rule
+pub more_one : (list : FormulaList) (token : Token) (d : PlainFormulaOperand) (ds : List PlainFormulaOperand) → action (more_rule list) (AToken token ∷ AFormula d ∷ Formulas ds ∷ []) ≡ Formulas (d ∷ ds)
+more_one And token d ds = refl
+more_one Or token d ds = refl
+more_one Iff token d ds = refl
+more_one Chop token d ds = refl
+
+abbrev pub operands_of : FormulaList → Separated AFormula Formulas
+operands_of list =
+    record {
+      item = Rule (formula_operand_rule list);
+      more = more_rule list;
+      separator = formula_separator list;
+      more_at = more_at list;
+      none = more_none list;
+      one = more_one list;
+    }
+
+pub list_at : (list : FormulaList) → slice_get language.productions (formula_list_rule list) ≡ Some (always (Rule (formula_operand_rule list) ∷ Rule (more_rule list) ∷ []))
 unfolding language file_rules formula_rules prop_rules
-iff_at = refl
+list_at And = refl
+list_at Or = refl
+list_at Iff = refl
+list_at Chop = refl
 
-pub or_more_at : slice_get language.productions rules.formula_or_more ≡ Some formula_or_more_rule
-unfolding language file_rules formula_rules prop_rules
-or_more_at = refl
+pub list_part : (list : FormulaList) (d : PlainFormulaOperand) (ds : List PlainFormulaOperand) → action (formula_list_rule list) (AFormula d ∷ Formulas ds ∷ []) ≡ AFormula (formula_list (formula_list_kind list) d ds)
+list_part And d ds = refl
+list_part Or d ds = refl
+list_part Iff d ds = refl
+list_part Chop d ds = refl
 
-abbrev pub or_operands : Separated AFormula Formulas
-or_operands =
-    record { item = Rule rules.formula_and; more = rules.formula_or_more; separator = classes.double_bar; more_at = or_more_at; none = refl; one = λ token d ds. refl }
-
-pub or_at : slice_get language.productions rules.formula_or ≡ Some formula_or_rule
-unfolding language file_rules formula_rules prop_rules
-or_at = refl
-
-pub and_more_at : slice_get language.productions rules.formula_and_more ≡ Some formula_and_more_rule
-unfolding language file_rules formula_rules prop_rules
-and_more_at = refl
-
-abbrev pub and_operands : Separated AFormula Formulas
-and_operands =
-    record { item = Rule rules.formula_chop; more = rules.formula_and_more; separator = classes.double_ampersand; more_at = and_more_at; none = refl; one = λ token d ds. refl }
-
-pub and_at : slice_get language.productions rules.formula_and ≡ Some formula_and_rule
-unfolding language file_rules formula_rules prop_rules
-and_at = refl
-
-pub chop_more_at : slice_get language.productions rules.formula_chop_more ≡ Some formula_chop_more_rule
-unfolding language file_rules formula_rules prop_rules
-chop_more_at = refl
-
-abbrev pub chop_operands : Separated AFormula Formulas
-chop_operands =
-    record { item = Rule rules.formula_prefix; more = rules.formula_chop_more; separator = classes.caret; more_at = chop_more_at; none = refl; one = λ token d ds. refl }
-
-pub chop_at : slice_get language.productions rules.formula_chop ≡ Some formula_chop_rule
-unfolding language file_rules formula_rules prop_rules
-chop_at = refl
+-- above what reads an operand, and below what reads the list
+abbrev pub rank : FormulaList → ℕ
+rank Chop = 4
+rank And = 6
+rank Or = 8
+rank Iff = 11
 
 -- ---- other rules
 

@@ -8,8 +8,8 @@ use Rattle.dcv_grammar.specs.declared.grammar.Symbol.TheVariants.{Class, Rule}
 use Rattle.dcv_tokens.specs.Classes as classes
 use Rattle.dcv_tokens.specs.Tokens.{Token}
 use Rattle.dcv_sentence.specs.RuleNumbers as rules
-use Rattle.dcv_sentence.specs.Language.{language, file_rules, formula_rules, prop_rules, prop_rule, prop_iff_more_rule, prop_or_rule, prop_or_more_rule, prop_and_rule, prop_and_more_rule, arguments_rule, more_arguments_rule, prop_implies_rule, prop_implied_rule, prop_prefix_rule, prop_atom_rule}
-use Rattle.dcv_reader.specs.Actions.{AProp, Props}
+use Rattle.dcv_sentence.specs.Language.{language, file_rules, formula_rules, prop_rules, always, optional, arguments_rule, more_arguments_rule, prop_implies_rule, prop_implied_rule, prop_prefix_rule, prop_atom_rule}
+use Rattle.dcv_reader.specs.Actions.{AToken, AProp, Props, action}
 use Rattle.dcv_reader.proofs.BuilderLevels.{Separated, EnclosedRead}
 use Rattle.dcv_reader.proofs.BuilderParts.{next_is}
 use Rattle.dcv_sentence.proofs.Grammar.{predictive}
@@ -17,6 +17,9 @@ use Rattle.dcv_grammar.proofs.Builders as builders
 use Rattle.dcv_grammar.specs.Picked.{body_for}
 use Rattle.dcv_grammar.specs.Reading.{next_class}
 use Rattle.dcv_reader.specs.Building.{is_next, is_next_of, BeginWithRule, RuleReadAs}
+use Rattle.dcv_reader.specs.declared.builder.props.PropList.{PropList}
+use Rattle.dcv_reader.specs.declared.builder.props.PropList.TheVariants.{And, Or, Iff}
+use Rattle.dcv_reader.specs.PropLists.{prop_list_kind, prop_separator, prop_list_rule, prop_operand_rule}
 use Rattle.dcv_reader.proofs.BuilderForms.{word_read, one_of, none_of}
 use Rattle.std.proofs.lemmas.Bool.Decides.{nat_tests}
 use Rattle.dcv_syntax.specs.Spans.{covering}
@@ -56,41 +59,55 @@ module _ (kind : PlainPropOperands → PlainPropKind) where
 
 -- ---- levels
 
-pub iff_more_at : slice_get language.productions rules.prop_iff_more ≡ Some prop_iff_more_rule
+-- the rule of what stands behind the first operand
+abbrev more_rule : PropList → ℕ
+more_rule And = rules.prop_and_more
+more_rule Or = rules.prop_or_more
+more_rule Iff = rules.prop_iff_more
+
+pub more_at : (list : PropList) → slice_get language.productions (more_rule list) ≡ Some (optional (prop_separator list) (Rule (prop_operand_rule list) ∷ Rule (more_rule list) ∷ []))
 unfolding language file_rules formula_rules prop_rules
-iff_more_at = refl
+more_at And = refl
+more_at Or = refl
+more_at Iff = refl
 
-abbrev pub iff_operands : Separated AProp Props
-iff_operands =
-    record { item = Rule rules.prop_implies; more = rules.prop_iff_more; separator = classes.double_arrow; more_at = iff_more_at; none = refl; one = λ token x xs. refl }
+pub more_none : (list : PropList) → action (more_rule list) [] ≡ Props []
+more_none And = refl
+more_none Or = refl
+more_none Iff = refl
 
-pub iff_at : slice_get language.productions rules.prop ≡ Some prop_rule
+pub more_one : (list : PropList) (token : Token) (p : PlainPropOperand) (ps : List PlainPropOperand) → action (more_rule list) (AToken token ∷ AProp p ∷ Props ps ∷ []) ≡ Props (p ∷ ps)
+more_one And token p ps = refl
+more_one Or token p ps = refl
+more_one Iff token p ps = refl
+
+abbrev pub operands_of : PropList → Separated AProp Props
+operands_of list =
+    record {
+      item = Rule (prop_operand_rule list);
+      more = more_rule list;
+      separator = prop_separator list;
+      more_at = more_at list;
+      none = more_none list;
+      one = more_one list;
+    }
+
+pub list_at : (list : PropList) → slice_get language.productions (prop_list_rule list) ≡ Some (always (Rule (prop_operand_rule list) ∷ Rule (more_rule list) ∷ []))
 unfolding language file_rules formula_rules prop_rules
-iff_at = refl
+list_at And = refl
+list_at Or = refl
+list_at Iff = refl
 
-pub or_more_at : slice_get language.productions rules.prop_or_more ≡ Some prop_or_more_rule
-unfolding language file_rules formula_rules prop_rules
-or_more_at = refl
+pub list_part : (list : PropList) (p : PlainPropOperand) (ps : List PlainPropOperand) → action (prop_list_rule list) (AProp p ∷ Props ps ∷ []) ≡ AProp (prop_list (prop_list_kind list) p ps)
+list_part And p ps = refl
+list_part Or p ps = refl
+list_part Iff p ps = refl
 
-abbrev pub or_operands : Separated AProp Props
-or_operands =
-    record { item = Rule rules.prop_and; more = rules.prop_or_more; separator = classes.double_bar; more_at = or_more_at; none = refl; one = λ token x xs. refl }
-
-pub or_at : slice_get language.productions rules.prop_or ≡ Some prop_or_rule
-unfolding language file_rules formula_rules prop_rules
-or_at = refl
-
-pub and_more_at : slice_get language.productions rules.prop_and_more ≡ Some prop_and_more_rule
-unfolding language file_rules formula_rules prop_rules
-and_more_at = refl
-
-abbrev pub and_operands : Separated AProp Props
-and_operands =
-    record { item = Rule rules.prop_prefix; more = rules.prop_and_more; separator = classes.double_ampersand; more_at = and_more_at; none = refl; one = λ token x xs. refl }
-
-pub and_at : slice_get language.productions rules.prop_and ≡ Some prop_and_rule
-unfolding language file_rules formula_rules prop_rules
-and_at = refl
+-- above what reads an operand, and below what reads the list
+abbrev pub rank : PropList → ℕ
+rank And = 3
+rank Or = 5
+rank Iff = 8
 
 -- ---- arguments
 

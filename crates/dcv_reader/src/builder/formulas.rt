@@ -51,7 +51,19 @@ fn add(operands: &mut Vec<FormulaOperand>, operand: Box<FormulaOperand>) -> Resu
 }
 
 impl FormulaList {
-    ghost use Rattle.dcv_reader.specs.FormulaLists.{formula_list_kind};
+    ghost use Rattle.dcv_reader.specs.FormulaLists.{formula_list_kind, formula_separator};
+
+    // The class between two operands.
+    fn separator(self) -> u8
+        ensures { result ≡ formula_separator self }
+    {
+        match self {
+            FormulaList::And => DOUBLE_AMPERSAND,
+            FormulaList::Or => DOUBLE_BAR,
+            FormulaList::Iff => DOUBLE_ARROW,
+            FormulaList::Chop => CARET,
+        }
+    }
 
     // The form of a list of operands.
     fn kind(self, operands: Vec<FormulaOperand>) -> FormulaKind
@@ -102,6 +114,7 @@ impl Builder<'_, '_> {
     ghost use Rattle.dcv_tokens.specs.Classes as classes;
     ghost use Rattle.dcv_reader.specs.Actions.{AFormula, ARelation};
     ghost use Rattle.dcv_reader.specs.Building.{BeginWithRule, RuleReadAs, is_next, is_next_of};
+    ghost use Rattle.dcv_reader.specs.FormulaLists.{formula_list_rule, formula_operand_rule};
     ghost use Rattle.dcv_reader.specs.Left.{left};
     ghost use Rattle.dcv_sentence.specs.RuleNumbers as rules;
 
@@ -112,7 +125,7 @@ impl Builder<'_, '_> {
         ensures { IfOk result (λ d. RuleReadAs rules.formula (left self.old) (AFormula (plain_formula_operand d.value)) (left self.new)) }
     {
         if !self.is_next_of(&[WORD_EX, WORD_ALL]) {
-            return self.formula_iff();
+            return self.formula_list(FormulaList::Iff);
         }
         let word = self.take();
         let name = self.take();
@@ -121,23 +134,40 @@ impl Builder<'_, '_> {
         quantified(self.alloc, &word, &name, body)
     }
 
-    // formula_iff = formula_implies {"<=>" formula_implies}
+    // formula_iff = formula_implies {"<=>" formula_implies}, formula_or = formula_and {"||" formula_and},
+    // formula_and = formula_chop {"&&" formula_chop} and formula_chop = formula_prefix {"^" formula_prefix}
     #[cycle(formula)]
-    fn formula_iff(&mut self) -> Result<Box<FormulaOperand>, AllocError>
-        requires { BeginWithRule rules.formula_iff (left self.old) }
-        ensures { IfOk result (λ d. RuleReadAs rules.formula_iff (left self.old) (AFormula (plain_formula_operand d.value)) (left self.new)) }
+    fn formula_list(&mut self, list: FormulaList) -> Result<Box<FormulaOperand>, AllocError>
+        requires { BeginWithRule (formula_list_rule list) (left self.old) }
+        ensures { IfOk result (λ d. RuleReadAs (formula_list_rule list) (left self.old) (AFormula (plain_formula_operand d.value)) (left self.new)) }
     {
-        let first = self.formula_implies()?;
-        if !self.is_next(DOUBLE_ARROW) {
+        let first = self.formula_operand(list)?;
+        let separator = list.separator();
+        if !self.is_next(separator) {
             return Ok(first);
         }
         let mut operands = Vec::new(self.alloc);
         add(&mut operands, first)?;
-        'more: while self.is_next(DOUBLE_ARROW) {
+        'more: while self.is_next(separator) {
             let _separator = self.take();
-            add(&mut operands, self.formula_implies()?)?;
+            add(&mut operands, self.formula_operand(list)?)?;
         }
-        FormulaList::Iff.of(self.alloc, operands)
+        list.of(self.alloc, operands)
+    }
+
+    // An operand of such a list.
+    #[cycle(formula)]
+    #[inline(always)]
+    fn formula_operand(&mut self, list: FormulaList) -> Result<Box<FormulaOperand>, AllocError>
+        requires { BeginWithRule (formula_operand_rule list) (left self.old) }
+        ensures { IfOk result (λ d. RuleReadAs (formula_operand_rule list) (left self.old) (AFormula (plain_formula_operand d.value)) (left self.new)) }
+    {
+        match list {
+            FormulaList::Iff => self.formula_implies(),
+            FormulaList::Or => self.formula_list(FormulaList::And),
+            FormulaList::And => self.formula_list(FormulaList::Chop),
+            FormulaList::Chop => self.formula_prefix(),
+        }
     }
 
     // formula_implies = formula_or ["=>" formula_implies]
@@ -146,70 +176,13 @@ impl Builder<'_, '_> {
         requires { BeginWithRule rules.formula_implies (left self.old) }
         ensures { IfOk result (λ d. RuleReadAs rules.formula_implies (left self.old) (AFormula (plain_formula_operand d.value)) (left self.new)) }
     {
-        let premise = self.formula_or()?;
+        let premise = self.formula_list(FormulaList::Or)?;
         if !self.is_next(ARROW) {
             return Ok(premise);
         }
         let _arrow = self.take();
         let conclusion = self.formula_implies()?;
         implication(self.alloc, premise, conclusion)
-    }
-
-    // formula_or = formula_and {"||" formula_and}
-    #[cycle(formula)]
-    fn formula_or(&mut self) -> Result<Box<FormulaOperand>, AllocError>
-        requires { BeginWithRule rules.formula_or (left self.old) }
-        ensures { IfOk result (λ d. RuleReadAs rules.formula_or (left self.old) (AFormula (plain_formula_operand d.value)) (left self.new)) }
-    {
-        let first = self.formula_and()?;
-        if !self.is_next(DOUBLE_BAR) {
-            return Ok(first);
-        }
-        let mut operands = Vec::new(self.alloc);
-        add(&mut operands, first)?;
-        'more: while self.is_next(DOUBLE_BAR) {
-            let _separator = self.take();
-            add(&mut operands, self.formula_and()?)?;
-        }
-        FormulaList::Or.of(self.alloc, operands)
-    }
-
-    // formula_and = formula_chop {"&&" formula_chop}
-    #[cycle(formula)]
-    fn formula_and(&mut self) -> Result<Box<FormulaOperand>, AllocError>
-        requires { BeginWithRule rules.formula_and (left self.old) }
-        ensures { IfOk result (λ d. RuleReadAs rules.formula_and (left self.old) (AFormula (plain_formula_operand d.value)) (left self.new)) }
-    {
-        let first = self.formula_chop()?;
-        if !self.is_next(DOUBLE_AMPERSAND) {
-            return Ok(first);
-        }
-        let mut operands = Vec::new(self.alloc);
-        add(&mut operands, first)?;
-        'more: while self.is_next(DOUBLE_AMPERSAND) {
-            let _separator = self.take();
-            add(&mut operands, self.formula_chop()?)?;
-        }
-        FormulaList::And.of(self.alloc, operands)
-    }
-
-    // formula_chop = formula_prefix {"^" formula_prefix}
-    #[cycle(formula)]
-    fn formula_chop(&mut self) -> Result<Box<FormulaOperand>, AllocError>
-        requires { BeginWithRule rules.formula_chop (left self.old) }
-        ensures { IfOk result (λ d. RuleReadAs rules.formula_chop (left self.old) (AFormula (plain_formula_operand d.value)) (left self.new)) }
-    {
-        let first = self.formula_prefix()?;
-        if !self.is_next(CARET) {
-            return Ok(first);
-        }
-        let mut operands = Vec::new(self.alloc);
-        add(&mut operands, first)?;
-        'more: while self.is_next(CARET) {
-            let _separator = self.take();
-            add(&mut operands, self.formula_prefix()?)?;
-        }
-        FormulaList::Chop.of(self.alloc, operands)
     }
 
     // formula_prefix = ("!" | "<>" | "[]") formula_prefix | formula_star

@@ -57,7 +57,18 @@ fn add_argument(props: &mut Vec<Prop>, argument: Box<PropOperand>) -> Result<(),
 }
 
 impl PropList {
-    ghost use Rattle.dcv_reader.specs.PropLists.{prop_list_kind};
+    ghost use Rattle.dcv_reader.specs.PropLists.{prop_list_kind, prop_separator};
+
+    // The class between two operands.
+    fn separator(self) -> u8
+        ensures { result ≡ prop_separator self }
+    {
+        match self {
+            PropList::And => DOUBLE_AMPERSAND,
+            PropList::Or => DOUBLE_BAR,
+            PropList::Iff => DOUBLE_ARROW,
+        }
+    }
 
     // The form of a list of operands.
     fn kind(self, operands: Vec<PropOperand>) -> PropKind
@@ -111,6 +122,7 @@ impl Builder<'_, '_> {
     ghost use Rattle.dcv_reader.specs.Actions.{AProp, Arguments as ArgumentsPart};
     ghost use Rattle.dcv_reader.specs.Building.{BeginWithRule, RuleReadAs, is_next};
     ghost use Rattle.dcv_reader.specs.Left.{left};
+    ghost use Rattle.dcv_reader.specs.PropLists.{prop_list_rule, prop_operand_rule};
     ghost use Rattle.dcv_sentence.specs.RuleNumbers as rules;
 
     /// prop = prop_implies {"<=>" prop_implies}
@@ -119,17 +131,41 @@ impl Builder<'_, '_> {
         requires { BeginWithRule rules.prop (left self.old) }
         ensures { IfOk result (λ p. RuleReadAs rules.prop (left self.old) (AProp (plain_prop_operand p.value)) (left self.new)) }
     {
-        let first = self.prop_implies()?;
-        if !self.is_next(DOUBLE_ARROW) {
+        self.prop_list(PropList::Iff)
+    }
+
+    // prop, prop_or = prop_and {"||" prop_and} and prop_and = prop_prefix {"&&" prop_prefix}
+    #[cycle(prop)]
+    fn prop_list(&mut self, list: PropList) -> Result<Box<PropOperand>, AllocError>
+        requires { BeginWithRule (prop_list_rule list) (left self.old) }
+        ensures { IfOk result (λ p. RuleReadAs (prop_list_rule list) (left self.old) (AProp (plain_prop_operand p.value)) (left self.new)) }
+    {
+        let first = self.prop_operand(list)?;
+        let separator = list.separator();
+        if !self.is_next(separator) {
             return Ok(first);
         }
         let mut operands = Vec::new(self.alloc);
         add_operand(&mut operands, first)?;
-        'more: while self.is_next(DOUBLE_ARROW) {
+        'more: while self.is_next(separator) {
             let _separator = self.take();
-            add_operand(&mut operands, self.prop_implies()?)?;
+            add_operand(&mut operands, self.prop_operand(list)?)?;
         }
-        PropList::Iff.of(self.alloc, operands)
+        list.of(self.alloc, operands)
+    }
+
+    // An operand of such a list.
+    #[cycle(prop)]
+    #[inline(always)]
+    fn prop_operand(&mut self, list: PropList) -> Result<Box<PropOperand>, AllocError>
+        requires { BeginWithRule (prop_operand_rule list) (left self.old) }
+        ensures { IfOk result (λ p. RuleReadAs (prop_operand_rule list) (left self.old) (AProp (plain_prop_operand p.value)) (left self.new)) }
+    {
+        match list {
+            PropList::Iff => self.prop_implies(),
+            PropList::Or => self.prop_list(PropList::And),
+            PropList::And => self.prop_prefix(),
+        }
     }
 
     // prop_implies = prop_or ["=>" prop_implies]
@@ -138,51 +174,13 @@ impl Builder<'_, '_> {
         requires { BeginWithRule rules.prop_implies (left self.old) }
         ensures { IfOk result (λ p. RuleReadAs rules.prop_implies (left self.old) (AProp (plain_prop_operand p.value)) (left self.new)) }
     {
-        let premise = self.prop_or()?;
+        let premise = self.prop_list(PropList::Or)?;
         if !self.is_next(ARROW) {
             return Ok(premise);
         }
         let _arrow = self.take();
         let conclusion = self.prop_implies()?;
         prop_implication(self.alloc, premise, conclusion)
-    }
-
-    // prop_or = prop_and {"||" prop_and}
-    #[cycle(prop)]
-    fn prop_or(&mut self) -> Result<Box<PropOperand>, AllocError>
-        requires { BeginWithRule rules.prop_or (left self.old) }
-        ensures { IfOk result (λ p. RuleReadAs rules.prop_or (left self.old) (AProp (plain_prop_operand p.value)) (left self.new)) }
-    {
-        let first = self.prop_and()?;
-        if !self.is_next(DOUBLE_BAR) {
-            return Ok(first);
-        }
-        let mut operands = Vec::new(self.alloc);
-        add_operand(&mut operands, first)?;
-        'more: while self.is_next(DOUBLE_BAR) {
-            let _separator = self.take();
-            add_operand(&mut operands, self.prop_and()?)?;
-        }
-        PropList::Or.of(self.alloc, operands)
-    }
-
-    // prop_and = prop_prefix {"&&" prop_prefix}
-    #[cycle(prop)]
-    fn prop_and(&mut self) -> Result<Box<PropOperand>, AllocError>
-        requires { BeginWithRule rules.prop_and (left self.old) }
-        ensures { IfOk result (λ p. RuleReadAs rules.prop_and (left self.old) (AProp (plain_prop_operand p.value)) (left self.new)) }
-    {
-        let first = self.prop_prefix()?;
-        if !self.is_next(DOUBLE_AMPERSAND) {
-            return Ok(first);
-        }
-        let mut operands = Vec::new(self.alloc);
-        add_operand(&mut operands, first)?;
-        'more: while self.is_next(DOUBLE_AMPERSAND) {
-            let _separator = self.take();
-            add_operand(&mut operands, self.prop_prefix()?)?;
-        }
-        PropList::And.of(self.alloc, operands)
     }
 
     /// prop_prefix = ("!" | "-" | "+") prop_prefix | prop_atom

@@ -6,167 +6,75 @@ use Rattle.dcv_tokens.specs.Reading.{seen}
 use Rattle.dcv_sentence.specs.RuleNumbers as rules
 use Rattle.dcv_reader.specs.Actions.{AFormula, Formulas}
 use Rattle.dcv_sentence.specs.Language.{formula_rule, formula_prefix_rule, formula_atom_rule}
+use Rattle.dcv_reader.specs.FormulaLists.{formula_list_rule}
 use Rattle.dcv_reader.specs.Left.{left}
 use Rattle.dcv_reader.specs.Nodes.{starred}
 use Rattle.dcv_reader.proofs.BuilderParts.{if_ok}
-use Rattle.dcv_reader.proofs.BuilderForms.{next_of_there, premise_begins, premise_alone, conclusion_begins, conclusion_read, rule_begins, rule_passed, prefix_next, prefix_read, inside_next, closing_there, inside_read, second_there, third_there, fourth_next, fourth_read}
+use Rattle.dcv_reader.proofs.BuilderForms.{next_by, next_of_there, premise_begins, premise_alone, conclusion_begins, conclusion_read, rule_begins, rule_passed, prefix_next, prefix_read, inside_next, closing_there, inside_read, second_there, third_there, fourth_next, fourth_read}
 use Rattle.dcv_reader.proofs.BuilderLevels.{level_first, level_begun, level_alone, operand_next, operands_pushed, level_read}
-use Rattle.dcv_reader.proofs.BuilderFormulas.{iff_operands, iff_at, or_operands, or_at, and_operands, and_at, chop_operands, chop_at, formula_at, implies_at, implied_at, prefix_at, atom_at, picks_quantifier, picks_iff, picks_prefix, picks_star, picks_group, star_atom, stars_begin, stars_more, stars_read}
+use Rattle.dcv_reader.proofs.BuilderFormulas.{operands_of, list_at, list_part, formula_at, implies_at, implied_at, prefix_at, atom_at, picks_quantifier, picks_iff, picks_prefix, picks_star, picks_group, star_atom, stars_begin, stars_more, stars_read}
 use Rattle.dcv_reader.proofs.builder.Builder.+formula.Goals as goal
 
-pub formula_iff-formula_implies-requires : goal.formula_iff-formula_implies-requires
-formula_iff-formula_implies-requires t c = (omega arith, level_first iff_operands rules.formula_iff iff_at c.requires)
+pub formula_list-formula_operand-requires : goal.formula_list-formula_operand-requires
+formula_list-formula_operand-requires t c = (omega arith, level_first (operands_of c.args.list) (formula_list_rule c.args.list) (list_at c.args.list) c.requires)
 
-pub formula_iff-returns-then-not-is_next : goal.formula_iff-returns-then-not-is_next
-formula_iff-returns-then-not-is_next t c =
-    level_alone iff_operands rules.formula_iff iff_at (plain_formula_operand c.in_ok-first.first.value) (left c.formula_implies.new.self) c.requires c.in_ok-first.ensures (sym c.is_next.ensures ∙ c.if-not-is_next.true) refl
+pub formula_list-returns-then-not-is_next : goal.formula_list-returns-then-not-is_next
+formula_list-returns-then-not-is_next t c =
+    level_alone (operands_of c.args.list) (formula_list_rule c.args.list) (list_at c.args.list) (plain_formula_operand c.in_ok-first.first.value) (left c.formula_operand.new.self) c.requires c.in_ok-first.ensures (next_by (left c.formula_operand.new.self) c.separator-separator.ensures c.is_next.ensures c.if-not-is_next.true) (list_part c.args.list _ [])
 
-pub formula_iff-more-init : goal.formula_iff-more-init
-formula_iff-more-init t c =
-    level_begun plain_formula_operand iff_operands rules.formula_iff iff_at c.new-operands.result.items c.add.new.operands.items c.in_ok-first.first.value (left c.formula_implies.new.self) c.new-operands.ensures.items c.in_ok-add.ensures c.requires c.in_ok-first.ensures
+pub formula_list-more-init : goal.formula_list-more-init
+formula_list-more-init t c =
+    level_begun plain_formula_operand (operands_of c.args.list) (formula_list_rule c.args.list) (list_at c.args.list) c.new-operands.result.items c.add.new.operands.items c.in_ok-first.first.value (left c.formula_operand.new.self) c.new-operands.ensures.items c.in_ok-add.ensures c.requires c.in_ok-first.ensures
 
-pub formula_iff-formula_implies-requires-in-more : goal.formula_iff-formula_implies-requires-in-more
-formula_iff-formula_implies-requires-in-more t c =
-    let next = operand_next iff_operands c.more.invariant (seen c.take-separator.result) (left c.take-separator.new.self) (sym c.is_next-in-more.ensures ∙ c.more-test.true) c.take-separator.ensures in
+pub formula_list-formula_operand-requires-in-more : goal.formula_list-formula_operand-requires-in-more
+formula_list-formula_operand-requires-in-more t c =
+    let next = operand_next (operands_of c.args.list) c.more.invariant (seen c.take-separator.result) (left c.take-separator.new.self) (next_by (left c.more.self) c.separator-separator.ensures c.is_next-in-more.ensures c.more-test.true) c.take-separator.ensures in
     let shorter = next.1 in
     (omega arith, next.0)
 
-pub formula_iff-more-smaller : goal.formula_iff-more-smaller
-formula_iff-more-smaller t c =
-    (operands_pushed plain_formula_operand iff_operands c.more.operands.items c.add-in-more.new.operands.items c.in_ok-formula_implies.field-0.value (left c.more.self) (left c.take-separator.new.self) (left c.formula_implies-in-more.new.self) (seen c.take-separator.result) c.more.invariant (sym c.is_next-in-more.ensures ∙ c.more-test.true) c.take-separator.ensures c.in_ok-formula_implies.ensures c.in_ok-add-2.ensures).1
+pub formula_list-more-smaller : goal.formula_list-more-smaller
+formula_list-more-smaller t c =
+    (operands_pushed plain_formula_operand (operands_of c.args.list) c.more.operands.items c.add-in-more.new.operands.items c.in_ok-formula_operand.field-0.value (left c.more.self) (left c.take-separator.new.self) (left c.formula_operand-in-more.new.self) (seen c.take-separator.result) c.more.invariant (next_by (left c.more.self) c.separator-separator.ensures c.is_next-in-more.ensures c.more-test.true) c.take-separator.ensures c.in_ok-formula_operand.ensures c.in_ok-add-2.ensures).1
 
-pub formula_iff-more-preserved : goal.formula_iff-more-preserved
-formula_iff-more-preserved t c =
-    (operands_pushed plain_formula_operand iff_operands c.more.operands.items c.add-in-more.new.operands.items c.in_ok-formula_implies.field-0.value (left c.more.self) (left c.take-separator.new.self) (left c.formula_implies-in-more.new.self) (seen c.take-separator.result) c.more.invariant (sym c.is_next-in-more.ensures ∙ c.more-test.true) c.take-separator.ensures c.in_ok-formula_implies.ensures c.in_ok-add-2.ensures).0
+pub formula_list-more-preserved : goal.formula_list-more-preserved
+formula_list-more-preserved t c =
+    (operands_pushed plain_formula_operand (operands_of c.args.list) c.more.operands.items c.add-in-more.new.operands.items c.in_ok-formula_operand.field-0.value (left c.more.self) (left c.take-separator.new.self) (left c.formula_operand-in-more.new.self) (seen c.take-separator.result) c.more.invariant (next_by (left c.more.self) c.separator-separator.ensures c.is_next-in-more.ensures c.more-test.true) c.take-separator.ensures c.in_ok-formula_operand.ensures c.in_ok-add-2.ensures).0
 
-pub formula_iff-returns : goal.formula_iff-returns
-formula_iff-returns t c =
+pub formula_list-returns : goal.formula_list-returns
+formula_list-returns t c =
     if_ok c.of.result
-    (λ d is. level_read iff_operands rules.formula_iff iff_at c.more.invariant (sym c.is_next-in-more.ensures ∙ c.more-test.false) (λ p ps e. ap AFormula (sym (is p ps e))))
+    (λ x is. level_read (operands_of c.args.list) (formula_list_rule c.args.list) (list_at c.args.list) c.more.invariant (next_by (left c.more.self) c.separator-separator.ensures c.is_next-in-more.ensures c.more-test.false) (λ y ys e. list_part c.args.list y ys ∙ ap AFormula (sym (is y ys e))))
     c.of.ensures
 
-pub formula_or-formula_and-requires : goal.formula_or-formula_and-requires
-formula_or-formula_and-requires t c = (omega arith, level_first or_operands rules.formula_or or_at c.requires)
-
-pub formula_or-returns-then-not-is_next : goal.formula_or-returns-then-not-is_next
-formula_or-returns-then-not-is_next t c =
-    level_alone or_operands rules.formula_or or_at (plain_formula_operand c.in_ok-first.first.value) (left c.formula_and.new.self) c.requires c.in_ok-first.ensures (sym c.is_next.ensures ∙ c.if-not-is_next.true) refl
-
-pub formula_or-more-init : goal.formula_or-more-init
-formula_or-more-init t c =
-    level_begun plain_formula_operand or_operands rules.formula_or or_at c.new-operands.result.items c.add.new.operands.items c.in_ok-first.first.value (left c.formula_and.new.self) c.new-operands.ensures.items c.in_ok-add.ensures c.requires c.in_ok-first.ensures
-
-pub formula_or-formula_and-requires-in-more : goal.formula_or-formula_and-requires-in-more
-formula_or-formula_and-requires-in-more t c =
-    let next = operand_next or_operands c.more.invariant (seen c.take-separator.result) (left c.take-separator.new.self) (sym c.is_next-in-more.ensures ∙ c.more-test.true) c.take-separator.ensures in
-    let shorter = next.1 in
-    (omega arith, next.0)
-
-pub formula_or-more-smaller : goal.formula_or-more-smaller
-formula_or-more-smaller t c =
-    (operands_pushed plain_formula_operand or_operands c.more.operands.items c.add-in-more.new.operands.items c.in_ok-formula_and.field-0.value (left c.more.self) (left c.take-separator.new.self) (left c.formula_and-in-more.new.self) (seen c.take-separator.result) c.more.invariant (sym c.is_next-in-more.ensures ∙ c.more-test.true) c.take-separator.ensures c.in_ok-formula_and.ensures c.in_ok-add-2.ensures).1
-
-pub formula_or-more-preserved : goal.formula_or-more-preserved
-formula_or-more-preserved t c =
-    (operands_pushed plain_formula_operand or_operands c.more.operands.items c.add-in-more.new.operands.items c.in_ok-formula_and.field-0.value (left c.more.self) (left c.take-separator.new.self) (left c.formula_and-in-more.new.self) (seen c.take-separator.result) c.more.invariant (sym c.is_next-in-more.ensures ∙ c.more-test.true) c.take-separator.ensures c.in_ok-formula_and.ensures c.in_ok-add-2.ensures).0
-
-pub formula_or-returns : goal.formula_or-returns
-formula_or-returns t c =
-    if_ok c.of.result
-    (λ d is. level_read or_operands rules.formula_or or_at c.more.invariant (sym c.is_next-in-more.ensures ∙ c.more-test.false) (λ p ps e. ap AFormula (sym (is p ps e))))
-    c.of.ensures
-
-pub formula_and-formula_chop-requires : goal.formula_and-formula_chop-requires
-formula_and-formula_chop-requires t c = (omega arith, level_first and_operands rules.formula_and and_at c.requires)
-
-pub formula_and-returns-then-not-is_next : goal.formula_and-returns-then-not-is_next
-formula_and-returns-then-not-is_next t c =
-    level_alone and_operands rules.formula_and and_at (plain_formula_operand c.in_ok-first.first.value) (left c.formula_chop.new.self) c.requires c.in_ok-first.ensures (sym c.is_next.ensures ∙ c.if-not-is_next.true) refl
-
-pub formula_and-more-init : goal.formula_and-more-init
-formula_and-more-init t c =
-    level_begun plain_formula_operand and_operands rules.formula_and and_at c.new-operands.result.items c.add.new.operands.items c.in_ok-first.first.value (left c.formula_chop.new.self) c.new-operands.ensures.items c.in_ok-add.ensures c.requires c.in_ok-first.ensures
-
-pub formula_and-formula_chop-requires-in-more : goal.formula_and-formula_chop-requires-in-more
-formula_and-formula_chop-requires-in-more t c =
-    let next = operand_next and_operands c.more.invariant (seen c.take-separator.result) (left c.take-separator.new.self) (sym c.is_next-in-more.ensures ∙ c.more-test.true) c.take-separator.ensures in
-    let shorter = next.1 in
-    (omega arith, next.0)
-
-pub formula_and-more-smaller : goal.formula_and-more-smaller
-formula_and-more-smaller t c =
-    (operands_pushed plain_formula_operand and_operands c.more.operands.items c.add-in-more.new.operands.items c.in_ok-formula_chop.field-0.value (left c.more.self) (left c.take-separator.new.self) (left c.formula_chop-in-more.new.self) (seen c.take-separator.result) c.more.invariant (sym c.is_next-in-more.ensures ∙ c.more-test.true) c.take-separator.ensures c.in_ok-formula_chop.ensures c.in_ok-add-2.ensures).1
-
-pub formula_and-more-preserved : goal.formula_and-more-preserved
-formula_and-more-preserved t c =
-    (operands_pushed plain_formula_operand and_operands c.more.operands.items c.add-in-more.new.operands.items c.in_ok-formula_chop.field-0.value (left c.more.self) (left c.take-separator.new.self) (left c.formula_chop-in-more.new.self) (seen c.take-separator.result) c.more.invariant (sym c.is_next-in-more.ensures ∙ c.more-test.true) c.take-separator.ensures c.in_ok-formula_chop.ensures c.in_ok-add-2.ensures).0
-
-pub formula_and-returns : goal.formula_and-returns
-formula_and-returns t c =
-    if_ok c.of.result
-    (λ d is. level_read and_operands rules.formula_and and_at c.more.invariant (sym c.is_next-in-more.ensures ∙ c.more-test.false) (λ p ps e. ap AFormula (sym (is p ps e))))
-    c.of.ensures
-
-pub formula_chop-formula_prefix-requires : goal.formula_chop-formula_prefix-requires
-formula_chop-formula_prefix-requires t c = (omega arith, level_first chop_operands rules.formula_chop chop_at c.requires)
-
-pub formula_chop-returns-then-not-is_next : goal.formula_chop-returns-then-not-is_next
-formula_chop-returns-then-not-is_next t c =
-    level_alone chop_operands rules.formula_chop chop_at (plain_formula_operand c.in_ok-first.first.value) (left c.formula_prefix.new.self) c.requires c.in_ok-first.ensures (sym c.is_next.ensures ∙ c.if-not-is_next.true) refl
-
-pub formula_chop-more-init : goal.formula_chop-more-init
-formula_chop-more-init t c =
-    level_begun plain_formula_operand chop_operands rules.formula_chop chop_at c.new-operands.result.items c.add.new.operands.items c.in_ok-first.first.value (left c.formula_prefix.new.self) c.new-operands.ensures.items c.in_ok-add.ensures c.requires c.in_ok-first.ensures
-
-pub formula_chop-formula_prefix-requires-in-more : goal.formula_chop-formula_prefix-requires-in-more
-formula_chop-formula_prefix-requires-in-more t c =
-    let next = operand_next chop_operands c.more.invariant (seen c.take-separator.result) (left c.take-separator.new.self) (sym c.is_next-in-more.ensures ∙ c.more-test.true) c.take-separator.ensures in
-    let shorter = next.1 in
-    (omega arith, next.0)
-
-pub formula_chop-more-smaller : goal.formula_chop-more-smaller
-formula_chop-more-smaller t c =
-    (operands_pushed plain_formula_operand chop_operands c.more.operands.items c.add-in-more.new.operands.items c.in_ok-formula_prefix.field-0.value (left c.more.self) (left c.take-separator.new.self) (left c.formula_prefix-in-more.new.self) (seen c.take-separator.result) c.more.invariant (sym c.is_next-in-more.ensures ∙ c.more-test.true) c.take-separator.ensures c.in_ok-formula_prefix.ensures c.in_ok-add-2.ensures).1
-
-pub formula_chop-more-preserved : goal.formula_chop-more-preserved
-formula_chop-more-preserved t c =
-    (operands_pushed plain_formula_operand chop_operands c.more.operands.items c.add-in-more.new.operands.items c.in_ok-formula_prefix.field-0.value (left c.more.self) (left c.take-separator.new.self) (left c.formula_prefix-in-more.new.self) (seen c.take-separator.result) c.more.invariant (sym c.is_next-in-more.ensures ∙ c.more-test.true) c.take-separator.ensures c.in_ok-formula_prefix.ensures c.in_ok-add-2.ensures).0
-
-pub formula_chop-returns : goal.formula_chop-returns
-formula_chop-returns t c =
-    if_ok c.of.result
-    (λ d is. level_read chop_operands rules.formula_chop chop_at c.more.invariant (sym c.is_next-in-more.ensures ∙ c.more-test.false) (λ p ps e. ap AFormula (sym (is p ps e))))
-    c.of.ensures
-
-pub formula_implies-formula_or-requires : goal.formula_implies-formula_or-requires
-formula_implies-formula_or-requires t c =
+pub formula_implies-formula_list-requires : goal.formula_implies-formula_list-requires
+formula_implies-formula_list-requires t c =
     (omega arith, premise_begins AFormula Formulas rules.formula_implies rules.formula_or rules.formula_implied implies_at implied_at refl (λ token p. refl) c.requires)
 
 pub formula_implies-returns-then-not-is_next : goal.formula_implies-returns-then-not-is_next
 formula_implies-returns-then-not-is_next t c =
-    premise_alone AFormula Formulas rules.formula_implies rules.formula_or rules.formula_implied implies_at implied_at refl (λ token p. refl) c.requires (plain_formula_operand c.in_ok-premise.premise.value) (left c.formula_or.new.self) c.in_ok-premise.ensures _ (sym c.is_next.ensures ∙ c.if-not-is_next.true) refl
+    premise_alone AFormula Formulas rules.formula_implies rules.formula_or rules.formula_implied implies_at implied_at refl (λ token p. refl) c.requires (plain_formula_operand c.in_ok-premise.premise.value) (left c.formula_list.new.self) c.in_ok-premise.ensures _ (sym c.is_next.ensures ∙ c.if-not-is_next.true) refl
 
 pub formula_implies-formula_implies-requires : goal.formula_implies-formula_implies-requires
 formula_implies-formula_implies-requires t c =
-    let next = conclusion_begins AFormula Formulas rules.formula_implies rules.formula_or rules.formula_implied implies_at implied_at refl (λ token p. refl) c.requires (plain_formula_operand c.in_ok-premise.premise.value) (left c.formula_or.new.self) c.in_ok-premise.ensures (seen c.take-arrow.result) (left c.take-arrow.new.self) (sym c.is_next.ensures ∙ c.if-not-is_next.false) c.take-arrow.ensures in
+    let next = conclusion_begins AFormula Formulas rules.formula_implies rules.formula_or rules.formula_implied implies_at implied_at refl (λ token p. refl) c.requires (plain_formula_operand c.in_ok-premise.premise.value) (left c.formula_list.new.self) c.in_ok-premise.ensures (seen c.take-arrow.result) (left c.take-arrow.new.self) (sym c.is_next.ensures ∙ c.if-not-is_next.false) c.take-arrow.ensures in
     let shorter = next.1 in
     (omega arith, next.0)
 
 pub formula_implies-returns : goal.formula_implies-returns
 formula_implies-returns t c =
     if_ok c.implication.result
-    (λ p is. conclusion_read AFormula Formulas rules.formula_implies rules.formula_or rules.formula_implied implies_at implied_at refl (λ token p. refl) c.requires (plain_formula_operand c.in_ok-premise.premise.value) (left c.formula_or.new.self) c.in_ok-premise.ensures (seen c.take-arrow.result) (left c.take-arrow.new.self) (sym c.is_next.ensures ∙ c.if-not-is_next.false) c.take-arrow.ensures (plain_formula_operand c.in_ok-conclusion.conclusion.value) (left c.formula_implies.new.self) (AFormula (plain_formula_operand p.value)) c.in_ok-conclusion.ensures (ap AFormula (sym is)))
+    (λ p is. conclusion_read AFormula Formulas rules.formula_implies rules.formula_or rules.formula_implied implies_at implied_at refl (λ token p. refl) c.requires (plain_formula_operand c.in_ok-premise.premise.value) (left c.formula_list.new.self) c.in_ok-premise.ensures (seen c.take-arrow.result) (left c.take-arrow.new.self) (sym c.is_next.ensures ∙ c.if-not-is_next.false) c.take-arrow.ensures (plain_formula_operand c.in_ok-conclusion.conclusion.value) (left c.formula_implies.new.self) (AFormula (plain_formula_operand p.value)) c.in_ok-conclusion.ensures (ap AFormula (sym is)))
     c.implication.ensures
 
-pub formula-formula_iff-requires : goal.formula-formula_iff-requires
-formula-formula_iff-requires t c =
+pub formula-formula_list-requires : goal.formula-formula_list-requires
+formula-formula_list-requires t c =
     (omega arith, rule_begins rules.formula formula_rule formula_at c.requires rules.formula_iff (picks_iff (left c.args.self.now) (sym c.is_next_of.ensures ∙ c.if-not-is_next_of.true)))
 
 pub formula-returns-then-not-is_next_of : goal.formula-returns-then-not-is_next_of
 formula-returns-then-not-is_next_of t c =
-    if_ok c.formula_iff.result
-    (λ d reads. rule_passed rules.formula formula_rule formula_at c.requires rules.formula_iff (picks_iff (left c.args.self.now) (sym c.is_next_of.ensures ∙ c.if-not-is_next_of.true)) (AFormula (plain_formula_operand d.value)) _ (left c.formula_iff.new.self) reads refl)
-    c.formula_iff.ensures
+    if_ok c.formula_list.result
+    (λ d reads. rule_passed rules.formula formula_rule formula_at c.requires rules.formula_iff (picks_iff (left c.args.self.now) (sym c.is_next_of.ensures ∙ c.if-not-is_next_of.true)) (AFormula (plain_formula_operand d.value)) _ (left c.formula_list.new.self) reads refl)
+    c.formula_list.ensures
 
 pub formula-take-word-requires : goal.formula-take-word-requires
 formula-take-word-requires t c = next_of_there (classes.word_ex ∷ classes.word_all ∷ []) (left c.args.self.now) (sym c.is_next_of.ensures ∙ c.if-not-is_next_of.false)

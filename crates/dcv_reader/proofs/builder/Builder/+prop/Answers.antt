@@ -11,123 +11,62 @@ use Rattle.dcv_reader.specs.Actions.{AProp, Props, Arguments}
 use Rattle.dcv_sentence.specs.Language.{prop_prefix_rule, prop_atom_rule}
 use Rattle.dcv_reader.specs.Building.{RuleReadAs}
 use Rattle.dcv_reader.specs.Left.{left}
+use Rattle.dcv_reader.specs.PropLists.{prop_list_rule}
 use Rattle.dcv_reader.proofs.BuilderLevels.{level_first, level_begun, level_alone, operand_next, operands_pushed, level_read, pushed_first, pushed_more, enclosed_first, enclosed_begun, enclosed_next, enclosed_more, enclosed_closes, enclosed_read}
 use Rattle.dcv_reader.proofs.BuilderParts.{if_ok}
-use Rattle.dcv_reader.proofs.BuilderForms.{next_of_there, premise_begins, premise_alone, conclusion_begins, conclusion_read, rule_begins, rule_passed, prefix_next, prefix_read, inside_next, closing_there, inside_read, nothing_read}
-use Rattle.dcv_reader.proofs.BuilderProps.{iff_operands, iff_at, or_operands, or_at, and_operands, and_at, argument_operands, arguments_at, implies_at, implied_at, prefix_at, atom_at, picks_sign, picks_atom, atom_there, picks_group, picks_call}
+use Rattle.dcv_reader.proofs.BuilderForms.{next_by, next_of_there, premise_begins, premise_alone, conclusion_begins, conclusion_read, rule_begins, rule_passed, prefix_next, prefix_read, inside_next, closing_there, inside_read, nothing_read}
+use Rattle.dcv_reader.proofs.BuilderProps.{operands_of, list_at, list_part, argument_operands, arguments_at, implies_at, implied_at, prefix_at, atom_at, picks_sign, picks_atom, atom_there, picks_group, picks_call}
 use Rattle.dcv_reader.proofs.builder.Builder.+prop.Goals as goal
 
-pub prop-prop_implies-requires : goal.prop-prop_implies-requires
-prop-prop_implies-requires t c = (omega arith, level_first iff_operands rules.prop iff_at c.requires)
+pub prop_list-prop_operand-requires : goal.prop_list-prop_operand-requires
+prop_list-prop_operand-requires t c = (omega arith, level_first (operands_of c.args.list) (prop_list_rule c.args.list) (list_at c.args.list) c.requires)
 
-pub prop-returns-then-not-is_next : goal.prop-returns-then-not-is_next
-prop-returns-then-not-is_next t c =
-    level_alone iff_operands rules.prop iff_at (plain_prop_operand c.in_ok-first.first.value) (left c.prop_implies.new.self) c.requires c.in_ok-first.ensures (sym c.is_next.ensures ∙ c.if-not-is_next.true) refl
+pub prop_list-returns-then-not-is_next : goal.prop_list-returns-then-not-is_next
+prop_list-returns-then-not-is_next t c =
+    level_alone (operands_of c.args.list) (prop_list_rule c.args.list) (list_at c.args.list) (plain_prop_operand c.in_ok-first.first.value) (left c.prop_operand.new.self) c.requires c.in_ok-first.ensures (next_by (left c.prop_operand.new.self) c.separator-separator.ensures c.is_next.ensures c.if-not-is_next.true) (list_part c.args.list _ [])
 
-pub prop-more-init : goal.prop-more-init
-prop-more-init t c =
-    level_begun plain_prop_operand iff_operands rules.prop iff_at c.new-operands.result.items c.add_operand.new.operands.items c.in_ok-first.first.value (left c.prop_implies.new.self) c.new-operands.ensures.items c.in_ok-add_operand.ensures c.requires c.in_ok-first.ensures
+pub prop_list-more-init : goal.prop_list-more-init
+prop_list-more-init t c =
+    level_begun plain_prop_operand (operands_of c.args.list) (prop_list_rule c.args.list) (list_at c.args.list) c.new-operands.result.items c.add_operand.new.operands.items c.in_ok-first.first.value (left c.prop_operand.new.self) c.new-operands.ensures.items c.in_ok-add_operand.ensures c.requires c.in_ok-first.ensures
 
-pub prop-prop_implies-requires-in-more : goal.prop-prop_implies-requires-in-more
-prop-prop_implies-requires-in-more t c =
-    let next = operand_next iff_operands c.more.invariant (seen c.take-separator.result) (left c.take-separator.new.self) (sym c.is_next-in-more.ensures ∙ c.more-test.true) c.take-separator.ensures in
+pub prop_list-prop_operand-requires-in-more : goal.prop_list-prop_operand-requires-in-more
+prop_list-prop_operand-requires-in-more t c =
+    let next = operand_next (operands_of c.args.list) c.more.invariant (seen c.take-separator.result) (left c.take-separator.new.self) (next_by (left c.more.self) c.separator-separator.ensures c.is_next-in-more.ensures c.more-test.true) c.take-separator.ensures in
     let shorter = next.1 in
     (omega arith, next.0)
 
-pub prop-more-smaller : goal.prop-more-smaller
-prop-more-smaller t c =
-    (operands_pushed plain_prop_operand iff_operands c.more.operands.items c.add_operand-in-more.new.operands.items c.in_ok-prop_implies.field-0.value (left c.more.self) (left c.take-separator.new.self) (left c.prop_implies-in-more.new.self) (seen c.take-separator.result) c.more.invariant (sym c.is_next-in-more.ensures ∙ c.more-test.true) c.take-separator.ensures c.in_ok-prop_implies.ensures c.in_ok-add_operand-2.ensures).1
+pub prop_list-more-smaller : goal.prop_list-more-smaller
+prop_list-more-smaller t c =
+    (operands_pushed plain_prop_operand (operands_of c.args.list) c.more.operands.items c.add_operand-in-more.new.operands.items c.in_ok-prop_operand.field-0.value (left c.more.self) (left c.take-separator.new.self) (left c.prop_operand-in-more.new.self) (seen c.take-separator.result) c.more.invariant (next_by (left c.more.self) c.separator-separator.ensures c.is_next-in-more.ensures c.more-test.true) c.take-separator.ensures c.in_ok-prop_operand.ensures c.in_ok-add_operand-2.ensures).1
 
-pub prop-more-preserved : goal.prop-more-preserved
-prop-more-preserved t c =
-    (operands_pushed plain_prop_operand iff_operands c.more.operands.items c.add_operand-in-more.new.operands.items c.in_ok-prop_implies.field-0.value (left c.more.self) (left c.take-separator.new.self) (left c.prop_implies-in-more.new.self) (seen c.take-separator.result) c.more.invariant (sym c.is_next-in-more.ensures ∙ c.more-test.true) c.take-separator.ensures c.in_ok-prop_implies.ensures c.in_ok-add_operand-2.ensures).0
+pub prop_list-more-preserved : goal.prop_list-more-preserved
+prop_list-more-preserved t c =
+    (operands_pushed plain_prop_operand (operands_of c.args.list) c.more.operands.items c.add_operand-in-more.new.operands.items c.in_ok-prop_operand.field-0.value (left c.more.self) (left c.take-separator.new.self) (left c.prop_operand-in-more.new.self) (seen c.take-separator.result) c.more.invariant (next_by (left c.more.self) c.separator-separator.ensures c.is_next-in-more.ensures c.more-test.true) c.take-separator.ensures c.in_ok-prop_operand.ensures c.in_ok-add_operand-2.ensures).0
 
-pub prop-returns : goal.prop-returns
-prop-returns t c =
+pub prop_list-returns : goal.prop_list-returns
+prop_list-returns t c =
     if_ok c.of.result
-    (λ d is. level_read iff_operands rules.prop iff_at c.more.invariant (sym c.is_next-in-more.ensures ∙ c.more-test.false) (λ p ps e. ap AProp (sym (is p ps e))))
+    (λ x is. level_read (operands_of c.args.list) (prop_list_rule c.args.list) (list_at c.args.list) c.more.invariant (next_by (left c.more.self) c.separator-separator.ensures c.is_next-in-more.ensures c.more-test.false) (λ y ys e. list_part c.args.list y ys ∙ ap AProp (sym (is y ys e))))
     c.of.ensures
 
-pub prop_or-prop_and-requires : goal.prop_or-prop_and-requires
-prop_or-prop_and-requires t c = (omega arith, level_first or_operands rules.prop_or or_at c.requires)
-
-pub prop_or-returns-then-not-is_next : goal.prop_or-returns-then-not-is_next
-prop_or-returns-then-not-is_next t c =
-    level_alone or_operands rules.prop_or or_at (plain_prop_operand c.in_ok-first.first.value) (left c.prop_and.new.self) c.requires c.in_ok-first.ensures (sym c.is_next.ensures ∙ c.if-not-is_next.true) refl
-
-pub prop_or-more-init : goal.prop_or-more-init
-prop_or-more-init t c =
-    level_begun plain_prop_operand or_operands rules.prop_or or_at c.new-operands.result.items c.add_operand.new.operands.items c.in_ok-first.first.value (left c.prop_and.new.self) c.new-operands.ensures.items c.in_ok-add_operand.ensures c.requires c.in_ok-first.ensures
-
-pub prop_or-prop_and-requires-in-more : goal.prop_or-prop_and-requires-in-more
-prop_or-prop_and-requires-in-more t c =
-    let next = operand_next or_operands c.more.invariant (seen c.take-separator.result) (left c.take-separator.new.self) (sym c.is_next-in-more.ensures ∙ c.more-test.true) c.take-separator.ensures in
-    let shorter = next.1 in
-    (omega arith, next.0)
-
-pub prop_or-more-smaller : goal.prop_or-more-smaller
-prop_or-more-smaller t c =
-    (operands_pushed plain_prop_operand or_operands c.more.operands.items c.add_operand-in-more.new.operands.items c.in_ok-prop_and.field-0.value (left c.more.self) (left c.take-separator.new.self) (left c.prop_and-in-more.new.self) (seen c.take-separator.result) c.more.invariant (sym c.is_next-in-more.ensures ∙ c.more-test.true) c.take-separator.ensures c.in_ok-prop_and.ensures c.in_ok-add_operand-2.ensures).1
-
-pub prop_or-more-preserved : goal.prop_or-more-preserved
-prop_or-more-preserved t c =
-    (operands_pushed plain_prop_operand or_operands c.more.operands.items c.add_operand-in-more.new.operands.items c.in_ok-prop_and.field-0.value (left c.more.self) (left c.take-separator.new.self) (left c.prop_and-in-more.new.self) (seen c.take-separator.result) c.more.invariant (sym c.is_next-in-more.ensures ∙ c.more-test.true) c.take-separator.ensures c.in_ok-prop_and.ensures c.in_ok-add_operand-2.ensures).0
-
-pub prop_or-returns : goal.prop_or-returns
-prop_or-returns t c =
-    if_ok c.of.result
-    (λ d is. level_read or_operands rules.prop_or or_at c.more.invariant (sym c.is_next-in-more.ensures ∙ c.more-test.false) (λ p ps e. ap AProp (sym (is p ps e))))
-    c.of.ensures
-
-pub prop_and-prop_prefix-requires : goal.prop_and-prop_prefix-requires
-prop_and-prop_prefix-requires t c = (omega arith, level_first and_operands rules.prop_and and_at c.requires)
-
-pub prop_and-returns-then-not-is_next : goal.prop_and-returns-then-not-is_next
-prop_and-returns-then-not-is_next t c =
-    level_alone and_operands rules.prop_and and_at (plain_prop_operand c.in_ok-first.first.value) (left c.prop_prefix.new.self) c.requires c.in_ok-first.ensures (sym c.is_next.ensures ∙ c.if-not-is_next.true) refl
-
-pub prop_and-more-init : goal.prop_and-more-init
-prop_and-more-init t c =
-    level_begun plain_prop_operand and_operands rules.prop_and and_at c.new-operands.result.items c.add_operand.new.operands.items c.in_ok-first.first.value (left c.prop_prefix.new.self) c.new-operands.ensures.items c.in_ok-add_operand.ensures c.requires c.in_ok-first.ensures
-
-pub prop_and-prop_prefix-requires-in-more : goal.prop_and-prop_prefix-requires-in-more
-prop_and-prop_prefix-requires-in-more t c =
-    let next = operand_next and_operands c.more.invariant (seen c.take-separator.result) (left c.take-separator.new.self) (sym c.is_next-in-more.ensures ∙ c.more-test.true) c.take-separator.ensures in
-    let shorter = next.1 in
-    (omega arith, next.0)
-
-pub prop_and-more-smaller : goal.prop_and-more-smaller
-prop_and-more-smaller t c =
-    (operands_pushed plain_prop_operand and_operands c.more.operands.items c.add_operand-in-more.new.operands.items c.in_ok-prop_prefix.field-0.value (left c.more.self) (left c.take-separator.new.self) (left c.prop_prefix-in-more.new.self) (seen c.take-separator.result) c.more.invariant (sym c.is_next-in-more.ensures ∙ c.more-test.true) c.take-separator.ensures c.in_ok-prop_prefix.ensures c.in_ok-add_operand-2.ensures).1
-
-pub prop_and-more-preserved : goal.prop_and-more-preserved
-prop_and-more-preserved t c =
-    (operands_pushed plain_prop_operand and_operands c.more.operands.items c.add_operand-in-more.new.operands.items c.in_ok-prop_prefix.field-0.value (left c.more.self) (left c.take-separator.new.self) (left c.prop_prefix-in-more.new.self) (seen c.take-separator.result) c.more.invariant (sym c.is_next-in-more.ensures ∙ c.more-test.true) c.take-separator.ensures c.in_ok-prop_prefix.ensures c.in_ok-add_operand-2.ensures).0
-
-pub prop_and-returns : goal.prop_and-returns
-prop_and-returns t c =
-    if_ok c.of.result
-    (λ d is. level_read and_operands rules.prop_and and_at c.more.invariant (sym c.is_next-in-more.ensures ∙ c.more-test.false) (λ p ps e. ap AProp (sym (is p ps e))))
-    c.of.ensures
-
-pub prop_implies-prop_or-requires : goal.prop_implies-prop_or-requires
-prop_implies-prop_or-requires t c =
+pub prop_implies-prop_list-requires : goal.prop_implies-prop_list-requires
+prop_implies-prop_list-requires t c =
     (omega arith, premise_begins AProp Props rules.prop_implies rules.prop_or rules.prop_implied implies_at implied_at refl (λ token p. refl) c.requires)
 
 pub prop_implies-returns-then-not-is_next : goal.prop_implies-returns-then-not-is_next
 prop_implies-returns-then-not-is_next t c =
-    premise_alone AProp Props rules.prop_implies rules.prop_or rules.prop_implied implies_at implied_at refl (λ token p. refl) c.requires (plain_prop_operand c.in_ok-premise.premise.value) (left c.prop_or.new.self) c.in_ok-premise.ensures _ (sym c.is_next.ensures ∙ c.if-not-is_next.true) refl
+    premise_alone AProp Props rules.prop_implies rules.prop_or rules.prop_implied implies_at implied_at refl (λ token p. refl) c.requires (plain_prop_operand c.in_ok-premise.premise.value) (left c.prop_list.new.self) c.in_ok-premise.ensures _ (sym c.is_next.ensures ∙ c.if-not-is_next.true) refl
 
 pub prop_implies-prop_implies-requires : goal.prop_implies-prop_implies-requires
 prop_implies-prop_implies-requires t c =
-    let next = conclusion_begins AProp Props rules.prop_implies rules.prop_or rules.prop_implied implies_at implied_at refl (λ token p. refl) c.requires (plain_prop_operand c.in_ok-premise.premise.value) (left c.prop_or.new.self) c.in_ok-premise.ensures (seen c.take-arrow.result) (left c.take-arrow.new.self) (sym c.is_next.ensures ∙ c.if-not-is_next.false) c.take-arrow.ensures in
+    let next = conclusion_begins AProp Props rules.prop_implies rules.prop_or rules.prop_implied implies_at implied_at refl (λ token p. refl) c.requires (plain_prop_operand c.in_ok-premise.premise.value) (left c.prop_list.new.self) c.in_ok-premise.ensures (seen c.take-arrow.result) (left c.take-arrow.new.self) (sym c.is_next.ensures ∙ c.if-not-is_next.false) c.take-arrow.ensures in
     let shorter = next.1 in
     (omega arith, next.0)
 
 pub prop_implies-returns : goal.prop_implies-returns
 prop_implies-returns t c =
     if_ok c.prop_implication.result
-    (λ p is. conclusion_read AProp Props rules.prop_implies rules.prop_or rules.prop_implied implies_at implied_at refl (λ token p. refl) c.requires (plain_prop_operand c.in_ok-premise.premise.value) (left c.prop_or.new.self) c.in_ok-premise.ensures (seen c.take-arrow.result) (left c.take-arrow.new.self) (sym c.is_next.ensures ∙ c.if-not-is_next.false) c.take-arrow.ensures (plain_prop_operand c.in_ok-conclusion.conclusion.value) (left c.prop_implies.new.self) (AProp (plain_prop_operand p.value)) c.in_ok-conclusion.ensures (ap AProp (sym is)))
+    (λ p is. conclusion_read AProp Props rules.prop_implies rules.prop_or rules.prop_implied implies_at implied_at refl (λ token p. refl) c.requires (plain_prop_operand c.in_ok-premise.premise.value) (left c.prop_list.new.self) c.in_ok-premise.ensures (seen c.take-arrow.result) (left c.take-arrow.new.self) (sym c.is_next.ensures ∙ c.if-not-is_next.false) c.take-arrow.ensures (plain_prop_operand c.in_ok-conclusion.conclusion.value) (left c.prop_implies.new.self) (AProp (plain_prop_operand p.value)) c.in_ok-conclusion.ensures (ap AProp (sym is)))
     c.prop_implication.ensures
 
 pub prop_prefix-prop_atom-requires : goal.prop_prefix-prop_atom-requires
