@@ -135,7 +135,7 @@ module _ {tokens : List Token} where
   module _ {names : List Name} {rest : List Token} (read : NamesRead tokens names rest) where
     module _ {comma : Token} {after : List Token} (is : is_next classes.comma rest ≡ true) (e : rest ≡ comma ∷ after) where
       name_begins : BeginWith (Class classes.name ∷ []) after
-      name_begins = (operand_next name_operands read.read comma after is e).0
+      name_begins = (operand_next name_operands read.read is e).0
 
       pub name_is_there : 0 < length after
       name_is_there = token_there name_begins

@@ -29,7 +29,7 @@ use Rattle.dcv_reader.specs.FormulaLists.{formula_list_kind, formula_separator, 
 use Rattle.dcv_sentence.proofs.Grammar.{predictive}
 use Rattle.dcv_reader.proofs.BuilderParts.{parts_of-join, next_is, token_next, reads_nothing, reads_token, reads_next, begins_first, begins_next, begins_token, no_longer, body_begins, rule_read}
 use Rattle.dcv_reader.proofs.BuilderForms.{always_picked, optional_picked, nothing_picked, word_read, one_of, none_of}
-use Rattle.dcv_reader.proofs.BuilderLevels.{Separated}
+use Rattle.dcv_reader.proofs.BuilderLevels.{Level}
 
 -- ---- lists of operands
 
@@ -91,23 +91,28 @@ more_one Or token d ds = refl
 more_one Iff token d ds = refl
 more_one Chop token d ds = refl
 
-abbrev pub operands_of : FormulaList → Separated AFormula Formulas
-operands_of list =
-    record {
-      item = Rule (formula_operand_rule list);
-      more = more_rule list;
-      separator = formula_separator list;
-      more_at = more_at list;
-      none = more_none list;
-      one = more_one list;
-    }
-
 pub list_at : (list : FormulaList) → slice_get language.productions (formula_list_rule list) ≡ Some (always (Rule (formula_operand_rule list) ∷ Rule (more_rule list) ∷ []))
 unfolding language file_rules formula_rules prop_rules
 list_at And = refl
 list_at Or = refl
 list_at Iff = refl
 list_at Chop = refl
+
+abbrev pub level : FormulaList → Level AFormula Formulas
+level list =
+    record {
+      operands =
+          record {
+            item = Rule (formula_operand_rule list);
+            more = more_rule list;
+            separator = formula_separator list;
+            more_at = more_at list;
+            none = more_none list;
+            one = more_one list;
+          };
+      rule = formula_list_rule list;
+      at = list_at list;
+    }
 
 pub list_part : (list : FormulaList) (d : PlainFormulaOperand) (ds : List PlainFormulaOperand) → action (formula_list_rule list) (AFormula d ∷ Formulas ds ∷ []) ≡ AFormula (formula_list (formula_list_kind list) d ds)
 list_part And d ds = refl

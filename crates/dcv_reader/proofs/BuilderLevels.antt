@@ -45,8 +45,8 @@ module _ {X : Type 0} {part : X → Part} {all : List X → Part} (s : Separated
       }
 
   module _ {operands : List X} {rest : List Token} (read : OperandsRead part s.item s.more tokens operands rest) where
-    pub operand_next : (token : Token) (after : List Token) → is_next s.separator rest ≡ true → rest ≡ token ∷ after → BeginWith (s.item ∷ []) after × (length after < length tokens)
-    operand_next token after is e =
+    pub operand_next : {token : Token} {after : List Token} → is_next s.separator rest ≡ true → rest ≡ token ∷ after → BeginWith (s.item ∷ []) after × (length after < length tokens)
+    operand_next {token} {after} is e =
         let next = item_next part all s.more s.separator s.item s.more_at s.none s.one read.start rest read.others read.reads_others token after is e in
         let long = ap length e in
         let was = read.no_longer in
@@ -75,27 +75,35 @@ module _ {X : Type 0} {part : X → Part} {all : List X → Part} (s : Separated
 
 -- ---- a rule that is these and nothing more
 
-module _ {X : Type 0} {part : X → Part} {all : List X → Part} (s : Separated part all) (level : ℕ) (at : slice_get language.productions level ≡ Some (always (s.item ∷ Rule s.more ∷ []))) where
-  module _ {tokens : List Token} where
-    level_begins : BeginWithRule level tokens → BeginWith (s.item ∷ Rule s.more ∷ []) tokens
-    level_begins b = body_begins level (always (s.item ∷ Rule s.more ∷ [])) at (s.item ∷ Rule s.more ∷ []) (always_picked (s.item ∷ Rule s.more ∷ []) tokens) b
+pub record Level {X : Type 0} (part : X → Part) (all : List X → Part) : Type 0 where
+  pub operands : Separated part all
+  pub rule : ℕ
+  pub at : slice_get language.productions rule ≡ Some (always (operands.item ∷ Rule operands.more ∷ []))
 
-    pub level_first : BeginWithRule level tokens → BeginWith (s.item ∷ []) tokens
+module _ {X : Type 0} {part : X → Part} {all : List X → Part} (level : Level part all) where
+  abbrev body : List Symbol
+  body = level.operands.item ∷ Rule level.operands.more ∷ []
+
+  module _ {tokens : List Token} where
+    level_begins : BeginWithRule level.rule tokens → BeginWith body tokens
+    level_begins b = body_begins level.rule (always body) level.at body (always_picked body tokens) b
+
+    pub level_first : BeginWithRule level.rule tokens → BeginWith (level.operands.item ∷ []) tokens
     level_first b = begins_first (level_begins b)
 
-    pub level_start : (x : X) (rest : List Token) → BeginWithRule level tokens → ReadAs (s.item ∷ []) tokens (part x ∷ []) rest → OperandsRead part s.item s.more tokens (x ∷ []) rest
-    level_start x rest b reads = operands_start s [] x rest (level_begins b) reads
+    level_start : (x : X) (rest : List Token) → BeginWithRule level.rule tokens → ReadAs (level.operands.item ∷ []) tokens (part x ∷ []) rest → OperandsRead part level.operands.item level.operands.more tokens (x ∷ []) rest
+    level_start x rest b reads = operands_start level.operands [] x rest (level_begins b) reads
 
     -- one item and no separator behind it
-    pub level_alone : {result : Part} (x : X) (rest : List Token) → BeginWithRule level tokens → ReadAs (s.item ∷ []) tokens (part x ∷ []) rest → is_next s.separator rest ≡ false → action level (part x ∷ all [] ∷ []) ≡ result → RuleReadAs level tokens result rest
+    pub level_alone : {x : X} {rest : List Token} {result : Part} → BeginWithRule level.rule tokens → ReadAs (level.operands.item ∷ []) tokens (part x ∷ []) rest → is_next level.operands.separator rest ≡ false → action level.rule (part x ∷ all [] ∷ []) ≡ result → RuleReadAs level.rule tokens result rest
     unfolding level_start operands_start
-    level_alone x rest b reads is stands =
+    level_alone {x} {rest} b reads is stands =
         let start = level_start x rest b reads in
-        rule_read level (always (s.item ∷ Rule s.more ∷ [])) at (s.item ∷ Rule s.more ∷ []) (always_picked (s.item ∷ Rule s.more ∷ []) tokens) stands (operands_read s start is)
+        rule_read level.rule (always body) level.at body (always_picked body tokens) stands (operands_read level.operands start is)
 
-    pub level_read : {operands : List X} {rest : List Token} {result : Part} → OperandsRead part s.item s.more tokens operands rest → is_next s.separator rest ≡ false → ((x : X) (xs : List X) → operands ≡ x ∷ xs → action level (part x ∷ all xs ∷ []) ≡ result) → RuleReadAs level tokens result rest
+    pub level_read : {operands : List X} {rest : List Token} {result : Part} → OperandsRead part level.operands.item level.operands.more tokens operands rest → is_next level.operands.separator rest ≡ false → ((x : X) (xs : List X) → operands ≡ x ∷ xs → action level.rule (part x ∷ all xs ∷ []) ≡ result) → RuleReadAs level.rule tokens result rest
     level_read read is stands =
-        rule_read level (always (s.item ∷ Rule s.more ∷ [])) at (s.item ∷ Rule s.more ∷ []) (always_picked (s.item ∷ Rule s.more ∷ []) tokens) (stands read.first read.others read.are) (operands_read s read is)
+        rule_read level.rule (always body) level.at body (always_picked body tokens) (stands read.first read.others read.are) (operands_read level.operands read is)
 
 -- ---- with the operands in a vector
 
@@ -105,19 +113,15 @@ pushed_first plain old new y none e = ap (map plain) (e ∙ ap (λ ys. ys ++ y �
 pub pushed_more : {X Y : Type 0} (plain : Y → X) (old new : List Y) (y : Y) → new ≡ old ++ y ∷ [] → map plain new ≡ map plain old ++ plain y ∷ []
 pushed_more plain old new y e = ap (map plain) e ∙ map-append plain old (y ∷ [])
 
-module _ {X Y : Type 0} (plain : Y → X) {part : X → Part} {all : List X → Part} (s : Separated part all) {tokens : List Token} where
-  pub operands_begun : (behind : List Symbol) (old new : List Y) (y : Y) (rest : List Token) → old ≡ [] → new ≡ old ++ y ∷ [] → BeginWith (s.item ∷ Rule s.more ∷ behind) tokens → ReadAs (s.item ∷ []) tokens (part (plain y) ∷ []) rest → OperandsRead part s.item s.more tokens (map plain new) rest
-  operands_begun behind old new y rest none pushed b reads =
-      subst (λ xs. OperandsRead part s.item s.more tokens xs rest) (sym (pushed_first plain old new y none pushed)) (operands_start s behind (plain y) rest b reads)
+module _ {X Y : Type 0} (plain : Y → X) {part : X → Part} {all : List X → Part} (level : Level part all) {tokens : List Token} where
+  pub operands_begun : {old new : List Y} {y : Y} {rest : List Token} → old ≡ [] → new ≡ old ++ y ∷ [] → BeginWithRule level.rule tokens → ReadAs (level.operands.item ∷ []) tokens (part (plain y) ∷ []) rest → OperandsRead part level.operands.item level.operands.more tokens (map plain new) rest
+  operands_begun {old} {new} {y} {rest} none pushed b reads =
+      subst (λ xs. OperandsRead part level.operands.item level.operands.more tokens xs rest) (sym (pushed_first plain old new y none pushed)) (level_start level (plain y) rest b reads)
 
-  pub level_begun : (level : ℕ) (at : slice_get language.productions level ≡ Some (always (s.item ∷ Rule s.more ∷ []))) (old new : List Y) (y : Y) (rest : List Token) → old ≡ [] → new ≡ old ++ y ∷ [] → BeginWithRule level tokens → ReadAs (s.item ∷ []) tokens (part (plain y) ∷ []) rest → OperandsRead part s.item s.more tokens (map plain new) rest
-  level_begun level at old new y rest none pushed b reads =
-      subst (λ xs. OperandsRead part s.item s.more tokens xs rest) (sym (pushed_first plain old new y none pushed)) (level_start s level at (plain y) rest b reads)
-
-  pub operands_pushed : (old new : List Y) (y : Y) (rest after left : List Token) (token : Token) → OperandsRead part s.item s.more tokens (map plain old) rest → is_next s.separator rest ≡ true → rest ≡ token ∷ after → ReadAs (s.item ∷ []) after (part (plain y) ∷ []) left → new ≡ old ++ y ∷ [] → OperandsRead part s.item s.more tokens (map plain new) left × (length left < length rest)
-  operands_pushed old new y rest after left token read is e reads pushed =
-      let more = operands_more s read token after left (plain y) is e reads in
-      (subst (λ xs. OperandsRead part s.item s.more tokens xs left) (sym (pushed_more plain old new y pushed)) more.0, more.1)
+  pub operands_pushed : (old : List Y) {new : List Y} {y : Y} {rest after left : List Token} {token : Token} → new ≡ old ++ y ∷ [] → OperandsRead part level.operands.item level.operands.more tokens (map plain old) rest → is_next level.operands.separator rest ≡ true → rest ≡ token ∷ after → ReadAs (level.operands.item ∷ []) after (part (plain y) ∷ []) left → OperandsRead part level.operands.item level.operands.more tokens (map plain new) left × (length left < length rest)
+  operands_pushed old {new} {y} {rest} {after} {left} {token} pushed read is e reads =
+      let more = operands_more level.operands read token after left (plain y) is e reads in
+      (subst (λ xs. OperandsRead part level.operands.item level.operands.more tokens xs left) (sym (pushed_more plain old new y pushed)) more.0, more.1)
 
 -- ---- between two tokens, or nothing
 
@@ -152,7 +156,7 @@ module _ {X Z : Type 0} (view : X → Z) {part : X → Part} {all : List X → P
   module _ (opening : Token) (shown : List Z) (rest : List Token) (read : EnclosedRead part view s.item s.more tokens opening shown rest) where
     pub enclosed_next : (token : Token) (after : List Token) → is_next s.separator rest ≡ true → rest ≡ token ∷ after → BeginWith (s.item ∷ []) after × (length after < length tokens)
     enclosed_next token after next e =
-        let item = operand_next s read.read token after next e in
+        let item = operand_next s read.read next e in
         let long = ap length read.opens in
         let shorter = item.1 in
         (item.0, omega arith)

@@ -10,7 +10,7 @@ use Rattle.dcv_tokens.specs.Tokens.{Token}
 use Rattle.dcv_sentence.specs.RuleNumbers as rules
 use Rattle.dcv_sentence.specs.Language.{language, file_rules, formula_rules, prop_rules, always, optional, arguments_rule, more_arguments_rule, prop_implies_rule, prop_implied_rule, prop_prefix_rule, prop_atom_rule}
 use Rattle.dcv_reader.specs.Actions.{AToken, AProp, Props, action}
-use Rattle.dcv_reader.proofs.BuilderLevels.{Separated, EnclosedRead}
+use Rattle.dcv_reader.proofs.BuilderLevels.{Separated, Level, EnclosedRead}
 use Rattle.dcv_reader.proofs.BuilderParts.{next_is}
 use Rattle.dcv_sentence.proofs.Grammar.{predictive}
 use Rattle.dcv_grammar.proofs.Builders as builders
@@ -81,22 +81,27 @@ more_one And token p ps = refl
 more_one Or token p ps = refl
 more_one Iff token p ps = refl
 
-abbrev pub operands_of : PropList → Separated AProp Props
-operands_of list =
-    record {
-      item = Rule (prop_operand_rule list);
-      more = more_rule list;
-      separator = prop_separator list;
-      more_at = more_at list;
-      none = more_none list;
-      one = more_one list;
-    }
-
 pub list_at : (list : PropList) → slice_get language.productions (prop_list_rule list) ≡ Some (always (Rule (prop_operand_rule list) ∷ Rule (more_rule list) ∷ []))
 unfolding language file_rules formula_rules prop_rules
 list_at And = refl
 list_at Or = refl
 list_at Iff = refl
+
+abbrev pub level : PropList → Level AProp Props
+level list =
+    record {
+      operands =
+          record {
+            item = Rule (prop_operand_rule list);
+            more = more_rule list;
+            separator = prop_separator list;
+            more_at = more_at list;
+            none = more_none list;
+            one = more_one list;
+          };
+      rule = prop_list_rule list;
+      at = list_at list;
+    }
 
 pub list_part : (list : PropList) (p : PlainPropOperand) (ps : List PlainPropOperand) → action (prop_list_rule list) (AProp p ∷ Props ps ∷ []) ≡ AProp (prop_list (prop_list_kind list) p ps)
 list_part And p ps = refl

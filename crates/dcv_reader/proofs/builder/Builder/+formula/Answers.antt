@@ -6,44 +6,48 @@ use Rattle.dcv_tokens.specs.Reading.{seen}
 use Rattle.dcv_sentence.specs.RuleNumbers as rules
 use Rattle.dcv_reader.specs.Actions.{AFormula, Formulas}
 use Rattle.dcv_sentence.specs.Language.{formula_rule, formula_prefix_rule, formula_atom_rule}
-use Rattle.dcv_reader.specs.FormulaLists.{formula_list_rule}
 use Rattle.dcv_reader.specs.Left.{left}
 use Rattle.dcv_reader.specs.Nodes.{starred}
 use Rattle.dcv_reader.proofs.BuilderParts.{if_ok}
 use Rattle.dcv_reader.proofs.BuilderForms.{next_by, next_of_there, premise_begins, premise_alone, conclusion_begins, conclusion_read, rule_begins, rule_passed, prefix_next, prefix_read, inside_next, closing_there, inside_read, second_there, third_there, fourth_next, fourth_read}
-use Rattle.dcv_reader.proofs.BuilderLevels.{level_first, level_begun, level_alone, operand_next, operands_pushed, level_read}
-use Rattle.dcv_reader.proofs.BuilderFormulas.{operands_of, list_at, list_part, formula_at, implies_at, implied_at, prefix_at, atom_at, picks_quantifier, picks_iff, picks_prefix, picks_star, picks_group, star_atom, stars_begin, stars_more, stars_read}
+use Rattle.dcv_reader.proofs.BuilderLevels.{level_first, level_alone, operands_begun, operand_next, operands_pushed, level_read}
+use Rattle.dcv_reader.proofs.BuilderFormulas.{level, list_part, formula_at, implies_at, implied_at, prefix_at, atom_at, picks_quantifier, picks_iff, picks_prefix, picks_star, picks_group, star_atom, stars_begin, stars_more, stars_read}
 use Rattle.dcv_reader.proofs.builder.Builder.+formula.Goals as goal
 
 pub formula_list-formula_operand-requires : goal.formula_list-formula_operand-requires
-formula_list-formula_operand-requires t c = (omega arith, level_first (operands_of c.args.list) (formula_list_rule c.args.list) (list_at c.args.list) c.requires)
+formula_list-formula_operand-requires t c = (omega arith, level_first (level c.args.list) c.requires)
 
 pub formula_list-returns-then-not-is_next : goal.formula_list-returns-then-not-is_next
 formula_list-returns-then-not-is_next t c =
-    level_alone (operands_of c.args.list) (formula_list_rule c.args.list) (list_at c.args.list) (plain_formula_operand c.in_ok-first.first.value) (left c.formula_operand.new.self) c.requires c.in_ok-first.ensures (next_by (left c.formula_operand.new.self) c.separator-separator.ensures c.is_next.ensures c.if-not-is_next.true) (list_part c.args.list _ [])
+    let none = next_by (left c.formula_operand.new.self) c.separator-separator.ensures c.is_next.ensures c.if-not-is_next.true in
+    level_alone (level c.args.list) c.requires c.in_ok-first.ensures none (list_part c.args.list _ [])
 
 pub formula_list-more-init : goal.formula_list-more-init
 formula_list-more-init t c =
-    level_begun plain_formula_operand (operands_of c.args.list) (formula_list_rule c.args.list) (list_at c.args.list) c.new-operands.result.items c.add.new.operands.items c.in_ok-first.first.value (left c.formula_operand.new.self) c.new-operands.ensures.items c.in_ok-add.ensures c.requires c.in_ok-first.ensures
+    operands_begun plain_formula_operand (level c.args.list) c.new-operands.ensures.items c.in_ok-add.ensures c.requires c.in_ok-first.ensures
 
 pub formula_list-formula_operand-requires-in-more : goal.formula_list-formula_operand-requires-in-more
 formula_list-formula_operand-requires-in-more t c =
-    let next = operand_next (operands_of c.args.list) c.more.invariant (seen c.take-separator.result) (left c.take-separator.new.self) (next_by (left c.more.self) c.separator-separator.ensures c.is_next-in-more.ensures c.more-test.true) c.take-separator.ensures in
+    let is = next_by (left c.more.self) c.separator-separator.ensures c.is_next-in-more.ensures c.more-test.true in
+    let next = operand_next (level c.args.list).operands c.more.invariant is c.take-separator.ensures in
     let shorter = next.1 in
     (omega arith, next.0)
 
 pub formula_list-more-smaller : goal.formula_list-more-smaller
 formula_list-more-smaller t c =
-    (operands_pushed plain_formula_operand (operands_of c.args.list) c.more.operands.items c.add-in-more.new.operands.items c.in_ok-formula_operand.field-0.value (left c.more.self) (left c.take-separator.new.self) (left c.formula_operand-in-more.new.self) (seen c.take-separator.result) c.more.invariant (next_by (left c.more.self) c.separator-separator.ensures c.is_next-in-more.ensures c.more-test.true) c.take-separator.ensures c.in_ok-formula_operand.ensures c.in_ok-add-2.ensures).1
+    let is = next_by (left c.more.self) c.separator-separator.ensures c.is_next-in-more.ensures c.more-test.true in
+    (operands_pushed plain_formula_operand (level c.args.list) c.more.operands.items c.in_ok-add-2.ensures c.more.invariant is c.take-separator.ensures c.in_ok-formula_operand.ensures).1
 
 pub formula_list-more-preserved : goal.formula_list-more-preserved
 formula_list-more-preserved t c =
-    (operands_pushed plain_formula_operand (operands_of c.args.list) c.more.operands.items c.add-in-more.new.operands.items c.in_ok-formula_operand.field-0.value (left c.more.self) (left c.take-separator.new.self) (left c.formula_operand-in-more.new.self) (seen c.take-separator.result) c.more.invariant (next_by (left c.more.self) c.separator-separator.ensures c.is_next-in-more.ensures c.more-test.true) c.take-separator.ensures c.in_ok-formula_operand.ensures c.in_ok-add-2.ensures).0
+    let is = next_by (left c.more.self) c.separator-separator.ensures c.is_next-in-more.ensures c.more-test.true in
+    (operands_pushed plain_formula_operand (level c.args.list) c.more.operands.items c.in_ok-add-2.ensures c.more.invariant is c.take-separator.ensures c.in_ok-formula_operand.ensures).0
 
 pub formula_list-returns : goal.formula_list-returns
 formula_list-returns t c =
+    let none = next_by (left c.more.self) c.separator-separator.ensures c.is_next-in-more.ensures c.more-test.false in
     if_ok c.of.result
-    (λ x is. level_read (operands_of c.args.list) (formula_list_rule c.args.list) (list_at c.args.list) c.more.invariant (next_by (left c.more.self) c.separator-separator.ensures c.is_next-in-more.ensures c.more-test.false) (λ y ys e. list_part c.args.list y ys ∙ ap AFormula (sym (is y ys e))))
+    (λ x is. level_read (level c.args.list) c.more.invariant none (λ y ys e. list_part c.args.list y ys ∙ ap AFormula (sym (is y ys e))))
     c.of.ensures
 
 pub formula_implies-formula_list-requires : goal.formula_implies-formula_list-requires

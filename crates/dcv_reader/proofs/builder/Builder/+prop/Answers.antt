@@ -11,42 +11,46 @@ use Rattle.dcv_reader.specs.Actions.{AProp, Props, Arguments}
 use Rattle.dcv_sentence.specs.Language.{prop_prefix_rule, prop_atom_rule}
 use Rattle.dcv_reader.specs.Building.{RuleReadAs}
 use Rattle.dcv_reader.specs.Left.{left}
-use Rattle.dcv_reader.specs.PropLists.{prop_list_rule}
-use Rattle.dcv_reader.proofs.BuilderLevels.{level_first, level_begun, level_alone, operand_next, operands_pushed, level_read, pushed_first, pushed_more, enclosed_first, enclosed_begun, enclosed_next, enclosed_more, enclosed_closes, enclosed_read}
+use Rattle.dcv_reader.proofs.BuilderLevels.{level_first, level_alone, operands_begun, operand_next, operands_pushed, level_read, pushed_first, pushed_more, enclosed_first, enclosed_begun, enclosed_next, enclosed_more, enclosed_closes, enclosed_read}
 use Rattle.dcv_reader.proofs.BuilderParts.{if_ok}
 use Rattle.dcv_reader.proofs.BuilderForms.{next_by, next_of_there, premise_begins, premise_alone, conclusion_begins, conclusion_read, rule_begins, rule_passed, prefix_next, prefix_read, inside_next, closing_there, inside_read, nothing_read}
-use Rattle.dcv_reader.proofs.BuilderProps.{operands_of, list_at, list_part, argument_operands, arguments_at, implies_at, implied_at, prefix_at, atom_at, picks_sign, picks_atom, atom_there, picks_group, picks_call}
+use Rattle.dcv_reader.proofs.BuilderProps.{level, list_part, argument_operands, arguments_at, implies_at, implied_at, prefix_at, atom_at, picks_sign, picks_atom, atom_there, picks_group, picks_call}
 use Rattle.dcv_reader.proofs.builder.Builder.+prop.Goals as goal
 
 pub prop_list-prop_operand-requires : goal.prop_list-prop_operand-requires
-prop_list-prop_operand-requires t c = (omega arith, level_first (operands_of c.args.list) (prop_list_rule c.args.list) (list_at c.args.list) c.requires)
+prop_list-prop_operand-requires t c = (omega arith, level_first (level c.args.list) c.requires)
 
 pub prop_list-returns-then-not-is_next : goal.prop_list-returns-then-not-is_next
 prop_list-returns-then-not-is_next t c =
-    level_alone (operands_of c.args.list) (prop_list_rule c.args.list) (list_at c.args.list) (plain_prop_operand c.in_ok-first.first.value) (left c.prop_operand.new.self) c.requires c.in_ok-first.ensures (next_by (left c.prop_operand.new.self) c.separator-separator.ensures c.is_next.ensures c.if-not-is_next.true) (list_part c.args.list _ [])
+    let none = next_by (left c.prop_operand.new.self) c.separator-separator.ensures c.is_next.ensures c.if-not-is_next.true in
+    level_alone (level c.args.list) c.requires c.in_ok-first.ensures none (list_part c.args.list _ [])
 
 pub prop_list-more-init : goal.prop_list-more-init
 prop_list-more-init t c =
-    level_begun plain_prop_operand (operands_of c.args.list) (prop_list_rule c.args.list) (list_at c.args.list) c.new-operands.result.items c.add_operand.new.operands.items c.in_ok-first.first.value (left c.prop_operand.new.self) c.new-operands.ensures.items c.in_ok-add_operand.ensures c.requires c.in_ok-first.ensures
+    operands_begun plain_prop_operand (level c.args.list) c.new-operands.ensures.items c.in_ok-add_operand.ensures c.requires c.in_ok-first.ensures
 
 pub prop_list-prop_operand-requires-in-more : goal.prop_list-prop_operand-requires-in-more
 prop_list-prop_operand-requires-in-more t c =
-    let next = operand_next (operands_of c.args.list) c.more.invariant (seen c.take-separator.result) (left c.take-separator.new.self) (next_by (left c.more.self) c.separator-separator.ensures c.is_next-in-more.ensures c.more-test.true) c.take-separator.ensures in
+    let is = next_by (left c.more.self) c.separator-separator.ensures c.is_next-in-more.ensures c.more-test.true in
+    let next = operand_next (level c.args.list).operands c.more.invariant is c.take-separator.ensures in
     let shorter = next.1 in
     (omega arith, next.0)
 
 pub prop_list-more-smaller : goal.prop_list-more-smaller
 prop_list-more-smaller t c =
-    (operands_pushed plain_prop_operand (operands_of c.args.list) c.more.operands.items c.add_operand-in-more.new.operands.items c.in_ok-prop_operand.field-0.value (left c.more.self) (left c.take-separator.new.self) (left c.prop_operand-in-more.new.self) (seen c.take-separator.result) c.more.invariant (next_by (left c.more.self) c.separator-separator.ensures c.is_next-in-more.ensures c.more-test.true) c.take-separator.ensures c.in_ok-prop_operand.ensures c.in_ok-add_operand-2.ensures).1
+    let is = next_by (left c.more.self) c.separator-separator.ensures c.is_next-in-more.ensures c.more-test.true in
+    (operands_pushed plain_prop_operand (level c.args.list) c.more.operands.items c.in_ok-add_operand-2.ensures c.more.invariant is c.take-separator.ensures c.in_ok-prop_operand.ensures).1
 
 pub prop_list-more-preserved : goal.prop_list-more-preserved
 prop_list-more-preserved t c =
-    (operands_pushed plain_prop_operand (operands_of c.args.list) c.more.operands.items c.add_operand-in-more.new.operands.items c.in_ok-prop_operand.field-0.value (left c.more.self) (left c.take-separator.new.self) (left c.prop_operand-in-more.new.self) (seen c.take-separator.result) c.more.invariant (next_by (left c.more.self) c.separator-separator.ensures c.is_next-in-more.ensures c.more-test.true) c.take-separator.ensures c.in_ok-prop_operand.ensures c.in_ok-add_operand-2.ensures).0
+    let is = next_by (left c.more.self) c.separator-separator.ensures c.is_next-in-more.ensures c.more-test.true in
+    (operands_pushed plain_prop_operand (level c.args.list) c.more.operands.items c.in_ok-add_operand-2.ensures c.more.invariant is c.take-separator.ensures c.in_ok-prop_operand.ensures).0
 
 pub prop_list-returns : goal.prop_list-returns
 prop_list-returns t c =
+    let none = next_by (left c.more.self) c.separator-separator.ensures c.is_next-in-more.ensures c.more-test.false in
     if_ok c.of.result
-    (λ x is. level_read (operands_of c.args.list) (prop_list_rule c.args.list) (list_at c.args.list) c.more.invariant (next_by (left c.more.self) c.separator-separator.ensures c.is_next-in-more.ensures c.more-test.false) (λ y ys e. list_part c.args.list y ys ∙ ap AProp (sym (is y ys e))))
+    (λ x is. level_read (level c.args.list) c.more.invariant none (λ y ys e. list_part c.args.list y ys ∙ ap AProp (sym (is y ys e))))
     c.of.ensures
 
 pub prop_implies-prop_list-requires : goal.prop_implies-prop_list-requires

@@ -4,7 +4,7 @@ use Rattle.dcv_tokens.specs.Reading.{seen}
 use Rattle.dcv_reader.specs.Actions.{AProp}
 use Rattle.dcv_reader.specs.Left.{left}
 use Rattle.dcv_reader.proofs.BuilderLevels.{OperandsRead}
-use Rattle.dcv_reader.proofs.BuilderProps.{operands_of, rank, ArgumentsRead}
+use Rattle.dcv_reader.proofs.BuilderProps.{level, rank, ArgumentsRead}
 use Rattle.dcv_reader.proofs.builder.Builder.+prop.Given as goal
 
 abbrev pub decreases-prop_atom : goal.decreases-prop_atom
@@ -30,7 +30,7 @@ decreases-arguments l = 20 * length (left l.self.now) + 11
 
 abbrev pub invariant-prop_list-more : goal.invariant-prop_list-more
 invariant-prop_list-more l =
-    OperandsRead AProp (operands_of l.list).item (operands_of l.list).more (left l.fn.self) (map plain_prop_operand l.operands.items) (left l.self)
+    OperandsRead AProp (level l.list).operands.item (level l.list).operands.more (left l.fn.self) (map plain_prop_operand l.operands.items) (left l.self)
 
 abbrev pub decreases-prop_list-more : goal.decreases-prop_list-more
 decreases-prop_list-more l = length (left l.self)
