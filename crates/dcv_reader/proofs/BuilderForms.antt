@@ -106,43 +106,55 @@ module _ (n : ℕ) (rule : Production) (at : slice_get language.productions n �
 
 -- ---- implications
 
-module _ {X : Type 0} (part : X → Part) (all : List X → Part) (whole first implied : ℕ)
-    (at : slice_get language.productions whole ≡ Some (always (Rule first ∷ Rule implied ∷ [])))
-    (implied_at : slice_get language.productions implied ≡ Some (optional classes.arrow (Rule whole ∷ [])))
-    (none : action implied [] ≡ all [])
-    (one : (token : Token) (x : X) → action implied (AToken token ∷ part x ∷ []) ≡ all (x ∷ []))
-    {tokens : List Token} (b : BeginWithRule whole tokens) where
-  implication_begins : BeginWith (Rule first ∷ Rule implied ∷ []) tokens
-  implication_begins = body_begins whole (always (Rule first ∷ Rule implied ∷ [])) at (Rule first ∷ Rule implied ∷ []) (always_picked (Rule first ∷ Rule implied ∷ []) tokens) b
+-- the rule of a premise and what may stand behind it, which is an arrow and the rule itself again
+pub record Implication {X : Type 0} (part : X → Part) (all : List X → Part) : Type 0 where
+  pub whole : ℕ
+  pub premise : ℕ
+  pub implied : ℕ
+  pub at : slice_get language.productions whole ≡ Some (always (Rule premise ∷ Rule implied ∷ []))
+  pub implied_at : slice_get language.productions implied ≡ Some (optional classes.arrow (Rule whole ∷ []))
+  pub none : action implied [] ≡ all []
+  pub one : (token : Token) (x : X) → action implied (AToken token ∷ part x ∷ []) ≡ all (x ∷ [])
 
-  implication_read : (x : X) (xs : List X) (rest left : List Token) (result : Part) → RuleReadAs first tokens (part x) rest → RuleReadAs implied rest (all xs) left → action whole (part x ∷ all xs ∷ []) ≡ result → RuleReadAs whole tokens result left
-  implication_read x xs rest left result one_read more_read stands =
-      rule_read whole (always (Rule first ∷ Rule implied ∷ [])) at (Rule first ∷ Rule implied ∷ []) (always_picked (Rule first ∷ Rule implied ∷ []) tokens) stands (reads_next one_read (reads_next more_read reads_nothing))
+module _ {X : Type 0} {part : X → Part} {all : List X → Part} (rule : Implication part all) where
+  abbrev implication : List Symbol
+  implication = Rule rule.premise ∷ Rule rule.implied ∷ []
 
-  pub premise_begins : BeginWithRule first tokens
-  premise_begins = begins_first implication_begins
+  abbrev conclusion : List Symbol
+  conclusion = Rule rule.whole ∷ []
 
-  module _ (x : X) (rest : List Token) (reads : RuleReadAs first tokens (part x) rest) where
-    -- no arrow is next
-    pub premise_alone : (result : Part) → is_next classes.arrow rest ≡ false → action whole (part x ∷ all [] ∷ []) ≡ result → RuleReadAs whole tokens result rest
-    premise_alone result is stands =
-        implication_read x [] rest rest result reads (nothing_read implied classes.arrow (Rule whole ∷ []) implied_at rest (all []) is none) stands
+  module _ {tokens : List Token} (b : BeginWithRule rule.whole tokens) where
+    implication_begins : BeginWith implication tokens
+    implication_begins = body_begins rule.whole (always implication) rule.at implication (always_picked implication tokens) b
 
-    -- an arrow is next
-    module _ (token : Token) (after : List Token) (is : is_next classes.arrow rest ≡ true) (e : rest ≡ token ∷ after) where
-      implied_begins : BeginWithRule implied rest
-      implied_begins = begins_first (begins_next implication_begins reads)
+    implication_read : {x : X} {xs : List X} {rest left : List Token} {result : Part} → RuleReadAs rule.premise tokens (part x) rest → RuleReadAs rule.implied rest (all xs) left → action rule.whole (part x ∷ all xs ∷ []) ≡ result → RuleReadAs rule.whole tokens result left
+    implication_read one_read more_read stands =
+        rule_read rule.whole (always implication) rule.at implication (always_picked implication tokens) stands (reads_next one_read (reads_next more_read reads_nothing))
 
-      pub conclusion_begins : BeginWithRule whole after × (length after < length tokens)
-      conclusion_begins =
-          let next = prefix_next implied (optional classes.arrow (Rule whole ∷ [])) implied_at implied_begins classes.arrow whole token after (optional_picked classes.arrow (Rule whole ∷ []) rest is) e in
-          let shorter = next.1 in
-          let not_longer = no_longer premise_begins reads in
-          (next.0, omega arith)
+    pub premise_begins : BeginWithRule rule.premise tokens
+    premise_begins = begins_first implication_begins
 
-      pub conclusion_read : (y : X) (left : List Token) (result : Part) → RuleReadAs whole after (part y) left → action whole (part x ∷ all (y ∷ []) ∷ []) ≡ result → RuleReadAs whole tokens result left
-      conclusion_read y left result conclusion stands =
-          implication_read x (y ∷ []) rest left result reads (prefix_read implied (optional classes.arrow (Rule whole ∷ [])) implied_at implied_begins classes.arrow whole token after (optional_picked classes.arrow (Rule whole ∷ []) rest is) e (part y) (all (y ∷ [])) left conclusion (one token y)) stands
+    module _ {x : X} {rest : List Token} (reads : RuleReadAs rule.premise tokens (part x) rest) where
+      -- no arrow is next
+      pub premise_alone : {result : Part} → is_next classes.arrow rest ≡ false → action rule.whole (part x ∷ all [] ∷ []) ≡ result → RuleReadAs rule.whole tokens result rest
+      premise_alone is stands =
+          implication_read {xs = []} reads (nothing_read rule.implied classes.arrow conclusion rule.implied_at rest (all []) is rule.none) stands
+
+      -- an arrow is next
+      module _ {token : Token} {after : List Token} (is : is_next classes.arrow rest ≡ true) (e : rest ≡ token ∷ after) where
+        implied_begins : BeginWithRule rule.implied rest
+        implied_begins = begins_first (begins_next implication_begins reads)
+
+        pub conclusion_begins : BeginWithRule rule.whole after × (length after < length tokens)
+        conclusion_begins =
+            let next = prefix_next rule.implied (optional classes.arrow conclusion) rule.implied_at implied_begins classes.arrow rule.whole token after (optional_picked classes.arrow conclusion rest is) e in
+            let shorter = next.1 in
+            let not_longer = no_longer premise_begins reads in
+            (next.0, omega arith)
+
+        pub conclusion_read : {y : X} {left : List Token} {result : Part} → RuleReadAs rule.whole after (part y) left → action rule.whole (part x ∷ all (y ∷ []) ∷ []) ≡ result → RuleReadAs rule.whole tokens result left
+        conclusion_read {y} {left} concludes stands =
+            implication_read reads (prefix_read rule.implied (optional classes.arrow conclusion) rule.implied_at implied_begins classes.arrow rule.whole token after (optional_picked classes.arrow conclusion rest is) e (part y) (all (y ∷ [])) left concludes (rule.one token y)) stands
 
 -- ---- one of some classes is next
 

@@ -28,7 +28,7 @@ use Rattle.dcv_reader.specs.declared.builder.formulas.FormulaList.TheVariants.{A
 use Rattle.dcv_reader.specs.FormulaLists.{formula_list_kind, formula_separator, formula_list_rule, formula_operand_rule}
 use Rattle.dcv_sentence.proofs.Grammar.{predictive}
 use Rattle.dcv_reader.proofs.BuilderParts.{parts_of-join, next_is, token_next, reads_nothing, reads_token, reads_next, begins_first, begins_next, begins_token, no_longer, body_begins, rule_read}
-use Rattle.dcv_reader.proofs.BuilderForms.{always_picked, optional_picked, nothing_picked, word_read, one_of, none_of}
+use Rattle.dcv_reader.proofs.BuilderForms.{Implication, always_picked, optional_picked, nothing_picked, word_read, one_of, none_of}
 use Rattle.dcv_reader.proofs.BuilderLevels.{Level}
 
 -- ---- lists of operands
@@ -140,6 +140,18 @@ implies_at = refl
 pub implied_at : slice_get language.productions rules.formula_implied ≡ Some formula_implied_rule
 unfolding language file_rules formula_rules prop_rules
 implied_at = refl
+
+abbrev pub implies : Implication AFormula Formulas
+implies =
+    record {
+      whole = rules.formula_implies;
+      premise = rules.formula_or;
+      implied = rules.formula_implied;
+      at = implies_at;
+      implied_at = implied_at;
+      none = refl;
+      one = λ token x. refl;
+    }
 
 pub prefix_at : slice_get language.productions rules.formula_prefix ≡ Some formula_prefix_rule
 unfolding language file_rules formula_rules prop_rules

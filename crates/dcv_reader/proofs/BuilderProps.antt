@@ -20,7 +20,7 @@ use Rattle.dcv_reader.specs.Building.{is_next, is_next_of, BeginWithRule, RuleRe
 use Rattle.dcv_reader.specs.declared.builder.props.PropList.{PropList}
 use Rattle.dcv_reader.specs.declared.builder.props.PropList.TheVariants.{And, Or, Iff}
 use Rattle.dcv_reader.specs.PropLists.{prop_list_kind, prop_separator, prop_list_rule, prop_operand_rule}
-use Rattle.dcv_reader.proofs.BuilderForms.{word_read, one_of, none_of}
+use Rattle.dcv_reader.proofs.BuilderForms.{Implication, word_read, one_of, none_of}
 use Rattle.std.proofs.lemmas.Bool.Decides.{nat_tests}
 use Rattle.dcv_syntax.specs.Spans.{covering}
 use Rattle.dcv_reader.specs.Nodes.{token_class, prop_constant, bare_prop, last_prop_span, prop_list}
@@ -142,6 +142,18 @@ implies_at = refl
 pub implied_at : slice_get language.productions rules.prop_implied ≡ Some prop_implied_rule
 unfolding language file_rules formula_rules prop_rules
 implied_at = refl
+
+abbrev pub implies : Implication AProp Props
+implies =
+    record {
+      whole = rules.prop_implies;
+      premise = rules.prop_or;
+      implied = rules.prop_implied;
+      at = implies_at;
+      implied_at = implied_at;
+      none = refl;
+      one = λ token x. refl;
+    }
 
 pub prefix_at : slice_get language.productions rules.prop_prefix ≡ Some prop_prefix_rule
 unfolding language file_rules formula_rules prop_rules

@@ -11,7 +11,7 @@ use Rattle.dcv_reader.specs.Nodes.{starred}
 use Rattle.dcv_reader.proofs.BuilderParts.{if_ok}
 use Rattle.dcv_reader.proofs.BuilderForms.{next_by, next_of_there, premise_begins, premise_alone, conclusion_begins, conclusion_read, rule_begins, rule_passed, prefix_next, prefix_read, inside_next, closing_there, inside_read, second_there, third_there, fourth_next, fourth_read}
 use Rattle.dcv_reader.proofs.BuilderLevels.{level_first, level_alone, operands_begun, operand_next, operands_pushed, level_read}
-use Rattle.dcv_reader.proofs.BuilderFormulas.{level, list_part, formula_at, implies_at, implied_at, prefix_at, atom_at, picks_quantifier, picks_iff, picks_prefix, picks_star, picks_group, star_atom, stars_begin, stars_more, stars_read}
+use Rattle.dcv_reader.proofs.BuilderFormulas.{level, list_part, formula_at, implies, prefix_at, atom_at, picks_quantifier, picks_iff, picks_prefix, picks_star, picks_group, star_atom, stars_begin, stars_more, stars_read}
 use Rattle.dcv_reader.proofs.builder.Builder.+formula.Goals as goal
 
 pub formula_list-formula_operand-requires : goal.formula_list-formula_operand-requires
@@ -51,23 +51,23 @@ formula_list-returns t c =
     c.of.ensures
 
 pub formula_implies-formula_list-requires : goal.formula_implies-formula_list-requires
-formula_implies-formula_list-requires t c =
-    (omega arith, premise_begins AFormula Formulas rules.formula_implies rules.formula_or rules.formula_implied implies_at implied_at refl (λ token p. refl) c.requires)
+formula_implies-formula_list-requires t c = (omega arith, premise_begins implies c.requires)
 
 pub formula_implies-returns-then-not-is_next : goal.formula_implies-returns-then-not-is_next
 formula_implies-returns-then-not-is_next t c =
-    premise_alone AFormula Formulas rules.formula_implies rules.formula_or rules.formula_implied implies_at implied_at refl (λ token p. refl) c.requires (plain_formula_operand c.in_ok-premise.premise.value) (left c.formula_list.new.self) c.in_ok-premise.ensures _ (sym c.is_next.ensures ∙ c.if-not-is_next.true) refl
+    premise_alone implies c.requires c.in_ok-premise.ensures (sym c.is_next.ensures ∙ c.if-not-is_next.true) refl
 
 pub formula_implies-formula_implies-requires : goal.formula_implies-formula_implies-requires
 formula_implies-formula_implies-requires t c =
-    let next = conclusion_begins AFormula Formulas rules.formula_implies rules.formula_or rules.formula_implied implies_at implied_at refl (λ token p. refl) c.requires (plain_formula_operand c.in_ok-premise.premise.value) (left c.formula_list.new.self) c.in_ok-premise.ensures (seen c.take-arrow.result) (left c.take-arrow.new.self) (sym c.is_next.ensures ∙ c.if-not-is_next.false) c.take-arrow.ensures in
+    let next = conclusion_begins implies c.requires c.in_ok-premise.ensures (sym c.is_next.ensures ∙ c.if-not-is_next.false) c.take-arrow.ensures in
     let shorter = next.1 in
     (omega arith, next.0)
 
 pub formula_implies-returns : goal.formula_implies-returns
 formula_implies-returns t c =
+    let is = sym c.is_next.ensures ∙ c.if-not-is_next.false in
     if_ok c.implication.result
-    (λ p is. conclusion_read AFormula Formulas rules.formula_implies rules.formula_or rules.formula_implied implies_at implied_at refl (λ token p. refl) c.requires (plain_formula_operand c.in_ok-premise.premise.value) (left c.formula_list.new.self) c.in_ok-premise.ensures (seen c.take-arrow.result) (left c.take-arrow.new.self) (sym c.is_next.ensures ∙ c.if-not-is_next.false) c.take-arrow.ensures (plain_formula_operand c.in_ok-conclusion.conclusion.value) (left c.formula_implies.new.self) (AFormula (plain_formula_operand p.value)) c.in_ok-conclusion.ensures (ap AFormula (sym is)))
+    (λ x made. conclusion_read implies c.requires c.in_ok-premise.ensures is c.take-arrow.ensures c.in_ok-conclusion.ensures (ap AFormula (sym made)))
     c.implication.ensures
 
 pub formula-formula_list-requires : goal.formula-formula_list-requires

@@ -14,7 +14,7 @@ use Rattle.dcv_reader.specs.Left.{left}
 use Rattle.dcv_reader.proofs.BuilderLevels.{level_first, level_alone, operands_begun, operand_next, operands_pushed, level_read, pushed_first, pushed_more, enclosed_first, enclosed_begun, enclosed_next, enclosed_more, enclosed_closes, enclosed_read}
 use Rattle.dcv_reader.proofs.BuilderParts.{if_ok}
 use Rattle.dcv_reader.proofs.BuilderForms.{next_by, next_of_there, premise_begins, premise_alone, conclusion_begins, conclusion_read, rule_begins, rule_passed, prefix_next, prefix_read, inside_next, closing_there, inside_read, nothing_read}
-use Rattle.dcv_reader.proofs.BuilderProps.{level, list_part, argument_operands, arguments_at, implies_at, implied_at, prefix_at, atom_at, picks_sign, picks_atom, atom_there, picks_group, picks_call}
+use Rattle.dcv_reader.proofs.BuilderProps.{level, list_part, argument_operands, arguments_at, implies, prefix_at, atom_at, picks_sign, picks_atom, atom_there, picks_group, picks_call}
 use Rattle.dcv_reader.proofs.builder.Builder.+prop.Goals as goal
 
 pub prop_list-prop_operand-requires : goal.prop_list-prop_operand-requires
@@ -54,23 +54,23 @@ prop_list-returns t c =
     c.of.ensures
 
 pub prop_implies-prop_list-requires : goal.prop_implies-prop_list-requires
-prop_implies-prop_list-requires t c =
-    (omega arith, premise_begins AProp Props rules.prop_implies rules.prop_or rules.prop_implied implies_at implied_at refl (λ token p. refl) c.requires)
+prop_implies-prop_list-requires t c = (omega arith, premise_begins implies c.requires)
 
 pub prop_implies-returns-then-not-is_next : goal.prop_implies-returns-then-not-is_next
 prop_implies-returns-then-not-is_next t c =
-    premise_alone AProp Props rules.prop_implies rules.prop_or rules.prop_implied implies_at implied_at refl (λ token p. refl) c.requires (plain_prop_operand c.in_ok-premise.premise.value) (left c.prop_list.new.self) c.in_ok-premise.ensures _ (sym c.is_next.ensures ∙ c.if-not-is_next.true) refl
+    premise_alone implies c.requires c.in_ok-premise.ensures (sym c.is_next.ensures ∙ c.if-not-is_next.true) refl
 
 pub prop_implies-prop_implies-requires : goal.prop_implies-prop_implies-requires
 prop_implies-prop_implies-requires t c =
-    let next = conclusion_begins AProp Props rules.prop_implies rules.prop_or rules.prop_implied implies_at implied_at refl (λ token p. refl) c.requires (plain_prop_operand c.in_ok-premise.premise.value) (left c.prop_list.new.self) c.in_ok-premise.ensures (seen c.take-arrow.result) (left c.take-arrow.new.self) (sym c.is_next.ensures ∙ c.if-not-is_next.false) c.take-arrow.ensures in
+    let next = conclusion_begins implies c.requires c.in_ok-premise.ensures (sym c.is_next.ensures ∙ c.if-not-is_next.false) c.take-arrow.ensures in
     let shorter = next.1 in
     (omega arith, next.0)
 
 pub prop_implies-returns : goal.prop_implies-returns
 prop_implies-returns t c =
+    let is = sym c.is_next.ensures ∙ c.if-not-is_next.false in
     if_ok c.prop_implication.result
-    (λ p is. conclusion_read AProp Props rules.prop_implies rules.prop_or rules.prop_implied implies_at implied_at refl (λ token p. refl) c.requires (plain_prop_operand c.in_ok-premise.premise.value) (left c.prop_list.new.self) c.in_ok-premise.ensures (seen c.take-arrow.result) (left c.take-arrow.new.self) (sym c.is_next.ensures ∙ c.if-not-is_next.false) c.take-arrow.ensures (plain_prop_operand c.in_ok-conclusion.conclusion.value) (left c.prop_implies.new.self) (AProp (plain_prop_operand p.value)) c.in_ok-conclusion.ensures (ap AProp (sym is)))
+    (λ x made. conclusion_read implies c.requires c.in_ok-premise.ensures is c.take-arrow.ensures c.in_ok-conclusion.ensures (ap AProp (sym made)))
     c.prop_implication.ensures
 
 pub prop_prefix-prop_atom-requires : goal.prop_prefix-prop_atom-requires
