@@ -7,7 +7,7 @@
 // definition or the goal may have; `docs/PROVED.md` says what that takes of the stack.
 //
 // For the prover: `'more:` names a loop in the proofs, and `_comma` and the like name a call of `take`.
-ghost use Rattle.std.specs.Prelude.{◌≡◌, ◌<◌, length, map, IfOk, IsTrue};
+ghost use Rattle.std.specs.Prelude.{◌≡◌, ◌∷◌, ◌++◌, ◌<◌, [], length, map, IfOk, IsTrue};
 ghost use Rattle.dcv_tokens.specs.Reading.{seen};
 ghost use Rattle.dcv_tokens.specs.Tokens.{Token as TextToken};
 ghost use Rattle.dcv_reader.specs.Building.{HasSmallNumbers};
@@ -42,8 +42,16 @@ fn name_of(alloc: Global, token: &Token) -> Result<Name, AllocError>
     })
 }
 
+// One operand more.
+#[inline(never)]
+fn add<T: Drop>(operands: &mut Vec<T>, operand: Box<T>) -> Result<(), AllocError>
+    ensures { IfOk result (λ _. operands.new.items ≡ operands.old.items ++ operand.value ∷ []) }
+{
+    operands.push(Box::into_inner(operand))?;
+    Ok(())
+}
+
 impl<'t, 'a> Builder<'t, 'a> {
-    ghost use Rattle.std.specs.Prelude.{◌∷◌};
     ghost use Rattle.dcv_reader.specs.Building.{is_next, is_next_of};
     ghost use Rattle.dcv_reader.specs.Left.{left};
 

@@ -9,7 +9,7 @@ ghost use Rattle.dcv_reader.specs.Nodes.{number_of, relation_of, bare, formula_l
 ghost use Rattle.dcv_reader.specs.Nodes.{bracketed, formula_word, measure, formula_call};
 
 use super::props::Arguments;
-use super::{Builder, name_of};
+use super::{Builder, add, name_of};
 use dcv_syntax::{Formula, FormulaKind, FormulaOperand, Number, Prop, Relation, Span};
 use dcv_tokens::Token;
 use dcv_tokens::classes::*;
@@ -39,15 +39,6 @@ fn boxed(alloc: Global, kind: FormulaKind, span: Span) -> Result<Box<FormulaOper
     ensures { IfOk result (λ d. plain_formula_operand d.value ≡ bare (plain_formula_kind kind) span) }
 {
     Ok(Box::new(alloc, bare(kind, span))?)
-}
-
-// One operand more.
-#[inline(never)]
-fn add(operands: &mut Vec<FormulaOperand>, operand: Box<FormulaOperand>) -> Result<(), AllocError>
-    ensures { IfOk result (λ _. operands.new.items ≡ operands.old.items ++ operand.value ∷ []) }
-{
-    operands.push(Box::into_inner(operand))?;
-    Ok(())
 }
 
 impl FormulaList {

@@ -7,7 +7,7 @@ ghost use Rattle.dcv_syntax.specs.Views.{plain_prop};
 ghost use Rattle.dcv_tokens.specs.Reading.{seen};
 ghost use Rattle.dcv_reader.specs.Nodes.{bare_prop, prop_list, prop_call, prop_prefixed, prop_implication};
 
-use super::{Builder, name_of};
+use super::{Builder, add, name_of};
 use dcv_syntax::{Prop, PropKind, PropOperand, Span};
 use dcv_tokens::Token;
 use dcv_tokens::classes::*;
@@ -36,15 +36,6 @@ fn boxed_prop(alloc: Global, kind: PropKind, span: Span) -> Result<Box<PropOpera
     ensures { IfOk result (λ p. plain_prop_operand p.value ≡ bare_prop (plain_prop_kind kind) span) }
 {
     Ok(Box::new(alloc, bare_prop(kind, span))?)
-}
-
-// One operand more.
-#[inline(never)]
-fn add_operand(operands: &mut Vec<PropOperand>, operand: Box<PropOperand>) -> Result<(), AllocError>
-    ensures { IfOk result (λ _. operands.new.items ≡ operands.old.items ++ operand.value ∷ []) }
-{
-    operands.push(Box::into_inner(operand))?;
-    Ok(())
 }
 
 // One argument more.
@@ -146,10 +137,10 @@ impl Builder<'_, '_> {
             return Ok(first);
         }
         let mut operands = Vec::new(self.alloc);
-        add_operand(&mut operands, first)?;
+        add(&mut operands, first)?;
         'more: while self.is_next(separator) {
             let _separator = self.take();
-            add_operand(&mut operands, self.prop_operand(list)?)?;
+            add(&mut operands, self.prop_operand(list)?)?;
         }
         list.of(self.alloc, operands)
     }

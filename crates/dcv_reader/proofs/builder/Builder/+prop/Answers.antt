@@ -27,7 +27,7 @@ prop_list-returns-then-not-is_next t c =
 
 pub prop_list-more-init : goal.prop_list-more-init
 prop_list-more-init t c =
-    operands_begun plain_prop_operand (level c.args.list) c.new-operands.ensures.items c.in_ok-add_operand.ensures c.requires c.in_ok-first.ensures
+    operands_begun plain_prop_operand (level c.args.list) c.new-operands.ensures.items c.in_ok-add.ensures c.requires c.in_ok-first.ensures
 
 pub prop_list-prop_operand-requires-in-more : goal.prop_list-prop_operand-requires-in-more
 prop_list-prop_operand-requires-in-more t c =
@@ -39,12 +39,12 @@ prop_list-prop_operand-requires-in-more t c =
 pub prop_list-more-smaller : goal.prop_list-more-smaller
 prop_list-more-smaller t c =
     let is = next_by (left c.more.self) c.separator-separator.ensures c.is_next-in-more.ensures c.more-test.true in
-    (operands_pushed plain_prop_operand (level c.args.list) c.more.operands.items c.in_ok-add_operand-2.ensures c.more.invariant is c.take-separator.ensures c.in_ok-prop_operand.ensures).1
+    (operands_pushed plain_prop_operand (level c.args.list) c.more.operands.items c.in_ok-add-2.ensures c.more.invariant is c.take-separator.ensures c.in_ok-prop_operand.ensures).1
 
 pub prop_list-more-preserved : goal.prop_list-more-preserved
 prop_list-more-preserved t c =
     let is = next_by (left c.more.self) c.separator-separator.ensures c.is_next-in-more.ensures c.more-test.true in
-    (operands_pushed plain_prop_operand (level c.args.list) c.more.operands.items c.in_ok-add_operand-2.ensures c.more.invariant is c.take-separator.ensures c.in_ok-prop_operand.ensures).0
+    (operands_pushed plain_prop_operand (level c.args.list) c.more.operands.items c.in_ok-add-2.ensures c.more.invariant is c.take-separator.ensures c.in_ok-prop_operand.ensures).0
 
 pub prop_list-returns : goal.prop_list-returns
 prop_list-returns t c =
