@@ -27,7 +27,8 @@ next_of_there (c ∷ cs) [] is = next_of_there cs [] is
 next_of_there cs (token ∷ tokens) is = omega arith
 
 -- what was asked of a class, of the class that it is
-pub next_by : {class separator : ℕ} {asked is : Bool} (tokens : List Token) → class ≡ separator → asked ≡ is_next class tokens → asked ≡ is → is_next separator tokens ≡ is
+pub next_by : {class separator : ℕ} {asked is : Bool} (tokens : List Token) → class ≡ separator → asked ≡ is_next class tokens
+    → asked ≡ is → is_next separator tokens ≡ is
 next_by tokens same e f = sym (e ∙ ap (λ c. is_next c tokens) same) ∙ f
 
 -- ---- a rule with one body
@@ -127,34 +128,48 @@ module _ {X : Type 0} {part : X → Part} {all : List X → Part} (rule : Implic
     implication_begins : BeginWith implication tokens
     implication_begins = body_begins rule.whole (always implication) rule.at implication (always_picked implication tokens) b
 
-    implication_read : {x : X} {xs : List X} {rest left : List Token} {result : Part} → RuleReadAs rule.premise tokens (part x) rest → RuleReadAs rule.implied rest (all xs) left → action rule.whole (part x ∷ all xs ∷ []) ≡ result → RuleReadAs rule.whole tokens result left
+    implication_read : {x : X} {xs : List X} {rest left : List Token} {result : Part} → RuleReadAs rule.premise tokens (part x) rest
+        → RuleReadAs rule.implied rest (all xs) left → action rule.whole (part x ∷ all xs ∷ []) ≡ result
+        → RuleReadAs rule.whole tokens result left
     implication_read one_read more_read stands =
-        rule_read rule.whole (always implication) rule.at implication (always_picked implication tokens) stands (reads_next one_read (reads_next more_read reads_nothing))
+        let reads = reads_next one_read (reads_next more_read reads_nothing) in
+        rule_read rule.whole (always implication) rule.at implication (always_picked implication tokens) stands reads
 
     pub premise_begins : BeginWithRule rule.premise tokens
     premise_begins = begins_first implication_begins
 
     module _ {x : X} {rest : List Token} (reads : RuleReadAs rule.premise tokens (part x) rest) where
       -- no arrow is next
-      pub premise_alone : {result : Part} → is_next classes.arrow rest ≡ false → action rule.whole (part x ∷ all [] ∷ []) ≡ result → RuleReadAs rule.whole tokens result rest
+      pub premise_alone : {result : Part} → is_next classes.arrow rest ≡ false → action rule.whole (part x ∷ all [] ∷ []) ≡ result
+          → RuleReadAs rule.whole tokens result rest
       premise_alone is stands =
-          implication_read {xs = []} reads (nothing_read rule.implied classes.arrow conclusion rule.implied_at rest (all []) is rule.none) stands
+          let nothing = nothing_read rule.implied classes.arrow conclusion rule.implied_at rest (all []) is rule.none in
+          implication_read {xs = []} reads nothing stands
 
       -- an arrow is next
       module _ {token : Token} {after : List Token} (is : is_next classes.arrow rest ≡ true) (e : rest ≡ token ∷ after) where
         implied_begins : BeginWithRule rule.implied rest
         implied_begins = begins_first (begins_next implication_begins reads)
 
+        implied_picked : body_for (optional classes.arrow conclusion) (next_class token_class rest) ≡ Class classes.arrow ∷ conclusion
+        implied_picked = optional_picked classes.arrow conclusion rest is
+
         pub conclusion_begins : BeginWithRule rule.whole after × (length after < length tokens)
         conclusion_begins =
-            let next = prefix_next rule.implied (optional classes.arrow conclusion) rule.implied_at implied_begins classes.arrow rule.whole token after (optional_picked classes.arrow conclusion rest is) e in
+            let production = optional classes.arrow conclusion in
+            let next = prefix_next rule.implied production rule.implied_at implied_begins classes.arrow rule.whole token after implied_picked e in
             let shorter = next.1 in
             let not_longer = no_longer premise_begins reads in
             (next.0, omega arith)
 
-        pub conclusion_read : {y : X} {left : List Token} {result : Part} → RuleReadAs rule.whole after (part y) left → action rule.whole (part x ∷ all (y ∷ []) ∷ []) ≡ result → RuleReadAs rule.whole tokens result left
+        pub conclusion_read : {y : X} {left : List Token} {result : Part} → RuleReadAs rule.whole after (part y) left
+            → action rule.whole (part x ∷ all (y ∷ []) ∷ []) ≡ result → RuleReadAs rule.whole tokens result left
         conclusion_read {y} {left} concludes stands =
-            implication_read reads (prefix_read rule.implied (optional classes.arrow conclusion) rule.implied_at implied_begins classes.arrow rule.whole token after (optional_picked classes.arrow conclusion rest is) e (part y) (all (y ∷ [])) left concludes (rule.one token y)) stands
+            let production = optional classes.arrow conclusion in
+            let implied =
+            prefix_read rule.implied production rule.implied_at implied_begins classes.arrow rule.whole token after implied_picked e (part y)
+            (all (y ∷ [])) left concludes (rule.one token y) in
+            implication_read reads implied stands
 
 -- ---- one of some classes is next
 

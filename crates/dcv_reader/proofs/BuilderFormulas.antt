@@ -18,7 +18,8 @@ use Rattle.dcv_grammar.proofs.Builders as builders
 use Rattle.dcv_tokens.specs.Tokens.{Token, span_of, span_over}
 use Rattle.dcv_tokens.specs.Classes as classes
 use Rattle.dcv_sentence.specs.RuleNumbers as rules
-use Rattle.dcv_sentence.specs.Language.{language, file_rules, formula_rules, prop_rules, always, optional, formula_rule, formula_implies_rule, formula_implied_rule, formula_prefix_rule, formula_star_rule, stars_rule, formula_atom_rule, relation_rule}
+use Rattle.dcv_sentence.specs.Language.{language, file_rules, formula_rules, prop_rules, always, optional}
+use Rattle.dcv_sentence.specs.Language.{formula_rule, formula_implies_rule, formula_implied_rule, formula_prefix_rule, formula_star_rule, stars_rule, formula_atom_rule, relation_rule}
 use Rattle.dcv_syntax.specs.Spans.{covering}
 use Rattle.dcv_reader.specs.Nodes.{token_class, number_of, relation_of, bare, formula_word, starred, starred_by, last_span, formula_list}
 use Rattle.dcv_reader.specs.Actions.{AToken, AFormula, Formulas, ARelation, Stars, action, parts_of}
@@ -72,7 +73,8 @@ more_rule Or = rules.formula_or_more
 more_rule Iff = rules.formula_iff_more
 more_rule Chop = rules.formula_chop_more
 
-pub more_at : (list : FormulaList) → slice_get language.productions (more_rule list) ≡ Some (optional (formula_separator list) (Rule (formula_operand_rule list) ∷ Rule (more_rule list) ∷ []))
+pub more_at : (list : FormulaList)
+    → slice_get language.productions (more_rule list) ≡ Some (optional (formula_separator list) (Rule (formula_operand_rule list) ∷ Rule (more_rule list) ∷ []))
 unfolding language file_rules formula_rules prop_rules
 more_at And = refl
 more_at Or = refl
@@ -85,13 +87,15 @@ more_none Or = refl
 more_none Iff = refl
 more_none Chop = refl
 
-pub more_one : (list : FormulaList) (token : Token) (d : PlainFormulaOperand) (ds : List PlainFormulaOperand) → action (more_rule list) (AToken token ∷ AFormula d ∷ Formulas ds ∷ []) ≡ Formulas (d ∷ ds)
+pub more_one : (list : FormulaList) (token : Token) (d : PlainFormulaOperand) (ds : List PlainFormulaOperand)
+    → action (more_rule list) (AToken token ∷ AFormula d ∷ Formulas ds ∷ []) ≡ Formulas (d ∷ ds)
 more_one And token d ds = refl
 more_one Or token d ds = refl
 more_one Iff token d ds = refl
 more_one Chop token d ds = refl
 
-pub list_at : (list : FormulaList) → slice_get language.productions (formula_list_rule list) ≡ Some (always (Rule (formula_operand_rule list) ∷ Rule (more_rule list) ∷ []))
+pub list_at : (list : FormulaList)
+    → slice_get language.productions (formula_list_rule list) ≡ Some (always (Rule (formula_operand_rule list) ∷ Rule (more_rule list) ∷ []))
 unfolding language file_rules formula_rules prop_rules
 list_at And = refl
 list_at Or = refl
@@ -114,13 +118,14 @@ level list =
       at = list_at list;
     }
 
-pub list_part : (list : FormulaList) (d : PlainFormulaOperand) (ds : List PlainFormulaOperand) → action (formula_list_rule list) (AFormula d ∷ Formulas ds ∷ []) ≡ AFormula (formula_list (formula_list_kind list) d ds)
+pub list_part : (list : FormulaList) (d : PlainFormulaOperand) (ds : List PlainFormulaOperand)
+    → action (formula_list_rule list) (AFormula d ∷ Formulas ds ∷ []) ≡ AFormula (formula_list (formula_list_kind list) d ds)
 list_part And d ds = refl
 list_part Or d ds = refl
 list_part Iff d ds = refl
 list_part Chop d ds = refl
 
--- above what reads an operand, and below what reads the list
+-- in the measure of the recursion: the rank of what reads an operand, one below that of what reads the list
 abbrev pub rank : FormulaList → ℕ
 rank Chop = 4
 rank And = 6

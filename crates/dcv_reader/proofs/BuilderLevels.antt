@@ -45,7 +45,8 @@ module _ {X : Type 0} {part : X → Part} {all : List X → Part} (s : Separated
       }
 
   module _ {operands : List X} {rest : List Token} (read : OperandsRead part s.item s.more tokens operands rest) where
-    pub operand_next : {token : Token} {after : List Token} → is_next s.separator rest ≡ true → rest ≡ token ∷ after → BeginWith (s.item ∷ []) after × (length after < length tokens)
+    pub operand_next : {token : Token} {after : List Token} → is_next s.separator rest ≡ true → rest ≡ token ∷ after
+        → BeginWith (s.item ∷ []) after × (length after < length tokens)
     operand_next {token} {after} is e =
         let next = item_next part all s.more s.separator s.item s.more_at s.none s.one read.start rest read.others read.reads_others token after is e in
         let long = ap length e in
@@ -80,6 +81,9 @@ pub record Level {X : Type 0} (part : X → Part) (all : List X → Part) : Type
   pub rule : ℕ
   pub at : slice_get language.productions rule ≡ Some (always (operands.item ∷ Rule operands.more ∷ []))
 
+abbrev pub LevelRead : {X : Type 0} {part : X → Part} {all : List X → Part} → Level part all → List Token → List X → List Token → Type 0
+LevelRead {X} {part} {all} level tokens operands rest = OperandsRead part level.operands.item level.operands.more tokens operands rest
+
 module _ {X : Type 0} {part : X → Part} {all : List X → Part} (level : Level part all) where
   abbrev body : List Symbol
   body = level.operands.item ∷ Rule level.operands.more ∷ []
@@ -91,19 +95,26 @@ module _ {X : Type 0} {part : X → Part} {all : List X → Part} (level : Level
     pub level_first : BeginWithRule level.rule tokens → BeginWith (level.operands.item ∷ []) tokens
     level_first b = begins_first (level_begins b)
 
-    level_start : (x : X) (rest : List Token) → BeginWithRule level.rule tokens → ReadAs (level.operands.item ∷ []) tokens (part x ∷ []) rest → OperandsRead part level.operands.item level.operands.more tokens (x ∷ []) rest
+    level_start : (x : X) (rest : List Token) → BeginWithRule level.rule tokens
+        → ReadAs (level.operands.item ∷ []) tokens (part x ∷ []) rest → LevelRead level tokens (x ∷ []) rest
     level_start x rest b reads = operands_start level.operands [] x rest (level_begins b) reads
 
     -- one item and no separator behind it
-    pub level_alone : {x : X} {rest : List Token} {result : Part} → BeginWithRule level.rule tokens → ReadAs (level.operands.item ∷ []) tokens (part x ∷ []) rest → is_next level.operands.separator rest ≡ false → action level.rule (part x ∷ all [] ∷ []) ≡ result → RuleReadAs level.rule tokens result rest
+    pub level_alone : {x : X} {rest : List Token} {result : Part} → BeginWithRule level.rule tokens
+        → ReadAs (level.operands.item ∷ []) tokens (part x ∷ []) rest → is_next level.operands.separator rest ≡ false
+        → action level.rule (part x ∷ all [] ∷ []) ≡ result → RuleReadAs level.rule tokens result rest
     unfolding level_start operands_start
     level_alone {x} {rest} b reads is stands =
         let start = level_start x rest b reads in
         rule_read level.rule (always body) level.at body (always_picked body tokens) stands (operands_read level.operands start is)
 
-    pub level_read : {operands : List X} {rest : List Token} {result : Part} → OperandsRead part level.operands.item level.operands.more tokens operands rest → is_next level.operands.separator rest ≡ false → ((x : X) (xs : List X) → operands ≡ x ∷ xs → action level.rule (part x ∷ all xs ∷ []) ≡ result) → RuleReadAs level.rule tokens result rest
+    pub level_read : {operands : List X} {rest : List Token} {result : Part} → LevelRead level tokens operands rest
+        → is_next level.operands.separator rest ≡ false
+        → ((x : X) (xs : List X) → operands ≡ x ∷ xs → action level.rule (part x ∷ all xs ∷ []) ≡ result)
+        → RuleReadAs level.rule tokens result rest
     level_read read is stands =
-        rule_read level.rule (always body) level.at body (always_picked body tokens) (stands read.first read.others read.are) (operands_read level.operands read is)
+        let stand = stands read.first read.others read.are in
+        rule_read level.rule (always body) level.at body (always_picked body tokens) stand (operands_read level.operands read is)
 
 -- ---- with the operands in a vector
 
@@ -114,14 +125,19 @@ pub pushed_more : {X Y : Type 0} (plain : Y → X) (old new : List Y) (y : Y) �
 pushed_more plain old new y e = ap (map plain) e ∙ map-append plain old (y ∷ [])
 
 module _ {X Y : Type 0} (plain : Y → X) {part : X → Part} {all : List X → Part} (level : Level part all) {tokens : List Token} where
-  pub operands_begun : {old new : List Y} {y : Y} {rest : List Token} → old ≡ [] → new ≡ old ++ y ∷ [] → BeginWithRule level.rule tokens → ReadAs (level.operands.item ∷ []) tokens (part (plain y) ∷ []) rest → OperandsRead part level.operands.item level.operands.more tokens (map plain new) rest
+  pub operands_begun : {old new : List Y} {y : Y} {rest : List Token} → old ≡ [] → new ≡ old ++ y ∷ [] → BeginWithRule level.rule tokens
+      → ReadAs (level.operands.item ∷ []) tokens (part (plain y) ∷ []) rest → LevelRead level tokens (map plain new) rest
   operands_begun {old} {new} {y} {rest} none pushed b reads =
-      subst (λ xs. OperandsRead part level.operands.item level.operands.more tokens xs rest) (sym (pushed_first plain old new y none pushed)) (level_start level (plain y) rest b reads)
+      let first = pushed_first plain old new y none pushed in
+      subst (λ xs. LevelRead level tokens xs rest) (sym first) (level_start level (plain y) rest b reads)
 
-  pub operands_pushed : (old : List Y) {new : List Y} {y : Y} {rest after left : List Token} {token : Token} → new ≡ old ++ y ∷ [] → OperandsRead part level.operands.item level.operands.more tokens (map plain old) rest → is_next level.operands.separator rest ≡ true → rest ≡ token ∷ after → ReadAs (level.operands.item ∷ []) after (part (plain y) ∷ []) left → OperandsRead part level.operands.item level.operands.more tokens (map plain new) left × (length left < length rest)
+  pub operands_pushed : (old : List Y) {new : List Y} {y : Y} {rest after left : List Token} {token : Token} → new ≡ old ++ y ∷ []
+      → LevelRead level tokens (map plain old) rest → is_next level.operands.separator rest ≡ true → rest ≡ token ∷ after
+      → ReadAs (level.operands.item ∷ []) after (part (plain y) ∷ []) left
+      → LevelRead level tokens (map plain new) left × (length left < length rest)
   operands_pushed old {new} {y} {rest} {after} {left} {token} pushed read is e reads =
       let more = operands_more level.operands read token after left (plain y) is e reads in
-      (subst (λ xs. OperandsRead part level.operands.item level.operands.more tokens xs left) (sym (pushed_more plain old new y pushed)) more.0, more.1)
+      (subst (λ xs. LevelRead level tokens xs left) (sym (pushed_more plain old new y pushed)) more.0, more.1)
 
 -- ---- between two tokens, or nothing
 

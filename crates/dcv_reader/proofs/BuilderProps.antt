@@ -8,7 +8,8 @@ use Rattle.dcv_grammar.specs.declared.grammar.Symbol.TheVariants.{Class, Rule}
 use Rattle.dcv_tokens.specs.Classes as classes
 use Rattle.dcv_tokens.specs.Tokens.{Token}
 use Rattle.dcv_sentence.specs.RuleNumbers as rules
-use Rattle.dcv_sentence.specs.Language.{language, file_rules, formula_rules, prop_rules, always, optional, arguments_rule, more_arguments_rule, prop_implies_rule, prop_implied_rule, prop_prefix_rule, prop_atom_rule}
+use Rattle.dcv_sentence.specs.Language.{language, file_rules, formula_rules, prop_rules, always, optional}
+use Rattle.dcv_sentence.specs.Language.{arguments_rule, more_arguments_rule, prop_implies_rule, prop_implied_rule, prop_prefix_rule, prop_atom_rule}
 use Rattle.dcv_reader.specs.Actions.{AToken, AProp, Props, action}
 use Rattle.dcv_reader.proofs.BuilderLevels.{Separated, Level, EnclosedRead}
 use Rattle.dcv_reader.proofs.BuilderParts.{next_is}
@@ -65,7 +66,8 @@ more_rule And = rules.prop_and_more
 more_rule Or = rules.prop_or_more
 more_rule Iff = rules.prop_iff_more
 
-pub more_at : (list : PropList) → slice_get language.productions (more_rule list) ≡ Some (optional (prop_separator list) (Rule (prop_operand_rule list) ∷ Rule (more_rule list) ∷ []))
+pub more_at : (list : PropList)
+    → slice_get language.productions (more_rule list) ≡ Some (optional (prop_separator list) (Rule (prop_operand_rule list) ∷ Rule (more_rule list) ∷ []))
 unfolding language file_rules formula_rules prop_rules
 more_at And = refl
 more_at Or = refl
@@ -76,12 +78,14 @@ more_none And = refl
 more_none Or = refl
 more_none Iff = refl
 
-pub more_one : (list : PropList) (token : Token) (p : PlainPropOperand) (ps : List PlainPropOperand) → action (more_rule list) (AToken token ∷ AProp p ∷ Props ps ∷ []) ≡ Props (p ∷ ps)
+pub more_one : (list : PropList) (token : Token) (p : PlainPropOperand) (ps : List PlainPropOperand)
+    → action (more_rule list) (AToken token ∷ AProp p ∷ Props ps ∷ []) ≡ Props (p ∷ ps)
 more_one And token p ps = refl
 more_one Or token p ps = refl
 more_one Iff token p ps = refl
 
-pub list_at : (list : PropList) → slice_get language.productions (prop_list_rule list) ≡ Some (always (Rule (prop_operand_rule list) ∷ Rule (more_rule list) ∷ []))
+pub list_at : (list : PropList)
+    → slice_get language.productions (prop_list_rule list) ≡ Some (always (Rule (prop_operand_rule list) ∷ Rule (more_rule list) ∷ []))
 unfolding language file_rules formula_rules prop_rules
 list_at And = refl
 list_at Or = refl
@@ -103,12 +107,13 @@ level list =
       at = list_at list;
     }
 
-pub list_part : (list : PropList) (p : PlainPropOperand) (ps : List PlainPropOperand) → action (prop_list_rule list) (AProp p ∷ Props ps ∷ []) ≡ AProp (prop_list (prop_list_kind list) p ps)
+pub list_part : (list : PropList) (p : PlainPropOperand) (ps : List PlainPropOperand)
+    → action (prop_list_rule list) (AProp p ∷ Props ps ∷ []) ≡ AProp (prop_list (prop_list_kind list) p ps)
 list_part And p ps = refl
 list_part Or p ps = refl
 list_part Iff p ps = refl
 
--- above what reads an operand, and below what reads the list
+-- in the measure of the recursion: the rank of what reads an operand, one below that of what reads the list
 abbrev pub rank : PropList → ℕ
 rank And = 3
 rank Or = 5

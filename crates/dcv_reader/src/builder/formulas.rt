@@ -125,8 +125,10 @@ impl Builder<'_, '_> {
         quantified(self.alloc, &word, &name, body)
     }
 
-    // formula_iff = formula_implies {"<=>" formula_implies}, formula_or = formula_and {"||" formula_and},
-    // formula_and = formula_chop {"&&" formula_chop} and formula_chop = formula_prefix {"^" formula_prefix}
+    // formula_iff = formula_implies {"<=>" formula_implies}
+    // formula_or = formula_and {"||" formula_and}
+    // formula_and = formula_chop {"&&" formula_chop}
+    // formula_chop = formula_prefix {"^" formula_prefix}
     #[cycle(formula)]
     fn formula_list(&mut self, list: FormulaList) -> Result<Box<FormulaOperand>, AllocError>
         requires { BeginWithRule (formula_list_rule list) (left self.old) }
@@ -146,7 +148,7 @@ impl Builder<'_, '_> {
         list.of(self.alloc, operands)
     }
 
-    // An operand of such a list.
+    // An operand of such a list, with no frame of its own.
     #[cycle(formula)]
     #[inline(always)]
     fn formula_operand(&mut self, list: FormulaList) -> Result<Box<FormulaOperand>, AllocError>

@@ -125,7 +125,9 @@ impl Builder<'_, '_> {
         self.prop_list(PropList::Iff)
     }
 
-    // prop, prop_or = prop_and {"||" prop_and} and prop_and = prop_prefix {"&&" prop_prefix}
+    // prop = prop_implies {"<=>" prop_implies}
+    // prop_or = prop_and {"||" prop_and}
+    // prop_and = prop_prefix {"&&" prop_prefix}
     #[cycle(prop)]
     fn prop_list(&mut self, list: PropList) -> Result<Box<PropOperand>, AllocError>
         requires { BeginWithRule (prop_list_rule list) (left self.old) }
@@ -145,7 +147,7 @@ impl Builder<'_, '_> {
         list.of(self.alloc, operands)
     }
 
-    // An operand of such a list.
+    // An operand of such a list, with no frame of its own.
     #[cycle(prop)]
     #[inline(always)]
     fn prop_operand(&mut self, list: PropList) -> Result<Box<PropOperand>, AllocError>

@@ -4,7 +4,7 @@ use Rattle.dcv_syntax.specs.Views.{plain_formula, plain_formula_operand}
 use Rattle.dcv_tokens.specs.Classes as classes
 use Rattle.dcv_tokens.specs.Reading.{seen}
 use Rattle.dcv_sentence.specs.RuleNumbers as rules
-use Rattle.dcv_reader.specs.Actions.{AFormula, Formulas}
+use Rattle.dcv_reader.specs.Actions.{AFormula}
 use Rattle.dcv_sentence.specs.Language.{formula_rule, formula_prefix_rule, formula_atom_rule}
 use Rattle.dcv_reader.specs.Left.{left}
 use Rattle.dcv_reader.specs.Nodes.{starred}
@@ -36,12 +36,14 @@ formula_list-formula_operand-requires-in-more t c =
 pub formula_list-more-smaller : goal.formula_list-more-smaller
 formula_list-more-smaller t c =
     let is = next_by (left c.more.self) c.separator-separator.ensures c.is_next-in-more.ensures c.more-test.true in
-    (operands_pushed plain_formula_operand (level c.args.list) c.more.operands.items c.in_ok-add-2.ensures c.more.invariant is c.take-separator.ensures c.in_ok-formula_operand.ensures).1
+    let added = c.in_ok-add-2.ensures in
+    (operands_pushed plain_formula_operand (level c.args.list) c.more.operands.items added c.more.invariant is c.take-separator.ensures c.in_ok-formula_operand.ensures).1
 
 pub formula_list-more-preserved : goal.formula_list-more-preserved
 formula_list-more-preserved t c =
     let is = next_by (left c.more.self) c.separator-separator.ensures c.is_next-in-more.ensures c.more-test.true in
-    (operands_pushed plain_formula_operand (level c.args.list) c.more.operands.items c.in_ok-add-2.ensures c.more.invariant is c.take-separator.ensures c.in_ok-formula_operand.ensures).0
+    let added = c.in_ok-add-2.ensures in
+    (operands_pushed plain_formula_operand (level c.args.list) c.more.operands.items added c.more.invariant is c.take-separator.ensures c.in_ok-formula_operand.ensures).0
 
 pub formula_list-returns : goal.formula_list-returns
 formula_list-returns t c =

@@ -1,8 +1,7 @@
 use Rattle.std.proofs.Common.{◌+◌, ◌*◌, length, map}
 use Rattle.dcv_syntax.specs.Views.{plain_formula_operand}
-use Rattle.dcv_reader.specs.Actions.{AFormula}
 use Rattle.dcv_reader.specs.Left.{left}
-use Rattle.dcv_reader.proofs.BuilderLevels.{OperandsRead}
+use Rattle.dcv_reader.proofs.BuilderLevels.{LevelRead}
 use Rattle.dcv_reader.proofs.BuilderFormulas.{level, rank, StarsRead}
 use Rattle.dcv_reader.proofs.builder.Builder.+formula.Given as goal
 
@@ -29,7 +28,7 @@ decreases-formula l = 20 * length (left l.self.now) + 13
 
 abbrev pub invariant-formula_list-more : goal.invariant-formula_list-more
 invariant-formula_list-more l =
-    OperandsRead AFormula (level l.list).operands.item (level l.list).operands.more (left l.fn.self) (map plain_formula_operand l.operands.items) (left l.self)
+    LevelRead (level l.list) (left l.fn.self) (map plain_formula_operand l.operands.items) (left l.self)
 
 abbrev pub decreases-formula_list-more : goal.decreases-formula_list-more
 decreases-formula_list-more l = length (left l.self)

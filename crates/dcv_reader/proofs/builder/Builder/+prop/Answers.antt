@@ -7,7 +7,7 @@ use Rattle.dcv_tokens.specs.Classes as classes
 use Rattle.dcv_tokens.specs.Tokens.{span_over}
 use Rattle.dcv_tokens.specs.Reading.{seen}
 use Rattle.dcv_sentence.specs.RuleNumbers as rules
-use Rattle.dcv_reader.specs.Actions.{AProp, Props, Arguments}
+use Rattle.dcv_reader.specs.Actions.{AProp, Arguments}
 use Rattle.dcv_sentence.specs.Language.{prop_prefix_rule, prop_atom_rule}
 use Rattle.dcv_reader.specs.Building.{RuleReadAs}
 use Rattle.dcv_reader.specs.Left.{left}
@@ -39,12 +39,14 @@ prop_list-prop_operand-requires-in-more t c =
 pub prop_list-more-smaller : goal.prop_list-more-smaller
 prop_list-more-smaller t c =
     let is = next_by (left c.more.self) c.separator-separator.ensures c.is_next-in-more.ensures c.more-test.true in
-    (operands_pushed plain_prop_operand (level c.args.list) c.more.operands.items c.in_ok-add-2.ensures c.more.invariant is c.take-separator.ensures c.in_ok-prop_operand.ensures).1
+    let added = c.in_ok-add-2.ensures in
+    (operands_pushed plain_prop_operand (level c.args.list) c.more.operands.items added c.more.invariant is c.take-separator.ensures c.in_ok-prop_operand.ensures).1
 
 pub prop_list-more-preserved : goal.prop_list-more-preserved
 prop_list-more-preserved t c =
     let is = next_by (left c.more.self) c.separator-separator.ensures c.is_next-in-more.ensures c.more-test.true in
-    (operands_pushed plain_prop_operand (level c.args.list) c.more.operands.items c.in_ok-add-2.ensures c.more.invariant is c.take-separator.ensures c.in_ok-prop_operand.ensures).0
+    let added = c.in_ok-add-2.ensures in
+    (operands_pushed plain_prop_operand (level c.args.list) c.more.operands.items added c.more.invariant is c.take-separator.ensures c.in_ok-prop_operand.ensures).0
 
 pub prop_list-returns : goal.prop_list-returns
 prop_list-returns t c =

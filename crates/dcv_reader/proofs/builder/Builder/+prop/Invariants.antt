@@ -1,9 +1,8 @@
 use Rattle.std.proofs.Common.{◌+◌, ◌*◌, length, map}
 use Rattle.dcv_syntax.specs.Views.{plain_prop, plain_prop_operand}
 use Rattle.dcv_tokens.specs.Reading.{seen}
-use Rattle.dcv_reader.specs.Actions.{AProp}
 use Rattle.dcv_reader.specs.Left.{left}
-use Rattle.dcv_reader.proofs.BuilderLevels.{OperandsRead}
+use Rattle.dcv_reader.proofs.BuilderLevels.{LevelRead}
 use Rattle.dcv_reader.proofs.BuilderProps.{level, rank, ArgumentsRead}
 use Rattle.dcv_reader.proofs.builder.Builder.+prop.Given as goal
 
@@ -30,7 +29,7 @@ decreases-arguments l = 20 * length (left l.self.now) + 11
 
 abbrev pub invariant-prop_list-more : goal.invariant-prop_list-more
 invariant-prop_list-more l =
-    OperandsRead AProp (level l.list).operands.item (level l.list).operands.more (left l.fn.self) (map plain_prop_operand l.operands.items) (left l.self)
+    LevelRead (level l.list) (left l.fn.self) (map plain_prop_operand l.operands.items) (left l.self)
 
 abbrev pub decreases-prop_list-more : goal.decreases-prop_list-more
 decreases-prop_list-more l = length (left l.self)
