@@ -1,1 +1,4 @@
 pub mod Tables
+pub mod ObservedFiles
+pub mod Rows
+pub mod Leading

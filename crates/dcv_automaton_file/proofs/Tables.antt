@@ -26,7 +26,7 @@ use Rattle.dcv_automaton_file.specs.Laws.{FileHasTheTable}
 
 -- ---- names
 
-same_bytes : (name : List ℕ) → bytes_eq name name ≡ true
+pub same_bytes : (name : List ℕ) → bytes_eq name name ≡ true
 same_bytes name = (bytes_eq-Decides name name).1 refl
 
 pub other_bytes : (name other : List ℕ) → name ≢ other → bytes_eq name other ≡ false

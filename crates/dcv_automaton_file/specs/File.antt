@@ -3,15 +3,17 @@
 --     target_of child                       a state or a node, as a line names it
 --     node_line names (number, line)        the line of the node with this number
 --     state_line raw (number, row)          the line of the state with this number
+--     state_lines raw rows                  the lines of states with these rows
+--     Fits slots nodes line                 what is needed of a node's line where it is written
 --     file_of raw names access suffixes     the file of version 1, where its access words and its suffixes are spelled so
-use Rattle.std.specs.Prelude.{ℕ, List, [], None, length, map, slice_index_or}
+use Rattle.std.specs.Prelude.{ℕ, ◌<◌, List, [], None, length, map, slice_index_or}
 use Rattle.std.specs.List.{enumerate_from}
 use Rattle.dcv_syntax.specs.declared.names.Name.{Name}
 use Rattle.dcv_dfa.specs.declared.node_lines.Child.{Child}
 use Rattle.dcv_dfa.specs.declared.node_lines.Child.TheVariants.{State, Node}
 use Rattle.dcv_dfa.specs.declared.node_lines.NodeLine.{NodeLine as CodeNodeLine}
 use Rattle.dcv_dfa.specs.Raw.{RawValue, is_accepting}
-use Rattle.dcv_dfa.specs.NodeLines.{node_lines_of}
+use Rattle.dcv_dfa.specs.NodeLines.{node_lines_of, IsBelow}
 use Rattle.dcv_automaton_text.specs.File.{Target, ToState, ToNode, NodeLine, StateLine, AccessLine, SuffixLine, AutomatonFile}
 
 abbrev pub texts_of : List Name → List (List ℕ)
@@ -32,6 +34,16 @@ node_line names numbered =
 
 abbrev pub state_line : RawValue → ℕ × Child → StateLine
 state_line raw numbered = record { number = numbered.0; accepting = is_accepting raw numbered.0; row = target_of numbered.1 }
+
+-- the lines of states with these rows
+abbrev pub state_lines : RawValue → List Child → List StateLine
+state_lines raw rows = map (state_line raw) (enumerate_from 0 rows)
+
+-- the variable of a node's line is one of so many, and its children are there
+pub record Fits (slots nodes : ℕ) (line : CodeNodeLine) : Type 0 where
+  pub slot : line.slot < slots
+  pub hi : IsBelow 32768 nodes line.hi
+  pub lo : IsBelow 32768 nodes line.lo
 
 -- ---- the file
 

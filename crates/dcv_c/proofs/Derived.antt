@@ -1,33 +1,30 @@
 -- The statements of a unit that are laid out have derivations that stand for them.
-use Rattle.std.proofs.Common.{◌≡◌, ℕ, ◌+◌, ◌*◌, ◌<◌, ◌^◌, true, false, cond, List, [], ◌∷◌, Option, Some, None, length, map, fold, refl, sym, ap}
-use Rattle.std.proofs.Common.{subst, ◌∙◌, arith, codes, decimal}
-use Rattle.std.specs.List.{AllByRecursion, flat_map, list_all}
-use Rattle.std.specs.Char.{is_ascii_alphabetic, is_ascii_digit, digit_value}
-use Rattle.std.specs.Str.Parse.{AllDigits, digits_value_after}
-use Rattle.std.proofs.lemmas.Bool.{and_parts, and_from, and_left, false_from_ne_true, eqb-true, le-leb}
-use Rattle.std.proofs.lemmas.Fmt.{decimal_nonempty, decimal_is_IsNumeral}
-use Rattle.std.proofs.lemmas.Str.{digit_value_digit}
-use Rattle.std.proofs.lemmas.Str.Parse.{digit_from_value}
+use Rattle.std.proofs.Common.{◌≡◌, ℕ, ◌+◌, cond, List, [], ◌∷◌, Option, Some, None, length, map, refl, ap}
+use Rattle.std.proofs.Common.{◌∙◌, arith, codes, decimal}
+use Rattle.std.specs.List.{AllByRecursion, flat_map}
+use Rattle.std.proofs.lemmas.Bool.{and_parts, eqb-true}
+use Rattle.dcv_grammar.specs.declared.grammar.Symbol.{Symbol}
 use Rattle.dcv_grammar.specs.declared.grammar.Symbol.TheVariants.{Rule}
-use Rattle.dcv_lexer.specs.Lexicon.{is_word_byte, is_word, is_number}
 use Rattle.dcv_lexer.specs.Cuts.{Token}
-use Rattle.dcv_lexer.specs.Decimal.{with_digit, value_of}
-use Rattle.dcv_lexer.proofs.FirstBytes.{letter_above, digit_within}
-use Rattle.dcv_automaton_text.proofs.Words.{digits_are}
-use Rattle.dcv_observer.specs.Classes.{name as plain_name, number, is_short_word, is_small_number, class_of}
-use Rattle.dcv_observer.proofs.Limits.{small_number}
+use Rattle.dcv_lexer.specs.Decimal.{value_of}
+use Rattle.dcv_observer.specs.Classes.{name as plain_name, number, is_short_word, class_of}
 use Rattle.dcv_observer.specs.Pieces.{Piece, Blank, Text, bytes_of, tokens_at}
+use Rattle.dcv_observer.proofs.Spelt.{Spelt as SpeltBy, none, by_token, by_rule, then, in_turn}
+use Rattle.dcv_observer.proofs.Words.{word_is_no_number, decimal_is, value_of_decimal, number_class as class_of_decimal}
 use Rattle.dcv_c.specs.Classes.{lexicon}
 use Rattle.dcv_c.specs.Tree.{Item, Constant, Named, Condition, Holds, Equals, Test, Right, Plain, Chosen, Statement, Assign, When, Returned, Fixed, Read, Tested}
 use Rattle.dcv_c.specs.Placed.{item_at, condition_of, test_of, right_of, statement_of, returned_of, PlacedRight, PlacedPlain, PlacedChosen}
 use Rattle.dcv_c.specs.Placed.{PlacedStatement, PlacedAssign, PlacedWhen, PlacedReturned, PlacedFixed, PlacedRead, PlacedTested, PlacedTest}
 use Rattle.dcv_c.specs.Language as rules
 use Rattle.dcv_c.specs.Language.{language}
-use Rattle.dcv_c.specs.Actions.{AToken, ARight, Compared, AStatement, Statements, AReturned, Tests}
+use Rattle.dcv_c.specs.Actions.{Part, scheme, AToken, ARight, Compared, AStatement, Statements, AReturned, Tests}
 use Rattle.dcv_c.specs.Form.{IsName, IsNumber, IsItem, IsCondition, IsRight, IsStatement, IsTest, IsReturned}
 use Rattle.dcv_c.specs.Layout.{item_text}
 use Rattle.dcv_c.proofs.UnitPieces.{condition_pieces, right_pieces, statement_pieces, test_pieces, returned_pieces}
-use Rattle.dcv_c.proofs.Spelt.{Spelt, none, by_token, by_rule, then, tokens_append}
+
+-- by the scheme of the subset
+abbrev pub Spelt : List Symbol → List Token → List Part → Type 0
+Spelt symbols tokens parts = SpeltBy scheme symbols tokens parts
 
 abbrev at : ℕ → List ℕ → Token
 at start bytes = record { bytes = bytes; start = start }
@@ -37,42 +34,11 @@ at start bytes = record { bytes = bytes; start = start }
 pub name_class : (name : List ℕ) → IsName name → class_of lexicon name ≡ plain_name
 name_class name is = eqb-true (class_of lexicon name) plain_name (and_parts (is_short_word name) _ is).1
 
--- the value of digits
-value_is : (value : ℕ) (digits : List ℕ) → AllDigits 10 digits → fold with_digit value digits ≡ digits_value_after 10 value digits
-value_is value [] d = refl
-value_is value (c ∷ digits) d =
-    let k = digit_from_value c d.0 in
-    let same : with_digit value c ≡ value * 10 + digit_value c = omega (arith, digit_value_digit c k) in
-    ap (λ v. fold with_digit v digits) same ∙ value_is (value * 10 + digit_value c) digits d.1
-
-pub value_of_decimal : (n : ℕ) → n < 2 ^ 64 → value_of (decimal n) ≡ n
-value_of_decimal n small = let is = decimal_is_IsNumeral n small in value_is 0 (decimal n) is.0.1 ∙ is.1
-
-digits_are_no_word : (bytes : List ℕ) → 0 < length bytes → list_all is_ascii_digit bytes ≡ true → (is_word bytes ≡ false) × (is_number bytes ≡ true)
-digits_are_no_word [] some digits = absurd (omega arith)
-digits_are_no_word (b ∷ bytes) some digits =
-    let digit = (and_parts (is_ascii_digit b) (list_all is_ascii_digit bytes) digits).0 in
-    let no_letter : is_ascii_alphabetic b ≡ false = false_from_ne_true (is_ascii_alphabetic b) (λ letter. omega (arith, letter_above b letter, digit_within b digit)) in
-    (and_left (is_ascii_alphabetic b) (list_all is_word_byte bytes) no_letter, digits)
-
-decimal_is : (n : ℕ) → IsNumber n → (is_word (decimal n) ≡ false) × (is_number (decimal n) ≡ true)
-decimal_is n small = digits_are_no_word (decimal n) (decimal_nonempty n (omega arith)) (digits_are n (omega arith))
-
 pub number_class : (n : ℕ) → IsNumber n → class_of lexicon (decimal n) ≡ number
 unfolding lexicon
-number_class n small =
-    let kind = decimal_is n small in
-    let within : is_small_number (decimal n) ≡ true =
-    and_from (is_number (decimal n)) _ kind.1 (le-leb (value_of (decimal n)) 32767 (omega (arith, value_of_decimal n (omega arith), small))) in
-    small_number lexicon (decimal n) kind.0 within
+number_class n small = class_of_decimal lexicon n small
 
 -- ---- items
-
-pub word_is_no_number : (bytes : List ℕ) → is_word bytes ≡ true → is_number bytes ≡ false
-word_is_no_number [] word = refl
-word_is_no_number (b ∷ bytes) word =
-    let letter = (and_parts (is_ascii_alphabetic b) (list_all is_word_byte bytes) word).0 in
-    and_left (is_ascii_digit b) (list_all is_ascii_digit bytes) (false_from_ne_true (is_ascii_digit b) (λ digit. omega (arith, letter_above b letter, digit_within b digit)))
 
 pub record ItemSpelt (start : ℕ) (item : Item) : Type 0 where
   pub spelt : Spelt (Rule rules.item ∷ []) (at start (item_text item) ∷ []) (AToken (at start (item_text item)) ∷ [])
@@ -187,10 +153,8 @@ statement_spelt start (Assign left right) is =
       placed = PlacedAssign name r.placed;
       statement_is = ap (Assign left) r.right_is;
       spelt =
-          subst (λ tokens. Spelt (Rule rules.statement ∷ []) (name ∷ equals ∷ tokens) (AStatement (PlacedAssign name r.placed) ∷ []))
-          (sym (tokens_append (right_pieces right) _ from))
-          (by_rule rules.statement (0, omega arith, refl) (by_token name (name_class left is.0) (by_token equals refl
-          (then r.spelt (by_token _ refl none)))));
+          by_rule rules.statement (0, omega arith, refl) (by_token name (name_class left is.0) (by_token equals refl
+          (in_turn (right_pieces right) _ from r.spelt (by_token _ refl none))));
     }
 statement_spelt start (When condition left item) is =
     let if_word = at (start + 1 + 1) (codes "if") in
@@ -205,11 +169,8 @@ statement_spelt start (When condition left item) is =
       placed = PlacedWhen c.name c.number name (at last (item_text item));
       statement_is = λ k. When (c.condition_is k) left (i.item_is k);
       spelt =
-          subst (λ tokens. Spelt (Rule rules.statement ∷ []) (if_word ∷ opening ∷ tokens)
-          (AStatement (PlacedWhen c.name c.number name (at last (item_text item))) ∷ []))
-          (sym (tokens_append (condition_pieces condition) _ from))
-          (by_rule rules.statement (1, omega arith, refl) (by_token if_word refl (by_token opening refl (then c.spelt (by_token _ refl
-          (by_token name (name_class left is.1) (by_token _ refl (then i.spelt (by_token _ refl none)))))))));
+          by_rule rules.statement (1, omega arith, refl) (by_token if_word refl (by_token opening refl (in_turn (condition_pieces condition) _ from c.spelt (by_token _ refl
+          (by_token name (name_class left is.1) (by_token _ refl (then i.spelt (by_token _ refl none))))))));
     }
 
 pub record StatementsSpelt (start : ℕ) (statements : List Statement) : Type 0 where
@@ -227,9 +188,7 @@ statements_spelt (statement ∷ statements) start is =
       placed = s.placed ∷ more.placed;
       statements_are = λ i. s.statement_is i ∷ more.statements_are i;
       spelt =
-          subst (λ tokens. Spelt (Rule rules.statements ∷ []) tokens (Statements (s.placed ∷ more.placed) ∷ []))
-          (sym (tokens_append (statement_pieces statement) (flat_map statement_pieces statements) start))
-          (by_rule rules.statements (1, omega arith, refl) (then s.spelt more.spelt));
+          by_rule rules.statements (1, omega arith, refl) (in_turn (statement_pieces statement) (flat_map statement_pieces statements) start s.spelt more.spelt);
     }
 
 -- ---- what is returned

@@ -3,10 +3,11 @@ use Rattle.std.proofs.Common.{◌≡◌, ℕ, ◌+◌, ◌<◌, List, [], ◌∷
 use Rattle.std.specs.List.{AllByRecursion, flat_map}
 use Rattle.dcv_grammar.specs.declared.grammar.Symbol.TheVariants.{Class, Rule}
 use Rattle.dcv_lexer.specs.Cuts.{Token}
-use Rattle.dcv_observer.specs.Items.{HasItems}
 use Rattle.dcv_observer.specs.Classes.{name as plain_name}
 use Rattle.dcv_observer.specs.Pieces.{Piece, Blank, Text, bytes_of, tokens_at}
-use Rattle.dcv_observer.proofs.LaidOut.{laid_out}
+use Rattle.dcv_observer.proofs.PieceLists.{tokens_append}
+use Rattle.dcv_observer.proofs.Spelt.{laid_stands, none, by_token, by_rule, then, in_turn}
+use Rattle.dcv_observer.proofs.Words.{value_of_decimal}
 use Rattle.dcv_c.specs.Classes.{lexicon, open_parenthesis, close_parenthesis, open_brace, close_brace, semicolon, word_int, word_return}
 use Rattle.dcv_c.specs.Tree.{Assignment, CUnit}
 use Rattle.dcv_c.specs.Placed.{assignment_of, statement_of, returned_of, bytes_of as token_bytes, unit_of, PlacedUnit, PlacedAssignment, PlacedStatement}
@@ -18,8 +19,7 @@ use Rattle.dcv_c.specs.Form.{IsName, IsAssignment, IsSpellable}
 use Rattle.dcv_c.specs.Layout.{text_of}
 use Rattle.dcv_c.proofs.UnitPieces.{static_pieces, assignment_pieces, parameter_pieces, parameters_pieces, local_pieces, local_line_pieces}
 use Rattle.dcv_c.proofs.UnitPieces.{statement_pieces, returned_pieces, reset_pieces, head_pieces, end_pieces, step_pieces, pieces_of, text_in_pieces}
-use Rattle.dcv_c.proofs.Spelt.{Spelt, none, by_token, by_rule, then, tokens_append}
-use Rattle.dcv_c.proofs.Derived.{name_class, number_class, value_of_decimal, statements_spelt, returned_spelt}
+use Rattle.dcv_c.proofs.Derived.{Spelt, name_class, number_class, statements_spelt, returned_spelt}
 use Rattle.dcv_c.proofs.LaidOut.{orderly, unit_laid}
 
 abbrev at : ℕ → List ℕ → Token
@@ -49,9 +49,7 @@ more_statics_spelt (name ∷ names) start is =
       placed = static_at start name ∷ more.placed;
       names_are = λ i. name ∷ more.names_are i;
       spelt =
-          subst (λ tokens. Spelt (Rule rules.more_statics ∷ []) tokens (Tokens (static_at start name ∷ more.placed) ∷ []))
-          (sym (tokens_append (static_pieces name) (flat_map static_pieces names) start))
-          (by_rule rules.more_statics (1, omega arith, refl) (then (static_spelt start name is.0) more.spelt));
+          by_rule rules.more_statics (1, omega arith, refl) (in_turn (static_pieces name) (flat_map static_pieces names) start (static_spelt start name is.0) more.spelt);
     }
 
 -- ---- reset
@@ -102,12 +100,9 @@ reset_spelt start of is =
       name_is = refl;
       assignments_are = a.assignments_are;
       spelt =
-          subst (λ tokens. Spelt (Rule rules.reset ∷ []) (void ∷ name ∷ at behind (codes "(") ∷ at (behind + 1) (codes "void") ∷ at (behind + 1 + 4) (codes ")")
-          ∷ at (behind + 1 + 4 + 1 + 1) (codes "{") ∷ tokens) (AReset name a.placed end ∷ []))
-          (sym (tokens_append (flat_map assignment_pieces of.assignments) _ from))
-          (by_rule rules.reset (0, omega arith, refl) (by_token void refl (by_token name (name_class of.reset is.reset)
+          by_rule rules.reset (0, omega arith, refl) (by_token void refl (by_token name (name_class of.reset is.reset)
           (by_token (at behind (codes "(")) refl (by_token (at (behind + 1) (codes "void")) refl (by_token (at (behind + 1 + 4) (codes ")")) refl
-          (by_token (at (behind + 1 + 4 + 1 + 1) (codes "{")) refl (then a.spelt (by_token end refl none)))))))));
+          (by_token (at (behind + 1 + 4 + 1 + 1) (codes "{")) refl (in_turn (flat_map assignment_pieces of.assignments) _ from a.spelt (by_token end refl none))))))));
     }
 
 -- ---- parameters
@@ -175,9 +170,7 @@ locals_spelt (name ∷ names) start is =
       placed = here ∷ more.placed;
       names_are = λ i. name ∷ more.names_are i;
       spelt =
-          subst (λ tokens. Spelt (Rule rules.locals ∷ []) tokens (Tokens (here ∷ more.placed) ∷ []))
-          (sym (tokens_append (local_pieces name) (flat_map local_pieces names) start))
-          (by_rule rules.locals (1, omega arith, refl) (then (local_spelt start name is.0) more.spelt));
+          by_rule rules.locals (1, omega arith, refl) (in_turn (local_pieces name) (flat_map local_pieces names) start (local_spelt start name is.0) more.spelt);
     }
 
 local_lines_spelt : (names : List (List ℕ)) (start : ℕ) → AllByRecursion IsName names → LocalsSpelt start names (local_line_pieces names)
@@ -228,10 +221,7 @@ head_spelt start of is =
       name_is = refl;
       names_are = p.names_are;
       spelt =
-          subst (λ tokens. Spelt (Class word_int ∷ Class plain_name ∷ Class open_parenthesis ∷ Rule rules.parameters ∷ Class close_parenthesis ∷ Class open_brace ∷ [])
-          (int ∷ name ∷ opening ∷ tokens) (AToken int ∷ AToken name ∷ AToken opening ∷ Tokens p.placed ∷ AToken closing ∷ AToken brace ∷ []))
-          (sym (tokens_append (parameters_pieces of.parameters) _ from))
-          (by_token int refl (by_token name (name_class of.step is.step) (by_token opening refl (then p.spelt (by_token closing refl (by_token brace refl none))))));
+          by_token int refl (by_token name (name_class of.step is.step) (by_token opening refl (in_turn (parameters_pieces of.parameters) _ from p.spelt (by_token closing refl (by_token brace refl none)))));
     }
 
 record EndSpelt (start : ℕ) (of : CUnit) : Type 0 where
@@ -259,10 +249,7 @@ end_spelt start of is =
       end = end;
       returned_is = r.returned_is;
       spelt =
-          subst (λ tokens. Spelt (Class word_return ∷ Rule rules.returned ∷ Class semicolon ∷ Class close_brace ∷ []) (return_word ∷ tokens)
-          (AToken return_word ∷ AReturned r.placed ∷ AToken last ∷ AToken end ∷ []))
-          (sym (tokens_append (returned_pieces of.returned) _ from))
-          (by_token return_word refl (then r.spelt (by_token last refl (by_token end refl none))));
+          by_token return_word refl (in_turn (returned_pieces of.returned) _ from r.spelt (by_token last refl (by_token end refl none)));
     }
 
 record StepSpelt (start : ℕ) (of : CUnit) : Type 0 where
@@ -289,12 +276,6 @@ step_spelt start of is =
     let l = local_lines_spelt of.locals second is.locals in
     let s = statements_spelt of.statements third is.statements in
     let end = end_spelt fourth of is in
-    let split : tokens_at start (step_pieces of)
-    ≡ tokens_at start (head_pieces of) ++ (tokens_at second (local_line_pieces of.locals) ++ (tokens_at third statements ++ tokens_at fourth (end_pieces of))) =
-    tokens_append (head_pieces of) (local_line_pieces of.locals ++ (statements ++ end_pieces of)) start
-    ∙ ap (λ tokens. tokens_at start (head_pieces of) ++ tokens)
-    (tokens_append (local_line_pieces of.locals) (statements ++ end_pieces of) second
-    ∙ ap (λ tokens. tokens_at second (local_line_pieces of.locals) ++ tokens) (tokens_append statements (end_pieces of) third)) in
     record {
       name = head.name;
       parameters = head.placed;
@@ -307,8 +288,8 @@ step_spelt start of is =
       statements_are = s.statements_are;
       returned_is = end.returned_is;
       spelt =
-          subst (λ tokens. Spelt (Rule rules.step ∷ []) tokens (AStep head.name head.placed l.placed s.placed end.placed ∷ [])) (sym split)
-          (by_rule rules.step (0, omega arith, refl) (then head.spelt (then l.spelt (then s.spelt end.spelt))));
+          by_rule rules.step (0, omega arith, refl) (in_turn (head_pieces of) _ start head.spelt
+          (in_turn (local_line_pieces of.locals) _ second l.spelt (in_turn statements _ third s.spelt end.spelt)));
     }
 
 -- ---- units
@@ -339,14 +320,7 @@ module _ (of : CUnit) (is : IsSpellable of) where
         locals = s.locals;
         statements = s.statements;
         returned = s.returned;
-      } in
-      let behind = reset_pieces of ++ step_pieces of in
-      let split : tokens_at 0 (pieces_from (name ∷ names))
-      ≡ tokens_at 0 (static_pieces name) ++ (tokens_at first (flat_map static_pieces names) ++ (tokens_at second (reset_pieces of) ++ tokens_at third (step_pieces of))) =
-      tokens_append (static_pieces name) (flat_map static_pieces names ++ behind) 0
-      ∙ ap (λ tokens. tokens_at 0 (static_pieces name) ++ tokens)
-      (tokens_append (flat_map static_pieces names) behind first
-      ∙ ap (λ tokens. tokens_at first (flat_map static_pieces names) ++ tokens) (tokens_append (reset_pieces of) (step_pieces of) second)) in (
+      } in (
         placed,
         (λ i. record {
           statics = (ap (λ ns. name ∷ ns) more.names_are ∙ sym same) i;
@@ -358,8 +332,8 @@ module _ (of : CUnit) (is : IsSpellable of) where
           statements = s.statements_are i;
           returned = s.returned_is i;
         }),
-        subst (λ tokens. Spelt (Rule rules.unit ∷ []) tokens (AUnit placed ∷ [])) (sym split)
-            (by_rule rules.unit (0, omega arith, refl) (then (static_spelt 0 name are.0) (then more.spelt (then r.spelt s.spelt)))),
+        by_rule rules.unit (0, omega arith, refl) (in_turn (static_pieces name) (flat_map static_pieces names ++ (reset_pieces of ++ step_pieces of)) 0 (static_spelt 0 name are.0)
+            (in_turn (flat_map static_pieces names) _ first more.spelt (in_turn (reset_pieces of) (step_pieces of) second r.spelt s.spelt))),
       )
 
   -- the text spells the unit, with each word where it stands
@@ -368,10 +342,6 @@ module _ (of : CUnit) (is : IsSpellable of) where
   text_spells =
       let (placed, same, spelt) = unit_by_statics of.statics refl is.statics is.some_static in (
         placed,
-        (
-          tokens_at 0 (pieces_of of),
-          subst (λ (text : List ℕ). HasItems lexicon text (tokens_at 0 (pieces_of of))) (text_in_pieces of) (laid_out lexicon orderly (pieces_of of) 10 (unit_laid of 10 is)),
-          (spelt.nodes, record { derived = spelt.are; whole = spelt.whole }, spelt.is),
-        ),
+        laid_stands orderly (pieces_of of) 10 (unit_laid of 10 is) (AUnit placed) spelt (text_of of) (text_in_pieces of),
         same,
       )

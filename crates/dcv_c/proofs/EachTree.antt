@@ -1,21 +1,21 @@
 -- Each derivation tree of the grammar stands for a unit: the parts that a body's symbols stand for are those of an equation. Its words are
 -- what the grammar asks.
-use Rattle.std.proofs.Common.{◌≡◌, ℕ, zero, suc, List, [], ◌∷◌, Option, Some, None, refl, sym, ap, ◌∙◌, subst, arith}
-use Rattle.std.specs.Prelude.{⊤, Contains, slice_get, slice_index_or}
+use Rattle.std.proofs.Common.{◌≡◌, ℕ, List, [], ◌∷◌, Option, Some, None, refl, sym, ◌∙◌, subst, arith}
+use Rattle.std.specs.Prelude.{⊤, slice_index_or}
 use Rattle.std.specs.List.{AllByRecursion}
-use Rattle.std.proofs.lemmas.List.Elements.{All-from_recursion}
 use Rattle.dcv_grammar.specs.declared.grammar.Symbol.{Symbol}
-use Rattle.dcv_grammar.specs.declared.grammar.Symbol.TheVariants.{Class, Rule}
-use Rattle.dcv_grammar.specs.Grammar.{Production, IsBody, bodies}
-use Rattle.dcv_grammar.specs.Trees.{Nodes, done, leaf, node, AreTrees}
-use Rattle.dcv_grammar.proofs.Derivations.{rule_with}
+use Rattle.dcv_grammar.specs.declared.grammar.Symbol.TheVariants.{Rule}
+use Rattle.dcv_grammar.specs.Grammar.{IsBody}
+use Rattle.dcv_grammar.specs.Trees.{Nodes, AreTrees}
 use Rattle.dcv_lexer.specs.Cuts.{Token}
 use Rattle.dcv_observer.specs.Items.{token_class}
+use Rattle.dcv_observer.specs.Scheme.{parts_of}
+use Rattle.dcv_observer.proofs.Sorts.{Sorts, Agree, trees_stand, inner_stands}
 use Rattle.dcv_c.specs.Classes.{lexicon}
 use Rattle.dcv_c.specs.Language.{language}
 use Rattle.dcv_c.specs.Placed.{PlacedUnit, PlacedAssignment, PlacedStatement, PlacedRight, PlacedChoice, PlacedReturned, PlacedTest, PlacedTests}
 use Rattle.dcv_c.specs.Actions.{Part, AToken, Tokens, AnAssignment, Assignments, AReset, AStatement, Statements, ARight, Choice, Maybe, Compared}
-use Rattle.dcv_c.specs.Actions.{AReturned, ATest, Tests, Behind, AStep, AUnit, Nothing, right_part, returned_part, actions, action, parts_of}
+use Rattle.dcv_c.specs.Actions.{AReturned, ATest, Tests, Behind, AStep, AUnit, Nothing, right_part, returned_part, actions, action, scheme}
 use Rattle.dcv_c.specs.Words.{IsNameWord, IsNumberWord, IsNumberOrNone, IsItemWord, AreWordsOfAssignment, AreWordsOfTest, AreWordsOfChoice}
 use Rattle.dcv_c.specs.Words.{AreWordsOfRight, AreWordsOfStatement, AreWordsOfReturned, AreWords}
 use Rattle.dcv_c.specs.Laws.{SpelledWords}
@@ -51,9 +51,6 @@ sorts =
     OfUnit ∷ OfName ∷ OfNames ∷ OfReset ∷ OfAssignments ∷ OfAssignment ∷ OfStep ∷ OfNames
     ∷ OfNames ∷ OfName ∷ OfNames ∷ OfName ∷ OfStatements ∷ OfStatement ∷ OfRight ∷ OfChoice
     ∷ OfCondition ∷ OfCompared ∷ OfItem ∷ OfReturned ∷ OfBehind ∷ OfTests ∷ OfTest ∷ []
-
-abbrev sort_of : ℕ → Sort
-sort_of rule = slice_index_or sorts rule OfUnit
 
 abbrev AreNameWords : List Token → Type 0
 AreNameWords tokens = AllByRecursion IsNameWord tokens
@@ -190,24 +187,10 @@ value_in OfStep (AStep name parameters locals statements returned) is = ((name, 
 value_in OfUnit (AUnit value) is = ((value, is), refl)
 value_in sort part is = absurd is
 
--- ---- what symbols stand for
+-- ---- what rules stand for
 
-abbrev Values : List Symbol → Type 0
-Values [] = ⊤
-Values (Class class ∷ symbols) = ((token : Token) × (token_class lexicon token ≡ class)) × Values symbols
-Values (Rule number ∷ symbols) = ValueOf (sort_of number) × Values symbols
-
-abbrev parts_from : (symbols : List Symbol) → Values symbols → List Part
-parts_from [] values = []
-parts_from (Class class ∷ symbols) values = AToken values.0.0 ∷ parts_from symbols values.1
-parts_from (Rule number ∷ symbols) values = part_of (sort_of number) values.0 ∷ parts_from symbols values.1
-
--- each body of each rule stands for a part of the rule's sort
-abbrev Agree : List Production → List (List Part → Part) → List Sort → Type 0
-Agree [] made kinds = ⊤
-Agree (rule ∷ rules) (make ∷ made) (sort ∷ kinds) =
-    AllByRecursion (λ body. (values : Values body) → IsOf sort (make (parts_from body values))) (bodies rule) × Agree rules made kinds
-Agree rules made kinds = ⊥
+abbrev of_sorts : Sorts scheme
+of_sorts = record { Sort = Sort; of_rules = sorts; otherwise = OfUnit; ValueOf = ValueOf; part_of = part_of; IsOf = IsOf; value_in = value_in }
 
 right_of_name : (name : Token) (choice : Option PlacedChoice) → IsNameWord name → AreWordsOfChoices choice
     → IsOf OfRight (right_part (AToken name ∷ Choice choice ∷ []))
@@ -219,7 +202,7 @@ returned_of_name name None is are = is
 returned_of_name name (Some tests) is are = (omega arith, (record { name = is; number = are.number_is }, are.others_are))
 
 -- the body that a rule takes otherwise stands first
-rules_agree : Agree language.productions actions sorts
+rules_agree : Agree of_sorts language.productions actions sorts
 unfolding language
 rules_agree = (
   (
@@ -356,71 +339,24 @@ rules_agree = (
   ),
 )  -- test
 
-body_agrees : (P : List Symbol → Type 0) (all : List (List Symbol)) (body : List Symbol) → AllByRecursion P all → Contains all body → P body
-body_agrees P all body each contains = subst P contains.2 (All-from_recursion P all each contains.0 body contains.1)
-
-agree_at : (rules : List Production) (actions : List (List Part → Part)) (sorts : List Sort) (number : ℕ) (rule : Production) (body : List Symbol) (values : Values body)
-    → Agree rules actions sorts → slice_get rules number ≡ Some rule → Contains (bodies rule) body
-    → IsOf (slice_index_or sorts number OfUnit) (slice_index_or actions number (λ parts. Nothing) (parts_from body values))
-agree_at [] actions sorts number rule body values agree is contains = let never : None ≡ Some rule = is in cc
-agree_at (r ∷ rules) (a ∷ actions) (s ∷ sorts) zero rule body values agree is contains =
-    let same : r ≡ rule = cc in
-    body_agrees (λ body. (values : Values body) → IsOf s (a (parts_from body values))) (bodies r) body agree.0
-    (subst (λ (x : Production). Contains (bodies x) body) (sym same) contains) values
-agree_at (r ∷ rules) (a ∷ actions) (s ∷ sorts) (suc number) rule body values agree is contains =
-    agree_at rules actions sorts number rule body values agree.1 is contains
-agree_at (r ∷ rules) [] sorts number rule body values agree is contains = absurd agree
-agree_at (r ∷ rules) (a ∷ actions) [] number rule body values agree is contains = absurd agree
-
-body_stands : (number : ℕ) (body : List Symbol) (values : Values body) → IsBody language number body
-    → IsOf (sort_of number) (action number (parts_from body values))
-body_stands number body values is =
-    let (rule, at, contains) = rule_with language number body is in
-    agree_at language.productions actions sorts number rule body values rules_agree at contains
-
 -- ---- what trees stand for
-
-trees_stand : (symbols : List Symbol) (trees : Nodes Token) → AreTrees language (token_class lexicon) symbols trees
-    → (values : Values symbols) × (parts_of trees ≡ parts_from symbols values)
-trees_stand [] done h = (tt, refl)
-trees_stand [] (leaf token next) h = absurd h
-trees_stand [] (node rule inner next) h = absurd h
-trees_stand (Class class ∷ symbols) done h = absurd h
-trees_stand (Class class ∷ symbols) (leaf token next) h =
-    let (values, is) = trees_stand symbols next h.1 in
-    (((token, h.0), values), ap (λ (parts : List Part). AToken token ∷ parts) is)
-trees_stand (Class class ∷ symbols) (node rule inner next) h = absurd h
-trees_stand (Rule number ∷ symbols) done h = absurd h
-trees_stand (Rule number ∷ symbols) (leaf token next) h = absurd h
-trees_stand (Rule number ∷ symbols) (node rule inner next) h =
-    let (inside, inside_is) = trees_stand h.1.0 inner h.1.2 in
-    let (behind, behind_is) = trees_stand symbols next h.2 in
-    let of_sort : IsOf (sort_of number) (action number (parts_of inner)) =
-    subst (λ (parts : List Part). IsOf (sort_of number) (action number parts)) (sym inside_is) (body_stands number h.1.0 inside h.1.1) in
-    let (value, is) = value_in (sort_of number) (action number (parts_of inner)) of_sort in (
-      (value, behind),
-      ap (λ (n : ℕ). action n (parts_of inner) ∷ parts_of next) h.0
-          ∙ ap (λ (part : Part). part ∷ parts_of next) is
-          ∙ ap (λ (parts : List Part). part_of (sort_of number) value ∷ parts) behind_is,
-    )
 
 -- what is inside a node of a rule stands for a part
 pub rule_stands : (number : ℕ) (body : List Symbol) (inner : Nodes Token) → IsBody language number body → AreTrees language (token_class lexicon) body inner
-    → action number (parts_of inner) ≡ Nothing → ⊥
+    → action number (parts_of scheme inner) ≡ Nothing → ⊥
 rule_stands number body inner is are none =
-    let (values, stand) = trees_stand body inner are in
-    nothing_of (sort_of number)
-    (subst (IsOf (sort_of number)) (ap (action number) (sym stand) ∙ none) (body_stands number body values is))
+    nothing_of (slice_index_or sorts number OfUnit)
+    (subst (IsOf (slice_index_or sorts number OfUnit)) none (inner_stands of_sorts actions (λ parts. Nothing) (λ rule parts. refl) rules_agree number body inner is are))
 
 pub tree_stands : (tree : Nodes Token) → AreTrees language (token_class lexicon) (Rule language.start ∷ []) tree
-    → (placed : PlacedUnit) × (parts_of tree ≡ AUnit placed ∷ []) × AreWords placed
+    → (placed : PlacedUnit) × (parts_of scheme tree ≡ AUnit placed ∷ []) × AreWords placed
 unfolding language
-tree_stands tree are = let (values, is) = trees_stand (Rule language.start ∷ []) tree are in (values.0.0, is, values.0.1)
+tree_stands tree are = let (values, is) = trees_stand of_sorts actions (λ parts. Nothing) (λ rule parts. refl) rules_agree (Rule language.start ∷ []) tree are in (values.0.0, is, values.0.1)
 
 -- so the words of a unit that a text spells are what the grammar asks
 pub words_spelled : SpelledWords
-words_spelled text placed (items, has, (tree, is, stands)) =
-    let (other, stands_too, words) = tree_stands tree is.derived in
-    let parts : AUnit other ∷ [] ≡ AUnit placed ∷ [] = sym stands_too ∙ stands in
+words_spelled text placed spells =
+    let (other, stands_too, words) = tree_stands spells.tree spells.is.derived in
+    let parts : AUnit other ∷ [] ≡ AUnit placed ∷ [] = sym stands_too ∙ spells.stands in
     let same : other ≡ placed = cc in
     subst AreWords same words

@@ -1,20 +1,16 @@
--- Each word that a rule of names judges has its judgement, so no judgement is lost. And where there is no first that is broken, all keep.
-use Rattle.std.proofs.Common.{◌≡◌, ℕ, ◌+◌, Bool, true, false, not, find, List, [], ◌∷◌, ◌++◌, length, map, Option, Some, None, refl, sym, ap, ◌∙◌, arith}
+-- Each word that a rule of names judges has its judgement, so no judgement is lost.
+use Rattle.std.proofs.Common.{◌≡◌, ℕ, ◌+◌, List, [], ◌∷◌, ◌++◌, length, map, refl, sym, ap, ◌∙◌, arith}
 use Rattle.std.proofs.Common.{length-append}
-use Rattle.std.specs.Prelude.{option_map}
-use Rattle.std.specs.List.{list_all, flat_map, zip}
+use Rattle.std.specs.List.{flat_map}
 use Rattle.std.proofs.lemmas.List.{length-map}
-use Rattle.std.proofs.lemmas.Bool.{false≢true}
 use Rattle.dcv_lexer.specs.Cuts.{Token}
+use Rattle.dcv_observer.specs.Naming.{is_among}
 use Rattle.dcv_c.specs.Tree.{Test, CUnit}
 use Rattle.dcv_c.specs.Placed.{PlacedAssignment, PlacedStatement, PlacedAssign, PlacedWhen, PlacedRight, PlacedPlain, PlacedChosen, PlacedReturned}
 use Rattle.dcv_c.specs.Placed.{PlacedFixed, PlacedRead, PlacedTested, PlacedTest, PlacedUnit, test_of, right_of, statement_of, returned_of, assignment_of, bytes_of, unit_of}
-use Rattle.dcv_c.specs.Meaning.{is_among}
 use Rattle.dcv_c.specs.Rules.{keeps_new, keeps_apart, keeps_parameters, keeps_assignments, has_all_assignments, keeps_right, keeps_statement}
 use Rattle.dcv_c.specs.Rules.{keeps_statements, keeps_returned, known_after, before_step, before_parameters, before_locals, judged}
-use Rattle.dcv_c.specs.Rules.{words_of_right, words_of_statement, words_of_returned, words_of, first_broken, IsWellNamed}
-
--- ---- as many
+use Rattle.dcv_c.specs.Rules.{words_of_right, words_of_statement, words_of_returned, words_of}
 
 apart_words : (earlier : List (List ℕ)) (tokens : List Token) → length (keeps_apart earlier (bytes_of tokens)) ≡ length tokens
 apart_words earlier [] = refl
@@ -86,30 +82,3 @@ as_many placed =
       apart_words (before_locals unit) placed.locals,
       statements_words unit placed.returned refl (unit.statics ++ unit.parameters) placed.statements,
     )
-
--- ---- none is broken
-
-all_keep : (words : List Token) (keeps : List Bool) → length words ≡ length keeps → find (λ judged. not judged.1) (zip words keeps) ≡ None
-    → list_all (λ keeps. keeps) keeps ≡ true
-all_keep [] [] same none = refl
-all_keep [] (keep ∷ keeps) same none = absurd (omega arith)
-all_keep (word ∷ words) [] same none = refl
-all_keep (word ∷ words) (true ∷ keeps) same none = all_keep words keeps (omega arith) none
-all_keep (word ∷ words) (false ∷ keeps) same none = absurd (let never : Some (word, false) ≡ None = none in cc)
-
-none_found : (words : List Token) (keeps : List Bool) → list_all (λ keeps. keeps) keeps ≡ true → find (λ judged. not judged.1) (zip words keeps) ≡ None
-none_found [] keeps all = refl
-none_found (word ∷ words) [] all = refl
-none_found (word ∷ words) (true ∷ keeps) all = none_found words keeps all
-none_found (word ∷ words) (false ∷ keeps) all = absurd (false≢true all)
-
-no_offset : (found : Option (Token × Bool)) → option_map (λ judged. judged.0.start) found ≡ None → found ≡ None
-no_offset None none = refl
-no_offset (Some judged) none = absurd (let never : Some judged.0.start ≡ None = none in cc)
-
-pub well_named_if_unbroken : (placed : PlacedUnit) → first_broken (words_of placed) (judged (unit_of placed)) ≡ None → IsWellNamed (unit_of placed)
-well_named_if_unbroken placed none =
-    all_keep (words_of placed) (judged (unit_of placed)) (as_many placed) (no_offset (find (λ judged. not judged.1) (zip (words_of placed) (judged (unit_of placed)))) none)
-
-pub unbroken_if_well_named : (placed : PlacedUnit) → IsWellNamed (unit_of placed) → first_broken (words_of placed) (judged (unit_of placed)) ≡ None
-unbroken_if_well_named placed well = ap (option_map (λ judged. judged.0.start)) (none_found (words_of placed) (judged (unit_of placed)) well)

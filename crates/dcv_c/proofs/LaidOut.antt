@@ -1,20 +1,18 @@
 -- The text of a unit is laid out: each piece ends where it does.
-use Rattle.std.proofs.Common.{◌≡◌, ℕ, ◌<◌, Bool, true, false, not, cond, ◌||◌, nat_eq, List, [], ◌∷◌, ◌++◌, length, refl, sym, ap, subst, ◌∙◌, arith}
-use Rattle.std.proofs.Common.{append_assoc, codes, decimal}
-use Rattle.std.specs.List.{AllByRecursion, flat_map, list_all}
-use Rattle.std.specs.Char.{is_ascii_alphabetic, is_ascii_digit}
-use Rattle.std.proofs.lemmas.Bool.{and_parts, and_left, or_left, or_right, or_parts, not-true, not_from_false, false_from_ne_true}
-use Rattle.std.proofs.lemmas.Fmt.{decimal_nonempty}
-use Rattle.dcv_lexer.specs.Lexicon.{is_word_byte, is_word, is_number, is_orderly}
-use Rattle.dcv_lexer.proofs.FirstBytes.{letter_above, digit_within}
-use Rattle.dcv_automaton_text.proofs.Words.{digits_are}
+use Rattle.std.proofs.Common.{◌≡◌, ℕ, true, List, [], ◌∷◌, ◌++◌, refl}
+use Rattle.std.proofs.Common.{codes}
+use Rattle.std.specs.List.{AllByRecursion, flat_map}
+use Rattle.std.proofs.lemmas.Bool.{and_parts}
+use Rattle.dcv_lexer.specs.Lexicon.{is_orderly}
 use Rattle.dcv_observer.specs.Classes.{is_short_word}
-use Rattle.dcv_observer.specs.Pieces.{Piece, Blank, Text, first_byte, ends_symbol, IsPieceBefore, IsLaidOut}
+use Rattle.dcv_observer.specs.Pieces.{Piece, Blank, Text, first_byte, IsPieceBefore, IsLaidOut}
 use Rattle.dcv_observer.proofs.LaidOut.{append_laid}
+use Rattle.dcv_observer.proofs.Words.{stops, word_before, number_before}
+use Rattle.dcv_observer.proofs.PieceLists.{each_laid}
 use Rattle.dcv_c.specs.Classes.{lexicon}
 use Rattle.dcv_c.specs.Tree.{Item, Constant, Named, Condition, Holds, Equals, Test, Right, Plain, Chosen, Statement, Assign, When}
 use Rattle.dcv_c.specs.Tree.{Returned, Fixed, Read, Tested, Assignment, CUnit}
-use Rattle.dcv_c.specs.Form.{IsName, IsNumber, IsItem, IsCondition, IsRight, IsStatement, IsTest, IsReturned, IsAssignment, IsSpellable}
+use Rattle.dcv_c.specs.Form.{IsName, IsItem, IsCondition, IsRight, IsStatement, IsTest, IsReturned, IsAssignment, IsSpellable}
 use Rattle.dcv_c.specs.Layout.{item_text}
 use Rattle.dcv_c.proofs.UnitPieces.{condition_pieces, right_pieces, statement_pieces, test_pieces, returned_pieces, static_pieces, assignment_pieces}
 use Rattle.dcv_c.proofs.UnitPieces.{parameter_pieces, parameters_pieces, local_pieces, local_line_pieces, reset_pieces, head_pieces, end_pieces}
@@ -32,52 +30,12 @@ Before bytes next = IsPieceBefore lexicon (Text bytes) next
 
 -- ---- words and numbers
 
--- a byte with which no word and no number goes on
-abbrev stops : ℕ → Bool
-stops next = not (is_word_byte next)
-
-word_before : (bytes : List ℕ) (next : ℕ) → is_word bytes ≡ true → stops next ≡ true → Before bytes next
-word_before bytes next word stop = (
-  or_left (is_word bytes || is_number bytes) _ (or_left (is_word bytes) (is_number bytes) word),
-  ap (λ w. cond w (not (is_word_byte next)) (cond (is_number bytes) (not (is_ascii_digit next)) (ends_symbol lexicon.symbols bytes next))) word ∙ stop,
-)
-
 name_before : (name : List ℕ) (next : ℕ) → IsName name → stops next ≡ true → Before name next
-name_before name next is stop = word_before name next (and_parts _ _ (and_parts (is_short_word name) _ is).0).0 stop
-
-stops_digits : (next : ℕ) → stops next ≡ true → not (is_ascii_digit next) ≡ true
-stops_digits next stop =
-    let parts = or_parts (is_ascii_alphabetic next || is_ascii_digit next) (nat_eq next 95) (not-true _ stop) in
-    not_from_false _ (or_parts (is_ascii_alphabetic next) (is_ascii_digit next) parts.0).1
-
-digits_before : (bytes : List ℕ) (next : ℕ) → 0 < length bytes → list_all is_ascii_digit bytes ≡ true → stops next ≡ true → Before bytes next
-digits_before [] next some digits stop = absurd (omega arith)
-digits_before (b ∷ bytes) next some digits stop =
-    let digit = (and_parts (is_ascii_digit b) (list_all is_ascii_digit bytes) digits).0 in
-    let no_letter : is_ascii_alphabetic b ≡ false = false_from_ne_true (is_ascii_alphabetic b) (λ letter. omega (arith, letter_above b letter, digit_within b digit)) in
-    let no_word : is_word (b ∷ bytes) ≡ false = and_left (is_ascii_alphabetic b) (list_all is_word_byte bytes) no_letter in
-    let number : is_number (b ∷ bytes) ≡ true = digits in (
-      or_left (is_word (b ∷ bytes) || is_number (b ∷ bytes)) _ (or_right (is_word (b ∷ bytes)) (is_number (b ∷ bytes)) number),
-      ap (λ w. cond w (not (is_word_byte next)) (cond (is_number (b ∷ bytes)) (not (is_ascii_digit next)) (ends_symbol lexicon.symbols (b ∷ bytes) next))) no_word
-          ∙ ap (λ n. cond n (not (is_ascii_digit next)) (ends_symbol lexicon.symbols (b ∷ bytes) next)) number
-          ∙ stops_digits next stop,
-    )
-
-number_before : (number next : ℕ) → IsNumber number → stops next ≡ true → Before (decimal number) next
-number_before number next small stop =
-    digits_before (decimal number) next (decimal_nonempty number (omega arith)) (digits_are number (omega arith)) stop
+name_before name next is stop = word_before lexicon name next (and_parts _ _ (and_parts (is_short_word name) _ is).0).0 stop
 
 item_before : (item : Item) (next : ℕ) → IsItem item → stops next ≡ true → Before (item_text item) next
-item_before (Constant number) next is stop = number_before number next is stop
+item_before (Constant number) next is stop = number_before lexicon number next is stop
 item_before (Named name) next is stop = name_before name next is stop
-
--- what each laid out before anything is so one after another
-each_laid : {X : Type 0} (pieces : X → List Piece) (P : X → Type 0) → ((x : X) (next : ℕ) → P x → Laid (pieces x) next)
-    → (xs : List X) (more : List Piece) (next : ℕ) → AllByRecursion P xs → Laid more next → Laid (flat_map pieces xs ++ more) next
-each_laid pieces P one [] more next all rest = rest
-each_laid pieces P one (x ∷ xs) more next all rest =
-    subst (λ ps. Laid ps next) (sym (append_assoc (pieces x) (flat_map pieces xs) more))
-    (append_laid lexicon orderly (pieces x) (flat_map pieces xs ++ more) next (one x _ all.0) (each_laid pieces P one xs more next all.1 rest))
 
 -- ---- statements
 
@@ -85,7 +43,7 @@ condition_laid : (condition : Condition) (next : ℕ) → IsCondition condition 
 unfolding lexicon
 condition_laid (Holds name) next is stop = (name_before name next is stop, tt)
 condition_laid (Equals name number) next is stop =
-    (name_before name 32 is.0 refl, (refl, ((refl, refl), (refl, (number_before number next is.1 stop, tt)))))
+    (name_before name 32 is.0 refl, (refl, ((refl, refl), (refl, (number_before lexicon number next is.1 stop, tt)))))
 
 right_laid : (right : Right) (next : ℕ) → IsRight right → stops next ≡ true → Laid (right_pieces right) next
 unfolding lexicon
@@ -135,7 +93,7 @@ statement_laid (When condition left item) next is = (
 
 test_laid : (test : Test) (next : ℕ) → IsTest test → stops next ≡ true → Laid (test_pieces test) next
 unfolding lexicon
-test_laid test next is stop = (name_before test.name 32 is.name refl, (refl, ((refl, refl), (refl, (number_before test.number next is.number stop, tt)))))
+test_laid test next is stop = (name_before test.name 32 is.name refl, (refl, ((refl, refl), (refl, (number_before lexicon test.number next is.number stop, tt)))))
 
 abbrev or_test : Test → List Piece
 or_test test = Blank 32 ∷ Text (codes "||") ∷ Blank 32 ∷ test_pieces test
@@ -160,7 +118,7 @@ more_tests_laid (test ∷ tests) next is stop = (
 )
 
 returned_laid : (returned : Returned) (next : ℕ) → IsReturned returned → stops next ≡ true → Laid (returned_pieces returned) next
-returned_laid (Fixed number) next is stop = (number_before number next is stop, tt)
+returned_laid (Fixed number) next is stop = (number_before lexicon number next is stop, tt)
 returned_laid (Read name) next is stop = (name_before name next is stop, tt)
 returned_laid (Tested []) next is stop = tt
 returned_laid (Tested (test ∷ tests)) next is stop =
@@ -176,7 +134,7 @@ static_laid name next is = ((refl, refl), (refl, ((refl, refl), (refl, (name_bef
 assignment_laid : (assignment : Assignment) (next : ℕ) → IsAssignment assignment → Laid (assignment_pieces assignment) next
 unfolding lexicon
 assignment_laid assignment next is =
-    (refl, (refl, (name_before assignment.name 32 is.name refl, (refl, ((refl, refl), (refl, (number_before assignment.number 59 is.number refl, ((refl, refl), (refl, tt)))))))))
+    (refl, (refl, (name_before assignment.name 32 is.name refl, (refl, ((refl, refl), (refl, (number_before lexicon assignment.number 59 is.number refl, ((refl, refl), (refl, tt)))))))))
 
 parameter_laid : (name : List ℕ) (next : ℕ) → IsName name → stops next ≡ true → Laid (parameter_pieces name) next
 unfolding lexicon
@@ -203,7 +161,7 @@ more_parameters_laid (name ∷ names) next is stop = (
 )
 
 parameters_laid : (names : List (List ℕ)) (next : ℕ) → AllByRecursion IsName names → stops next ≡ true → Laid (parameters_pieces names) next
-parameters_laid [] next is stop = (word_before (codes "void") next refl stop, tt)
+parameters_laid [] next is stop = (word_before lexicon (codes "void") next refl stop, tt)
 parameters_laid (name ∷ names) next is stop =
     append_laid lexicon orderly (parameter_pieces name) (flat_map next_parameter names) next
     (parameter_laid name (first_byte (flat_map next_parameter names) next) is.0 (first_of_parameters names next stop)) (more_parameters_laid names next is.1 stop)
@@ -214,7 +172,7 @@ local_laid name next is = (refl, (refl, ((refl, refl), (refl, (name_before name 
 
 locals_laid : (names : List (List ℕ)) (next : ℕ) → AllByRecursion IsName names → Laid (local_line_pieces names) next
 locals_laid [] next is = tt
-locals_laid (name ∷ names) next is = each_laid local_pieces IsName local_laid (name ∷ names) (Blank 10 ∷ []) next is (refl, tt)
+locals_laid (name ∷ names) next is = each_laid lexicon orderly local_pieces IsName local_laid (name ∷ names) (Blank 10 ∷ []) next is (refl, tt)
 
 -- ---- the unit
 
@@ -240,7 +198,7 @@ reset_laid unit next is = (
                   (refl, refl),
                   (
                     refl,
-                    each_laid assignment_pieces IsAssignment assignment_laid unit.assignments _ next is.assignments ((refl, refl), (refl, tt)),
+                    each_laid lexicon orderly assignment_pieces IsAssignment assignment_laid unit.assignments _ next is.assignments ((refl, refl), (refl, tt)),
                   ),
                 ),
               ),
@@ -293,10 +251,10 @@ step_laid : (unit : CUnit) (next : ℕ) → IsSpellable unit → Laid (step_piec
 step_laid unit next is =
     append_laid lexicon orderly (head_pieces unit) _ next (head_laid unit _ is)
     (append_laid lexicon orderly (local_line_pieces unit.locals) _ next (locals_laid unit.locals _ is.locals)
-    (each_laid statement_pieces IsStatement statement_laid unit.statements (end_pieces unit) next is.statements (end_laid unit next is)))
+    (each_laid lexicon orderly statement_pieces IsStatement statement_laid unit.statements (end_pieces unit) next is.statements (end_laid unit next is)))
 
 pub unit_laid : (unit : CUnit) (next : ℕ) → IsSpellable unit → Laid (pieces_of unit) next
 unfolding pieces_of
 unit_laid unit next is =
-    each_laid static_pieces IsName static_laid unit.statics (reset_pieces unit ++ step_pieces unit) next is.statics
+    each_laid lexicon orderly static_pieces IsName static_laid unit.statics (reset_pieces unit ++ step_pieces unit) next is.statics
     (append_laid lexicon orderly (reset_pieces unit) (step_pieces unit) next (reset_laid unit _ is) (step_laid unit next is))

@@ -4,14 +4,15 @@ use Rattle.std.proofs.Common.{◌≡◌, ℕ, Bool, true, false, not, cond, ◌|
 use Rattle.std.specs.Prelude.{bytes_eq, slice_index_or}
 use Rattle.std.specs.List.{list_any, position_or_len}
 use Rattle.std.proofs.lemmas.Bool.{cases_Bool, or_cases, or_from, and_parts, both_ways, not-true}
+use Rattle.dcv_observer.specs.Naming.{is_among}
+use Rattle.dcv_observer.proofs.Naming.{Name, differs, among_here, among_later, among_append_left, among_append_right, among_append_cases}
 use Rattle.dcv_c.specs.Tree.{Item, Constant, Named, Condition, Holds, Equals, Test, Right, Plain, Chosen, Statement, Assign, When}
 use Rattle.dcv_c.specs.Tree.{Returned, Fixed, Read, Tested, CUnit}
-use Rattle.dcv_c.specs.Meaning.{Numbers, is_among, item_number, holds, right_number, assigned, executed, passes, returned_number}
+use Rattle.dcv_c.specs.Meaning.{Numbers, item_number, holds, right_number, assigned, executed, passes, returned_number}
 use Rattle.dcv_c.specs.Meaning.{truth_number, numbers_before}
 use Rattle.dcv_c.specs.Rules.{keeps_item, keeps_condition, keeps_right, keeps_left, keeps_statement, keeps_statements, known_after, keeps_returned}
 use Rattle.dcv_c.specs.Rules.{keeps_new, keeps_apart, before_step, before_parameters, before_locals}
 use Rattle.dcv_c.specs.Laws.{NoLeftOverIsRead}
-use Rattle.dcv_c.proofs.Names.{Name, differs, among_here, among_later, among_append_left, among_append_right, among_append_cases}
 use Rattle.dcv_c.proofs.KeptRules.{all_kept, kept_parts, kept_rules}
 
 -- ---- what is read

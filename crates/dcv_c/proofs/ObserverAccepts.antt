@@ -1,46 +1,32 @@
 -- The observer of a file accepts what the file's table accepts.
-use Rattle.std.proofs.Common.{◌≡◌, ℕ, zero, suc, ◌+◌, ◌<◌, Bool, false, not, cond, nat_eq, List, [], ◌∷◌, ◌++◌, length, map, fold, get_or, Some}
+use Rattle.std.proofs.Common.{◌≡◌, ℕ, zero, suc, ◌+◌, ◌<◌, Bool, false, not, cond, nat_eq, List, [], ◌∷◌, ◌++◌, length, map, fold, get_or}
 use Rattle.std.proofs.Common.{refl, sym, ap, subst, ◌∙◌, arith}
-use Rattle.std.specs.Prelude.{slice_get, bytes_eq}
+use Rattle.std.specs.Prelude.{bytes_eq}
 use Rattle.std.specs.List.{AllByRecursion, position_or_len}
 use Rattle.std.proofs.lemmas.Bool.{or_from}
-use Rattle.std.proofs.lemmas.List.{length_push, get_or-map, get_or_default}
 use Rattle.std.proofs.lemmas.List.Elements.{recursion_from_All}
 use Rattle.std.proofs.lemmas.List.Sums.{fold-append}
-use Rattle.std.proofs.lemmas.Option.{get_or_from_slice_get}
 use Rattle.dcv_word.specs.Behaviour.{Word}
-use Rattle.dcv_word.specs.Letter.{bits_of, letters_of_width}
 use Rattle.dcv_word.specs.Laws.{LetterStandsAtItsBits}
 use Rattle.dcv_language.specs.Automaton.{accepts_from}
 use Rattle.dcv_language.specs.Language.{HaveSameBehaviours}
-use Rattle.dcv_language.specs.Table.{IsTable, no_state, next_in, is_accepting, automaton_of, table_accepts}
+use Rattle.dcv_language.specs.Table.{IsTable, next_in, automaton_of, table_accepts}
 use Rattle.dcv_language.proofs.Bounds.{next-below}
-use Rattle.dcv_automaton_text.specs.File.{Target, NodeLine, AutomatonFile}
-use Rattle.dcv_automaton_text.specs.Meaning.{state_at, states_at, state_of, table_of}
+use Rattle.dcv_automaton_text.specs.File.{AutomatonFile}
+use Rattle.dcv_automaton_text.specs.Meaning.{state_at, states_at, table_of}
 use Rattle.dcv_automaton_text.specs.Rules.{slot_of}
-use Rattle.dcv_automaton_text.proofs.GoodTables.{no_line, length-table_of, state-at}
-use Rattle.dcv_c.specs.Meaning.{Numbers, Store, is_among, zeros, assigned, executed, returned_number, truth_number, numbers_before, UnitState, stepped}
+use Rattle.dcv_automaton_text.proofs.GoodTables.{length-table_of}
+use Rattle.dcv_observer.specs.Naming.{is_among}
+use Rattle.dcv_observer.proofs.Naming.{Name}
+use Rattle.dcv_observer.proofs.ObserverNames.{among_no_nodes}
+use Rattle.dcv_automaton_file.proofs.ObservedFiles.{GoodRows, no_row, IsObservable}
+use Rattle.dcv_automaton_file.proofs.Leading.{states_count, row_at, table_leads, table_accepts_at}
+use Rattle.dcv_c.specs.Meaning.{Numbers, Store, zeros, assigned, executed, returned_number, truth_number, numbers_before, UnitState, stepped}
 use Rattle.dcv_c.specs.Meaning.{automaton_of_unit, unit_accepts}
 use Rattle.dcv_c.specs.Observer.{next_name, state_name, node_name, parameter_name, node_statement, state_statement, last_statement}
 use Rattle.dcv_c.specs.Observer.{accepting_tests, returned_for, observer_of}
-use Rattle.dcv_c.proofs.Names.{Name}
-use Rattle.dcv_c.proofs.ObservedFiles.{GoodRows, no_row, IsObservable}
-use Rattle.dcv_c.proofs.ObserverNames.{names_of_locals, among_no_nodes}
+use Rattle.dcv_c.proofs.ObserverNames.{names_of_locals}
 use Rattle.dcv_c.proofs.ObserverRuns.{assigned_there, assigned_elsewhere, Stands, stands_with_next, nodes_stand, rows_lead, answer_stands}
-
--- a state for each line
-states_count : (names : List (List ℕ)) (letter : List Bool) (lines : List NodeLine) (states : List ℕ)
-    → length (fold (λ states (line : NodeLine). states ++ state_at states (cond (get_or letter (slot_of names line.name) false) line.hi line.lo) ∷ []) states lines)
-    ≡ length states + length lines
-states_count names letter [] states = omega arith
-states_count names letter (line ∷ lines) states =
-    let next = state_at states (cond (get_or letter (slot_of names line.name) false) line.hi line.lo) in
-    states_count names letter lines (states ++ next ∷ []) ∙ omega (arith, length_push states next)
-
-some_below : (letters : List (List Bool)) (place : ℕ) (letter : List Bool) → slice_get letters place ≡ Some letter → place < length letters
-some_below [] place letter is = absurd cc
-some_below (one ∷ letters) zero letter is = omega arith
-some_below (one ∷ letters) (suc place) letter is = omega (arith, some_below letters place letter is)
 
 -- ---- parameters
 
@@ -55,26 +41,6 @@ place_of_parameter [] name = refl
 place_of_parameter (n ∷ names) name = ap (λ k. cond (not (bytes_eq name n)) (1 + k) 0) (place_of_parameter names name)
 
 module _ (file : AutomatonFile) (good : IsObservable file) (stands : LetterStandsAtItsBits) where
-  abbrev row_at : ℕ → Target
-  row_at state = (get_or file.state_lines state no_row).row
-
-  state_there : (state : ℕ) → state < length file.state_lines → get_or (table_of file) state no_state ≡ state_of file (get_or file.state_lines state no_row)
-  state_there state within = state-at file state no_state within ∙ ap (state_of file) (get_or_default file.state_lines state no_line no_row within)
-
-  -- the table leads as the lines do
-  table_leads : (state : ℕ) (letter : List Bool) → state < length file.state_lines → length letter ≡ length file.names
-      → next_in (table_of file) state letter ≡ state_at (states_at file.names letter file.node_lines) (row_at state)
-  table_leads state letter within width =
-      let value = λ (one : List Bool). state_at (states_at file.names one file.node_lines) (row_at state) in
-      let letters = letters_of_width (length file.names) in
-      let there = subst (λ size. slice_get (letters_of_width size) (bits_of letter) ≡ Some letter) width (stands letter) in
-      ap (λ state. get_or state.row (bits_of letter) 0) (state_there state within)
-      ∙ get_or-map value letters (bits_of letter) letter 0 (some_below letters (bits_of letter) letter there)
-      ∙ ap value (get_or_from_slice_get letters (bits_of letter) letter letter there)
-
-  table_accepts_at : (state : ℕ) → state < length file.state_lines → is_accepting (table_of file) state ≡ (get_or file.state_lines state no_row).accepting
-  table_accepts_at state within = ap (λ state. state.accepting) (state_there state within)
-
   -- ---- a step
 
   no_local : (name : Name) → bytes_eq name next_name ≡ false → ((k : ℕ) → bytes_eq name (node_name k) ≡ false) → is_among (observer_of file).locals name ≡ false
@@ -117,12 +83,12 @@ module _ (file : AutomatonFile) (good : IsObservable file) (stands : LetterStand
       let third = rows_lead file.names letter state states most file.state_lines 0 state (omega (arith, count, good.few_lines))
       (subst (λ n. GoodRows most n 0 file.state_lines) (sym count) good.rows) within (omega arith) (fold executed begin lines) second in
       let last = fold executed (fold executed begin lines) rows in
-      let next = state_at states (row_at state) in
+      let next = state_at states (row_at file stands state) in
       let after = assigned last state_name (last next_name) in
       let next_is : after next_name ≡ next = assigned_elsewhere last state_name (last next_name) next_name refl ∙ third.next_is in
       let same : fold executed begin (lines ++ (rows ++ last_statement ∷ [])) ≡ after =
       fold-append executed begin lines (rows ++ last_statement ∷ []) ∙ fold-append executed (fold executed begin lines) rows (last_statement ∷ []) in
-      let lead : next ≡ next_in (table_of file) state letter = sym (table_leads state letter within width) in
+      let lead : next ≡ next_in (table_of file) state letter = sym (table_leads file stands state letter within width) in
       let done : IsIn (stepped (observer_of file) zeros (state ∷ []) letter) next =
       record {
         store = ap (λ (now : Numbers). now state_name ∷ []) same ∙ ap (λ n. n ∷ []) (assigned_there last state_name (last next_name) ∙ third.next_is);
@@ -152,7 +118,7 @@ module _ (file : AutomatonFile) (good : IsObservable file) (stands : LetterStand
     accepts_so : (word : Word) (at : UnitState) (state : ℕ) → IsIn at state → state < length file.state_lines
         → AllByRecursion (λ letter. length letter ≡ length file.names) word
         → accepts_from (automaton_of_unit (observer_of file)) at word ≡ accepts_from (automaton_of (table_of file)) state word
-    accepts_so [] at state is within widths = is.answer ∙ sym (table_accepts_at state within)
+    accepts_so [] at state is within widths = is.answer ∙ sym (table_accepts_at file stands state within)
     accepts_so (letter ∷ word) at state is within widths =
         accepts_so word (stepped (observer_of file) zeros at.store letter) (next_in (table_of file) state letter)
         (step_from at.store state letter is.store within widths.0) (next_below state letter within) widths.1

@@ -13,14 +13,14 @@ use Rattle.dcv_automaton_text.proofs.Words.{digits_are}
 use Rattle.dcv_lexer.specs.Lexicon.{is_word, is_word_byte, word_class}
 use Rattle.dcv_observer.specs.Classes.{name as plain_name, is_short_word, class_of}
 use Rattle.dcv_observer.proofs.Limits.{short_word}
+use Rattle.dcv_observer.specs.Naming.{is_among}
+use Rattle.dcv_observer.proofs.Naming.{one_name}
+use Rattle.dcv_automaton_file.proofs.ObservedFiles.{IsBelow, GoodLines, GoodRows, IsObservable}
 use Rattle.dcv_c.specs.Classes.{lexicon}
 use Rattle.dcv_c.specs.Tree.{Test, Statement}
-use Rattle.dcv_c.specs.Meaning.{is_among}
 use Rattle.dcv_c.specs.Form.{IsName, IsItem, IsTest, IsReturned, IsStatement, IsSpellable}
 use Rattle.dcv_c.specs.Observer.{state_name, next_name, node_name, parameter_name, reset_name, step_name, item_of, node_statement, state_statement}
 use Rattle.dcv_c.specs.Observer.{last_statement, state_test, accepting_tests, returned_for, node_local, observer_of}
-use Rattle.dcv_c.proofs.Names.{one_name}
-use Rattle.dcv_c.proofs.ObservedFiles.{IsBelow, GoodLines, GoodRows, IsObservable}
 
 -- ---- names
 

@@ -10,10 +10,10 @@ use Rattle.dcv_automaton_text.specs.Meaning.{table_of}
 use Rattle.dcv_automaton_file.specs.File.{file_of}
 use Rattle.dcv_automaton_file.specs.Laws.{FileHasTheTable}
 use Rattle.dcv_dfa.specs.Laws.{StatesMakeATable, TableAcceptsAsTheStates}
+use Rattle.dcv_automaton_file.proofs.ObservedFiles.{IsObservable, good_is_observable, automaton_is_observable}
 use Rattle.dcv_c.specs.Meaning.{width_of}
 use Rattle.dcv_c.specs.Observer.{parameter_name, observer_of}
 use Rattle.dcv_c.specs.Laws.{Observes, ObserverOfFile, ObserverOfAutomaton}
-use Rattle.dcv_c.proofs.ObservedFiles.{IsObservable, good_is_observable, automaton_is_observable}
 use Rattle.dcv_c.proofs.ObserverAccepts.{observer_accepts}
 use Rattle.dcv_c.proofs.ObserverRules.{observer_is_well_named}
 use Rattle.dcv_c.proofs.ObserverForms.{observer_is_spellable}

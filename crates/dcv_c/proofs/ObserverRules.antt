@@ -7,17 +7,17 @@ use Rattle.std.specs.List.{filter}
 use Rattle.std.proofs.lemmas.Bool.{cases_lt, or_cases, and_from, false_from_ne_true, false≢true, both_ways, lt-ltb}
 use Rattle.std.proofs.lemmas.List.{length-map}
 use Rattle.dcv_automaton_text.specs.File.{Target, ToState, ToNode, NodeLine, StateLine, AutomatonFile}
+use Rattle.dcv_observer.specs.Naming.{is_among, AreDistinct}
+use Rattle.dcv_observer.proofs.Naming.{Name, one_name, among_here, among_later, among_append_cases}
+use Rattle.dcv_observer.proofs.ObserverNames.{node_names, each_node, next_is_no_node, among_no_nodes, nodes_are_distinct, node_is_among, among_no_variables, variables_are_distinct, variable_is_among, each_variable}
+use Rattle.dcv_automaton_file.proofs.ObservedFiles.{IsBelow, GoodLines, GoodRows, IsObservable}
 use Rattle.dcv_c.specs.Tree.{Test, Statement, CUnit}
-use Rattle.dcv_c.specs.Meaning.{is_among}
 use Rattle.dcv_c.specs.Rules.{most_parameters, keeps_new, keeps_apart, keeps_parameters, keeps_item, keeps_left, keeps_statement, keeps_statements}
 use Rattle.dcv_c.specs.Rules.{keeps_returned, IsWellNamed}
 use Rattle.dcv_c.specs.Observer.{state_name, next_name, node_name, parameter_name, reset_name, step_name, item_of, first_statement, node_statement}
 use Rattle.dcv_c.specs.Observer.{state_statement, last_statement, state_test, accepting_tests, returned_for, observer_of}
-use Rattle.dcv_c.proofs.ObservedFiles.{IsBelow, GoodLines, GoodRows, IsObservable}
-use Rattle.dcv_c.proofs.Names.{Name, one_name, AreDistinct, among_here, among_later, among_append_cases}
 use Rattle.dcv_c.proofs.KeptRules.{all_kept, kept_append, KeepsRules, keeps}
-use Rattle.dcv_c.proofs.ObserverNames.{node_names, names_of_locals, each_node, next_is_no_node, among_no_nodes, nodes_are_distinct, node_is_among}
-use Rattle.dcv_c.proofs.ObserverNames.{among_no_parameters, parameters_are_distinct, parameter_is_among, each_parameter}
+use Rattle.dcv_c.proofs.ObserverNames.{names_of_locals}
 
 -- ---- names that are declared
 
@@ -162,7 +162,7 @@ module _ (file : AutomatonFile) (good : IsObservable file) where
   first = state_name ∷ reset_name ∷ step_name ∷ []
 
   no_parameter_before : (name : Name) → is_among parameters name ≡ true → is_among first name ≡ false
-  no_parameter_before = each_parameter (λ name. is_among first name ≡ false) (λ name. refl) file.names
+  no_parameter_before = each_variable (λ name. is_among first name ≡ false) (λ name. refl) file.names
 
   not_before : (name : Name) → is_among first name ≡ false → ((other : Name) → bytes_eq name (parameter_name other) ≡ false)
       → is_among (first ++ parameters) name ≡ false
@@ -170,7 +170,7 @@ module _ (file : AutomatonFile) (good : IsObservable file) where
       false_from_ne_true (is_among (first ++ parameters) name) (λ there.
       elim (among_append_cases first parameters name there) [
         | inl before ↦ both_ways (is_among first name) none before
-        | inr parameter ↦ both_ways (is_among parameters name) (among_no_parameters name file.names other) parameter
+        | inr parameter ↦ both_ways (is_among parameters name) (among_no_variables name file.names other) parameter
       ])
 
   no_local_before : (name : Name) → is_among (next_name ∷ node_names 0 file.node_lines) name ≡ true → is_among (first ++ parameters) name ≡ false
@@ -210,7 +210,7 @@ module _ (file : AutomatonFile) (good : IsObservable file) where
         next = refl;
         parameters = λ name among.
             among_later next_name (state_name ∷ parameters) (parameter_name name)
-            (among_later state_name parameters (parameter_name name) (parameter_is_among file.names name among));
+            (among_later state_name parameters (parameter_name name) (variable_is_among file.names name among));
         nodes = λ k below. absurd (omega (arith, below));
       }
 
@@ -238,7 +238,7 @@ module _ (file : AutomatonFile) (good : IsObservable file) where
         all_assigned = refl;
         step = refl;
         parameters = parameters_keep parameters first 0 (omega (arith, length-map file.names parameter_name, good.names.count))
-            (parameters_are_distinct file.names good.names.differ) no_parameter_before;
+            (variables_are_distinct file.names good.names.differ) no_parameter_before;
         locals = ap (λ locals. all_kept (keeps_apart (first ++ parameters) locals)) observer_locals
             ∙ apart_keep (next_name ∷ node_names 0 file.node_lines) (first ++ parameters) locals_distinct no_local_before;
         statements = statements_kept;

@@ -1,27 +1,23 @@
 -- A step of a file's observer, executed statement by statement.
 --     Stands now states      the numbers of the state before the step, of the parameters, and of the nodes so far
-use Rattle.std.proofs.Common.{◌≡◌, ℕ, zero, suc, ◌+◌, ◌<◌, ◌≤◌, Bool, true, false, not, cond, ◌||◌, nat_eq, List, [], ◌∷◌, ◌++◌, length, map, fold, get_or}
+use Rattle.std.proofs.Common.{◌≡◌, ℕ, zero, suc, ◌+◌, ◌<◌, ◌≤◌, Bool, true, false, not, cond, nat_eq, List, [], ◌∷◌, ◌++◌, length, map, fold, get_or}
 use Rattle.std.proofs.Common.{inl, inr, refl, sym, ap, subst, ◌∙◌, arith}
 use Rattle.std.specs.Prelude.{bytes_eq}
-use Rattle.std.specs.List.{list_any, filter}
+use Rattle.std.specs.List.{list_any}
 use Rattle.std.proofs.lemmas.Bool.{cases_lt}
 use Rattle.std.proofs.lemmas.List.{length_push, get_or_append_left, get_or_push}
 use Rattle.dcv_automaton_text.specs.File.{Target, ToState, ToNode, NodeLine, StateLine}
 use Rattle.dcv_automaton_text.specs.Meaning.{state_at}
 use Rattle.dcv_automaton_text.specs.Rules.{slot_of}
+use Rattle.dcv_observer.specs.Naming.{is_among}
+use Rattle.dcv_observer.proofs.Naming.{Name, is_itself}
+use Rattle.dcv_observer.proofs.ObserverNames.{node_is_not_next, node_is_no_other}
+use Rattle.dcv_automaton_file.proofs.ObservedFiles.{IsBelow, GoodLines, GoodRows, no_row}
+use Rattle.dcv_automaton_file.proofs.Leading.{same_number, other_number, passes_where_accepting}
 use Rattle.dcv_c.specs.Tree.{Test}
-use Rattle.dcv_c.specs.Meaning.{Numbers, is_among, item_number, assigned, executed, passes, returned_number, truth_number}
+use Rattle.dcv_c.specs.Meaning.{Numbers, item_number, assigned, executed, passes, returned_number, truth_number}
 use Rattle.dcv_c.specs.Observer.{state_name, next_name, node_name, parameter_name, item_of, node_statement, state_statement, state_test}
 use Rattle.dcv_c.specs.Observer.{accepting_tests, returned_for}
-use Rattle.dcv_c.proofs.ObservedFiles.{IsBelow, GoodLines, GoodRows, no_row}
-use Rattle.dcv_c.proofs.Names.{Name, is_itself}
-use Rattle.dcv_c.proofs.ObserverNames.{node_is_not_next, node_is_no_other}
-
-pub same_number : (n : ℕ) → nat_eq n n ≡ true
-same_number n = grind arith
-
-pub other_number : (n m : ℕ) → (n ≡ m → ⊥) → nat_eq n m ≡ false
-other_number n m differ = grind (arith, differ)
 
 -- ---- assignments
 
@@ -149,58 +145,6 @@ module _ (names : List Name) (letter : List Bool) (state : ℕ) where
 -- ---- what is returned
 
 module _ (now : Numbers) (next : ℕ) (at : now next_name ≡ next) where
-  passes_at : (line : StateLine) → passes now (state_test line) ≡ nat_eq next line.number
-  passes_at line = ap (λ n. nat_eq n line.number) at
-
-  -- one line more: its test is among those that are asked where it accepts
-  one_more : (line : StateLine) (lines : List StateLine)
-      → list_any (passes now) (accepting_tests (line ∷ lines))
-      ≡ cond line.accepting (nat_eq next line.number || list_any (passes now) (accepting_tests lines)) (list_any (passes now) (accepting_tests lines))
-  one_more line lines = by line.accepting
-    where
-      by : (b : Bool)
-          → list_any (passes now) (map state_test (cond b (line ∷ filter (λ (line : StateLine). line.accepting) lines) (filter (λ (line : StateLine). line.accepting) lines)))
-          ≡ cond b (nat_eq next line.number || list_any (passes now) (accepting_tests lines)) (list_any (passes now) (accepting_tests lines))
-      by true = λ i. passes_at line i || list_any (passes now) (accepting_tests lines)
-      by false = refl
-
-  skipped : (line : StateLine) (lines : List StateLine) → (next ≡ line.number → ⊥)
-      → list_any (passes now) (accepting_tests (line ∷ lines)) ≡ list_any (passes now) (accepting_tests lines)
-  skipped line lines differ =
-      one_more line lines
-      ∙ ap (λ same. cond line.accepting (same || list_any (passes now) (accepting_tests lines)) (list_any (passes now) (accepting_tests lines))) (other_number next line.number differ)
-      ∙ either line.accepting
-    where
-      either : (b : Bool)
-          → cond b (list_any (passes now) (accepting_tests lines)) (list_any (passes now) (accepting_tests lines)) ≡ list_any (passes now) (accepting_tests lines)
-      either true = refl
-      either false = refl
-
-  none_passes : (most nodes : ℕ) (lines : List StateLine) (first : ℕ) → GoodRows most nodes first lines → next < first
-      → list_any (passes now) (accepting_tests lines) ≡ false
-  none_passes most nodes [] first good before_it = refl
-  none_passes most nodes (line ∷ lines) first good before_it =
-      let number = good.0.number_is in
-      skipped line lines (λ same. omega (arith, same, number)) ∙ none_passes most nodes lines (first + 1) good.1 (omega arith)
-
-  tests_stand : (most nodes : ℕ) (lines : List StateLine) (first place : ℕ) → GoodRows most nodes first lines → next ≡ first + place
-      → list_any (passes now) (accepting_tests lines) ≡ (get_or lines place no_row).accepting
-  tests_stand most nodes [] first place good is = refl
-  tests_stand most nodes (line ∷ lines) first zero good is =
-      let same : next ≡ line.number = omega (arith, is, good.0.number_is) in
-      let none = none_passes most nodes lines (first + 1) good.1 (omega (arith, is)) in
-      one_more line lines
-      ∙ (λ i. cond line.accepting (nat_eq (same i) line.number || none i) (none i))
-      ∙ ap (λ b. cond line.accepting (b || false) false) (same_number line.number)
-      ∙ itself line.accepting
-    where
-      itself : (b : Bool) → cond b true false ≡ b
-      itself true = refl
-      itself false = refl
-  tests_stand most nodes (line ∷ lines) first (suc place) good is =
-      let number = good.0.number_is in
-      skipped line lines (λ same. omega (arith, is, same, number)) ∙ tests_stand most nodes lines (first + 1) place good.1 (omega (arith, is))
-
   returned_stands : (tests : List Test) → not (nat_eq (returned_number now (returned_for tests)) 0) ≡ list_any (passes now) tests
   returned_stands [] = refl
   returned_stands (test ∷ tests) = one_for (list_any (passes now) (test ∷ tests))
@@ -211,4 +155,6 @@ module _ (now : Numbers) (next : ℕ) (at : now next_name ≡ next) where
 
   pub answer_stands : (most nodes : ℕ) (lines : List StateLine) → GoodRows most nodes 0 lines
       → not (nat_eq (returned_number now (returned_for (accepting_tests lines))) 0) ≡ (get_or lines next no_row).accepting
-  answer_stands most nodes lines good = returned_stands (accepting_tests lines) ∙ tests_stand most nodes lines 0 next good (let e : next ≡ 0 + next = omega arith in e)
+  answer_stands most nodes lines good =
+      returned_stands (accepting_tests lines)
+      ∙ passes_where_accepting next (passes now) state_test (λ line. ap (λ n. nat_eq n line.number) at) most nodes lines good

@@ -1,40 +1,17 @@
 -- What is made of an automaton is its observer.
-use Rattle.std.proofs.Common.{◌≡◌, ℕ, ◌+◌, ◌≤◌, List, [], ◌∷◌, ◌++◌, length, map, get_or, refl, ap, ◌∙◌, arith}
-use Rattle.std.specs.List.{All, range_with_len, enumerate_from}
-use Rattle.std.proofs.lemmas.Option.{slice_get-get_or}
-use Rattle.dcv_dfa.specs.declared.node_lines.Child.{Child}
-use Rattle.dcv_dfa.specs.declared.node_lines.Child.TheVariants.{State, Node as NodeAt}
+use Rattle.std.proofs.Common.{◌≡◌, ℕ, ◌+◌, List, [], ◌∷◌, ◌++◌, length, map, refl, ap, ◌∙◌}
+use Rattle.std.specs.List.{range_with_len, enumerate_from}
 use Rattle.dcv_dfa.specs.declared.node_lines.NodeLine.{NodeLine}
-use Rattle.dcv_dfa.specs.NodeLines.{NodeLinesValue, node_lines_of, IsBelow, AreReduced}
+use Rattle.dcv_dfa.specs.NodeLines.{node_lines_of}
 use Rattle.dcv_dfa.specs.Raw.{RawValue}
 use Rattle.dcv_automaton_text.specs.File.{AccessLine, SuffixLine}
-use Rattle.dcv_automaton_file.specs.File.{node_line, file_of}
+use Rattle.dcv_automaton_file.specs.File.{node_line, file_of, state_lines}
 use Rattle.dcv_c.specs.declared.unit.Reset.{Reset}
 use Rattle.dcv_c.specs.declared.unit.Step.{Step}
 use Rattle.dcv_c.specs.Seen.{all_names, seen_assignment, seen_statement, seen_returned, seen_unit}
 use Rattle.dcv_c.specs.Observer.{state_name, next_name, node_name, parameter_name, reset_name, step_name, node_local, first_statement, node_statement}
 use Rattle.dcv_c.specs.Observer.{state_statement, last_statement, accepting_tests, returned_for, observer_of}
-use Rattle.dcv_c.specs.Building.{observer_names, state_lines, Fits}
-
-pub below_more : (a b c d : ℕ) (child : Child) → a ≤ c → b ≤ d → IsBelow a b child → IsBelow c d child
-below_more a b c d (State state) first second below = omega (arith, below, first)
-below_more a b c d (NodeAt number) first second below = omega (arith, below, second)
-
-pub all_below_more : (a b c d : ℕ) (rows : List Child) → a ≤ c → b ≤ d → All (IsBelow a b) rows → All (IsBelow c d) rows
-all_below_more a b c d rows first second below = λ k e within. below_more a b c d (get_or rows k e) first second (below k e within)
-
--- each line of a reduced diagram fits
-pub lines_fit : (slots states : ℕ) (all : NodeLinesValue) → states ≤ 32000 → AreReduced slots states all → All (Fits slots (length all.lines)) all.lines
-lines_fit slots states all few is = λ k d within.
-    let line = get_or all.lines k d in
-    let one = is.lines k line (slice_get-get_or all.lines k d within) in
-    record {
-      slot = one.slot;
-      hi = below_more states k 32768 (length all.lines) line.hi (omega (arith, few)) (omega (arith, within)) one.hi_below;
-      lo = below_more states k 32768 (length all.lines) line.lo (omega (arith, few)) (omega (arith, within)) one.lo_below;
-    }
-
--- ---- the whole unit
+use Rattle.dcv_c.specs.Building.{observer_names}
 
 pub locals_are : (names : List (List ℕ)) (first : ℕ) (lines : List NodeLine)
     → map node_name (range_with_len first (length lines)) ≡ map node_local (map (node_line names) (enumerate_from first lines))

@@ -1,47 +1,22 @@
 -- What is put of an observer, line by line, is its text.
-use Rattle.std.proofs.Common.{◌≡◌, ℕ, ◌+◌, ◌-◌, ◌<◌, ◌≤◌, Bool, true, false, ◌||◌, if◌then◌else◌, cond, List, [], ◌∷◌, ◌++◌, length, map, take, get_or, refl, sym, ap, subst}
+use Rattle.std.proofs.Common.{◌≡◌, ℕ, ◌+◌, ◌-◌, ◌<◌, ◌≤◌, Bool, true, false, ◌||◌, if◌then◌else◌, cond, List, [], ◌∷◌, ◌++◌, length, map, take, get_or, refl, sym, ap}
 use Rattle.std.proofs.Common.{◌∙◌, arith, codes}
 use Rattle.std.specs.Fmt.{decimal}
-use Rattle.std.specs.List.{All, range_with_len, enumerate_from, flat_map, join_by}
+use Rattle.std.specs.List.{range_with_len, enumerate_from, flat_map, join_by}
 use Rattle.std.proofs.lemmas.Grind.{flat_map-append}
 use Rattle.std.proofs.lemmas.List.{append_assoc, append-nil, map_push, get_or-map, length-map, get_or-append-add, get_or_append_left}
 use Rattle.std.proofs.lemmas.List.FromFn.{length-range_with_len, get_or-range_with_len}
 use Rattle.dcv_syntax.specs.declared.names.Name.{Name}
-use Rattle.dcv_dfa.specs.Auto.{IsAuto, count_of_nodes}
-use Rattle.dcv_dfa.specs.NodeLines.{NodeLinesValue, node_lines_of, numbered, IsBelow, AreReduced}
-use Rattle.dcv_dfa.specs.Raw.{RawValue, IsRaw}
-use Rattle.dcv_dfa.proofs.Reduced.{has_node_lines}
+use Rattle.dcv_dfa.specs.NodeLines.{NodeLinesValue, node_lines_of}
+use Rattle.dcv_dfa.specs.Raw.{RawValue}
 use Rattle.dcv_automaton_text.specs.File.{AccessLine, SuffixLine}
-use Rattle.dcv_automaton_file.specs.File.{texts_of, node_line, file_of}
+use Rattle.dcv_automaton_file.specs.File.{texts_of, node_line, file_of, state_lines}
+use Rattle.dcv_automaton_file.proofs.Rows.{range_more, numbered_more}
 use Rattle.dcv_c.specs.Tree.{Test, Statement}
 use Rattle.dcv_c.specs.Layout.{static_line, assignment_line, parameters_text, local_lines, statement_line, test_text, returned_text, text_of}
 use Rattle.dcv_c.specs.Observer.{state_name, next_name, node_name, parameter_name, node_local, first_statement, node_statement, state_statement}
 use Rattle.dcv_c.specs.Observer.{last_statement, accepting_tests, returned_for, observer_of}
-use Rattle.dcv_c.specs.Building.{state_lines, Fits}
-use Rattle.dcv_c.proofs.OfAuto.{all_below_more, lines_fit, locals_are}
-use Rattle.dcv_c.proofs.Rows.{range_more, numbered_more}
-
--- ---- the lines that are put
-
-pub record AreLined (slots states : ℕ) (all : NodeLinesValue) : Type 0 where
-  pub count : length all.lines ≤ 1000000
-  pub fit : All (Fits slots (length all.lines)) all.lines
-  pub row_count : length all.rows ≡ states
-  pub rows : All (IsBelow 32768 (length all.lines)) all.rows
-
--- those of an automaton with few states and few nodes
-pub are_lined : (raw : RawValue) (all : NodeLinesValue) → IsRaw raw → IsAuto raw → length raw.rows ≤ 32000 → count_of_nodes raw ≤ 1000000
-    → all ≡ node_lines_of raw → AreLined raw.arena.slots (length raw.rows) all
-are_lined raw all is auto few nodes same =
-    let lines = node_lines_of raw in
-    let known = has_node_lines raw is auto.nodes (numbered raw.arena raw.rows) refl in
-    let reduced : AreReduced raw.arena.slots (length raw.rows) lines = known.reduced in
-    subst (AreLined raw.arena.slots (length raw.rows)) (sym same) (record {
-      count = omega (arith, known.count, nodes);
-      fit = lines_fit raw.arena.slots (length raw.rows) lines few reduced;
-      row_count = reduced.count;
-      rows = all_below_more (length raw.rows) (length lines.lines) 32768 (length lines.lines) lines.rows (omega (arith, few)) (omega arith) reduced.rows;
-    })
+use Rattle.dcv_c.proofs.OfAuto.{locals_are}
 
 -- ---- names
 

@@ -1,11 +1,11 @@
 -- What each rule of the grammar stands for, by what its body's symbols stand for: an equation for each body.
 --     Part                  what a symbol stands for
 --     RULE_part parts       what a rule stands for, by the parts of its body
---     parts_of trees        what derivation trees stand for
-use Rattle.std.specs.Prelude.{◌≡◌, ℕ, List, [], ◌∷◌, Option, Some, None, slice_index_or}
+--     scheme                what derivation trees stand for
+--     Spells text placed    the text stands for the placed unit
+use Rattle.std.specs.Prelude.{ℕ, List, [], ◌∷◌, Option, Some, None, slice_index_or}
 use Rattle.dcv_lexer.specs.Cuts.{Token}
-use Rattle.dcv_grammar.specs.Trees.{Nodes, done, leaf, node, IsTree}
-use Rattle.dcv_observer.specs.Items.{HasItems, token_class}
+use Rattle.dcv_observer.specs.Scheme.{Scheme, StandsFor}
 use Rattle.dcv_c.specs.Classes.{lexicon}
 use Rattle.dcv_c.specs.Language.{language}
 use Rattle.dcv_c.specs.Placed.{PlacedUnit, PlacedAssignment, PlacedStatement, PlacedAssign, PlacedWhen, PlacedRight, PlacedPlain, PlacedChosen}
@@ -192,16 +192,10 @@ actions =
 abbrev pub action : ℕ → List Part → Part
 action rule parts = (slice_index_or actions rule (λ parts. Nothing)) parts
 
--- what derivation trees stand for, from left to right
-abbrev pub parts_of : Nodes Token → List Part
-parts_of done = []
-parts_of (leaf token next) = AToken token ∷ parts_of next
-parts_of (node rule inner next) = action rule (parts_of inner) ∷ parts_of next
+-- what derivation trees stand for
+abbrev pub scheme : Scheme Part
+scheme = record { lexicon = lexicon; grammar = language; of_token = AToken; action = action }
 
--- the tokens have a derivation that stands for the unit
-abbrev pub SpellsUnit : List Token → PlacedUnit → Type 0
-SpellsUnit tokens placed = (tree : Nodes Token) × IsTree language (token_class lexicon) tokens tree × (parts_of tree ≡ AUnit placed ∷ [])
-
--- the text is cut into such tokens
+-- the text stands for the unit
 abbrev pub Spells : List ℕ → PlacedUnit → Type 0
-Spells text placed = (items : List Token) × HasItems lexicon text items × SpellsUnit items placed
+Spells text placed = StandsFor scheme text (AUnit placed)

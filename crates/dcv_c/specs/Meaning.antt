@@ -14,11 +14,9 @@ use Rattle.std.specs.List.{list_any, position_or_len}
 use Rattle.dcv_word.specs.Behaviour.{Word}
 use Rattle.dcv_language.specs.Language.{Language}
 use Rattle.dcv_language.specs.Automaton.{Automaton, state_after}
+use Rattle.dcv_observer.specs.Naming.{is_among}
 use Rattle.dcv_c.specs.Tree.{Item, Constant, Named, Condition, Holds, Equals, Test, Right, Plain, Chosen, Statement, Assign, When}
 use Rattle.dcv_c.specs.Tree.{Returned, Fixed, Read, Tested, Assignment, CUnit}
-
-abbrev pub is_among : List (List ℕ) → List ℕ → Bool
-is_among names name = list_any (bytes_eq name) names
 
 -- ---- statements
 

@@ -5,25 +5,12 @@
 --     state_statement line      that of a state
 --     returned_for tests        what a step returns, by the tests of the states that accept
 use Rattle.std.specs.Prelude.{ℕ, List, [], ◌∷◌, ◌++◌, map, codes}
-use Rattle.std.specs.Fmt.{decimal}
 use Rattle.std.specs.List.{filter}
-use Rattle.std.specs.Str.{byte}
 use Rattle.dcv_automaton_text.specs.File.{Target, ToState, ToNode, NodeLine, StateLine, AutomatonFile}
+pub use Rattle.dcv_observer.specs.Naming.{state_name, next_name, node_name, variable_name as parameter_name}
 use Rattle.dcv_c.specs.Tree.{Item, Constant, Named, Holds, Equals, Test, Plain, Chosen, Statement, Assign, When, Returned, Fixed, Tested, CUnit}
 
 -- ---- names
-
-abbrev pub state_name : List ℕ
-state_name = codes "st"
-
-abbrev pub next_name : List ℕ
-next_name = codes "nx"
-
-abbrev pub node_name : ℕ → List ℕ
-node_name number = byte "n" ∷ decimal number
-
-abbrev pub parameter_name : List ℕ → List ℕ
-parameter_name name = codes "v_" ++ name
 
 abbrev pub reset_name : List ℕ
 reset_name = codes "observer_reset"

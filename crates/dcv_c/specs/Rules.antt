@@ -4,14 +4,15 @@
 --     words_of placed            the tokens of these
 --     IsNamesFault placed at     the first that breaks a rule begins there
 --     IsWellNamed unit           none does
-use Rattle.std.specs.Prelude.{◌≡◌, ℕ, ◌+◌, Bool, true, not, ◌&&◌, nat_lt, IsTrue, List, [], ◌∷◌, ◌++◌, Option, Some, map, option_map, find}
-use Rattle.std.specs.List.{list_all, flat_map, zip}
+use Rattle.std.specs.Prelude.{◌≡◌, ℕ, ◌+◌, Bool, true, not, ◌&&◌, nat_lt, IsTrue, List, [], ◌∷◌, ◌++◌, Some, map}
+use Rattle.std.specs.List.{list_all, flat_map}
 use Rattle.dcv_lexer.specs.Cuts.{Token}
+use Rattle.dcv_observer.specs.Naming.{is_among}
+use Rattle.dcv_observer.specs.Subsets.{first_broken}
 use Rattle.dcv_c.specs.Tree.{Item, Constant, Named, Condition, Holds, Equals, Test, Right, Plain, Chosen, Statement, Assign, When}
 use Rattle.dcv_c.specs.Tree.{Returned, Fixed, Read, Tested, Assignment, CUnit}
 use Rattle.dcv_c.specs.Placed.{PlacedUnit, PlacedAssignment, PlacedStatement, PlacedAssign, PlacedWhen, PlacedRight, PlacedPlain, PlacedChosen}
 use Rattle.dcv_c.specs.Placed.{PlacedReturned, PlacedFixed, PlacedRead, PlacedTested, PlacedTest, unit_of}
-use Rattle.dcv_c.specs.Meaning.{is_among}
 
 abbrev pub most_parameters : ℕ
 most_parameters = 16
@@ -129,10 +130,6 @@ words_of placed =
     ++ (placed.reset_end ∷ placed.step ∷ placed.parameters
     ++ (placed.locals
     ++ (flat_map words_of_statement placed.statements ++ words_of_returned placed.returned))))
-
--- the offset of the first of some words that breaks a rule
-abbrev pub first_broken : List Token → List Bool → Option ℕ
-first_broken words keeps = option_map (λ judged. judged.0.start) (find (λ judged. not judged.1) (zip words keeps))
 
 abbrev pub IsNamesFault : PlacedUnit → ℕ → Type 0
 IsNamesFault placed at = first_broken (words_of placed) (judged (unit_of placed)) ≡ Some at

@@ -7,12 +7,12 @@ ghost use Rattle.dcv_dfa.specs.declared.node_lines.Child.{Child as PlainChild};
 ghost use Rattle.dcv_dfa.specs.Raw.{RawValue, raw_accepts};
 ghost use Rattle.dcv_automaton_text.specs.Rules.{AreNames, most_states, most_nodes};
 ghost use Rattle.dcv_automaton_text.specs.File.{AccessLine, SuffixLine};
-ghost use Rattle.dcv_automaton_file.specs.File.{texts_of, target_of, node_line, state_line, file_of};
+ghost use Rattle.dcv_automaton_file.specs.File.{texts_of, target_of, node_line, state_line, file_of, state_lines, Fits};
 ghost use Rattle.dcv_c.specs.Seen.{seen_item, seen_test, seen_statement, seen_returned};
 ghost use Rattle.dcv_c.specs.Laws.{Observes};
 ghost use Rattle.dcv_c.specs.Observer.{item_of, first_statement, node_statement, state_statement, last_statement, accepting_tests, returned_for};
 ghost use Rattle.dcv_c.specs.Observer.{reset_name, parameter_name, next_name, node_name, observer_of};
-ghost use Rattle.dcv_c.specs.Building.{observer_names, state_lines, Fits};
+ghost use Rattle.dcv_c.specs.Building.{observer_names};
 
 use crate::laws::observers_accept_the_same;
 use crate::unit::{Assignment, CUnit, Item, Reset, Returned, Right, Statement, Step};

@@ -8,12 +8,12 @@ ghost use Rattle.dcv_dfa.specs.Raw.{RawValue};
 ghost use Rattle.dcv_dfa.specs.declared.node_lines.Child.{Child as PlainChild};
 ghost use Rattle.dcv_automaton_text.specs.Rules.{AreNames, most_states, most_nodes};
 ghost use Rattle.dcv_automaton_text.specs.File.{AccessLine, SuffixLine};
-ghost use Rattle.dcv_automaton_file.specs.File.{texts_of, node_line, file_of};
+ghost use Rattle.dcv_automaton_file.specs.File.{texts_of, node_line, file_of, state_lines, Fits};
 ghost use Rattle.dcv_c.specs.Seen.{name_at};
 ghost use Rattle.dcv_c.specs.Layout.{assignment_line, parameters_text, local_line, local_lines, statement_line, test_text, returned_text, text_of};
 ghost use Rattle.dcv_c.specs.Observer.{parameter_name, state_name, next_name, node_name, first_statement, node_statement, state_statement};
 ghost use Rattle.dcv_c.specs.Observer.{last_statement, accepting_tests, returned_for, observer_of};
-ghost use Rattle.dcv_c.specs.Building.{observer_names, state_lines, Fits};
+ghost use Rattle.dcv_c.specs.Building.{observer_names};
 
 use crate::layout::{
     NamesByPlace, put_assignment, put_blank, put_body, put_item, put_local, put_opening,

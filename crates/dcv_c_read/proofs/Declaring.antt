@@ -4,12 +4,12 @@ use Rattle.std.specs.Prelude.{bytes_eq}
 use Rattle.std.proofs.lemmas.List.{map_push}
 use Rattle.std.proofs.lemmas.Bool.{or_from, or_parts, or_left, or_right, or_cases, both_ways, false≢true, not-true, false_from_ne_true}
 use Rattle.dcv_observer.specs.Conditions.{Names}
-use Rattle.dcv_c.specs.Meaning.{is_among}
+use Rattle.dcv_observer.specs.Naming.{is_among, AreDistinct}
+use Rattle.dcv_observer.proofs.Naming.{is_itself, differs, differs_back, among_append_left, among_append_right, distinct_push}
 use Rattle.dcv_c.specs.Rules.{keeps_new}
-use Rattle.dcv_c.proofs.Names.{is_itself, differs, differs_back, among_append_left, among_append_right}
 use Rattle.dcv_c_read.specs.declared.scope.Sort.{Sort}
 use Rattle.dcv_c_read.specs.declared.scope.Sort.TheVariants.{Variable, Parameter}
-use Rattle.dcv_c_read.specs.Scope.{AreDistinct, Row, Frame, with_function, with_names, is_variable, IsRow, AreRows, KnowsNames}
+use Rattle.dcv_c_read.specs.Scope.{Row, Frame, with_function, with_names, is_variable, IsRow, AreRows, KnowsNames}
 
 -- ---- one more name in a list
 
@@ -34,12 +34,6 @@ among_push (n ∷ names) last name = ap (λ (b : Bool). bytes_eq name n || b) (a
 
 not_among_push : (names : Names) (last name : List ℕ) → is_among names name ≡ false → bytes_eq name last ≡ false → is_among (names ++ last ∷ []) name ≡ false
 not_among_push names last name none other = among_push names last name ∙ or_from (is_among names name) (bytes_eq name last) none other
-
-distinct_push : (names : Names) (last : List ℕ) → AreDistinct names → is_among names last ≡ false → AreDistinct (names ++ last ∷ [])
-distinct_push [] last distinct none = (refl, tt)
-distinct_push (n ∷ names) last distinct none =
-    let both = or_parts (bytes_eq last n) (is_among names last) none in
-    (not_among_push names last n distinct.0 (differs_back last n both.0), distinct_push names last distinct.1 both.1)
 
 -- ---- what the rules ask of it
 

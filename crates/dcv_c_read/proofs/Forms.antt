@@ -4,9 +4,9 @@ use Rattle.dcv_lexer.specs.Cuts.{Token}
 use Rattle.dcv_observer.specs.Conditions.{Names}
 use Rattle.dcv_observer.specs.Left.{seen}
 use Rattle.dcv_observer.specs.declared.fault.ObsFault.{ObsFault}
+use Rattle.dcv_observer.specs.Naming.{is_among}
 use Rattle.dcv_c.specs.declared.unit.Statement.{Statement}
 use Rattle.dcv_c.specs.Tree.{CUnit}
-use Rattle.dcv_c.specs.Meaning.{is_among}
 use Rattle.dcv_c.specs.Seen.{seen_statement as statement_seen}
 use Rattle.dcv_c.specs.Placed.{item_at, condition_of, statement_of}
 use Rattle.dcv_c.specs.Rules.{keeps_item, keeps_condition, keeps_statement, known_after, words_of_statement}

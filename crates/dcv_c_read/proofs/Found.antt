@@ -7,8 +7,8 @@ use Rattle.std.specs.Option.{is_some}
 use Rattle.std.proofs.lemmas.List.Quantifiers.{position-Some}
 use Rattle.std.proofs.lemmas.Bool.{cases_Bool, or_left, or_right, or_cases, both_ways, false≢true, false_from_ne_true, lt-ltb}
 use Rattle.dcv_observer.specs.Conditions.{Names}
-use Rattle.dcv_c.specs.Meaning.{is_among}
-use Rattle.dcv_c.proofs.Names.{one_name, is_itself}
+use Rattle.dcv_observer.specs.Naming.{is_among}
+use Rattle.dcv_observer.proofs.Naming.{one_name, is_itself}
 use Rattle.dcv_c_read.specs.declared.scope.Declaration.{Declaration}
 use Rattle.dcv_c_read.specs.Scope.{Frame, seen_row, AreRows, IsRow, KnowsNames, IsNamed, IsFound}
 

@@ -5,11 +5,11 @@ use Rattle.std.specs.Prelude.{bytes_eq, slice_set}
 use Rattle.std.specs.List.{list_all}
 use Rattle.std.proofs.lemmas.Bool.{or_parts, or_left, or_cases, and_from, both_ways, false≢true, false_from_ne_true}
 use Rattle.dcv_observer.specs.Conditions.{Names}
-use Rattle.dcv_c.specs.Meaning.{is_among}
+use Rattle.dcv_observer.specs.Naming.{is_among, AreDistinct}
+use Rattle.dcv_observer.proofs.Naming.{is_itself, one_name, differs}
 use Rattle.dcv_c.specs.Rules.{keeps_new}
-use Rattle.dcv_c.proofs.Names.{is_itself, one_name, differs}
 use Rattle.dcv_c_read.specs.declared.scope.Declaration.{Declaration}
-use Rattle.dcv_c_read.specs.Scope.{AreDistinct, Row, Frame, with_known, seen_row, AreRows, KnowsNames, IsNamed, marked}
+use Rattle.dcv_c_read.specs.Scope.{Row, Frame, with_known, seen_row, AreRows, KnowsNames, IsNamed, marked}
 use Rattle.dcv_c_read.proofs.Found.{among_at, named_among}
 
 -- ---- a name that is known from now on

@@ -6,10 +6,10 @@ use Rattle.dcv_lexer.specs.Cuts.{Token}
 use Rattle.dcv_observer.specs.Conditions.{Names, name_at, seen_test as test_seen}
 use Rattle.dcv_observer.specs.declared.conditions.Test.{Test as CodeTest}
 use Rattle.dcv_observer.specs.declared.fault.ObsFault.{ObsFault}
+use Rattle.dcv_observer.specs.Naming.{is_among}
 use Rattle.dcv_c.specs.declared.unit.Assignment.{Assignment as CodeAssignment}
 use Rattle.dcv_c.specs.declared.unit.Statement.{Statement as CodeStatement}
 use Rattle.dcv_c.specs.Tree.{Test, CUnit}
-use Rattle.dcv_c.specs.Meaning.{is_among}
 use Rattle.dcv_c.specs.Seen.{seen_assignment as assignment_seen, seen_statement as statement_seen}
 use Rattle.dcv_c.specs.Placed.{assignment_of, statement_of, test_of}
 use Rattle.dcv_c.specs.Rules.{keeps_assignments, keeps_statement, keeps_statements, known_after, words_of_statement}

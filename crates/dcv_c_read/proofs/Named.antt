@@ -7,16 +7,17 @@ use Rattle.std.proofs.lemmas.Bool.{cases_Bool, or_cases, and_parts, both_ways, f
 use Rattle.dcv_observer.specs.Conditions.{Names}
 use Rattle.dcv_observer.specs.declared.fault.ObsFault.{ObsFault}
 use Rattle.dcv_observer.specs.declared.fault.ObsFault.TheVariants.{Syntax, Names as Fault, Memory}
+use Rattle.dcv_observer.specs.Naming.{is_among}
+use Rattle.dcv_observer.proofs.Naming.{one_name}
+use Rattle.dcv_observer.proofs.Readings.{well_named_if_unbroken}
 use Rattle.dcv_c.specs.declared.unit.Returned.{Returned as CodeReturned}
 use Rattle.dcv_c.specs.Tree.{Returned}
-use Rattle.dcv_c.specs.Meaning.{is_among}
 use Rattle.dcv_c.specs.Seen.{seen_assignment, seen_statement, seen_returned, seen_unit, all_names, names_of, IsUnit}
 use Rattle.dcv_c.specs.Placed.{PlacedUnit, unit_of}
 use Rattle.dcv_c.specs.Rules.{IsNamesFault, IsWellNamed, words_of, judged, has_all_assignments, keeps_new, keeps_apart, keeps_assignments}
 use Rattle.dcv_c.specs.Form.{IsSpellable}
 use Rattle.dcv_c.specs.Words.{AreWords}
-use Rattle.dcv_c.proofs.Names.{one_name}
-use Rattle.dcv_c.proofs.JudgedWords.{well_named_if_unbroken}
+use Rattle.dcv_c.proofs.Readings.{is_subset}
 use Rattle.dcv_c_read.specs.declared.names.Contents.{Contents}
 use Rattle.dcv_c_read.specs.Judged.{IsLeft, IsFaultOf, words_of_assignments}
 use Rattle.dcv_c_read.specs.Contents.{first_fault_of, words_of_step, keeps_step, AreContentsOf}
@@ -93,7 +94,7 @@ module _ (placed : PlacedUnit) (contents : Contents) (are : AreContentsOf placed
   pub is_unit : AreWords placed → IsUnit contents.statics.items contents.reset contents.step
   is_unit words =
       record {
-        well_named = subst IsWellNamed (sym unit_is) (well_named_if_unbroken placed are.unbroken);
+        well_named = subst IsWellNamed (sym unit_is) (well_named_if_unbroken is_subset placed are.unbroken);
         spellable = subst IsSpellable (sym unit_is) (words_are_spellable placed words);
       }
 

@@ -5,8 +5,8 @@ use Rattle.dcv_lexer.specs.Cuts.{Token}
 use Rattle.dcv_observer.specs.Conditions.{Names}
 use Rattle.dcv_observer.specs.Left.{seen}
 use Rattle.dcv_observer.specs.declared.items.Item.{Item}
+use Rattle.dcv_observer.specs.Naming.{is_among}
 use Rattle.dcv_c.specs.Tree.{CUnit}
-use Rattle.dcv_c.specs.Meaning.{is_among}
 use Rattle.dcv_c.specs.Placed.{unit_of, bytes_of, assignment_of, statement_of}
 use Rattle.dcv_c.specs.Rules.{keeps_new, keeps_apart, keeps_parameters, keeps_assignments, keeps_statements, before_locals, before_parameters, words_of_returned, has_all_assignments}
 use Rattle.dcv_c_read.specs.declared.placed.PlacedUnit.{PlacedUnit as CodeUnit}

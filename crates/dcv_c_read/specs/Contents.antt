@@ -5,11 +5,12 @@
 use Rattle.std.specs.Prelude.{◌≡◌, ℕ, Bool, List, ◌∷◌, ◌++◌, Option, None, map}
 use Rattle.std.specs.List.{flat_map}
 use Rattle.dcv_lexer.specs.Cuts.{Token}
+use Rattle.dcv_observer.specs.Subsets.{first_broken}
 use Rattle.dcv_c.specs.declared.unit.Step.{Step}
 use Rattle.dcv_c.specs.Tree.{CUnit}
 use Rattle.dcv_c.specs.Seen.{seen_assignment, seen_statement, seen_returned, names_of}
 use Rattle.dcv_c.specs.Placed.{PlacedUnit, unit_of}
-use Rattle.dcv_c.specs.Rules.{words_of, judged, first_broken, words_of_statement, words_of_returned}
+use Rattle.dcv_c.specs.Rules.{words_of, judged, words_of_statement, words_of_returned}
 use Rattle.dcv_c.specs.Rules.{keeps_new, keeps_apart, keeps_parameters, keeps_statements, before_step, before_parameters, before_locals}
 use Rattle.dcv_c_read.specs.declared.names.Contents.{Contents}
 

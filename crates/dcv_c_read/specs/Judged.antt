@@ -8,10 +8,11 @@ use Rattle.dcv_lexer.specs.Cuts.{Token}
 use Rattle.dcv_observer.specs.Conditions.{Names}
 use Rattle.dcv_observer.specs.declared.fault.ObsFault.{ObsFault}
 use Rattle.dcv_observer.specs.declared.fault.ObsFault.TheVariants.{Syntax, Names as Fault, Memory}
+use Rattle.dcv_observer.specs.Naming.{is_among}
+use Rattle.dcv_observer.specs.Subsets.{first_broken}
 use Rattle.dcv_c.specs.Tree.{Assignment, Test}
 use Rattle.dcv_c.specs.Placed.{PlacedAssignment, PlacedStatement, PlacedTest}
-use Rattle.dcv_c.specs.Meaning.{is_among}
-use Rattle.dcv_c.specs.Rules.{first_broken, words_of_statement}
+use Rattle.dcv_c.specs.Rules.{words_of_statement}
 
 -- why a word is refused that begins at this offset
 abbrev pub IsBroken : ℕ → Bool → ObsFault → Type 0

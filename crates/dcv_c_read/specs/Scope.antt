@@ -4,8 +4,8 @@
 --     IsNamed placed name place      the name with a place
 use Rattle.std.specs.Prelude.{◌≡◌, ℕ, zero, suc, ◌+◌, ◌<◌, Bool, true, false, ◌||◌, List, [], ◌∷◌, ◌++◌, Option, Some, None, length, map}
 use Rattle.dcv_observer.specs.Conditions.{Names, name_at}
+use Rattle.dcv_observer.specs.Naming.{is_among, AreDistinct}
 use Rattle.dcv_c.specs.Tree.{CUnit}
-use Rattle.dcv_c.specs.Meaning.{is_among}
 use Rattle.dcv_lexer.specs.Cuts.{Token}
 use Rattle.dcv_c.specs.Rules.{keeps_returned}
 use Rattle.dcv_c_read.specs.declared.scope.Sort.{Sort}
@@ -13,11 +13,6 @@ use Rattle.dcv_c_read.specs.declared.scope.Sort.TheVariants.{Variable, Parameter
 use Rattle.dcv_c_read.specs.declared.scope.Declaration.{Declaration}
 use Rattle.dcv_c_read.specs.declared.scope.Scope.{Scope}
 use Rattle.dcv_c_read.specs.Judged.{IsLeft}
-
--- each name stands once
-abbrev pub AreDistinct : Names → Type 0
-AreDistinct [] = Unit {0}
-AreDistinct (name ∷ names) = (is_among names name ≡ false) × AreDistinct names
 
 -- ---- the names so far
 

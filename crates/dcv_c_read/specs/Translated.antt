@@ -1,15 +1,8 @@
 -- The translation of units. A long body is taken in steps, each with what the symbols before stand for.
---     scheme                               what derivation trees stand for
 use Rattle.std.specs.Prelude.{List, [], ◌∷◌, Option, Some, None}
 use Rattle.dcv_lexer.specs.Cuts.{Token}
-use Rattle.dcv_c.specs.Classes.{lexicon}
-use Rattle.dcv_c.specs.Language.{language}
 use Rattle.dcv_c.specs.Placed.{PlacedStatement, PlacedWhen}
-use Rattle.dcv_c.specs.Actions.{Part, AToken, Tokens, Assignments, AReset, AStatement, Statements, Choice, AReturned, AStep, AUnit, Nothing, action}
-use Rattle.dcv_translation.specs.Scheme.{Scheme}
-
-abbrev pub scheme : Scheme Part
-scheme = record { lexicon = lexicon; grammar = language; of_token = AToken; action = action }
+use Rattle.dcv_c.specs.Actions.{Part, AToken, Tokens, Assignments, AReset, AStatement, Statements, Choice, AReturned, AStep, AUnit, Nothing}
 
 -- ---- reset step
 

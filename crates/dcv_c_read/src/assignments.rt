@@ -4,7 +4,7 @@ ghost use Rattle.std.specs.List.{list_all, AllByRecursion};
 ghost use Rattle.dcv_lexer.specs.Cuts.{Token};
 ghost use Rattle.dcv_observer.specs.Conditions.{Names as PlainNames};
 ghost use Rattle.dcv_observer.specs.Left.{seen};
-ghost use Rattle.dcv_c.specs.Meaning.{is_among};
+ghost use Rattle.dcv_observer.specs.Naming.{is_among};
 ghost use Rattle.dcv_c.specs.Placed.{assignment_of};
 ghost use Rattle.dcv_c.specs.Words.{AreWordsOfAssignment};
 ghost use Rattle.dcv_c.specs.Seen.{seen_assignment as assignment_seen};

@@ -5,6 +5,7 @@ ghost use Rattle.std.specs.Prelude.{bytes_eq};
 ghost use Rattle.dcv_lexer.specs.Cuts.{Token};
 ghost use Rattle.dcv_observer.specs.Left.{seen};
 ghost use Rattle.dcv_observer.specs.declared.fault.ObsFault.TheVariants.{Names};
+    ghost use Rattle.dcv_observer.specs.Naming.{is_among};
 ghost use Rattle.dcv_c.specs.Rules.{keeps_new};
 ghost use Rattle.dcv_c_read.specs.Judged.{Leads, IsLeft};
 ghost use Rattle.dcv_c_read.specs.Scope.{is_variable, seen_row, marked};
@@ -102,7 +103,6 @@ fn are_known(names: &[Declaration]) -> bool
 }
 
 impl<'a> Scope<'a> {
-    ghost use Rattle.dcv_c.specs.Meaning.{is_among};
     ghost use Rattle.dcv_c_read.specs.Scope.{Frame, no_names, with_function, with_names, Knows, IsFound};
 
     /// No names.

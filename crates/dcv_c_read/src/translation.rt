@@ -18,9 +18,8 @@ pub(crate) struct UnitTranslation {
 }
 
 impl<'a> Translation<'a> for UnitTranslation {
-    ghost use Rattle.dcv_c.specs.Actions.{Part as PlainPart};
-    ghost use Rattle.dcv_translation.specs.Scheme.{IsOfBody};
-    ghost use Rattle.dcv_c_read.specs.Translated.{scheme};
+    ghost use Rattle.dcv_observer.specs.Scheme.{IsOfBody};
+    ghost use Rattle.dcv_c.specs.Actions.{Part as PlainPart, scheme};
 
     type Part = Part<'a>;
 

@@ -1,35 +1,34 @@
 -- What is laid out of a node has a derivation that stands for it.
-use Rattle.std.proofs.Common.{◌≡◌, ℕ, ◌+◌, ◌*◌, ◌<◌, ◌^◌, true, false, cond, ◌||◌, ◌⊎◌, nat_eq, List, [], ◌∷◌, ◌++◌, Option, Some, None, length, map}
-use Rattle.std.proofs.Common.{fold, inl, inr, refl, sym, ap, subst, ◌∙◌, arith, append_assoc, codes, decimal}
+use Rattle.std.proofs.Common.{◌≡◌, ℕ, ◌+◌, true, false, cond, ◌||◌, ◌⊎◌, nat_eq, List, [], ◌∷◌, ◌++◌, Option, Some, None, length, map}
+use Rattle.std.proofs.Common.{inl, inr, refl, sym, ap, subst, ◌∙◌, arith, append_assoc, codes, decimal}
 use Rattle.std.specs.Prelude.{bytes_eq}
-use Rattle.std.specs.List.{AllByRecursion, flat_map, list_all}
-use Rattle.std.specs.Char.{is_ascii_alphabetic, is_ascii_digit, digit_value}
-use Rattle.std.specs.Str.Parse.{AllDigits, digits_value_after}
-use Rattle.std.proofs.lemmas.Bool.{and_parts, and_from, and_left, or_left, or_from, false≢true, or_cases, false_from_ne_true, eqb-true, le-leb}
-use Rattle.std.proofs.lemmas.Fmt.{decimal_nonempty, decimal_is_IsNumeral}
+use Rattle.std.specs.List.{AllByRecursion, flat_map}
+use Rattle.std.proofs.lemmas.Bool.{and_parts, or_left, or_from, false≢true, or_cases, false_from_ne_true, eqb-true}
 use Rattle.std.proofs.lemmas.Slice.Eq.{bytes_eq-Decides}
-use Rattle.std.proofs.lemmas.Str.{digit_value_digit}
-use Rattle.std.proofs.lemmas.Str.Parse.{digit_from_value}
+use Rattle.dcv_grammar.specs.declared.grammar.Symbol.{Symbol}
 use Rattle.dcv_grammar.specs.declared.grammar.Symbol.TheVariants.{Class, Rule}
-use Rattle.dcv_lexer.specs.Lexicon.{is_word_byte, is_word, is_number}
+use Rattle.dcv_lexer.specs.Lexicon.{is_number}
 use Rattle.dcv_lexer.specs.Cuts.{Token}
-use Rattle.dcv_lexer.specs.Decimal.{with_digit, value_of}
-use Rattle.dcv_lexer.proofs.FirstBytes.{letter_above, digit_within}
-use Rattle.dcv_automaton_text.proofs.Words.{digits_are}
-use Rattle.dcv_observer.specs.Classes.{name as plain_name, number, is_short_word, is_small_number, class_of}
-use Rattle.dcv_observer.proofs.Limits.{small_number}
+use Rattle.dcv_lexer.specs.Decimal.{value_of}
+use Rattle.dcv_observer.specs.Classes.{name as plain_name, number, is_short_word, class_of}
 use Rattle.dcv_observer.specs.Pieces.{Piece, Blank, Text, bytes_of, tokens_at}
+use Rattle.dcv_observer.proofs.Spelt.{Spelt as SpeltBy, none, by_token, by_rule, then, in_turn}
+use Rattle.dcv_observer.proofs.PieceLists.{tokens_append}
+use Rattle.dcv_observer.proofs.Words.{word_is_no_number, decimal_is, value_of_decimal, number_class as class_of_decimal}
 use Rattle.dcv_lustre.specs.Classes.{lexicon, word_ok, word_if, word_then, word_else}
 use Rattle.dcv_lustre.specs.Tree.{Value, Truth, Number, Item, Constant, Named, Condition, Holds, Equals, Arm, Test, Right, Delayed, Chosen, Tested}
 use Rattle.dcv_lustre.specs.Placed.{is_true_word, value_at, is_constant, item_at, condition_of, arm_of, test_of, right_of, PlacedRight, PlacedDelayed}
 use Rattle.dcv_lustre.specs.Placed.{PlacedChosen, PlacedTested, PlacedArm, PlacedTest}
 use Rattle.dcv_lustre.specs.Language as rules
 use Rattle.dcv_lustre.specs.Language.{language}
-use Rattle.dcv_lustre.specs.Actions.{AToken, ARight, Compared, Choice, ATest, Tests}
+use Rattle.dcv_lustre.specs.Actions.{Part, scheme, AToken, ARight, Compared, Choice, ATest, Tests}
 use Rattle.dcv_lustre.specs.Form.{IsName, IsNumber, IsValue, IsItem, IsCondition, IsArm, IsTest, IsRight}
 use Rattle.dcv_lustre.specs.Layout.{value_text, item_text}
 use Rattle.dcv_lustre.proofs.NodePieces.{condition_pieces, arm_pieces, test_pieces, right_pieces}
-use Rattle.dcv_lustre.proofs.Spelt.{Spelt, none, by_token, by_rule, then, tokens_append}
+
+-- by the scheme of the subset
+abbrev pub Spelt : List Symbol → List Token → List Part → Type 0
+Spelt symbols tokens parts = SpeltBy scheme symbols tokens parts
 
 abbrev at : ℕ → List ℕ → Token
 at start bytes = record { bytes = bytes; start = start }
@@ -52,34 +51,9 @@ name_spelt start name is =
       | inr ok ↦ by_rule rules.name (1, omega arith, refl) (by_token (at start name) ok none)
     ]
 
--- the value of digits
-value_is : (value : ℕ) (digits : List ℕ) → AllDigits 10 digits → fold with_digit value digits ≡ digits_value_after 10 value digits
-value_is value [] d = refl
-value_is value (c ∷ digits) d =
-    let k = digit_from_value c d.0 in
-    let same : with_digit value c ≡ value * 10 + digit_value c = omega (arith, digit_value_digit c k) in
-    ap (λ v. fold with_digit v digits) same ∙ value_is (value * 10 + digit_value c) digits d.1
-
-value_of_decimal : (n : ℕ) → n < 2 ^ 64 → value_of (decimal n) ≡ n
-value_of_decimal n small = let is = decimal_is_IsNumeral n small in value_is 0 (decimal n) is.0.1 ∙ is.1
-
-digits_are_no_word : (bytes : List ℕ) → 0 < length bytes → list_all is_ascii_digit bytes ≡ true → (is_word bytes ≡ false) × (is_number bytes ≡ true)
-digits_are_no_word [] some digits = absurd (omega arith)
-digits_are_no_word (b ∷ bytes) some digits =
-    let digit = (and_parts (is_ascii_digit b) (list_all is_ascii_digit bytes) digits).0 in
-    let no_letter : is_ascii_alphabetic b ≡ false = false_from_ne_true (is_ascii_alphabetic b) (λ letter. omega (arith, letter_above b letter, digit_within b digit)) in
-    (and_left (is_ascii_alphabetic b) (list_all is_word_byte bytes) no_letter, digits)
-
-decimal_is : (n : ℕ) → IsNumber n → (is_word (decimal n) ≡ false) × (is_number (decimal n) ≡ true)
-decimal_is n small = digits_are_no_word (decimal n) (decimal_nonempty n (omega arith)) (digits_are n (omega arith))
-
 number_class : (n : ℕ) → IsNumber n → class_of lexicon (decimal n) ≡ number
 unfolding lexicon
-number_class n small =
-    let kind = decimal_is n small in
-    let within : is_small_number (decimal n) ≡ true =
-    and_from (is_number (decimal n)) _ kind.1 (le-leb (value_of (decimal n)) 32767 (omega (arith, value_of_decimal n (omega arith), small))) in
-    small_number lexicon (decimal n) kind.0 within
+number_class n small = class_of_decimal lexicon n small
 
 -- ---- constants and items
 
@@ -103,12 +77,6 @@ value_spelt start (Number n) is =
           ∙ ap Number (value_of_decimal n (omega arith));
       constant = or_left (is_number (decimal n) || is_true_word (decimal n)) _ (or_left (is_number (decimal n)) _ kind.1);
     }
-
-word_is_no_number : (bytes : List ℕ) → is_word bytes ≡ true → is_number bytes ≡ false
-word_is_no_number [] word = refl
-word_is_no_number (b ∷ bytes) word =
-    let letter = (and_parts (is_ascii_alphabetic b) (list_all is_word_byte bytes) word).0 in
-    and_left (is_ascii_digit b) (list_all is_ascii_digit bytes) (false_from_ne_true (is_ascii_digit b) (λ digit. omega (arith, letter_above b letter, digit_within b digit)))
 
 -- a name is no constant
 pub name_is_no_constant : (name : List ℕ) → IsName name → is_constant name ≡ false
@@ -186,12 +154,8 @@ arm_spelt start arm is =
       then_word = at (behind + 1) (codes "then");
       else_word = at (behind + 1 + 4 + 1 + length (item_text arm.item) + 1) (codes "else");
       spelt =
-          subst (λ tokens. Spelt (Class word_if ∷ Rule rules.condition ∷ Class word_then ∷ Rule rules.item ∷ Class word_else ∷ []) (at start (codes "if") ∷ tokens)
-          (AToken (at start (codes "if")) ∷ Compared c.name c.number ∷ AToken (at (behind + 1) (codes "then")) ∷ AToken item
-          ∷ AToken (at (behind + 1 + 4 + 1 + length (item_text arm.item) + 1) (codes "else")) ∷ []))
-          (sym (tokens_append (condition_pieces arm.condition) _ (start + 2 + 1)))
-          (by_token (at start (codes "if")) refl (then c.spelt (by_token (at (behind + 1) (codes "then")) refl (then i.spelt
-          (by_token (at (behind + 1 + 4 + 1 + length (item_text arm.item) + 1) (codes "else")) refl none)))));
+          by_token (at start (codes "if")) refl (in_turn (condition_pieces arm.condition) _ (start + 2 + 1) c.spelt (by_token (at (behind + 1) (codes "then")) refl (then i.spelt
+          (by_token (at (behind + 1 + 4 + 1 + length (item_text arm.item) + 1) (codes "else")) refl none))));
     }
 
 -- ---- choices
@@ -266,9 +230,7 @@ more_tests_spelt (test ∷ tests) start are =
       placed = t.placed ∷ more.placed;
       tests_are = λ i. t.test_is i ∷ more.tests_are i;
       spelt =
-          subst (λ tokens. Spelt (Rule rules.more_tests ∷ []) (at (start + 1) (codes "or") ∷ tokens) (Tests (t.placed ∷ more.placed) ∷ []))
-          (sym (tokens_append (test_pieces test) (flat_map or_test tests) first))
-          (by_rule rules.more_tests (1, omega arith, refl) (by_token (at (start + 1) (codes "or")) refl (then t.spelt more.spelt)));
+          by_rule rules.more_tests (1, omega arith, refl) (by_token (at (start + 1) (codes "or")) refl (in_turn (test_pieces test) (flat_map or_test tests) first t.spelt more.spelt));
     }
 
 -- ---- right sides
@@ -322,7 +284,5 @@ right_spelt start (Tested (test ∷ tests)) is =
       placed = PlacedTested (t.placed ∷ more.placed);
       right_is = λ i. Tested (t.test_is i ∷ more.tests_are i);
       spelt =
-          subst (λ tokens. Spelt (Rule rules.right ∷ []) tokens (ARight (PlacedTested (t.placed ∷ more.placed)) ∷ []))
-          (sym (tokens_append (test_pieces test) (flat_map or_test tests) start))
-          (by_rule rules.right (3, omega arith, refl) (then t.spelt more.spelt));
+          by_rule rules.right (3, omega arith, refl) (in_turn (test_pieces test) (flat_map or_test tests) start t.spelt more.spelt);
     }

@@ -1,11 +1,10 @@
 -- The text of a node spells it.
-use Rattle.std.proofs.Common.{◌≡◌, ℕ, ◌+◌, ◌<◌, List, [], ◌∷◌, ◌++◌, length, map, refl, sym, ap, subst, ◌∙◌, arith, append_assoc, codes}
+use Rattle.std.proofs.Common.{◌≡◌, ℕ, ◌+◌, ◌<◌, List, [], ◌∷◌, ◌++◌, length, map, refl, sym, ap, ◌∙◌, arith, codes}
 use Rattle.std.specs.List.{AllByRecursion, flat_map}
 use Rattle.dcv_grammar.specs.declared.grammar.Symbol.TheVariants.{Class, Rule}
 use Rattle.dcv_lexer.specs.Cuts.{Token}
-use Rattle.dcv_observer.specs.Items.{HasItems}
 use Rattle.dcv_observer.specs.Pieces.{Piece, Blank, Text, bytes_of, tokens_at}
-use Rattle.dcv_observer.proofs.LaidOut.{laid_out}
+use Rattle.dcv_observer.proofs.Spelt.{laid_stands, none, by_token, by_rule, then, in_turn}
 use Rattle.dcv_lustre.specs.Classes.{lexicon, word_let, word_tel, close_parenthesis}
 use Rattle.dcv_lustre.specs.Tree.{Kind, OfTruth, OfNumber, Equation, Local, Node}
 use Rattle.dcv_lustre.specs.Placed.{equation_of, local_of, kind_at, bytes_of as token_bytes, node_of, PlacedNode, PlacedLocal, PlacedEquation}
@@ -14,10 +13,10 @@ use Rattle.dcv_lustre.specs.Language.{language}
 use Rattle.dcv_lustre.specs.Actions.{AToken, Tokens, ALocal, Locals, AnEquation, Equations, ANode, Spells}
 use Rattle.dcv_lustre.specs.Form.{IsName, IsEquation, IsSpellable}
 use Rattle.dcv_lustre.specs.Layout.{kind_text, text_of}
-use Rattle.dcv_lustre.proofs.NodePieces.{joined, right_pieces, equation_pieces, local_pieces, input_pieces, local_line_pieces, end_pieces}
+use Rattle.dcv_observer.proofs.PieceLists.{joined}
+use Rattle.dcv_lustre.proofs.NodePieces.{right_pieces, equation_pieces, local_pieces, input_pieces, local_line_pieces, end_pieces}
 use Rattle.dcv_lustre.proofs.NodePieces.{output_pieces, pieces_of, text_in_pieces}
-use Rattle.dcv_lustre.proofs.Spelt.{Spelt, none, by_token, by_rule, then, tokens_append}
-use Rattle.dcv_lustre.proofs.Derived.{name_spelt, right_spelt}
+use Rattle.dcv_lustre.proofs.Derived.{Spelt, name_spelt, right_spelt}
 use Rattle.dcv_lustre.proofs.LaidOut.{orderly, node_laid}
 
 abbrev at : ℕ → List ℕ → Token
@@ -40,10 +39,8 @@ equation_spelt start equation is =
       placed = record { left = left; right = r.placed };
       equation_is = ap (λ right. record { left = equation.left; right = right }) r.right_is;
       spelt =
-          subst (λ tokens. Spelt (Rule rules.equation ∷ []) (left ∷ at (start + 1 + 1 + length equation.left + 1) (codes "=") ∷ tokens) (AnEquation (record { left = left; right = r.placed }) ∷ []))
-          (sym (tokens_append (right_pieces equation.right) _ from))
-          (by_rule rules.equation (0, omega arith, refl) (then (name_spelt (start + 1 + 1) equation.left is.left)
-          (by_token (at (start + 1 + 1 + length equation.left + 1) (codes "=")) refl (then r.spelt (by_token _ refl none)))));
+          by_rule rules.equation (0, omega arith, refl) (then (name_spelt (start + 1 + 1) equation.left is.left)
+          (by_token (at (start + 1 + 1 + length equation.left + 1) (codes "=")) refl (in_turn (right_pieces equation.right) _ from r.spelt (by_token _ refl none))));
     }
 
 pub record EquationsSpelt (start : ℕ) (equations : List Equation) : Type 0 where
@@ -61,9 +58,7 @@ equations_spelt (equation ∷ equations) start is =
       placed = e.placed ∷ more.placed;
       equations_are = λ i. e.equation_is i ∷ more.equations_are i;
       spelt =
-          subst (λ tokens. Spelt (Rule rules.equations ∷ []) tokens (Equations (e.placed ∷ more.placed) ∷ []))
-          (sym (tokens_append (equation_pieces equation) (flat_map equation_pieces equations) start))
-          (by_rule rules.equations (1, omega arith, refl) (then e.spelt more.spelt));
+          by_rule rules.equations (1, omega arith, refl) (in_turn (equation_pieces equation) (flat_map equation_pieces equations) start e.spelt more.spelt);
     }
 
 -- ---- locals
@@ -108,9 +103,7 @@ locals_spelt (local ∷ locals) start is =
       placed = l.placed ∷ more.placed;
       locals_are = λ i. l.local_is i ∷ more.locals_are i;
       spelt =
-          subst (λ tokens. Spelt (Rule rules.locals ∷ []) tokens (Locals (l.placed ∷ more.placed) ∷ []))
-          (sym (tokens_append (local_pieces local) (flat_map local_pieces locals) start))
-          (by_rule rules.locals (1, omega arith, refl) (then l.spelt more.spelt));
+          by_rule rules.locals (1, omega arith, refl) (in_turn (local_pieces local) (flat_map local_pieces locals) start l.spelt more.spelt);
     }
 
 pub record VariablesSpelt (start : ℕ) (locals : List Local) : Type 0 where
@@ -129,9 +122,7 @@ variables_spelt (local ∷ locals) start is =
       placed = l.placed ∷ more.placed;
       locals_are = λ i. l.local_is i ∷ more.locals_are i;
       spelt =
-          subst (λ tokens. Spelt (Rule rules.variables ∷ []) (at start (codes "var") ∷ tokens) (Locals (l.placed ∷ more.placed) ∷ []))
-          (sym (tokens_append (local_pieces local) (flat_map local_pieces locals) from))
-          (by_rule rules.variables (1, omega arith, refl) (by_token (at start (codes "var")) refl (then l.spelt more.spelt)));
+          by_rule rules.variables (1, omega arith, refl) (by_token (at start (codes "var")) refl (in_turn (local_pieces local) (flat_map local_pieces locals) from l.spelt more.spelt));
     }
 
 -- ---- inputs
@@ -158,9 +149,7 @@ more_inputs_spelt (name ∷ names) start is =
       placed = at from name ∷ more.placed;
       names_are = λ i. name ∷ more.names_are i;
       spelt =
-          subst (λ tokens. Spelt (Rule rules.more_inputs ∷ []) (at start (codes ";") ∷ tokens) (Tokens (at from name ∷ more.placed) ∷ []))
-          (sym (tokens_append (input_pieces name) (flat_map next_input names) from))
-          (by_rule rules.more_inputs (1, omega arith, refl) (by_token (at start (codes ";")) refl (then (input_spelt from name is.0) more.spelt)));
+          by_rule rules.more_inputs (1, omega arith, refl) (by_token (at start (codes ";")) refl (in_turn (input_pieces name) (flat_map next_input names) from (input_spelt from name is.0) more.spelt));
     }
 
 -- ---- nodes
@@ -194,10 +183,7 @@ end_spelt start of is =
       placed = e.placed;
       equations_are = e.equations_are;
       spelt =
-          subst (λ tokens. Spelt (Class word_let ∷ Rule rules.equations ∷ Class word_tel ∷ []) (at start (codes "let") ∷ tokens)
-          (AToken (at start (codes "let")) ∷ Equations e.placed ∷ AToken last ∷ []))
-          (sym (tokens_append (flat_map equation_pieces of.equations) _ from))
-          (by_token (at start (codes "let")) refl (then e.spelt (by_token last refl none)));
+          by_token (at start (codes "let")) refl (in_turn (flat_map equation_pieces of.equations) _ from e.spelt (by_token last refl none));
     }
 
 module _ (of : Node) (is : IsSpellable of) where
@@ -223,23 +209,15 @@ module _ (of : Node) (is : IsSpellable of) where
       let out = output_spelt third in
       let vars = variables_spelt of.locals fourth is.locals in
       let end = end_spelt fifth of is in
-      let placed : PlacedNode = record { name = at (4 + 1) of.name; inputs = at from name ∷ more.placed; output = out.0; locals = vars.placed; equations = end.placed; tel = end.tel } in
-      let split : tokens_at from ((input_pieces name ++ flat_map next_input names) ++ rest)
-      ≡ tokens_at from (input_pieces name) ++ (tokens_at second (flat_map next_input names)
-      ++ (tokens_at third output_pieces ++ (tokens_at fourth (local_line_pieces of.locals) ++ tokens_at fifth (end_pieces of)))) =
-      ap (tokens_at from) (append_assoc (input_pieces name) (flat_map next_input names) rest)
-      ∙ tokens_append (input_pieces name) (flat_map next_input names ++ rest) from
-      ∙ ap (λ tokens. tokens_at from (input_pieces name) ++ tokens)
-      (tokens_append (flat_map next_input names) rest second
-      ∙ ap (λ tokens. tokens_at second (flat_map next_input names) ++ tokens)
-      (tokens_append output_pieces (local_line_pieces of.locals ++ end_pieces of) third
-      ∙ ap (λ tokens. tokens_at third output_pieces ++ tokens) (tokens_append (local_line_pieces of.locals) (end_pieces of) fourth))) in (
+      let placed : PlacedNode = record { name = at (4 + 1) of.name; inputs = at from name ∷ more.placed; output = out.0; locals = vars.placed; equations = end.placed; tel = end.tel } in (
         placed,
         (λ i. record { name = of.name; inputs = (ap (λ ns. name ∷ ns) more.names_are ∙ sym same) i; locals = vars.locals_are i; equations = end.equations_are i }),
-        subst (λ tokens. Spelt (Rule rules.node ∷ []) (at 0 (codes "node") ∷ at (4 + 1) of.name ∷ opening ∷ tokens) (ANode placed ∷ [])) (sym split)
-            (by_rule rules.node (0, omega arith, refl)
+        by_rule rules.node (0, omega arith, refl)
             (by_token (at 0 (codes "node")) refl (then (name_spelt (4 + 1) of.name is.name) (by_token opening refl
-            (then (input_spelt from name are.0) (then more.spelt (then out.1 (then vars.spelt end.spelt)))))))),
+            (in_turn (input_pieces name) (flat_map next_input names ++ rest) from (input_spelt from name are.0)
+            (in_turn (flat_map next_input names) rest second more.spelt
+            (in_turn output_pieces (local_line_pieces of.locals ++ end_pieces of) third out.1
+            (in_turn (local_line_pieces of.locals) (end_pieces of) fourth vars.spelt end.spelt))))))),
       )
 
   -- the text spells the node, with each word where it stands
@@ -248,10 +226,6 @@ module _ (of : Node) (is : IsSpellable of) where
   text_spells =
       let (placed, same, spelt) = node_by_inputs of.inputs refl is.inputs is.some_input in (
         placed,
-        (
-          tokens_at 0 (pieces_of of),
-          subst (λ (text : List ℕ). HasItems lexicon text (tokens_at 0 (pieces_of of))) (text_in_pieces of) (laid_out lexicon orderly (pieces_of of) 10 (node_laid of 10 is)),
-          (spelt.nodes, record { derived = spelt.are; whole = spelt.whole }, spelt.is),
-        ),
+        laid_stands orderly (pieces_of of) 10 (node_laid of 10 is) (ANode placed) spelt (text_of of) (text_in_pieces of),
         same,
       )

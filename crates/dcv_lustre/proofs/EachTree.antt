@@ -1,20 +1,20 @@
 -- Each derivation tree of the grammar stands for a node: the parts that a body's symbols stand for are those of an equation.
-use Rattle.std.proofs.Common.{◌≡◌, ℕ, zero, suc, List, [], ◌∷◌, Option, Some, None, refl, sym, ap, ◌∙◌, subst, arith}
-use Rattle.std.specs.Prelude.{⊤, Contains, slice_get, slice_index_or}
+use Rattle.std.proofs.Common.{◌≡◌, ℕ, List, [], ◌∷◌, Option, Some, None, refl, sym, ◌∙◌, subst, arith}
+use Rattle.std.specs.Prelude.{⊤, slice_index_or}
 use Rattle.std.specs.List.{AllByRecursion}
-use Rattle.std.proofs.lemmas.List.Elements.{All-from_recursion}
 use Rattle.dcv_grammar.specs.declared.grammar.Symbol.{Symbol}
-use Rattle.dcv_grammar.specs.declared.grammar.Symbol.TheVariants.{Class, Rule}
-use Rattle.dcv_grammar.specs.Grammar.{Production, IsBody, bodies}
-use Rattle.dcv_grammar.specs.Trees.{Nodes, done, leaf, node, AreTrees}
-use Rattle.dcv_grammar.proofs.Derivations.{rule_with}
+use Rattle.dcv_grammar.specs.declared.grammar.Symbol.TheVariants.{Rule}
+use Rattle.dcv_grammar.specs.Grammar.{IsBody}
+use Rattle.dcv_grammar.specs.Trees.{Nodes, AreTrees}
 use Rattle.dcv_lexer.specs.Cuts.{Token}
 use Rattle.dcv_observer.specs.Items.{token_class}
+use Rattle.dcv_observer.specs.Scheme.{parts_of}
+use Rattle.dcv_observer.proofs.Sorts.{Sorts, Agree, trees_stand, inner_stands}
 use Rattle.dcv_lustre.specs.Classes.{lexicon}
 use Rattle.dcv_lustre.specs.Language.{language}
 use Rattle.dcv_lustre.specs.Placed.{PlacedNode, PlacedLocal, PlacedEquation, PlacedRight, PlacedArm, PlacedTest}
 use Rattle.dcv_lustre.specs.Actions.{Part, AToken, Tokens, ALocal, Locals, AnEquation, Equations, ARight, Maybe, Compared, Choice, ATest, Tests}
-use Rattle.dcv_lustre.specs.Actions.{ANode, Nothing, arm, right_part, actions, action, parts_of}
+use Rattle.dcv_lustre.specs.Actions.{ANode, Nothing, arm, right_part, actions, action, scheme}
 use Rattle.dcv_lustre.specs.Words.{IsNameWord, IsNameOrNone, IsNumberOrNone, IsLiteralWord, IsItemWord, AreWordsOfArm, AreWordsOfTest, AreWordsOfRight}
 use Rattle.dcv_lustre.specs.Words.{AreWordsOfEquation, AreWords}
 use Rattle.dcv_lustre.specs.Laws.{SpelledWords}
@@ -51,9 +51,6 @@ sorts =
     OfNode ∷ OfNames ∷ OfName ∷ OfLocals ∷ OfLocals ∷ OfLocal ∷ OfWord ∷ OfEquations
     ∷ OfEquation ∷ OfRight ∷ OfDelay ∷ OfChoice ∷ OfCondition ∷ OfCompared ∷ OfTest ∷ OfTests
     ∷ OfItem ∷ OfLiteral ∷ OfName ∷ OfWord ∷ []
-
-abbrev sort_of : ℕ → Sort
-sort_of rule = slice_index_or sorts rule OfNode
 
 abbrev AreNameWords : List Token → Type 0
 AreNameWords tokens = AllByRecursion IsNameWord tokens
@@ -167,24 +164,10 @@ value_in OfTests (Tests value) is = ((value, is), refl)
 value_in OfNode (ANode value) is = ((value, is), refl)
 value_in sort part is = absurd is
 
--- ---- what symbols stand for
+-- ---- what rules stand for
 
-abbrev Values : List Symbol → Type 0
-Values [] = ⊤
-Values (Class class ∷ symbols) = ((token : Token) × (token_class lexicon token ≡ class)) × Values symbols
-Values (Rule number ∷ symbols) = ValueOf (sort_of number) × Values symbols
-
-abbrev parts_from : (symbols : List Symbol) → Values symbols → List Part
-parts_from [] values = []
-parts_from (Class class ∷ symbols) values = AToken values.0.0 ∷ parts_from symbols values.1
-parts_from (Rule number ∷ symbols) values = part_of (sort_of number) values.0 ∷ parts_from symbols values.1
-
--- each body of each rule stands for a part of the rule's sort
-abbrev Agree : List Production → List (List Part → Part) → List Sort → Type 0
-Agree [] made kinds = ⊤
-Agree (rule ∷ rules) (make ∷ made) (sort ∷ kinds) =
-    AllByRecursion (λ body. (values : Values body) → IsOf sort (make (parts_from body values))) (bodies rule) × Agree rules made kinds
-Agree rules made kinds = ⊥
+abbrev of_sorts : Sorts scheme
+of_sorts = record { Sort = Sort; of_rules = sorts; otherwise = OfNode; ValueOf = ValueOf; part_of = part_of; IsOf = IsOf; value_in = value_in }
 
 right_of_literal : (literal : Token) (source : Option Token) → IsLiteralWord literal → IsNameOrNone source → IsOf OfRight (right_part (AToken literal ∷ Maybe source ∷ []))
 right_of_literal literal None is none = (tt, literal_item literal is)
@@ -194,7 +177,7 @@ arm_is : (name : Token) (number : Option Token) (item : Token) → IsConditionWo
 arm_is name number item condition is = record { name = condition.name_is; number = condition.number_is; item = is }
 
 -- the body that a rule takes otherwise stands first
-rules_agree : Agree language.productions actions sorts
+rules_agree : Agree of_sorts language.productions actions sorts
 unfolding language
 rules_agree = (
   (
@@ -288,71 +271,24 @@ rules_agree = (
   ),
 )  -- output
 
-body_agrees : (P : List Symbol → Type 0) (all : List (List Symbol)) (body : List Symbol) → AllByRecursion P all → Contains all body → P body
-body_agrees P all body each contains = subst P contains.2 (All-from_recursion P all each contains.0 body contains.1)
-
-agree_at : (rules : List Production) (actions : List (List Part → Part)) (sorts : List Sort) (number : ℕ) (rule : Production) (body : List Symbol) (values : Values body)
-    → Agree rules actions sorts → slice_get rules number ≡ Some rule → Contains (bodies rule) body
-    → IsOf (slice_index_or sorts number OfNode) (slice_index_or actions number (λ parts. Nothing) (parts_from body values))
-agree_at [] actions sorts number rule body values agree is contains = let never : None ≡ Some rule = is in cc
-agree_at (r ∷ rules) (a ∷ actions) (s ∷ sorts) zero rule body values agree is contains =
-    let same : r ≡ rule = cc in
-    body_agrees (λ body. (values : Values body) → IsOf s (a (parts_from body values))) (bodies r) body agree.0
-    (subst (λ (x : Production). Contains (bodies x) body) (sym same) contains) values
-agree_at (r ∷ rules) (a ∷ actions) (s ∷ sorts) (suc number) rule body values agree is contains =
-    agree_at rules actions sorts number rule body values agree.1 is contains
-agree_at (r ∷ rules) [] sorts number rule body values agree is contains = absurd agree
-agree_at (r ∷ rules) (a ∷ actions) [] number rule body values agree is contains = absurd agree
-
-body_stands : (number : ℕ) (body : List Symbol) (values : Values body) → IsBody language number body
-    → IsOf (sort_of number) (action number (parts_from body values))
-body_stands number body values is =
-    let (rule, at, contains) = rule_with language number body is in
-    agree_at language.productions actions sorts number rule body values rules_agree at contains
-
 -- ---- what trees stand for
-
-trees_stand : (symbols : List Symbol) (trees : Nodes Token) → AreTrees language (token_class lexicon) symbols trees
-    → (values : Values symbols) × (parts_of trees ≡ parts_from symbols values)
-trees_stand [] done h = (tt, refl)
-trees_stand [] (leaf token next) h = absurd h
-trees_stand [] (node rule inner next) h = absurd h
-trees_stand (Class class ∷ symbols) done h = absurd h
-trees_stand (Class class ∷ symbols) (leaf token next) h =
-    let (values, is) = trees_stand symbols next h.1 in
-    (((token, h.0), values), ap (λ (parts : List Part). AToken token ∷ parts) is)
-trees_stand (Class class ∷ symbols) (node rule inner next) h = absurd h
-trees_stand (Rule number ∷ symbols) done h = absurd h
-trees_stand (Rule number ∷ symbols) (leaf token next) h = absurd h
-trees_stand (Rule number ∷ symbols) (node rule inner next) h =
-    let (inside, inside_is) = trees_stand h.1.0 inner h.1.2 in
-    let (behind, behind_is) = trees_stand symbols next h.2 in
-    let of_sort : IsOf (sort_of number) (action number (parts_of inner)) =
-    subst (λ (parts : List Part). IsOf (sort_of number) (action number parts)) (sym inside_is) (body_stands number h.1.0 inside h.1.1) in
-    let (value, is) = value_in (sort_of number) (action number (parts_of inner)) of_sort in (
-      (value, behind),
-      ap (λ (n : ℕ). action n (parts_of inner) ∷ parts_of next) h.0
-          ∙ ap (λ (part : Part). part ∷ parts_of next) is
-          ∙ ap (λ (parts : List Part). part_of (sort_of number) value ∷ parts) behind_is,
-    )
 
 -- what is inside a node of a rule stands for a part
 pub rule_stands : (number : ℕ) (body : List Symbol) (inner : Nodes Token) → IsBody language number body → AreTrees language (token_class lexicon) body inner
-    → action number (parts_of inner) ≡ Nothing → ⊥
+    → action number (parts_of scheme inner) ≡ Nothing → ⊥
 rule_stands number body inner is are none =
-    let (values, stand) = trees_stand body inner are in
-    nothing_of (sort_of number)
-    (subst (IsOf (sort_of number)) (ap (action number) (sym stand) ∙ none) (body_stands number body values is))
+    nothing_of (slice_index_or sorts number OfNode)
+    (subst (IsOf (slice_index_or sorts number OfNode)) none (inner_stands of_sorts actions (λ parts. Nothing) (λ rule parts. refl) rules_agree number body inner is are))
 
 pub tree_stands : (tree : Nodes Token) → AreTrees language (token_class lexicon) (Rule language.start ∷ []) tree
-    → (placed : PlacedNode) × (parts_of tree ≡ ANode placed ∷ []) × AreWords placed
+    → (placed : PlacedNode) × (parts_of scheme tree ≡ ANode placed ∷ []) × AreWords placed
 unfolding language
-tree_stands tree are = let (values, is) = trees_stand (Rule language.start ∷ []) tree are in (values.0.0, is, values.0.1)
+tree_stands tree are = let (values, is) = trees_stand of_sorts actions (λ parts. Nothing) (λ rule parts. refl) rules_agree (Rule language.start ∷ []) tree are in (values.0.0, is, values.0.1)
 
 -- so the words of a node that a text spells are what the grammar asks
 pub words_spelled : SpelledWords
-words_spelled text placed (items, has, (tree, is, stands)) =
-    let (other, stands_too, words) = tree_stands tree is.derived in
-    let parts : ANode other ∷ [] ≡ ANode placed ∷ [] = sym stands_too ∙ stands in
+words_spelled text placed spells =
+    let (other, stands_too, words) = tree_stands spells.tree spells.is.derived in
+    let parts : ANode other ∷ [] ≡ ANode placed ∷ [] = sym stands_too ∙ spells.stands in
     let same : other ≡ placed = cc in
     subst AreWords same words

@@ -5,13 +5,13 @@ use Rattle.std.specs.Prelude.{bytes_eq}
 use Rattle.std.specs.List.{list_all, flat_map, enumerate_from}
 use Rattle.std.proofs.lemmas.List.{take_at}
 use Rattle.std.proofs.lemmas.Bool.{or_from, or_left, or_right, or_cases, and_parts, not-true, false_from_ne_true, both_ways, false≢true}
+use Rattle.dcv_observer.specs.Naming.{is_among, AreDistinct}
+use Rattle.dcv_observer.proofs.Naming.{Name, is_itself, one_name, differs, among_append_left, among_append_right, among_append_cases, distinct_apart}
 use Rattle.dcv_lustre.specs.Tree.{Kind, OfTruth, OfNumber, Item, Constant, Named, Condition, Holds, Equals, Arm, Test, Right, Delayed, Chosen, Tested}
 use Rattle.dcv_lustre.specs.Tree.{Equation, Node}
 use Rattle.dcv_lustre.specs.Meaning.{ok, local_names, names_of}
-use Rattle.dcv_lustre.specs.Rules.{is_among, kind_of, declared, keeps_declared, keeps_name, keeps_item, keeps_condition, keeps_arm, keeps_right}
+use Rattle.dcv_lustre.specs.Rules.{kind_of, declared, keeps_declared, keeps_name, keeps_item, keeps_condition, keeps_arm, keeps_right}
 use Rattle.dcv_lustre.specs.Rules.{keeps_left, keeps_equation, keeps_equations, lefts_of, judged, IsWellNamed}
-use Rattle.dcv_lustre.proofs.Lookups.{Name, is_itself, one_name, differs, AreDistinct, among_append_left, among_append_right, among_append_cases}
-use Rattle.dcv_lustre.proofs.Lookups.{distinct_apart}
 use Rattle.dcv_lustre.proofs.Runs.{ReadsItem, ReadsCondition, ReadsArms, ReadsTests, Reads, reads_also, IsOnNoLeft, IsInOrder}
 use Rattle.dcv_lustre.proofs.OneTrace.{StandsInOrder}
 

@@ -1,20 +1,16 @@
--- Each word that a rule of names judges has its judgement, so no judgement is lost. And where there is no first that is broken, all keep.
-use Rattle.std.proofs.Common.{◌≡◌, ℕ, Bool, true, false, not, find, List, [], ◌∷◌, ◌++◌, length, map, Option, Some, None, refl, sym, ap, ◌∙◌, arith}
+-- Each word that a rule of names judges has its judgement, so no judgement is lost.
+use Rattle.std.proofs.Common.{◌≡◌, ℕ, List, [], ◌∷◌, ◌++◌, length, map, refl, sym, ◌∙◌, arith}
 use Rattle.std.proofs.Common.{length-append}
-use Rattle.std.specs.Prelude.{option_map}
-use Rattle.std.specs.List.{list_all, flat_map, enumerate_from, zip}
+use Rattle.std.specs.List.{flat_map, enumerate_from}
 use Rattle.std.proofs.lemmas.List.{length-map}
 use Rattle.std.proofs.lemmas.List.FromFn.{length-enumerate_from}
-use Rattle.std.proofs.lemmas.Bool.{false≢true}
 use Rattle.dcv_lexer.specs.Cuts.{Token}
 use Rattle.dcv_lustre.specs.Tree.{Kind, OfNumber, Test, Local, Node}
 use Rattle.dcv_lustre.specs.Placed.{PlacedArm, PlacedTest, PlacedRight, PlacedDelayed, PlacedChosen, PlacedTested, PlacedEquation, PlacedLocal}
 use Rattle.dcv_lustre.specs.Placed.{PlacedNode, arm_of, test_of, right_of, equation_of, local_of, node_of}
 use Rattle.dcv_lustre.specs.Meaning.{ok}
 use Rattle.dcv_lustre.specs.Rules.{declared, keeps_declared, keeps_arm, keeps_right, keeps_name, keeps_equation, keeps_equations, kind_of}
-use Rattle.dcv_lustre.specs.Rules.{has_all_equations, judged, words_of_right, words_of, first_broken, IsWellNamed}
-
--- ---- as many
+use Rattle.dcv_lustre.specs.Rules.{has_all_equations, judged, words_of_right, words_of}
 
 module _ (node : Node) where
   arm_words : (known : List (List ℕ)) (kind : Kind) (arms : List PlacedArm)
@@ -69,30 +65,3 @@ as_many placed =
       length-append kept (last ∷ []),
       equation_words node [] placed.equations,
     )
-
--- ---- none is broken
-
-all_keep : (words : List Token) (keeps : List Bool) → length words ≡ length keeps → find (λ judged. not judged.1) (zip words keeps) ≡ None
-    → list_all (λ keeps. keeps) keeps ≡ true
-all_keep [] [] same none = refl
-all_keep [] (keep ∷ keeps) same none = absurd (omega arith)
-all_keep (word ∷ words) [] same none = refl
-all_keep (word ∷ words) (true ∷ keeps) same none = all_keep words keeps (omega arith) none
-all_keep (word ∷ words) (false ∷ keeps) same none = absurd (let never : Some (word, false) ≡ None = none in cc)
-
-none_found : (words : List Token) (keeps : List Bool) → list_all (λ keeps. keeps) keeps ≡ true → find (λ judged. not judged.1) (zip words keeps) ≡ None
-none_found [] keeps all = refl
-none_found (word ∷ words) [] all = refl
-none_found (word ∷ words) (true ∷ keeps) all = none_found words keeps all
-none_found (word ∷ words) (false ∷ keeps) all = absurd (false≢true all)
-
-no_offset : (found : Option (Token × Bool)) → option_map (λ judged. judged.0.start) found ≡ None → found ≡ None
-no_offset None none = refl
-no_offset (Some judged) none = absurd (let never : Some judged.0.start ≡ None = none in cc)
-
-pub well_named_if_unbroken : (placed : PlacedNode) → first_broken (words_of placed) (judged (node_of placed)) ≡ None → IsWellNamed (node_of placed)
-well_named_if_unbroken placed none =
-    all_keep (words_of placed) (judged (node_of placed)) (as_many placed) (no_offset (find (λ judged. not judged.1) (zip (words_of placed) (judged (node_of placed)))) none)
-
-pub unbroken_if_well_named : (placed : PlacedNode) → IsWellNamed (node_of placed) → first_broken (words_of placed) (judged (node_of placed)) ≡ None
-unbroken_if_well_named placed well = ap (option_map (λ judged. judged.0.start)) (none_found (words_of placed) (judged (node_of placed)) well)

@@ -1,8 +1,6 @@
 pub mod Grammar
 pub mod Examples
 pub mod Lookups
-pub mod GoodNames
-pub mod ObservedFiles
 pub mod Runs
 pub mod OneTrace
 pub mod InOrder
@@ -14,11 +12,9 @@ pub mod ObserverRules
 pub mod ObserverLaws
 pub mod NodePieces
 pub mod LaidOut
-pub mod Spelt
 pub mod Derived
 pub mod DerivedNodes
 pub mod Places
-pub mod OneNode
 pub mod TokenClasses
 pub mod EachTree
 pub mod JudgedWords

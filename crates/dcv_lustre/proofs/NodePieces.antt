@@ -3,23 +3,12 @@
 --     text_in_pieces          they are the text
 use Rattle.std.proofs.Common.{◌≡◌, ℕ, List, [], ◌∷◌, ◌++◌, refl, sym, ap, ◌∙◌, codes, append_assoc, append-nil, decimal}
 use Rattle.std.specs.List.{flat_map, join_by}
-use Rattle.dcv_observer.specs.Pieces.{Piece, Blank, Text, bytes_in, bytes_of}
+use Rattle.dcv_observer.specs.Pieces.{Piece, Text, bytes_of}
+use Rattle.dcv_observer.proofs.PieceLists.{space, line_end, joined, bytes_append, each_in_pieces, joined_in_pieces}
 use Rattle.dcv_lustre.specs.Tree.{Condition, Holds, Equals, Arm, Test, Right, Delayed, Chosen, Tested, Equation, Local, Node}
 use Rattle.dcv_lustre.specs.Meaning.{ok}
 use Rattle.dcv_lustre.specs.Layout.{value_text, item_text, condition_text, arm_text, test_text, right_text, equation_line, kind_text, local_line}
 use Rattle.dcv_lustre.specs.Layout.{local_lines, input_text, text_of}
-
-abbrev pub space : Piece
-space = Blank 32
-
-abbrev pub line_end : Piece
-line_end = Blank 10
-
--- ---- lists with something between every two
-
-abbrev pub joined : {X : Type 0} → List Piece → (X → List Piece) → List X → List Piece
-joined between pieces [] = []
-joined between pieces (x ∷ xs) = pieces x ++ flat_map (λ y. between ++ pieces y) xs
 
 -- ---- parts
 
@@ -70,24 +59,6 @@ pieces_of node =
     ++ (output_pieces ++ (local_line_pieces node.locals ++ end_pieces node))
 
 -- ---- their bytes
-
-pub bytes_append : (xs ys : List Piece) → bytes_of (xs ++ ys) ≡ bytes_of xs ++ bytes_of ys
-bytes_append [] ys = refl
-bytes_append (x ∷ xs) ys = ap (λ bytes. bytes_in x ++ bytes) (bytes_append xs ys) ∙ sym (append_assoc (bytes_in x) (bytes_of xs) (bytes_of ys))
-
--- of what each of a list is written as
-each_in_pieces : {X : Type 0} (pieces : X → List Piece) (text : X → List ℕ) → ((x : X) → bytes_of (pieces x) ≡ text x) → (xs : List X)
-    → bytes_of (flat_map pieces xs) ≡ flat_map text xs
-each_in_pieces pieces text one [] = refl
-each_in_pieces pieces text one (x ∷ xs) = bytes_append (pieces x) (flat_map pieces xs) ∙ (λ i. one x i ++ each_in_pieces pieces text one xs i)
-
-joined_in_pieces : {X : Type 0} (between : List Piece) (sep : List ℕ) (pieces : X → List Piece) (text : X → List ℕ) → bytes_of between ≡ sep
-    → ((x : X) → bytes_of (pieces x) ≡ text x)
-    → (xs : List X) → bytes_of (joined between pieces xs) ≡ join_by text sep xs
-joined_in_pieces between sep pieces text same one [] = refl
-joined_in_pieces between sep pieces text same one (x ∷ xs) =
-    bytes_append (pieces x) _
-    ∙ (λ i. one x i ++ each_in_pieces (λ y. between ++ pieces y) (λ y. sep ++ text y) (λ y. bytes_append between (pieces y) ∙ (λ j. same j ++ one y j)) xs i)
 
 condition_in_pieces : (condition : Condition) → bytes_of (condition_pieces condition) ≡ condition_text condition
 condition_in_pieces (Holds name) = append-nil name

@@ -1,29 +1,28 @@
 -- The observer of a file accepts what the file's table accepts.
-use Rattle.std.proofs.Common.{◌≡◌, ◌↔◌, ℕ, zero, suc, ◌+◌, ◌<◌, Bool, true, false, not, cond, ◌||◌, IsTrue, List, [], ◌∷◌, ◌++◌, length, map, fold}
+use Rattle.std.proofs.Common.{◌≡◌, ◌↔◌, ℕ, suc, ◌+◌, ◌<◌, Bool, true, false, not, cond, ◌||◌, IsTrue, List, [], ◌∷◌, ◌++◌, length, map}
 use Rattle.std.proofs.Common.{get_or, Option, Some, None, inl, inr, refl, sym, ap, subst, ◌∙◌, arith}
-use Rattle.std.specs.Prelude.{slice_get, bytes_eq}
+use Rattle.std.specs.Prelude.{bytes_eq}
 use Rattle.std.specs.List.{AllByRecursion}
 use Rattle.std.proofs.lemmas.Bool.{cases_Bool, false≢true}
-use Rattle.std.proofs.lemmas.List.{length-map, length_push, get_or-map, get_or_default}
+use Rattle.std.proofs.lemmas.List.{length-map, get_or-map}
 use Rattle.std.proofs.lemmas.List.Elements.{recursion_from_All}
-use Rattle.std.proofs.lemmas.Option.{get_or_from_slice_get}
 use Rattle.dcv_word.specs.Behaviour.{Word, IsBehaviour}
-use Rattle.dcv_word.specs.Letter.{bits_of, letters_of_width}
 use Rattle.dcv_word.specs.Laws.{LetterStandsAtItsBits}
 use Rattle.dcv_language.specs.Automaton.{accepts_from}
-use Rattle.dcv_language.specs.Table.{IsTable, no_state, next_in, is_accepting, automaton_of, table_accepts}
+use Rattle.dcv_language.specs.Table.{IsTable, next_in, automaton_of, table_accepts}
 use Rattle.dcv_language.proofs.Bounds.{next-below}
-use Rattle.dcv_automaton_text.specs.File.{Target, NodeLine, AutomatonFile}
-use Rattle.dcv_automaton_text.specs.Meaning.{state_at, states_at, state_of, table_of}
+use Rattle.dcv_automaton_text.specs.File.{AutomatonFile}
+use Rattle.dcv_automaton_text.specs.Meaning.{states_at, table_of}
 use Rattle.dcv_automaton_text.specs.Rules.{slot_of}
-use Rattle.dcv_automaton_text.proofs.GoodTables.{no_line, length-table_of, state-at}
+use Rattle.dcv_automaton_text.proofs.GoodTables.{length-table_of}
+use Rattle.dcv_observer.specs.Naming.{is_among}
+use Rattle.dcv_observer.proofs.Naming.{one_name}
+use Rattle.dcv_automaton_file.proofs.ObservedFiles.{GoodRows, no_row, IsObservable}
+use Rattle.dcv_automaton_file.proofs.Leading.{states_count, table_leads, table_accepts_at}
 use Rattle.dcv_lustre.specs.Tree.{Truth, Number, Equation, Node}
 use Rattle.dcv_lustre.specs.Meaning.{ok, Values, Valuation, value_in, has_only_tick, delayed_value, right_value, IsInstant, IsTraceFrom, IsTrace}
 use Rattle.dcv_lustre.specs.Meaning.{is_ok, is_true, Accepts}
 use Rattle.dcv_lustre.specs.Observer.{next_name, state_name, input_name, input_names, observer_of, state_equation, node_equation, next_equation, ok_equation}
-use Rattle.dcv_lustre.specs.Rules.{is_among}
-use Rattle.dcv_lustre.proofs.Lookups.{one_name}
-use Rattle.dcv_lustre.proofs.ObservedFiles.{GoodRows, no_row, IsObservable}
 use Rattle.dcv_lustre.proofs.ObserverRuns.{AreStates, nodes_stand, rows_stand, output_stands}
 
 -- ---- what is there of each
@@ -31,14 +30,6 @@ use Rattle.dcv_lustre.proofs.ObserverRuns.{AreStates, nodes_stand, rows_stand, o
 pub append_parts : {X : Type 0} (P : X → Type 0) (xs ys : List X) → AllByRecursion P (xs ++ ys) → AllByRecursion P xs × AllByRecursion P ys
 append_parts P [] ys h = (tt, h)
 append_parts P (x ∷ xs) ys h = let rest = append_parts P xs ys h.1 in ((h.0, rest.0), rest.1)
-
--- a state for each line
-states_count : (names : List (List ℕ)) (letter : List Bool) (lines : List NodeLine) (states : List ℕ)
-    → length (fold (λ states (line : NodeLine). states ++ state_at states (cond (get_or letter (slot_of names line.name) false) line.hi line.lo) ∷ []) states lines) ≡ length states + length lines
-states_count names letter [] states = omega arith
-states_count names letter (line ∷ lines) states =
-    let next = state_at states (cond (get_or letter (slot_of names line.name) false) line.hi line.lo) in
-    states_count names letter lines (states ++ next ∷ []) ∙ omega (arith, length_push states next)
 
 -- a name that is listed stands at its slot
 pub name_stands : (names : List (List ℕ)) (name : List ℕ) → is_among names name ≡ true
@@ -64,36 +55,9 @@ not_tick [] some = absurd (omega arith)
 not_tick (name ∷ []) some = refl
 not_tick (name ∷ other ∷ names) some = refl
 
--- ---- the table
-
-some_below : (letters : List (List Bool)) (place : ℕ) (letter : List Bool) → slice_get letters place ≡ Some letter → place < length letters
-some_below [] place letter is = absurd cc
-some_below (one ∷ letters) zero letter is = omega arith
-some_below (one ∷ letters) (suc place) letter is = omega (arith, some_below letters place letter is)
-
 module _ (file : AutomatonFile) (good : IsObservable file) (stands : LetterStandsAtItsBits) where
   abbrev node : Node
   node = observer_of file
-
-  abbrev row_at : ℕ → Target
-  row_at state = (get_or file.state_lines state no_row).row
-
-  state_there : (state : ℕ) → state < length file.state_lines → get_or (table_of file) state no_state ≡ state_of file (get_or file.state_lines state no_row)
-  state_there state within = state-at file state no_state within ∙ ap (state_of file) (get_or_default file.state_lines state no_line no_row within)
-
-  -- the table leads as the lines do
-  table_leads : (state : ℕ) (letter : List Bool) → state < length file.state_lines → length letter ≡ length file.names
-      → next_in (table_of file) state letter ≡ state_at (states_at file.names letter file.node_lines) (row_at state)
-  table_leads state letter within width =
-      let value = λ (one : List Bool). state_at (states_at file.names one file.node_lines) (row_at state) in
-      let letters = letters_of_width (length file.names) in
-      let there = subst (λ size. slice_get (letters_of_width size) (bits_of letter) ≡ Some letter) width (stands letter) in
-      ap (λ state. get_or state.row (bits_of letter) 0) (state_there state within)
-      ∙ get_or-map value letters (bits_of letter) letter 0 (some_below letters (bits_of letter) letter there)
-      ∙ ap value (get_or_from_slice_get letters (bits_of letter) letter letter there)
-
-  table_accepts_at : (state : ℕ) → state < length file.state_lines → is_accepting (table_of file) state ≡ (get_or file.state_lines state no_row).accepting
-  table_accepts_at state within = ap (λ state. state.accepting) (state_there state within)
 
   observer_inputs : node.inputs ≡ input_names file.names
   unfolding observer_of
@@ -150,7 +114,7 @@ module _ (file : AutomatonFile) (good : IsObservable file) (stands : LetterStand
       let rows : GoodRows most (length states) 0 file.state_lines = subst (λ n. GoodRows most n 0 file.state_lines) (sym count) good.rows in
       let nx : values next_name ≡ Number (next_in (table_of file) state letter) =
       parts.1.0 ∙ rows_stand values before states most file.state_lines 0 state are rows within st
-      ∙ ap Number (sym (table_leads state letter within width)) in
+      ∙ ap Number (sym (table_leads file stands state letter within width)) in
       record { next = nx; output = parts.1.1.0 ∙ output_stands values before (next_in (table_of file) state letter) nx most (length file.node_lines) file.state_lines good.rows }
 
   module _ (table : IsTable (length file.names) (table_of file)) where
@@ -168,7 +132,7 @@ module _ (file : AutomatonFile) (good : IsObservable file) (stands : LetterStand
     trace_follows before (letter ∷ word) [] state h widths some at within = absurd h
     trace_follows before (letter ∷ []) (now ∷ []) state h widths some at within =
         ap is_true (instant_follows before now letter state h.0 widths.0 at within).output
-        ∙ sym (table_accepts_at (next_in (table_of file) state letter) (next_below state letter within))
+        ∙ sym (table_accepts_at file stands (next_in (table_of file) state letter) (next_below state letter within))
     trace_follows before (letter ∷ []) (now ∷ other ∷ trace) state h widths some at within = absurd h.1
     trace_follows before (letter ∷ second ∷ word) (now ∷ []) state h widths some at within = absurd h.1
     trace_follows before (letter ∷ second ∷ word) (now ∷ other ∷ trace) state h widths some at within =

@@ -16,15 +16,15 @@ use Rattle.dcv_automaton_text.proofs.Words.{digits_are}
 use Rattle.dcv_lexer.specs.Lexicon.{is_word, is_word_byte, word_class}
 use Rattle.dcv_observer.specs.Classes.{name as plain_name, is_short_word, class_of}
 use Rattle.dcv_observer.proofs.Limits.{short_word}
+use Rattle.dcv_observer.specs.Naming.{is_among}
+use Rattle.dcv_observer.proofs.Naming.{differs, one_name}
+use Rattle.dcv_automaton_file.proofs.ObservedFiles.{IsBelow, GoodLines, GoodRows, IsObservable}
 use Rattle.dcv_lustre.specs.Classes.{lexicon, word_ok}
 use Rattle.dcv_lustre.specs.Tree.{Test, Equation, Local}
 use Rattle.dcv_lustre.specs.Meaning.{ok, tick}
 use Rattle.dcv_lustre.specs.Form.{IsName, IsItem, IsArm, IsTest, IsRight, IsEquation, IsSpellable}
 use Rattle.dcv_lustre.specs.Observer.{state_name, next_name, node_name, input_name, input_names, item_of, node_equation, row_arms, last_row}
 use Rattle.dcv_lustre.specs.Observer.{next_equation, state_test, accepting_tests, ok_right, ok_equation, node_local, observer_of}
-use Rattle.dcv_lustre.proofs.Lookups.{differs, one_name}
-use Rattle.dcv_lustre.specs.Rules.{is_among}
-use Rattle.dcv_lustre.proofs.ObservedFiles.{IsBelow, GoodLines, GoodRows, IsObservable}
 
 -- ---- names
 

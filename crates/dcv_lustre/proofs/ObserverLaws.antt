@@ -12,10 +12,10 @@ use Rattle.dcv_automaton_file.specs.File.{file_of}
 use Rattle.dcv_automaton_file.specs.Laws.{FileHasTheTable}
 use Rattle.dcv_dfa.specs.Laws.{StatesMakeATable, TableAcceptsAsTheStates}
 use Rattle.dcv_dfa.specs.Raw.{raw_accepts}
+use Rattle.dcv_automaton_file.proofs.ObservedFiles.{IsObservable, good_is_observable, automaton_is_observable}
 use Rattle.dcv_lustre.specs.Meaning.{has_only_tick, width_of}
 use Rattle.dcv_lustre.specs.Observer.{input_name, input_names, observer_of}
 use Rattle.dcv_lustre.specs.Laws.{TraceExists, Observes, ObserverOfFile, ObserverOfAutomaton}
-use Rattle.dcv_lustre.proofs.ObservedFiles.{IsObservable, good_is_observable, automaton_is_observable}
 use Rattle.dcv_lustre.proofs.ObserverAccepts.{not_tick, observer_accepts}
 use Rattle.dcv_lustre.proofs.ObserverRules.{observer_is_well_named}
 use Rattle.dcv_lustre.proofs.ObserverForms.{observer_is_spellable}

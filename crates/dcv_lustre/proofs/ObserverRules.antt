@@ -6,18 +6,20 @@ use Rattle.std.specs.List.{AllPairs, enumerate_from, flat_map, list_all, filter}
 use Rattle.std.proofs.lemmas.List.{take_at, length-map}
 use Rattle.std.proofs.lemmas.Bool.{or_parts, or_from, or_left, or_right, and_from, both_ways, not_from_false, lt-ltb, le-leb, cases_lt, false≢true}
 use Rattle.dcv_automaton_text.specs.File.{Target, ToState, ToNode, NodeLine, StateLine, AutomatonFile}
+use Rattle.dcv_observer.specs.Naming.{is_among, AreDistinct}
+use Rattle.dcv_observer.proofs.Naming.{Name, is_itself, differs, among_here, among_later, among_append_left, among_append_right, distinct_apart}
+use Rattle.dcv_observer.proofs.ObserverNames.{node_names, next_is_no_node, node_is_no_other, among_no_nodes, node_is_among, variable_is_among}
+use Rattle.dcv_automaton_file.proofs.ObservedFiles.{IsBelow, GoodLine, GoodLines, GoodRows, IsObservable}
 use Rattle.dcv_lustre.specs.Tree.{OfTruth, OfNumber, Test, Right, Equation, Node}
 use Rattle.dcv_lustre.specs.Meaning.{ok, local_names, names_of}
-use Rattle.dcv_lustre.specs.Rules.{most_inputs, is_among, names_of_kind, kind_of, declared, keeps_declared, keeps_name, keeps_item, keeps_arm}
+use Rattle.dcv_lustre.specs.Rules.{most_inputs, names_of_kind, kind_of, declared, keeps_declared, keeps_name, keeps_item, keeps_arm}
 use Rattle.dcv_lustre.specs.Rules.{keeps_right, keeps_form, keeps_left, keeps_equation, keeps_equations, lefts_of, has_all_equations, judged}
 use Rattle.dcv_lustre.specs.Rules.{IsWellNamed}
 use Rattle.dcv_lustre.specs.Observer.{state_name, next_name, node_name, input_name, input_names, item_of, state_equation, node_equation, row_arms}
 use Rattle.dcv_lustre.specs.Observer.{last_row, next_equation, state_test, accepting_tests, ok_right, ok_equation, observer_of}
-use Rattle.dcv_lustre.proofs.Lookups.{Name, is_itself, differs, AreDistinct, among_here, among_later, among_append_left, among_append_right, distinct_apart}
-use Rattle.dcv_lustre.proofs.ObserverNames.{node_names, names_of_locals, numbers_of_locals, truths_of_locals, next_is_no_node, node_is_no_other}
-use Rattle.dcv_lustre.proofs.ObserverNames.{among_no_nodes, node_is_among, input_is_among, no_input, all_distinct, others_are_no_inputs}
+use Rattle.dcv_lustre.proofs.ObserverNames.{names_of_locals, numbers_of_locals, truths_of_locals}
+use Rattle.dcv_lustre.proofs.ObserverNames.{no_input, all_distinct, others_are_no_inputs}
 use Rattle.dcv_lustre.proofs.ObserverNames.{output_is_no_local}
-use Rattle.dcv_lustre.proofs.ObservedFiles.{IsBelow, GoodLine, GoodLines, GoodRows, IsObservable}
 
 abbrev AllKeep : List Bool → Type 0
 AllKeep keeps = list_all (λ k. k) keeps ≡ true
@@ -200,7 +202,7 @@ module _ (file : AutomatonFile) (good : IsObservable file) where
     where
       among_inputs : (names : List Name) (name : Name) → is_among names name ≡ true → is_among (input_names names) (input_name name) ≡ true
       among_inputs [] name among = absurd (false≢true among)
-      among_inputs (n ∷ names) name among = input_is_among (n ∷ names) name among
+      among_inputs (n ∷ names) name among = variable_is_among (n ∷ names) name among
 
   -- ---- the last two equations
 

@@ -1,24 +1,19 @@
 -- At each instant of a trace the observer of a file does what the file's table does.
-use Rattle.std.proofs.Common.{◌≡◌, ℕ, zero, suc, ◌+◌, ◌<◌, Bool, true, false, cond, ◌||◌, nat_eq, List, [], ◌∷◌, ◌++◌, length, map, fold, get_or}
+use Rattle.std.proofs.Common.{◌≡◌, ℕ, zero, suc, ◌+◌, ◌<◌, Bool, true, false, cond, nat_eq, List, [], ◌∷◌, ◌++◌, length, map, fold, get_or}
 use Rattle.std.proofs.Common.{Option, inl, inr, refl, sym, ap, subst, ◌∙◌, arith}
-use Rattle.std.specs.List.{AllByRecursion, list_any, filter}
+use Rattle.std.specs.List.{AllByRecursion, list_any}
 use Rattle.std.proofs.lemmas.Bool.{cases_lt}
 use Rattle.std.proofs.lemmas.List.{length_push, get_or_append_left, get_or_push}
 use Rattle.dcv_automaton_text.specs.File.{Target, ToState, ToNode, NodeLine, StateLine}
 use Rattle.dcv_automaton_text.specs.Meaning.{state_at}
 use Rattle.dcv_automaton_text.specs.Rules.{slot_of}
+use Rattle.dcv_observer.specs.Naming.{is_among}
+use Rattle.dcv_automaton_file.proofs.ObservedFiles.{IsBelow, GoodLines, GoodRows, no_row}
+use Rattle.dcv_automaton_file.proofs.Leading.{same_number, other_number, passes_where_accepting}
 use Rattle.dcv_lustre.specs.Tree.{Truth, Number, Test, Equation}
 use Rattle.dcv_lustre.specs.Meaning.{Values, item_value, chosen_value, passes, right_value, is_true, is_number}
-use Rattle.dcv_lustre.specs.Rules.{is_among}
 use Rattle.dcv_lustre.specs.Observer.{state_name, next_name, node_name, input_name, item_of, node_equation, row_arms, last_row, state_test}
 use Rattle.dcv_lustre.specs.Observer.{accepting_tests, ok_right}
-use Rattle.dcv_lustre.proofs.ObservedFiles.{IsBelow, GoodLines, GoodRows, no_row}
-
-same_number : (n : ℕ) → nat_eq n n ≡ true
-same_number n = grind arith
-
-other_number : (n m : ℕ) → (n ≡ m → ⊥) → nat_eq n m ≡ false
-other_number n m differ = grind (arith, differ)
 
 module _ (now : Values) (before : Option Values) where
   -- ---- nodes
@@ -96,62 +91,12 @@ module _ (now : Values) (before : Option Values) where
   -- ---- the output
 
   module _ (next : ℕ) (at : now next_name ≡ Number next) where
-    passes_at : (line : StateLine) → passes now (state_test line) ≡ nat_eq next line.number
-    passes_at line = ap (λ value. is_number value line.number) at
-
-    -- one line more: its test is among those that are asked where it accepts
-    one_more : (line : StateLine) (lines : List StateLine)
-        → list_any (passes now) (accepting_tests (line ∷ lines))
-        ≡ cond line.accepting (nat_eq next line.number || list_any (passes now) (accepting_tests lines)) (list_any (passes now) (accepting_tests lines))
-    one_more line lines = by line.accepting
-      where
-        by : (b : Bool)
-            → list_any (passes now) (map state_test (cond b (line ∷ filter (λ (line : StateLine). line.accepting) lines) (filter (λ (line : StateLine). line.accepting) lines)))
-            ≡ cond b (nat_eq next line.number || list_any (passes now) (accepting_tests lines)) (list_any (passes now) (accepting_tests lines))
-        by true = λ i. passes_at line i || list_any (passes now) (accepting_tests lines)
-        by false = refl
-
-    skipped : (line : StateLine) (lines : List StateLine) → (next ≡ line.number → ⊥)
-        → list_any (passes now) (accepting_tests (line ∷ lines)) ≡ list_any (passes now) (accepting_tests lines)
-    skipped line lines differ =
-        one_more line lines
-        ∙ ap (λ same. cond line.accepting (same || list_any (passes now) (accepting_tests lines)) (list_any (passes now) (accepting_tests lines))) (other_number next line.number differ)
-        ∙ either line.accepting
-      where
-        either : (b : Bool)
-            → cond b (list_any (passes now) (accepting_tests lines)) (list_any (passes now) (accepting_tests lines)) ≡ list_any (passes now) (accepting_tests lines)
-        either true = refl
-        either false = refl
-
-    none_passes : (most nodes : ℕ) (lines : List StateLine) (first : ℕ) → GoodRows most nodes first lines → next < first
-        → list_any (passes now) (accepting_tests lines) ≡ false
-    none_passes most nodes [] first good before_it = refl
-    none_passes most nodes (line ∷ lines) first good before_it =
-        let number = good.0.number_is in
-        skipped line lines (λ same. omega (arith, same, number)) ∙ none_passes most nodes lines (first + 1) good.1 (omega arith)
-
-    tests_stand : (most nodes : ℕ) (lines : List StateLine) (first place : ℕ) → GoodRows most nodes first lines → next ≡ first + place
-        → list_any (passes now) (accepting_tests lines) ≡ (get_or lines place no_row).accepting
-    tests_stand most nodes [] first place good is = refl
-    tests_stand most nodes (line ∷ lines) first zero good is =
-        let same : next ≡ line.number = omega (arith, is, good.0.number_is) in
-        let none = none_passes most nodes lines (first + 1) good.1 (omega (arith, is)) in
-        one_more line lines
-        ∙ (λ i. cond line.accepting (nat_eq (same i) line.number || none i) (none i))
-        ∙ ap (λ b. cond line.accepting (b || false) false) (same_number line.number)
-        ∙ itself line.accepting
-      where
-        itself : (b : Bool) → cond b true false ≡ b
-        itself true = refl
-        itself false = refl
-    tests_stand most nodes (line ∷ lines) first (suc place) good is =
-        let number = good.0.number_is in
-        skipped line lines (λ same. omega (arith, is, same, number)) ∙ tests_stand most nodes lines (first + 1) place good.1 (omega (arith, is))
-
     ok_stands : (tests : List Test) → right_value before now (ok_right tests) ≡ Truth (list_any (passes now) tests)
     ok_stands [] = refl
     ok_stands (test ∷ tests) = refl
 
     pub output_stands : (most nodes : ℕ) (lines : List StateLine) → GoodRows most nodes 0 lines
         → right_value before now (ok_right (accepting_tests lines)) ≡ Truth (get_or lines next no_row).accepting
-    output_stands most nodes lines good = ok_stands (accepting_tests lines) ∙ ap Truth (tests_stand most nodes lines 0 next good (let e : next ≡ 0 + next = omega arith in e))
+    output_stands most nodes lines good =
+        ok_stands (accepting_tests lines)
+        ∙ ap Truth (passes_where_accepting next (passes now) state_test (λ line. ap (λ value. is_number value line.number) at) most nodes lines good)

@@ -1,15 +1,14 @@
 -- What is made of an automaton is its observer.
-use Rattle.std.proofs.Common.{◌≡◌, ℕ, ◌+◌, ◌<◌, ◌≤◌, List, [], ◌∷◌, ◌++◌, length, map, take, get_or, refl, sym, ap, ◌∙◌, arith, codes, append_assoc}
-use Rattle.std.specs.List.{All, range_with_len, enumerate_from}
+use Rattle.std.proofs.Common.{◌≡◌, ℕ, ◌+◌, ◌<◌, ◌≤◌, List, [], ◌∷◌, ◌++◌, length, map, take, get_or, refl, sym, ap, ◌∙◌, codes, append_assoc}
+use Rattle.std.specs.List.{range_with_len, enumerate_from}
 use Rattle.std.proofs.lemmas.List.{take_all, map_push}
 use Rattle.std.proofs.lemmas.Option.{slice_get-get_or}
-use Rattle.dcv_dfa.specs.declared.node_lines.Child.{Child}
-use Rattle.dcv_dfa.specs.declared.node_lines.Child.TheVariants.{State, Node as NodeAt}
 use Rattle.dcv_dfa.specs.declared.node_lines.NodeLine.{NodeLine}
-use Rattle.dcv_dfa.specs.NodeLines.{NodeLinesValue, node_lines_of, IsBelow, IsLine, AreReduced}
+use Rattle.dcv_dfa.specs.NodeLines.{NodeLinesValue, node_lines_of, IsLine, AreReduced}
 use Rattle.dcv_dfa.specs.Raw.{RawValue}
 use Rattle.dcv_automaton_text.specs.File.{StateLine, AccessLine, SuffixLine}
-use Rattle.dcv_automaton_file.specs.File.{node_line, file_of}
+use Rattle.dcv_automaton_file.specs.File.{node_line, file_of, state_lines}
+use Rattle.dcv_automaton_file.proofs.Rows.{numbered_more}
 use Rattle.dcv_lustre.specs.declared.node.Equation.{Equation as CodeEquation}
 use Rattle.dcv_lustre.specs.declared.node.Local.{Local as CodeLocal}
 use Rattle.dcv_lustre.specs.Tree.{Local}
@@ -17,15 +16,7 @@ use Rattle.dcv_lustre.specs.Meaning.{ok}
 use Rattle.dcv_lustre.specs.Seen.{seen_equation, seen_local, all_names, seen_node}
 use Rattle.dcv_lustre.specs.Observer.{state_name, next_name, node_name, input_names, number_local, node_local, state_equation, node_equation}
 use Rattle.dcv_lustre.specs.Observer.{next_equation, ok_equation, observer_of}
-use Rattle.dcv_lustre.specs.Building.{observer_names, state_lines}
-use Rattle.dcv_lustre.proofs.Rows.{numbered_more}
-
-pub below_more : (a b c d : ℕ) (child : Child) → a ≤ c → b ≤ d → IsBelow a b child → IsBelow c d child
-below_more a b c d (State state) first second below = omega (arith, below, first)
-below_more a b c d (NodeAt number) first second below = omega (arith, below, second)
-
-pub all_below_more : (a b c d : ℕ) (rows : List Child) → a ≤ c → b ≤ d → All (IsBelow a b) rows → All (IsBelow c d) rows
-all_below_more a b c d rows first second below = λ k e within. below_more a b c d (get_or rows k e) first second (below k e within)
+use Rattle.dcv_lustre.specs.Building.{observer_names}
 
 pub line_is : (slots states : ℕ) (all : NodeLinesValue) → AreReduced slots states all → (k : ℕ) (d : NodeLine) → k < length all.lines
     → IsLine slots states all.lines k (get_or all.lines k d)

@@ -6,10 +6,11 @@ use Rattle.std.proofs.lemmas.List.{length-map}
 use Rattle.std.proofs.lemmas.List.Elements.{All-from_recursion, recursion_from_All}
 use Rattle.std.proofs.lemmas.Bool.{cases_Bool, false_from_ne_true, both_ways}
 use Rattle.dcv_word.specs.Behaviour.{Word}
+use Rattle.dcv_observer.specs.Naming.{is_among, AreDistinct}
+use Rattle.dcv_observer.proofs.Naming.{Name, distinct_front, among_append_left}
 use Rattle.dcv_lustre.specs.Tree.{Value, Truth, Equation, Node}
 use Rattle.dcv_lustre.specs.Meaning.{Values, Valuation, names_of, value_in, inputs_at, right_value, IsInstant, IsTraceFrom}
-use Rattle.dcv_lustre.specs.Rules.{is_among}
-use Rattle.dcv_lustre.proofs.Lookups.{Name, AreDistinct, distinct_front, lookup, lookup_map, lookup_absent, maps_agree, map_lookup, among_append_left}
+use Rattle.dcv_lustre.proofs.Lookups.{lookup, lookup_map, lookup_absent, maps_agree, map_lookup}
 use Rattle.dcv_lustre.proofs.Runs.{run, IsInOrder, IsOnNoLeft, run_keeps, run_holds, run_is_one}
 
 pub record StandsInOrder (node : Node) : Type 0 where

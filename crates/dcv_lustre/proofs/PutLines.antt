@@ -1,53 +1,21 @@
 -- What is put of an observer, line by line, is its text.
-use Rattle.std.proofs.Common.{◌≡◌, ℕ, ◌+◌, ◌<◌, ◌≤◌, Bool, true, false, ◌||◌, if◌then◌else◌, cond, List, [], ◌∷◌, ◌++◌, length, map, take, get_or, refl, sym, ap, subst, ◌∙◌, arith, codes}
-use Rattle.std.specs.List.{All, range_with_len, enumerate_from, flat_map, join_by}
+use Rattle.std.proofs.Common.{◌≡◌, ℕ, ◌+◌, ◌<◌, Bool, true, false, ◌||◌, if◌then◌else◌, cond, List, [], ◌∷◌, ◌++◌, length, map, take, get_or, refl, sym, ap, ◌∙◌, arith, codes}
+use Rattle.std.specs.List.{range_with_len, enumerate_from, flat_map, join_by}
 use Rattle.std.proofs.lemmas.Grind.{flat_map-append}
 use Rattle.std.proofs.lemmas.List.{append_assoc, append-nil, map_push, get_or-map, length-map}
 use Rattle.std.proofs.lemmas.List.FromFn.{length-range_with_len, get_or-range_with_len}
 use Rattle.dcv_syntax.specs.declared.names.Name.{Name}
 use Rattle.dcv_dfa.specs.declared.node_lines.NodeLine.{NodeLine}
-use Rattle.dcv_dfa.specs.Auto.{IsAuto, count_of_nodes}
-use Rattle.dcv_dfa.specs.NodeLines.{NodeLinesValue, node_lines_of, numbered, IsBelow, AreReduced}
-use Rattle.dcv_dfa.specs.Raw.{RawValue, IsRaw}
-use Rattle.dcv_dfa.proofs.Reduced.{has_node_lines}
+use Rattle.dcv_dfa.specs.NodeLines.{NodeLinesValue, node_lines_of}
+use Rattle.dcv_dfa.specs.Raw.{RawValue}
 use Rattle.dcv_automaton_text.specs.File.{AccessLine, SuffixLine}
-use Rattle.dcv_automaton_file.specs.File.{texts_of, node_line, file_of}
+use Rattle.dcv_automaton_file.specs.File.{texts_of, node_line, file_of, state_lines}
+use Rattle.dcv_automaton_file.proofs.Rows.{range_more, numbered_more}
 use Rattle.dcv_lustre.specs.Tree.{Test}
 use Rattle.dcv_lustre.specs.Layout.{input_text, local_lines, test_text, right_text, equation_line, text_of}
 use Rattle.dcv_lustre.specs.Observer.{input_name, input_names, state_name, next_name, node_name, number_local, state_equation, node_equation, next_equation}
 use Rattle.dcv_lustre.specs.Observer.{ok_right, ok_equation, observer_of}
-use Rattle.dcv_lustre.specs.Building.{state_lines, Fits}
-use Rattle.dcv_lustre.proofs.OfAuto.{below_more, all_below_more, line_is, locals_are}
-use Rattle.dcv_lustre.proofs.Rows.{range_more, numbered_more}
-
--- ---- the lines that are put
-
-pub record AreLined (slots states : ℕ) (all : NodeLinesValue) : Type 0 where
-  pub count : length all.lines ≤ 1000000
-  pub fit : All (Fits slots (length all.lines)) all.lines
-  pub row_count : length all.rows ≡ states
-  pub rows : All (IsBelow 32768 (length all.lines)) all.rows
-
--- those of an automaton with few states and few nodes
-pub are_lined : (raw : RawValue) (all : NodeLinesValue) → IsRaw raw → IsAuto raw → length raw.rows ≤ 32000 → count_of_nodes raw ≤ 1000000 → all ≡ node_lines_of raw
-    → AreLined raw.arena.slots (length raw.rows) all
-are_lined raw all is auto few nodes same =
-    let lines = node_lines_of raw in
-    let known = has_node_lines raw is auto.nodes (numbered raw.arena raw.rows) refl in
-    let reduced : AreReduced raw.arena.slots (length raw.rows) lines = known.reduced in
-    subst (AreLined raw.arena.slots (length raw.rows)) (sym same) (record {
-      count = omega (arith, known.count, nodes);
-      fit = λ k d within.
-          let line = get_or lines.lines k d in
-          let one = line_is raw.arena.slots (length raw.rows) lines reduced k d within in
-          record {
-            slot = one.slot;
-            hi = below_more (length raw.rows) k 32768 (length lines.lines) line.hi (omega (arith, few)) (omega (arith, within)) one.hi_below;
-            lo = below_more (length raw.rows) k 32768 (length lines.lines) line.lo (omega (arith, few)) (omega (arith, within)) one.lo_below;
-          };
-      row_count = reduced.count;
-      rows = all_below_more (length raw.rows) (length lines.lines) 32768 (length lines.lines) lines.rows (omega (arith, few)) (omega arith) reduced.rows;
-    })
+use Rattle.dcv_lustre.proofs.OfAuto.{locals_are}
 
 -- ---- names
 

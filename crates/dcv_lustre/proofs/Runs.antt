@@ -7,10 +7,11 @@ use Rattle.std.proofs.Common.{◌≡◌, false, cond, ◌||◌, List, [], ◌∷
 use Rattle.std.specs.Prelude.{bytes_eq}
 use Rattle.std.specs.List.{AllByRecursion, list_any}
 use Rattle.std.proofs.lemmas.Bool.{cases_Bool, or_parts, or_from}
+use Rattle.dcv_observer.specs.Naming.{is_among}
+use Rattle.dcv_observer.proofs.Naming.{Name, is_itself, one_name}
 use Rattle.dcv_lustre.specs.Tree.{Value, Truth, Item, Constant, Named, Condition, Holds, Equals, Arm, Test, Right, Delayed, Chosen, Tested, Equation}
 use Rattle.dcv_lustre.specs.Meaning.{Values, item_value, holds, chosen_value, passes, right_value, is_true, is_number}
-use Rattle.dcv_lustre.specs.Rules.{is_among, lefts_of}
-use Rattle.dcv_lustre.proofs.Lookups.{Name, is_itself, one_name}
+use Rattle.dcv_lustre.specs.Rules.{lefts_of}
 
 -- ---- what is read
 

@@ -1,14 +1,15 @@
 -- What the tokens of a class are.
-use Rattle.std.proofs.Common.{◌≡◌, ℕ, Bool, true, false, not, cond, ◌&&◌, ◌||◌, nat_eq, nat_le, List, [], ◌∷◌, length, Some, codes, refl, sym, subst, ◌∙◌, ◌≤◌, arith, eq-eqb}
+use Rattle.std.proofs.Common.{◌≡◌, ℕ, Bool, true, false, not, cond, ◌&&◌, ◌||◌, nat_eq, nat_le, List, [], ◌∷◌, Some, codes, refl, sym, subst, ◌∙◌, ◌≤◌, arith, eq-eqb}
 use Rattle.std.specs.Prelude.{bytes_eq, unwrap_or}
 use Rattle.std.specs.List.{list_all}
 use Rattle.std.proofs.lemmas.Bool.{and_parts, and_from, or_left, or_right, both_ways, false≢true}
 use Rattle.std.proofs.lemmas.Bool.Decides.{nat_tests}
 use Rattle.std.proofs.lemmas.Slice.Eq.{bytes_eq-Decides}
-use Rattle.dcv_lexer.specs.Lexicon.{is_word, is_number, class_in, word_class, symbol_class}
+use Rattle.dcv_lexer.specs.Lexicon.{is_number, class_in, word_class, symbol_class}
 use Rattle.dcv_lexer.specs.Decimal.{value_of}
 use Rattle.dcv_lexer.specs.Cuts.{Token}
-use Rattle.dcv_observer.specs.Classes.{name as plain_name, number, unknown, longest_word, largest_number, is_short_word, is_small_number, class_of}
+use Rattle.dcv_observer.specs.Classes.{name as plain_name, number, unknown, largest_number, is_short_word, is_small_number, class_of}
+use Rattle.dcv_observer.proofs.TokenClasses.{class_passes, other_class, Sorted, AWord, ANumber, ASymbol, NoToken, sorted}
 use Rattle.dcv_lustre.specs.Classes.{lexicon, word_ok, word_true, word_false, reserved_words}
 use Rattle.dcv_lustre.specs.Tree.{Truth, Number, Constant, Named}
 use Rattle.dcv_lustre.specs.Placed.{is_true_word, value_at}
@@ -17,19 +18,6 @@ use Rattle.dcv_lustre.specs.Words.{IsNameWord, IsItemWord, IsLiteralWord}
 use Rattle.dcv_lustre.proofs.Derived.{name_is_no_constant}
 
 -- ---- classes in a table
-
--- the class of a text in a table, or another, passes a test that all of them pass
-class_passes : (p : ℕ → Bool) (entries : List (List ℕ × ℕ)) (bytes : List ℕ) (other : ℕ) → list_all (λ entry. p entry.1) entries ≡ true → p other ≡ true
-    → p (unwrap_or (class_in entries bytes) other) ≡ true
-class_passes p [] bytes other all last = last
-class_passes p (entry ∷ entries) bytes other all last =
-    let parts = and_parts (p entry.1) (list_all (λ entry. p entry.1) entries) all in
-    by (bytes_eq bytes entry.0) parts.0 (class_passes p entries bytes other parts.1 last)
-  where
-    by : (here : Bool) → p entry.1 ≡ true → p (unwrap_or (class_in entries bytes) other) ≡ true
-        → p (unwrap_or (cond here (Some entry.1) (class_in entries bytes)) other) ≡ true
-    by true first later = first
-    by false first later = later
 
 -- of a class that one text alone has, it is the text
 text_of_class : (class : ℕ) (text : List ℕ) (entries : List (List ℕ × ℕ)) (bytes : List ℕ) (other : ℕ)
@@ -53,29 +41,6 @@ text_of_class class text (entry ∷ entries) bytes other all none is =
 
 -- ---- the class of a token
 
--- what a token of a class is, by whether it is a word or a number
-data Sorted (bytes : List ℕ) (class : ℕ) : Type 0 where
-  AWord : is_short_word bytes ≡ true → word_class lexicon bytes ≡ class → Sorted bytes class
-  ANumber : is_small_number bytes ≡ true → number ≡ class → Sorted bytes class
-  ASymbol : symbol_class lexicon bytes ≡ class → Sorted bytes class
-  NoToken : unknown ≡ class → Sorted bytes class
-
-sorted : (bytes : List ℕ) (class : ℕ) → class_of lexicon bytes ≡ class → Sorted bytes class
-unfolding lexicon
-sorted bytes class is = by (is_word bytes) (is_number bytes) (nat_le (length bytes) longest_word) (nat_le (value_of bytes) largest_number) refl refl refl refl is
-  where
-    by : (word digits short small : Bool) → is_word bytes ≡ word → is_number bytes ≡ digits → nat_le (length bytes) longest_word ≡ short → nat_le (value_of bytes) largest_number ≡ small
-        → cond (cond word short (cond digits small true)) (cond word (word_class lexicon bytes) (cond digits number (symbol_class lexicon bytes))) unknown ≡ class → Sorted bytes class
-    by true digits true small w d s v is = AWord (and_from (is_word bytes) _ w s) is
-    by true digits false small w d s v is = NoToken is
-    by false true short true w d s v is = ANumber (and_from (is_number bytes) _ d v) is
-    by false true short false w d s v is = NoToken is
-    by false false short small w d s v is = ASymbol is
-
--- no symbol has these classes, and no word that of numbers
-other_class : (p : ℕ → Bool) (found class : ℕ) → p found ≡ true → found ≡ class → p class ≡ true
-other_class p found class passes is = subst (λ (k : ℕ). p k ≡ true) is passes
-
 module _ (bytes : List ℕ) where
   no_symbol : (class : ℕ) → (nat_le 2 class && nat_le class 8) ≡ false → symbol_class lexicon bytes ≡ class → ⊥
   unfolding lexicon
@@ -85,9 +50,10 @@ module _ (bytes : List ℕ) where
 
   short_word_of : (class : ℕ) → (nat_le 2 class && nat_le class 8) ≡ false → nat_eq class number ≡ false → nat_eq class unknown ≡ false → class_of lexicon bytes ≡ class
       → (is_short_word bytes ≡ true) × (word_class lexicon bytes ≡ class)
-  short_word_of class outside no_number known is = by (sorted bytes class is)
+  unfolding lexicon
+  short_word_of class outside no_number known is = by (sorted lexicon bytes class is)
     where
-      by : Sorted bytes class → (is_short_word bytes ≡ true) × (word_class lexicon bytes ≡ class)
+      by : Sorted lexicon bytes class → (is_short_word bytes ≡ true) × (word_class lexicon bytes ≡ class)
       by (AWord short same) = (short, same)
       by (ANumber small same) = absurd (both_ways (nat_eq class number) no_number (subst (λ (k : ℕ). nat_eq k number ≡ true) same refl))
       by (ASymbol same) = absurd (no_symbol class outside same)
@@ -105,9 +71,9 @@ module _ (bytes : List ℕ) where
 
   pub is_number_word : class_of lexicon bytes ≡ number → is_small_number bytes ≡ true
   unfolding lexicon
-  is_number_word is = by (sorted bytes number is)
+  is_number_word is = by (sorted lexicon bytes number is)
     where
-      by : Sorted bytes number → is_small_number bytes ≡ true
+      by : Sorted lexicon bytes number → is_small_number bytes ≡ true
       by (AWord short same) =
           absurd (false≢true (other_class (λ (k : ℕ). not (nat_eq k 1)) (word_class lexicon bytes) number (class_passes (λ (k : ℕ). not (nat_eq k 1)) lexicon.words bytes lexicon.name refl refl) same))
       by (ANumber small same) = small

@@ -5,27 +5,14 @@
 --     next_equation lines   that of `nx`, by the lines of the states
 --     ok_equation lines     that of the output
 use Rattle.std.specs.Prelude.{ℕ, false, List, [], ◌∷◌, ◌++◌, map, codes}
-use Rattle.std.specs.Fmt.{decimal}
 use Rattle.std.specs.List.{filter}
-use Rattle.std.specs.Str.{byte}
 use Rattle.dcv_automaton_text.specs.File.{Target, ToState, ToNode, NodeLine, StateLine, AutomatonFile}
+pub use Rattle.dcv_observer.specs.Naming.{state_name, next_name, node_name, variable_name as input_name}
 use Rattle.dcv_lustre.specs.Tree.{Truth, Number, OfNumber, Item, Constant, Named, Holds, Equals, Arm, Test, Right, Delayed, Chosen, Tested, Equation}
 use Rattle.dcv_lustre.specs.Tree.{Local, Node}
 use Rattle.dcv_lustre.specs.Meaning.{ok, tick}
 
 -- ---- names
-
-abbrev pub state_name : List ℕ
-state_name = codes "st"
-
-abbrev pub next_name : List ℕ
-next_name = codes "nx"
-
-abbrev pub node_name : ℕ → List ℕ
-node_name number = byte "n" ∷ decimal number
-
-abbrev pub input_name : List ℕ → List ℕ
-input_name name = codes "v_" ++ name
 
 abbrev pub input_names : List (List ℕ) → List (List ℕ)
 input_names [] = tick ∷ []

@@ -3,10 +3,12 @@
 --     words_of placed            the tokens of these
 --     IsNamesFault placed at     the first that breaks a rule begins there
 --     IsWellNamed node           none does
-use Rattle.std.specs.Prelude.{◌≡◌, ℕ, Bool, true, false, not, ◌&&◌, ◌||◌, nat_lt, nat_le, bytes_eq, IsTrue, if◌then◌else◌, List, [], ◌∷◌, ◌++◌}
-use Rattle.std.specs.Prelude.{Option, Some, length, map, take, option_map, find}
-use Rattle.std.specs.List.{list_all, list_any, flat_map, filter, enumerate_from, zip}
+use Rattle.std.specs.Prelude.{◌≡◌, ℕ, Bool, true, false, not, ◌&&◌, ◌||◌, nat_lt, nat_le, IsTrue, if◌then◌else◌, List, [], ◌∷◌, ◌++◌}
+use Rattle.std.specs.Prelude.{Some, length, map, take}
+use Rattle.std.specs.List.{list_all, flat_map, filter, enumerate_from}
 use Rattle.dcv_lexer.specs.Cuts.{Token}
+use Rattle.dcv_observer.specs.Naming.{is_among}
+use Rattle.dcv_observer.specs.Subsets.{first_broken}
 use Rattle.dcv_lustre.specs.Tree.{Value, Truth, Number, Kind, OfTruth, OfNumber, Item, Constant, Named, Condition, Holds, Equals, Arm, Test, Right}
 use Rattle.dcv_lustre.specs.Tree.{Delayed, Chosen, Tested, Equation, Local, Node}
 use Rattle.dcv_lustre.specs.Placed.{PlacedNode, PlacedEquation, PlacedRight, PlacedDelayed, PlacedChosen, PlacedTested, PlacedArm, PlacedTest}
@@ -15,9 +17,6 @@ use Rattle.dcv_lustre.specs.Meaning.{ok, local_names, names_of}
 
 abbrev pub most_inputs : ℕ
 most_inputs = 16
-
-abbrev pub is_among : List (List ℕ) → List ℕ → Bool
-is_among names name = list_any (bytes_eq name) names
 
 -- ---- kinds
 
@@ -128,10 +127,6 @@ words_of placed =
     ++ (placed.output ∷ map (λ (local : PlacedLocal). local.name) placed.locals
     ++ (flat_map (λ (equation : PlacedEquation). equation.left ∷ words_of_right equation.right) placed.equations
     ++ placed.tel ∷ []))
-
--- the offset of the first of some words that breaks a rule
-abbrev pub first_broken : List Token → List Bool → Option ℕ
-first_broken words keeps = option_map (λ judged. judged.0.start) (find (λ judged. not judged.1) (zip words keeps))
 
 abbrev pub IsNamesFault : PlacedNode → ℕ → Type 0
 IsNamesFault placed at = first_broken (words_of placed) (judged (node_of placed)) ≡ Some at

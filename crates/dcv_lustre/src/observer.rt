@@ -7,13 +7,13 @@ ghost use Rattle.dcv_automaton_text.specs.Rules.{AreNames, most_states, most_nod
 ghost use Rattle.dcv_lustre.specs.Seen.{seen_item, seen_arm, seen_test, seen_equation, seen_local};
 ghost use Rattle.dcv_lustre.specs.Tree.{Holds, Equals};
 ghost use Rattle.dcv_automaton_text.specs.File.{AccessLine, SuffixLine};
-ghost use Rattle.dcv_automaton_file.specs.File.{texts_of, target_of, node_line, file_of};
+ghost use Rattle.dcv_automaton_file.specs.File.{texts_of, target_of, node_line, file_of, state_lines};
 ghost use Rattle.dcv_dfa.specs.declared.node_lines.Child.{Child as PlainChild};
 ghost use Rattle.dcv_dfa.specs.Raw.{RawValue, raw_accepts};
 ghost use Rattle.dcv_lustre.specs.Laws.{Observes};
 ghost use Rattle.dcv_lustre.specs.Observer.{item_of, state_equation, node_equation, next_equation, ok_equation};
 ghost use Rattle.dcv_lustre.specs.Observer.{input_name, input_names, state_name, next_name, node_name, number_local, observer_of};
-ghost use Rattle.dcv_lustre.specs.Building.{observer_names, state_lines};
+ghost use Rattle.dcv_lustre.specs.Building.{observer_names};
 
 use crate::laws::observers_accept_the_same;
 use crate::node::{Arm, Equation, Item, Kind, Local, Node, Right, Value};

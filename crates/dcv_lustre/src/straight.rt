@@ -8,13 +8,13 @@ ghost use Rattle.dcv_dfa.specs.Raw.{RawValue};
 ghost use Rattle.dcv_dfa.specs.declared.node_lines.Child.{Child as PlainChild};
 ghost use Rattle.dcv_automaton_text.specs.Rules.{AreNames, most_states, most_nodes};
 ghost use Rattle.dcv_automaton_text.specs.File.{AccessLine, SuffixLine};
-ghost use Rattle.dcv_automaton_file.specs.File.{texts_of, node_line, file_of};
+ghost use Rattle.dcv_automaton_file.specs.File.{texts_of, node_line, file_of, state_lines, Fits};
 ghost use Rattle.dcv_lustre.specs.Meaning.{ok};
 ghost use Rattle.dcv_lustre.specs.Seen.{name_at};
 ghost use Rattle.dcv_lustre.specs.Layout.{input_text, local_line, local_lines, arm_text, test_text, right_text, equation_line, text_of};
 ghost use Rattle.dcv_lustre.specs.Observer.{input_name, input_names, state_name, next_name, node_name, number_local, state_equation, node_equation, row_arms};
 ghost use Rattle.dcv_lustre.specs.Observer.{next_equation, accepting_tests, ok_right, ok_equation, observer_of};
-ghost use Rattle.dcv_lustre.specs.Building.{observer_names, state_lines, Fits};
+ghost use Rattle.dcv_lustre.specs.Building.{observer_names};
 
 use crate::layout::{
     NamesByPlace, put_arm, put_delayed, put_end, put_input, put_item, put_left, put_let,

@@ -8,9 +8,8 @@ use Rattle.dcv_observer.specs.Conditions.{Names}
 use Rattle.dcv_lustre.specs.Tree.{Kind, OfTruth, OfNumber, Local, Node}
 use Rattle.dcv_lustre.specs.Meaning.{ok, local_names, names_of}
 use Rattle.dcv_lustre.specs.Placed.{PlacedNode, local_of, equation_of, node_of, bytes_of}
-use Rattle.dcv_lustre.specs.Rules.{is_among, is_same_kind, kind_of, keeps_equations, has_all_equations, words_of, judged, first_broken}
-use Rattle.dcv_lustre.proofs.Lookups.{is_itself, differs, among_append_left, among_append_right, distinct_apart}
-use Rattle.dcv_lustre_read.specs.Scope.{AreDistinct, Told, Row, told_inputs, told_locals, told_of, rows_from, keeps_from, IsDeclaring, AreRows, Knows, KnowsAll, seen_row}
+use Rattle.dcv_lustre.specs.Rules.{is_same_kind, kind_of, keeps_equations, has_all_equations, words_of, judged}
+use Rattle.dcv_lustre_read.specs.Scope.{Told, Row, told_inputs, told_locals, told_of, rows_from, keeps_from, IsDeclaring, AreRows, Knows, KnowsAll, seen_row}
 use Rattle.dcv_lustre_read.specs.Judged.{IsLeft, words_of_equations, words_of_locals, names_of_locals}
 use Rattle.dcv_lustre_read.specs.Contents.{first_fault_of}
 use Rattle.dcv_lustre_read.specs.declared.placed.PlacedNode.{PlacedNode as CodeNode}
@@ -20,7 +19,10 @@ use Rattle.dcv_lustre_read.specs.declared.scope.Declaration.{Declaration}
 use Rattle.dcv_lustre_read.specs.Seen.{seen_node, seen_local, seen_equation}
 use Rattle.dcv_observer.specs.declared.items.Item.{Item}
 use Rattle.dcv_observer.specs.Left.{seen}
-use Rattle.dcv_lustre_read.proofs.NameKinds.{of_kind, named, none_of_kind, no_input, with_first, distinct_behind}
+use Rattle.dcv_observer.specs.Naming.{is_among, AreDistinct}
+use Rattle.dcv_observer.proofs.Naming.{is_itself, differs, among_append_left, among_append_right, distinct_apart, distinct_behind}
+use Rattle.dcv_observer.specs.Subsets.{first_broken}
+use Rattle.dcv_lustre_read.proofs.NameKinds.{of_kind, named, none_of_kind, no_input, with_first}
 
 -- ---- the kinds of locals
 

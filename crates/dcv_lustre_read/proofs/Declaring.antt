@@ -6,24 +6,13 @@ use Rattle.std.proofs.lemmas.List.{take_at}
 use Rattle.std.proofs.lemmas.Bool.{or_from, or_parts, false≢true, not-true}
 use Rattle.dcv_lexer.specs.Cuts.{Token}
 use Rattle.dcv_observer.specs.Conditions.{Names}
+use Rattle.dcv_observer.specs.Naming.{is_among, AreDistinct}
+use Rattle.dcv_observer.proofs.Naming.{distinct_push}
 use Rattle.dcv_lustre.specs.Tree.{Kind, Node}
-use Rattle.dcv_lustre.specs.Rules.{is_among, declared, keeps_declared}
-use Rattle.dcv_lustre.proofs.Lookups.{differs_back}
-use Rattle.dcv_lustre_read.specs.Scope.{AreDistinct, Told, Row, rows_from, is_within, keeps_from, IsDeclaring}
+use Rattle.dcv_lustre.specs.Rules.{declared, keeps_declared}
+use Rattle.dcv_lustre_read.specs.Scope.{Told, Row, rows_from, is_within, keeps_from, IsDeclaring}
 use Rattle.dcv_lustre_read.specs.Judged.{IsLeft}
 use Rattle.dcv_lustre_read.proofs.Judging.{kept, broken}
-
-not_among_push : (names : Names) (last name : List ℕ) → is_among names name ≡ false → bytes_eq name last ≡ false → is_among (names ++ last ∷ []) name ≡ false
-not_among_push [] last name none other = or_from (bytes_eq name last) false other refl
-not_among_push (n ∷ names) last name none other =
-    let both = or_parts (bytes_eq name n) (is_among names name) none in
-    or_from (bytes_eq name n) _ both.0 (not_among_push names last name both.1 other)
-
-distinct_push : (names : Names) (last : List ℕ) → AreDistinct names → is_among names last ≡ false → AreDistinct (names ++ last ∷ [])
-distinct_push [] last distinct none = (refl, tt)
-distinct_push (n ∷ names) last distinct none =
-    let both = or_parts (bytes_eq last n) (is_among names last) none in
-    (not_among_push names last n distinct.0 (differs_back last n both.0), distinct_push names last distinct.1 both.1)
 
 with_true : (b : Bool) → (b && true) ≡ b
 with_true true = refl

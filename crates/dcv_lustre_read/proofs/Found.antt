@@ -6,10 +6,11 @@ use Rattle.std.specs.List.{position, position_or_len, list_any}
 use Rattle.std.proofs.lemmas.List.Quantifiers.{position-Some}
 use Rattle.std.proofs.lemmas.Bool.{cases_Bool, or_parts, or_left, or_right, or_cases, both_ways, false≢true, false_from_ne_true, lt-ltb}
 use Rattle.dcv_observer.specs.Conditions.{Names}
+use Rattle.dcv_observer.specs.Naming.{is_among}
+use Rattle.dcv_observer.proofs.Naming.{one_name}
 use Rattle.dcv_lustre.specs.Tree.{Node}
 use Rattle.dcv_lustre.specs.Meaning.{names_of}
-use Rattle.dcv_lustre.specs.Rules.{is_among, declared, kind_of}
-use Rattle.dcv_lustre.proofs.Lookups.{one_name}
+use Rattle.dcv_lustre.specs.Rules.{declared, kind_of}
 use Rattle.dcv_lustre_read.specs.declared.scope.Declaration.{Declaration}
 use Rattle.dcv_lustre_read.specs.Scope.{seen_row, AreRows, IsRow, Knows, IsFound}
 

@@ -7,17 +7,18 @@ use Rattle.std.proofs.lemmas.List.{append-nil}
 use Rattle.std.proofs.lemmas.Bool.{or_parts, or_left, or_right, and_from, both_ways, false_from_ne_true}
 use Rattle.dcv_lexer.specs.Cuts.{Token}
 use Rattle.dcv_observer.specs.Conditions.{Names}
+use Rattle.dcv_observer.specs.Naming.{is_among, AreDistinct}
+use Rattle.dcv_observer.proofs.Naming.{is_itself, differs, among_append_left, among_append_right, among_append_cases, distinct_apart}
 use Rattle.dcv_lustre.specs.declared.node.Equation.{Equation as CodeEquation}
 use Rattle.dcv_lustre.specs.Tree.{OfTruth, Right, Delayed, Chosen, Tested, Equation, Node}
 use Rattle.dcv_lustre.specs.Meaning.{ok, local_names, names_of}
 use Rattle.dcv_lustre.specs.Placed.{equation_of}
 use Rattle.dcv_lustre.specs.Seen.{seen_equation as equation_seen}
-use Rattle.dcv_lustre.specs.Rules.{is_among, keeps_left, keeps_form, keeps_equation, keeps_equations, lefts_of, words_of_right, has_all_equations}
-use Rattle.dcv_lustre.proofs.Lookups.{is_itself, differs, among_append_left, among_append_right, among_append_cases, distinct_apart}
+use Rattle.dcv_lustre.specs.Rules.{keeps_left, keeps_form, keeps_equation, keeps_equations, lefts_of, words_of_right, has_all_equations}
 use Rattle.dcv_lustre_read.specs.declared.scope.Declaration.{Declaration}
 use Rattle.dcv_lustre_read.specs.declared.placed.PlacedEquation.{PlacedEquation}
 use Rattle.dcv_lustre_read.specs.Seen.{seen_equation}
-use Rattle.dcv_lustre_read.specs.Scope.{Row, seen_row, AreDistinct, AreRows, Knows, KnowsAll, IsFoundAs, marked, fits_form}
+use Rattle.dcv_lustre_read.specs.Scope.{Row, seen_row, AreRows, Knows, KnowsAll, IsFoundAs, marked, fits_form}
 use Rattle.dcv_lustre_read.specs.Judged.{IsLeft, words_of_equations}
 use Rattle.dcv_lustre_read.proofs.NameKinds.{names_distinct, delayed_as, no_input}
 use Rattle.dcv_lustre_read.proofs.RightSides.{one_more}

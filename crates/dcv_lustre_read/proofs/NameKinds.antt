@@ -4,11 +4,12 @@ use Rattle.std.specs.Prelude.{bytes_eq}
 use Rattle.std.specs.List.{filter}
 use Rattle.std.proofs.lemmas.Bool.{cases_Bool, or_parts, or_left, or_right, or_cases, both_ways, false≢true, false_from_ne_true}
 use Rattle.dcv_observer.specs.Conditions.{Names}
+use Rattle.dcv_observer.specs.Naming.{is_among, AreDistinct}
+use Rattle.dcv_observer.proofs.Naming.{one_name, among_append_left, among_append_right, among_append_cases, distinct_apart, distinct_behind}
 use Rattle.dcv_lustre.specs.Tree.{Kind, OfTruth, OfNumber, Local, Node}
 use Rattle.dcv_lustre.specs.Meaning.{ok, local_names, names_of}
-use Rattle.dcv_lustre.specs.Rules.{is_among, is_same_kind, names_of_kind, kind_of, keeps_name}
-use Rattle.dcv_lustre.proofs.Lookups.{one_name, among_append_left, among_append_right, among_append_cases, distinct_apart}
-use Rattle.dcv_lustre_read.specs.Scope.{Row, AreDistinct, Knows, IsFoundAs}
+use Rattle.dcv_lustre.specs.Rules.{is_same_kind, names_of_kind, kind_of, keeps_name}
+use Rattle.dcv_lustre_read.specs.Scope.{Row, Knows, IsFoundAs}
 
 abbrev pub of_kind : Kind → List Local → Names
 of_kind kind locals = map (λ (local : Local). local.name) (filter (λ (local : Local). is_same_kind kind local.kind) locals)
@@ -80,10 +81,6 @@ numbers_are (local ∷ locals) name distinct among = by_kind (numbers_are locals
     by_kind also kind is = subst (λ (k : Kind). is_among (with_first OfNumber k local locals) name ≡ not (is_among (with_first OfTruth k local locals) name)) is (at_kind also kind)
 
 -- ---- a node's names
-
-pub distinct_behind : (names more : Names) → AreDistinct (names ++ more) → AreDistinct more
-distinct_behind [] more distinct = distinct
-distinct_behind (n ∷ names) more distinct = distinct_behind names more distinct.1
 
 pub no_input : (inputs more : Names) (name : List ℕ) → is_among inputs name ≡ false → is_among (inputs ++ more) name ≡ is_among more name
 no_input [] more name none = refl

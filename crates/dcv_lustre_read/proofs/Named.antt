@@ -7,6 +7,7 @@ use Rattle.dcv_observer.specs.declared.fault.ObsFault.TheVariants.{Syntax, Names
 use Rattle.dcv_lustre.specs.declared.node.Local.{Local as CodeLocal}
 use Rattle.dcv_lustre.specs.declared.node.Equation.{Equation as CodeEquation}
 use Rattle.dcv_observer.specs.Conditions.{Names}
+use Rattle.dcv_observer.proofs.Readings.{well_named_if_unbroken}
 use Rattle.dcv_lustre.specs.Tree.{Local}
 use Rattle.dcv_lustre.specs.Meaning.{ok, names_of}
 use Rattle.dcv_lustre.specs.Seen.{seen_local, seen_equation, seen_node, IsNode}
@@ -14,7 +15,7 @@ use Rattle.dcv_lustre.specs.Placed.{PlacedNode, node_of}
 use Rattle.dcv_lustre.specs.Rules.{IsNamesFault, IsWellNamed}
 use Rattle.dcv_lustre.specs.Form.{IsSpellable}
 use Rattle.dcv_lustre.specs.Words.{AreWords}
-use Rattle.dcv_lustre.proofs.JudgedWords.{well_named_if_unbroken}
+use Rattle.dcv_lustre.proofs.Readings.{is_subset}
 use Rattle.dcv_lustre_read.specs.Judged.{IsFaultOf}
 use Rattle.dcv_lustre_read.specs.Contents.{first_fault_of}
 use Rattle.dcv_lustre_read.proofs.Spellable.{words_are_spellable}
@@ -31,7 +32,7 @@ module _ (placed : PlacedNode) (name : List ℕ) (inputs : Names) (locals : List
   pub is_node : AreWords placed → first_fault_of placed ≡ None → seen_node name inputs locals equations ≡ node_of placed → IsNode name inputs locals equations
   is_node words unbroken is =
       record {
-        well_named = subst IsWellNamed (sym is) (well_named_if_unbroken placed unbroken);
+        well_named = subst IsWellNamed (sym is) (well_named_if_unbroken is_subset placed unbroken);
         spellable = subst IsSpellable (sym is) (words_are_spellable placed words);
       }
 

@@ -2,10 +2,11 @@
 --     first_fault_of placed        where its first word begins that breaks a rule of names, if there is one
 --     AreContentsOf placed contents      no word does, and these are its contents
 use Rattle.std.specs.Prelude.{◌≡◌, ℕ, Option, None, map}
+use Rattle.dcv_observer.specs.Subsets.{first_broken}
 use Rattle.dcv_lustre.specs.Seen.{seen_local, seen_equation}
 use Rattle.dcv_lustre.specs.Meaning.{names_of}
 use Rattle.dcv_lustre.specs.Placed.{PlacedNode, node_of}
-use Rattle.dcv_lustre.specs.Rules.{words_of, judged, first_broken}
+use Rattle.dcv_lustre.specs.Rules.{words_of, judged}
 use Rattle.dcv_lustre_read.specs.declared.names.Contents.{Contents}
 
 abbrev pub first_fault_of : PlacedNode → Option ℕ

@@ -6,10 +6,11 @@ use Rattle.std.specs.Prelude.{◌≡◌, ℕ, Bool, true, false, List, [], ◌�
 use Rattle.dcv_lexer.specs.Cuts.{Token}
 use Rattle.dcv_observer.specs.declared.fault.ObsFault.{ObsFault}
 use Rattle.dcv_observer.specs.declared.fault.ObsFault.TheVariants.{Syntax, Names, Memory}
+use Rattle.dcv_observer.specs.Subsets.{first_broken}
 use Rattle.std.specs.List.{flat_map}
 use Rattle.dcv_lustre.specs.Tree.{OfNumber, Test, Local, Node}
 use Rattle.dcv_lustre.specs.Placed.{PlacedArm, PlacedTest, PlacedEquation, PlacedLocal, local_of}
-use Rattle.dcv_lustre.specs.Rules.{first_broken, keeps_name, words_of_right}
+use Rattle.dcv_lustre.specs.Rules.{keeps_name, words_of_right}
 
 -- why a word is refused that begins at this offset
 abbrev pub IsBroken : ℕ → Bool → ObsFault → Type 0

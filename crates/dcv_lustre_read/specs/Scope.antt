@@ -5,17 +5,13 @@ use Rattle.std.specs.Prelude.{◌≡◌, ℕ, zero, suc, ◌+◌, ◌<◌, Bool,
 use Rattle.std.specs.List.{enumerate_from}
 use Rattle.dcv_lexer.specs.Cuts.{Token}
 use Rattle.dcv_observer.specs.Conditions.{Names, name_at}
+use Rattle.dcv_observer.specs.Naming.{is_among, AreDistinct}
 use Rattle.dcv_lustre.specs.Seen.{seen_kind}
 use Rattle.dcv_lustre.specs.Tree.{Kind, OfTruth, Right, Delayed, Chosen, Tested, Equation, Local, Node}
 use Rattle.dcv_lustre.specs.Meaning.{names_of}
-use Rattle.dcv_lustre.specs.Rules.{most_inputs, is_among, is_same_kind, lefts_of, declared, keeps_declared, kind_of}
+use Rattle.dcv_lustre.specs.Rules.{most_inputs, is_same_kind, lefts_of, declared, keeps_declared, kind_of}
 use Rattle.dcv_lustre_read.specs.declared.scope.Declaration.{Declaration}
 use Rattle.dcv_lustre_read.specs.Judged.{IsLeft}
-
--- each name stands once
-abbrev pub AreDistinct : Names → Type 0
-AreDistinct [] = Unit {0}
-AreDistinct (name ∷ names) = (is_among names name ≡ false) × AreDistinct names
 
 -- ---- while names are declared
 

@@ -1,15 +1,8 @@
 -- The translation of nodes. A long body is taken in steps, each with what the symbols before stand for.
---     scheme                               what derivation trees stand for
 use Rattle.std.specs.Prelude.{List, [], ◌∷◌, Option}
 use Rattle.dcv_lexer.specs.Cuts.{Token}
-use Rattle.dcv_lustre.specs.Classes.{lexicon}
-use Rattle.dcv_lustre.specs.Language.{language}
 use Rattle.dcv_lustre.specs.Placed.{PlacedArm, PlacedLocal, PlacedChosen}
-use Rattle.dcv_lustre.specs.Actions.{Part, AToken, Tokens, Locals, Equations, ARight, Choice, ATest, ANode, Nothing, action, arm}
-use Rattle.dcv_translation.specs.Scheme.{Scheme}
-
-abbrev pub scheme : Scheme Part
-scheme = record { lexicon = lexicon; grammar = language; of_token = AToken; action = action }
+use Rattle.dcv_lustre.specs.Actions.{Part, AToken, Tokens, Locals, Equations, ARight, Choice, ATest, ANode, Nothing, arm}
 
 -- ---- name "=" number ")"
 

@@ -18,9 +18,8 @@ pub(crate) struct NodeTranslation {
 }
 
 impl<'a> Translation<'a> for NodeTranslation {
-    ghost use Rattle.dcv_lustre.specs.Actions.{Part as PlainPart};
-    ghost use Rattle.dcv_translation.specs.Scheme.{IsOfBody};
-    ghost use Rattle.dcv_lustre_read.specs.Translated.{scheme};
+    ghost use Rattle.dcv_observer.specs.Scheme.{IsOfBody};
+    ghost use Rattle.dcv_lustre.specs.Actions.{Part as PlainPart, scheme};
 
     type Part = Part<'a>;
 

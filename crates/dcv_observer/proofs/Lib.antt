@@ -5,3 +5,11 @@ pub mod Faults
 pub mod LaidOut
 pub mod Limits
 pub mod Listing
+pub mod Naming
+pub mod ObserverNames
+pub mod Words
+pub mod TokenClasses
+pub mod Spelt
+pub mod PieceLists
+pub mod Sorts
+pub mod Readings

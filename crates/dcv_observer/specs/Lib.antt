@@ -1,8 +1,11 @@
 -- what public clauses cite: the classes of tokens, the tokens of a text and where its syntax is at fault, texts in pieces,
--- and what is asked of a name
+-- what is asked of a name, names among others, what derivation trees stand for, and what an observer's text is
 pub mod Classes
 pub mod Items
 pub mod Pieces
 pub mod Conditions
+pub mod Naming
+pub mod Scheme
+pub mod Subsets
 -- what the lexer has left
 pub mod Left

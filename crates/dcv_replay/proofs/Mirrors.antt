@@ -6,13 +6,10 @@ use Rattle.std.specs.Prelude.{bytes_eq}
 use Rattle.std.specs.List.{list_any, AllByRecursion}
 use Rattle.std.proofs.lemmas.List.{get_or-set_same, get_or-set_other, length-set, set-set}
 use Rattle.std.proofs.lemmas.Bool.{cases_Bool, false≢true, both_ways}
-use Rattle.std.proofs.lemmas.Slice.Eq.{bytes_eq-Decides}
 use Rattle.dcv_observer.specs.declared.conditions.Test.{Test}
+use Rattle.dcv_observer.proofs.Naming.{Name, is_itself}
 use Rattle.dcv_replay.specs.Program.{first_name, after_select}
 use Rattle.dcv_replay.specs.Selecting.{select, copy, slot_of, test_select}
-
-abbrev pub Name : Type 0
-Name = List ℕ
 
 -- ---- one selection
 
@@ -85,9 +82,6 @@ any_map p f (x ∷ xs) = ap (λ (b : Bool). p (f x) || b) (any_map p f xs)
 
 -- ---- stores
 
-pub itself : (name : Name) → bytes_eq name name ≡ true
-itself name = (bytes_eq-Decides name name).1 refl
-
 abbrev pub IsApart : List Name → Type 0
 IsApart names = (p q : ℕ) → p < length names → q < length names → bytes_eq (get_or names p []) (get_or names q []) ≡ true → p ≡ q
 
@@ -123,7 +117,7 @@ module _ (names : List Name) (apart : IsApart names) where
     ];
   } where
     differ_at : (p q : ℕ) → bytes_eq (get_or names p []) (get_or names q []) ≡ false → p ≡ q → ⊥
-    differ_at p q differ same = both_ways (bytes_eq (get_or names p []) (get_or names q [])) differ (subst (λ n. bytes_eq (get_or names p []) (get_or names n []) ≡ true) same (itself (get_or names p [])))
+    differ_at p q differ same = both_ways (bytes_eq (get_or names p []) (get_or names q [])) differ (subst (λ n. bytes_eq (get_or names p []) (get_or names n []) ≡ true) same (is_itself (get_or names p [])))
 
   -- fewer names are known
   pub fewer : {known less : Name → Bool} {now : Name → ℕ} {store : List ℕ} → Mirrors names known now store → ((name : Name) → less name ≡ true → known name ≡ true) → Mirrors names less now store

@@ -8,6 +8,8 @@ use Rattle.std.proofs.lemmas.List.{get_or-set_other, get_or-set_same, length-set
 use Rattle.std.proofs.lemmas.List.Sums.{fold-append}
 use Rattle.std.proofs.lemmas.Bool.{or_parts, or_left, both_ways}
 use Rattle.std.proofs.lemmas.Slice.Eq.{bytes_eq-Decides}
+use Rattle.dcv_observer.specs.Naming.{is_among}
+use Rattle.dcv_observer.proofs.Naming.{Name}
 use Rattle.dcv_lustre.specs.declared.node.Value.{Value as CodeValue}
 use Rattle.dcv_lustre.specs.declared.node.Arm.{Arm}
 use Rattle.dcv_lustre.specs.declared.node.Right.{Right}
@@ -15,7 +17,7 @@ use Rattle.dcv_lustre.specs.declared.node.Right.TheVariants.{Delayed, Chosen, Te
 use Rattle.dcv_lustre.specs.declared.node.Equation.{Equation}
 use Rattle.dcv_lustre.specs.Tree.{Equation as PlainEquation}
 use Rattle.dcv_lustre.specs.Meaning.{Values, delayed_value, right_value}
-use Rattle.dcv_lustre.specs.Rules.{is_among, lefts_of}
+use Rattle.dcv_lustre.specs.Rules.{lefts_of}
 use Rattle.dcv_lustre.specs.Seen.{seen_value, seen_right, seen_equation}
 use Rattle.dcv_lustre.proofs.Runs.{reads_also, IsOnNoLeft, IsInOrder}
 use Rattle.dcv_replay.specs.declared.replay.Select.{Select}
@@ -23,7 +25,7 @@ use Rattle.dcv_replay.specs.Program.{first_name, after_select}
 use Rattle.dcv_replay.specs.Observer.{value_number}
 use Rattle.dcv_replay.specs.Selecting.{slot_of, most_names}
 use Rattle.dcv_replay.specs.OfNode.{arm_select, arms_selects, cell_of, equation_selects, latch_of, latch_selects, with_cell, after_cell, IsPlacedArm, IsPlacedRight, IsPlacedEquation}
-use Rattle.dcv_replay.proofs.Mirrors.{Name, copied, IsApart, Mirrors, fewer}
+use Rattle.dcv_replay.proofs.Mirrors.{copied, IsApart, Mirrors, fewer}
 use Rattle.dcv_replay.proofs.NodeSteps.{CellIs, right_is, value_written}
 
 -- ---- arms from the last to the first

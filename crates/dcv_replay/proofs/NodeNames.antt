@@ -8,6 +8,7 @@ use Rattle.std.proofs.lemmas.Bool.{and_parts, cases_lt, ltb-true, false≢true}
 use Rattle.dcv_observer.specs.declared.conditions.Condition.{Condition}
 use Rattle.dcv_observer.specs.declared.conditions.Condition.TheVariants.{Holds, Equals}
 use Rattle.dcv_observer.specs.declared.conditions.Test.{Test}
+use Rattle.dcv_observer.proofs.Naming.{Name}
 use Rattle.dcv_lustre.specs.declared.node.Value.{Value}
 use Rattle.dcv_lustre.specs.declared.node.Value.TheVariants.{Truth, Number}
 use Rattle.dcv_lustre.specs.declared.node.Item.{Item}
@@ -21,16 +22,9 @@ use Rattle.dcv_lustre.specs.Meaning.{names_of, ok, local_names}
 use Rattle.dcv_lustre.specs.Rules.{declared, keeps_declared, judged, IsWellNamed}
 use Rattle.dcv_lustre.specs.Form.{IsName, IsValue, IsItem, IsCondition, IsArm, IsTest, IsRight, IsEquation, IsSpellable}
 use Rattle.dcv_lustre.specs.Seen.{seen_value, seen_item, seen_condition, seen_arm, seen_test, seen_right, seen_equation}
-use Rattle.dcv_lustre.proofs.Lookups as lookups
 use Rattle.dcv_replay.specs.Program.{first_name}
 use Rattle.dcv_replay.specs.OfNode.{constant_number, IsPlacedItem, IsPlacedCondition, IsPlacedArm, IsPlacedRight, IsPlacedEquation, HasSlots}
 use Rattle.dcv_replay.specs.Selecting.{most_names}
-use Rattle.dcv_replay.proofs.Mirrors.{Name}
-use Rattle.dcv_replay.proofs.NamePlaces.{AreDistinct}
-
-pub distinct_so : (names : List Name) → lookups.AreDistinct names → AreDistinct names
-distinct_so [] distinct = tt
-distinct_so (name ∷ names) distinct = (distinct.0, distinct_so names distinct.1)
 
 -- ---- inputs
 

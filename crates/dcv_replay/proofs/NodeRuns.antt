@@ -10,13 +10,14 @@ use Rattle.std.proofs.lemmas.List.Elements.{recursion_from_All}
 use Rattle.std.proofs.lemmas.Bool.{cases_Bool, cases_lt, both_ways}
 use Rattle.std.proofs.lemmas.Slice.Eq.{bytes_eq-Decides}
 use Rattle.dcv_word.specs.Behaviour.{Word, IsBehaviour}
+use Rattle.dcv_observer.specs.Naming.{is_among, AreDistinct}
+use Rattle.dcv_observer.proofs.Naming.{distinct_apart, Name}
 use Rattle.dcv_lustre.specs.declared.node.Equation.{Equation}
 use Rattle.dcv_lustre.specs.Tree.{Node, Value, Truth, Equation as PlainEquation}
 use Rattle.dcv_lustre.specs.Meaning.{Values, Valuation, ok, local_names, names_of, has_only_tick, width_of, inputs_at, value_in, is_true, right_value, IsInstant, IsTraceFrom, IsTrace, is_ok, Accepts}
-use Rattle.dcv_lustre.specs.Rules.{is_among, lefts_of, IsWellNamed}
+use Rattle.dcv_lustre.specs.Rules.{lefts_of, IsWellNamed}
 use Rattle.dcv_lustre.specs.Laws.{TraceExists}
 use Rattle.dcv_lustre.specs.Seen.{seen_equation}
-use Rattle.dcv_lustre.proofs.Lookups.{distinct_apart}
 use Rattle.dcv_lustre.proofs.Runs.{IsOnNoLeft, IsInOrder}
 use Rattle.dcv_lustre.proofs.OneTrace.{StandsInOrder}
 use Rattle.dcv_lustre.proofs.InOrder.{stands_in_order}
@@ -24,11 +25,10 @@ use Rattle.dcv_replay.specs.Program.{Program, first_name, after_select, with_let
 use Rattle.dcv_replay.specs.Observer.{Lustre, Follows, value_number, AreOfLast}
 use Rattle.dcv_replay.specs.Selecting.{slot_of}
 use Rattle.dcv_replay.specs.OfNode.{equation_selects, latch_selects, node_selects, after_cell, IsPlacedEquation}
-use Rattle.dcv_replay.proofs.Mirrors.{Name, IsApart, Mirrors}
-use Rattle.dcv_replay.proofs.NamePlaces.{AreDistinct, among_at, apart_places, position_at}
+use Rattle.dcv_replay.proofs.Mirrors.{IsApart, Mirrors}
+use Rattle.dcv_replay.proofs.NamePlaces.{among_at, apart_places, position_at}
 use Rattle.dcv_replay.proofs.Letters.{length-with_letter, letter_elsewhere, letter_there}
 use Rattle.dcv_replay.proofs.UnitRuns.{first_numbers}
-use Rattle.dcv_replay.proofs.NodeNames.{distinct_so}
 use Rattle.dcv_replay.proofs.NodeSteps.{truth_is, length-after}
 use Rattle.dcv_replay.proofs.NodeCells.{Cells, cells_kept, cells_set, cell_number, known_but, latches_are, equations_run}
 
@@ -69,7 +69,7 @@ module _ (node : Node) (well : IsWellNamed node) (exists : TraceExists) (equatio
   stands = stands_in_order node well
 
   distinct : AreDistinct (names_of node)
-  distinct = distinct_so (names_of node) stands.distinct
+  distinct = stands.distinct
 
   pub apart : IsApart (names_of node)
   apart = apart_places (names_of node) distinct

@@ -11,6 +11,7 @@ use Rattle.std.proofs.lemmas.Slice.Eq.{bytes_eq-Decides}
 use Rattle.dcv_observer.specs.declared.conditions.Condition.{Condition}
 use Rattle.dcv_observer.specs.declared.conditions.Condition.TheVariants.{Holds, Equals}
 use Rattle.dcv_observer.specs.declared.conditions.Test.{Test}
+use Rattle.dcv_observer.proofs.Naming.{Name}
 use Rattle.dcv_lustre.specs.declared.node.Item.{Item}
 use Rattle.dcv_lustre.specs.declared.node.Item.TheVariants.{Constant, Named}
 use Rattle.dcv_lustre.specs.declared.node.Arm.{Arm}
@@ -26,7 +27,7 @@ use Rattle.dcv_replay.specs.Observer.{value_number}
 use Rattle.dcv_replay.specs.Selecting.{slot_of, copy}
 use Rattle.dcv_replay.specs.OfNode.{item_slot, choosing, arm_select, arms_selects, tests_selects, right_selects}
 use Rattle.dcv_replay.specs.OfNode.{IsPlacedItem, IsPlacedCondition, IsPlacedArm, IsPlacedRight}
-use Rattle.dcv_replay.proofs.Mirrors.{Name, both_are, selected, copied, any_test, any_map, IsApart, Mirrors}
+use Rattle.dcv_replay.proofs.Mirrors.{both_are, selected, copied, any_test, any_map, IsApart, Mirrors}
 
 -- ---- numbers of values
 

@@ -7,6 +7,8 @@ use Rattle.std.proofs.lemmas.Bool.{and_parts, and_from, cases_lt, ltb-true, fals
 use Rattle.dcv_observer.specs.declared.conditions.Condition.{Condition}
 use Rattle.dcv_observer.specs.declared.conditions.Condition.TheVariants.{Holds, Equals}
 use Rattle.dcv_observer.specs.declared.conditions.Test.{Test}
+use Rattle.dcv_observer.specs.Naming.{is_among, AreDistinct}
+use Rattle.dcv_observer.proofs.Naming.{Name, among_here, among_later, among_append_left, among_append_right, among_append_cases, distinct_append}
 use Rattle.dcv_c.specs.declared.unit.Item.{Item}
 use Rattle.dcv_c.specs.declared.unit.Item.TheVariants.{Constant, Named}
 use Rattle.dcv_c.specs.declared.unit.Right.{Right}
@@ -22,10 +24,7 @@ use Rattle.dcv_c.specs.Rules.{keeps_new, keeps_apart, keeps_parameters, before_s
 use Rattle.dcv_c.specs.Seen.{seen_item, seen_condition, seen_right, seen_statement, seen_test, seen_returned, seen_assignment}
 use Rattle.dcv_c.proofs.KeptRules.{all_kept, kept_rules}
 use Rattle.dcv_c.proofs.LeftOver.{apart_from}
-use Rattle.dcv_c.proofs.Names.{among_here, among_append_left, among_append_right, among_append_cases}
 use Rattle.dcv_replay.specs.OfUnit.{IsPlacedItem, IsPlacedCondition, IsPlacedRight, IsPlacedStatement, IsPlacedReturned}
-use Rattle.dcv_replay.proofs.Mirrors.{Name}
-use Rattle.dcv_replay.proofs.NamePlaces.{among, AreDistinct}
 
 -- ---- names that differ
 
@@ -48,25 +47,12 @@ parameters_few earlier place (name ∷ names) fits kept =
     let small = ltb-true place 16 (and_parts (keeps_new earlier name) _ parts.0).1 in
     omega (arith, parameters_few (earlier ++ name ∷ []) (place + 1) names (omega (arith, small)) parts.1)
 
-distinct_both : (xs ys : List Name) → AreDistinct xs → AreDistinct ys → ((name : Name) → among xs name ≡ true → among ys name ≡ false) → AreDistinct (xs ++ ys)
-distinct_both [] ys first second apart = second
-distinct_both (x ∷ xs) ys first second apart = (
-  false_from_ne_true (among (xs ++ ys) x) (λ some. elim (among_append_cases xs ys x some) [
-    | inl front ↦ both_ways (among xs x) first.0 front
-    | inr back ↦ both_ways (among ys x) (apart x (among_here xs x)) back
-  ]),
-  distinct_both xs ys first.1 second (λ name there. apart name (later x xs name there)),
-)
-  where
-    later : (x : Name) (xs : List Name) (name : Name) → among xs name ≡ true → among (x ∷ xs) name ≡ true
-    later x xs name there = among_append_right (x ∷ []) xs name there
-
 module _ (unit : CUnit) (well : IsWellNamed unit) where
-  static_before : (name : Name) → among unit.statics name ≡ true → among (before_parameters unit) name ≡ true
+  static_before : (name : Name) → is_among unit.statics name ≡ true → is_among (before_parameters unit) name ≡ true
   static_before name there = among_append_left (before_step unit) (unit.step ∷ []) name (among_append_left unit.statics (unit.reset ∷ []) name there)
 
   -- a static or a parameter is no local
-  pub first_apart : (name : Name) → among (unit.statics ++ unit.parameters) name ≡ true → among unit.locals name ≡ false
+  pub first_apart : (name : Name) → is_among (unit.statics ++ unit.parameters) name ≡ true → is_among unit.locals name ≡ false
   first_apart name there = apart_from (before_locals unit) unit.locals (kept_rules unit well).locals name (elim (among_append_cases unit.statics unit.parameters name there) [
     | inl static ↦ among_append_left (before_parameters unit) unit.parameters name (static_before name static)
     | inr parameter ↦ among_append_right (before_parameters unit) unit.parameters name parameter
@@ -76,12 +62,12 @@ module _ (unit : CUnit) (well : IsWellNamed unit) where
   parameters_kept = parameters_apart (before_parameters unit) 0 unit.parameters (kept_rules unit well).parameters
 
   pub first_distinct : AreDistinct (unit.statics ++ unit.parameters)
-  first_distinct = distinct_both unit.statics unit.parameters (distinct_kept [] unit.statics (kept_rules unit well).statics)
+  first_distinct = distinct_append unit.statics unit.parameters (distinct_kept [] unit.statics (kept_rules unit well).statics)
       (distinct_kept (before_parameters unit) unit.parameters parameters_kept)
       (λ name there. apart_from (before_parameters unit) unit.parameters parameters_kept name (static_before name there))
 
   pub all_distinct : AreDistinct ((unit.statics ++ unit.parameters) ++ unit.locals)
-  all_distinct = distinct_both (unit.statics ++ unit.parameters) unit.locals first_distinct (distinct_kept (before_locals unit) unit.locals (kept_rules unit well).locals) first_apart
+  all_distinct = distinct_append (unit.statics ++ unit.parameters) unit.locals first_distinct (distinct_kept (before_locals unit) unit.locals (kept_rules unit well).locals) first_apart
 
   pub few_parameters : length unit.parameters ≤ 16
   few_parameters = omega (arith, parameters_few (before_parameters unit) 0 unit.parameters (omega arith) (kept_rules unit well).parameters)

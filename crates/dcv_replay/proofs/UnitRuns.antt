@@ -19,12 +19,14 @@ use Rattle.dcv_c.specs.Meaning as meaning
 use Rattle.dcv_c.specs.Laws.{NoLeftOverIsRead}
 use Rattle.dcv_c.specs.Rules.{IsWellNamed}
 use Rattle.dcv_c.specs.Seen.{names_of, seen_statement, seen_returned}
+use Rattle.dcv_observer.proofs.Naming.{Name}
+use Rattle.dcv_observer.specs.Naming.{AreDistinct}
 use Rattle.dcv_replay.specs.Program.{Program, first_name, after_select, with_letter, after_letter, after_word, rest_of}
 use Rattle.dcv_replay.specs.Observer.{C, Follows}
 use Rattle.dcv_replay.specs.Selecting.{slot_of}
 use Rattle.dcv_replay.specs.OfUnit.{statement_select, returned_selects, IsPlacedStatement, IsPlacedReturned}
-use Rattle.dcv_replay.proofs.Mirrors.{Name, IsApart, Mirrors}
-use Rattle.dcv_replay.proofs.NamePlaces.{AreDistinct, among_at, apart_places, position_at}
+use Rattle.dcv_replay.proofs.Mirrors.{IsApart, Mirrors}
+use Rattle.dcv_replay.proofs.NamePlaces.{among_at, apart_places, position_at}
 use Rattle.dcv_replay.proofs.Letters.{length-with_letter, letter_elsewhere, letter_there}
 use Rattle.dcv_replay.proofs.UnitSteps.{everything, statements_mirror, returned_is}
 use Rattle.dcv_replay.proofs.UnitNames.{first_apart, first_distinct, all_distinct}

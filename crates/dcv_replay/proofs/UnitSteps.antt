@@ -8,6 +8,7 @@ use Rattle.std.proofs.lemmas.Bool.{or_right}
 use Rattle.dcv_observer.specs.declared.conditions.Condition.{Condition}
 use Rattle.dcv_observer.specs.declared.conditions.Condition.TheVariants.{Holds, Equals}
 use Rattle.dcv_observer.specs.declared.conditions.Test.{Test}
+use Rattle.dcv_observer.proofs.Naming.{Name}
 use Rattle.dcv_c.specs.declared.unit.Item.{Item}
 use Rattle.dcv_c.specs.declared.unit.Item.TheVariants.{Constant, Named}
 use Rattle.dcv_c.specs.declared.unit.Right.{Right}
@@ -23,7 +24,7 @@ use Rattle.dcv_replay.specs.Program.{first_name, after_select}
 use Rattle.dcv_replay.specs.Selecting.{slot_of}
 use Rattle.dcv_replay.specs.OfUnit.{item_slot, choosing, right_select, statement_select, returned_selects, after_assignment, IsPlacedItem}
 use Rattle.dcv_replay.specs.OfUnit.{IsPlacedCondition, IsPlacedRight, IsPlacedStatement, IsPlacedReturned}
-use Rattle.dcv_replay.proofs.Mirrors.{Name, through, both_are, selected, copied, any_test, any_map, IsFree, IsApart, Mirrors, written, fewer}
+use Rattle.dcv_replay.proofs.Mirrors.{through, both_are, selected, copied, any_test, any_map, IsFree, IsApart, Mirrors, written, fewer}
 
 -- all names are known
 abbrev pub everything : Name → Bool

@@ -3,29 +3,11 @@ use Rattle.std.proofs.Common.{◌≡◌, ℕ, zero, suc, ◌+◌, ◌<◌, ◌�
 use Rattle.std.specs.Prelude.{bytes_eq, nat_eq}
 use Rattle.std.specs.List.{range_with_len}
 use Rattle.std.proofs.lemmas.Bool.{cases_Bool, or_from, or_left, or_right, or_cases, false_from_ne_true, false≢true, both_ways}
-use Rattle.dcv_c.specs.Meaning.{is_among}
+use Rattle.dcv_observer.specs.Naming.{is_among, AreDistinct}
+use Rattle.dcv_observer.proofs.Naming.{Name, is_itself, one_name, among_here, among_later, among_append_left, among_append_right, among_append_cases, among_neither, distinct_append}
+use Rattle.dcv_observer.proofs.ObserverNames.{next_is_no_node, node_is_no_other}
 use Rattle.dcv_c.specs.Observer.{next_name, node_name}
-use Rattle.dcv_c.proofs.Names.{Name, is_itself, one_name, AreDistinct, among_here, among_later, among_append_left, among_append_right, among_append_cases}
-use Rattle.dcv_c.proofs.ObserverNames.{next_is_no_node, node_is_no_other}
 use Rattle.dcv_synth.specs.Units.{output_name, output_node_name, names_of_nodes, local_names}
-
--- ---- lists one behind the other
-
-pub among_neither : (names more : List Name) (name : Name) → is_among names name ≡ false → is_among more name ≡ false → is_among (names ++ more) name ≡ false
-among_neither names more name one other =
-    false_from_ne_true (is_among (names ++ more) name) (λ there.
-    elim (among_append_cases names more name there) [
-      | inl front ↦ both_ways (is_among names name) one front
-      | inr back ↦ both_ways (is_among more name) other back
-    ])
-
-distinct_joined : (names more : List Name) → AreDistinct names → AreDistinct more → ((name : Name) → is_among names name ≡ true → is_among more name ≡ false)
-    → AreDistinct (names ++ more)
-distinct_joined [] more one other apart = other
-distinct_joined (n ∷ names) more one other apart = (
-  among_neither names more n one.0 (apart n (among_here names n)),
-  distinct_joined names more one.1 other (λ name among. apart name (among_later n names name among)),
-)
 
 -- ---- names by numbers
 
@@ -94,7 +76,7 @@ module _ (nexts outputs : ℕ) (few_nexts : nexts ≤ 1000000) (few_outputs : ou
 
   nodes_distinct : AreDistinct both
   nodes_distinct =
-      distinct_joined (names_of_nodes node_name nexts) (names_of_nodes output_node_name outputs)
+      distinct_append (names_of_nodes node_name nexts) (names_of_nodes output_node_name outputs)
       (names_distinct node_name 0 nexts (λ k j before within.
       node_differs k j (omega (arith, before, within, few_nexts)) (omega (arith, within, few_nexts)) (λ same. omega (arith, same, before))))
       (names_distinct output_node_name 0 outputs (λ k j before within.

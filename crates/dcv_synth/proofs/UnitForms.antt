@@ -10,10 +10,10 @@ use Rattle.dcv_dfa.specs.declared.node_lines.Child.{Child}
 use Rattle.dcv_dfa.specs.declared.node_lines.Child.TheVariants.{State, Node}
 use Rattle.dcv_dfa.specs.declared.node_lines.NodeLine.{NodeLine}
 use Rattle.dcv_dfa.specs.NodeLines.{IsBelow}
+use Rattle.dcv_observer.proofs.Naming.{Name}
 use Rattle.dcv_c.specs.Classes.{lexicon}
 use Rattle.dcv_c.specs.Form.{IsName, IsItem, IsStatement, IsSpellable}
 use Rattle.dcv_c.specs.Observer.{node_name}
-use Rattle.dcv_c.proofs.Names.{Name}
 use Rattle.dcv_c.proofs.ObserverForms.{plain_word, state_is, next_is, parameter_is, digits_are_word_bytes, node_is, parameters_are, behind}
 use Rattle.dcv_synth.specs.Units.{ControlLines, output_name, output_node_name, reset_name, step_name, input_name, names_of_nodes, target, choice, choices}
 use Rattle.dcv_synth.specs.Units.{all_state_choices, last_statement, unit_of_lines}

@@ -7,7 +7,7 @@ use Rattle.std.specs.List.{All, AllPairs}
 use Rattle.dcv_automaton_text.specs.Rules.{AreNames}
 use Rattle.dcv_dfa.specs.declared.node_lines.NodeLine.{NodeLine}
 use Rattle.dcv_dfa.specs.NodeLines.{NodeLinesValue, IsBelow, AreReducedRows}
-use Rattle.dcv_c.specs.Building.{Fits}
+use Rattle.dcv_automaton_file.specs.File.{Fits}
 use Rattle.dcv_synth.specs.Units.{ControlLines}
 
 abbrev pub AreGoodLines : ℕ → ℕ → List NodeLine → Type 0

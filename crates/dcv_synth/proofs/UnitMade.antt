@@ -7,13 +7,12 @@ use Rattle.std.proofs.lemmas.Option.{slice_get-get_or}
 use Rattle.dcv_dfa.specs.declared.node_lines.Child.{Child}
 use Rattle.dcv_dfa.specs.declared.node_lines.Child.TheVariants.{State}
 use Rattle.dcv_dfa.specs.NodeLines.{NodeLinesValue, AreReducedRows}
+use Rattle.dcv_automaton_file.proofs.Rows.{range_more, numbered_more, below_more}
 use Rattle.dcv_c.specs.declared.unit.Reset.{Reset}
 use Rattle.dcv_c.specs.declared.unit.Step.{Step}
 use Rattle.dcv_c.specs.Seen.{all_names, seen_assignment, seen_statement, seen_returned, seen_unit}
 use Rattle.dcv_c.specs.Tree.{Statement, Read}
 use Rattle.dcv_c.specs.Observer.{state_name, node_name, parameter_name}
-use Rattle.dcv_c.proofs.Rows.{range_more, numbered_more}
-use Rattle.dcv_c.proofs.OfAuto.{below_more}
 use Rattle.dcv_synth.specs.Units.{ControlLines, output_name, output_node_name, reset_name, step_name, names_of_nodes, local_names, state_choices, all_state_choices}
 use Rattle.dcv_synth.specs.Units.{statements_of, unit_of_lines}
 use Rattle.dcv_synth.specs.Placing.{unit_names, HasNames, AreFitting}

@@ -10,13 +10,13 @@ use Rattle.dcv_dfa.specs.declared.node_lines.Child.{Child}
 use Rattle.dcv_dfa.specs.declared.node_lines.Child.TheVariants.{State, Node}
 use Rattle.dcv_dfa.specs.declared.node_lines.NodeLine.{NodeLine}
 use Rattle.dcv_dfa.specs.NodeLines.{IsBelow}
+use Rattle.dcv_observer.specs.Naming.{is_among}
+use Rattle.dcv_observer.proofs.Naming.{Name, among_here, among_later, among_append_cases}
+use Rattle.dcv_observer.proofs.ObserverNames.{among_no_variables, variables_are_distinct, variable_is_among, each_variable}
 use Rattle.dcv_c.specs.Tree.{Statement, CUnit, Read}
-use Rattle.dcv_c.specs.Meaning.{is_among}
 use Rattle.dcv_c.specs.Rules.{keeps_item, keeps_left, keeps_statement, keeps_statements, keeps_returned, IsWellNamed}
 use Rattle.dcv_c.specs.Observer.{state_name, next_name, node_name, parameter_name}
-use Rattle.dcv_c.proofs.Names.{Name, among_here, among_later, among_append_cases}
 use Rattle.dcv_c.proofs.KeptRules.{all_kept, kept_append, KeepsRules, keeps}
-use Rattle.dcv_c.proofs.ObserverNames.{among_no_parameters, parameters_are_distinct, parameter_is_among, each_parameter}
 use Rattle.dcv_c.proofs.ObserverRules.{apart_keep, parameters_keep}
 use Rattle.dcv_synth.specs.Units.{ControlLines, output_name, output_node_name, reset_name, step_name, input_name, local_names, target, cleared, choice, choices}
 use Rattle.dcv_synth.specs.Units.{all_state_choices, last_statement, unit_of_lines}
@@ -129,7 +129,7 @@ module _ (all : ControlLines) (good : AreGoodUnitLines all) where
   first = state_name ∷ reset_name ∷ step_name ∷ []
 
   no_parameter_before : (name : Name) → is_among parameters name ≡ true → is_among first name ≡ false
-  no_parameter_before = each_parameter (λ name. is_among first name ≡ false) (λ name. refl) all.names
+  no_parameter_before = each_variable (λ name. is_among first name ≡ false) (λ name. refl) all.names
 
   not_before : (name : Name) → is_among first name ≡ false → ((other : Name) → bytes_eq name (parameter_name other) ≡ false)
       → is_among (first ++ parameters) name ≡ false
@@ -137,7 +137,7 @@ module _ (all : ControlLines) (good : AreGoodUnitLines all) where
       false_from_ne_true (is_among (first ++ parameters) name) (λ there.
       elim (among_append_cases first parameters name there) [
         | inl before ↦ both_ways (is_among first name) none before
-        | inr parameter ↦ both_ways (is_among parameters name) (among_no_parameters name all.names other) parameter
+        | inr parameter ↦ both_ways (is_among parameters name) (among_no_variables name all.names other) parameter
       ])
 
   no_local_before : (name : Name) → is_among (local_names firsts seconds) name ≡ true → is_among (first ++ parameters) name ≡ false
@@ -147,7 +147,7 @@ module _ (all : ControlLines) (good : AreGoodUnitLines all) where
       (λ k. not_before (node_name k) refl (λ other. refl)) (λ k. not_before (output_node_name k) refl (λ other. refl))
 
   input_listed : (slot : ℕ) → slot < length all.names → is_among parameters (input_name all.names slot) ≡ true
-  input_listed slot below = parameter_is_among all.names (get_or all.names slot []) (listed all.names slot below)
+  input_listed slot below = variable_is_among all.names (get_or all.names slot []) (listed all.names slot below)
     where
       listed : (names : List Name) (slot : ℕ) → slot < length names → is_among names (get_or names slot []) ≡ true
       listed [] slot below = absurd (omega (arith, below))
@@ -222,7 +222,7 @@ module _ (all : ControlLines) (good : AreGoodUnitLines all) where
         all_assigned = refl;
         step = refl;
         parameters = parameters_keep parameters first 0 (omega (arith, length-map all.names parameter_name, good.names.count))
-            (parameters_are_distinct all.names good.names.differ) no_parameter_before;
+            (variables_are_distinct all.names good.names.differ) no_parameter_before;
         locals = apart_keep (local_names firsts seconds) (first ++ parameters) (locals_distinct firsts seconds good.next.few good.output.few) no_local_before;
         statements = statements_kept;
       }

@@ -11,12 +11,13 @@ use Rattle.dcv_dfa.specs.declared.node_lines.Child.{Child}
 use Rattle.dcv_dfa.specs.declared.node_lines.Child.TheVariants.{State, Node}
 use Rattle.dcv_dfa.specs.declared.node_lines.NodeLine.{NodeLine}
 use Rattle.dcv_dfa.specs.NodeLines.{IsBelow, state_at}
+use Rattle.dcv_observer.proofs.Naming.{Name}
+use Rattle.dcv_observer.proofs.ObserverNames.{node_is_not_next}
+use Rattle.dcv_automaton_file.proofs.Leading.{same_number, other_number}
 use Rattle.dcv_c.specs.Tree.{Statement, When, Equals}
 use Rattle.dcv_c.specs.Meaning.{Numbers, item_number, assigned, executed, truth_number}
 use Rattle.dcv_c.specs.Observer.{state_name, next_name, node_name, parameter_name}
-use Rattle.dcv_c.proofs.Names.{Name}
-use Rattle.dcv_c.proofs.ObserverNames.{node_is_not_next}
-use Rattle.dcv_c.proofs.ObserverRuns.{same_number, other_number, assigned_there, assigned_elsewhere, truth_stands}
+use Rattle.dcv_c.proofs.ObserverRuns.{assigned_there, assigned_elsewhere, truth_stands}
 use Rattle.dcv_synth.specs.Units.{output_name, output_node_name, input_name, target, choice, state_choices, all_state_choices}
 use Rattle.dcv_synth.proofs.UnitLines.{AreGoodLines}
 

@@ -15,11 +15,11 @@ use Rattle.dcv_arena.specs.declared.nodes.Ref.TheVariants.{Leaf}
 use Rattle.dcv_dfa.specs.declared.node_lines.Child.TheVariants.{State}
 use Rattle.dcv_dfa.specs.NodeLines.{NodeLinesValue, IsBelow, lines_of_rows, state_at, states_at}
 use Rattle.dcv_dfa.specs.Laws.{LinesHaveTheNumbersOfTheRows}
+use Rattle.dcv_observer.proofs.Naming.{Name}
+use Rattle.dcv_observer.proofs.ObserverNames.{next_is_no_node}
 use Rattle.dcv_c.specs.Meaning.{Numbers, zeros, assigned, executed, truth_number, numbers_before, numbers_after, UnitState, stepped, automaton_of_unit}
 use Rattle.dcv_c.specs.Observer.{state_name, next_name, node_name, parameter_name}
-use Rattle.dcv_c.proofs.Names.{Name}
 use Rattle.dcv_c.proofs.ObserverRuns.{assigned_there, assigned_elsewhere}
-use Rattle.dcv_c.proofs.ObserverNames.{next_is_no_node}
 use Rattle.dcv_c.proofs.ObserverAccepts.{number_at, place_of_parameter}
 use Rattle.dcv_synth.specs.Control.{ControlValue, RowsValue, IsControl, AreRowsBelow, value_in, step_of, controller_by}
 use Rattle.dcv_synth.specs.Units.{ControlLines, output_name, output_node_name, input_name, choices, all_state_choices, last_statement}

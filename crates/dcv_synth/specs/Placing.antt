@@ -7,8 +7,8 @@ use Rattle.std.specs.Prelude.{◌≡◌, ℕ, ◌+◌, ◌<◌, ◌≤◌, List,
 use Rattle.std.specs.Fmt.{decimal}
 use Rattle.std.specs.List.{All}
 use Rattle.dcv_dfa.specs.NodeLines.{NodeLinesValue, IsBelow}
+use Rattle.dcv_automaton_file.specs.File.{Fits}
 use Rattle.dcv_c.specs.Seen.{name_at}
-use Rattle.dcv_c.specs.Building.{Fits}
 use Rattle.dcv_c.specs.Observer.{state_name, next_name, node_name, parameter_name}
 use Rattle.dcv_synth.specs.Units.{output_name, output_node_name, input_name, local_names}
 use Rattle.dcv_synth.specs.declared.statements.Places.{Places}

@@ -3,8 +3,8 @@ ghost use Rattle.std.specs.Prelude.{◌≡◌, ◌+◌, ◌<◌, ◌≤◌, ◌+
 ghost use Rattle.std.specs.List.{All};
 ghost use Rattle.dcv_dfa.specs.declared.node_lines.Child.TheVariants.{State as AnyState};
 ghost use Rattle.dcv_dfa.specs.NodeLines.{IsBelow};
+ghost use Rattle.dcv_automaton_file.specs.File.{Fits};
 ghost use Rattle.dcv_c.specs.Seen.{name_at, seen_item, seen_statement};
-ghost use Rattle.dcv_c.specs.Building.{Fits};
 ghost use Rattle.dcv_synth.specs.Units.{input_name, target, choice, choices, cleared as cleared_name, state_choices, all_state_choices};
 ghost use Rattle.dcv_synth.specs.Units.{next_choice as next_choice_of, output_choice as output_choice_of, last_statement, statements_of};
 ghost use Rattle.dcv_synth.specs.Placing.{StandAt, HasNames, AreFew, AreFitting};

@@ -18,7 +18,7 @@ use Rattle.dcv_observer.specs.Left.{seen, left, lexicon_in, GivesOne}
 use Rattle.dcv_observer.proofs.Faults.{fault_at_item, fault_at_end}
 use Rattle.dcv_translation.specs.declared.machine.Step.{Step}
 use Rattle.dcv_translation.specs.declared.machine.Step.TheVariants.{Rule}
-use Rattle.dcv_translation.specs.Scheme.{Scheme, StandsFor}
+use Rattle.dcv_observer.specs.Scheme.{Scheme, StandsFor}
 use Rattle.dcv_translation.specs.UnderWay.{symbols_of, IsUnderWay, Fits, IsReady, Takes}
 use Rattle.dcv_translation.proofs.Running.{start_under_way, start_fits, one_part}
 

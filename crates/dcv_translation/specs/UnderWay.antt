@@ -15,7 +15,7 @@ use Rattle.dcv_lexer.specs.Cuts.{Token}
 use Rattle.dcv_observer.specs.Items.{token_class}
 use Rattle.dcv_translation.specs.declared.machine.Step.{Step}
 use Rattle.dcv_translation.specs.declared.machine.Step.TheVariants.{Class, Rule, Close}
-use Rattle.dcv_translation.specs.Scheme.{Scheme, parts_of, IsOfBody}
+use Rattle.dcv_observer.specs.Scheme.{Scheme, parts_of, IsOfBody}
 
 abbrev pub step_of : Symbol → Step
 step_of (ClassSymbol class) = Class class

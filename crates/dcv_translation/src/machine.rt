@@ -7,7 +7,7 @@ ghost use Rattle.dcv_grammar.specs.Predictive.{IsPredictive};
 ghost use Rattle.dcv_observer.specs.Items.{IsSyntaxFault, token_class};
 ghost use Rattle.dcv_observer.specs.Left.{seen};
 ghost use Rattle.dcv_observer.specs.declared.fault.ObsFault.TheVariants.{Syntax, Memory};
-ghost use Rattle.dcv_translation.specs.Scheme.{IsOfBody, StandsFor};
+ghost use Rattle.dcv_observer.specs.Scheme.{IsOfBody, StandsFor};
 ghost use Rattle.dcv_translation.specs.UnderWay.{step_of, symbols_of, IsUnderWay, IsReady, Advances, Takes};
 ghost use Rattle.dcv_translation.specs.declared.machine.Step.TheVariants.{Rule as RuleStep, Close as CloseStep};
 

@@ -4,7 +4,7 @@ ghost use Rattle.dcv_grammar.specs.Grammar.{grammar_of};
 ghost use Rattle.dcv_grammar.specs.Predictive.{IsPredictive};
 ghost use Rattle.dcv_lexer.specs.Lexicon.{lexicon_of, is_orderly};
 ghost use Rattle.dcv_observer.specs.Left.{seen};
-ghost use Rattle.dcv_translation.specs.Scheme.{Scheme, IsOfBody};
+ghost use Rattle.dcv_observer.specs.Scheme.{Scheme, IsOfBody};
 
 use crate::body::Body;
 use dcv_grammar::grammar::ContextFree;

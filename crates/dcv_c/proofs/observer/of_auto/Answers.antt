@@ -6,19 +6,20 @@ use Rattle.dcv_dfa.specs.NodeLines.{NodeLinesValue, IsBelow, node_lines_of}
 use Rattle.dcv_dfa.specs.declared.node_lines.NodeLine.{NodeLine}
 use Rattle.dcv_dfa.specs.Raw.{RawValue, raw_accepts}
 use Rattle.dcv_automaton_text.specs.File.{AccessLine, SuffixLine}
-use Rattle.dcv_automaton_file.specs.File.{texts_of, node_line, file_of}
+use Rattle.dcv_automaton_file.specs.File.{texts_of, node_line, file_of, state_lines, Fits}
 use Rattle.dcv_automaton_file.specs.Laws.{HasFile}
+use Rattle.dcv_automaton_file.proofs.Rows.{all_below_more, lines_fit}
 use Rattle.dcv_c.specs.declared.unit.Step.{Step}
 use Rattle.dcv_c.specs.Tree.{CUnit}
 use Rattle.dcv_c.specs.Rules.{IsWellNamed}
 use Rattle.dcv_c.specs.Form.{IsSpellable}
 use Rattle.dcv_c.specs.Seen.{seen_statement, seen_unit}
-use Rattle.dcv_c.specs.Building.{observer_names, state_lines, Fits}
+use Rattle.dcv_c.specs.Building.{observer_names}
 use Rattle.dcv_c.specs.Observer.{next_name, node_name, parameter_name, first_statement, last_statement, node_statement, state_statement}
 use Rattle.dcv_c.specs.Observer.{observer_of}
 use Rattle.dcv_c.specs.Laws.{Observes}
 use Rattle.dcv_c.proofs.Rows.{in_turn}
-use Rattle.dcv_c.proofs.OfAuto.{all_below_more, lines_fit, IsMade, made_is_observer}
+use Rattle.dcv_c.proofs.OfAuto.{IsMade, made_is_observer}
 use Rattle.dcv_c.proofs.observer.of_auto.Goals as goal
 use Rattle.dcv_c.proofs.observer.of_auto.Goals.{In_ok-name}
 

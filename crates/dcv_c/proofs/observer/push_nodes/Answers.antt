@@ -3,10 +3,10 @@ use Rattle.std.specs.List.{enumerate_from}
 use Rattle.std.proofs.lemmas.List.{take_all}
 use Rattle.dcv_dfa.specs.declared.node_lines.Child.TheVariants.{State}
 use Rattle.dcv_dfa.specs.declared.node_lines.NodeLine.{NodeLine}
-use Rattle.dcv_automaton_file.specs.File.{node_line}
+use Rattle.dcv_automaton_file.specs.File.{node_line, Fits}
 use Rattle.dcv_c.specs.Seen.{seen_statement}
 use Rattle.dcv_c.specs.Observer.{node_statement}
-use Rattle.dcv_c.specs.Building.{observer_names, Fits}
+use Rattle.dcv_c.specs.Building.{observer_names}
 use Rattle.dcv_c.proofs.Rows.{one_pushed}
 use Rattle.dcv_c.proofs.observer.push_nodes.Goals as goal
 

@@ -2,10 +2,10 @@ use Rattle.std.proofs.Common.{ℕ, ◌<◌, ◌++◌, List, length, map, ap, ◌
 use Rattle.std.proofs.lemmas.List.{take_all}
 use Rattle.dcv_dfa.specs.declared.node_lines.Child.TheVariants.{State}
 use Rattle.dcv_dfa.specs.Raw.{RawValue}
-use Rattle.dcv_automaton_file.specs.File.{state_line}
+use Rattle.dcv_automaton_file.specs.File.{state_line, state_lines}
 use Rattle.dcv_c.specs.Seen.{seen_statement}
 use Rattle.dcv_c.specs.Observer.{state_statement}
-use Rattle.dcv_c.specs.Building.{observer_names, state_lines}
+use Rattle.dcv_c.specs.Building.{observer_names}
 use Rattle.dcv_c.proofs.Rows.{one_pushed}
 use Rattle.dcv_c.proofs.observer.push_rows.Goals as goal
 

@@ -2,9 +2,10 @@ use Rattle.std.proofs.Common.{◌≡◌, ℕ, ◌++◌, List, length, map, take}
 use Rattle.std.specs.List.{All}
 use Rattle.dcv_dfa.specs.NodeLines.{IsBelow}
 use Rattle.dcv_dfa.specs.Raw.{RawValue}
+use Rattle.dcv_automaton_file.specs.File.{state_lines}
 use Rattle.dcv_c.specs.Seen.{seen_statement}
 use Rattle.dcv_c.specs.Observer.{state_statement}
-use Rattle.dcv_c.specs.Building.{observer_names, state_lines}
+use Rattle.dcv_c.specs.Building.{observer_names}
 use Rattle.dcv_c.proofs.observer.push_rows.Given as goal
 
 -- the statements of the states so far are there

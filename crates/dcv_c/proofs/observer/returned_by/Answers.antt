@@ -1,11 +1,13 @@
 use Rattle.std.proofs.Common.{◌≡◌, ℕ, ◌<◌, true, false, cond, List, [], ◌∷◌, ◌++◌, length, map, take, get_or, sym, ap, ◌∙◌, arith, append-nil}
 use Rattle.std.proofs.lemmas.List.{map_push, take_all, nil_from_length, length-map}
 use Rattle.dcv_dfa.specs.declared.node_lines.Child.{Child}
+use Rattle.dcv_automaton_file.specs.File.{state_lines}
+use Rattle.dcv_automaton_file.proofs.Rows.{flags_more}
 use Rattle.dcv_c.specs.Tree.{Tested}
 use Rattle.dcv_c.specs.Seen.{seen_test}
-use Rattle.dcv_c.specs.Observer.{next_name, accepting_tests, returned_for}
-use Rattle.dcv_c.specs.Building.{observer_names, state_lines}
-use Rattle.dcv_c.proofs.Rows.{flags_more, returned_of}
+use Rattle.dcv_c.specs.Observer.{next_name, state_test, accepting_tests, returned_for}
+use Rattle.dcv_c.specs.Building.{observer_names}
+use Rattle.dcv_c.proofs.Rows.{returned_of}
 use Rattle.dcv_c.proofs.observer.returned_by.Goals as goal
 use Rattle.dcv_c.proofs.observer.returned_by.Goals.{then-accepting+in_ok-push, else-accepting}
 
@@ -23,11 +25,11 @@ loop-state-preserved c = λ (names : List (List ℕ)) (nodes : ℕ) (rows : List
           let one = w.next_is.ensures names nodes count in
           ap (map (seen_test all)) items ∙ map_push (seen_test all) c.loop-state.tests.items _
           ∙ (λ i. before i ++ one i ∷ [])
-          ∙ sym (flags_more raw rows k within ∙ ap (λ b. accepting_tests (state_lines raw (take k rows)) ++ cond b (record { name = next_name; number = k } ∷ []) []) flag)
+          ∙ sym (flags_more state_test raw rows k within ∙ ap (λ b. accepting_tests (state_lines raw (take k rows)) ++ cond b (record { name = next_name; number = k } ∷ []) []) flag)
       | else-accepting w ↦
           let flag : get_or raw.accepting k false ≡ false = sym c.accepting.ensures ∙ w.if-accepting.false in
           ap (λ tests. map (seen_test all) tests.items) w.tests-is ∙ before
-          ∙ sym (flags_more raw rows k within ∙ ap (λ b. accepting_tests (state_lines raw (take k rows)) ++ cond b (record { name = next_name; number = k } ∷ []) []) flag
+          ∙ sym (flags_more state_test raw rows k within ∙ ap (λ b. accepting_tests (state_lines raw (take k rows)) ++ cond b (record { name = next_name; number = k } ∷ []) []) flag
           ∙ append-nil (accepting_tests (state_lines raw (take k rows))))
     ]
 

@@ -1,8 +1,9 @@
 use Rattle.std.proofs.Common.{◌≡◌, ℕ, List, length, map, take}
 use Rattle.dcv_dfa.specs.declared.node_lines.Child.{Child}
+use Rattle.dcv_automaton_file.specs.File.{state_lines}
 use Rattle.dcv_c.specs.Seen.{seen_test}
 use Rattle.dcv_c.specs.Observer.{accepting_tests}
-use Rattle.dcv_c.specs.Building.{observer_names, state_lines}
+use Rattle.dcv_c.specs.Building.{observer_names}
 use Rattle.dcv_c.proofs.observer.returned_by.Given as goal
 
 -- the tests of the states so far are there

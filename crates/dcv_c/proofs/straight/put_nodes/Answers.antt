@@ -3,12 +3,11 @@ use Rattle.std.proofs.lemmas.List.{take_all, length-map}
 use Rattle.dcv_syntax.specs.declared.names.Name.{Name}
 use Rattle.dcv_dfa.specs.declared.node_lines.Child.TheVariants.{State}
 use Rattle.dcv_dfa.specs.declared.node_lines.NodeLine.{NodeLine}
-use Rattle.dcv_automaton_file.specs.File.{texts_of, node_line}
+use Rattle.dcv_automaton_file.specs.File.{texts_of, node_line, Fits}
 use Rattle.dcv_io.proofs.Putting.{puts_further, puts_nothing, puts_same}
+use Rattle.dcv_automaton_file.proofs.Rows.{below_more}
 use Rattle.dcv_c.specs.Layout.{statement_line}
 use Rattle.dcv_c.specs.Observer.{node_statement}
-use Rattle.dcv_c.specs.Building.{Fits}
-use Rattle.dcv_c.proofs.OfAuto.{below_more}
 use Rattle.dcv_c.proofs.PutLines.{lines_text, line_more}
 use Rattle.dcv_c.proofs.straight.put_nodes.Goals as goal
 

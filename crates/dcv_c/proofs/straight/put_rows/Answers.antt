@@ -5,9 +5,9 @@ use Rattle.dcv_dfa.specs.Raw.{RawValue}
 use Rattle.dcv_dfa.specs.declared.node_lines.Child.TheVariants.{State}
 use Rattle.dcv_automaton_file.specs.File.{texts_of, state_line}
 use Rattle.dcv_io.proofs.Putting.{puts_further, puts_nothing, puts_same}
+use Rattle.dcv_automaton_file.proofs.Rows.{below_more}
 use Rattle.dcv_c.specs.Layout.{statement_line}
 use Rattle.dcv_c.specs.Observer.{state_statement}
-use Rattle.dcv_c.proofs.OfAuto.{below_more}
 use Rattle.dcv_c.proofs.PutLines.{lines_text, line_more}
 use Rattle.dcv_c.proofs.straight.put_rows.Goals as goal
 

@@ -2,10 +2,10 @@ use Rattle.std.proofs.Common.{◌<◌, ◌++◌, ◌∷◌, [], List, cond, leng
 use Rattle.std.proofs.lemmas.List.{take_all}
 use Rattle.dcv_io.proofs.Putting.{puts_both, puts_further, puts_nothing, puts_same}
 use Rattle.dcv_dfa.specs.declared.node_lines.Child.{Child}
+use Rattle.dcv_automaton_file.specs.File.{state_lines}
+use Rattle.dcv_automaton_file.proofs.Rows.{flags_more}
 use Rattle.dcv_c.specs.Layout.{returned_text}
-use Rattle.dcv_c.specs.Observer.{next_name, accepting_tests, returned_for}
-use Rattle.dcv_c.specs.Building.{state_lines}
-use Rattle.dcv_c.proofs.Rows.{flags_more}
+use Rattle.dcv_c.specs.Observer.{next_name, state_test, accepting_tests, returned_for}
 use Rattle.dcv_c.proofs.PutLines.{has_some, tests_text, tests_further, some_further, tests_end}
 use Rattle.dcv_c.proofs.straight.put_tests.Goals as goal
 
@@ -19,7 +19,7 @@ loop-state-preserved g c = λ (rows : List Child) size.
     let tests = accepting_tests (state_lines raw (take k rows)) in
     let within : k < length rows = omega (arith, c.loop-state-test.true, size) in
     let (some, before) = c.loop-state.invariant rows size in
-    let more = flags_more raw rows k within ∙ ap (λ b. tests ++ cond b (record { name = next_name; number = k } ∷ []) []) (sym c.accepting.ensures) in (
+    let more = flags_more state_test raw rows k within ∙ ap (λ b. tests ++ cond b (record { name = next_name; number = k } ∷ []) []) (sym c.accepting.ensures) in (
       c.put_if_accepting-some.ensures.some ∙ some_further tests c.accepting.result c.loop-state.some k some ∙ ap has_some (sym more),
       puts_further _ _ _ _ _ _ before c.put_if_accepting-some.ensures.puts (ap tests_text more ∙ tests_further tests c.accepting.result c.loop-state.some k some),
     )

@@ -7,16 +7,16 @@ use Rattle.dcv_dfa.specs.declared.node_lines.NodeLine.{NodeLine}
 use Rattle.dcv_dfa.specs.NodeLines.{NodeLinesValue, IsBelow, node_lines_of}
 use Rattle.dcv_dfa.specs.Raw.{RawValue, raw_accepts}
 use Rattle.dcv_automaton_text.specs.File.{AccessLine, SuffixLine}
-use Rattle.dcv_automaton_file.specs.File.{texts_of, node_line, file_of}
+use Rattle.dcv_automaton_file.specs.File.{texts_of, node_line, file_of, state_lines}
 use Rattle.dcv_automaton_file.specs.Laws.{HasFile}
+use Rattle.dcv_automaton_file.proofs.Rows.{below_more, all_below_more}
 use Rattle.dcv_lustre.specs.Tree.{Node}
 use Rattle.dcv_lustre.specs.Rules.{IsWellNamed}
 use Rattle.dcv_lustre.specs.Form.{IsSpellable}
 use Rattle.dcv_lustre.specs.Seen.{seen_node}
-use Rattle.dcv_lustre.specs.Building.{state_lines}
 use Rattle.dcv_lustre.specs.Observer.{node_equation, next_equation, state_name, next_name, node_name, number_local, observer_of}
 use Rattle.dcv_lustre.specs.Laws.{Observes}
-use Rattle.dcv_lustre.proofs.OfAuto.{below_more, all_below_more, line_is, line_pushed, equations_end, made_is_observer}
+use Rattle.dcv_lustre.proofs.OfAuto.{line_is, line_pushed, equations_end, made_is_observer}
 use Rattle.dcv_lustre.proofs.observer.of_auto.Goals as goal
 use Rattle.dcv_lustre.proofs.observer.of_auto.Goals.{In_ok-name}
 

@@ -1,13 +1,15 @@
 use Rattle.std.proofs.Common.{◌≡◌, ℕ, ◌<◌, true, false, cond, List, [], ◌∷◌, ◌++◌, length, map, take, get_or, sym, ap, ◌∙◌, arith, append-nil}
 use Rattle.std.proofs.lemmas.List.{map_push, take_all, nil_from_length, length-map}
 use Rattle.dcv_dfa.specs.declared.node_lines.Child.{Child}
+use Rattle.dcv_automaton_file.specs.File.{state_lines}
+use Rattle.dcv_automaton_file.proofs.Rows.{flags_more}
 use Rattle.dcv_lustre.specs.Tree.{Chosen, Tested, Constant, Truth}
 use Rattle.dcv_lustre.specs.Seen.{name_at, seen_arm, seen_test, seen_right}
-use Rattle.dcv_lustre.specs.Observer.{next_name, accepting_tests, ok_right}
+use Rattle.dcv_lustre.specs.Observer.{next_name, state_test, accepting_tests, ok_right}
 use Rattle.dcv_lustre.specs.Meaning.{ok}
-use Rattle.dcv_lustre.specs.Building.{observer_names, state_lines}
+use Rattle.dcv_lustre.specs.Building.{observer_names}
 use Rattle.dcv_lustre.proofs.Places.{output_at}
-use Rattle.dcv_lustre.proofs.Rows.{flags_more, ok_right_of}
+use Rattle.dcv_lustre.proofs.Rows.{ok_right_of}
 use Rattle.dcv_lustre.proofs.observer.output_equation.Goals as goal
 use Rattle.dcv_lustre.proofs.observer.output_equation.Goals.{then-accepting+in_ok-push, else-accepting, then-is_empty, else-is_empty}
 
@@ -25,11 +27,11 @@ loop-state-preserved c = λ (names : List (List ℕ)) (nodes : ℕ) (rows : List
           let one = w.next_is.ensures names nodes count in
           ap (map (seen_test all)) items ∙ map_push (seen_test all) c.loop-state.tests.items _
           ∙ (λ i. before i ++ one i ∷ [])
-          ∙ sym (flags_more raw rows k within ∙ ap (λ b. accepting_tests (state_lines raw (take k rows)) ++ cond b (record { name = next_name; number = k } ∷ []) []) flag)
+          ∙ sym (flags_more state_test raw rows k within ∙ ap (λ b. accepting_tests (state_lines raw (take k rows)) ++ cond b (record { name = next_name; number = k } ∷ []) []) flag)
       | else-accepting w ↦
           let flag : get_or raw.accepting k false ≡ false = sym c.accepting.ensures ∙ w.if-accepting.false in
           ap (λ tests. map (seen_test all) tests.items) w.tests-is ∙ before
-          ∙ sym (flags_more raw rows k within ∙ ap (λ b. accepting_tests (state_lines raw (take k rows)) ++ cond b (record { name = next_name; number = k } ∷ []) []) flag
+          ∙ sym (flags_more state_test raw rows k within ∙ ap (λ b. accepting_tests (state_lines raw (take k rows)) ++ cond b (record { name = next_name; number = k } ∷ []) []) flag
           ∙ append-nil (accepting_tests (state_lines raw (take k rows))))
     ]
 

@@ -1,8 +1,9 @@
 use Rattle.std.proofs.Common.{◌≡◌, ℕ, List, length, map, take}
 use Rattle.dcv_dfa.specs.declared.node_lines.Child.{Child}
+use Rattle.dcv_automaton_file.specs.File.{state_lines}
 use Rattle.dcv_lustre.specs.Seen.{seen_test}
 use Rattle.dcv_lustre.specs.Observer.{input_names, accepting_tests}
-use Rattle.dcv_lustre.specs.Building.{observer_names, state_lines}
+use Rattle.dcv_lustre.specs.Building.{observer_names}
 use Rattle.dcv_lustre.proofs.observer.output_equation.Given as goal
 
 abbrev pub invariant-loop-state : goal.invariant-loop-state

@@ -2,11 +2,11 @@ use Rattle.std.proofs.Common.{◌≡◌, ℕ, ◌+◌, ◌-◌, ◌<◌, false, 
 use Rattle.std.proofs.lemmas.List.{map_push, take_more, take_all, get_or_default}
 use Rattle.dcv_dfa.specs.declared.node_lines.Child.TheVariants.{State}
 use Rattle.dcv_dfa.specs.Raw.{RawValue}
-use Rattle.dcv_automaton_file.specs.File.{target_of}
+use Rattle.dcv_automaton_file.specs.File.{target_of, state_lines}
 use Rattle.dcv_lustre.specs.Tree.{Arm, Chosen, Equals, Constant, Truth}
 use Rattle.dcv_lustre.specs.Seen.{seen_arm}
 use Rattle.dcv_lustre.specs.Observer.{state_name, item_of, row_arms}
-use Rattle.dcv_lustre.specs.Building.{observer_names, state_lines}
+use Rattle.dcv_lustre.specs.Building.{observer_names}
 use Rattle.dcv_lustre.proofs.Places.{next_at}
 use Rattle.dcv_lustre.proofs.Rows.{count_of_arms, arm_at, last_is_at}
 use Rattle.dcv_lustre.proofs.observer.rows_equation.Goals as goal

@@ -2,9 +2,10 @@ use Rattle.std.proofs.Common.{◌≡◌, ℕ, List, length, map, take}
 use Rattle.std.specs.List.{All}
 use Rattle.dcv_dfa.specs.NodeLines.{IsBelow}
 use Rattle.dcv_dfa.specs.Raw.{RawValue}
+use Rattle.dcv_automaton_file.specs.File.{state_lines}
 use Rattle.dcv_lustre.specs.Seen.{seen_arm}
 use Rattle.dcv_lustre.specs.Observer.{input_names, row_arms}
-use Rattle.dcv_lustre.specs.Building.{observer_names, state_lines}
+use Rattle.dcv_lustre.specs.Building.{observer_names}
 use Rattle.dcv_lustre.proofs.observer.rows_equation.Given as goal
 
 abbrev pub invariant-loop-state : goal.invariant-loop-state

@@ -1,9 +1,8 @@
 use Rattle.std.proofs.Common.{◌++◌}
 use Rattle.dcv_io.proofs.Putting.{puts_both, puts_same}
-use Rattle.dcv_automaton_file.specs.File.{texts_of}
+use Rattle.dcv_automaton_file.specs.File.{texts_of, state_lines}
 use Rattle.dcv_lustre.specs.Layout.{equation_line}
 use Rattle.dcv_lustre.specs.Observer.{state_equation, next_equation, ok_equation}
-use Rattle.dcv_lustre.specs.Building.{state_lines}
 use Rattle.dcv_lustre.proofs.PutLines.{lines_text}
 use Rattle.dcv_lustre.proofs.straight.put_equations.Goals as goal
 

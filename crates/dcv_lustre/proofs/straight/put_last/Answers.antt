@@ -2,12 +2,11 @@ use Rattle.std.proofs.Common.{◌≡◌, ◌++◌, ℕ, List}
 use Rattle.std.specs.Prelude.{codes}
 use Rattle.dcv_io.proofs.Putting.{puts_both, puts_same}
 use Rattle.dcv_dfa.specs.declared.node_lines.Child.{Child}
-use Rattle.dcv_automaton_file.specs.File.{texts_of}
+use Rattle.dcv_automaton_file.specs.File.{texts_of, state_lines}
 use Rattle.dcv_lustre.specs.Meaning.{ok}
 use Rattle.dcv_lustre.specs.Tree.{Right}
 use Rattle.dcv_lustre.specs.Layout.{right_text, equation_line}
 use Rattle.dcv_lustre.specs.Observer.{accepting_tests, ok_right}
-use Rattle.dcv_lustre.specs.Building.{state_lines}
 use Rattle.dcv_lustre.proofs.Places.{output_at}
 use Rattle.dcv_lustre.proofs.straight.put_last.Goals as goal
 

@@ -4,10 +4,10 @@ use Rattle.std.specs.Prelude.{codes, length}
 use Rattle.dcv_io.proofs.Putting.{puts_both, puts_same}
 use Rattle.dcv_syntax.specs.declared.names.Name.{Name}
 use Rattle.dcv_automaton_file.specs.File.{texts_of}
+use Rattle.dcv_automaton_file.proofs.Rows.{below_more}
 use Rattle.dcv_lustre.specs.Tree.{Arm, Item, Chosen}
 use Rattle.dcv_lustre.specs.Layout.{arm_text, item_text, equation_line}
 use Rattle.dcv_lustre.proofs.Places.{node_at}
-use Rattle.dcv_lustre.proofs.OfAuto.{below_more}
 use Rattle.dcv_lustre.proofs.straight.put_line.Goals as goal
 
 pub line_arm-requires-clause-hi : goal.line_arm-requires-clause-hi

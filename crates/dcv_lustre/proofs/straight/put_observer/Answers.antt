@@ -2,9 +2,9 @@ use Rattle.std.proofs.Common.{length, sym, ap, subst, arith}
 use Rattle.std.specs.Prelude.{slice_index_or}
 use Rattle.dcv_dfa.specs.NodeLines.{IsBelow}
 use Rattle.dcv_io.proofs.Putting.{puts_both, puts_same}
-use Rattle.dcv_automaton_file.specs.File.{texts_of}
-use Rattle.dcv_lustre.specs.Building.{Fits}
-use Rattle.dcv_lustre.proofs.PutLines.{are_lined, text_is}
+use Rattle.dcv_automaton_file.specs.File.{texts_of, Fits}
+use Rattle.dcv_automaton_file.proofs.Rows.{are_lined}
+use Rattle.dcv_lustre.proofs.PutLines.{text_is}
 use Rattle.dcv_lustre.proofs.straight.put_observer.Goals as goal
 
 pub overflow_cast-all : goal.overflow_cast-all

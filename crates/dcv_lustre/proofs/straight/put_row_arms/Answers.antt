@@ -3,13 +3,12 @@ use Rattle.std.specs.List.{flat_map}
 use Rattle.std.proofs.lemmas.List.{take_all, get_or_default}
 use Rattle.dcv_dfa.specs.Raw.{RawValue}
 use Rattle.dcv_dfa.specs.declared.node_lines.Child.TheVariants.{State}
-use Rattle.dcv_automaton_file.specs.File.{texts_of, target_of}
+use Rattle.dcv_automaton_file.specs.File.{texts_of, target_of, state_lines}
 use Rattle.dcv_io.proofs.Putting.{puts_one_more, puts_nothing, puts_same}
+use Rattle.dcv_automaton_file.proofs.Rows.{below_more}
 use Rattle.dcv_lustre.specs.Tree.{Arm, Equals, Constant, Truth}
 use Rattle.dcv_lustre.specs.Layout.{arm_text}
 use Rattle.dcv_lustre.specs.Observer.{state_name, item_of, row_arms}
-use Rattle.dcv_lustre.specs.Building.{state_lines}
-use Rattle.dcv_lustre.proofs.OfAuto.{below_more}
 use Rattle.dcv_lustre.proofs.Rows.{count_of_arms, arm_at}
 use Rattle.dcv_lustre.proofs.straight.put_row_arms.Goals as goal
 

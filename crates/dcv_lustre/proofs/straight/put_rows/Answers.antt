@@ -6,11 +6,11 @@ use Rattle.dcv_io.proofs.Putting.{puts_both, puts_same}
 use Rattle.dcv_dfa.specs.Raw.{RawValue}
 use Rattle.dcv_dfa.specs.declared.node_lines.Child.TheVariants.{State}
 use Rattle.dcv_automaton_file.specs.File.{texts_of, target_of}
+use Rattle.dcv_automaton_file.proofs.Rows.{below_more}
 use Rattle.dcv_lustre.specs.Tree.{Arm, Item, Chosen}
 use Rattle.dcv_lustre.specs.Layout.{arm_text, item_text, equation_line}
 use Rattle.dcv_lustre.specs.Observer.{item_of}
 use Rattle.dcv_lustre.proofs.Places.{next_at}
-use Rattle.dcv_lustre.proofs.OfAuto.{below_more}
 use Rattle.dcv_lustre.proofs.Rows.{last_is_at}
 use Rattle.dcv_lustre.proofs.straight.put_rows.Goals as goal
 

@@ -1,8 +1,8 @@
 use Rattle.std.proofs.Common.{◌≡◌, List, length, take}
 use Rattle.dcv_io.specs.Putting.{Puts}
 use Rattle.dcv_dfa.specs.declared.node_lines.Child.{Child}
+use Rattle.dcv_automaton_file.specs.File.{state_lines}
 use Rattle.dcv_lustre.specs.Observer.{accepting_tests}
-use Rattle.dcv_lustre.specs.Building.{state_lines}
 use Rattle.dcv_lustre.proofs.PutLines.{has_some, tests_text}
 use Rattle.dcv_lustre.proofs.straight.put_tests.Given as goal
 

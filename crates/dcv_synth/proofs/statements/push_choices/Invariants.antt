@@ -1,7 +1,7 @@
 use Rattle.std.proofs.Common.{◌≡◌, ℕ, ◌++◌, List, length, map, take}
 use Rattle.std.specs.List.{All}
+use Rattle.dcv_automaton_file.specs.File.{Fits}
 use Rattle.dcv_c.specs.Seen.{seen_statement}
-use Rattle.dcv_c.specs.Building.{Fits}
 use Rattle.dcv_synth.specs.Units.{input_name, choices}
 use Rattle.dcv_synth.specs.Placing.{StandAt}
 use Rattle.dcv_synth.proofs.statements.push_choices.Given as goal

@@ -2,8 +2,8 @@ use Rattle.std.proofs.Common.{◌≡◌, ℕ, ◌++◌, List, length, map, sym, 
 use Rattle.std.specs.List.{All}
 use Rattle.dcv_dfa.specs.declared.node_lines.NodeLine.{NodeLine}
 use Rattle.dcv_dfa.specs.NodeLines.{IsBelow}
+use Rattle.dcv_automaton_file.specs.File.{Fits}
 use Rattle.dcv_c.specs.Seen.{name_at, seen_statement}
-use Rattle.dcv_c.specs.Building.{Fits}
 use Rattle.dcv_c.specs.Observer.{next_name, node_name}
 use Rattle.dcv_synth.specs.Units.{output_name, output_node_name, cleared, choices, all_state_choices, last_statement}
 use Rattle.dcv_synth.specs.Placing.{StandAt}

@@ -3,7 +3,7 @@ use Rattle.std.specs.List.{list_all}
 use Rattle.dcv_lexer.specs.Cuts.{Token}
 use Rattle.dcv_observer.specs.Conditions.{Names}
 use Rattle.dcv_observer.specs.Left.{seen}
-use Rattle.dcv_c.specs.Meaning.{is_among}
+use Rattle.dcv_observer.specs.Naming.{is_among}
 use Rattle.dcv_c.specs.Placed.{assignment_of}
 use Rattle.dcv_c_read.specs.declared.placed.PlacedAssignment.{PlacedAssignment}
 use Rattle.dcv_c_read.specs.Seen.{seen_assignment}

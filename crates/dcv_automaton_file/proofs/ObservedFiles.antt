@@ -4,12 +4,11 @@
 --     GoodLines, GoodRows              the lines of nodes and of states
 --     no_row                           the line of a state that is none
 --     IsObservable file                what is needed of a file
-use Rattle.std.proofs.Common.{◌≡◌, ℕ, zero, suc, ◌+◌, ◌<◌, ◌≤◌, Bool, true, false, not, List, [], ◌∷◌, length, map, take, get_or, refl, sym, ap}
-use Rattle.std.proofs.Common.{subst, ◌∙◌, arith}
-use Rattle.std.specs.Prelude.{bytes_eq, nat_lt, nat_le}
+use Rattle.std.proofs.Common.{◌≡◌, ℕ, suc, ◌+◌, ◌<◌, ◌≤◌, true, false, List, [], ◌∷◌, length, map, get_or, refl, sym, subst, ◌∙◌, arith}
+use Rattle.std.specs.Prelude.{bytes_eq}
 use Rattle.std.specs.List.{enumerate_from}
-use Rattle.std.proofs.lemmas.Bool.{and_parts, ltb-true, leb-true, both_ways}
-use Rattle.std.proofs.lemmas.List.{length-map, length-take-le, get_or-take}
+use Rattle.std.proofs.lemmas.Bool.{lt-ltb}
+use Rattle.std.proofs.lemmas.List.{length-map}
 use Rattle.std.proofs.lemmas.List.Folds.{list_any_at}
 use Rattle.std.proofs.lemmas.List.FromFn.{length-enumerate_from}
 use Rattle.std.proofs.lemmas.Option.{slice_get-get_or}
@@ -20,13 +19,12 @@ use Rattle.dcv_dfa.specs.NodeLines.{node_lines_of, numbered, IsBelow as IsChildB
 use Rattle.dcv_dfa.specs.Raw.{RawValue}
 use Rattle.dcv_dfa.proofs.Reduced.{has_node_lines}
 use Rattle.dcv_automaton_text.specs.File.{Target, ToState, ToNode, NodeLine, StateLine, AccessLine, SuffixLine, AutomatonFile}
-use Rattle.dcv_automaton_text.specs.Rules.{IsPlainName, AreNames, IsGood, most_names, is_listed, keeps_child, keeps_row}
-use Rattle.dcv_automaton_text.proofs.GoodFiles.{IsGoodNode, IsGoodState, IsGoodFile, good_file}
+use Rattle.dcv_automaton_text.specs.GoodFile.{IsChild, IsGoodNodeLine, IsRow, IsGoodStateLine, IsGoodFile}
+use Rattle.dcv_automaton_text.specs.Rules.{AreNames, slot_of, is_listed, IsGood}
+use Rattle.dcv_automaton_text.proofs.InWords.{listed_slot, good_files_in_words}
 use Rattle.dcv_automaton_file.specs.File.{target_of, node_line, state_line, file_of}
 use Rattle.dcv_automaton_file.specs.Laws.{HasFile}
-use Rattle.dcv_c.specs.Meaning.{is_among}
-use Rattle.dcv_c.proofs.GoodNames.{name_kept}
-use Rattle.dcv_c.proofs.Names.{is_itself}
+use Rattle.dcv_automaton_file.proofs.Tables.{same_bytes}
 
 abbrev pub IsBelow : ℕ → ℕ → Target → Type 0
 IsBelow states nodes (ToState number) = number < states
@@ -35,7 +33,7 @@ IsBelow states nodes (ToNode number) = number < nodes
 -- the line of the node with this number
 pub record GoodLine (names : List (List ℕ)) (states number : ℕ) (line : NodeLine) : Type 0 where
   pub number_is : line.number ≡ number
-  pub listed : is_among names line.name ≡ true
+  pub listed : is_listed names line.name ≡ true
   pub hi : IsBelow states number line.hi
   pub lo : IsBelow states number line.lo
 
@@ -86,71 +84,39 @@ rows_from states nodes (line ∷ lines) number each = (
 )
 
 module _ (file : AutomatonFile) (is : IsGoodFile file) where
-  child_below : (place : ℕ) (target : Target) → keeps_child file place target ≡ true → IsBelow (length file.state_lines) place target
-  child_below place (ToState number) kept = let below = ltb-true number file.states kept in omega (arith, is.states)
-  child_below place (ToNode number) kept = ltb-true number place (and_parts (nat_lt number place) _ kept).0
+  child_below : (place : ℕ) (target : Target) → IsChild file place target → IsBelow (length file.state_lines) place target
+  child_below place (ToState number) below = omega (arith, is.all_states, below)
+  child_below place (ToNode number) earlier = earlier.earlier
 
-  row_below : (target : Target) → keeps_row file target ≡ true → IsBelow (length file.state_lines) (length file.node_lines) target
-  row_below (ToState number) kept = let below = ltb-true number file.states kept in omega (arith, is.states)
-  row_below (ToNode number) kept = ltb-true number (length file.node_lines) kept
+  row_below : (target : Target) → IsRow file target → IsBelow (length file.state_lines) (length file.node_lines) target
+  row_below (ToState number) below = omega (arith, is.all_states, below)
+  row_below (ToNode number) below = below
 
-  good_line : (k : ℕ) (line : NodeLine) → IsGoodNode file k line → GoodLine file.names (length file.state_lines) k line
-  good_line k line good =
-      record { number_is = good.number; listed = good.listed; hi = child_below k line.hi good.hi; lo = child_below k line.lo good.lo }
+  good_line : (k : ℕ) (line : NodeLine) → IsGoodNodeLine file k line → GoodLine file.names (length file.state_lines) k line
+  good_line k line good = record {
+    number_is = good.number;
+    listed = listed_slot file.names line.name ∙ lt-ltb (slot_of file.names line.name) (length file.names) good.variable;
+    hi = child_below k line.hi good.hi;
+    lo = child_below k line.lo good.lo;
+  }
 
-  good_row : (k : ℕ) (line : StateLine) → IsGoodState file k line → GoodRow (length file.state_lines) (length file.node_lines) k line
+  good_row : (k : ℕ) (line : StateLine) → IsGoodStateLine file k line → GoodRow (length file.state_lines) (length file.node_lines) k line
   good_row k line good = record { number_is = good.number; row = row_below line.row good.row }
-
-  names_are : IsGood file → AreNames file.names
-  names_are good =
-      record {
-        count = is.names;
-        each = λ k d within.
-            let default : get_or file.names k [] ≡ get_or file.names k d = same k d within in
-            subst IsPlainName default (plain k within);
-        differ = λ i j d before within same_name.
-            let there : get_or file.names i [] ≡ get_or file.names j [] = same i d (omega arith) ∙ same_name ∙ sym (same j d within) in
-            let parts = and_parts _ (not (is_listed (take j file.names) (get_or file.names j []))) (name_kept file good j within) in
-            let size = length-take-le j file.names (omega arith) in
-            let again = list_any_at (bytes_eq (get_or file.names j [])) (take j file.names) i [] (omega (arith, size, before))
-            (ap (bytes_eq (get_or file.names j [])) (get_or-take j file.names i [] before ∙ there) ∙ is_itself (get_or file.names j [])) in
-            not_both (is_listed (take j file.names) (get_or file.names j [])) parts.1 again;
-      }
-    where
-      same : (k : ℕ) (d : List ℕ) → k < length file.names → get_or file.names k [] ≡ get_or file.names k d
-      same k d within = default_free file.names k within
-        where
-          default_free : (names : List (List ℕ)) (k : ℕ) → k < length names → get_or names k [] ≡ get_or names k d
-          default_free [] k within = absurd (omega arith)
-          default_free (name ∷ names) zero within = refl
-          default_free (name ∷ names) (suc k) within = default_free names k (omega arith)
-
-      not_both : (b : Bool) → not b ≡ true → b ≡ true → ⊥
-      not_both true h k = both_ways true (sym h) refl
-      not_both false h k = both_ways true (sym k) refl
-
-      plain : (k : ℕ) → k < length file.names → IsPlainName (get_or file.names k [])
-      plain k within =
-          let name = get_or file.names k [] in
-          let one = and_parts _ (not (is_listed (take k file.names) name)) (name_kept file good k within) in
-          let two = and_parts _ (nat_le (length name) 24) one.0 in
-          let three = and_parts (nat_lt k most_names) _ two.0 in
-          record { form = three.1; short = leb-true (length name) 24 two.1 }
 
 pub good_is_observable : (file : AutomatonFile) → IsGood file → IsObservable file
 good_is_observable file good =
-    let is = good_file file good in
+    let is = (good_files_in_words file).0 good in
     record {
-      names = names_are file is good;
+      names = is.names;
       lines = lines_from file.names (length file.state_lines) file.node_lines 0 (λ k d within.
           subst (λ n. GoodLine file.names (length file.state_lines) n (get_or file.node_lines k d)) (let here : k ≡ 0 + k = omega arith in here)
-          (good_line file is k (get_or file.node_lines k d) (is.node k d within)));
+          (good_line file is k (get_or file.node_lines k d) (is.node_lines k d within)));
       few_lines = is.nodes;
       rows = rows_from (length file.state_lines) (length file.node_lines) file.state_lines 0 (λ k d within.
           subst (λ n. GoodRow (length file.state_lines) (length file.node_lines) n (get_or file.state_lines k d)) (let here : k ≡ 0 + k = omega arith in here)
-          (good_row file is k (get_or file.state_lines k d) (is.state k d within)));
-      some_rows = omega (arith, is.some, is.states);
-      few_rows = omega (arith, is.few, is.states);
+          (good_row file is k (get_or file.state_lines k d) (is.state_lines k d within)));
+      some_rows = omega (arith, is.some, is.all_states);
+      few_rows = omega (arith, is.states, is.all_states);
     }
 
 -- ---- files of automata
@@ -169,7 +135,7 @@ lines_of_nodes names states all (line ∷ lines) number is =
     let name = get_or names line.slot [] in (
       record {
         number_is = refl;
-        listed = list_any_at (bytes_eq name) names line.slot [] first.slot (is_itself name);
+        listed = list_any_at (bytes_eq name) names line.slot [] first.slot (same_bytes name);
         hi = target_below states number line.hi first.hi_below;
         lo = target_below states number line.lo first.lo_below;
       },
