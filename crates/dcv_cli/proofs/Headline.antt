@@ -56,6 +56,17 @@ valid_exactly k L verdict is = by verdict.counterexample is
     by None none = (λ valid word behaves. twice_denied (L word) (none word behaves), λ every. refl)
     by (Some word) least = (λ valid. absurd (no_valid valid), λ every. absurd (denied_or_so (L word) least.member (every word least.behaviour)))
 
+not_valid_exactly : (k : ℕ) (L : Language) (verdict : Verdict) → IsLeastOf k (outside L) verdict.counterexample
+    → (status_of_verdict verdict ≡ NotValid) ↔ (HasEvery k L → ⊥)
+not_valid_exactly k L verdict is = by verdict.counterexample is
+  where
+    of : Option Word → Status
+    of found = status_of_verdict (record { counterexample = found; example = None })
+
+    by : (found : Option Word) → IsLeastOf k (outside L) found → (of found ≡ NotValid) ↔ (HasEvery k L → ⊥)
+    by None none = (λ broken. absurd (no_valid (sym broken)), λ some. absurd (some (λ word behaves. twice_denied (L word) (none word behaves))))
+    by (Some word) least = (λ broken every. denied_or_so (L word) least.member (every word least.behaviour), λ some. refl)
+
 -- ---- what is said
 
 module _ (fewest : AutomatonHasFewestStates) where
@@ -65,6 +76,7 @@ module _ (fewest : AutomatonHasFewestStates) where
       let says = is.says in
       let automaton = says.says_automaton in
       let valid = valid_exactly k (models file) is.verdict is.is_verdict.counterexample in
+      let not_valid = not_valid_exactly k (models file) is.verdict is.is_verdict.counterexample in
       record {
         verdict = is.verdict;
         automaton = automaton.automaton;
@@ -83,8 +95,10 @@ module _ (fewest : AutomatonHasFewestStates) where
         unit_read = says.says_unit.read;
         unit_observes = says.says_unit.observes;
         valid = (λ e. valid.0 (sym is.status ∙ e), λ every. is.status ∙ valid.1 every);
+        not_valid = (λ e. not_valid.0 (sym is.status ∙ e), λ some. is.status ∙ not_valid.1 some);
         counterexample = is.is_verdict.counterexample;
         example = is.is_verdict.example;
+        no_message = is.no_message;
       }
 
   on_text : (text : List ℕ) (limits : Limits) (outcome : Outcome) → OnText text Only (IsBudgeted limits Only (IsReport All limits)) outcome → IsAnswered text limits outcome

@@ -1,7 +1,7 @@
 -- The promise of the program in one place: what a run of `all` says of a text. It is what `Right` says of that command, in the words of a user.
 --     AllIsSaid file outcome           a verdict, an automaton and two observers of exactly the behaviours that model the file
 --     IsAnswered text limits outcome   so it is said; or the text's first fault is named, or the first step that is over the limits
-use Rattle.std.specs.Prelude.{◌≡◌, ◌↔◌, ℕ, ◌≤◌, List, Some, length}
+use Rattle.std.specs.Prelude.{◌≡◌, ◌↔◌, ℕ, ◌≤◌, List, [], Some, length}
 use Rattle.dcv_syntax.specs.Plain.{PlainFile}
 use Rattle.dcv_logic.specs.Models.{models}
 use Rattle.dcv_language.specs.Certificate.{IsCertificate}
@@ -29,7 +29,7 @@ use Rattle.dcv_cli.specs.declared.budget_line.Over.{Over}
 use Rattle.dcv_cli.specs.declared.refusal.Refusal.{Refusal}
 use Rattle.dcv_cli.specs.declared.refusal.Refusal.TheVariants.{Budget}
 use Rattle.dcv_cli.specs.declared.refused.Which.TheVariants.{Only}
-use Rattle.dcv_cli.specs.declared.status.Status.TheVariants.{Valid}
+use Rattle.dcv_cli.specs.declared.status.Status.TheVariants.{Valid, NotValid}
 use Rattle.dcv_cli.specs.Budget.{steps_of_file, IsFirstOver}
 use Rattle.dcv_cli.specs.FormulaFile.{IsRefused, IsFormulaFile}
 use Rattle.dcv_cli.specs.Held.{Texts}
@@ -59,10 +59,12 @@ pub record AllIsSaid (file : PlainFile) (outcome : Outcome) : Type 0 where
   pub node_observes : ObservesByNode (length file.variables) node (models file)
   pub unit_read : IsReadAsUnit unit_text unit
   pub unit_observes : ObservesByUnit (length file.variables) unit (models file)
-  -- The run ends with 0 exactly where every behaviour models the file. Else the counterexample is a shortest behaviour that does not.
+  -- The run ends with 0 exactly where every behaviour models the file, and else with 1. Then the counterexample is a shortest behaviour that does not.
   pub valid : (outcome.status ≡ Valid) ↔ HasEvery (length file.variables) (models file)
+  pub not_valid : (outcome.status ≡ NotValid) ↔ (HasEvery (length file.variables) (models file) → ⊥)
   pub counterexample : IsLeastOf (length file.variables) (outside (models file)) verdict.counterexample
   pub example : IsLeastOf (length file.variables) (models file) verdict.example
+  pub no_message : outcome.err ≡ []
 
 pub data IsAnswered (text : List ℕ) (limits : Limits) (outcome : Outcome) : Type 0 where
   FirstFault : (refusal : Refusal) → IsRefused text refusal → outcome ≡ refused refusal Only → IsAnswered text limits outcome
