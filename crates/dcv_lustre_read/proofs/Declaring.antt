@@ -1,12 +1,11 @@
 -- One more name is declared.
 use Rattle.std.proofs.Common.{◌≡◌, ℕ, ◌+◌, Bool, true, false, not, cond, ◌&&◌, List, [], ◌∷◌, ◌++◌, length, take, Option, Some, refl, sym, ap, subst, ◌∙◌, arith}
 use Rattle.std.proofs.Common.{append_assoc, length-append}
-use Rattle.std.specs.Prelude.{bytes_eq}
 use Rattle.std.proofs.lemmas.List.{take_at}
-use Rattle.std.proofs.lemmas.Bool.{or_from, or_parts, false≢true, not-true}
+use Rattle.std.proofs.lemmas.Bool.{false≢true, not-true}
 use Rattle.dcv_lexer.specs.Cuts.{Token}
 use Rattle.dcv_observer.specs.Conditions.{Names}
-use Rattle.dcv_observer.specs.Naming.{is_among, AreDistinct}
+use Rattle.dcv_observer.specs.Naming.{is_among}
 use Rattle.dcv_observer.proofs.Naming.{distinct_push}
 use Rattle.dcv_lustre.specs.Tree.{Kind, Node}
 use Rattle.dcv_lustre.specs.Rules.{declared, keeps_declared}

@@ -3,12 +3,12 @@ use Rattle.std.proofs.Common.{◌≡◌, ℕ, ◌+◌, ◌<◌, ◌≤◌, true,
 use Rattle.std.specs.List.{AllByRecursion}
 use Rattle.std.proofs.lemmas.List.{get_or_past}
 use Rattle.std.proofs.lemmas.List.Elements.{All-from_recursion}
-use Rattle.std.proofs.lemmas.Bool.{and_parts, and_from, cases_lt, ltb-true, false_from_ne_true, both_ways, false≢true}
+use Rattle.std.proofs.lemmas.Bool.{and_parts, and_from, cases_lt, ltb-true, false≢true}
 use Rattle.dcv_observer.specs.declared.conditions.Condition.{Condition}
 use Rattle.dcv_observer.specs.declared.conditions.Condition.TheVariants.{Holds, Equals}
 use Rattle.dcv_observer.specs.declared.conditions.Test.{Test}
 use Rattle.dcv_observer.specs.Naming.{is_among, AreDistinct}
-use Rattle.dcv_observer.proofs.Naming.{Name, among_here, among_later, among_append_left, among_append_right, among_append_cases, distinct_append}
+use Rattle.dcv_observer.proofs.Naming.{Name, among_here, among_append_left, among_append_right, among_append_cases, distinct_append}
 use Rattle.dcv_c.specs.declared.unit.Item.{Item}
 use Rattle.dcv_c.specs.declared.unit.Item.TheVariants.{Constant, Named}
 use Rattle.dcv_c.specs.declared.unit.Right.{Right}

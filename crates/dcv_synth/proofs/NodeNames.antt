@@ -1,10 +1,10 @@
 -- The names of a controller's unit: each is declared once.
-use Rattle.std.proofs.Common.{◌≡◌, ℕ, zero, suc, ◌+◌, ◌<◌, ◌≤◌, ◌^◌, true, false, List, [], ◌∷◌, ◌++◌, map, inl, inr, refl, sym, ap, subst, ◌∙◌, arith}
+use Rattle.std.proofs.Common.{◌≡◌, ℕ, zero, suc, ◌+◌, ◌<◌, ◌≤◌, ◌^◌, true, false, List, ◌∷◌, ◌++◌, map, inl, inr, refl, sym, ap, subst, ◌∙◌, arith}
 use Rattle.std.specs.Prelude.{bytes_eq, nat_eq}
 use Rattle.std.specs.List.{range_with_len}
-use Rattle.std.proofs.lemmas.Bool.{cases_Bool, or_from, or_left, or_right, or_cases, false_from_ne_true, false≢true, both_ways}
+use Rattle.std.proofs.lemmas.Bool.{cases_Bool, or_from, or_left, or_right, or_cases, false≢true, both_ways}
 use Rattle.dcv_observer.specs.Naming.{is_among, AreDistinct}
-use Rattle.dcv_observer.proofs.Naming.{Name, is_itself, one_name, among_here, among_later, among_append_left, among_append_right, among_append_cases, among_neither, distinct_append}
+use Rattle.dcv_observer.proofs.Naming.{Name, is_itself, one_name, among_later, among_append_left, among_append_right, among_append_cases, among_neither, distinct_append}
 use Rattle.dcv_observer.proofs.ObserverNames.{next_is_no_node, node_is_no_other}
 use Rattle.dcv_c.specs.Observer.{next_name, node_name}
 use Rattle.dcv_synth.specs.Units.{output_name, output_node_name, names_of_nodes, local_names}
