@@ -5,7 +5,7 @@ ghost use Rattle.std.specs.Prelude.{bytes_eq};
 ghost use Rattle.dcv_lexer.specs.Cuts.{Token};
 ghost use Rattle.dcv_observer.specs.Left.{seen};
 ghost use Rattle.dcv_observer.specs.declared.fault.ObsFault.TheVariants.{Names};
-    ghost use Rattle.dcv_observer.specs.Naming.{is_among};
+ghost use Rattle.dcv_observer.specs.Naming.{is_among};
 ghost use Rattle.dcv_c.specs.Rules.{keeps_new};
 ghost use Rattle.dcv_c_read.specs.Judged.{Leads, IsLeft};
 ghost use Rattle.dcv_c_read.specs.Scope.{is_variable, seen_row, marked};
