@@ -1,2 +1,1 @@
-mod BitFacts
 mod MemoFacts

@@ -1,7 +1,6 @@
 // What the tests of this crate are about: small functions, each by a builder that ensures what the operations ask for.
-ghost use Rattle.std.specs.Prelude.{◌≡◌, ◌≤◌, ◌<◌, ◌+◌, Bool, List, IfOk};
+ghost use Rattle.std.specs.Prelude.{◌≡◌, ◌≤◌, ◌<◌, Bool, List, IfOk};
 ghost use Rattle.dcv_arena.specs.Arena.{IsRef, KeepsRefs, value_of};
-ghost use Rattle.dcv_apply_tests.specs.Bits.{IsFrom};
 
 use dcv_arena::{Arena, ArenaFault, Ref};
 use dcv_word::Letter;
@@ -33,25 +32,7 @@ pub(crate) fn parity(arena: &mut Arena) -> Result<Ref, ArenaFault>
     ensures is_ref { IfOk result (IsRef arena.new) }
     ensures bound { IfOk result (λ root. (letter : List Bool) → value_of arena.new root letter < 2) }
 {
-    let (mut even, mut odd) = (arena.leaf(0), arena.leaf(1));
-    for slot in (0..arena.slots()).rev() {
-        (even, odd) = flipped(arena, slot, even, odd)?;
-    }
-    Ok(even)
-}
-
-// The parity of the slots from this one on, and its negation, by those of the slots behind it.
-fn flipped(arena: &mut Arena, slot: u8, even: Ref, odd: Ref) -> Result<(Ref, Ref), ArenaFault>
-    requires slot { slot < arena.old.slots }
-    requires even { IsFrom arena.old (slot + 1) even }
-    requires odd { IsFrom arena.old (slot + 1) odd }
-    ensures kept { KeepsRefs arena.old arena.new }
-    ensures even { IfOk result (λ roots. IsFrom arena.new slot roots.0) }
-    ensures odd { IfOk result (λ roots. IsFrom arena.new slot roots.1) }
-{
-    let new_even = arena.node(slot, even, odd)?;
-    let new_odd = arena.node(slot, odd, even)?;
-    Ok((new_even, new_odd))
+    dcv_tables::parity(arena, 1, 0, 1, 2)
 }
 
 // The numbers of a function of three slots, in the letters' order.

@@ -1,3 +1,1 @@
-mod BelowFacts
 mod FewCounts
-mod PlainNames

@@ -2,13 +2,11 @@
 ghost use Rattle.std.specs.Prelude.{◌<◌, length};
 
 use crate::examples::{EACH_LETTER, FEWER_THAN_THREE, LAST_LETTER, ODD_DIFFERENCES, ONE_LETTER};
-use crate::minimal::{auto_of, chain};
-use crate::shown::{letters, table};
+use crate::minimal::{auto_of, auto_of_chain};
 use crate::slow::ends;
-use crate::tables::raw_of;
-use dcv_certificate::{Access, Suffix, separate};
+use dcv_certificate::{Access, Proof, Suffix, separate};
 use dcv_dfa::Auto;
-use dcv_minimise::minimise;
+use dcv_tables::{letters, states_over};
 use dcv_word::Letter;
 use std::alloc::Global;
 use std::test::Fail;
@@ -87,7 +85,7 @@ fn is_accepted(
 // Whether each state's access word is the least that leads to it, and that of a start that no word leads to is empty, by the places of
 // words among all words of at most five letters, in order.
 pub(crate) fn are_least(alloc: Global, auto: &Auto, access: &[Access]) -> Result<bool, Fail> {
-    let ends = ends(alloc, &table(alloc, auto)?, 0, 5)?;
+    let ends = ends(alloc, &states_over(alloc, auto, auto.slots())?, 0, 5)?;
     let places = places(alloc, auto.slots(), access)?;
     Ok(
         places.iter().enumerate().all(|(state, place)| {
@@ -133,12 +131,23 @@ fn place_of(letters: &[Letter], places: &[usize], word: &Access) -> Result<usize
     )
 }
 
+// What shows that the minimal automaton of a table is minimal.
+fn proof_of(alloc: Global, slots: u8, table: &str) -> Result<Proof, Fail> {
+    Ok(separate(alloc, &auto_of(alloc, slots, table, 0)?)?)
+}
+
+// The same, and whether its suffixes tell all states apart.
+fn judged(alloc: Global, slots: u8, table: &str) -> Result<(Proof, bool), Fail> {
+    let auto = auto_of(alloc, slots, table, 0)?;
+    let proof = separate(alloc, &auto)?;
+    let tells_all = tells_all(alloc, &auto, proof.suffixes())?;
+    Ok((proof, tells_all))
+}
+
 // One state accepts everything: there are no two to tell apart.
 #[test]
 fn one_state(rt: HostRuntime) -> Result<(), Fail> {
-    let alloc = rt.alloc();
-    let auto = auto_of(alloc, 0, "accept 0", 0)?;
-    let proof = separate(alloc, &auto)?;
+    let proof = proof_of(rt.alloc(), 0, "accept 0")?;
     assert_eq!(rt;
         proof.access(),
         [Access::Start(Letter::new(0, 0))].as_slice()
@@ -150,9 +159,7 @@ fn one_state(rt: HostRuntime) -> Result<(), Fail> {
 // The start is the state behind `1`.
 #[test]
 fn start_that_is_entered(rt: HostRuntime) -> Result<(), Fail> {
-    let alloc = rt.alloc();
-    let auto = auto_of(alloc, 1, EACH_LETTER, 0)?;
-    let proof = separate(alloc, &auto)?;
+    let proof = proof_of(rt.alloc(), 1, EACH_LETTER)?;
     let access = [
         Access::Start(Letter::new(1, 1)),
         Access::Start(Letter::new(1, 0)),
@@ -165,9 +172,7 @@ fn start_that_is_entered(rt: HostRuntime) -> Result<(), Fail> {
 // The start is told from the others by the letter that is accepted behind it alone.
 #[test]
 fn start_that_stands_alone(rt: HostRuntime) -> Result<(), Fail> {
-    let alloc = rt.alloc();
-    let auto = auto_of(alloc, 1, ONE_LETTER, 0)?;
-    let proof = separate(alloc, &auto)?;
+    let proof = proof_of(rt.alloc(), 1, ONE_LETTER)?;
     let access = [
         Access::Empty,
         Access::Start(Letter::new(1, 0)),
@@ -181,9 +186,7 @@ fn start_that_stands_alone(rt: HostRuntime) -> Result<(), Fail> {
 
 #[test]
 fn access_words_go_on(rt: HostRuntime) -> Result<(), Fail> {
-    let alloc = rt.alloc();
-    let auto = auto_of(alloc, 1, FEWER_THAN_THREE, 0)?;
-    let proof = separate(alloc, &auto)?;
+    let (proof, tells_all) = judged(rt.alloc(), 1, FEWER_THAN_THREE)?;
     let access = [
         Access::Start(Letter::new(1, 0)),
         Access::Start(Letter::new(1, 1)),
@@ -192,7 +195,7 @@ fn access_words_go_on(rt: HostRuntime) -> Result<(), Fail> {
         Access::After(3, Letter::new(1, 0)),
     ];
     assert_eq!(rt; proof.access(), access.as_slice());
-    assert!(rt; tells_all(alloc, &auto, proof.suffixes())?);
+    assert!(rt; tells_all);
     Ok(())
 }
 
@@ -210,28 +213,37 @@ fn all_states_are_told_apart(rt: HostRuntime) -> Result<(), Fail> {
         (2, "reject 0 0 0 1; reject 2 1 1 1; accept 2 1 1 1"),
     ];
     for (slots, table) in cases {
-        let auto = auto_of(alloc, slots, table, 0)?;
-        let proof = separate(alloc, &auto)?;
-        let tells_all = tells_all(alloc, &auto, proof.suffixes())?;
+        let (_, tells_all) = judged(alloc, slots, table)?;
         assert!(rt; tells_all, "{table}");
     }
     Ok(())
 }
 
-// Over no slot a suffix is a number of letters, and each of the states but the last is told from it by just one number.
+// The access words of a chain's states.
+fn access_of_chain(alloc: Global) -> Result<Vec<Access>, Fail> {
+    let letter = Letter::new(0, 0);
+    let mut access = vec![in alloc; Access::Empty, Access::Start(letter)]?;
+    for number in 0..10_000 {
+        access.push(Access::After(number + 1, letter))?;
+    }
+    Ok(access)
+}
+
+// Its suffixes: over no slot a suffix is a number of letters, and each of the states but the last is told from it by just one number.
+fn suffixes_of_chain(alloc: Global) -> Result<Vec<Suffix>, Fail> {
+    let letter = Letter::new(0, 0);
+    let mut suffixes = vec![in alloc; Suffix::Empty]?;
+    for number in 0..10_000 {
+        suffixes.push(Suffix::Then(letter, number))?;
+    }
+    Ok(suffixes)
+}
+
 #[test]
 fn suffixes_of_a_chain(rt: HostRuntime) -> Result<(), Fail> {
     let alloc = rt.alloc();
-    let auto = minimise(alloc, raw_of(alloc, 0, &chain(alloc, 10_000)?, 0)?)?;
-    let proof = separate(alloc, &auto)?;
-    let letter = Letter::new(0, 0);
-    let mut access = vec![in alloc; Access::Empty, Access::Start(letter)]?;
-    let mut suffixes = vec![in alloc; Suffix::Empty]?;
-    for number in 0..10_000 {
-        access.push(Access::After(number + 1, letter))?;
-        suffixes.push(Suffix::Then(letter, number))?;
-    }
-    assert_eq!(rt; proof.access(), access.as_slice());
-    assert_eq!(rt; proof.suffixes(), suffixes.as_slice());
+    let proof = separate(alloc, &auto_of_chain(alloc, 10_000)?)?;
+    assert_eq!(rt; proof.access(), access_of_chain(alloc)?.as_slice());
+    assert_eq!(rt; proof.suffixes(), suffixes_of_chain(alloc)?.as_slice());
     Ok(())
 }

@@ -4,9 +4,9 @@ ghost use Rattle.std.specs.Prelude.{◌<◌};
 
 use crate::certificates::{are_least, tells_all};
 use crate::minimal::minimal_text;
-use crate::tables::{State, raw_of};
 use dcv_certificate::separate;
 use dcv_minimise::minimise;
+use dcv_tables::{State, raw_of};
 use std::alloc::Global;
 use std::test::Fail;
 
@@ -57,18 +57,31 @@ fn table_of_bits(alloc: Global, bits: u32) -> Result<Vec<State>, Fail> {
     Ok(states)
 }
 
-// Judges what is made of a table of at most five states.
-fn judge(alloc: Global, slots: u8, states: &[State], start: u32) -> Result<(), Fail> {
-    let text = minimal_text(alloc, slots, states, start)?;
+// What is wrong with the words that show that the automaton of a table is minimal.
+fn fault_of(
+    alloc: Global,
+    slots: u8,
+    states: &[State],
+    start: u32,
+) -> Result<Option<&'static str>, Fail> {
     let auto = minimise(alloc, raw_of(alloc, slots, states, start)?)?;
     let proof = separate(alloc, &auto)?;
     if !are_least(alloc, &auto, proof.access())? {
-        return Err(Fail::new(format_args!("of {text} an access word is not the least")));
+        return Ok(Some("an access word is not the least"));
     }
     if !tells_all(alloc, &auto, proof.suffixes())? {
-        return Err(Fail::new(format_args!("of {text} two states are not told apart")));
+        return Ok(Some("two states are not told apart"));
     }
-    Ok(())
+    Ok(None)
+}
+
+// Judges what is made of a table of at most five states.
+fn judge(alloc: Global, slots: u8, states: &[State], start: u32) -> Result<(), Fail> {
+    let text = minimal_text(alloc, slots, states, start)?;
+    match fault_of(alloc, slots, states, start)? {
+        Some(fault) => Err(Fail::new(format_args!("of {text} {fault}"))),
+        None => Ok(()),
+    }
 }
 
 #[test]

@@ -13,10 +13,6 @@ mod minimal;
 #[cfg(test)]
 mod printed;
 #[cfg(test)]
-mod shown;
-#[cfg(test)]
 mod slow;
-#[cfg(test)]
-mod tables;
 #[cfg(test)]
 mod words;

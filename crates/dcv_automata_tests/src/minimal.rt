@@ -1,17 +1,15 @@
 // The minimal automata of raw ones that were written by hand, whose starts are folded or stand alone, and of a long chain.
 use crate::examples::{EACH_LETTER, FEWER_THAN_THREE, LAST_LETTER, ODD_DIFFERENCES, ONE_LETTER};
-use crate::shown::text_of_auto;
 use crate::slow::quotient;
-use crate::tables::{State, raw_of, states_of, text_of};
 use dcv_dfa::Auto;
 use dcv_minimise::minimise;
+use dcv_tables::{State, raw_of, raw_of_text, states_of, text_of, text_of_states};
 use std::alloc::Global;
 use std::test::Fail;
 
 // The minimal automaton of a table that is given as a text.
 pub(crate) fn auto_of(alloc: Global, slots: u8, text: &str, start: u32) -> Result<Auto, Fail> {
-    let states = states_of(alloc, text)?;
-    Ok(minimise(alloc, raw_of(alloc, slots, &states, start)?)?)
+    Ok(minimise(alloc, raw_of_text(alloc, slots, text, start)?)?)
 }
 
 // The text of the minimal automaton. It fails where the slow quotient is another.
@@ -22,8 +20,8 @@ pub(crate) fn minimal_text(
     start: u32,
 ) -> Result<String, Fail> {
     let auto = minimise(alloc, raw_of(alloc, slots, states, start)?)?;
-    let text = text_of_auto(alloc, &auto)?;
-    let slow = text_of(alloc, &quotient(alloc, states, start)?)?;
+    let text = text_of(alloc, &auto)?;
+    let slow = text_of_states(alloc, &quotient(alloc, states, start)?)?;
     if text.as_str() != slow.as_str() {
         return Err(Fail::new(format_args!("{text} is not {slow}")));
     }
@@ -99,7 +97,7 @@ fn with_two_slots(rt: HostRuntime) -> Result<(), Fail> {
 
 // The raw automaton of the words of one length, over no slot: each state leads to the next, the last but one accepts, and the last
 // leads to itself.
-pub(crate) fn chain(alloc: Global, length: u32) -> Result<Vec<State>, Fail> {
+fn chain(alloc: Global, length: u32) -> Result<Vec<State>, Fail> {
     let mut states = Vec::new(alloc);
     let last = length.saturating_add(1);
     for number in 0..last {
@@ -115,14 +113,19 @@ pub(crate) fn chain(alloc: Global, length: u32) -> Result<Vec<State>, Fail> {
     Ok(states)
 }
 
+// Its minimal automaton.
+pub(crate) fn auto_of_chain(alloc: Global, length: u32) -> Result<Auto, Fail> {
+    Ok(minimise(alloc, raw_of(alloc, 0, &chain(alloc, length)?, 0)?)?)
+}
+
 // A chain is minimal as it is, and the words that lead to its states are ordered by their lengths.
 #[test]
 fn chain_of_ten_thousand(rt: HostRuntime) -> Result<(), Fail> {
     let alloc = rt.alloc();
-    let states = chain(alloc, 10_000)?;
-    let auto = minimise(alloc, raw_of(alloc, 0, &states, 0)?)?;
+    let auto = auto_of_chain(alloc, 10_000)?;
     assert_eq!(rt; auto.states(), 10_002);
-    let same = text_of_auto(alloc, &auto)?.as_str() == text_of(alloc, &states)?.as_str();
+    let found = text_of(alloc, &auto)?;
+    let same = found.as_str() == text_of_states(alloc, &chain(alloc, 10_000)?)?.as_str();
     assert!(rt; same);
     Ok(())
 }

@@ -1,15 +1,15 @@
 // The texts that are printed of automata.
 ghost use Rattle.std.specs.Prelude.{◌≡◌, length, IfOk};
-ghost use Rattle.dcv_automaton_text.specs.Rules.{AreNames};
 ghost use Rattle.dcv_print.specs.Counts.{ArePrintableCounts};
-ghost use Rattle.dcv_print.specs.Printed.{texts_of};
 
 use crate::examples::{EACH_LETTER, LAST_LETTER, ODD_DIFFERENCES, ONE_LETTER};
 use crate::minimal::auto_of;
 use dcv_certificate::separate;
 use dcv_count::Count;
+use dcv_dfa::Auto;
 use dcv_print::{all_text, automaton_text};
 use dcv_syntax::{Name, Span, Text};
+use dcv_tables::one_name;
 use std::alloc::Global;
 use std::test::Fail;
 
@@ -42,7 +42,16 @@ fn two_counts(alloc: Global) -> Result<Vec<Count>, Fail>
     Ok(counts)
 }
 
-// The text of the minimal automaton of a table over these variables, with what two steps took.
+// The text of an automaton over these variables, with what two steps took.
+fn printed_over(alloc: Global, auto: &Auto, names: &[Name]) -> Result<Vec<u8>, Fail>
+    requires { length names.now ≡ auto.now.arena.slots }
+{
+    let proof = separate(alloc, auto)?;
+    let counts = two_counts(alloc)?;
+    Ok(automaton_text(alloc, auto, names, &proof, &counts)?)
+}
+
+// That of the minimal automaton of a table.
 fn printed(alloc: Global, names: &str, table: &str) -> Result<Vec<u8>, Fail> {
     let names = names_of(alloc, names)?;
     let Ok(slots) = u8::try_from(names.len()) else {
@@ -52,9 +61,7 @@ fn printed(alloc: Global, names: &str, table: &str) -> Result<Vec<u8>, Fail> {
     if auto.slots() != slots {
         return Err(Fail::new("another number of slots"));
     }
-    let proof = separate(alloc, &auto)?;
-    let counts = two_counts(alloc)?;
-    Ok(automaton_text(alloc, &auto, &names, &proof, &counts)?)
+    printed_over(alloc, &auto, &names)
 }
 
 // Everything, over no variable.
@@ -123,30 +130,22 @@ fn nodes_of_two_variables(rt: HostRuntime) -> Result<(), Fail> {
     Ok(())
 }
 
-// The names `p` and no other.
-fn one_name(alloc: Global) -> Result<Vec<Name>, Fail>
-    ensures names { IfOk result (λ names. AreNames (texts_of names.items)) }
-    ensures count { IfOk result (λ names. length names.items ≡ 1) }
-{
-    let text = Text::copy_of(alloc, b"p")?;
-    let span = Span { start: 0, end: 0 };
-    let mut names = Vec::new(alloc);
-    names.push(Name { text, span })?;
-    Ok(names)
+// The four texts of an automaton over `p`.
+fn four_texts(alloc: Global, auto: &Auto) -> Result<Vec<u8>, Fail> {
+    if auto.slots() != 1 || auto.states() > 32_000 || auto.nodes() > 1_000_000 {
+        return Err(Fail::new("another automaton"));
+    }
+    let names = one_name(alloc, b'p')?;
+    let proof = separate(alloc, auto)?;
+    let counts = two_counts(alloc)?;
+    Ok(all_text(alloc, auto, &names, &proof, &counts)?)
 }
 
 // Verdict, automaton and both observers.
 #[test]
 fn four_texts_in_one(rt: HostRuntime) -> Result<(), Fail> {
     let alloc = rt.alloc();
-    let auto = auto_of(alloc, 1, EACH_LETTER, 0)?;
-    let names = one_name(alloc)?;
-    if auto.slots() != 1 || auto.states() > 32_000 || auto.nodes() > 1_000_000 {
-        return Err(Fail::new("another automaton"));
-    }
-    let proof = separate(alloc, &auto)?;
-    let counts = two_counts(alloc)?;
-    let text = all_text(alloc, &auto, &names, &proof, &counts)?;
+    let text = four_texts(alloc, &auto_of(alloc, 1, EACH_LETTER, 0)?)?;
     let expected = b"--- verdict\nnot valid\nsatisfiable\ncounterexample 1\n0\nexample 1\n1\n\
         --- automaton\nautomaton 2\nvariables p\nstates 2\nnode n0 p ? t0 : t1\nstate 0 accept n0\nstate 1 reject t1\n\
         access 0 start 1\naccess 1 start 0\nsuffix 0 empty\n\

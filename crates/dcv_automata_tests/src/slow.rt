@@ -1,7 +1,7 @@
 // A slow and plain quotient, which shares nothing with the minimiser: states are alike where the same words lead from them to
 // states that accept, and words are gone through one after another. That is right where words of four letters tell apart what any
 // words do, and words of five lead to each state to which any do: so for all tables of five states.
-use crate::tables::State;
+use dcv_tables::State;
 use std::alloc::Global;
 use std::test::Fail;
 

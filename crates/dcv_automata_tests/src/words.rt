@@ -1,12 +1,10 @@
 // The states that words lead to, the calls of canonical automata, and the least words that they accept and refuse.
 use crate::examples::{EACH_LETTER, FEWER_THAN_THREE, LAST_LETTER, ODD_DIFFERENCES, ONE_LETTER};
-use crate::minimal::{auto_of, chain};
-use crate::shown::{spelled, text_of_auto, word_of};
-use crate::tables::{raw_of, states_of};
+use crate::minimal::{auto_of, auto_of_chain};
 use dcv_dfa::{Auto, Child, NodeLine, Raw};
-use dcv_minimise::minimise;
 use dcv_reach::reach;
 use dcv_shortest::shortest;
+use dcv_tables::{raw_of_text, spelled, text_of, word_of};
 use std::alloc::Global;
 use std::fmt::Write;
 use std::test::Fail;
@@ -58,7 +56,7 @@ fn states_are_reached(rt: HostRuntime) -> Result<(), Fail> {
         (2, ODD_DIFFERENCES, "00 to 2; 01 to 1; 10 to 3; 11 to 0"),
     ];
     for (slots, table, expected) in cases {
-        let raw = raw_of(alloc, slots, &states_of(alloc, table)?, 0)?;
+        let raw = raw_of_text(alloc, slots, table, 0)?;
         assert_eq!(rt; reached(alloc, &raw)?.as_str(), expected);
     }
     Ok(())
@@ -88,7 +86,7 @@ fn least_words(rt: HostRuntime) -> Result<(), Fail> {
 #[test]
 fn least_word_of_ten_thousand_letters(rt: HostRuntime) -> Result<(), Fail> {
     let alloc = rt.alloc();
-    let auto = minimise(alloc, raw_of(alloc, 0, &chain(alloc, 10_000)?, 0)?)?;
+    let auto = auto_of_chain(alloc, 10_000)?;
     let word = shortest(alloc, &auto, true)?.ok_or("there is no word")?;
     assert_eq!(rt; word.letters().len(), 10_000);
     assert_eq!(rt; least(alloc, &auto, false)?.as_str(), "-");
@@ -132,7 +130,7 @@ fn complements(rt: HostRuntime) -> Result<(), Fail> {
     ];
     for (table, expected) in cases {
         let auto = auto_of(alloc, 1, table, 0)?;
-        assert_eq!(rt; text_of_auto(alloc, &auto.complement())?.as_str(), expected);
+        assert_eq!(rt; text_of(alloc, &auto.complement())?.as_str(), expected);
     }
     Ok(())
 }

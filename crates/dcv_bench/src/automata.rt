@@ -1,14 +1,15 @@
 // What is measured of automata: a table is minimised, its least accepted word is found, or suffixes that show that it is minimal.
 ghost use Rattle.std.specs.Prelude.{◌≤◌, ◌<◌, ◌+◌, IfOk};
 ghost use Rattle.dcv_arena.specs.Arena.{IsArena, KeepsRefs};
-ghost use Rattle.dcv_bench.specs.Below.{IsBelow};
+ghost use Rattle.dcv_tables.specs.Below.{IsBelow};
 
 use anyhow::Result;
-use dcv_arena::{Arena, ArenaFault, Ref};
+use dcv_arena::{Arena, Ref};
 use dcv_certificate::separate;
 use dcv_dfa::Raw;
 use dcv_minimise::minimise;
 use dcv_shortest::shortest;
+use dcv_tables::{function, parity};
 use dcv_word::Word;
 use std::alloc::Global;
 use std::time::{CpuClock, Duration};
@@ -115,6 +116,18 @@ impl Table {
         }
     }
 
+    // How many letters that is, up to 8.
+    fn letters(self) -> usize
+        ensures { result ≤ 8 }
+    {
+        match self {
+            Table::Chain => 1,
+            Table::Count => 2,
+            Table::Grid => 4,
+            Table::Drawn | Table::Parity => 8,
+        }
+    }
+
     // How many states it has.
     fn states(self) -> u32
         ensures { 0 < result }
@@ -163,42 +176,20 @@ impl Table {
     }
 
     // The row of a state.
-    fn row(self, arena: &mut Arena, state: u32, bound: u32) -> Result<Ref, ArenaFault>
+    fn row(self, arena: &mut Arena, state: u32, bound: u32) -> Result<Ref>
         requires arena { IsArena arena.old }
         requires bound { 0 < bound }
         ensures below { IfOk result (IsBelow arena.new bound 0) }
         ensures kept { KeepsRefs arena.old arena.new }
         ensures arena { IsArena arena.new }
     {
-        match self {
-            Table::Parity => odd_leads_on(arena, state, bound),
-            _ => self.function(arena, state, bound, 0, 0),
+        let last = bound - 1;
+        if matches!(self, Table::Parity) {
+            let (even, odd) = (state.min(last), state.saturating_add(1).min(last));
+            return Ok(parity(arena, 1, even, odd, bound)?);
         }
-    }
-
-    // The row behind the slots before this one, where the letter begins with these values.
-    fn function(
-        self,
-        arena: &mut Arena,
-        state: u32,
-        bound: u32,
-        slot: u8,
-        front: u32,
-    ) -> Result<Ref, ArenaFault>
-        requires arena { IsArena arena.old }
-        requires bound { 0 < bound }
-        requires slot { slot ≤ arena.old.slots }
-        ensures below { IfOk result (IsBelow arena.new bound slot) }
-        ensures kept { KeepsRefs arena.old arena.new }
-        ensures arena { IsArena arena.new }
-    {
-        if slot == arena.slots() {
-            return Ok(arena.leaf(self.next(state, front).min(bound - 1)));
-        }
-        let lo = self.function(arena, state, bound, slot + 1, front.wrapping_mul(2))?;
-        let hi = self.function(arena, state, bound, slot + 1, front.wrapping_mul(2) | 1)?;
-        let node = arena.node(slot, lo, hi)?;
-        Ok(node)
+        let all = [0, 1, 2, 3, 4, 5, 6, 7].map(|letter| self.next(state, letter).min(last));
+        Ok(function(arena, 0, &all[..self.letters()], bound)?)
     }
 }
 
@@ -238,43 +229,4 @@ fn drawn(state: u32, letter: u32) -> u32 {
     let first = (seed ^ (seed >> 30)).wrapping_mul(0xBF58_476D_1CE4_E5B9);
     let second = (first ^ (first >> 27)).wrapping_mul(0x94D0_49BB_1331_11EB);
     ((second ^ (second >> 31)) >> 33) as u32
-}
-
-// The row that leads on where an odd number of the variables are true, and else back.
-fn odd_leads_on(arena: &mut Arena, state: u32, bound: u32) -> Result<Ref, ArenaFault>
-    requires arena { IsArena arena.old }
-    requires bound { 0 < bound }
-    ensures below { IfOk result (IsBelow arena.new bound 0) }
-    ensures kept { KeepsRefs arena.old arena.new }
-    ensures arena { IsArena arena.new }
-{
-    let last = bound - 1;
-    let mut even = arena.leaf(state.min(last));
-    let mut odd = arena.leaf(state.saturating_add(1).min(last));
-    for slot in (0..arena.slots()).rev() {
-        (even, odd) = parities(arena, slot, bound, even, odd)?;
-    }
-    Ok(even)
-}
-
-// Both parities from a slot on, by those from the next slot on.
-fn parities(
-    arena: &mut Arena,
-    slot: u8,
-    bound: u32,
-    even: Ref,
-    odd: Ref,
-) -> Result<(Ref, Ref), ArenaFault>
-    requires arena { IsArena arena.old }
-    requires slot { slot < arena.old.slots }
-    requires even { IsBelow arena.old bound (slot + 1) even }
-    requires odd { IsBelow arena.old bound (slot + 1) odd }
-    ensures kept { KeepsRefs arena.old arena.new }
-    ensures arena { IsArena arena.new }
-    ensures even { IfOk result (λ roots. IsBelow arena.new bound slot roots.0) }
-    ensures odd { IfOk result (λ roots. IsBelow arena.new bound slot roots.1) }
-{
-    let new_even = arena.node(slot, even, odd)?;
-    let new_odd = arena.node(slot, odd, even)?;
-    Ok((new_even, new_odd))
 }

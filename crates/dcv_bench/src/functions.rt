@@ -1,7 +1,7 @@
 // The functions that are measured, or that measured machines go on by: random ones, bits of a product, and parities.
 ghost use Rattle.std.specs.Prelude.{◌≤◌, ◌<◌, ◌+◌, ℕ, Bool, List, IfOk};
-ghost use Rattle.dcv_bench.specs.Bits.{IsFrom};
-ghost use Rattle.dcv_arena.specs.Arena.{IsArena, IsRef, KeepsRefs, level_of, value_of};
+ghost use Rattle.dcv_arena.specs.Arena.{IsArena, IsRef, KeepsRefs, value_of};
+ghost use Rattle.dcv_tables.specs.Below.{IsBelow};
 
 use dcv_arena::{Arena, ArenaFault, Ref};
 
@@ -40,7 +40,7 @@ impl Function {
     pub(crate) fn build(self, arena: &mut Arena, slot: u8, front: u32) -> Result<Ref, ArenaFault>
         requires slot { slot ≤ arena.old.slots }
         requires arena { IsArena arena.old }
-        ensures from { IfOk result (IsFrom arena.new slot) }
+        ensures below { IfOk result (IsBelow arena.new 2 slot) }
         ensures kept { KeepsRefs arena.old arena.new }
         ensures arena { IsArena arena.new }
     {
@@ -49,7 +49,8 @@ impl Function {
         }
         let lo = self.build(arena, slot + 1, front.wrapping_mul(2))?;
         let hi = self.build(arena, slot + 1, front.wrapping_mul(2) | 1)?;
-        arena.node(slot, lo, hi)
+        let node = arena.node(slot, lo, hi)?;
+        Ok(node)
     }
 }
 
@@ -73,35 +74,5 @@ pub(crate) fn parity(arena: &mut Arena, each: u8) -> Result<Ref, ArenaFault>
     ensures is_ref { IfOk result (IsRef arena.new) }
     ensures bound { IfOk result (λ root. (letter : List Bool) → value_of arena.new root letter < 2) }
 {
-    let (mut even, mut odd) = (arena.leaf(0), arena.leaf(1));
-    for slot in (0..arena.slots()).rev() {
-        let counts = each != 0 && slot % each == 0;
-        (even, odd) = counted(arena, slot, counts, even, odd)?;
-    }
-    Ok(even)
-}
-
-// The two parities from a slot on, by those from the next slot on, where the slot counts or does not.
-fn counted(
-    arena: &mut Arena,
-    slot: u8,
-    counts: bool,
-    even: Ref,
-    odd: Ref,
-) -> Result<(Ref, Ref), ArenaFault>
-    requires slot { slot < arena.old.slots }
-    requires even { IsFrom arena.old (slot + 1) even }
-    requires odd { IsFrom arena.old (slot + 1) odd }
-    ensures kept { KeepsRefs arena.old arena.new }
-    ensures even { IfOk result (λ roots. IsFrom arena.new slot roots.0) }
-    ensures odd { IfOk result (λ roots. IsFrom arena.new slot roots.1) }
-{
-    // for the prover: of an arena that was asked it is known what is true of every arena.
-    let _ = arena.slots();
-    if !counts {
-        return Ok((even, odd));
-    }
-    let new_even = arena.node(slot, even, odd)?;
-    let new_odd = arena.node(slot, odd, even)?;
-    Ok((new_even, new_odd))
+    dcv_tables::parity(arena, each, 0, 1, 2)
 }

@@ -4,23 +4,13 @@ use crate::goals::{LIMITS, auto_of};
 use dcv_chop::{Chop, Star};
 use dcv_dfa::{Auto, Raw};
 use dcv_explore::{ExploreFault, explore};
+use dcv_tables::counts;
 use std::alloc::Global;
 use std::test::Fail;
 
 // The automaton of a goal over p.
 fn auto_of_goal(alloc: Global, goal: &str) -> Result<Auto, Fail> {
     auto_of(alloc, &format!(in alloc; "var p; infer {goal};")?)
-}
-
-// How many states there are, how many nodes, and how many states accept.
-fn counts(raw: &Raw) -> (u32, u32, u32) {
-    let mut accepting = 0u32;
-    for state in 0..raw.states() {
-        if raw.accepting(state) {
-            accepting = accepting.saturating_add(1);
-        }
-    }
-    (raw.states(), raw.arena().len(), accepting)
 }
 
 // What a cut makes into a word of the first and a word of the second.

@@ -1,14 +1,15 @@
 // The automaton of each form accepts the behaviours on which the plain evaluator finds that the form holds: up to four instants of one
 // variable, and up to two of two and of three, so that each slot has truths of its own.
-ghost use Rattle.std.specs.Prelude.{◌≡◌, ◌≤◌, length, IfOk};
+ghost use Rattle.std.specs.Prelude.{◌≡◌, ◌≤◌, IfOk};
 
 use crate::goals::{LIMITS, core_of_file, file_of};
 use dcv_build::build;
 use dcv_dfa::Auto;
 use dcv_logic::holds;
 use dcv_syntax::File;
-use dcv_word::{Letter, Word, read_trace_line};
-use std::alloc::{AllocError, Global};
+use dcv_tables::{behaviour, letter_of};
+use dcv_word::Word;
+use std::alloc::Global;
 use std::fmt::Write;
 use std::test::Fail;
 
@@ -18,17 +19,6 @@ const BEHAVIOURS: [&str; 30] = [
     "0000", "0001", "0010", "0011", "0100", "0101", "0110", "0111", "1000", "1001", "1010", "1011",
     "1100", "1101", "1110", "1111",
 ];
-
-// The behaviour of one variable with these truths.
-fn behaviour(alloc: Global, truths: &str) -> Result<Word, AllocError>
-    ensures { IfOk result (λ word. word.width ≡ 1) }
-{
-    let mut word = Word::new(alloc, 1);
-    for truth in truths.bytes() {
-        word.push(Letter::new(1, if truth == b'1' { 1 } else { 0 }))?;
-    }
-    Ok(word)
-}
 
 // Whether the automaton accepts a word.
 fn accepts(auto: &Auto, word: &Word) -> Result<bool, Fail> {
@@ -217,18 +207,6 @@ fn word_of(alloc: Global, width: u8, lines: &[&str]) -> Result<Word, Fail>
         word.push(letter_of(line, width)?)?;
     }
     Ok(word)
-}
-
-// One of its letters.
-fn letter_of(line: &str, width: u8) -> Result<Letter, Fail>
-    requires { width ≤ 32 }
-    ensures { IfOk result (λ letter. length letter ≡ width) }
-{
-    if line.len() > 32 {
-        return Err(Fail::new("a letter has more than 32 values"));
-    }
-    let letter = read_trace_line(line.as_bytes(), width)?;
-    Ok(letter)
 }
 
 // Whether the automaton of a file says the same of the behaviour as the evaluator.

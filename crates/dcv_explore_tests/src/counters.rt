@@ -1,5 +1,5 @@
 // Tests of `dcv_explore`: counters, with exact limits, and a pair of counters with memos of two capacities.
-ghost use Rattle.std.specs.Prelude.{◌≡◌, ◌≤◌, ◌<◌, length};
+ghost use Rattle.std.specs.Prelude.{◌≡◌, ◌≤◌, ◌<◌, [], length};
 
 use dcv_apply::Memo;
 use dcv_arena::{Arena, Ref};
@@ -74,18 +74,22 @@ impl Machine for Counter {
     ghost sameness = { unsigned_Decides };
 }
 
-#[test]
-fn counter_within_its_limits(rt: HostRuntime) -> Result<(), Fail> {
-    let alloc = rt.alloc();
+// What the counter up to 11 explores to.
+fn counter_explored(alloc: Global, limits: Limits) -> Result<Raw, ExploreFault> {
     let counter = Counter {
         arena: Arena::new(alloc, 0, 0),
         top: 11,
     };
+    explore(alloc, &counter, limits)
+}
+
+#[test]
+fn counter_within_its_limits(rt: HostRuntime) -> Result<(), Fail> {
     let limits = Limits {
         states: 12,
         nodes: 0,
     };
-    let raw = explore(alloc, &counter, limits)?;
+    let raw = counter_explored(rt.alloc(), limits)?;
     assert_eq!(rt; raw.states(), 12);
     assert_eq!(rt; raw.arena().len(), 0);
     assert!(rt; raw.accepting(raw.states() - 1));
@@ -94,17 +98,12 @@ fn counter_within_its_limits(rt: HostRuntime) -> Result<(), Fail> {
 
 #[test]
 fn counter_beyond_a_limit(rt: HostRuntime) -> Result<(), Fail> {
-    let alloc = rt.alloc();
-    let counter = Counter {
-        arena: Arena::new(alloc, 0, 0),
-        top: 11,
-    };
     let limits = Limits {
         states: 11,
         nodes: 0,
     };
     let refused = matches!(
-        explore(alloc, &counter, limits),
+        counter_explored(rt.alloc(), limits),
         Err(ExploreFault::States { limit: 11 })
     );
     assert!(rt; refused);
@@ -185,23 +184,32 @@ impl Machine for Steps {
     ghost sameness = { unsigned_Decides };
 }
 
-#[test]
-fn rows_within_their_limit(rt: HostRuntime) -> Result<(), Fail> {
-    let alloc = rt.alloc();
+// Those that count the letters whose variable is true, up to 4.
+fn steps_to_four(alloc: Global) -> Result<Steps, Fail> {
     let mut arena = Arena::new(alloc, 1, 1);
     let Ref::Place(place) = arena.node(0, Ref::Leaf(0), Ref::Leaf(1))? else {
-        panic!(rt; "no node was made");
+        return Err(Fail::new("no node was made"));
     };
-    let steps = Steps {
+    Ok(Steps {
         arena,
         place,
         top: 4,
-    };
+    })
+}
+
+// What they explore to.
+fn steps_explored(alloc: Global, limits: Limits) -> Result<Result<Raw, ExploreFault>, Fail> {
+    let steps = steps_to_four(alloc)?;
+    Ok(explore(alloc, &steps, limits))
+}
+
+#[test]
+fn rows_within_their_limit(rt: HostRuntime) -> Result<(), Fail> {
     let limits = Limits {
         states: 5,
         nodes: 4,
     };
-    let raw = explore(alloc, &steps, limits)?;
+    let raw = steps_explored(rt.alloc(), limits)??;
     assert_eq!(rt; raw.states(), 5);
     assert_eq!(rt; raw.arena().len(), 4);
     Ok(())
@@ -209,22 +217,12 @@ fn rows_within_their_limit(rt: HostRuntime) -> Result<(), Fail> {
 
 #[test]
 fn rows_beyond_their_limit(rt: HostRuntime) -> Result<(), Fail> {
-    let alloc = rt.alloc();
-    let mut arena = Arena::new(alloc, 1, 1);
-    let Ref::Place(place) = arena.node(0, Ref::Leaf(0), Ref::Leaf(1))? else {
-        panic!(rt; "no node was made");
-    };
-    let steps = Steps {
-        arena,
-        place,
-        top: 4,
-    };
     let limits = Limits {
         states: 5,
         nodes: 3,
     };
     let refused = matches!(
-        explore(alloc, &steps, limits),
+        steps_explored(rt.alloc(), limits)?,
         Err(ExploreFault::Nodes { limit: 3 })
     );
     assert!(rt; refused);
@@ -320,22 +318,34 @@ fn next_states(raw: &Raw, state: u32) -> [u32; 4]
     next
 }
 
-// What the pair of counters explores to with a memo of so many entries.
-fn pair_explored(alloc: Global, capacity: usize) -> Result<Raw, Fail>
-    requires { 1 ≤ capacity }
-{
+// The pair of counters.
+fn two_counters(alloc: Global) -> Result<Pair, Fail> {
     let mut arena = Arena::new(alloc, 2, 2);
     let _ = arena.node(0, Ref::Leaf(0), Ref::Leaf(1))?;
     let _ = arena.node(1, Ref::Leaf(0), Ref::Leaf(1))?;
     if arena.len() < 2 {
         return Err(Fail::new("one node stands for two variables"));
     }
+    Ok(Pair { arena })
+}
+
+// What it explores to with this memo.
+fn explored_with(alloc: Global, memo: &mut Memo) -> Result<Raw, Fail>
+    requires { memo.old.entries ≡ [] }
+{
     let limits = Limits {
         states: 9,
         nodes: 12,
     };
+    Ok(explore_with(alloc, &two_counters(alloc)?, limits, memo)?)
+}
+
+// What it explores to with a memo of so many entries.
+fn pair_explored(alloc: Global, capacity: usize) -> Result<Raw, Fail>
+    requires { 1 ≤ capacity }
+{
     let mut memo = Memo::new(alloc, capacity)?;
-    let raw = explore_with(alloc, &Pair { arena }, limits, &mut memo)?;
+    let raw = explored_with(alloc, &mut memo)?;
     if memo.len() < 1 {
         return Err(Fail::new("nothing was remembered"));
     }

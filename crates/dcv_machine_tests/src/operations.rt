@@ -5,14 +5,17 @@ ghost use Rattle.dcv_language.specs.Automaton.{accepts};
 ghost use Rattle.dcv_language.specs.Operations.{intersection, projection};
 ghost use Rattle.dcv_dfa.specs.Raw.{raw_accepts};
 
-use dcv_arena::{Arena, Ref};
 use dcv_dfa::{Raw, Table};
 use dcv_explore::{ExploreFault, Limits, explore};
 use dcv_language::machine_laws::operations_accept;
 use dcv_product::{And, Iff, Or};
 use dcv_project::Exists;
+use dcv_tables::{counts, raw_of_text};
 use std::alloc::Global;
 use std::test::Fail;
+
+// States, nodes, and states that accept.
+pub(crate) type Counts = (u32, u32, u32);
 
 pub(crate) const LIMITS: Limits = Limits {
     states: 100,
@@ -40,67 +43,64 @@ fn some_track<T: Table>(alloc: Global, operand: &T) -> Result<Raw, ExploreFault>
 }
 
 // Over one variable, the words whose last letter is true.
-pub(crate) fn ends_true(alloc: Global) -> Result<Raw, Fail>
-    ensures { IfOk result (λ raw. raw.arena.slots ≡ 1) }
-{
-    let mut arena = Arena::new(alloc, 1, 1);
-    let row = arena.node(0, Ref::Leaf(0), Ref::Leaf(1))?;
-    let rows = vec![in alloc; row, row]?;
-    let accepting = vec![in alloc; false, true]?;
-    Ok(Raw::new(arena, rows, accepting, 0))
-}
+pub(crate) const ENDS_TRUE: &str = "reject 0 1; accept 0 1";
 
 // Over one variable, the words of even length.
-pub(crate) fn is_even(alloc: Global) -> Result<Raw, Fail>
-    ensures { IfOk result (λ raw. raw.arena.slots ≡ 1) }
+pub(crate) const IS_EVEN: &str = "accept 1 1; reject 0 0";
+
+// How many states and nodes there are of what both accept, and how many states accept.
+fn both_counted(alloc: Global, first: &Raw, second: &Raw) -> Result<Counts, ExploreFault>
+    requires { first.now.arena.slots ≡ second.now.arena.slots }
 {
-    let arena = Arena::new(alloc, 1, 0);
-    let rows = vec![in alloc; Ref::Leaf(1), Ref::Leaf(0)]?;
-    let accepting = vec![in alloc; true, false]?;
-    Ok(Raw::new(arena, rows, accepting, 0))
+    Ok(counts(&both(alloc, first, second)?))
 }
 
-// How many states and nodes there are, and how many states accept.
-pub(crate) fn counts(raw: &Raw) -> (u32, u32, u32) {
-    let mut accepting = 0u32;
-    for state in 0..raw.states() {
-        if raw.accepting(state) {
-            accepting = accepting.saturating_add(1);
-        }
-    }
-    (raw.states(), raw.arena().len(), accepting)
+// The same of what one or the other accepts.
+fn either_counted(alloc: Global, first: &Raw, second: &Raw) -> Result<Counts, ExploreFault>
+    requires { first.now.arena.slots ≡ second.now.arena.slots }
+{
+    let raw = explore(alloc, &Or::new(first, second), LIMITS)?;
+    Ok(counts(&raw))
 }
 
-#[test]
-fn both_accept(rt: HostRuntime) -> Result<(), Fail> {
-    let alloc = rt.alloc();
-    let raw = both(alloc, &ends_true(alloc)?, &is_even(alloc)?)?;
-    assert_eq!(rt; counts(&raw), (4, 2, 1));
-    Ok(())
+// The same of what both or neither accept.
+fn alike_counted(alloc: Global, first: &Raw, second: &Raw) -> Result<Counts, ExploreFault>
+    requires { first.now.arena.slots ≡ second.now.arena.slots }
+{
+    let raw = explore(alloc, &Iff::new(first, second), LIMITS)?;
+    Ok(counts(&raw))
 }
 
-#[test]
-fn one_or_the_other_accepts(rt: HostRuntime) -> Result<(), Fail> {
-    let alloc = rt.alloc();
-    let (first, second) = (ends_true(alloc)?, is_even(alloc)?);
-    let raw = explore(alloc, &Or::new(&first, &second), LIMITS)?;
-    assert_eq!(rt; counts(&raw), (4, 2, 3));
-    Ok(())
+// All three.
+fn all_counted(alloc: Global, first: &Raw, second: &Raw) -> Result<[Counts; 3], ExploreFault>
+    requires { first.now.arena.slots ≡ second.now.arena.slots }
+{
+    let both = both_counted(alloc, first, second)?;
+    let either = either_counted(alloc, first, second)?;
+    let alike = alike_counted(alloc, first, second)?;
+    Ok([both, either, alike])
 }
 
 #[test]
-fn both_or_neither_accept(rt: HostRuntime) -> Result<(), Fail> {
+fn operations_of_two(rt: HostRuntime) -> Result<(), Fail> {
     let alloc = rt.alloc();
-    let (first, second) = (ends_true(alloc)?, is_even(alloc)?);
-    let raw = explore(alloc, &Iff::new(&first, &second), LIMITS)?;
-    assert_eq!(rt; counts(&raw), (4, 2, 2));
+    let first = raw_of_text(alloc, 1, ENDS_TRUE, 0)?;
+    let second = raw_of_text(alloc, 1, IS_EVEN, 0)?;
+    let counted = all_counted(alloc, &first, &second);
+    drop(first);
+    drop(second);
+    assert_eq!(rt; counted?, [(4, 2, 1), (4, 2, 3), (4, 2, 2)]);
     Ok(())
+}
+
+// The same of what the automaton of a table accepts with some truths in its slot.
+fn some_counted(alloc: Global, table: &str) -> Result<Counts, Fail> {
+    let operand = raw_of_text(alloc, 1, table, 0)?;
+    Ok(counts(&some_track(alloc, &operand)?))
 }
 
 #[test]
 fn some_last_letter(rt: HostRuntime) -> Result<(), Fail> {
-    let alloc = rt.alloc();
-    let any = some_track(alloc, &ends_true(alloc)?)?;
-    assert_eq!(rt; counts(&any), (2, 0, 1));
+    assert_eq!(rt; some_counted(rt.alloc(), ENDS_TRUE)?, (2, 0, 1));
     Ok(())
 }

@@ -5,12 +5,12 @@ ghost use Rattle.dcv_language.specs.Automaton.{accepts};
 ghost use Rattle.dcv_language.specs.Operations.{chop, star};
 ghost use Rattle.dcv_dfa.specs.Raw.{raw_accepts};
 
-use crate::operations::{LIMITS, counts, ends_true, is_even};
-use dcv_arena::{Arena, Ref};
+use crate::operations::{Counts, ENDS_TRUE, IS_EVEN, LIMITS};
 use dcv_chop::{Chop, Star};
 use dcv_dfa::{Raw, Table};
 use dcv_explore::{ExploreFault, explore};
 use dcv_language::machine_laws::operations_accept;
+use dcv_tables::{counts, raw_of_text};
 use std::alloc::Global;
 use std::test::Fail;
 
@@ -33,35 +33,48 @@ fn in_parts<T: Table>(alloc: Global, operand: &T) -> Result<Raw, ExploreFault>
 }
 
 // Over one variable, the one letter that is true. No letter leads to the start again.
-fn is_one_true(alloc: Global) -> Result<Raw, Fail>
-    ensures { IfOk result (λ raw. raw.arena.slots ≡ 1) }
+const IS_ONE_TRUE: &str = "reject 2 1; accept 2 2; reject 2 2";
+
+// How many states and nodes there are of a chop, and how many states accept.
+fn chop_counted(alloc: Global, first: &Raw, second: &Raw) -> Result<Counts, ExploreFault>
+    requires { first.now.arena.slots ≡ second.now.arena.slots }
 {
-    let mut arena = Arena::new(alloc, 1, 1);
-    let row = arena.node(0, Ref::Leaf(2), Ref::Leaf(1))?;
-    let rows = vec![in alloc; row, Ref::Leaf(2), Ref::Leaf(2)]?;
-    let accepting = vec![in alloc; false, true, false]?;
-    Ok(Raw::new(arena, rows, accepting, 0))
+    Ok(counts(&in_two(alloc, first, second)?))
+}
+
+// The same of both orders.
+fn both_orders(alloc: Global, first: &Raw, second: &Raw) -> Result<[Counts; 2], ExploreFault>
+    requires { first.now.arena.slots ≡ second.now.arena.slots }
+{
+    let ends = chop_counted(alloc, first, second)?;
+    let begins = chop_counted(alloc, second, first)?;
+    Ok([ends, begins])
 }
 
 // Words of even length whose last letter is true, and those whose first letter is.
 #[test]
 fn chops(rt: HostRuntime) -> Result<(), Fail> {
     let alloc = rt.alloc();
-    let (even, one_true) = (is_even(alloc)?, is_one_true(alloc)?);
-    let ends = in_two(alloc, &even, &one_true)?;
-    assert_eq!(rt; counts(&ends), (6, 2, 2));
-    let begins = in_two(alloc, &one_true, &even)?;
-    assert_eq!(rt; counts(&begins), (5, 1, 1));
+    let even = raw_of_text(alloc, 1, IS_EVEN, 0)?;
+    let one_true = raw_of_text(alloc, 1, IS_ONE_TRUE, 0)?;
+    let counted = both_orders(alloc, &even, &one_true);
+    drop(even);
+    drop(one_true);
+    assert_eq!(rt; counted?, [(6, 2, 2), (5, 1, 1)]);
     Ok(())
+}
+
+// The same of the star of a table's automaton.
+fn star_counted(alloc: Global, table: &str) -> Result<Counts, Fail> {
+    let operand = raw_of_text(alloc, 1, table, 0)?;
+    Ok(counts(&in_parts(alloc, &operand)?))
 }
 
 // Words of one letter or with a true last letter, and words of one letter alone, since a part of one letter leads no further.
 #[test]
 fn stars(rt: HostRuntime) -> Result<(), Fail> {
     let alloc = rt.alloc();
-    let parts = in_parts(alloc, &ends_true(alloc)?)?;
-    assert_eq!(rt; counts(&parts), (4, 2, 2));
-    let single = in_parts(alloc, &is_one_true(alloc)?)?;
-    assert_eq!(rt; counts(&single), (4, 1, 2));
+    assert_eq!(rt; star_counted(alloc, ENDS_TRUE)?, (4, 2, 2));
+    assert_eq!(rt; star_counted(alloc, IS_ONE_TRUE)?, (4, 1, 2));
     Ok(())
 }

@@ -6,5 +6,3 @@
 mod observers;
 #[cfg(test)]
 mod runs;
-#[cfg(test)]
-mod tables;

@@ -1,15 +1,10 @@
 // Observers of behaviours over `p` that is true throughout, and other nodes and units by their texts.
-ghost use Rattle.std.specs.Prelude.{◌≡◌, length, IfOk};
-ghost use Rattle.dcv_automaton_text.specs.Rules.{AreNames};
-ghost use Rattle.dcv_automaton_file.specs.File.{texts_of};
-
-use crate::tables::{raw_of, states_of};
 use dcv_c::CUnit;
 use dcv_lustre::Node;
 use dcv_lustre_read::read;
 use dcv_minimise::minimise;
 use dcv_replay::Replay;
-use dcv_syntax::{Name, Span, Text};
+use dcv_tables::{one_name, raw_of_text};
 use std::alloc::Global;
 use std::test::Fail;
 
@@ -55,23 +50,10 @@ pub(crate) fn c(alloc: Global) -> Result<Replay, Fail> {
 }
 
 fn unit_of(alloc: Global) -> Result<CUnit, Fail> {
-    let names = names_of(alloc)?;
-    let states = states_of(alloc, "accept 1 0; reject 1 1")?;
-    let auto = minimise(alloc, raw_of(alloc, 1, &states, 0)?)?;
+    let names = one_name(alloc, b'p')?;
+    let auto = minimise(alloc, raw_of_text(alloc, 1, "accept 1 0; reject 1 1", 0)?)?;
     if auto.slots() != 1 || auto.states() > 2 || auto.nodes() > 2 {
         return Err(Fail::new("another automaton"));
     }
     Ok(dcv_c::of_auto(alloc, &auto, &names)?)
-}
-
-// The name `p`.
-fn names_of(alloc: Global) -> Result<Vec<Name>, Fail>
-    ensures names { IfOk result (λ names. AreNames (texts_of names.items)) }
-    ensures length { IfOk result (λ names. length names.items ≡ 1) }
-{
-    let text = Text::copy_of(alloc, b"p")?;
-    let span = Span { start: 0, end: 0 };
-    let mut names = Vec::new(alloc);
-    names.push(Name { text, span })?;
-    Ok(names)
 }

@@ -2,7 +2,7 @@
 use dcv_logic::holds;
 use dcv_reader::read_file;
 use dcv_syntax::File;
-use dcv_word::{Letter, Word};
+use dcv_tables::behaviour;
 use std::alloc::{AllocError, Global};
 use std::test::Fail;
 
@@ -167,15 +167,6 @@ const MACROS: [(&str, &str); 12] = [
         "11 0000 00000000",
     ),
 ];
-
-// The behaviour of one variable with these truths.
-fn behaviour(alloc: Global, truths: &str) -> Result<Word, AllocError> {
-    let mut word = Word::new(alloc, 1);
-    for truth in truths.bytes() {
-        word.push(Letter::new(1, if truth == b'1' { 1 } else { 0 }))?;
-    }
-    Ok(word)
-}
 
 // The truths of the file's goal on these behaviours.
 fn truths(alloc: Global, file: &File, behaviours: &[&str]) -> Result<String, AllocError> {

@@ -1,11 +1,10 @@
 // The recipes of the language's page for which it shows two behaviours, with the small numbers that it gives there, and formulas of its
 // first sections: each with a behaviour that satisfies it and one that does not, worked out by hand.
-ghost use Rattle.std.specs.Prelude.{◌≡◌, ◌≤◌, IfOk, length};
-
 use dcv_logic::holds;
 use dcv_reader::read_file;
 use dcv_syntax::File;
-use dcv_word::{Letter, Word, read_trace_line};
+use dcv_tables::word_of;
+use dcv_word::Word;
 use std::alloc::{AllocError, Global};
 use std::test::Fail;
 
@@ -142,25 +141,7 @@ fn behaviour(alloc: Global, width: u8, groups: &str) -> Result<Word, Fail> {
     if width > 32 {
         return Err("too many variables".into());
     }
-    let mut word = Word::new(alloc, width);
-    for group in groups.split(' ') {
-        word.push(letter(width, group)?)?;
-    }
-    Ok(word)
-}
-
-// The letter whose digits these are.
-fn letter(width: u8, digits: &str) -> Result<Letter, Fail>
-    requires { width ≤ 32 }
-    ensures { IfOk result (λ letter. length letter ≡ width) }
-{
-    if digits.len() > 32 {
-        return Err("too many digits".into());
-    }
-    match read_trace_line(digits.as_bytes(), width) {
-        Ok(letter) => Ok(letter),
-        Err(_) => Err("no letter".into()),
-    }
+    word_of(alloc, width, groups)
 }
 
 // Whether the file's goal holds on the behaviour, as a digit.

@@ -1,2 +1,1 @@
 mod Cores
-mod PlainNames

@@ -1,12 +1,8 @@
 //! Controllers as units of C, by their texts.
-ghost use Rattle.std.specs.Prelude.{◌≡◌, length, IfOk};
-ghost use Rattle.dcv_automaton_text.specs.Rules.{AreNames};
-ghost use Rattle.dcv_automaton_file.specs.File.{texts_of};
-
 use crate::goals::outcome_of;
 use dcv_c::text;
-use dcv_syntax::{Name, Span, Text};
 use dcv_synth::{Control, Outcome};
+use dcv_tables::one_name;
 use std::alloc::Global;
 use std::test::Fail;
 
@@ -26,21 +22,9 @@ const REMEMBERS: &str = "static int st;\n\nvoid controller_reset(void)\n{\n  st 
     if (st == 0) nx = n0;\n  if (st == 0) y = o0;\n  if (st == 1) nx = n0;\n  if (st == 1) y = o0;\n  \
     if (st == 3) nx = n0;\n  if (st == 3) y = o1;\n  st = nx;\n  return y;\n}\n";
 
-// The name `a`.
-fn names_of(alloc: Global) -> Result<Vec<Name>, Fail>
-    ensures names { IfOk result (λ names. AreNames (texts_of names.items)) }
-    ensures length { IfOk result (λ names. length names.items ≡ 1) }
-{
-    let text = Text::copy_of(alloc, b"a")?;
-    let span = Span { start: 0, end: 0 };
-    let mut names = Vec::new(alloc);
-    names.push(Name { text, span })?;
-    Ok(names)
-}
-
 // The text of a controller's unit, whose input is `a`.
 fn unit_text(alloc: Global, control: &Control) -> Result<Vec<u8>, Fail> {
-    let names = names_of(alloc)?;
+    let names = one_name(alloc, b'a')?;
     if control.next().arena().slots() != 1 {
         return Err("there is another number of inputs".into());
     }

@@ -67,20 +67,25 @@ fn fault_of(alloc: Global, text: &[u8]) -> Option<Fault> {
     }
 }
 
-// The beginning, a text so many times, and the end.
-fn repeated(
-    alloc: Global,
-    beginning: &[u8],
-    text: &[u8],
-    times: usize,
-    end: &[u8],
-) -> Result<Vec<u8>, AllocError> {
-    let mut bytes = beginning.to_vec(alloc)?;
+// A beginning, a text so many times, and an end.
+type Repeated = (&'static [u8], &'static [u8], usize, &'static [u8]);
+
+fn push_repeated(bytes: &mut Vec<u8>, repeated: Repeated) -> Result<(), AllocError> {
+    let (beginning, text, times, end) = repeated;
+    bytes.extend_from_slice(beginning)?;
     for _time in 0..times {
         bytes.extend_from_slice(text)?;
     }
-    bytes.extend_from_slice(end)?;
-    Ok(bytes)
+    bytes.extend_from_slice(end)
+}
+
+// The first fault of such texts, one behind the other.
+fn fault_of_repeated(alloc: Global, parts: &[Repeated]) -> Result<Option<Fault>, AllocError> {
+    let mut bytes = Vec::new(alloc);
+    for part in parts {
+        push_repeated(&mut bytes, *part)?;
+    }
+    Ok(fault_of(alloc, &bytes))
 }
 
 #[test]
@@ -93,48 +98,62 @@ fn first_faults(rt: HostRuntime) {
     laws::some_reading();
 }
 
+// The most levels that a text may have, in one part and in each of three, and one more.
+const NESTED: [(&[Repeated], Option<Fault>); 7] = [
+    (&[(b"infer ", b"!", 500, b"pt;")], None),
+    (
+        &[(b"infer ", b"!", 501, b"pt;")],
+        Some(Fault::Nest { at: 506 }),
+    ),
+    (
+        &[(b"infer ", b"(", 501, b"")],
+        Some(Fault::Nest { at: 506 }),
+    ),
+    (
+        &[(b"infer ", b"!", 262_138, b"")],
+        Some(Fault::Nest { at: 506 }),
+    ),
+    (
+        &[
+            (b"define f as ", b"<>", 500, b"pt;"),
+            (b"prop g as ", b"!", 500, b"p;"),
+            (b"infer pt", b"*", 500, b";"),
+        ],
+        None,
+    ),
+    // 500 signs, and two more.
+    (&[(b"infer [[", b"-+", 250, b"p]];")], None),
+    (
+        &[(b"infer [[", b"-+", 251, b"p]];")],
+        Some(Fault::Nest { at: 508 }),
+    ),
+];
+
 #[test]
 fn deep_nesting(rt: HostRuntime) -> Result<(), Fail> {
-    let alloc = rt.alloc();
-    let deepest = repeated(alloc, b"infer ", b"!", 500, b"pt;")?;
-    assert_eq!(rt; fault_of(alloc, &deepest), None);
-    let deeper = repeated(alloc, b"infer ", b"!", 501, b"pt;")?;
-    assert_eq!(rt; fault_of(alloc, &deeper), Some(Fault::Nest { at: 506 }));
-    let open = repeated(alloc, b"infer ", b"(", 501, b"")?;
-    assert_eq!(rt; fault_of(alloc, &open), Some(Fault::Nest { at: 506 }));
-    let longest = repeated(alloc, b"infer ", b"!", 262_138, b"")?;
-    assert_eq!(rt; fault_of(alloc, &longest), Some(Fault::Nest { at: 506 }));
-    let mut parts = repeated(alloc, b"define f as ", b"<>", 500, b"pt;")?;
-    parts.extend_from_slice(&repeated(alloc, b"prop g as ", b"!", 500, b"p;")?)?;
-    parts.extend_from_slice(&repeated(alloc, b"infer pt", b"*", 500, b";")?)?;
-    assert_eq!(rt; fault_of(alloc, &parts), None);
+    for (parts, fault) in NESTED {
+        assert_eq!(rt; fault_of_repeated(rt.alloc(), parts)?, fault);
+    }
     Ok(())
 }
 
-// 500 signs, the most that a text may have, and two more.
-#[test]
-fn deep_signs(rt: HostRuntime) -> Result<(), Fail> {
-    let alloc = rt.alloc();
-    let deepest = repeated(alloc, b"infer [[", b"-+", 250, b"p]];")?;
-    assert_eq!(rt; fault_of(alloc, &deepest), None);
-    let deeper = repeated(alloc, b"infer [[", b"-+", 251, b"p]];")?;
-    assert_eq!(rt; fault_of(alloc, &deeper), Some(Fault::Nest { at: 508 }));
-    Ok(())
-}
+const LONG: [(Repeated, Option<Fault>); 4] = [
+    (
+        (b"", b" ", 262_144, b""),
+        Some(Fault::Syntax { at: 262_144 }),
+    ),
+    ((b"infer slen = ", b"0", 200_000, b"9999;"), None),
+    (
+        (b"infer slen = ", b"9", 200_000, b";"),
+        Some(Fault::Number { at: 13 }),
+    ),
+    ((b"infer pt", b"^pt", 80_000, b";"), None),
+];
 
 #[test]
 fn long_texts(rt: HostRuntime) -> Result<(), Fail> {
-    let alloc = rt.alloc();
-    let spaces = vec![in alloc; b' '; 262_144]?;
-    assert_eq!(rt;
-        fault_of(alloc, &spaces),
-        Some(Fault::Syntax { at: 262_144 })
-    );
-    let number = repeated(alloc, b"infer slen = ", b"0", 200_000, b"9999;")?;
-    assert_eq!(rt; fault_of(alloc, &number), None);
-    let number = repeated(alloc, b"infer slen = ", b"9", 200_000, b";")?;
-    assert_eq!(rt; fault_of(alloc, &number), Some(Fault::Number { at: 13 }));
-    let flat = repeated(alloc, b"infer pt", b"^pt", 80_000, b";")?;
-    assert_eq!(rt; fault_of(alloc, &flat), None);
+    for (text, fault) in LONG {
+        assert_eq!(rt; fault_of_repeated(rt.alloc(), &[text])?, fault);
+    }
     Ok(())
 }

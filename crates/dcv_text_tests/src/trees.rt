@@ -83,7 +83,24 @@ fn goal_shown(alloc: Global, text: &[u8]) -> Result<String, Fail> {
     }
     let read = read_file(alloc, text)?;
     let mut shown = String::new(alloc);
-    operand(&mut shown, &read.goal)?;
+    let result = operand(&mut shown, &read.goal);
+    // for the prover: the end of the scope would drop the file in an arm for each kind of tree; this is one call.
+    drop(read);
+    result?;
+    Ok(shown)
+}
+
+// The same of a whole file.
+fn file_shown(alloc: Global, text: &[u8]) -> Result<String, Fail> {
+    if text.len() > 10_000 {
+        return Err("too long".into());
+    }
+    let read = read_file(alloc, text)?;
+    let mut shown = String::new(alloc);
+    let result = file(&mut shown, &read);
+    // for the prover, as above
+    drop(read);
+    result?;
     Ok(shown)
 }
 
@@ -97,10 +114,7 @@ fn goals_of_texts(rt: HostRuntime) -> Result<(), Fail> {
 
 #[test]
 fn a_whole_file(rt: HostRuntime) -> Result<(), Fail> {
-    let read = read_file(rt.alloc(), FILE)?;
-    let mut shown = String::new(rt.alloc());
-    file(&mut shown, &read)?;
-    assert_eq!(rt; shown.as_str(), FILE_SHOWN);
+    assert_eq!(rt; file_shown(rt.alloc(), FILE)?.as_str(), FILE_SHOWN);
     Ok(())
 }
 

@@ -1,6 +1,6 @@
 use Rattle.std.proofs.Common.{arith}
 use Rattle.std.proofs.lemmas.Grind.{common_steps}
-use Rattle.dcv_bench.proofs.BelowFacts.{one_row_more}
+use Rattle.dcv_tables.proofs.BelowFacts.{one_row_more}
 use Rattle.dcv_bench.proofs.automata.Table.raw.Goals as goal
 
 pub loop-state-preserved : goal.loop-state-preserved

@@ -1,7 +1,7 @@
 use Rattle.std.proofs.Common.{◌≡◌, length}
 use Rattle.std.specs.List.{All}
 use Rattle.dcv_arena.specs.Arena.{IsArena}
-use Rattle.dcv_bench.specs.Below.{IsBelow}
+use Rattle.dcv_tables.specs.Below.{IsBelow}
 use Rattle.dcv_bench.proofs.automata.Table.raw.Given as goal
 
 abbrev pub invariant-loop-state : goal.invariant-loop-state

@@ -1,9 +1,9 @@
 use Rattle.std.proofs.Common.{◌+◌}
-use Rattle.dcv_bench.proofs.BitFacts.{node_if, kept_from}
+use Rattle.dcv_tables.proofs.BelowFacts.{node_below, kept_below}
 use Rattle.dcv_bench.proofs.functions.Function.+build.Goals as goal
 
-pub returns-clause-from : goal.returns-clause-from
-returns-clause-from t c =
-    node_if c.build-2.new.arena c.node.new.self c.args.slot c.in_ok-lo.lo c.in_ok-hi.hi c.node.result
-    (kept_from c.build.new.arena c.build-2.new.arena (c.args.slot + 1) c.in_ok-lo.lo c.build-2.ensures.kept c.in_ok-lo.ensures.from)
-    c.in_ok-hi.ensures.from c.node.ensures.is_ref c.node.ensures.level c.node.ensures.value
+pub returns-clause-below : goal.returns-clause-below
+returns-clause-below t c =
+    node_below c.build-2.new.arena c.node.new.self 2 c.args.slot c.in_ok-lo.lo c.in_ok-hi.hi c.in_ok-node.node
+    (kept_below c.build.new.arena c.build-2.new.arena 2 (c.args.slot + 1) c.in_ok-lo.lo c.build-2.ensures.kept c.in_ok-lo.ensures.below)
+    c.in_ok-hi.ensures.below c.in_ok-node.ensures.is_ref c.in_ok-node.ensures.level c.in_ok-node.ensures.value

@@ -1,2 +1,0 @@
--- what clauses of the functions that tests build cite
-pub mod Bits

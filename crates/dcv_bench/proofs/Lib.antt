@@ -1,2 +1,0 @@
-mod BitFacts
-mod BelowFacts

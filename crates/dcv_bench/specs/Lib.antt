@@ -1,3 +1,0 @@
--- what clauses of the measured functions cite
-pub mod Bits
-pub mod Below

@@ -1,2 +1,0 @@
-mod BelowFacts
-mod PlainNames

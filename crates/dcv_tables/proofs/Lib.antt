@@ -1,0 +1,2 @@
+pub mod BelowFacts
+mod PlainNames

@@ -1,0 +1,2 @@
+-- what clauses on diagrams cite
+pub mod Below
