@@ -1,6 +1,6 @@
 // Tests of `dcv_apply`: merges of several kinds, with functions whose tables were worked out by hand. What a test looks at is made by a
 // function of its own, which builds, merges and gives back plain numbers: so a test carries no facts on arenas from call to call.
-ghost use Rattle.std.specs.Prelude.{◌≡◌, ◌≢◌, ◌≤◌, ℕ, Bool, List, Contains, length, IfOk};
+ghost use Rattle.std.specs.Prelude.{◌≡◌, ◌≢◌, ◌≤◌, ℕ, Bool, List, [], Contains, length, IfOk};
 ghost use Rattle.std.specs.List.{All};
 ghost use Rattle.dcv_arena.specs.Arena.{IsRef};
 ghost use Rattle.dcv_apply.specs.Memo.{EntryValue, KeepsOthers};
@@ -168,23 +168,41 @@ fn five(first: &mut Arena, second: &mut Arena) -> Result<[(u32, Ref); 5], ArenaF
     Ok([(0, p), (1, r), (0, q), (1, same), (0, p)])
 }
 
-// The numbers of what operands are merged into, in the letters' order of three slots.
+// The numbers of what operands are merged into, in the letters' order of three slots, in a round of which the memo has no entry.
+fn merged_in_round<G: Merge>(
+    alloc: Global,
+    sources: (&Arena, &Arena),
+    operands: &[(u32, Ref)],
+    merge: &mut G,
+    memo: &mut Memo,
+    round: u32,
+) -> Result<[u32; 8], ApplyFault>
+    requires operands { All (IsOperand sources.0.now sources.1.now) operands.now }
+    requires may { (letter : List Bool) → length letter ≡ 3 → G.may merge.old (numbers_at sources.0.now sources.1.now operands.now letter) }
+    requires none { (entry : EntryValue) → Contains memo.old.entries entry → entry.round ≢ round }
+    ensures { KeepsOthers round memo.old memo.new }
+{
+    let mut arena = Arena::new(alloc, 3, 100);
+    let root = apply(
+        alloc, &mut arena, sources.0, sources.1, operands, merge, memo, round,
+    )?;
+    Ok(table(&arena, root))
+}
+
+// The same with a memo of its own.
 fn merged<G: Merge>(
     alloc: Global,
-    first: &Arena,
-    second: &Arena,
+    sources: (&Arena, &Arena),
     operands: &[(u32, Ref)],
     merge: &mut G,
 ) -> Result<[u32; 8], ApplyFault>
-    requires operands { All (IsOperand first.now second.now) operands.now }
-    requires may { (letter : List Bool) → length letter ≡ 3 → G.may merge.old (numbers_at first.now second.now operands.now letter) }
+    requires operands { All (IsOperand sources.0.now sources.1.now) operands.now }
+    requires may { (letter : List Bool) → length letter ≡ 3 → G.may merge.old (numbers_at sources.0.now sources.1.now operands.now letter) }
 {
-    let mut arena = Arena::new(alloc, 3, 100);
     let mut memo = Memo::new(alloc, 100)?;
-    let root = apply(
-        alloc, &mut arena, first, second, operands, merge, &mut memo, 0,
-    )?;
-    Ok(table(&arena, root))
+    let numbers = merged_in_round(alloc, sources, operands, merge, &mut memo, 0);
+    drop(memo);
+    numbers
 }
 
 // What the two operands are merged into.
@@ -194,7 +212,10 @@ fn two_merged<G: Merge>(alloc: Global, merge: &mut G) -> Result<[u32; 8], ApplyF
     let mut first = Arena::new(alloc, 3, 100);
     let mut second = Arena::new(alloc, 3, 100);
     let operands = two(&mut first, &mut second)?;
-    merged(alloc, &first, &second, &operands, merge)
+    let numbers = merged(alloc, (&first, &second), &operands, merge);
+    drop(first);
+    drop(second);
+    numbers
 }
 
 // What the five operands are merged into.
@@ -204,7 +225,10 @@ fn five_merged<G: Merge>(alloc: Global, merge: &mut G) -> Result<[u32; 8], Apply
     let mut first = Arena::new(alloc, 3, 100);
     let mut second = Arena::new(alloc, 3, 100);
     let operands = five(&mut first, &mut second)?;
-    merged(alloc, &first, &second, &operands, merge)
+    let numbers = merged(alloc, (&first, &second), &operands, merge);
+    drop(first);
+    drop(second);
+    numbers
 }
 
 #[test]
@@ -267,25 +291,51 @@ fn table_of_two(arena: &Arena, root: Ref) -> [u32; 4]
     numbers
 }
 
-// The digits of the values of slots 2 and 0, with slot 2 merged too, and how many nodes they have.
-fn last_merged(alloc: Global) -> Result<([u32; 4], u32), ApplyFault> {
-    let mut first = Arena::new(alloc, 3, 100);
-    let p = value(&mut first, 0)?;
-    let r = value(&mut first, 2)?;
+// The digits of what two operands are merged into with slot 2 merged too, and how many nodes they have.
+fn digits_of_last(
+    alloc: Global,
+    first: &Arena,
+    operands: &[(u32, Ref)],
+    memo: &mut Memo,
+) -> Result<([u32; 4], u32), ApplyFault>
+    requires slots { first.now.slots ≡ 3 }
+    requires operands { All (IsOperand first.now first.now) operands.now }
+    requires none { memo.old.entries ≡ [] }
+{
     let mut arena = Arena::new(alloc, 2, 100);
-    let operands = [(0, r), (1, p)];
-    let mut memo = Memo::new(alloc, 100)?;
     let root = apply_last(
         alloc,
         &mut arena,
-        &first,
-        &first,
-        &operands,
+        first,
+        first,
+        operands,
         &mut Digits,
-        &mut memo,
+        memo,
         0,
     )?;
     Ok((table_of_two(&arena, root), arena.len()))
+}
+
+// The values of slots 2 and 0.
+fn last_and_first(first: &mut Arena) -> Result<[(u32, Ref); 2], ArenaFault>
+    requires { first.old.slots ≡ 3 }
+    ensures slots { first.new.slots ≡ 3 }
+    ensures operands { IfOk result (All (IsOperand first.new first.new)) }
+{
+    let p = value(first, 0)?;
+    let r = value(first, 2)?;
+    Ok([(0, r), (1, p)])
+}
+
+// The same of these.
+fn last_merged(alloc: Global) -> Result<([u32; 4], u32), ApplyFault> {
+    let mut first = Arena::new(alloc, 3, 100);
+    let operands = last_and_first(&mut first)?;
+    let mut memo = Memo::new(alloc, 100)?;
+    let merged = digits_of_last(alloc, &first, &operands, &mut memo);
+    drop(memo);
+    drop(first);
+    merged
 }
 
 // Both numbers where slot 2 is false, and then both where it is true.
@@ -295,24 +345,41 @@ fn last_slot(rt: HostRuntime) -> Result<(), Fail> {
     Ok(())
 }
 
-// The conjunction of two slots in an arena for so many nodes.
-fn conjunction_within(alloc: Global, limit: u32) -> Result<u32, ApplyFault> {
-    let mut first = Arena::new(alloc, 3, 100);
-    let p = value(&mut first, 0)?;
-    let r = value(&mut first, 2)?;
+// The conjunction of two operands in an arena for so many nodes: how many it takes.
+fn conjunction_of(
+    alloc: Global,
+    first: &Arena,
+    operands: &[(u32, Ref)],
+    memo: &mut Memo,
+    limit: u32,
+) -> Result<u32, ApplyFault>
+    requires slots { first.now.slots ≡ 3 }
+    requires operands { All (IsOperand first.now first.now) operands.now }
+    requires none { memo.old.entries ≡ [] }
+{
     let mut arena = Arena::new(alloc, 3, limit);
-    let mut memo = Memo::new(alloc, 100)?;
     apply(
         alloc,
         &mut arena,
-        &first,
-        &first,
-        &[(0, p), (1, r)],
+        first,
+        first,
+        operands,
         &mut Conjunction,
-        &mut memo,
+        memo,
         0,
     )?;
     Ok(arena.len())
+}
+
+// The same of the values of slots 2 and 0.
+fn conjunction_within(alloc: Global, limit: u32) -> Result<u32, ApplyFault> {
+    let mut first = Arena::new(alloc, 3, 100);
+    let operands = last_and_first(&mut first)?;
+    let mut memo = Memo::new(alloc, 100)?;
+    let nodes = conjunction_of(alloc, &first, &operands, &mut memo, limit);
+    drop(memo);
+    drop(first);
+    nodes
 }
 
 #[test]
@@ -329,92 +396,109 @@ fn nodes_are_limited(rt: HostRuntime) {
     }
 }
 
-// The parity of so many slots merged alone, or with itself, with a memo of so many entries and at most so many merges: how many merges
-// there were, how many entries then, and how many nodes.
-fn parity_merged(
+// How many merges there were, how many entries the memo has then, and how many nodes there are.
+type Taken = (u32, usize, u32);
+
+// What it takes to merge a root alone, or with itself, with a memo without entries and at most so many merges.
+fn taken(
     alloc: Global,
+    first: &Arena,
+    root: Ref,
     operands: usize,
-    slots: u8,
-    capacity: usize,
+    memo: &mut Memo,
     limit: u32,
-) -> Result<(u32, usize, u32), ApplyFault>
+) -> Result<Taken, ApplyFault>
     requires operands { operands ≤ 2 }
-    requires slots { slots ≤ 32 }
-    requires capacity { 1 ≤ capacity }
+    requires root { IsRef first.now root }
+    requires none { memo.old.entries ≡ [] }
 {
-    let mut first = Arena::new(alloc, slots, 100);
-    let root = parity(&mut first)?;
-    let mut arena = Arena::new(alloc, slots, 100);
-    let mut memo = Memo::new(alloc, capacity)?;
+    let mut arena = Arena::new(alloc, first.slots(), 100);
     let mut sum = Sum { calls: 0, limit };
     apply(
         alloc,
         &mut arena,
-        &first,
-        &first,
+        first,
+        first,
         &[(0, root), (0, root)][..operands],
         &mut sum,
-        &mut memo,
+        memo,
         0,
     )?;
     Ok((sum.calls, memo.len(), arena.len()))
 }
 
-// Two nodes stand at the last slot, and each is gone through once while it is remembered. A memo of one entry has always
-// just remembered the other node, so every letter is merged. Of a memo of two entries the first stays: one of the two nodes is
-// gone through once, and the other below each of the 2^14 nodes that are met at the slot before.
+// How often the parity of some slots is merged, alone or with itself, of how many slots it is, how many entries the memo may have, and
+// how many merges there may be.
+type Asked = (usize, u8, usize, u32);
+
+// What that takes.
+fn parity_merged(alloc: Global, asked: Asked) -> Result<Result<Taken, ApplyFault>, Fail> {
+    let (operands, slots, capacity, limit) = asked;
+    if operands > 2 || slots > 32 || capacity == 0 {
+        return Err(Fail::new("at most two operands, 32 slots, and a memo with room"));
+    }
+    let mut first = Arena::new(alloc, slots, 100);
+    let root = parity(&mut first)?;
+    let mut memo = Memo::new(alloc, capacity)?;
+    let taken = taken(alloc, &first, root, operands, &mut memo, limit);
+    drop(memo);
+    drop(first);
+    Ok(taken)
+}
+
+const REMEMBERED: [(Asked, Result<Taken, ApplyFault>); 9] = [
+    // Two nodes stand at the last slot, and each is gone through once while it is remembered.
+    ((1, 16, 64, 4), Ok((4, 31, 31))),
+    ((1, 16, 31, 4), Ok((4, 31, 31))),
+    // A memo of one entry has always just remembered the other node, so every letter is merged.
+    ((1, 16, 1, 65_536), Ok((65_536, 1, 31))),
+    // Of a memo of two entries the first stays: one of the two nodes is gone through once, and the other below each of the 2^14 nodes
+    // that are met at the slot before.
+    ((1, 16, 2, 65_536), Ok((32_770, 2, 31))),
+    ((1, 16, 64, 3), Err(ApplyFault::States { limit: 3 })),
+    // A memo of 16 entries has room for 14 of two operands. The younger half is full after every seventh entry, and the older is
+    // forgotten with the next: so there are 7 and 3 entries after 31. What is asked again was put by one of the last three.
+    ((2, 16, 64, 4), Ok((4, 31, 31))),
+    ((2, 16, 16, 4), Ok((4, 10, 31))),
+    ((2, 16, 1, 65_536), Ok((65_536, 1, 31))),
+    // What was merged once is not gone through again, so 2 ^ 32 letters are no trouble.
+    ((1, 32, 100, 4), Ok((4, 63, 63))),
+];
+
 #[test]
 fn what_was_merged_is_remembered(rt: HostRuntime) -> Result<(), Fail> {
-    let alloc = rt.alloc();
-    assert_eq!(rt; parity_merged(alloc, 1, 16, 64, 4)?, (4, 31, 31));
-    assert_eq!(rt; parity_merged(alloc, 1, 16, 31, 4)?, (4, 31, 31));
-    assert_eq!(rt; parity_merged(alloc, 1, 16, 1, 65_536)?, (65_536, 1, 31));
-    assert_eq!(rt; parity_merged(alloc, 1, 16, 2, 65_536)?, (32_770, 2, 31));
-    assert_eq!(rt;
-        parity_merged(alloc, 1, 16, 64, 3),
-        Err(ApplyFault::States { limit: 3 })
-    );
+    for (asked, expected) in REMEMBERED {
+        assert_eq!(rt; parity_merged(rt.alloc(), asked)?, expected);
+    }
     Ok(())
 }
 
-// A memo of 16 entries has room for 14 of two operands. The younger half is full after every seventh entry, and the older is
-// forgotten with the next: so there are 7 and 3 entries after 31. What is asked again was put by one of the last three.
-#[test]
-fn what_two_were_merged_into_is_remembered(rt: HostRuntime) -> Result<(), Fail> {
-    let alloc = rt.alloc();
-    assert_eq!(rt; parity_merged(alloc, 2, 16, 64, 4)?, (4, 31, 31));
-    assert_eq!(rt; parity_merged(alloc, 2, 16, 16, 4)?, (4, 10, 31));
-    assert_eq!(rt; parity_merged(alloc, 2, 16, 1, 65_536)?, (65_536, 1, 31));
-    Ok(())
-}
-
-// What the two operands are merged into in a round of which the memo has no entry.
-fn two_in_round<G: Merge>(
+// What two rounds of one memo make of operands, and how many entries there are then.
+fn in_both_rounds(
     alloc: Global,
-    merge: &mut G,
+    sources: (&Arena, &Arena),
+    operands: &[(u32, Ref)],
     memo: &mut Memo,
-    round: u32,
-) -> Result<[u32; 8], ApplyFault>
-    requires may { (numbers : List ℕ) → G.may merge.old numbers }
-    requires none { (entry : EntryValue) → Contains memo.old.entries entry → entry.round ≢ round }
-    ensures { KeepsOthers round memo.old memo.new }
+) -> Result<([u32; 8], [u32; 8], usize), ApplyFault>
+    requires operands { All (IsOperand sources.0.now sources.1.now) operands.now }
+    requires none { memo.old.entries ≡ [] }
 {
+    let least = merged_in_round(alloc, sources, operands, &mut Conjunction, memo, 0)?;
+    let digits = merged_in_round(alloc, sources, operands, &mut Digits, memo, 1)?;
+    Ok((least, digits, memo.len()))
+}
+
+// The same of the two operands.
+fn in_two_rounds(alloc: Global) -> Result<([u32; 8], [u32; 8], usize), ApplyFault> {
     let mut first = Arena::new(alloc, 3, 100);
     let mut second = Arena::new(alloc, 3, 100);
     let operands = two(&mut first, &mut second)?;
-    let mut arena = Arena::new(alloc, 3, 100);
-    let root = apply(
-        alloc, &mut arena, &first, &second, &operands, merge, memo, round,
-    )?;
-    Ok(table(&arena, root))
-}
-
-// What two rounds of one memo make of the same operands, and how many entries there are then.
-fn in_two_rounds(alloc: Global) -> Result<([u32; 8], [u32; 8], usize), ApplyFault> {
     let mut memo = Memo::new(alloc, 100)?;
-    let least = two_in_round(alloc, &mut Conjunction, &mut memo, 0)?;
-    let digits = two_in_round(alloc, &mut Digits, &mut memo, 1)?;
-    Ok((least, digits, memo.len()))
+    let made = in_both_rounds(alloc, (&first, &second), &operands, &mut memo);
+    drop(memo);
+    drop(first);
+    drop(second);
+    made
 }
 
 // Each round has an entry for both operands at slot 0, and one for each of the two sides.
@@ -426,25 +510,38 @@ fn rounds_are_kept_apart(rt: HostRuntime) -> Result<(), Fail> {
     Ok(())
 }
 
-// The fault of a merge that may give two numbers, and what the parity means then that the arena had before.
+// The fault of a merge that may give two numbers, and what a root means then that the arena had before.
+fn refused_into(
+    alloc: Global,
+    arena: &mut Arena,
+    before: Ref,
+    first: &Arena,
+    root: Ref,
+    memo: &mut Memo,
+) -> (Option<ApplyFault>, [u32; 8])
+    requires slots { arena.old.slots ≡ 3 }
+    requires before { IsRef arena.old before }
+    requires same { first.now.slots ≡ 3 }
+    requires root { IsRef first.now root }
+    requires none { memo.old.entries ≡ [] }
+{
+    let mut sum = Sum { calls: 0, limit: 2 };
+    let result = apply(alloc, arena, first, first, &[(0, root)], &mut sum, memo, 0);
+    (result.err(), table(arena, before))
+}
+
+// The same of parities.
 fn refused(alloc: Global) -> Result<(Option<ApplyFault>, [u32; 8]), ApplyFault> {
     let mut arena = Arena::new(alloc, 3, 100);
     let before = parity(&mut arena)?;
     let mut first = Arena::new(alloc, 3, 100);
     let root = parity(&mut first)?;
-    let mut sum = Sum { calls: 0, limit: 2 };
     let mut memo = Memo::new(alloc, 100)?;
-    let result = apply(
-        alloc,
-        &mut arena,
-        &first,
-        &first,
-        &[(0, root)],
-        &mut sum,
-        &mut memo,
-        0,
-    );
-    Ok((result.err(), table(&arena, before)))
+    let made = refused_into(alloc, &mut arena, before, &first, root, &mut memo);
+    drop(memo);
+    drop(first);
+    drop(arena);
+    Ok(made)
 }
 
 #[test]
@@ -458,12 +555,5 @@ fn too_many_states(rt: HostRuntime) -> Result<(), Fail> {
         format!(in rt.alloc(); "{fault}")?.as_str(),
         "there are more than 2 states"
     );
-    Ok(())
-}
-
-// What was merged once is not gone through again, so 2 ^ 32 letters are no trouble.
-#[test]
-fn thirty_two_slots(rt: HostRuntime) -> Result<(), Fail> {
-    assert_eq!(rt; parity_merged(rt.alloc(), 1, 32, 100, 4)?, (4, 63, 63));
     Ok(())
 }
