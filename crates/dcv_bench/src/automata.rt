@@ -116,18 +116,6 @@ impl Table {
         }
     }
 
-    // How many letters that is, up to 8.
-    fn letters(self) -> usize
-        ensures { result ≤ 8 }
-    {
-        match self {
-            Table::Chain => 1,
-            Table::Count => 2,
-            Table::Grid => 4,
-            Table::Drawn | Table::Parity => 8,
-        }
-    }
-
     // How many states it has.
     fn states(self) -> u32
         ensures { 0 < result }
@@ -189,7 +177,8 @@ impl Table {
             return Ok(parity(arena, 1, even, odd, bound)?);
         }
         let all = [0, 1, 2, 3, 4, 5, 6, 7].map(|letter| self.next(state, letter).min(last));
-        Ok(function(arena, 0, &all[..self.letters()], bound)?)
+        let letters = all.len().min(1 << self.slots());
+        Ok(function(arena, &all[..letters], bound)?)
     }
 }
 

@@ -1,5 +1,11 @@
 // What automata look like: tables and texts, so that tests compare them with those written by hand.
-ghost use Rattle.std.specs.Prelude.{◌<◌};
+ghost use Rattle.std.specs.Prelude.{◌≡◌, ◌<◌, length, map, count_by, IfOk};
+ghost use Rattle.std.specs.List.{range_with_len};
+ghost use Rattle.dcv_arena.specs.Arena.{value_of};
+ghost use Rattle.dcv_word.specs.Letter.{letters_of_width};
+ghost use Rattle.std.specs.String.{string_bytes};
+ghost use Rattle.dcv_tables.specs.Spelled.{table_text};
+ghost use Rattle.dcv_tables.specs.Tables.{table_state, state_over};
 
 use crate::states::{State, text_of_states};
 use crate::words::letters;
@@ -9,17 +15,26 @@ use std::alloc::Global;
 use std::test::Fail;
 
 /// The text of a table, as `reject 0 1; accept 0 1`, with letters that have its slots.
-pub fn text_of<T: Table>(alloc: Global, table: &T) -> Result<String, Fail> {
+pub fn text_of<T: Table>(alloc: Global, table: &T) -> Result<String, Fail>
+    ensures { IfOk result (λ text. string_bytes text ≡ table_text (map
+        (state_over (T.slots table.now) (T.arena table.now) (T.automaton table.now).accepting (T.row_at table.now)) (range_with_len 0 (T.states table.now)))) }
+{
     text_over(alloc, table, table.slots())
 }
 
 /// The same with letters of so many slots, which may be more or fewer than the arena of the rows has.
-pub fn text_over<T: Table>(alloc: Global, table: &T, slots: u8) -> Result<String, Fail> {
+pub fn text_over<T: Table>(alloc: Global, table: &T, slots: u8) -> Result<String, Fail>
+    ensures { IfOk result (λ text. string_bytes text ≡ table_text (map
+        (state_over slots (T.arena table.now) (T.automaton table.now).accepting (T.row_at table.now)) (range_with_len 0 (T.states table.now)))) }
+{
     text_of_states(alloc, &states_over(alloc, table, slots)?)
 }
 
 /// The states of a table, with letters of so many slots.
-pub fn states_over<T: Table>(alloc: Global, table: &T, slots: u8) -> Result<Vec<State>, Fail> {
+pub fn states_over<T: Table>(alloc: Global, table: &T, slots: u8) -> Result<Vec<State>, Fail>
+    ensures { IfOk result (λ states. map table_state states.items
+        ≡ map (state_over slots (T.arena table.now) (T.automaton table.now).accepting (T.row_at table.now)) (range_with_len 0 (T.states table.now))) }
+{
     let letters = letters(alloc, slots)?;
     let mut states = Vec::new(alloc);
     for number in 0..table.states() {
@@ -33,6 +48,7 @@ pub fn states_over<T: Table>(alloc: Global, table: &T, slots: u8) -> Result<Vec<
 // The states that come next after a state, in the letters' order.
 fn row<T: Table>(alloc: Global, table: &T, state: u32, letters: &[Letter]) -> Result<Vec<u32>, Fail>
     requires { state < T.states table.now }
+    ensures { IfOk result (λ row. row.items ≡ map (value_of (T.arena table.now) (T.row_at table.now state)) letters.now) }
 {
     let root = table.row(state);
     let mut row = Vec::new(alloc);
@@ -43,7 +59,11 @@ fn row<T: Table>(alloc: Global, table: &T, state: u32, letters: &[Letter]) -> Re
 }
 
 /// How many states and nodes there are, and how many states accept.
-pub fn counts(raw: &Raw) -> (u32, u32, u32) {
+pub fn counts(raw: &Raw) -> (u32, u32, u32)
+    ensures states { result.0 ≡ length raw.now.rows }
+    ensures nodes { result.1 ≡ length raw.now.arena.nodes }
+    ensures accepting { result.2 ≡ count_by (λ accepts. accepts) raw.now.accepting }
+{
     let mut accepting = 0u32;
     for state in 0..raw.states() {
         if raw.accepting(state) {
