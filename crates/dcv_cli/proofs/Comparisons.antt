@@ -5,7 +5,9 @@ use Rattle.std.specs.Str.{bytes_eq}
 use Rattle.std.proofs.lemmas.Slice.Eq.{bytes_eq-Decides}
 use Rattle.std.proofs.lemmas.List.{length-map}
 use mathlib.Core.Bool.{true≢false}
+use Rattle.dcv_io.specs.Asked.{Asks}
 use Rattle.dcv_io.specs.Disk.{Disk, held_of}
+use Rattle.dcv_io.proofs.Asking.{asks_in_turn}
 use Rattle.dcv_io.specs.Putting.{Put, Puts}
 use Rattle.dcv_io.proofs.Putting.{puts_both}
 use Rattle.dcv_word.specs.Behaviour.{Word}
@@ -27,14 +29,16 @@ use Rattle.dcv_implies.specs.declared.faults.OutsideFault.{OutsideFault}
 use Rattle.dcv_implies.specs.declared.faults.OutsideFault.TheVariants as outside
 use Rattle.dcv_print.specs.Printed.{texts_of}
 use Rattle.dcv_cli.specs.Budget.{OverBudget, WithinBudget, NamesFirstOver, steps_of_file}
-use Rattle.dcv_cli.specs.Comparison.{comparison_text, status_of_least, compared, have_same_texts, OverProduct, WithinProduct, IsCompared, Undeclared, Declared, FulfilsSecond}
+use Rattle.dcv_cli.specs.Comparison.{comparison_text, status_of_least, compared, have_same_texts, OverProduct, WithinProduct, IsCompared, Undeclared, Declared, FulfilsSecond, LeavesComparison, OfFirst, OfSecond, LeavesSecond}
 use Rattle.dcv_cli.specs.Expanded.{IsBuilt}
 use Rattle.dcv_cli.specs.FormulaFile.{IsFormulaFile, OnText, Read as ReadFile}
 use Rattle.dcv_cli.specs.Held.{Texts, OnHeld, ForHeld, IsHeldText}
 use Rattle.dcv_cli.specs.Right.{Fulfils, FulfilsOver}
 use Rattle.dcv_command.specs.Request.{Implies}
-use Rattle.dcv_cli.proofs.TwoFiles.{later_held}
+use Rattle.dcv_cli.proofs.TwoFiles.{StepsTo, from, later_held}
 use Rattle.dcv_cli.specs.Outcome.{Outcome, IsExplained, refused}
+use Rattle.dcv_cli.specs.Outside.{Outside}
+use Rattle.dcv_cli.specs.Performed.{LeavesFor}
 use Rattle.dcv_cli.specs.Refusal.{marked, is_of_text, refusal_of_outside}
 use Rattle.dcv_cli.specs.Status.{is_answer}
 use Rattle.dcv_cli.specs.declared.budget_line.Excess.TheVariants.{States, Nodes}
@@ -209,6 +213,29 @@ fulfils_both told told' first second text limits one outcome same there formula 
     moves held late there same right =
         rw there (ReadFile one formula (subst (λ held. OnHeld held second (λ text. OnText text Second (IsCompared limits one)) outcome) (sym same) right))
 
-pub leaves_none : (told : Option Disk) (bytes : List ℕ) → bytes ≡ [] → ForHeld told (λ held. bytes ≡ [])
-leaves_none None bytes e = record { held = λ time n. None; same = tt; holds = e }
-leaves_none (Some disk) bytes e = record { held = λ time. disk.held; same = λ time. refl; holds = e }
+-- nothing was written where the second file failed, behind a first without a fault
+pub leaves_both : (first second text : List ℕ) (limits : Limits) (file : PlainFile) (before mid after : Outside) (bytes : List ℕ) → StepsTo first before mid
+    → IsHeldText before.told first text → IsFormulaFile text file → LeavesSecond second (from before mid) after bytes → LeavesFor (Implies first second limits) before after bytes
+leaves_both first second text limits file before mid after bytes steps there is left = by before.told there where
+  both : Asks (first ∷ second ∷ []) before.asked after.asked
+  both = asks_in_turn before.asked mid.asked after.asked (first ∷ []) (second ∷ []) steps.asked left.asked
+
+  by : (told : Option Disk) → IsHeldText told first text → ForHeld told (λ held. LeavesComparison first second held before after bytes)
+  by None there = record {
+    held = λ time name. Some text;
+    same = tt;
+    holds = OfSecond both (record { text = text; there = refl; file = file; is = is }) left.none;
+  }
+  by (Some disk) there = record {
+    held = λ time. disk.held;
+    same = λ time. refl;
+    holds = OfSecond both (record { text = text; there = there; file = file; is = is }) left.none;
+  }
+
+-- nor where the first did
+pub leaves_first : (first second : List ℕ) (limits : Limits) (before after : Outside) → Asks (first ∷ []) before.asked after.asked
+    → LeavesFor (Implies first second limits) before after []
+leaves_first first second limits before after asked = by before.told where
+  by : (told : Option Disk) → ForHeld told (λ held. LeavesComparison first second held before after [])
+  by None = record { held = λ time name. None; same = tt; holds = OfFirst asked refl }
+  by (Some disk) = record { held = λ time. disk.held; same = λ time. refl; holds = OfFirst asked refl }

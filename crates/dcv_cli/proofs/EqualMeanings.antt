@@ -26,7 +26,7 @@ use Rattle.dcv_cli.specs.Refusal.{status_of}
 use Rattle.dcv_cli.specs.declared.refused.Which.TheVariants.{Only}
 use Rattle.dcv_cli.specs.Report.{Says, IsReport}
 use Rattle.dcv_cli.specs.Status.{is_answer, status_of_verdict}
-use Rattle.dcv_cli.proofs.Texts.{one_meaning, says_of_same}
+use Rattle.dcv_cli.proofs.Texts.{one_meaning, one_other_text, says_of_same}
 
 -- no refusal answers
 pub no_refusal_answers : (refusal : Refusal) → IsTrue (is_answer (status_of refusal)) → ⊥
@@ -80,5 +80,8 @@ module _ (one_tree : SpellsOne) (one_verdict : OneVerdict) (move_verdict : Verdi
         status = r.status ∙ ap status_of_verdict same ∙ sym s.status;
         report =
             one_meaning one_automaton one_file (length file.variables) (models other_file) (texts_of file.variables) r.verdict s.verdict r.counts s.counts one.out another.out kind same says other_says;
+        same_report = λ none.
+            one_other_text one_automaton one_file (length file.variables) (models other_file) (texts_of file.variables) r.verdict s.verdict r.counts s.counts one.out another.out kind same none says
+            other_says;
         message = r.no_message ∙ sym s.no_message;
       }

@@ -1,5 +1,5 @@
 -- What is right for `all` is what its user is promised.
-use Rattle.std.proofs.Common.{◌≡◌, ◌↔◌, ℕ, Bool, true, false, List, length, Option, None, Some, refl, sym, ap, ◌∙◌, subst}
+use Rattle.std.proofs.Common.{◌≡◌, ◌↔◌, ℕ, Bool, true, false, List, length, map, Option, None, Some, refl, sym, ap, ◌∙◌, subst}
 use Rattle.std.specs.Prelude.{IsSomeAnd, not}
 use Rattle.std.proofs.lemmas.Bool.{false≢true}
 use Rattle.dcv_word.specs.Behaviour.{Word}
@@ -10,12 +10,15 @@ use Rattle.dcv_language.specs.Verdict.{IsLeastOf, Verdict}
 use Rattle.dcv_language.specs.VerdictText.{verdict_text}
 use Rattle.dcv_reader.specs.Spelling.{SpellsOne}
 use Rattle.dcv_scope.specs.CoreOf.{core_of_file}
-use Rattle.dcv_lustre.specs.Observer.{observer_of as node_of}
-use Rattle.dcv_c.specs.Observer.{observer_of as unit_of}
+use Rattle.dcv_automaton_text.specs.File.{AutomatonFile}
+use Rattle.dcv_automaton_file.specs.File.{file_of}
+use Rattle.dcv_lustre.specs.Observer.{observer_of as node_of, input_names}
+use Rattle.dcv_c.specs.Observer.{observer_of as unit_of, parameter_name}
 use Rattle.dcv_explore.specs.declared.explorer.Limits.{Limits}
 use Rattle.dcv_build.specs.Laws.{WithinExcludesOver}
 use Rattle.dcv_build.specs.Budget.{IsWithinBudget}
 use Rattle.dcv_print.specs.Laws.{AutomatonHasFewestStates}
+use Rattle.dcv_print.specs.Observers.{IsFileOf}
 use Rattle.dcv_print.specs.Printed.{texts_of}
 use Rattle.dcv_print.specs.Sections.{all_text}
 use Rattle.dcv_print.specs.declared.report.Kind.TheVariants.{All}
@@ -67,6 +70,21 @@ not_valid_exactly k L verdict is = by verdict.counterexample is
     by None none = (λ broken. absurd (no_valid (sym broken)), λ some. absurd (some (λ word behaves. twice_denied (L word) (none word behaves))))
     by (Some word) least = (λ broken every. denied_or_so (L word) least.member (every word least.behaviour), λ some. refl)
 
+-- ---- variables
+
+node_inputs_are : (file : AutomatonFile) → (node_of file).inputs ≡ input_names file.names
+unfolding node_of
+node_inputs_are file = refl
+
+unit_parameters_are : (file : AutomatonFile) → (unit_of file).parameters ≡ map parameter_name file.names
+unfolding unit_of
+unit_parameters_are file = refl
+
+-- the file of an observer has the names that it was made with
+names_are : (k : ℕ) (L : Language) (names : List (List ℕ)) (file : AutomatonFile) → IsFileOf k L names file → file.names ≡ names
+unfolding file_of
+names_are k L names file of = ap (λ (f : AutomatonFile). f.names) of.is
+
 -- ---- what is said
 
 module _ (fewest : AutomatonHasFewestStates) where
@@ -90,9 +108,14 @@ module _ (fewest : AutomatonHasFewestStates) where
         accepts = automaton.is.canonical.exact;
         fewest = λ table are exact. fewest k (models file) (texts_of file.variables) automaton.automaton table automaton.is are exact;
         certificate = automaton.is.certificate;
+        variables = automaton.is.variables;
         node_read = says.says_node.read;
+        node_inputs = node_inputs_are says.says_node.file
+            ∙ ap input_names (names_are k (models file) (texts_of file.variables) says.says_node.file says.says_node.of);
         node_observes = says.says_node.observes;
         unit_read = says.says_unit.read;
+        unit_parameters = unit_parameters_are says.says_unit.file
+            ∙ ap (map parameter_name) (names_are k (models file) (texts_of file.variables) says.says_unit.file says.says_unit.of);
         unit_observes = says.says_unit.observes;
         valid = (λ e. valid.0 (sym is.status ∙ e), λ every. is.status ∙ valid.1 every);
         not_valid = (λ e. not_valid.0 (sym is.status ∙ e), λ some. is.status ∙ not_valid.1 some);

@@ -81,7 +81,7 @@ leaves_replay subset name trace text observer before mid after bytes steps there
 
     moves : (held late : Texts) → held 0 name ≡ Some text → held 1 ≡ late 0 → LeavesOfTrace observer trace (late 0 trace) (from before mid) after bytes
         → LeavesAnswers subset name trace held before after bytes
-    moves held late here next (OfOpen asked risen none) = NotOpened (both asked) risen none
+    moves held late here next (OfOpen asked risen none) = NotOpened (both asked) risen (record { text = text; there = here; observer = observer; is = is }) none
     moves held late here next (OfRead asked risen found found_is short) = ReadFailed (both asked) risen (record {
       text = text;
       there = here;

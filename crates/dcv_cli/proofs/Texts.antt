@@ -1,7 +1,9 @@
 -- What a text says of a set: no two texts say the same, but for the suffixes of an automaton and what the steps took, and it is said of each
 -- set with the same behaviours.
 use Rattle.std.proofs.Common.{◌≡◌, ◌⊎◌, ℕ, List, [], ◌++◌, Some, inl, inr, sym, ap, ◌∙◌, subst, codes, append_assoc}
+use Rattle.std.specs.Prelude.{IsFalse}
 use Rattle.std.proofs.lemmas.List.{append-nil}
+use mathlib.Core.Bool.{true≢false}
 use Rattle.dcv_language.specs.Language.{Language, HaveSameBehaviours}
 use Rattle.dcv_language.specs.Verdict.{Verdict}
 use Rattle.dcv_language.specs.VerdictText.{verdict_text}
@@ -20,6 +22,7 @@ use Rattle.dcv_print.specs.Sections.{all_text}
 use Rattle.dcv_print.specs.declared.report.Kind.{Kind}
 use Rattle.dcv_print.specs.declared.report.Kind.TheVariants.{Check, Automaton, Lustre, C, All}
 use Rattle.dcv_cli.specs.Automaton.{SaysAutomaton}
+use Rattle.dcv_cli.specs.Outcome.{has_automaton}
 use Rattle.dcv_cli.specs.Report.{Says, SaysAll}
 
 -- ---- all in one
@@ -121,6 +124,15 @@ module _ (one_automaton : OneAutomaton) (one_file : OneFile) (k : ℕ) (L : Lang
       by (inl e) = inl e
       by (inr a) =
           inr (record { before = a.before; behind = a.behind; one_file = a.one_file; other_file = a.other_file; one_is = a.one_is; other_is = a.other_is; same = a.same })
+
+  -- and where no automaton is written they are the same
+  pub one_other_text : (v u : Verdict) (counts others : List Count) (one other : List ℕ) (kind : Kind) → v ≡ u → IsFalse (has_automaton kind) → Says kind k L names counts v one
+      → Says kind k L names others u other → one ≡ other
+  one_other_text v u counts others one other Check same none says says' = says ∙ ap verdict_text same ∙ sym says'
+  one_other_text v u counts others one other Lustre same none says says' = one_node one other says says'
+  one_other_text v u counts others one other C same none says says' = one_unit one other says says'
+  one_other_text v u counts others one other Automaton same none says says' = absurd (true≢false none)
+  one_other_text v u counts others one other All same none says says' = absurd (true≢false none)
 
 -- ---- sets with the same behaviours
 

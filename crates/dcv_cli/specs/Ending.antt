@@ -11,10 +11,11 @@ use Rattle.std.specs.Bool.{OnTrue}
 use Rattle.dcv_io.specs.Asked.{Asks, AsksPrefix}
 use Rattle.dcv_io.specs.Faults.{has_risen, Rises}
 use Rattle.dcv_io.specs.Written.{Appends, AppendsPrefix, AppendsStrictPrefix}
-use Rattle.dcv_command.specs.Request.{Request, Replay, files_of}
+use Rattle.dcv_command.specs.Request.{Request, Implies, Replay, files_of}
 use Rattle.dcv_cli.specs.declared.refusal.Refusal.TheVariants.{Open, Read, Write, Memory as OutOfMemory}
 use Rattle.dcv_cli.specs.declared.status.Status.{Status}
 use Rattle.dcv_cli.specs.declared.status.Status.TheVariants.{Input, Output, Memory}
+use Rattle.dcv_cli.specs.Comparison.{LeavesComparison}
 use Rattle.dcv_cli.specs.Outcome.{Outcome}
 use Rattle.dcv_cli.specs.Outside.{Outside}
 use Rattle.dcv_cli.specs.Refusal.{message_of, only}
@@ -40,9 +41,11 @@ AddsFront Right old new = Appends old new [] ⊎ ((outcome : Outcome) × Right o
 abbrev pub StopsWithin : (Outcome → Type 0) → Option (List ℕ) → Option (List ℕ) → Type 0
 StopsWithin Right old new = (outcome : Outcome) × Right outcome × AppendsStrictPrefix old new outcome.out
 
--- What a run of the request has written where an input failed: nothing, but of a replay the answers up to there.
+-- What a run of the request has written where an input failed: nothing, but of a replay the answers up to there. A second file is asked for
+-- behind a first without a fault alone.
 abbrev pub Leaves : Request → Texts → Outside → Outside → List ℕ → Type 0
 Leaves (Replay subset observer trace) held before after bytes = LeavesAnswers subset observer trace held before after bytes
+Leaves (Implies first second limits) held before after bytes = LeavesComparison first second held before after bytes
 Leaves _ held before after bytes = bytes ≡ []
 
 -- that is what was added to the output, for the request of the words

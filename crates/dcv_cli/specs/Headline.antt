@@ -1,7 +1,7 @@
 -- The promise of the program in one place: what a run of `all` says of a text. It is what `Right` says of that command, in the words of a user.
 --     AllIsSaid file outcome           a verdict, an automaton and two observers of exactly the behaviours that model the file
 --     IsAnswered text limits outcome   so it is said; or the text's first fault is named, or the first step that is over the limits
-use Rattle.std.specs.Prelude.{◌≡◌, ◌↔◌, ℕ, ◌≤◌, List, [], Some, length}
+use Rattle.std.specs.Prelude.{◌≡◌, ◌↔◌, ℕ, ◌≤◌, List, [], Some, length, map}
 use Rattle.dcv_syntax.specs.Plain.{PlainFile}
 use Rattle.dcv_logic.specs.Models.{models}
 use Rattle.dcv_language.specs.Certificate.{IsCertificate}
@@ -16,12 +16,15 @@ use Rattle.dcv_automaton_text.specs.Rules.{IsGood}
 use Rattle.dcv_automaton_text.specs.Spelled.{spelled}
 use Rattle.dcv_lustre.specs.Tree.{Node}
 use Rattle.dcv_lustre.specs.Faults.{IsReadAs as IsReadAsNode}
+use Rattle.dcv_lustre.specs.Observer.{input_names}
 use Rattle.dcv_lustre.specs.Laws.{Observes as ObservesByNode}
 use Rattle.dcv_c.specs.Tree.{CUnit}
 use Rattle.dcv_c.specs.Faults.{IsReadAs as IsReadAsUnit}
+use Rattle.dcv_c.specs.Observer.{parameter_name}
 use Rattle.dcv_c.specs.Laws.{Observes as ObservesByUnit}
 use Rattle.dcv_explore.specs.declared.explorer.Limits.{Limits}
 use Rattle.dcv_build.specs.Budget.{IsWithinBudget}
+use Rattle.dcv_print.specs.Printed.{texts_of}
 use Rattle.dcv_print.specs.Sections.{all_text}
 use Rattle.dcv_print.specs.declared.report.Kind.TheVariants.{All}
 use Rattle.dcv_command.specs.Request.{Report}
@@ -54,10 +57,15 @@ pub record AllIsSaid (file : PlainFile) (outcome : Outcome) : Type 0 where
   pub fewest : (table : Table) → IsTable (length file.variables) table → AcceptsExactly (length file.variables) table (models file)
       → automaton.states ≤ length table
   pub certificate : IsCertificate (length file.variables) (models file) (access_words_of automaton) (suffix_words_of automaton)
-  -- Each observer's text is read as a program of its subset, and accepts exactly these behaviours by the meaning of that subset.
+  -- its variables are the file's, in order
+  pub variables : automaton.names ≡ texts_of file.variables
+  -- Each observer's text is read as a program of its subset, whose inputs are named after these variables, and accepts exactly these behaviours
+  -- by the meaning of that subset.
   pub node_read : IsReadAsNode node_text node
+  pub node_inputs : node.inputs ≡ input_names (texts_of file.variables)
   pub node_observes : ObservesByNode (length file.variables) node (models file)
   pub unit_read : IsReadAsUnit unit_text unit
+  pub unit_parameters : unit.parameters ≡ map parameter_name (texts_of file.variables)
   pub unit_observes : ObservesByUnit (length file.variables) unit (models file)
   -- The run ends with 0 exactly where every behaviour models the file, and else with 1. Then the counterexample is a shortest behaviour that does not.
   pub valid : (outcome.status ≡ Valid) ↔ HasEvery (length file.variables) (models file)

@@ -92,7 +92,7 @@ pub record IsAnswer (kind : Kind) (name : List ℕ) (limits : Limits) (held : Te
 abbrev pub EqualMeanings : Type 0
 EqualMeanings = (kind : Kind) (name other_name : List ℕ) (limits other_limits : Limits) (held other_held : Texts) (file other_file : PlainFile)
     (one another : Outcome) → MeanTheSame file other_file → IsAnswer kind name limits held file one
-    → IsAnswer kind other_name other_limits other_held other_file another → AgreeInMeaning one another
+    → IsAnswer kind other_name other_limits other_held other_file another → AgreeInMeaning kind one another
 
 -- ---- texts that are printed are certified
 

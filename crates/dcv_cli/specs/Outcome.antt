@@ -6,9 +6,10 @@
 --     DifferInExcess one other
 --                             two lines of one step, or of one product, of which one names the states and the other the nodes
 --     Agrees one other        the same, but for what is left to the program
---     AgreeInMeaning one other
---                             answers that are the same, but for what is left to the program and what the steps took
-use Rattle.std.specs.Prelude.{◌≡◌, ◌≢◌, ◌⊎◌, ℕ, List, []}
+--     has_automaton kind      whether a report of this kind has the text of an automaton
+--     AgreeInMeaning kind one other
+--                             reports that are the same, but for what is left to the program and what the steps took
+use Rattle.std.specs.Prelude.{◌≡◌, ◌≢◌, ◌⊎◌, ℕ, Bool, true, false, List, [], IsFalse}
 use Rattle.dcv_language.specs.VerdictText.{line}
 use Rattle.dcv_cli.specs.declared.budget_line.Excess.{Excess}
 use Rattle.dcv_cli.specs.declared.budget_line.Over.{Over}
@@ -17,6 +18,8 @@ use Rattle.dcv_cli.specs.declared.refusal.Refusal.TheVariants.{Budget, Product}
 use Rattle.dcv_cli.specs.declared.status.Status.{Status}
 use Rattle.dcv_cli.specs.declared.status.Status.TheVariants.{Usage}
 use Rattle.dcv_print.specs.Automaton.{DifferInSuffixes, AgreeUpToAccess}
+use Rattle.dcv_print.specs.declared.report.Kind.{Kind}
+use Rattle.dcv_print.specs.declared.report.Kind.TheVariants.{Automaton, All}
 use Rattle.dcv_cli.specs.Refusal.{status_of, words_of, ended}
 use Rattle.dcv_cli.specs.declared.refused.Which.{Which}
 use Rattle.dcv_cli.specs.declared.refused.Which.TheVariants.{Only}
@@ -53,8 +56,15 @@ pub record Agrees (one other : Outcome) : Type 0 where
   pub report : (one.out ≡ other.out) ⊎ DifferInSuffixes one.out other.out
   pub message : one.status ≢ Usage → (one.err ≡ other.err) ⊎ DifferInExcess one.err other.err
 
--- Of formulas with one meaning the steps may differ, so the lines of an automaton are the same up to the last of its access words.
-pub record AgreeInMeaning (one other : Outcome) : Type 0 where
+abbrev pub has_automaton : Kind → Bool
+has_automaton Automaton = true
+has_automaton All = true
+has_automaton _ = false
+
+-- Of formulas with one meaning the steps may differ, so the lines of an automaton are the same up to the last of its access words. All else
+-- is the same: where no automaton is written, that is the whole report.
+pub record AgreeInMeaning (kind : Kind) (one other : Outcome) : Type 0 where
   pub status : one.status ≡ other.status
   pub report : (one.out ≡ other.out) ⊎ AgreeUpToAccess one.out other.out
+  pub same_report : IsFalse (has_automaton kind) → one.out ≡ other.out
   pub message : one.err ≡ other.err

@@ -52,6 +52,13 @@ pub record IsCutShort (observer : Observer) (trace : List ℕ) (told : Option Di
   pub cut : CutShort (width_of observer) trace told letters
   pub answers : AreAnswers observer [] letters bytes
 
+-- the text of this observer is held
+pub record HasObserver (subset : Subset) (observer_text : Option (List ℕ)) : Type 0 where
+  pub text : List ℕ
+  pub there : observer_text ≡ Some text
+  pub observer : Observer
+  pub is : IsObserverText subset text observer
+
 -- the same of texts that are held
 pub record AnswersRead (subset : Subset) (observer_text trace_text : Option (List ℕ)) (told : Option Disk) (bytes : List ℕ) : Type 0 where
   pub text : List ℕ
@@ -62,10 +69,10 @@ pub record AnswersRead (subset : Subset) (observer_text trace_text : Option (Lis
   pub trace_there : trace_text ≡ Some trace
   pub short : IsCutShort observer trace told bytes
 
--- Nothing was written where the observer's file failed or the trace could not be opened.
+-- Nothing was written where the observer's file failed or the trace could not be opened. The trace is asked for behind an observer alone.
 pub data LeavesAnswers (subset : Subset) (observer trace : List ℕ) (held : Texts) (before after : Outside) (bytes : List ℕ) : Type 0 where
   OfObserver : Asks (observer ∷ []) before.asked after.asked → bytes ≡ [] → LeavesAnswers subset observer trace held before after bytes
-  OfOpen : Asks (observer ∷ trace ∷ []) before.asked after.asked → Rises before.open_faults after.open_faults → bytes ≡ []
+  OfOpen : Asks (observer ∷ trace ∷ []) before.asked after.asked → Rises before.open_faults after.open_faults → HasObserver subset (held 0 observer) → bytes ≡ []
       → LeavesAnswers subset observer trace held before after bytes
   OfRead : Asks (observer ∷ trace ∷ []) before.asked after.asked → Rises before.read_faults after.read_faults
       → AnswersRead subset (held 0 observer) (held 1 trace) after.told bytes → LeavesAnswers subset observer trace held before after bytes

@@ -5,7 +5,7 @@ ghost use Rattle.dcv_syntax.specs.Plain.{PlainFile};
 ghost use Rattle.dcv_command.specs.Request.{Implies, AreInRange};
 ghost use Rattle.dcv_implies.specs.Comparison.{letters_of};
 ghost use Rattle.dcv_print.specs.Printed.{texts_of};
-ghost use Rattle.dcv_cli.specs.Comparison.{status_of_least, compared, have_same_texts, IsCompared, FulfilsSecond};
+ghost use Rattle.dcv_cli.specs.Comparison.{status_of_least, compared, have_same_texts, IsCompared, FulfilsSecond, LeavesSecond};
 ghost use Rattle.dcv_cli.specs.Ending.{has_cause};
 ghost use Rattle.dcv_cli.specs.Expanded.{IsExpanded, IsOfFile};
 ghost use Rattle.dcv_cli.specs.Outcome.{IsExplained};
@@ -67,7 +67,7 @@ fn compare_with<F: Files, O: Sink>(
 ) -> Result<Status, Refused>
     requires { IsOfFile one.now }
     ensures { (first : PlainFile) → IsExpanded first one.now
-        → Performs (FulfilsSecond limits first second.entry.now (F.told files.old)) (λ before after bytes. bytes ≡ []) (second.entry.now ∷ []) result
+        → Performs (FulfilsSecond limits first second.entry.now (F.told files.old)) (LeavesSecond second.entry.now) (second.entry.now ∷ []) result
         (outside (F.told files.old) (F.asked files.old) (F.open_faults files.old) (F.read_faults files.old) (O.written out.old) (O.faults out.old))
         (outside (F.told files.new) (F.asked files.new) (F.open_faults files.new) (F.read_faults files.new) (O.written out.new) (O.faults out.new)) }
 {

@@ -8,17 +8,20 @@ use dcv_print::Verdict;
 /// How a run ended.
 #[derive(Clone, Copy, Debug, PartialEq, Eq)]
 pub enum Status {
-    /// Each behaviour satisfies the formula.
+    /// Each behaviour satisfies the formula, or the first of two requirements implies the second.
     Valid,
-    /// What was asked for is done, and it says no verdict of a formula.
+    /// What was asked for is done, and it says no verdict of a formula: an automaton's words show that it is minimal, or there is a controller,
+    /// a trace was read to its end, the drawn formulas are counted, or a text is converted.
     Done,
-    /// Some behaviour does not satisfy the formula, or the words of an automaton do not show that it is minimal.
+    /// Some behaviour does not satisfy the formula, or satisfies the first requirement and not the second; the words of an automaton do not show
+    /// that it is minimal; or there is no controller.
     NotValid,
     /// The words ask for nothing that the program does.
     Usage,
-    /// The file holds no formula: its text has a fault.
+    /// A file holds no formula: its text has a fault. Or two files declare other variables, or the variables cannot be divided into the inputs
+    /// that are asked for and outputs.
     Formula,
-    /// A step of the formula is over the limits.
+    /// A step of a formula, or the product of the automata of two, is over the limits.
     Budget,
     /// The file could not be opened or read.
     Input,

@@ -15,7 +15,7 @@ returns-in-Err g c first is =
     let told = g.F.Files.told c.args.files.now in
     let refusal = c.in-Err.refusal in
     let given = c.in-Err.ensures in
-    rw c.in_file.ensures (performs_marked _ _ _ _ _ refusal Second given.unwritten refl
+    rw c.in_file.ensures (performs_marked _ _ _ _ _ refusal Second given.unwritten (record { asked = given.asked; none = refl })
     (explains_file told c.args.second.now Second (λ held. IsCompared c.args.limits first) refusal given.refused)
     (nothing_told _) refl (record { asked = (1, given.asked); opened = given.open_faults; read = given.read_faults; held = given.held }))
 
@@ -27,7 +27,7 @@ returns-in_err-compared g c first is =
     let given = c.in-Ok.ensures in
     let known = given.expanded.is in
     let own = c.in_err-compared.ensures.own in
-    rw (p.1, p.2) (performs_refused _ _ _ _ _ found.refusal found.which (text_is_of_taking found.refusal own) c.in_err-compared.ensures.of_none refl
+    rw (p.1, p.2) (performs_refused _ _ _ _ _ found.refusal found.which (text_is_of_taking found.refusal own) c.in_err-compared.ensures.of_none (record { asked = given.asked; none = refl })
     (explains_in_file told c.args.second.now Second (IsCompared c.args.limits first) given.expanded.text known.file found.which found.refusal given.expanded.there known.formula
     (c.in_err-compared.ensures.refused first known.file is known.is))
     (nothing_told _) refl (record {
