@@ -9,14 +9,22 @@ are written out, so files with large numbers make large questions. The text is t
 import re
 import sys
 
-TOKEN = re.compile(r"\s+|//[^\n]*|[A-Za-z][A-Za-z0-9_]*|[0-9]+|<=>|=>|\|\||&&|\[\[|\]\]|\{\{|\}\}|<=|>=|<>|\[\]|[()\[\],;.!^*=<>]")
+TOKEN = re.compile(r"[ \t\r\n]+|//[^\n]*|[A-Za-z][A-Za-z0-9_]*|[0-9]+|<=>|=>|\|\||&&|\[\[|\]\]|\{\{|\}\}|<=|>=|<>|\[\]|[()\[\],;.!^*=<>+-]")
+
+
+def text_of(path):
+    """The text of a file, a character for each byte: a line ends with a line feed alone, and a comment may have any bytes."""
+    with open(path, encoding="latin-1", newline="") as file:
+        return file.read()
 
 
 class Reader:
     """Reads a formula file into functions: a proposition from a position, a formula from two, to MONA's text."""
 
     def __init__(self, text):
-        self.tokens = [it for it in TOKEN.findall(text) if not it.isspace() and not it.startswith("//")]
+        found = TOKEN.findall(text)
+        assert "".join(found) == text, "a character that begins no token"
+        self.tokens = [it for it in found if not it.isspace() and not it.startswith("//")]
         self.at = 0
         self.fresh = 0
         self.scope = {}
@@ -61,10 +69,16 @@ class Reader:
             self.scope[name] = ("set", lambda i, name=name: f"{i} in V{name}")
         while self.peek() in ("define", "prop"):
             self.macro(self.take())
-        self.take("infer")
-        goal = self.formula()
+        goal = self.goal()
         declared = "".join(f"var2 V{name};\n" for name in names)
         return f"ws1s;\nvar1 last;\n{declared}{goal('0', 'last')};\n"
+
+    def goal(self):
+        self.take("infer")
+        goal = self.formula()
+        self.take(";")
+        assert self.peek() is None, f"{self.peek()} behind the goal"
+        return goal
 
     def macro(self, kind):
         name, parameters = self.take(), []
@@ -117,6 +131,11 @@ class Reader:
         if self.has("!"):
             inner = self.p_prefix()
             return lambda i: f"~{inner(i)}"
+        if self.peek() in ("-", "+"):
+            sign, inner, j = self.take(), self.p_prefix(), self.new("j")
+            if sign == "-":
+                return lambda i: f"(ex1 {j}: {j} + 1 = {i} & {inner(j)})"
+            return lambda i: f"(ex1 {j}: {j} = {i} + 1 & {j} <= last & {inner(j)})"
         if self.has("("):
             inner = self.proposition()
             self.take(")")
@@ -233,4 +252,4 @@ class Reader:
 
 if __name__ == "__main__":
     sys.setrecursionlimit(100_000)
-    print(Reader(open(sys.argv[1]).read()).file(), end="")
+    print(Reader(text_of(sys.argv[1])).file(), end="")

@@ -90,6 +90,35 @@ STUB_ERR='fault observer names at 56' STUB_STATUS=9 DCVALID=$work/stub "$here/ex
 [ $? -eq 9 ] || fail 'the status of an observer'
 grep -q 'line 3' "$work/err" || fail "the line of an observer: $(cat "$work/err")"
 
+# Files that could not be opened or read to their end. Which of two it was is not known, so both are named.
+# unread LINE NAMED WORDS..: the program's line, and the files as ./explain names them
+unread() {
+  local line=$1 named=$2
+  shift 2
+  if [ -x "$program" ]; then
+    [ "$("$program" "$@" 2>&1)" = "$line" ] || fail "the program on '$*'"
+  fi
+  STUB_ERR=$line STUB_STATUS=5 DCVALID=$work/stub "$here/explain" "$@" >"$work/out" 2>"$work/err"
+  [ $? -eq 5 ] || fail "the status of '$*'"
+  [ ! -s "$work/out" ] || fail "something on the output of '$*'"
+  grep -qF "The file $named could not be " "$work/err" || fail "the files of '$*': $(cat "$work/err")"
+}
+
+printf 'var p; infer <p>;' >"$work/text.dc"
+if [ -x "$program" ]; then "$program" c "$work/text.dc" >"$work/observer.c"; fi
+unread 'fault open' "$work/missing"                       check "$work/missing"
+unread 'fault read' "$work"                               check --states 5 "$work"
+unread 'fault open' "$work/text.dc or $work/missing"      implies "$work/text.dc" "$work/missing"
+unread 'fault open' "$work/missing or $work/text.dc"      implies "$work/missing" --nodes 9 "$work/text.dc"
+unread 'fault open' "$work/observer.c or $work/missing"   replay-c "$work/observer.c" "$work/missing"
+unread 'fault read' "$work/observer.c or $work"           replay-c "$work/observer.c" "$work"
+
+# What a replay had answered before its trace could not be read on stays.
+got=$(STUB_OUT='1\n0\n' STUB_ERR='fault read' STUB_STATUS=5 DCVALID=$work/stub "$here/explain" replay-c "$work/observer.c" "$work/trace" 2>"$work/err")
+[ $? -eq 5 ] || fail 'the status of a trace that could not be read'
+[ "$got" = $'  instant 0: the behaviour so far is accepted\n  instant 1: it is not' ] || fail "the answers before a read that failed: $got"
+grep -qF "The file $work/observer.c or $work/trace could not be read" "$work/err" || fail "what is said of a trace: $(cat "$work/err")"
+
 # Observers are programs: they are printed as they are, alone and in the text of all reports.
 for command in lustre c all; do
   got=$(STUB_OUT='--- c\nstatic int st;\n0\n' STUB_STATUS=1 DCVALID=$work/stub "$here/explain" "$command" "$work/text.dc" 2>&1)

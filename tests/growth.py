@@ -5,8 +5,8 @@
 
 A run with a growth refused has its answer, or status 7 with nothing on the output and the beginning of `fault memory` on the messages. One with an open or a
 read that failed has status 5, with nothing on the output but answers of a replay; one with a write that failed has status 6 and the beginning of its
-report. Reads and writes of one byte change nothing. The calls are counted and refused by tests/refusing.c, which needs a C compiler. Where a run has more calls than 600, every
-so manieth is refused.
+report. Reads and writes of one byte change nothing. The calls are counted and refused by tests/refusing.c, which needs a C compiler. Where a run has
+more than 600 calls of one of these kinds, every n-th of them alone is refused, so that at most 600 are.
 """
 import os
 import subprocess

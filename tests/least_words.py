@@ -4,6 +4,7 @@
     tests/least_words.py FILE [LENGTH]
 
 It shares no code with the program. Behaviours of more than LENGTH instants (6 if it is not given) are not tried: where none was found it says so.
+The text is taken to have no faults.
 """
 import functools
 import itertools
@@ -11,13 +12,16 @@ import os
 import sys
 
 sys.path.insert(0, os.path.join(os.path.dirname(os.path.abspath(__file__)), "..", "bench"))
-from to_mona import Reader  # only how a text is read; what it means is said here
+from to_mona import Reader, text_of  # only how a text is read; what it means is said here
 
 RELATIONS = {"=": lambda a, b: a == b, "<": lambda a, b: a < b, "<=": lambda a, b: a <= b, ">": lambda a, b: a > b, ">=": lambda a, b: a >= b}
 
 
 class Evaluator(Reader):
-    """Reads a formula file into tests: a proposition of a list of tracks and an instant, a formula of these and an interval."""
+    """Reads a formula file into tests: a proposition of a behaviour and an instant, a formula of a behaviour and an interval.
+
+    A behaviour is the number of its instants, the tracks of the declared variables, and those of the quantified ones in sight.
+    """
 
     def file(self):
         names = []
@@ -26,13 +30,14 @@ class Evaluator(Reader):
             while self.has(","):
                 names.append(self.take())
             self.take(";")
-        for slot, name in enumerate(names):
+        for slot, name in enumerate(names, 1):
             self.scope[name] = ("set", lambda w, i, slot=slot: w[slot][i])
         while self.peek() in ("define", "prop"):
             self.macro(self.take())
-        self.take("infer")
-        self.depth = len(names)
-        return names, self.formula()
+        self.depth = 1 + len(names)
+        goal = self.goal()
+        # e is the last instant of the whole behaviour
+        return names, lambda tracks, b, e: goal((e + 1, *tracks), b, e)
 
     def proposition(self):
         return self.list_of("<=>", self.p_imply, lambda a, c: lambda w, i: a(w, i) == c(w, i))
@@ -49,6 +54,9 @@ class Evaluator(Reader):
         if self.has("!"):
             inner = self.p_prefix()
             return lambda w, i: not inner(w, i)
+        if self.peek() in ("-", "+"):
+            step, inner = (-1 if self.take() == "-" else 1), self.p_prefix()
+            return lambda w, i: 0 <= i + step < w[0] and inner(w, i + step)
         if self.has("("):
             inner = self.proposition()
             self.take(")")
@@ -149,7 +157,7 @@ def least(width, length, test):
 
 
 def main():
-    names, goal = Evaluator(open(sys.argv[1]).read()).file()
+    names, goal = Evaluator(text_of(sys.argv[1])).file()
     length = int(sys.argv[2]) if len(sys.argv) > 2 else 6
     counterexample = least(len(names), length, lambda w, b, e: not goal(w, b, e))
     example = least(len(names), length, goal)

@@ -17,7 +17,7 @@ import tempfile
 
 here = os.path.dirname(os.path.abspath(__file__))
 sys.path.insert(0, here)
-from least_words import Evaluator
+from least_words import Evaluator, text_of
 
 FLAGS = ["-std=c99", "-Wall", "-Wextra", "-Werror", "-pedantic", "-Wno-unused-parameter"]
 DRAWN, LONGEST = 1000, 9
@@ -72,7 +72,7 @@ def answers(compiler, observer, width, behaviours, folder):
 
 def judge(path, folder):
     program = os.environ.get("PROGRAM") or os.path.join(here, "..", "crates/dcvalid/out/dcvalid")
-    names, goal = Evaluator(open(path).read()).file()
+    names, goal = Evaluator(text_of(path)).file()
     width = len(names)
     verdict, observer = run(program, "check", path).stdout, run(program, "c", path).stdout
     behaviours, wanted = [], []

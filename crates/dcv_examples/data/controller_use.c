@@ -33,7 +33,7 @@ int main(int count, char **words)
 
     printf("    %d     %d        %d       %d\n", ask_a, ask_b, grant_a, grant_b);
     if (!observer_step(ask_a, ask_b, grant_a, grant_b)) {
-      printf("broken at instant %ld\n", instant + 1);
+      printf("broken at instant %ld\n", instant);
       return 1;
     }
   }

@@ -1,6 +1,6 @@
 /*
  * Watches a system by the observer of response.dc. It reads an instant a line, `request` and `grant` as two digits, and tells where the
- * requirement is broken first:
+ * requirement is broken first, instants being counted from 0:
  *
  *     dcvalid c response.dc > observer.c
  *     cc -o watch watch_response.c observer.c
@@ -18,11 +18,11 @@ int main(void)
 
   observer_reset();
   while (scanf("%1d%1d", &request, &grant) == 2) {
-    instant = instant + 1;
     if (!observer_step(request, grant)) {
       printf("broken at instant %ld\n", instant);
       return 1;
     }
+    instant = instant + 1;
   }
   printf("kept for %ld instants\n", instant);
   return 0;
