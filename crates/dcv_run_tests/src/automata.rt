@@ -1,4 +1,4 @@
-// Runs of the command `automaton` with their whole output, and of both commands with limits that are met exactly and missed by one.
+// Runs of the command `automaton` with their whole output, and of `check` and `automaton` with limits that are met exactly and missed by one.
 // The suffixes of these texts are the only ones that there can be.
 use crate::runs::{SOMETIMES, WHOLE, expect};
 use std::test::Fail;

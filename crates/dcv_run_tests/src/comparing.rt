@@ -66,7 +66,7 @@ const MANY_COUNTED: &str = "var p, q; infer scount p = 199;";
 const MANY_OTHERS_COUNTED: &str = "var p, q; infer scount q = 199;";
 
 // Two files each, the limit of states, and what is answered.
-const COMPARISONS: [(&str, &str, &str, (u8, &str, &str)); 12] = [
+const COMPARISONS: [(&str, &str, &str, (u8, &str, &str)); 14] = [
     (
         "var p; infer <p>;",
         "var p; infer [[p]];",
@@ -102,6 +102,18 @@ const COMPARISONS: [(&str, &str, &str, (u8, &str, &str)); 12] = [
         "infer pt;",
         "30000",
         (3, "", "fault syntax at 8 in first\n"),
+    ),
+    (
+        "infer ex q. [[+q]];",
+        "infer pt;",
+        "30000",
+        (3, "", "fault shift at 14 in first\n"),
+    ),
+    (
+        "infer pt;",
+        "infer ex q. [[+q]];",
+        "30000",
+        (3, "", "fault shift at 14 in second\n"),
     ),
     // the second file is judged before the steps of the first are counted
     (
@@ -150,6 +162,23 @@ fn comparisons_of_files(rt: HostRuntime) -> Result<(), Fail> {
     for (first, second, states, wanted) in COMPARISONS {
         let words = ["implies", "f", "g", "--states", states];
         expect_of_two(&rt, alloc, &words, first, second, wanted)?;
+    }
+    Ok(())
+}
+
+// Where nothing is held under the second name, that is seen behind a first file without a fault alone.
+#[test]
+fn a_second_file_that_is_not_there(rt: HostRuntime) -> Result<(), Fail> {
+    for (first, wanted) in [
+        ("infer pt;", (5, "", "fault open\n")),
+        ("infer pt", (3, "", "fault syntax at 8 in first\n")),
+        (
+            "infer ex q. [[+q]];",
+            (3, "", "fault shift at 14 in first\n"),
+        ),
+    ] {
+        let words = ["implies", "f", "g"];
+        expect(&rt, rt.alloc(), &words, first.as_bytes(), &WHOLE, wanted)?;
     }
     Ok(())
 }

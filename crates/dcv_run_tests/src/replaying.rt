@@ -11,7 +11,7 @@ const UNKNOWN_NAME: &str = "node f(a: bool) returns (ok: bool); let ok = b; tel"
 
 const INPUT: &str = "node f(a: bool) returns (ok: bool); let ok = a; tel";
 
-// A node with a number that is too large, one whose condition is a number, and one with an equation twice.
+// A node with a number that is too large, one whose right side is a number, and one with an equation twice.
 const LARGE_NUMBER: &str = "node f(a: bool) returns (ok: bool); let ok = 32768; tel";
 
 const NUMBER: &str = "node f(a: bool) returns (ok: bool); let ok = 1; tel";

@@ -16,10 +16,10 @@ const ROOM: usize = 30_000;
 
 // What a run wrote, and its exit status.
 #[derive(Drop)]
-struct Ran {
-    status: u8,
-    out: Vec<u8>,
-    err: Vec<u8>,
+pub(crate) struct Ran {
+    pub(crate) status: u8,
+    pub(crate) out: Vec<u8>,
+    pub(crate) err: Vec<u8>,
 }
 
 // How the outside behaves: read sizes, write sizes, and the calls that fail.
@@ -41,7 +41,12 @@ pub(crate) const WHOLE: Outside<'static> = Outside {
 };
 
 // Runs the words, with the text held under the name `f`.
-fn run_of(alloc: Global, words: &[&str], text: &[u8], outside: &Outside) -> Result<Ran, AllocError>
+pub(crate) fn run_of(
+    alloc: Global,
+    words: &[&str],
+    text: &[u8],
+    outside: &Outside,
+) -> Result<Ran, AllocError>
     requires reads { All (λ size. 0 < size) outside.now.reads.now }
     requires writes { All (λ size. 0 < size) outside.now.writes.now }
 {
@@ -328,9 +333,9 @@ fn faults_of_names(rt: HostRuntime) -> Result<(), Fail> {
     Ok(())
 }
 
-// So many macros, each the one before it twice, and the last as the goal. Its lines begin as `define m001 as m000 && m000;`, with
+// So many macros, each the one before it twice, and one of them as the goal. Their lines begin as `define m001 as m000 && m000;`, with
 // as many digits as are asked for.
-fn doubled(alloc: Global, digits: usize, macros: u32) -> Result<String, AllocError> {
+fn doubled(alloc: Global, digits: usize, macros: u32, goal: u32) -> Result<String, AllocError> {
     let mut text = String::new(alloc);
     for number in 0..macros {
         if number == 0 {
@@ -343,10 +348,7 @@ fn doubled(alloc: Global, digits: usize, macros: u32) -> Result<String, AllocErr
             )?;
         }
     }
-    if macros > 0 {
-        let last = macros - 1;
-        write!(text, "infer m{last:0digits$};")?;
-    }
+    write!(text, "infer m{goal:0digits$};")?;
     Ok(text)
 }
 
@@ -379,8 +381,8 @@ fn nested(alloc: Global, count: usize) -> Result<String, AllocError> {
 fn faults_of_goals(rt: HostRuntime) -> Result<(), Fail> {
     let alloc = rt.alloc();
     for (text, err) in [
-        (doubled(alloc, 2, 30)?, "fault size at 778\n"),
-        (doubled(alloc, 3, 256)?, "fault size at 7420\n"),
+        (doubled(alloc, 2, 30, 29)?, "fault size at 778\n"),
+        (doubled(alloc, 3, 256, 255)?, "fault size at 7420\n"),
         (repeated(alloc, "[]", 171)?, "fault depth at 6\n"),
         (repeated(alloc, "ex a. ", 33)?, "fault slots at 6\n"),
     ] {
@@ -389,13 +391,13 @@ fn faults_of_goals(rt: HostRuntime) -> Result<(), Fail> {
     Ok(())
 }
 
-// The largest goals that are decided: of 49,151 nodes, as deep as may be, with as many slots as may be (a table over all letters
+// The largest goals that are decided: of 49,151 nodes, behind macros that would make it larger still and are not called, as deep as may be, with as many slots as may be (a table over all letters
 // would have 2^32 columns), and with as many parentheses as may be. All of them hold at one instant alone.
 #[test]
 fn goals_within_the_limits(rt: HostRuntime) -> Result<(), Fail> {
     let alloc = rt.alloc();
     for text in [
-        doubled(alloc, 2, 15)?,
+        doubled(alloc, 2, 30, 14)?,
         repeated(alloc, "[]", 170)?,
         repeated(alloc, "ex a. ", 32)?,
         nested(alloc, 500)?,
@@ -568,9 +570,12 @@ fn faults_of_long_texts(rt: HostRuntime) -> Result<(), Fail> {
     Ok(())
 }
 
-// Lists of words that no command takes.
-const NO_COMMANDS: [&[&str]; 24] = [
+// Lists of words that no command takes. A request for help is one of them.
+const NO_COMMANDS: [&[&str]; 27] = [
     &[],
+    &["--help"],
+    &["help"],
+    &["check", "--help"],
     &["check"],
     &["check", "-f"],
     &["check", "f", "g"],

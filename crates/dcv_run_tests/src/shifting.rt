@@ -1,6 +1,6 @@
 // Runs over prior and next propositions with their whole output. What is expected was worked out by hand, and counts of steps by
 // plain enumeration of letters.
-use crate::runs::{WHOLE, expect};
+use crate::runs::{WHOLE, expect, run_of};
 use std::test::Fail;
 
 const NEVER: &str = "not valid\nnot satisfiable\ncounterexample 1\n0\n";
@@ -8,7 +8,7 @@ const NEVER: &str = "not valid\nnot satisfiable\ncounterexample 1\n0\n";
 const EACH_LETTER: &str = "var p; infer [[-p]];";
 
 // Words, a text, and the status, the output and the message.
-const RUNS: [(&[&str], &str, (u8, &str, &str)); 9] = [
+const RUNS: [(&[&str], &str, (u8, &str, &str)); 8] = [
     (&["check", "f"], EACH_LETTER, (1, NEVER, "")),
     (
         &["check", "f", "--states", "3"],
@@ -35,19 +35,6 @@ const RUNS: [(&[&str], &str, (u8, &str, &str)); 9] = [
             state 0 reject n0\nstate 1 accept n1\nstate 2 reject n1\naccess 0 start 0\naccess 1 start 1\naccess 2 1 1\n\
             suffix 0 empty\nsuffix 1 1 0\nsteps 6\nstep 0 at 13 states 1 nodes 0\nstep 1 at 18 states 3 nodes 6\n\
             step 2 at 13 states 4 nodes 4\nstep 3 at 25 states 4 nodes 8\nstep 4 at 25 states 5 nodes 8\nstep 5 at 25 states 4 nodes 2\nend\n",
-            "",
-        ),
-    ),
-    // What comes next is looked at beyond the interval.
-    (
-        &["automaton", "f"],
-        "var p; infer (true^<+p>)^ext;",
-        (
-            1,
-            "automaton 2\nvariables p\nstates 3\nnode n0 p ? t2 : t1\nstate 0 reject t1\nstate 1 reject n0\nstate 2 accept t2\n\
-            access 0 empty\naccess 1 start 0\naccess 2 1 1\nsuffix 0 empty\nsuffix 1 0 0\nsuffix 2 1 0\n\
-            steps 8\nstep 0 at 14 states 1 nodes 0\nstep 1 at 19 states 3 nodes 2\nstep 2 at 14 states 4 nodes 2\nstep 3 at 25 states 3 nodes 0\n\
-            step 4 at 13 states 4 nodes 2\nstep 5 at 20 states 4 nodes 5\nstep 6 at 20 states 8 nodes 6\nstep 7 at 20 states 4 nodes 1\nend\n",
             "",
         ),
     ),
@@ -78,5 +65,25 @@ fn runs_over_shifts(rt: HostRuntime) -> Result<(), Fail> {
     for (words, text, outcome) in RUNS {
         expect(&rt, rt.alloc(), words, text.as_bytes(), &WHOLE, outcome)?;
     }
+    Ok(())
+}
+
+// The automaton of a formula, before its suffixes and behind them. Other suffixes than those that are listed would show as much.
+const BEFORE_SUFFIXES: &str =
+    "automaton 2\nvariables p\nstates 3\nnode n0 p ? t2 : t1\nstate 0 reject t1\nstate 1 reject n0\nstate 2 accept t2\n\
+access 0 empty\naccess 1 start 0\naccess 2 1 1\nsuffix 0 ";
+
+const BEHIND_SUFFIXES: &str =
+    "steps 8\nstep 0 at 14 states 1 nodes 0\nstep 1 at 19 states 3 nodes 2\nstep 2 at 14 states 4 nodes 2\nstep 3 at 25 states 3 nodes 0\n\
+step 4 at 13 states 4 nodes 2\nstep 5 at 20 states 4 nodes 5\nstep 6 at 20 states 8 nodes 6\nstep 7 at 20 states 4 nodes 1\nend\n";
+
+// What comes next is looked at beyond the interval.
+#[test]
+fn next_behind_an_interval(rt: HostRuntime) -> Result<(), Fail> {
+    let text = b"var p; infer (true^<+p>)^ext;";
+    let ran = run_of(rt.alloc(), &["automaton", "f"], text, &WHOLE)?;
+    assert_eq!(rt; ran.status, 1);
+    assert!(rt; ran.out.starts_with(BEFORE_SUFFIXES.as_bytes()));
+    assert!(rt; ran.out.ends_with(BEHIND_SUFFIXES.as_bytes()));
     Ok(())
 }

@@ -65,3 +65,33 @@ fn observers_that_are_too_long(rt: HostRuntime) -> Result<(), Fail> {
     }
     Ok(())
 }
+
+// One byte more than an automaton may have, and one more than a formula file.
+const MORE_THAN_AN_AUTOMATON: usize = 134_217_729;
+
+const MORE_THAN_A_FORMULA: usize = 262_145;
+
+#[test]
+fn automata_that_are_too_long(rt: HostRuntime) -> Result<(), Fail> {
+    let alloc = rt.alloc();
+    let mut files = Spaces::new(MORE_THAN_AN_AUTOMATON);
+    let wanted = (10, "", "fault automaton length\n");
+    expect_over(&rt, alloc, &["certify", "f"], &mut files, wanted)?;
+    expect_over(
+        &rt,
+        alloc,
+        &["convert", "f", "--to", "1"],
+        &mut files,
+        wanted,
+    )?;
+    Ok(())
+}
+
+// A second file is not asked for where the first is too long.
+#[test]
+fn first_files_that_are_too_long(rt: HostRuntime) -> Result<(), Fail> {
+    let mut files = Spaces::new(MORE_THAN_A_FORMULA);
+    let wanted = (3, "", "fault length at 262144 in first\n");
+    expect_over(&rt, rt.alloc(), &["implies", "f", "g"], &mut files, wanted)?;
+    Ok(())
+}
