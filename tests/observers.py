@@ -89,7 +89,7 @@ def judge(path, folder):
         wanted.append((len(word) - 1, "1" if goal(tracks, 0, len(word) - 1) else "0"))
     for compiler in filter(shutil.which, ("gcc", "clang")):
         got = answers(compiler, observer, width, behaviours, folder)
-        for word, line, (last, answer) in zip(behaviours, got, wanted):
+        for word, line, (last, answer) in zip(behaviours, got, wanted, strict=True):
             if line[last] != answer:
                 sys.exit(f"{path} by {compiler}: {answer} is wanted at the end of {' '.join(word)}, and the observer returned {line}")
     print(f"{os.path.basename(path)}: {len(behaviours)} behaviours, {sum(answer == '1' for _, answer in wanted)} of them satisfy it")

@@ -4,7 +4,7 @@ use dcv_certify::{Answer, certify};
 use std::alloc::Global;
 use std::test::Fail;
 
-// The words of one letter, in which the variable is true: the lines of the text before its suffixes, from `access 1` on, and before that.
+// The words of one letter, in which the variable is true: the lines of the text up to its states.
 const POINT: &[u8] = b"automaton 1\nvariables p\nstates 3\n\
     node n0 p ? t2 : t1\n\
     state 0 reject n0\nstate 1 reject t1\nstate 2 accept t1\n";

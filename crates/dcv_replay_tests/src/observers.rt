@@ -1,5 +1,9 @@
 // Observers of behaviours over `p` that is true throughout, and other nodes and units by their texts.
+ghost use Rattle.std.specs.Prelude.{◌≡◌, ◌≤◌, length, IfOk};
+ghost use Rattle.dcv_dfa.specs.Auto.{count_of_nodes};
+
 use dcv_c::CUnit;
+use dcv_dfa::Auto;
 use dcv_lustre::Node;
 use dcv_lustre_read::read;
 use dcv_minimise::minimise;
@@ -51,9 +55,31 @@ pub(crate) fn c(alloc: Global) -> Result<Replay, Fail> {
 
 fn unit_of(alloc: Global) -> Result<CUnit, Fail> {
     let names = one_name(alloc, b'p')?;
+    Ok(dcv_c::of_auto(alloc, &automaton(alloc)?, &names)?)
+}
+
+// Their automaton.
+fn automaton(alloc: Global) -> Result<Auto, Fail>
+    ensures slots { IfOk result (λ auto. auto.arena.slots ≡ 1) }
+    ensures states { IfOk result (λ auto. length auto.rows ≤ 2) }
+    ensures nodes { IfOk result (λ auto. count_of_nodes auto ≤ 2) }
+{
     let auto = minimise(alloc, raw_of_text(alloc, 1, "accept 1 0; reject 1 1", 0)?)?;
     if auto.slots() != 1 || auto.states() > 2 || auto.nodes() > 2 {
         return Err(Fail::new("another automaton"));
     }
-    Ok(dcv_c::of_auto(alloc, &auto, &names)?)
+    Ok(auto)
+}
+
+// The text of the observer in Lustre that is made of it.
+fn text_of_node(alloc: Global) -> Result<Vec<u8>, Fail> {
+    let names = one_name(alloc, b'p')?;
+    let node = dcv_lustre::of_auto(alloc, &automaton(alloc)?, &names)?;
+    Ok(dcv_lustre::text(alloc, &node)?)
+}
+
+#[test]
+fn the_node_of_an_automaton(rt: HostRuntime) -> Result<(), Fail> {
+    assert_eq!(rt; text_of_node(rt.alloc())?.as_slice(), ALWAYS);
+    Ok(())
 }
