@@ -5,7 +5,7 @@ ghost use Rattle.std.specs.Prelude.{◌≡◌, ◌≤◌, IfOk};
 use crate::goals::{LIMITS, core_of_file, file_of};
 use dcv_build::build;
 use dcv_dfa::Auto;
-use dcv_logic::holds;
+use dcv_evaluator::holds;
 use dcv_syntax::File;
 use dcv_tables::{behaviour, letter_of};
 use dcv_word::Word;

@@ -1,5 +1,5 @@
 // Goals, and on which behaviours of one variable each is true, worked out by hand from the meaning of each form.
-use dcv_logic::holds;
+use dcv_evaluator::holds;
 use dcv_reader::read_file;
 use dcv_syntax::File;
 use dcv_tables::behaviour;

@@ -1,6 +1,6 @@
 // The recipes of the language's page for which it shows two behaviours, with the small numbers that it gives there, and formulas of its
 // first sections: each with a behaviour that satisfies it and one that does not, worked out by hand.
-use dcv_logic::holds;
+use dcv_evaluator::holds;
 use dcv_reader::read_file;
 use dcv_syntax::File;
 use dcv_tables::word_of;
