@@ -7,8 +7,8 @@ use Rattle.dcv_apply.specs.declared.keys.Key.{Key}
 use Rattle.dcv_apply.proofs.MemoFacts.{parts_keep}
 use Rattle.dcv_apply.proofs.memo.Memo.forget_lists.Goals as goal
 
-pub returns-then-clause-kept : goal.returns-then-clause-kept
-returns-then-clause-kept c one there =
+pub returns-then-self-gt-MOST_OPERANDS-clause-kept : goal.returns-then-self-gt-MOST_OPERANDS-clause-kept
+returns-then-self-gt-MOST_OPERANDS-clause-kept c one there =
     let young = map entry_of_pair c.self.inside.younger.entries in
     let old = map entry_of_pair c.self.inside.older.entries in
     let first = map entry_of c.self.inside.first.entries in
