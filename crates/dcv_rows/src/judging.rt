@@ -1,0 +1,98 @@
+// Runs the words of a row over its files, and compares what came with what is wanted.
+use crate::fault::Fault;
+use crate::pattern::Pattern;
+use crate::row::Row;
+use dcv_cli::{Words, run};
+use dcv_io::{MemFiles, MemSink};
+use std::alloc::{AllocError, Global};
+
+// Room for each report and each message, in bytes.
+const ROOM: usize = 1_048_576;
+
+// What a run wrote, and its exit status.
+#[derive(Drop)]
+struct Ran {
+    status: u8,
+    out: MemSink,
+    err: MemSink,
+}
+
+/// Whether the row holds. Where it does not it is told why.
+pub(crate) fn judge(rt: &HostRuntime, row: &Row) -> Result<bool, Fault> {
+    if let Some(line) = &row.refused {
+        println!(rt; "{}: no line of a row: {line}", row.title)?;
+        return Ok(false);
+    }
+    let (Some(words), Some(status)) = (&row.words, row.status) else {
+        println!(rt; "{}: no words or no status", row.title)?;
+        return Ok(false);
+    };
+    let ran = run_words(rt.alloc(), words, row)?;
+    let holds = ran.status == status && fits(&row.out, &ran.out) && fits(&row.err, &ran.err);
+    if !holds {
+        tell(rt, row, status, &ran)?;
+    }
+    Ok(holds)
+}
+
+// Runs the words over the files of the row.
+fn run_words(alloc: Global, words: &Words, row: &Row) -> Result<Ran, AllocError> {
+    let mut files = files_of(alloc, row)?;
+    let mut out = MemSink::new(alloc, ROOM, &[], &[])?;
+    let mut err = MemSink::new(alloc, ROOM, &[], &[])?;
+    let status = run(alloc, words, &mut files, &mut out, &mut err);
+    Ok(Ran {
+        status: status.code(),
+        out,
+        err,
+    })
+}
+
+// The files of the row, under the names `f` and `g`.
+fn files_of(alloc: Global, row: &Row) -> Result<MemFiles, AllocError> {
+    let mut files = MemFiles::new(alloc, &[], &[])?;
+    match (&row.first, &row.second) {
+        (Some(first), Some(second)) => {
+            files.hold("f", &first.front)?;
+            files.hold("g", &second.front)?;
+        }
+        (Some(first), None) => files.hold("f", &first.front)?,
+        (None, Some(second)) => files.hold("g", &second.front)?,
+        (None, None) => {}
+    }
+    Ok(files)
+}
+
+// Whether just what is wanted was written. Where nothing is said of it, that is nothing.
+fn fits(wanted: &Option<Pattern>, sink: &MemSink) -> bool {
+    match wanted {
+        Some(pattern) => pattern.fits(sink.written()),
+        None => sink.written().is_empty(),
+    }
+}
+
+// Tells of a row that does not hold.
+fn tell(rt: &HostRuntime, row: &Row, status: u8, ran: &Ran) -> Result<(), Fault> {
+    let alloc = rt.alloc();
+    println!(rt; "{}: does not hold", row.title)?;
+    let out = shown(alloc, &row.out)?;
+    let err = shown(alloc, &row.err)?;
+    println!(rt; "  wanted: status {status}, out {out}, err {err}")?;
+    let out = String::from_utf8_lossy(alloc, ran.out.written())?;
+    let err = String::from_utf8_lossy(alloc, ran.err.written())?;
+    println!(rt; "  came: status {}, out {out:?}, err {err:?}", ran.status)?;
+    Ok(())
+}
+
+// What is wanted of a text, as a quoted text, or as two with a gap between them.
+fn shown(alloc: Global, wanted: &Option<Pattern>) -> Result<String, AllocError> {
+    let Some(pattern) = wanted else {
+        return String::from_str(alloc, "\"\"");
+    };
+    let front = String::from_utf8_lossy(alloc, &pattern.front)?;
+    let Some(back) = &pattern.back else {
+        return format!(in alloc; "{front:?}");
+    };
+    let back = String::from_utf8_lossy(alloc, back)?;
+    format!(in alloc; "{front:?} .. {back:?}")
+}

@@ -1,0 +1,133 @@
+// A row, line by line.
+use crate::pattern::Pattern;
+use dcv_cli::Words;
+use std::alloc::{AllocError, Global};
+
+/// A row: words, the files that are held, and what is wanted of the run.
+#[derive(Drop)]
+pub(crate) struct Row {
+    alloc: Global,
+    pub(crate) title: String,
+    pub(crate) words: Option<Words>,
+    pub(crate) first: Option<Pattern>,
+    pub(crate) second: Option<Pattern>,
+    pub(crate) status: Option<u8>,
+    pub(crate) out: Option<Pattern>,
+    pub(crate) err: Option<Pattern>,
+    pub(crate) refused: Option<String>,
+    section: Option<Section>,
+}
+
+// What the next piece is added to.
+#[derive(Clone, Copy)]
+enum Section {
+    First,
+    Second,
+    Out,
+    Err,
+}
+
+/// Whether the line is for the reader alone.
+pub(crate) fn is_remark(line: &str) -> bool {
+    line.is_empty() || line == "#" || line.starts_with("# ")
+}
+
+impl Row {
+    /// A row of which the title alone is there.
+    pub(crate) fn new(alloc: Global, title: &str) -> Result<Row, AllocError> {
+        Ok(Row {
+            alloc,
+            title: String::from_str(alloc, title)?,
+            words: None,
+            first: None,
+            second: None,
+            status: None,
+            out: None,
+            err: None,
+            refused: None,
+            section: None,
+        })
+    }
+
+    /// Adds a line. The first that is none of a row is kept as such.
+    pub(crate) fn add_line(&mut self, line: &str) -> Result<(), AllocError> {
+        let added = if let Some(words) = line.strip_prefix('$') {
+            self.set_words(words)?
+        } else if let Some(status) = line.strip_prefix("status ") {
+            self.set_status(status)
+        } else if let Some(section) = section_of(line) {
+            self.begin(section)
+        } else {
+            is_remark(line) || self.add_piece(line)?
+        };
+        if added { Ok(()) } else { self.refuse(line) }
+    }
+
+    /// Keeps the line as one that is none of a row, if it is the first.
+    pub(crate) fn refuse(&mut self, line: &str) -> Result<(), AllocError> {
+        if self.refused.is_none() {
+            self.refused = Some(String::from_str(self.alloc, line)?);
+        }
+        Ok(())
+    }
+
+    // Sets the words, if there are none yet.
+    fn set_words(&mut self, line: &str) -> Result<bool, AllocError> {
+        let mut words = Words::new(self.alloc);
+        for word in line.split_whitespace() {
+            words.push(word)?;
+        }
+        let added = self.words.is_none();
+        self.words = Some(words);
+        Ok(added)
+    }
+
+    // Sets the status, if it is a number and there is none yet.
+    fn set_status(&mut self, digits: &str) -> bool {
+        let added = self.status.is_none();
+        self.status = digits.parse().ok();
+        added && self.status.is_some()
+    }
+
+    // Begins a text that is not there yet.
+    fn begin(&mut self, section: Section) -> bool {
+        let pattern = Pattern::new(self.alloc);
+        let text = self.text_of(section);
+        let added = text.is_none();
+        *text = Some(pattern);
+        self.section = Some(section);
+        added
+    }
+
+    // Adds a piece to the text that has begun. The bytes of a file have no gap.
+    fn add_piece(&mut self, piece: &str) -> Result<bool, AllocError> {
+        let Some(section) = self.section else {
+            return Ok(false);
+        };
+        let is_wanted = matches!(section, Section::Out | Section::Err);
+        match self.text_of(section) {
+            Some(text) if is_wanted || piece != ".." => text.add_line(piece),
+            _ => Ok(false),
+        }
+    }
+
+    fn text_of(&mut self, section: Section) -> &mut Option<Pattern> {
+        match section {
+            Section::First => &mut self.first,
+            Section::Second => &mut self.second,
+            Section::Out => &mut self.out,
+            Section::Err => &mut self.err,
+        }
+    }
+}
+
+// The text that begins behind this line, if one does.
+fn section_of(line: &str) -> Option<Section> {
+    match line {
+        "f:" => Some(Section::First),
+        "g:" => Some(Section::Second),
+        "out:" => Some(Section::Out),
+        "err:" => Some(Section::Err),
+        _ => None,
+    }
+}

@@ -1,0 +1,90 @@
+#!/usr/bin/env python3
+"""Runs the rows of files in crates/dcv_rows/data with the program as a process, over real files, by hand while rows are written:
+
+    DCVALID=PROGRAM tests/rows.py FILE ..
+
+The head of `runs.rows` says how a row is written. The gate runs them by `dcv_rows`.
+"""
+import os
+import subprocess
+import sys
+import tempfile
+
+PROGRAM = os.path.abspath(os.environ.get("DCVALID", "./dcvalid"))
+TEXTS = ("f:", "g:", "out:", "err:")
+
+
+def rows_of(path):
+    """Each title of the file with its lines. The file has no line without an end."""
+    rows = []
+    for line in open(path).read().removesuffix("\n").split("\n"):
+        if line.startswith("## "):
+            rows.append((line[3:], []))
+        elif line and line != "#" and not line.startswith("# "):
+            if not rows:
+                sys.exit(f"{path}: before the first row: {line}")
+            rows[-1][1].append(line)
+    return rows
+
+
+def piece(line):
+    """The bytes of a piece."""
+    count = 1
+    if line.startswith("*"):
+        count, line = line[1:].split(" ", 1)
+    if line[0] not in "^>|":
+        raise ValueError
+    text = bytes.fromhex(line[1:]) if line[0] == "^" else line[1:].encode()
+    return (text + b"\n" if line[0] == "|" else text) * int(count)
+
+
+def read(lines):
+    """The words, the status, and the texts by their names, each a list of bytes with a gap between every two."""
+    words, status, texts, current = None, None, {}, None
+    for line in lines:
+        if line.startswith("$") and words is None:
+            words = line[1:].split()
+        elif line.startswith("status ") and status is None:
+            status = int(line[7:])
+        elif line in TEXTS and line not in texts:
+            current = texts[line] = [b""]
+        elif line == ".." and any(current is texts.get(name) for name in ("out:", "err:")) and current and len(current) == 1:
+            current.append(b"")
+        elif current is not None:
+            current[-1] += piece(line)
+        else:
+            raise ValueError
+    if words is None or status is None:
+        raise ValueError
+    return words, status, texts
+
+
+def fits(wanted, came):
+    if len(wanted) == 1:
+        return came == wanted[0]
+    return len(came) > len(wanted[0] + wanted[1]) and came.startswith(wanted[0]) and came.endswith(wanted[1])
+
+
+def holds(lines):
+    try:
+        words, status, texts = read(lines)
+    except (ValueError, IndexError):
+        return False, "malformed"
+    with tempfile.TemporaryDirectory() as room:
+        for name in "fg":
+            if name + ":" in texts:
+                open(f"{room}/{name}", "wb").write(texts[name + ":"][0])
+        ran = subprocess.run([PROGRAM, *words], cwd=room, capture_output=True, stdin=subprocess.DEVNULL)
+    held = ran.returncode == status and fits(texts.get("out:", [b""]), ran.stdout) and fits(texts.get("err:", [b""]), ran.stderr)
+    return held, f"{ran.returncode} {ran.stdout} {ran.stderr}"
+
+
+for path in sys.argv[1:]:
+    rows = rows_of(path)
+    held = 0
+    for title, lines in rows:
+        good, came = holds(lines)
+        held += good
+        if not good:
+            print(f"{title}: {came}")
+    print(f"{os.path.basename(path)}: {held} of {len(rows)} rows hold")
