@@ -3,13 +3,13 @@ use crate::goals::file_of;
 use dcv_logic::holds;
 use dcv_syntax::File;
 use dcv_tables::behaviour;
-use std::alloc::Global;
+use std::alloc::{AllocError, Global};
 use std::test::Fail;
 
 // Whether the goal of a file holds on the behaviour of one variable with these truths.
-fn holds_on(alloc: Global, file: &File, truths: &str) -> Result<bool, Fail> {
+fn holds_on(alloc: Global, file: &File, truths: &str) -> Result<bool, AllocError> {
     let word = behaviour(alloc, truths)?;
-    Ok(holds(alloc, file, &word)?)
+    holds(alloc, file, &word)
 }
 
 #[test]
