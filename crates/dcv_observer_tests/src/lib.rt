@@ -1,7 +1,8 @@
-//! Tests of observers in the subsets of other languages, through public calls alone. The expected values were worked out by hand.
+//! Tests of the calls on observers that no run of the program makes: the trees of an automaton's observers, and the texts of trees. The texts
+//! were worked out by hand.
 #![tactic(auto)]
 
 #[cfg(test)]
-mod c;
+mod made;
 #[cfg(test)]
-mod lustre;
+mod read_back;

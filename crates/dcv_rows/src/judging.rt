@@ -1,4 +1,6 @@
 // Runs the words of a row over its files, and compares what came with what is wanted.
+ghost use Rattle.std.specs.Prelude.{◌<◌, All, IfOk};
+
 use crate::fault::Fault;
 use crate::pattern::Pattern;
 use crate::row::Row;
@@ -7,7 +9,10 @@ use dcv_io::{MemFiles, MemSink};
 use std::alloc::{AllocError, Global};
 
 // Room for each report and each message, in bytes.
-const ROOM: usize = 1_048_576;
+const ROOM: usize = 2_097_152;
+
+// How many reads or writes in turn are short, where they are.
+const SHORT: usize = 1_024;
 
 // What a run wrote, and its exit status.
 #[derive(Drop)]
@@ -23,12 +28,14 @@ pub(crate) fn judge(rt: &HostRuntime, row: &Row) -> Result<bool, Fault> {
         println!(rt; "{}: no line of a row: {line}", row.title)?;
         return Ok(false);
     }
-    let (Some(words), Some(status)) = (&row.words, row.status) else {
+    let (Some(words), Some(status)) = (&row.words, row.numbers.status) else {
         println!(rt; "{}: no words or no status", row.title)?;
         return Ok(false);
     };
     let ran = run_words(rt.alloc(), words, row)?;
-    let holds = ran.status == status && fits(&row.out, &ran.out) && fits(&row.err, &ran.err);
+    let holds = u64::from(ran.status) == status
+        && fits(&row.out, &ran.out)
+        && fits(&row.err, &ran.err);
     if !holds {
         tell(rt, row, status, &ran)?;
     }
@@ -38,8 +45,8 @@ pub(crate) fn judge(rt: &HostRuntime, row: &Row) -> Result<bool, Fault> {
 // Runs the words over the files of the row.
 fn run_words(alloc: Global, words: &Words, row: &Row) -> Result<Ran, AllocError> {
     let mut files = files_of(alloc, row)?;
-    let mut out = MemSink::new(alloc, ROOM, &[], &[])?;
-    let mut err = MemSink::new(alloc, ROOM, &[], &[])?;
+    let mut out = sink(alloc, row.numbers.writes, row.numbers.failing_write)?;
+    let mut err = sink(alloc, None, row.numbers.failing_message)?;
     let status = run(alloc, words, &mut files, &mut out, &mut err);
     Ok(Ran {
         status: status.code(),
@@ -50,7 +57,8 @@ fn run_words(alloc: Global, words: &Words, row: &Row) -> Result<Ran, AllocError>
 
 // The files of the row, under the names `f` and `g`.
 fn files_of(alloc: Global, row: &Row) -> Result<MemFiles, AllocError> {
-    let mut files = MemFiles::new(alloc, &[], &[])?;
+    let sizes = sizes(alloc, row.numbers.reads)?;
+    let mut files = MemFiles::new(alloc, &sizes, row.numbers.failing_call.as_slice())?;
     match (&row.first, &row.second) {
         (Some(first), Some(second)) => {
             files.hold("f", &first.front)?;
@@ -63,6 +71,22 @@ fn files_of(alloc: Global, row: &Row) -> Result<MemFiles, AllocError> {
     Ok(files)
 }
 
+// A sink that takes at most so many bytes a write, and of which this write fails.
+fn sink(alloc: Global, writes: Option<u64>, failing: Option<u64>) -> Result<MemSink, AllocError> {
+    let sizes = sizes(alloc, writes)?;
+    MemSink::new(alloc, ROOM, &sizes, failing.as_slice())
+}
+
+// The sizes of reads or writes in turn, if they are short.
+fn sizes(alloc: Global, most: Option<u64>) -> Result<Vec<usize>, AllocError>
+    ensures { IfOk result (λ sizes. All (λ size. 0 < size) sizes.items) }
+{
+    match most {
+        Some(most) if most > 0 => vec![in alloc; most as usize; SHORT],
+        _ => Ok(Vec::new(alloc)),
+    }
+}
+
 // Whether just what is wanted was written. Where nothing is said of it, that is nothing.
 fn fits(wanted: &Option<Pattern>, sink: &MemSink) -> bool {
     match wanted {
@@ -72,7 +96,7 @@ fn fits(wanted: &Option<Pattern>, sink: &MemSink) -> bool {
 }
 
 // Tells of a row that does not hold.
-fn tell(rt: &HostRuntime, row: &Row, status: u8, ran: &Ran) -> Result<(), Fault> {
+fn tell(rt: &HostRuntime, row: &Row, status: u64, ran: &Ran) -> Result<(), Fault> {
     let alloc = rt.alloc();
     println!(rt; "{}: does not hold", row.title)?;
     let out = shown(alloc, &row.out)?;

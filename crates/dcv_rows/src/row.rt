@@ -11,11 +11,23 @@ pub(crate) struct Row {
     pub(crate) words: Option<Words>,
     pub(crate) first: Option<Pattern>,
     pub(crate) second: Option<Pattern>,
-    pub(crate) status: Option<u8>,
+    pub(crate) numbers: Numbers,
     pub(crate) out: Option<Pattern>,
     pub(crate) err: Option<Pattern>,
     pub(crate) refused: Option<String>,
     section: Option<Section>,
+}
+
+/// The status that is wanted, at most how many bytes each read and each write moves, and which call of the files, write of the report and
+/// write of the message fails.
+#[derive(Clone, Copy, Default)]
+pub(crate) struct Numbers {
+    pub(crate) status: Option<u64>,
+    pub(crate) reads: Option<u64>,
+    pub(crate) writes: Option<u64>,
+    pub(crate) failing_call: Option<u64>,
+    pub(crate) failing_write: Option<u64>,
+    pub(crate) failing_message: Option<u64>,
 }
 
 // What the next piece is added to.
@@ -41,7 +53,7 @@ impl Row {
             words: None,
             first: None,
             second: None,
-            status: None,
+            numbers: Numbers::default(),
             out: None,
             err: None,
             refused: None,
@@ -53,8 +65,10 @@ impl Row {
     pub(crate) fn add_line(&mut self, line: &str) -> Result<(), AllocError> {
         let added = if let Some(words) = line.strip_prefix('$') {
             self.set_words(words)?
-        } else if let Some(status) = line.strip_prefix("status ") {
-            self.set_status(status)
+        } else if let Some((name, digits)) = line.rsplit_once(' ')
+            && let Some(number) = self.numbers.of_name(name)
+        {
+            set(number, digits)
         } else if let Some(section) = section_of(line) {
             self.begin(section)
         } else {
@@ -80,13 +94,6 @@ impl Row {
         let added = self.words.is_none();
         self.words = Some(words);
         Ok(added)
-    }
-
-    // Sets the status, if it is a number and there is none yet.
-    fn set_status(&mut self, digits: &str) -> bool {
-        let added = self.status.is_none();
-        self.status = digits.parse().ok();
-        added && self.status.is_some()
     }
 
     // Begins a text that is not there yet.
@@ -119,6 +126,27 @@ impl Row {
             Section::Err => &mut self.err,
         }
     }
+}
+
+impl Numbers {
+    fn of_name(&mut self, name: &str) -> Option<&mut Option<u64>> {
+        match name {
+            "status" => Some(&mut self.status),
+            "reads" => Some(&mut self.reads),
+            "writes" => Some(&mut self.writes),
+            "failing call" => Some(&mut self.failing_call),
+            "failing write" => Some(&mut self.failing_write),
+            "failing message" => Some(&mut self.failing_message),
+            _ => None,
+        }
+    }
+}
+
+// Sets a number, if it is not there yet, and these are the digits of one.
+fn set(number: &mut Option<u64>, digits: &str) -> bool {
+    let added = number.is_none();
+    *number = digits.parse().ok();
+    added && number.is_some()
 }
 
 // The text that begins behind this line, if one does.

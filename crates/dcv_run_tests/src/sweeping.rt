@@ -1,24 +1,41 @@
-// Runs of the command `sweep`, with their whole output. The first summary was worked out by hand, the second by `tests/sweeps.py`.
-use crate::runs::{WHOLE, expect};
+// Drawn formulas of which some step is over the limits: fewer states than the command line takes for any formula.
+use dcv_explore::Limits;
+use dcv_io::Text;
+use dcv_sweep::sweep;
+use std::alloc::Global;
 use std::test::Fail;
 
-// `<!y>` has the states of the empty word, of one instant without y, and of all else.
-const ONE_FORMULA: &str = "formulas 1\nvalid 0\nsatisfiable 1\nover 0\nstates 3\n";
+// The table of `<!y>`, the first formula, has three states, and each machine has its start.
+const SMALL: [(u32, u32, &str); 2] = [
+    (
+        1,
+        2,
+        "formulas 1\nvalid 0\nsatisfiable 0\nover 1\nstates 0\n",
+    ),
+    (
+        10,
+        0,
+        "formulas 10\nvalid 0\nsatisfiable 0\nover 10\nstates 0\n",
+    ),
+];
 
-const MANY_FORMULAS: &str = "formulas 200\nvalid 11\nsatisfiable 190\nover 0\nstates 1587\n";
-
-#[test]
-fn the_first_formula_of_seed_0(rt: HostRuntime) -> Result<(), Fail> {
-    let words = ["sweep", "0", "1"];
-    expect(&rt, rt.alloc(), &words, b"", &WHOLE, (0, ONE_FORMULA, ""))?;
-    Ok(())
+// The lines of the summary of so many formulas of seed 0.
+fn lines(alloc: Global, count: u32, states: u32) -> Result<Vec<u8>, Fail> {
+    let limits = Limits {
+        states,
+        nodes: 1_000_000,
+    };
+    let summary = sweep(alloc, 0, count, limits)?;
+    let mut text = Text::new(alloc);
+    summary.put(&mut text);
+    Ok(text.finish()?)
 }
 
 #[test]
-fn two_summaries_are_the_same(rt: HostRuntime) -> Result<(), Fail> {
-    for _ in 0..2 {
-        let words = ["sweep", "7", "200"];
-        expect(&rt, rt.alloc(), &words, b"", &WHOLE, (0, MANY_FORMULAS, ""))?;
+fn formulas_over_the_limits(rt: HostRuntime) -> Result<(), Fail> {
+    for (count, states, expected) in SMALL {
+        let lines = lines(rt.alloc(), count, states)?;
+        assert_eq!(rt; lines.as_slice(), expected.as_bytes(), "{states}");
     }
     Ok(())
 }
