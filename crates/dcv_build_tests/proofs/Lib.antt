@@ -1,1 +1,2 @@
 mod Cores
+mod FewCounts

@@ -2,15 +2,14 @@
 ghost use Rattle.std.specs.Prelude.{IfOk};
 ghost use Rattle.dcv_build.specs.Given.{IsCore};
 
-use dcv_build::{BuildFault, build};
+use dcv_build::build;
 use dcv_core::Core;
 use dcv_dfa::Auto;
 use dcv_explore::Limits;
 use dcv_reader::read_file;
 use dcv_scope::expand;
 use dcv_syntax::File;
-use std::alloc::{AllocError, Global};
-use std::fmt::Write;
+use std::alloc::Global;
 use std::test::Fail;
 
 // More than any goal here needs that is not about limits.
@@ -42,39 +41,8 @@ pub(crate) fn core_of(alloc: Global, text: &str) -> Result<Core, Fail>
     core_of_file(alloc, &file)
 }
 
-// The automaton of a text within these limits, or the step that is over them.
-pub(crate) fn built(
-    alloc: Global,
-    text: &str,
-    limits: Limits,
-) -> Result<Result<Auto, BuildFault>, Fail> {
-    let core = core_of(alloc, text)?;
-    Ok(build(alloc, &core, limits))
-}
-
 // The automaton of a text.
 pub(crate) fn auto_of(alloc: Global, text: &str) -> Result<Auto, Fail> {
-    Ok(built(alloc, text, LIMITS)??)
-}
-
-// A goal behind so many quantifiers, whose variables are `a0`, `a1` and so on.
-pub(crate) fn quantified(alloc: Global, variables: u32, goal: &str) -> Result<String, AllocError> {
-    let mut text = String::new(alloc);
-    text.push_str("infer ")?;
-    for number in 0..variables {
-        write!(text, "ex a{number}. ")?;
-    }
-    write!(text, "{goal};")?;
-    Ok(text)
-}
-
-// So many of these variables at each instant, as `[[a0 && a1 && a2]]`.
-pub(crate) fn conjunction(alloc: Global, variables: u32) -> Result<String, AllocError> {
-    let mut text = String::new(alloc);
-    for number in 0..variables {
-        let join = if number == 0 { "[[" } else { " && " };
-        write!(text, "{join}a{number}")?;
-    }
-    text.push_str("]]")?;
-    Ok(text)
+    let core = core_of(alloc, text)?;
+    Ok(build(alloc, &core, LIMITS)?)
 }

@@ -1,5 +1,5 @@
-//! Tests of atoms, builds and verdicts through public calls alone: that the calls succeed, with which rows, within which limits. The
-//! expected values were worked out by hand, or come from the plain evaluator of `dcv_logic`.
+//! Tests of atoms, builds, printed texts and the plain evaluator through public calls alone, where neither a clause nor a row of `dcv_rows` shows it: that calls
+//! succeed which the program does not make, and how often a builder explores. The expected values were worked out by hand.
 #![tactic(auto)]
 
 #[cfg(test)]
@@ -7,18 +7,12 @@ mod atoms;
 #[cfg(test)]
 mod builders;
 #[cfg(test)]
-mod canonical;
+mod copies;
 #[cfg(test)]
 mod goals;
-#[cfg(test)]
-mod limits;
-#[cfg(test)]
-mod machines;
 #[cfg(test)]
 mod meanings;
 #[cfg(test)]
 mod memos;
 #[cfg(test)]
-mod shifts;
-#[cfg(test)]
-mod verdicts;
+mod printed;

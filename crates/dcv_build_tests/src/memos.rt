@@ -1,17 +1,16 @@
 // An atom explored with memos of two capacities: what the smaller has forgotten is merged again, and comes to the same automaton.
-ghost use Rattle.std.specs.Prelude.{◌≡◌, ◌≤◌, length};
+ghost use Rattle.std.specs.Prelude.{◌≤◌};
 
 use crate::atoms::atom_of;
 use crate::goals::core_of;
 use dcv_apply::Memo;
-use dcv_arena::{Arena, Ref};
-use dcv_dfa::Raw;
 use dcv_explore::{Limits, explore_with};
-use std::alloc::{AllocError, Global};
+use dcv_tables::text_of;
+use std::alloc::Global;
 use std::test::Fail;
 
-// The automaton of an atom of 9 states and 4 nodes, and how many entries a memo of this capacity has then.
-fn explored(alloc: Global, capacity: usize) -> Result<(Raw, usize), Fail>
+// The text of the automaton of an atom of 9 states and 4 nodes, how many nodes its rows have, and how many entries a memo of this capacity has then.
+fn explored(alloc: Global, capacity: usize) -> Result<(String, u32, usize), Fail>
     requires { 1 ≤ capacity }
 {
     let core = core_of(alloc, "var p; infer sdur p >= 2;")?;
@@ -22,52 +21,19 @@ fn explored(alloc: Global, capacity: usize) -> Result<(Raw, usize), Fail>
         nodes: 4,
     };
     let raw = explore_with(alloc, &atom, limits, &mut memo)?;
-    Ok((raw, memo.len()))
+    Ok((text_of(alloc, &raw)?, raw.arena().len(), memo.len()))
 }
 
-// The slots of an arena's nodes, in order, with their children.
-fn nodes_of(alloc: Global, arena: &Arena) -> Result<Vec<(u8, Ref, Ref)>, AllocError> {
-    let mut nodes = Vec::new(alloc);
-    for place in 0..arena.len() {
-        let root = Ref::Place(place);
-        let slot = arena.level(root);
-        let (lo, hi) = arena.split(root, slot);
-        nodes.push((slot, lo, hi))?;
-    }
-    Ok(nodes)
-}
-
-// The flags of the states, in order.
-fn flags_of(alloc: Global, raw: &Raw) -> Result<Vec<bool>, AllocError> {
-    let mut flags = Vec::new(alloc);
-    for state in 0..raw.states() {
-        flags.push(raw.accepting(state))?;
-    }
-    Ok(flags)
-}
-
-// Whether two automata have one start, the same rows and flags, and the same nodes.
-fn are_same(alloc: Global, one: &Raw, other: &Raw) -> Result<bool, AllocError> {
-    let flags = (flags_of(alloc, one)?, flags_of(alloc, other)?);
-    let nodes = (
-        nodes_of(alloc, one.arena())?,
-        nodes_of(alloc, other.arena())?,
-    );
-    Ok(
-        one.start() == other.start()
-            && one.rows() == other.rows()
-            && flags.0 == flags.1
-            && nodes.0 == nodes.1,
-    )
-}
+// The states are the start, and behind it what was counted and the last truth: (0, 0), (0, 1), (1, 0), (1, 1) and so on up to (3, 1).
+const TABLE: &str = "reject 1 2; reject 1 2; reject 3 4; reject 3 4; reject 5 6; accept 5 6; accept 7 8; accept 7 8; accept 7 8";
 
 #[test]
 fn one_entry_and_many(rt: HostRuntime) -> Result<(), Fail> {
     let alloc = rt.alloc();
-    let (one, entry) = explored(alloc, 1)?;
-    let (other, entries) = explored(alloc, 65_536)?;
-    assert!(rt; entry >= 1 && entries >= 1);
-    assert_eq!(rt; (one.states(), one.arena().len()), (9, 4));
-    assert!(rt; are_same(alloc, &one, &other)?);
+    for capacity in [1, 65_536] {
+        let (text, nodes, entries) = explored(alloc, capacity)?;
+        assert_eq!(rt; text.as_str(), TABLE);
+        assert!(rt; nodes == 4 && entries >= 1);
+    }
     Ok(())
 }

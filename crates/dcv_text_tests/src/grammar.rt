@@ -145,38 +145,6 @@ fn depth_of(alloc: Global, tokens: &[u8]) -> Result<Result<u8, usize>, AllocErro
 }
 
 #[test]
-fn finds_the_first_fault(rt: HostRuntime) -> Result<(), Fail> {
-    let table: [(&[u8], Option<usize>); 12] = [
-        (&[NAME], None),
-        (&[OPEN, NAME, CLOSE], None),
-        (
-            &[OPEN, NAME, COMMA, OPEN, NAME, CLOSE, COMMA, NAME, CLOSE],
-            None,
-        ),
-        (&[], Some(0)),
-        (&[CLOSE], Some(0)),
-        (&[9], Some(0)),
-        (&[NAME, NAME], Some(1)),
-        (&[OPEN, CLOSE], Some(1)),
-        (&[OPEN, NAME], Some(2)),
-        (&[OPEN, NAME, NAME, CLOSE], Some(2)),
-        (&[OPEN, NAME, COMMA, CLOSE], Some(3)),
-        (&[OPEN, NAME, CLOSE, COMMA, NAME], Some(3)),
-    ];
-    for (tokens, fault) in table {
-        assert_eq!(rt; fault_of(rt.alloc(), tokens)?, fault, "{tokens:?}");
-    }
-    Ok(())
-}
-
-#[test]
-fn reads_a_long_text(rt: HostRuntime) -> Result<(), Fail> {
-    let open = vec![in rt.alloc(); OPEN; 262_144]?;
-    assert_eq!(rt; fault_of(rt.alloc(), &open)?, Some(262_144));
-    Ok(())
-}
-
-#[test]
 fn builds_what_was_read(rt: HostRuntime) -> Result<(), Fail> {
     assert_eq!(rt; depth_of(rt.alloc(), &[NAME])?, Ok(1));
     assert_eq!(rt;
@@ -188,13 +156,4 @@ fn builds_what_was_read(rt: HostRuntime) -> Result<(), Fail> {
     );
     assert_eq!(rt; depth_of(rt.alloc(), &[OPEN, NAME, CLOSE, CLOSE])?, Err(3));
     Ok(())
-}
-
-#[test]
-fn looks_at_one_token(rt: HostRuntime) {
-    let (first, rest) = first_and_rest(&[COMMA, NAME]);
-    assert_eq!(rt; *first, COMMA);
-    assert_eq!(rt; rest, [NAME].as_slice());
-    assert_eq!(rt; next_class(rest), Some(NAME));
-    assert_eq!(rt; next_class::<u8>(&[]), None);
 }

@@ -1,5 +1,0 @@
-//! Tests of `dcv_explore` through its public calls alone. The expected values were worked out by hand.
-#![tactic(auto)]
-
-#[cfg(test)]
-mod counters;
