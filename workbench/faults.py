@@ -117,11 +117,11 @@ def repaired(program, text, fault):
     lines, tokens = [], ()
     if fault.kind in ("syntax", "byte"):
         tokens = repairs.may_stand(program, text, fault.place)
-        lines.append(f"  May stand here: {repairs.spoken(text, fault.place, tokens)}.")
+        lines.append(f"  May stand here: {repairs.spoken(text, fault.place, tokens)}")
     if fault.kind in ("syntax", "byte", "unknown", "kind"):
         told = repairs.changes(program, text, fault, tokens)
         if told:
-            lines.append(f"  No fault is left if you {'; or '.join(told)}.")
+            lines.append(f"  No fault is left if you {', or '.join(told)}.")
     return lines
 
 

@@ -11,7 +11,7 @@ SYNTAX = (
      'The relation "at least" is written >=, and "at most" <=.'),
     (lambda rest, word, ahead: word in ("=>",) and re.search(r"(scount|sdur)\s+[^<>=]*$|slen$", ahead), 'The relation "at least" is written >=.'),
     (lambda rest, word, ahead: rest.startswith("!=") or word == "=" and ahead.endswith("!"), "There is no !=. Write !(slen = 3), for example."),
-    (lambda rest, word, ahead: word in ("=", ">", "<") and re.search(r"[=<>]$", ahead), "Relations are =, <, <=, > and >=."),
+    (lambda rest, word, ahead: word in ("=", ">", "<") and re.search(r"\b(slen|scount|sdur)\b[^<>=]*[=<>]$", ahead), "Relations are =, <, <=, > and >=."),
     (lambda rest, word, ahead: word in ("[", "(", "[[", "<") and re.search(r"\b(slen|scount|sdur)$", ahead),
      "A count is written scount p >= 2, and slen >= 2 has no proposition."),
     (lambda rest, word, ahead: re.search(r"(scount|sdur)[ \t]+[A-Za-z0-9_!]+$", ahead),
@@ -97,7 +97,7 @@ def of_syntax(spot, word):
                 "  A file ends with a goal, as in: infer [[p]]; - is its ; missing, or a bracket not closed?"]
     ahead, row = spot.before()
     lines = ["No file goes on with this after what stands before it."]
-    if not spot.rest.startswith("->") and row < spot.row and not ahead.endswith(";") and not re.search(r"([&|^=<>(,.!*+-]|\bas|\binfer)$", ahead):
+    if ahead and not spot.rest.startswith("->") and row < spot.row and not ahead.endswith(";") and not re.search(r"([&|^=<>(,.!*+-]|\bas|\binfer)$", ahead):
         return lines + [f"  Is a ; missing at the end of line {row}?"]
     for applies, hint in SYNTAX:
         if applies(spot.rest, word, ahead):

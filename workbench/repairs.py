@@ -10,6 +10,7 @@ from language import RELATIONS, RESERVED, TOKEN, tokens_before
 
 NAME, NUMBER = "a name", "a number"
 MARKS = "; , . ( ) [ ] [[ ]] < > {{ }} ! - + && || => <=> ^ * <> [] = <= >=".split()
+FILLERS = (NAME, NUMBER, "true", "false", "pt", "ext", "*")  # what fits without saying anything
 OPERATORS = "^ && || => <=> *".split()
 ENDS = ") ] ]] > }} , . ;".split()
 FORMULAS = "< [ [[ {{ <> [] ! ( slen scount sdur pt ext true false ex all".split()
@@ -20,18 +21,23 @@ FOREIGN = {
     "and": ["&&"], "or": ["||"], "not": ["!"], "implies": ["=>"], "iff": ["<=>"], "xor": [], "AND": ["&&"], "OR": ["||"], "NOT": ["!"],
     "&": ["&&"], "|": ["||"], "~": ["!"], "->": ["=>"], "<->": ["<=>"], "==": ["<=>", "="], "==>": ["=>"], "-->": ["=>"], "&&&": ["&&"],
     "|||": ["||"], "=<": ["<="], "=>": [">="], "forall": ["all"], "exists": ["ex"], "A": ["all"], "E": ["ex"], ":": [".", "as"], ":=": ["as"],
-    "=": ["as", "<=>"], "let": ["define"], "goal": ["infer"], "assert": ["infer"], "check": ["infer"], "bool": ["var"], "input": ["var"],
+    "=": ["as", "<=>"], "#": ["//"], "--": ["//"], "let": ["define"], "goal": ["infer"], "assert": ["infer"], "check": ["infer"], "bool": ["var"], "input": ["var"],
     "True": ["true"], "False": ["false"], "TRUE": ["true"], "FALSE": ["false"], "length": ["slen"], "len": ["slen"], "count": ["scount"],
 }
-# Longer pieces around a fault that other notations write.
-REWRITES = [
-    (r"/\*.*?\*/", " ", "leave out the comment"),
-    (r"(slen|(?:scount|sdur)\s*(?:[A-Za-z]\w*|\([^()]*\)))\s*(?:!=|<>|/=)\s*([0-9]+)", r"!(\1 = \2)", None),
-    (r"([A-Za-z]\w*)\s*(?:!=|/=)\s*([A-Za-z]\w*)", r"!(\1 <=> \2)", None),
-    (r"([A-Za-z]\w*)-([A-Za-z]\w*)", r"\1_\2", None),
-    (r"(scount|sdur)\s+([A-Za-z]\w*\s*(?:&&|\|\||=>|<=>)\s*[^()<>=]*?[\w)])(?=\s*(?:<|>|=))", r"\1 (\2)", None),
-    (r"\[\[\s*(?:G|F)\s+([A-Za-z]\w*)\s*\]\]", r"[[\1]]", None),
-]
+# Pieces around a fault that other notations write, and what is written here for them.
+REWRITES = (
+    (r"/\*.*?\*/", " "),
+    (r"(slen|(?:scount|sdur)\s*(?:[A-Za-z]\w*|\([^()]*\)))\s*(?:!=|<>|/=)\s*([0-9]+)", r"!(\1 = \2)"),
+    (r"([A-Za-z]\w*)\s*(?:!=|/=)\s*([A-Za-z]\w*)", r"!(\1 <=> \2)"),
+    (r"[A-Za-z]\w*(?:-[A-Za-z]\w*)+", lambda match: match.group().replace("-", "_")),
+    (r"(scount|sdur)\s+([A-Za-z]\w*\s*(?:&&|\|\||=>|<=>)\s*[^()<>=]*?[\w)])(?=\s*(?:<|>|=))", r"\1 (\2)"),
+    (r"==+", "="), (r"==+", "<=>"),
+    (r"(?<!\{)\{([^{}]*)\}(?!\})", r"{{\1}}"),
+    (r"\[\[\s*<([^<>]*)>\s*\]\]", r"[[\1]]"),
+    (r":\s*(?:bool|boolean|bit|int|BOOL)\b", ""),
+    (r"\bforall(\s+\w+\s*[.:])", r"all\1"), (r"\bexists(\s+\w+\s*[.:])", r"ex\1"),
+    (r"\b(?:ex|all)\s+\w+\s*\.[^;]*[^;\s]", r"(\g<0>)"),
+)
 
 
 def may_stand(program, text, place):
@@ -119,15 +125,17 @@ def changes(program, text, fault, tokens=()):
 
 
 def _rewritten(text, place):
-    """The text with a piece of another notation around the place put right."""
+    """The text with a piece of another notation around the place put right, there alone or everywhere."""
     start = text.rfind("\n", 0, place) + 1
     end = (text + "\n").index("\n", place)
-    for pattern, new, phrase in REWRITES:
-        for match in re.finditer(pattern, text[start:min(end, start + 10_000)], re.S):
+    for pattern, new in REWRITES:
+        for match in re.finditer(pattern, text[start:min(end, start + 10_000)], re.S | re.A):
             if match.start() <= place - start < match.end():
-                written = match.expand(new)
-                changed = text[:start + match.start()] + written + text[start + match.end():]
-                yield phrase or f"write {written} for {match.group()}", changed
+                written, piece = re.sub(pattern, new, match.group(), 1, re.S | re.A) if callable(new) else match.expand(new), match.group()
+                phrase = f"write {written} for {piece}" if written.strip() else f"leave out {piece}"
+                yield phrase, text[:start + match.start()] + written + text[start + match.end():]
+                if text.count(piece) > 1:
+                    yield phrase + " everywhere", text.replace(piece, written)
 
 
 def _token_changes(text, place, tokens):
@@ -136,7 +144,7 @@ def _token_changes(text, place, tokens):
     token = match.group() if match and match.group("blank") is None else text[place:place + 1]
     piece = re.match(r"[-=<>!&|~^+*/%:]+|[A-Za-z]\w*|", text[place:]).group() or token
     fit = names_that_fit(text, place, tokens)[:4]
-    usual = fit + [mark for mark in tokens if mark not in (NAME, NUMBER, "true", "false")] + (["1"] if NUMBER in tokens else [])
+    usual = fit + [mark for mark in tokens if mark not in FILLERS] + ([NUMBER] if NUMBER in tokens else [])
     likely = [(f"write {new} for {old}", new, text[:place] + new + text[place + len(old):])
               for old in dict.fromkeys((piece, token)) if old for new in FOREIGN.get(old, [])]
     behind = tokens_before(text, place)[0]
@@ -146,14 +154,15 @@ def _token_changes(text, place, tokens):
         likely += [(f"put ; {'behind ' + behind[-1].text if behind else where}", ";", _put(text, behind, ";"))]
     others = []
     for new in usual:
-        others.append((f"put {{}} {where}", new, text[:place] + f" {new} " + text[place:]))
+        written = " 1 " if new == NUMBER else f" {new} "
+        others.append((f"put {{}} {where}", new, text[:place] + written + text[place:]))
         for old in dict.fromkeys((token, piece)):
             if old.strip():
-                others.append((f"write {{}} for {old}", new, text[:place] + f" {new} " + text[place + len(old):]))
+                others.append((f"write {{}} for {old}", new, text[:place] + written + text[place + len(old):]))
     for old in dict.fromkeys((token, piece)):
         if old.strip():
             others.append((f"leave out {old}", "", text[:place] + " " + text[place + len(old):]))
-    if behind:
+    if behind and behind[-1].text != token:
         last = behind[-1]
         others.append((f"leave out {last.text} in front of it", "", text[:last.start] + " " + text[place:]))
     return likely, others
