@@ -11,7 +11,9 @@ ARROW = (f'<defs><marker id="arrow" viewBox="0 0 8 8" refX="7" refY="4" markerWi
 def lines_of(found):
     """Conditions as a few short lines."""
     joined = " or ".join(found)
-    return [joined] if len(joined) <= 26 else found[:3] + ([f"or {len(found) - 3} more"] if len(found) > 3 else [])
+    if len(joined) <= 26:
+        return [joined]
+    return found[:1] + [f"or {condition}" for condition in found[1:3]] + ([f"or {len(found) - 3} more"] if len(found) > 3 else [])
 
 
 class Diagram:

@@ -92,6 +92,9 @@ def run(command, words):
         for line in faults.explained(refusal, getattr(options, "file", None), program):
             print(line, file=sys.stderr)
         return refusal.status
+    except BrokenPipeError:  # the reader of the output has gone
+        os.dup2(os.open(os.devnull, os.O_WRONLY), sys.stdout.fileno())
+        return 6
     except OSError as error:
         print(f"ask {command.name}: {error.filename}: {error.strerror}", file=sys.stderr)
         return 5

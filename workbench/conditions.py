@@ -67,7 +67,9 @@ def automaton_lines(automaton):
         if is_final(automaton, state):
             continue
         for target, found in conditions(automaton, state).items():
-            few = found if len(found) <= 4 else found[:4] + [".."]
-            where = "stays" if target == state else f"{target}" + (", broken for ever" if standing(automaton, target) == "broken for ever" else "")
-            lines.append(f"    {' or '.join(few):<44} -> {where}")
+            lost = ", broken for ever," if standing(automaton, target) == "broken for ever" else ""
+            where = "stays" if target == state else f"to {target}{lost}"
+            few = found if len(found) <= 6 else found[:5] + [f"{len(found) - 5} more"]
+            lines.append(f"    {where:<7} where {few[0]}")
+            lines += [" " * (len(f"{where:<7}") + 7) + f"or {condition}" for condition in few[1:]]
     return lines
