@@ -35,7 +35,7 @@ REWRITES = (
     (r"(?<!\{)\{([^{}]*)\}(?!\})", r"{{\1}}"),
     (r"\[\[\s*<([^<>]*)>\s*\]\]", r"[[\1]]"),
     (r":\s*(?:bool|boolean|bit|int|BOOL)\b", ""),
-    (r"\bforall(\s+\w+\s*[.:])", r"all\1"), (r"\bexists(\s+\w+\s*[.:])", r"ex\1"),
+    (r"\bforall(?=\s+\w+\s*\.)", "all"), (r"\bexists(?=\s+\w+\s*\.)", "ex"),
     (r"\b(?:ex|all)\s+\w+\s*\.[^;]*[^;\s]", r"(\g<0>)"),
 )
 
@@ -130,7 +130,7 @@ def _rewritten(text, place):
     end = (text + "\n").index("\n", place)
     for pattern, new in REWRITES:
         for match in re.finditer(pattern, text[start:min(end, start + 10_000)], re.S | re.A):
-            if match.start() <= place - start < match.end():
+            if match.start() <= place - start <= match.end() + 1:
                 written, piece = re.sub(pattern, new, match.group(), 1, re.S | re.A) if callable(new) else match.expand(new), match.group()
                 phrase = f"write {written} for {piece}" if written.strip() else f"leave out {piece}"
                 yield phrase, text[:start + match.start()] + written + text[start + match.end():]
