@@ -89,7 +89,7 @@ def waves(variables, word, width=None, shown=None):
 
 def _cell(column):
     """How wide a column is."""
-    return max(3, len(str(column.first)) + 1) if column.count == 1 else len(str(column.count)) + 4
+    return max(3, len(str(column.first)) + 1) if column.count == 1 else len(str(column.count)) + 5
 
 
 def _block(variables, word, block, margin):
