@@ -3,6 +3,7 @@ import argparse
 import importlib
 import os
 import sys
+import tempfile
 from typing import NamedTuple, Tuple
 
 import faults
@@ -88,18 +89,29 @@ def run(command, words):
     module.add_arguments(parser)
     options = parser.parse_args(words)
     program = Program(show=options.show)
-    try:
-        return module.run(options, program)
-    except Refusal as refusal:
-        for line in faults.explained(refusal, getattr(options, "file", None), program):
-            print(line, file=sys.stderr)
-        return refusal.status
-    except BrokenPipeError:  # the reader of the output has gone
-        os.dup2(os.open(os.devnull, os.O_WRONLY), sys.stdout.fileno())
-        return 6
-    except OSError as error:
-        print(f"ask {command.name}: {error.filename}: {error.strerror}", file=sys.stderr)
-        return 5
+    with tempfile.TemporaryDirectory() as room:
+        try:
+            keep_file(options, room)
+            return module.run(options, program)
+        except Refusal as refusal:
+            for line in faults.explained(refusal, options.file, options.shown, program):
+                print(line, file=sys.stderr)
+            return refusal.status
+        except OSError as error:
+            if isinstance(error, BrokenPipeError):  # the reader of the output has gone
+                os.dup2(os.open(os.devnull, os.O_WRONLY), sys.stdout.fileno())
+                return 6
+            print(f"ask {command.name}: {error.filename}: {error.strerror}", file=sys.stderr)
+            return 5
+
+
+def keep_file(options, room):
+    """A FILE that can be read once only is copied; `shown` is its name as it was given. `-` is standard input."""
+    options.shown = options.file = getattr(options, "file", None)
+    if options.file == "-" or options.file and os.path.exists(options.file) and not os.path.isfile(options.file) and not os.path.isdir(options.file):
+        with open(0 if options.file == "-" else options.file, "rb") as source, open(os.path.join(room, "text"), "wb") as copy:
+            copy.write(source.read())
+        options.file = os.path.join(room, "text")
 
 
 def main(words):
@@ -108,6 +120,9 @@ def main(words):
         return 0
     for command in ASK:
         if command.name == words[0]:
-            return run(command, words[1:])
+            try:
+                return run(command, words[1:])
+            except KeyboardInterrupt:
+                return 130
     print(f"ask: there is no command {words[0]}; ./ask lists those that there are", file=sys.stderr)
     return 2

@@ -28,8 +28,8 @@ def add_arguments(parser):
 
 
 def run(options, program):
-    name = "standard input" if options.file == "-" else os.path.basename(options.file)
-    text = sys.stdin.buffer.read().decode("latin-1") if options.file == "-" else read_text(options.file)
+    name = "standard input" if options.shown == "-" else os.path.basename(options.shown)
+    text = read_text(options.file)
     try:
         kind = faults.named_file(text)
         if kind == "the text of an automaton":

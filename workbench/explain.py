@@ -167,7 +167,8 @@ class Explainer:
         line = text.count("\n", 0, place) + 1
         said = {
             "syntax": f"No text of an {what} goes on with byte {place}, counted from 0 (line {line}).",
-            "names": f"The name at byte {place} of the observer (line {line}) breaks a rule of names: it is declared twice, or not at all, or has no value there.",
+            "names": f"The name at byte {place} of the observer (line {line}) breaks a rule of names: it is declared twice, or not at all, or has no "
+                     "value there.",
             "table": f"The word at byte {place} (line {line}) breaks a rule: lines are numbered from 0 in each section, there are as many as is said, and "
                      "what a word names is there.",
         }
@@ -217,26 +218,29 @@ def main(words):
     words = [word for word in words if word not in ("--table", "--show")]
     for stream in (sys.stdout, sys.stderr):
         stream.reconfigure(errors="backslashreplace")
-    program = Program()
+    program = Program(show=show)
     try:
-        program.command()
+        program.command()  # built first, so that its messages are seen
+        with tempfile.TemporaryDirectory() as room:
+            question = Question(words, room)
+            program.shown(question.command, [question.text(number) for number in range(len(question.paths))], [])
+            answer = program.run(question.words)
+            say(Explainer(question, program, digits), answer)
     except Refusal as refusal:
+        out([refusal.message] if refusal.message else [], sys.stderr)
         return refusal.status
-    with tempfile.TemporaryDirectory() as room:
-        question = Question(words, room)
-        program.show = show
-        program.shown(question.command, [question.text(number) for number in range(len(question.paths))], [])
-        program.show = False
-        answer = program.run(question.words)
-        explainer = Explainer(question, program, digits)
-        if answer.status in (0, 1) and not any(word in words for word in ("-h", "--help")):
-            out(explainer.answer(answer), sys.stdout)
-            print(answer.error, end="", file=sys.stderr)
-        elif 3 <= answer.status <= 10:
-            out(explainer.replayed(answer.output) if question.command.startswith("replay-") else [], sys.stdout)
-            sys.stdout.flush()
-            out(explainer.refusal(answer), sys.stderr)
-        else:
-            print(answer.output, end="")
-            print(answer.error, end="", file=sys.stderr)
     return answer.status
+
+
+def say(explainer, answer):
+    """Prints what an answer or a refusal of the program says; what is neither is printed as it is."""
+    if answer.status in (0, 1):
+        out(explainer.answer(answer), sys.stdout)
+        print(answer.error, end="", file=sys.stderr)
+    elif 3 <= answer.status <= 10:
+        out(explainer.replayed(answer.output) if explainer.question.command.startswith("replay-") else [], sys.stdout)
+        sys.stdout.flush()
+        out(explainer.refusal(answer), sys.stderr)
+    else:
+        print(answer.output, end="")
+        print(answer.error, end="", file=sys.stderr)

@@ -4,7 +4,7 @@ import shutil
 
 import hints
 import repairs
-from language import TOKEN
+from language import TOKEN, read_text
 from program import fault_of
 
 
@@ -125,16 +125,16 @@ def repaired(program, text, fault):
     return lines
 
 
-def explained(refusal, path, program):
-    """The lines to print for a refusal of one of ./ask's questions; `path` is the file that the text was read from, or None."""
-    if refusal.status in (3, 4) and path and refusal.texts:
-        text = refusal.texts[-1 if refusal.message.endswith(" in second") else 0]
-        try:
-            with open(path, encoding="latin-1", newline="") as file:
-                same = file.read() == text
-        except OSError:
-            same = False
-        if same:
-            return described(path, text, refusal.message, program)
-        return [refusal.message, *hints.of_message(refusal.message), "  That was said of a text that this command made; --show writes it."]
-    return [line for line in (refusal.message, *hints.of_message(refusal.message)) if line]
+def explained(refusal, path, name, program):
+    """The lines to print for a refusal of one of ./ask's questions; `path` is where FILE's text is, or None, and `name` how it was given."""
+    said = [line for line in (refusal.message, *hints.of_message(refusal.message)) if line]
+    if refusal.status not in (3, 4) or not path or not refusal.texts:
+        return said
+    text = refusal.texts[-1 if refusal.message.endswith(" in second") else 0]
+    try:
+        same = read_text(path) == text
+    except OSError:
+        same = False
+    if same:
+        return described(name, text, refusal.message, program)
+    return said + ["  That was said of a text that this command made; --show writes it."]

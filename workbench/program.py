@@ -73,7 +73,7 @@ class Program:
     """`path` names another program; else DCVALID does, else it is the repository's, which is proved and built first where it is not."""
 
     def __init__(self, path=None, show=False):
-        self.path = path or os.environ.get("DCVALID")
+        self.path = path or os.environ.get("DCVALID") or None
         self.show = show
         self.runs = 0
 
@@ -91,7 +91,10 @@ class Program:
         """Runs the program on these words; the text is on its standard input, which they name /dev/stdin."""
         self.runs += 1
         data = None if text is None else text.encode("latin-1")
-        done = subprocess.run([self.command(), *words], input=data, stdout=subprocess.PIPE, stderr=subprocess.PIPE)
+        try:
+            done = subprocess.run([self.command(), *words], input=data, stdout=subprocess.PIPE, stderr=subprocess.PIPE)
+        except OSError as error:
+            raise Refusal(125, f"the program {self.path} could not be run: {error.strerror}")
         return Answer(done.returncode, done.stdout.decode("latin-1"), done.stderr.decode("latin-1"))
 
     def ask(self, command, *texts, options=()):
