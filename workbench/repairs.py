@@ -10,6 +10,7 @@ from language import RELATIONS, RESERVED, TOKEN, tokens_before
 
 NAME, NUMBER = "a name", "a number"
 MARKS = "; , . ( ) [ ] [[ ]] < > {{ }} ! - + && || => <=> ^ * <> [] = <= >=".split()
+HERE = "\0"  # where the tokens of phrases of one shape go
 FILLERS = (NAME, NUMBER, "true", "false", "pt", "ext", "*")  # what fits without saying anything
 OPERATORS = "^ && || => <=> *".split()
 ENDS = ") ] ]] > }} , . ;".split()
@@ -155,10 +156,10 @@ def _token_changes(text, place, tokens):
     others = []
     for new in usual:
         written = " 1 " if new == NUMBER else f" {new} "
-        others.append((f"put {{}} {where}", new, text[:place] + written + text[place:]))
+        others.append((f"put {HERE} {where}", new, text[:place] + written + text[place:]))
         for old in dict.fromkeys((token, piece)):
             if old.strip():
-                others.append((f"write {{}} for {old}", new, text[:place] + written + text[place + len(old):]))
+                others.append((f"write {HERE} for {old}", new, text[:place] + written + text[place + len(old):]))
     for old in dict.fromkeys((token, piece)):
         if old.strip():
             others.append((f"leave out {old}", "", text[:place] + " " + text[place + len(old):]))
@@ -206,5 +207,5 @@ def _joined(phrases):
     for phrase, tokens in shapes.items():
         tokens = [token for token in dict.fromkeys(tokens) if token]
         spoken_tokens = ", ".join(tokens[:-1]) + (" or " if len(tokens) > 1 else "") + tokens[-1] if tokens else ""
-        told.append(phrase.format(spoken_tokens) if "{}" in phrase else phrase)
+        told.append(phrase.replace(HERE, spoken_tokens))
     return told[:4]

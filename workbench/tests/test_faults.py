@@ -74,6 +74,7 @@ MISTAKES = (
     ("var p; infer [[~p]];", "a proposition p ! - + ( true false", "write ! for ~"),
     ("var p; prop g as p; infer [[g && ]];", "a proposition p g ! - + ( true false", "put p or g before ]], or leave out && in front of it"),
     ("define f as pt; infer f ^ ;", "a formula f < [ [[ {{ <> [] ! ( slen scount sdur pt ext true false", "put f before ;, or leave out ^ in front of it"),
+    ("var p; infer {{p}} {{p}};", "an operator ^ && || => <=> *, an end ;", "put &&, ||, =>, <=> or ^ before {{"),
     ("var 1p; infer pt;", "a new name", "leave out 1"),
     ("var p; # first\ninfer [[p]];", "a word define prop infer", "write // for #"),
     ("define f(x) as [[x]] var p; infer f(p);", "an operator ^ && || => <=> *, an end ;", None),
