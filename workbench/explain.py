@@ -1,14 +1,16 @@
 """The command `explain`: runs dcvalid on the same words and says its answer as a person reads it. The exit status is the program's."""
 import os
 import re
+import subprocess
 import sys
 import tempfile
 
 import faults
 import hints
 import plays
+from commands import PROGRAM
 from language import read_text
-from program import Program, Refusal, words_of
+from program import SCRIPT, Program, Refusal, words_of
 from waves import heading, spoken_runs, table, waves
 
 WITH_VALUES = ("--states", "--nodes", "--inputs", "--to")
@@ -220,9 +222,11 @@ def main(words):
         stream.reconfigure(errors="backslashreplace")
     program = Program(show=show)
     try:
-        program.command()  # built first, so that its messages are seen
         with tempfile.TemporaryDirectory() as room:
             question = Question(words, room)
+            if not program.is_there() and needs_no_build(question):
+                return subprocess.run([SCRIPT, *question.words]).returncode
+            program.command()  # built first, so that its messages are seen
             program.shown(question.command, [question.text(number) for number in range(len(question.paths))], [])
             answer = program.run(question.words)
             say(Explainer(question, program, digits), answer)
@@ -230,6 +234,12 @@ def main(words):
         out([refusal.message] if refusal.message else [], sys.stderr)
         return refusal.status
     return answer.status
+
+
+def needs_no_build(question):
+    """Whether the words are none that a build is worth: no command, words of the script alone, or a file that is not there."""
+    unread = question.command != "sweep" and not all(map(os.path.exists, question.paths))
+    return question.words[0].startswith("--") or question.command not in {command.name for command in PROGRAM} or unread
 
 
 def say(explainer, answer):

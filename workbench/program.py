@@ -10,6 +10,8 @@ from typing import List, NamedTuple, Optional
 from automaton import read_automaton
 
 ROOT = os.path.dirname(os.path.dirname(os.path.abspath(__file__)))
+SCRIPT = os.path.join(ROOT, "dcvalid")
+BUILT = os.path.join(ROOT, "crates", "dcvalid", "out", "dcvalid")
 Word = List[str]  # a behaviour: a letter for each instant
 
 
@@ -77,14 +79,16 @@ class Program:
         self.show = show
         self.runs = 0
 
+    def is_there(self):
+        """Whether there is a program that can be asked without a build."""
+        return self.path is not None or os.access(BUILT, os.X_OK)
+
     def command(self):
         """The path of the program. The first call builds the repository's own, and lets its messages through."""
         if self.path is None:
-            script = os.path.join(ROOT, "dcvalid")
-            if subprocess.run([script, "--build"], stdout=subprocess.DEVNULL).returncode == 125:
+            if subprocess.run([SCRIPT, "--build"], stdout=subprocess.DEVNULL).returncode == 125:
                 raise Refusal(125, "")
-            built = os.path.join(ROOT, "crates", "dcvalid", "out", "dcvalid")
-            self.path = built if os.access(built, os.X_OK) else script
+            self.path = BUILT if os.access(BUILT, os.X_OK) else SCRIPT
         return self.path
 
     def run(self, words, text=None):

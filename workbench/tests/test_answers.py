@@ -1,7 +1,9 @@
 """Answers as ./explain says them, of a program that is a stub: every row is worked out by hand."""
 import os
+import shutil
+import subprocess
 
-from support import WithFolder, run
+from support import ROOT, WithFolder, run
 
 
 class Answers(WithFolder):
@@ -108,3 +110,45 @@ A shortest behaviour that meets it, 1 instant:
         status, _, error = run("ask", "nothing")
         self.assertEqual(status, 2)
         self.assertIn("no command nothing", error)
+
+
+class Built(WithFolder):
+    """The repository's own program: it is built before it is asked, and nothing is built for words that are none. ./dcvalid is a stub here."""
+
+    SCRIPT = """#!/bin/sh
+cd "$(dirname "$0")"
+echo "$*" >>calls
+case $1 in
+  --build) echo 'so much is proved' >&2; [ ! -e fails ] || exit 125; mkdir -p crates/dcvalid/out; cp stub crates/dcvalid/out/dcvalid ;;
+  *) echo 'there is no such thing' >&2; exit 5 ;;
+esac
+"""
+
+    def setUp(self):
+        super().setUp()
+        shutil.copytree(os.path.join(ROOT, "workbench"), os.path.join(self.folder, "workbench"), ignore=shutil.ignore_patterns("tests", "__pycache__"))
+        for name in ("ask", "explain"):
+            shutil.copy(os.path.join(ROOT, name), self.folder)
+        os.chmod(self.file("dcvalid", self.SCRIPT), 0o755)
+        self.stub("valid\nsatisfiable\nexample 1\n1\n", status=0)
+        self.text = self.file("text.dc", "var p; infer pt;")
+
+    def explained(self, *words):
+        done = subprocess.run([os.path.join(self.folder, "explain"), *words], env={**os.environ, "DCVALID": ""}, stdout=subprocess.PIPE, stderr=subprocess.PIPE)
+        calls = os.path.join(self.folder, "calls")
+        with open(calls) as file:
+            said = file.read().splitlines()
+        os.remove(calls)
+        return done.returncode, done.stdout.decode().split("\n")[0], done.stderr.decode(), said
+
+    def test_builds_once(self):
+        for _ in range(2):
+            self.assertEqual(self.explained("check", self.text), (0, "valid: each behaviour meets the requirement", "so much is proved\n", ["--build"]))
+
+    def test_fails(self):
+        self.file("fails", "")
+        self.assertEqual(self.explained("check", self.text), (125, "", "so much is proved\n", ["--build"]))
+
+    def test_no_build(self):
+        for words in (["chek", self.text], ["check", self.folder + "/missing"], ["implies", self.text, "missing"], ["--version"]):
+            self.assertEqual(self.explained(*words), (5, "", "there is no such thing\n", [" ".join(words)]))
