@@ -1,6 +1,8 @@
 """What the program's faults mean, and what a person may have wanted to write there."""
 import re
 
+FORMULAS = ("slen", "scount", "sdur", "pt", "ext", "<", "[", "[[", "<>", "[]", "^")  # what begins or joins formulas alone
+
 # Hints at a syntax fault: each is asked in turn of the text behind (`rest`), the token there (`word`) and the text in front (`ahead`).
 SYNTAX = (
     (lambda rest, word, ahead: rest.startswith("->"), 'Write => for "implies".'),
@@ -21,7 +23,7 @@ SYNTAX = (
      "Between two formulas stands an operator: D ^ E is first D and then E, and D && E is both on the same interval."),
     (lambda rest, word, ahead: word in ("var", "define", "prop"), "Variables come first, then macros, then the goal."),
     (lambda rest, word, ahead: word in ("ex", "all"), "A quantified formula that is an operand needs parentheses: (ex p. <p>) ^ <q>."),
-    (lambda rest, word, ahead: re.search(r"(^|\W)(\[|\[\[|<|\{\{)[^\]>}]*$", ahead) and word in ("slen", "scount", "sdur", "pt", "ext", "<", "[", "[[", "<>", "[]", "^"),
+    (lambda rest, word, ahead: re.search(r"(^|\W)(\[|\[\[|<|\{\{)[^\]>}]*$", ahead) and word in FORMULAS,
      "In brackets stands a proposition, which is true or false at an instant; this is a formula, which is judged on an interval."),
 )
 

@@ -23,6 +23,9 @@ STATUSES = (
     ("10", "The file holds no text of an automaton."),
 )
 
+EXAMPLES = ("echo 'var lamp; infer [[lamp]];' > lamp.dc", "dcvalid check lamp.dc", "dcvalid automaton lamp.dc > lamp.auto", "dcvalid certify lamp.auto",
+            "dcvalid c lamp.dc > observer.c")
+
 COMPLETION = """# Completion of the words of dcvalid, ask and explain for bash; made by workbench/pages.py.
 _dcvalid_options() {{
   case $1 in
@@ -72,7 +75,8 @@ def described(command, before):
     words = " ".join([before, command.operands]) if command.operands else before
     lines = [".TP", f".B {roff(words)}", roff(command.summary[0].upper() + command.summary[1:] + ".")]
     for option in command.options:
-        lines += [".RS", ".TP", f".B {roff(' '.join(filter(None, (option.name, option.value))))}", roff(option.summary[0].upper() + option.summary[1:] + "."), ".RE"]
+        words = f"{option.name} {option.value}".strip()
+        lines += [".RS", ".TP", f".B {roff(words)}", roff(option.summary[0].upper() + option.summary[1:] + "."), ".RE"]
     return lines
 
 
@@ -86,8 +90,7 @@ def man_page():
     lines += [".SH EXIT STATUS"]
     for status, meaning in STATUSES:
         lines += [".TP", f".B {status}", roff(meaning)]
-    lines += [".SH EXAMPLES", ".nf", roff("echo 'var lamp; infer [[lamp]];' > lamp.dc"), roff("dcvalid check lamp.dc"), roff("dcvalid automaton lamp.dc > lamp.auto"),
-              roff("dcvalid certify lamp.auto"), roff("dcvalid c lamp.dc > observer.c"), ".fi", ".SH THE WORKBENCH",
+    lines += [".SH EXAMPLES", ".nf", *map(roff, EXAMPLES), ".fi", ".SH THE WORKBENCH",
               roff("The repository of dcvalid has the script ./ask, which asks questions around a requirement of the program. Nothing of it is proved.")]
     for command in ASK:
         lines += described(command, f"ask {command.name}")

@@ -22,7 +22,8 @@ FOREIGN = {
     "and": ["&&"], "or": ["||"], "not": ["!"], "implies": ["=>"], "iff": ["<=>"], "xor": [], "AND": ["&&"], "OR": ["||"], "NOT": ["!"],
     "&": ["&&"], "|": ["||"], "~": ["!"], "->": ["=>"], "<->": ["<=>"], "==": ["<=>", "="], "==>": ["=>"], "-->": ["=>"], "&&&": ["&&"],
     "|||": ["||"], "=<": ["<="], "=>": [">="], "forall": ["all"], "exists": ["ex"], "A": ["all"], "E": ["ex"], ":": [".", "as"], ":=": ["as"],
-    "=": ["as", "<=>"], "#": ["//"], "--": ["//"], "let": ["define"], "goal": ["infer"], "assert": ["infer"], "check": ["infer"], "bool": ["var"], "input": ["var"],
+    "=": ["as", "<=>"], "#": ["//"], "--": ["//"], "let": ["define"], "goal": ["infer"], "assert": ["infer"], "check": ["infer"],
+    "bool": ["var"], "input": ["var"],
     "True": ["true"], "False": ["false"], "TRUE": ["true"], "FALSE": ["false"], "length": ["slen"], "len": ["slen"], "count": ["scount"],
 }
 # Pieces around a fault that other notations write, and what is written here for them.
