@@ -1,7 +1,6 @@
 """What the tests share: the program, where there is one, and runs of ./ask and ./explain."""
 import os
 import subprocess
-import sys
 import tempfile
 import unittest
 
@@ -41,6 +40,7 @@ class WithFolder(unittest.TestCase):
 
     def stub(self, output="", error="", status=0):
         """A program that answers this to everything."""
-        path = self.file("stub", f"#!{sys.executable}\nimport sys\nprint({output!r}, end='')\nprint({error!r}, end='', file=sys.stderr)\nsys.exit({status})\n")
+        said, told = self.file("stub.out", output), self.file("stub.err", error)
+        path = self.file("stub", f"#!/bin/sh\ncat '{said}'\ncat '{told}' >&2\nexit {status}\n")
         os.chmod(path, 0o755)
         return path

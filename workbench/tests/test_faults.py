@@ -1,6 +1,10 @@
 """Faults as ./explain says them: the place, the hint, what may stand there, and the one change. The rows are worked out by hand."""
+import os
 import re
 
+import faults
+import support
+from program import Program
 from support import WithFolder, needs_program, run
 
 # text, kind, offset, row, column on the screen, and a word of the hint
@@ -94,7 +98,7 @@ class Faults(WithFolder):
     def test_places(self):
         for text, kind, offset, row, column, hint in PLACES:
             with self.subTest(text=text):
-                status, _, line = run(self.program(), "check", self.file("text.dc", text))
+                status, _, line = run(os.path.abspath(support.PROGRAM), "check", self.file("text.dc", text))
                 self.assertEqual((status, line.strip()), (3, f"fault {kind} at {offset}"))
                 lines = self.explained(text)
                 self.assertTrue(lines[0].startswith(f"{self.folder}/text.dc:{row}:{column}: fault {kind}"), lines[0])
@@ -102,9 +106,11 @@ class Faults(WithFolder):
                 self.assertRegex("\n".join(lines[3:]), hint)
 
     def test_mistakes(self):
+        program = Program()
         for text, stands, change in MISTAKES:
             with self.subTest(text=text):
-                said = "\n".join(self.explained(text))
+                message = program.run(["check", "/dev/stdin"], text).error.strip()
+                said = "\n".join(faults.described("text.dc", text, message, program))
                 found = re.search(r"^  May stand here: (.*)$", said, re.M)
                 self.assertEqual(found and found.group(1), stands)
                 found = re.search(r"^  No fault is left if you (.*)\.$", said, re.M)
@@ -119,10 +125,8 @@ class Faults(WithFolder):
         self.assertLess(max(map(len, lines)), 200)
         self.assertEqual(lines[1][lines[2].index("^"):][:5], "[[p]]")
 
-    def program(self):
-        import os
-        import support
-        return os.path.abspath(support.PROGRAM)
+    def test_changes_are_told_by_the_script(self):
+        self.assertIn("  No fault is left if you write && for and.", self.explained("var p, q; infer [[p and q]];"))
 
 
 @needs_program

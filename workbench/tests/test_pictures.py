@@ -1,5 +1,5 @@
 """Waves, pictures, automata as tables, the man page and the completion."""
-import re
+import importlib.util
 import shutil
 import subprocess
 import unittest
@@ -8,7 +8,7 @@ import xml.dom.minidom
 import pages
 from arcs import automaton_svg
 from automaton import read_automaton
-from commands import ASK, PROGRAM
+from commands import ASK, MODULES, PROGRAM, parser_of
 from conditions import conditions
 from language import parse
 from pictures import vcd, waves_svg
@@ -141,6 +141,17 @@ def holds(condition, variables, letter):
 
 
 class Pages(unittest.TestCase):
+    def test_options(self):
+        """The table of commands has each option of each command's parser, so the man page and the completion have them."""
+        for command in ASK:
+            name = MODULES.get(command.name, command.name)
+            if name == "explain" or importlib.util.find_spec(name) is None:
+                continue
+            parser = parser_of(command)
+            importlib.import_module(name).add_arguments(parser)
+            wanted = {word for action in parser._actions for word in action.option_strings if word.startswith("--")} - {"--help", "--show"}
+            self.assertEqual({option.name for option in command.options}, wanted, command.name)
+
     def test_man_page(self):
         page = pages.man_page()
         for command in PROGRAM + ASK:
