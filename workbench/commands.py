@@ -1,6 +1,6 @@
 """The commands of ./ask and of dcvalid, in one table each, and how ./ask runs one. Completion and the man page are made of these."""
 import argparse
-import importlib
+import importlib.util
 import os
 import sys
 import tempfile
@@ -32,10 +32,7 @@ ASK = (
     Command("explain", "COMMAND ..", "a command of dcvalid, and its answer in more words: waves, places, what may stand at a fault",
             (Option("--table", "", "behaviours as digits, a line for each instant"),)),
     Command("review", "FILE", "what a colleague would ask of a requirement: boundaries, near misses, a telling example, what decides nothing"),
-    Command("draw", "FILE", "a report, a formula's behaviours, an automaton or a trace as text, SVG or VCD",
-            (Option("--svg", "OUT", "writes the picture as an SVG file"), Option("--vcd", "OUT", "writes the behaviour as a VCD file"),
-             Option("--table", "", "behaviours as digits, a line for each instant"), Option("--automaton", "", "of a formula: its automaton"),
-             Option("--only", "KIND", "counterexample or example alone"), Option("--names", "NAMES", "the variables of a report or a trace"))),
+    Command("draw", "FILE", "a report, a formula's behaviours, an automaton or a trace as text, SVG or VCD"),
     Command("tests", "FILE", "a test suite that tells the requirement from every other of as many states"),
     Command("watch", "FILE LOG", "a log in CSV or VCD against a requirement, by the names of its variables"),
     Command("tables", "FILE", "an observer as C tables for embedded use"),
@@ -73,21 +70,39 @@ def parser_of(command):
     """The parser of a command's words: --show and --help, and what its module adds by `add_arguments(parser)`."""
     parser = argparse.ArgumentParser(prog=f"ask {command.name}", description=command.summary[0].upper() + command.summary[1:] + ".")
     parser.add_argument("--show", action="store_true", help=SHOW.summary)
+    module_of(command).add_arguments(parser)
     return parser
 
 
-def run(command, words):
-    """Runs a command; the status. Its module has `add_arguments(parser)` and `run(options, program)`, or `main(words)` for its own words."""
+def module_of(command):
+    """A command's module: it has `add_arguments(parser)` and `run(options, program)`, or `main(words)` for its own words."""
     name = MODULES.get(command.name, command.name)
-    if not os.path.exists(os.path.join(os.path.dirname(os.path.abspath(__file__)), name + ".py")):
+    return importlib.import_module(name) if importlib.util.find_spec(name) else None
+
+
+def options_of(command):
+    """The options of a command of ./ask: those of its parser, or where it has none those of the table."""
+    module = module_of(command)
+    if module is None or hasattr(module, "main"):
+        return command.options + (SHOW,)
+    found = []
+    for action in parser_of(command)._actions:
+        name = next((word for word in action.option_strings if word.startswith("--")), "--help")
+        if name != "--help":
+            value = "" if action.nargs == 0 else action.metavar or " | ".join(action.choices or ()) or name[2:].upper()
+            found.append(Option(name, value, action.help or ""))
+    return tuple(found)
+
+
+def run(command, words):
+    """Runs a command; the status."""
+    module = module_of(command)
+    if module is None:
         print(f"ask: {command.name} is not here yet", file=sys.stderr)
         return 2
-    module = importlib.import_module(name)
     if hasattr(module, "main"):
         return module.main(words)
-    parser = parser_of(command)
-    module.add_arguments(parser)
-    options = parser.parse_args(words)
+    options = parser_of(command).parse_args(words)
     program = Program(show=options.show)
     with tempfile.TemporaryDirectory() as room:
         try:

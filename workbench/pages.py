@@ -6,7 +6,7 @@
 """
 import sys
 
-from commands import ASK, PROGRAM, SHOW
+from commands import ASK, PROGRAM, options_of
 
 STATUSES = (
     ("0", "The formula holds of every behaviour; the automaton is shown to be minimal; the first formula implies the second; there is a controller; "
@@ -53,13 +53,13 @@ complete -o filenames -F _dcvalid dcvalid ask explain
 
 def completion():
     lines, values = [], set()
-    more = {"ask": (SHOW,), "explain": ASK[0].options + (SHOW,), "dcvalid": ()}
+    more = {"explain": options_of(ASK[0]), "dcvalid": ()}
     for tool, commands in (("dcvalid", PROGRAM), ("explain", PROGRAM), ("ask", ASK)):
         for command in commands:
-            options = command.options + more[tool]
+            options = options_of(command) if tool == "ask" else command.options + more[tool]
             if options:
                 lines.append(f"    '{tool} {command.name}') echo '{' '.join(option.name for option in options)}' ;;")
-            values |= {option.name for option in options if option.value not in ("", "OUT", "FILE")}
+            values |= {option.name for option in options if option.value not in ("", "OUT", "FILE", "NAMES", "FOLDER")}
     names = {table: " ".join(command.name for command in commands) for table, commands in (("program", PROGRAM), ("ask", ASK))}
     return COMPLETION.format(options="\n".join(lines), values=" | ".join(sorted(values)), **names)
 
@@ -70,11 +70,11 @@ def roff(text):
     return "\\&" + text if text.startswith((".", "'")) else text
 
 
-def described(command, before):
+def described(command, before, options):
     """A command with its options, as a part of the man page."""
     words = " ".join([before, command.operands]) if command.operands else before
     lines = [".TP", f".B {roff(words)}", roff(command.summary[0].upper() + command.summary[1:] + ".")]
-    for option in command.options:
+    for option in options:
         words = f"{option.name} {option.value}".strip()
         lines += [".RS", ".TP", f".B {roff(words)}", roff(option.summary[0].upper() + option.summary[1:] + "."), ".RE"]
     return lines
@@ -86,14 +86,14 @@ def man_page():
              roff("Decides whether a requirement about stretches of time always holds, and shows a shortest behaviour that breaks it. The report is on "
                   "standard output, and the line of a fault on standard error. /dev/stdin is a file too."), ".SH COMMANDS"]
     for command in PROGRAM:
-        lines += described(command, command.name)
+        lines += described(command, command.name, command.options)
     lines += [".SH EXIT STATUS"]
     for status, meaning in STATUSES:
         lines += [".TP", f".B {status}", roff(meaning)]
     lines += [".SH EXAMPLES", ".nf", *map(roff, EXAMPLES), ".fi", ".SH THE WORKBENCH",
               roff("The repository of dcvalid has the script ./ask, which asks questions around a requirement of the program. Nothing of it is proved.")]
     for command in ASK:
-        lines += described(command, f"ask {command.name}")
+        lines += described(command, f"ask {command.name}", options_of(command))
     return "\n".join(lines) + "\n"
 
 

