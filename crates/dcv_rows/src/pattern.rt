@@ -1,4 +1,6 @@
 // The bytes of a file, and what is wanted of a report or of a message.
+ghost use Rattle.std.specs.Prelude.{◌≡◌, true, None};
+
 use std::alloc::{AllocError, Global};
 
 /// Bytes, and where there is a gap in them, those behind it.
@@ -32,7 +34,9 @@ impl Pattern {
     }
 
     /// Whether these are the bytes, with some at the gap, if there is one.
-    pub(crate) fn fits(&self, bytes: &[u8]) -> bool {
+    pub(crate) fn fits(&self, bytes: &[u8]) -> bool
+        ensures whole { self.now.back ≡ None → result ≡ true → bytes.now ≡ self.now.front.items }
+    {
         let Some(back) = &self.back else {
             return bytes == self.front.as_slice();
         };
