@@ -1,5 +1,5 @@
 // Runs the words of a row over its files, and compares what came with what is wanted.
-ghost use Rattle.std.specs.Prelude.{◌<◌, All, IfOk};
+ghost use Rattle.std.specs.Prelude.{◌≡◌, ◌<◌, All, false, IfNone, IfOk, OnSome};
 
 use crate::fault::Fault;
 use crate::pattern::Pattern;
@@ -23,7 +23,12 @@ struct Ran {
 }
 
 /// Whether the row holds. Where it does not it is told why.
-pub(crate) fn judge(rt: &HostRuntime, row: &Row) -> Result<bool, Fault> {
+pub(crate) fn judge(rt: &HostRuntime, row: &Row) -> Result<bool, Fault>
+    // A row with a line that is none of a row, without words or without a status never holds.
+    ensures refused { OnSome row.now.refused (IfOk result (λ holds. holds ≡ false)) }
+    ensures words { IfNone row.now.words (IfOk result (λ holds. holds ≡ false)) }
+    ensures status { IfNone row.now.numbers.status (IfOk result (λ holds. holds ≡ false)) }
+{
     if let Some(line) = &row.refused {
         println!(rt; "{}: no line of a row: {line}", row.title)?;
         return Ok(false);

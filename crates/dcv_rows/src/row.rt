@@ -1,4 +1,6 @@
 // A row, line by line.
+ghost use Rattle.std.specs.Prelude.{IsSome, OnOk};
+
 use crate::pattern::Pattern;
 use dcv_cli::Words;
 use std::alloc::{AllocError, Global};
@@ -78,7 +80,9 @@ impl Row {
     }
 
     /// Keeps the line as one that is none of a row, if it is the first.
-    pub(crate) fn refuse(&mut self, line: &str) -> Result<(), AllocError> {
+    pub(crate) fn refuse(&mut self, line: &str) -> Result<(), AllocError>
+        ensures refused { OnOk result (IsSome self.new.refused) }
+    {
         if self.refused.is_none() {
             self.refused = Some(String::from_str(self.alloc, line)?);
         }
