@@ -3,13 +3,11 @@ import argparse
 import os
 import re
 import shutil
-import sys
 from dataclasses import dataclass
 from typing import List
 
 from automaton import Choice
 from language import read_text
-from program import Program, Refusal
 
 CODE = os.path.join(os.path.dirname(os.path.abspath(__file__)), "c")
 NARROW = 65_535  # the largest place that an unsigned short of C holds for sure
@@ -156,36 +154,35 @@ def copy_code(folder):
         shutil.copyfile(os.path.join(CODE, f"observer_tables.{ending}"), os.path.join(folder, f"observer_tables.{ending}"))
 
 
-def options(arguments):
-    reader = argparse.ArgumentParser(prog="ask tables", description="Writes the automaton of a requirement as constant arrays in C. Without --name and --out it prints them.")
-    reader.add_argument("file", metavar="FILE")
-    reader.add_argument("--name", help="the tables are NAME_tables, in NAME_tables.h and .c (else the file's name)")
-    reader.add_argument("--out", metavar="FOLDER", help="where they are written (else here)")
-    reader.add_argument("--code", action="store_true", help="puts observer_tables.h and .c beside them")
-    reader.add_argument("--verify", action="store_true", help="writes nothing, and checks the files that are there against the program")
-    reader.add_argument("--show", action="store_true", help="shows what the program is asked")
-    chosen = reader.parse_args(arguments)
-    if chosen.name is not None and not re.fullmatch(r"[A-Za-z][A-Za-z0-9_]*", chosen.name):
-        reader.error(f"{chosen.name} is no name in C")
-    return chosen
+def c_name(word):
+    if not re.fullmatch(r"[A-Za-z][A-Za-z0-9_]*", word):
+        raise argparse.ArgumentTypeError(f"{word} is no name in C")
+    return word
 
 
-def main(arguments):
-    chosen = options(arguments)
-    program = Program(show=chosen.show)
-    name, folder = chosen.name or name_of(chosen.file), chosen.out or "."
-    text = read_text(chosen.file)
+def add_arguments(parser):
+    parser.epilog = "Without --name, --out and --code it prints the tables."
+    parser.add_argument("file", metavar="FILE")
+    parser.add_argument("--name", type=c_name, help="writes NAME_tables.h and NAME_tables.c (else the file's name is taken)")
+    parser.add_argument("--out", metavar="FOLDER", help="where they are written (else here)")
+    parser.add_argument("--code", action="store_true", help="writes observer_tables.h and observer_tables.c beside them")
+    parser.add_argument("--verify", action="store_true", help="writes nothing, and checks the files that are there against the program; status 1 where they are wrong")
+
+
+def run(options, program):
+    name, folder = options.name or name_of(options.file), options.out or "."
+    text = read_text(options.file)
     automaton = program.automaton(text)
-    if chosen.verify:
+    if options.verify:
         import tables_check
         return tables_check.verify(program, text, automaton, folder, name)
-    tables, source = tables_of(automaton), os.path.basename(chosen.file).replace("*/", "")
+    tables, source = tables_of(automaton), os.path.basename(options.file).replace("*/", "")
     texts = [("h", header_text(tables, automaton.variables, name, source)), ("c", source_text(tables, name, source))]
-    if not chosen.name and not chosen.out and not chosen.code:
+    if not (options.name or options.out or options.code):
         print("\n".join(f"/* ---- {name}_tables.{ending} */\n{text}" for ending, text in texts), end="")
         return 0
     write(folder, name, texts)
-    if chosen.code:
+    if options.code:
         copy_code(folder)
-    print(f"{os.path.join(folder, name)}_tables.c: {tables.states} states, {len(tables.high)} nodes, {tables.size} bytes", file=sys.stderr)
+    print(f"{os.path.join(folder, name)}_tables.c: {tables.states} states, {len(tables.high)} nodes, {tables.size} bytes")
     return 0
