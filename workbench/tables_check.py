@@ -5,13 +5,15 @@ import re
 import shutil
 import subprocess
 import tempfile
-from concurrent.futures import ThreadPoolExecutor
 
+import observers
 from automaton import Choice
 from tables import CODE, Tables
+from waves import in_line
 
 FLAGS = ["-std=c89", "-O1", "-Wall", "-Wextra", "-Wconversion", "-pedantic", "-Werror"]
 DRAWN, WALKED = 1000, 1_000_000
+REPLAYED = 500_000_000  # instants times states: what a replay of an observer takes
 
 # Reads behaviours, a line of digits for each instant and an empty line behind each; or, with a word, takes each letter from each state.
 HARNESS = """
@@ -178,15 +180,21 @@ def by_numbers(tables, word):
 
 
 def run_drawn(program, text, binary, tables, automaton):
-    """The drawn behaviours through the tables and through the program's own observer."""
-    words, observer = list(drawn_behaviours(automaton)), program.observer(text)
-    with ThreadPoolExecutor(4) as pool:
-        replayed = pool.map(lambda word: "".join(str(int(answer)) for answer in program.replay(observer, word)), words)
-        for word, found, wanted in zip(words, answers_of(binary, tables, words), replayed):
-            if found != wanted:
-                at = next((i for i, pair in enumerate(zip(found, wanted)) if pair[0] != pair[1]), min(len(found), len(wanted)))
-                raise Wrong(f"instant {at} of {' '.join(word[:at + 1])}: the tables answer {found[at:at + 1]}, replay-c {wanted[at:at + 1]}")
-    return len(words), sum(map(len, words))
+    """The drawn behaviours through the tables and, one behind another, through the program's own observer with an input that restarts it."""
+    words, instants = [], 0
+    for word in drawn_behaviours(automaton):
+        instants += len(word)
+        if words and instants * automaton.states > REPLAYED:
+            break
+        words.append(word)
+    trace = [("0" if instant else "1") + letter.strip("-") for word in words for instant, letter in enumerate(word)]
+    replayed = iter(program.replay(observers.restarted(program.observer(text)), trace))
+    for word, found in zip(words, answers_of(binary, tables, words)):
+        wanted = "".join(str(int(next(replayed))) for _ in word)
+        if found != wanted:
+            at = next((i for i, pair in enumerate(zip(found, wanted)) if pair[0] != pair[1]), min(len(found), len(wanted)))
+            raise Wrong(f"instant {at} of {in_line(word[:at + 1])}: the tables answer {found[at:at + 1]}, replay-c {wanted[at:at + 1]}")
+    return len(words), len(trace)
 
 
 def verify(program, text, automaton, folder, name):

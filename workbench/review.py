@@ -1,0 +1,188 @@
+"""`review`: what a colleague would ask of a requirement, each question with its answer and a behaviour that shows it."""
+import itertools
+from dataclasses import replace
+
+import vacuity
+from language import Tree, read_text
+from questions import Requirement
+from waves import in_line, waves
+from writing import expand, to_text
+
+TWIN = "twin"
+
+
+# ---- a telling example
+
+
+def names_in(tree):
+    return {part.value for part in tree.walk() if part.kind == "name"}
+
+
+def happenings(goal):
+    """The left sides of => and the propositions of <P>, {{P}} and P => Q that have no quantified name: what may happen, or not."""
+    lefts, events = {}, {}
+
+    def walk(tree, bound):
+        if tree.kind in ("ex", "all"):
+            bound = bound | {tree.value}
+        first = tree.parts[0] if tree.parts else None
+        if tree.kind == "implies" and not names_in(first) & bound:
+            lefts[f"<>({to_text(first)})"] = to_text(first)
+        if tree.kind in ("point", "unit", "p_implies") and not names_in(first) & bound:
+            events[f"<><{to_text(first)}>"] = to_text(first)
+        for part in tree.parts:
+            walk(part, bound)
+
+    walk(goal, frozenset())
+    return {**lefts, **events}
+
+
+def telling(requirement):
+    """A shortest behaviour in which as much happens as can together, and what cannot happen beside the rest."""
+    wishes = {f"<><{name}> && <><!{name}>": f"{name} is true and false" for name in requirement.variables}
+    wishes.update((wish, f"{event} happens") for wish, event in happenings(expand(requirement.file)).items())
+    whole = requirement.check(requirement.and_also(wishes))
+    if whole and whole.satisfiable:
+        return whole.example, []
+    alone = requirement.side_by_side(lambda wish: requirement.check(requirement.and_also([wish])), [(wish,) for wish in wishes])
+    got, without, best = [], [], None
+    for (wish, said), answer in zip(wishes.items(), alone):
+        verdict = answer and answer.satisfiable and requirement.check(requirement.and_also(got + [wish]))
+        if verdict and verdict.satisfiable:
+            got.append(wish)
+            best = verdict.example
+        elif answer:
+            without.append(said)
+    return best, without
+
+
+def example_section(requirement):
+    best, without = telling(requirement)
+    if best is None:
+        return []
+    lines = waves(requirement.variables, best) if requirement.variables else [in_line(best)]
+    if without:
+        lines.append(f"(Not there, since it does not happen, or not together with the rest: {'; '.join(without)}.)")
+    return lines
+
+
+# ---- boundaries
+
+
+def neighbours(requirement):
+    """Each number one lower and one higher, and each [P] as [[P]] and back: the part, what stands there then, and the whole text."""
+    for occurrence in requirement.occurrences():
+        tree = occurrence.tree
+        start, end = occurrence.place
+        if tree.kind in ("slen", "scount", "sdur"):
+            digits = len(requirement.text[start:end]) - len(requirement.text[start:end].rstrip("0123456789"))
+            for number in (tree.value[1] - 1, tree.value[1] + 1):
+                if 0 <= number <= 9999:
+                    yield tree, str(number), requirement.put(end - digits, end, str(number))
+        elif tree.kind == "run":
+            new = f"[{requirement.text[start:end]}]"
+            yield tree, new, requirement.put(start, end, new)
+        elif tree.kind == "every":
+            new = requirement.text[start + 1:end - 1]
+            yield tree, new, requirement.put(start, end, new)
+
+
+def boundary_section(requirement):
+    cases = list(neighbours(requirement))
+    pairs = [pair for _, _, text in cases for pair in ((requirement.text, text), (text, requirement.text))]
+    answers = iter(requirement.side_by_side(requirement.difference, pairs))
+    found = [(tree, new, next(answers), next(answers)) for tree, new, _ in cases]
+    lines = []
+    for tree, those in itertools.groupby(found, lambda case: case[0]):
+        told = list(boundaries_of(those, requirement.verdict.valid))
+        if told:
+            lines += [f"line {requirement.line(tree)}: {requirement.part(tree)}", *told]
+    return lines
+
+
+def boundaries_of(cases, valid):
+    """What is told of the neighbours of one part. That a theorem's neighbour is one too is worth saying where all of them are."""
+    same, others = [], []
+    for _, new, here, there in cases:
+        if here == there == "same":
+            same.append(new)
+        elif here is None or there is None:
+            others.append(f"  with {new}: over the limits of this question")
+        else:
+            others += [f"  with {new}: good now, bad then: {in_line(here)}"] if here != "same" else []
+            others += [f"  with {new}: bad now, good then: {in_line(there)}"] if there != "same" else []
+    if same and not (valid and others):
+        yield f"  with {' or '.join(same)}: the same meaning"
+    yield from others
+
+
+# ---- near misses
+
+
+def twin_of(goal, variable):
+    """The goal without macros, another variable in the place of one."""
+    if goal.kind == "name" and goal.value == variable:
+        return Tree("name", (), TWIN)
+    return replace(goal, parts=tuple(twin_of(part, variable) for part in goal.parts))
+
+
+def near_miss(requirement, goal, variable, high):
+    """A shortest good behaviour, at one instant of which the variable has this value, and is bad with the other value there."""
+    one, other = (variable, TWIN) if high else (TWIN, variable)
+    once = f"scount ({one} && !{other}) = 1 && [[{other} => {one}]]"
+    names = ", ".join((*requirement.variables, TWIN))
+    verdict = requirement.check(f"var {names};\ninfer {once} && ({to_text(goal)}) && !({to_text(twin_of(goal, variable))});\n")
+    return verdict.example if verdict and verdict.satisfiable else None
+
+
+def near_section(requirement):
+    if len(requirement.variables) > 15 or TWIN in names_in(expand(requirement.file)) | set(requirement.variables):
+        return []
+    goal = expand(requirement.file)
+    cases = [(variable, high) for variable in requirement.variables for high in (True, False)]
+    answers = requirement.side_by_side(lambda variable, high: near_miss(requirement, goal, variable, high), cases)
+    lines = []
+    for (variable, high), word in zip(cases, answers):
+        if word is None:
+            continue
+        place = requirement.variables.index(variable)
+        good = [letter[:-1] for letter in word]
+        bad = [letter[:place] + letter[-1] + letter[place + 1:-1] for letter in word]
+        at = next(instant for instant, pair in enumerate(zip(good, bad)) if pair[0] != pair[1])
+        lines.append(f"{variable} has to be {'true' if high else 'false'} at instant {at}:  good {in_line(good)}   bad {in_line(bad)}")
+    return lines
+
+
+# ---- the review
+
+
+def verdict_section(verdict):
+    if not verdict.satisfiable:
+        return ["No behaviour satisfies it."]
+    return ["Every behaviour satisfies it: it asks for nothing, or it is a theorem."] if verdict.valid else []
+
+
+SECTIONS = (
+    ("Does it say anything at all?", lambda requirement: verdict_section(requirement.verdict)),
+    ("What does it look like when it holds? A shortest behaviour in which all of it happens:", example_section),
+    ("Is each number and bracket the one that is meant? Shortest behaviours that tell it from its neighbour:", boundary_section),
+    ("What does each variable decide? A good and a bad behaviour that differ in one value:", near_section),
+    ("Does each part matter?", vacuity.section),
+)
+
+
+def add_arguments(parser):
+    parser.add_argument("file", metavar="FILE")
+
+
+def run(options, program):
+    requirement = Requirement(program, read_text(options.file))
+    requirement.verdict = program.check(requirement.text)
+    names = " ".join(requirement.variables)
+    print(f"{options.file}: " + (f"an instant is written as the digits of {names}" if names else "no variables"))
+    sections = list(requirement.outer.map(lambda section: section[1](requirement), SECTIONS))
+    for (title, _), lines in zip(SECTIONS, sections):
+        if lines:
+            print(f"\n{title}")
+            print("\n".join("  " + line if line else "" for line in lines))
+    return 0
