@@ -37,32 +37,45 @@ def happenings(goal):
     return {**lefts, **events}
 
 
+def wishes_of(requirement):
+    """What may happen, as a formula and in words: the wishes that hold in fewest behaviours come first."""
+    wishes = {f"<><{name}>": f"{name} is true" for name in requirement.variables}
+    for wish, event in happenings(expand(requirement.file)).items():
+        wishes.setdefault(wish, f"{event} happens")
+    wishes.update((f"<><!{name}>", f"{name} is false") for name in requirement.variables)
+    return wishes
+
+
 def telling(requirement):
-    """A shortest behaviour in which as much happens as can together, and what cannot happen beside the rest."""
-    wishes = {f"<><{name}> && <><!{name}>": f"{name} is true and false" for name in requirement.variables}
-    wishes.update((wish, f"{event} happens") for wish, event in happenings(expand(requirement.file)).items())
-    whole = requirement.check(requirement.and_also(wishes))
+    """A shortest behaviour in which as much happens as can together; what does not happen in it; and what was too large to ask."""
+    wishes = wishes_of(requirement)
+    whole = requirement.check(requirement.and_also(wishes), wide=True)
     if whole and whole.satisfiable:
-        return whole.example, []
-    alone = requirement.side_by_side(lambda wish: requirement.check(requirement.and_also([wish])), [(wish,) for wish in wishes])
-    got, without, best = [], [], None
+        return whole.example, [], []
+    alone = requirement.side_by_side(lambda wish: requirement.check(requirement.and_also([wish]), wide=True), [(wish,) for wish in wishes])
+    got, without, unknown, best = [], [], [], None
     for (wish, said), answer in zip(wishes.items(), alone):
-        verdict = answer and answer.satisfiable and requirement.check(requirement.and_also(got + [wish]))
-        if verdict and verdict.satisfiable:
+        if answer and answer.satisfiable:
+            answer = requirement.check(requirement.and_also(got + [wish]), wide=True)
+        if answer is None:
+            unknown.append(said)
+        elif answer.satisfiable:
             got.append(wish)
-            best = verdict.example
-        elif answer:
+            best = answer.example
+        else:
             without.append(said)
-    return best, without
+    return best, without, unknown
 
 
 def example_section(requirement):
-    best, without = telling(requirement)
+    best, without, unknown = telling(requirement)
     if best is None:
         return []
     lines = waves(requirement.variables, best) if requirement.variables else [in_line(best)]
     if without:
-        lines.append(f"(Not there, since it does not happen, or not together with the rest: {'; '.join(without)}.)")
+        lines.append(f"(Not asked for, since it never happens, or not together with the rest: {'; '.join(without)}.)")
+    if unknown:
+        lines.append(f"(Not asked for, since the question is over the limits: {'; '.join(unknown)}.)")
     return lines
 
 
@@ -80,11 +93,9 @@ def neighbours(requirement):
                 if 0 <= number <= 9999:
                     yield tree, str(number), requirement.put(end - digits, end, str(number))
         elif tree.kind == "run":
-            new = f"[{requirement.text[start:end]}]"
-            yield tree, new, requirement.put(start, end, new)
+            yield tree, "[[..]]", requirement.put(start, end, f"[{requirement.text[start:end]}]")
         elif tree.kind == "every":
-            new = requirement.text[start + 1:end - 1]
-            yield tree, new, requirement.put(start, end, new)
+            yield tree, "[..]", requirement.put(start, end, requirement.text[start + 1:end - 1])
 
 
 def boundary_section(requirement):
@@ -132,7 +143,7 @@ def near_miss(requirement, goal, variable, high):
     once = f"scount ({one} && !{other}) = 1 && [[{other} => {one}]]"
     names = ", ".join((*requirement.variables, TWIN))
     verdict = requirement.check(f"var {names};\ninfer {once} && ({to_text(goal)}) && !({to_text(twin_of(goal, variable))});\n")
-    return verdict.example if verdict and verdict.satisfiable else None
+    return "over" if verdict is None else verdict.example
 
 
 def near_section(requirement):
@@ -143,7 +154,8 @@ def near_section(requirement):
     answers = requirement.side_by_side(lambda variable, high: near_miss(requirement, goal, variable, high), cases)
     lines = []
     for (variable, high), word in zip(cases, answers):
-        if word is None:
+        if word in (None, "over"):
+            lines += [f"{variable} has to be {'true' if high else 'false'}: over the limits of this question"] if word else []
             continue
         place = requirement.variables.index(variable)
         good = [letter[:-1] for letter in word]
