@@ -142,7 +142,7 @@ def near_miss(requirement, goal, variable, high):
     one, other = (variable, TWIN) if high else (TWIN, variable)
     once = f"scount ({one} && !{other}) = 1 && [[{other} => {one}]]"
     names = ", ".join((*requirement.variables, TWIN))
-    verdict = requirement.check(f"var {names};\ninfer {once} && ({to_text(goal)}) && !({to_text(twin_of(goal, variable))});\n")
+    verdict = requirement.check(f"var {names};\ninfer {once} && ({to_text(goal)}) && !({to_text(twin_of(goal, variable))});\n", wide=True)
     return "over" if verdict is None else verdict.example
 
 
