@@ -10,6 +10,8 @@ from typing import List, NamedTuple, Optional
 from automaton import read_automaton
 
 ROOT = os.path.dirname(os.path.dirname(os.path.abspath(__file__)))
+SCRIPT = os.path.join(ROOT, "dcvalid")
+BUILT = os.path.join(ROOT, "crates", "dcvalid", "out", "dcvalid")
 Word = List[str]  # a behaviour: a letter for each instant
 
 
@@ -73,25 +75,30 @@ class Program:
     """`path` names another program; else DCVALID does, else it is the repository's, which is proved and built first where it is not."""
 
     def __init__(self, path=None, show=False):
-        self.path = path or os.environ.get("DCVALID")
+        self.path = path or os.environ.get("DCVALID") or None
         self.show = show
         self.runs = 0
+
+    def is_there(self):
+        """Whether there is a program that can be asked without a build."""
+        return self.path is not None or os.access(BUILT, os.X_OK)
 
     def command(self):
         """The path of the program. The first call builds the repository's own, and lets its messages through."""
         if self.path is None:
-            script = os.path.join(ROOT, "dcvalid")
-            if subprocess.run([script, "--build"], stdout=subprocess.DEVNULL).returncode == 125:
+            if subprocess.run([SCRIPT, "--build"], stdout=subprocess.DEVNULL).returncode == 125:
                 raise Refusal(125, "")
-            built = os.path.join(ROOT, "crates", "dcvalid", "out", "dcvalid")
-            self.path = built if os.access(built, os.X_OK) else script
+            self.path = BUILT if os.access(BUILT, os.X_OK) else SCRIPT
         return self.path
 
     def run(self, words, text=None):
         """Runs the program on these words; the text is on its standard input, which they name /dev/stdin."""
         self.runs += 1
         data = None if text is None else text.encode("latin-1")
-        done = subprocess.run([self.command(), *words], input=data, stdout=subprocess.PIPE, stderr=subprocess.PIPE)
+        try:
+            done = subprocess.run([self.command(), *words], input=data, stdout=subprocess.PIPE, stderr=subprocess.PIPE)
+        except OSError as error:
+            raise Refusal(125, f"the program {self.path} could not be run: {error.strerror}")
         return Answer(done.returncode, done.stdout.decode("latin-1"), done.stderr.decode("latin-1"))
 
     def ask(self, command, *texts, options=()):

@@ -2,6 +2,7 @@
 import shutil
 from typing import List, NamedTuple
 
+LEVELS = {"1": "#", "0": "_"}
 ROOM = 4  # a run of at most so many instants is drawn whole
 
 
@@ -88,7 +89,7 @@ def waves(variables, word, width=None, shown=None):
 
 def _cell(column):
     """How wide a column is."""
-    return max(3, len(str(column.first)) + 1) if column.count == 1 else len(str(column.count)) + 4
+    return max(3, len(str(column.first)) + 1) if column.count == 1 else len(str(column.count)) + 5
 
 
 def _block(variables, word, block, margin):
@@ -99,11 +100,8 @@ def _block(variables, word, block, margin):
     for place, name in enumerate(variables):
         line = name.ljust(margin)
         for column in block:
-            high = word[column.first][place] == "1"
-            if column.count == 1:
-                line += ("#" if high else "_") * _cell(column)
-            else:
-                line += f" x{column.count} ".center(_cell(column), "#" if high else "_")
+            level = LEVELS.get(word[column.first][place], "?")
+            line += level * _cell(column) if column.count == 1 else f" x{column.count} ".center(_cell(column), level)
         lines.append(line)
     return lines
 
