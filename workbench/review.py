@@ -47,36 +47,36 @@ def wishes_of(requirement):
 
 
 def telling(requirement):
-    """A shortest behaviour in which as much happens as can together; what does not happen in it; and what was too large to ask."""
+    """A shortest behaviour in which as much happens as can together; and what else was wished, by why it does not happen in it."""
     wishes = wishes_of(requirement)
     whole = requirement.check(requirement.and_also(wishes), wide=True)
     if whole and whole.satisfiable:
-        return whole.example, [], []
+        return whole.example, {}
     alone = requirement.side_by_side(lambda wish: requirement.check(requirement.and_also([wish]), wide=True), [(wish,) for wish in wishes])
-    got, without, unknown, best = [], [], [], None
+    got, best, without = [], None, {"never": [], "apart": [], "over": []}
     for (wish, said), answer in zip(wishes.items(), alone):
-        if answer and answer.satisfiable:
+        possible = answer and answer.satisfiable
+        if possible and got:
             answer = requirement.check(requirement.and_also(got + [wish]), wide=True)
         if answer is None:
-            unknown.append(said)
+            without["over"].append(said)
         elif answer.satisfiable:
             got.append(wish)
             best = answer.example
         else:
-            without.append(said)
-    return best, without, unknown
+            without["apart" if possible else "never"].append(said)
+    return best, without
+
+
+MISSING = {"never": "Where it holds it never happens that", "apart": "Not together with the rest", "over": "Too large to ask for"}
 
 
 def example_section(requirement):
-    best, without, unknown = telling(requirement)
+    best, without = telling(requirement)
     if best is None:
         return []
     lines = waves(requirement.variables, best) if requirement.variables else [in_line(best)]
-    if without:
-        lines.append(f"(Not asked for, since it never happens, or not together with the rest: {'; '.join(without)}.)")
-    if unknown:
-        lines.append(f"(Not asked for, since the question is over the limits: {'; '.join(unknown)}.)")
-    return lines
+    return lines + [f"{MISSING[why]}: {'; '.join(said)}." for why, said in without.items() if said]
 
 
 # ---- boundaries
@@ -176,7 +176,7 @@ def verdict_section(verdict):
 
 SECTIONS = (
     ("Does it say anything at all?", lambda requirement: verdict_section(requirement.verdict)),
-    ("What does it look like when it holds? A shortest behaviour in which all of it happens:", example_section),
+    ("What does it look like when it holds? A shortest behaviour in which as much as can happens:", example_section),
     ("Is each number and bracket the one that is meant? Shortest behaviours that tell it from its neighbour:", boundary_section),
     ("What does each variable decide? A good and a bad behaviour that differ in one value:", near_section),
     ("Does each part matter?", vacuity.section),
@@ -191,7 +191,7 @@ def run(options, program):
     requirement = Requirement(program, read_text(options.file))
     requirement.verdict = program.check(requirement.text)
     names = " ".join(requirement.variables)
-    print(f"{options.file}: " + (f"an instant is written as the digits of {names}" if names else "no variables"))
+    print(f"{options.shown}: " + (f"an instant is written as the digits of {names}" if names else "no variables"))
     sections = list(requirement.outer.map(lambda section: section[1](requirement), SECTIONS))
     for (title, _), lines in zip(SECTIONS, sections):
         if lines:

@@ -170,13 +170,13 @@ def add_arguments(parser):
 
 
 def run(options, program):
-    name, folder = options.name or name_of(options.file), options.out or "."
+    name, folder = options.name or name_of(options.shown), options.out or "."
     text = read_text(options.file)
     automaton = program.automaton(text)
     if options.verify:
         import tables_check
         return tables_check.verify(program, text, automaton, folder, name)
-    tables, source = tables_of(automaton), os.path.basename(options.file).replace("*/", "")
+    tables, source = tables_of(automaton), os.path.basename(options.shown).replace("*/", "")
     texts = [("h", header_text(tables, automaton.variables, name, source)), ("c", source_text(tables, name, source))]
     if not (options.name or options.out or options.code):
         print("\n".join(f"/* ---- {name}_tables.{ending} */\n{text}" for ending, text in texts), end="")

@@ -88,19 +88,6 @@ def needless_lines(requirement):
         yield line
 
 
-def never_lines(requirement):
-    """Values that a variable has in no behaviour that satisfies the requirement."""
-    cases = [(name, value) for name in requirement.variables for value in (True, False)]
-
-    def happens(name, value):
-        verdict = requirement.check(requirement.and_also([f"<><{name if value else '!' + name}>"]))
-        return verdict is None or verdict.satisfiable
-
-    for (name, value), found in zip(cases, requirement.side_by_side(happens, cases)):
-        if not found:
-            yield f"{name} is never {'true' if value else 'false'} where it holds"
-
-
 def section(requirement):
     verdict = requirement.verdict
     if not verdict.satisfiable:
@@ -108,5 +95,4 @@ def section(requirement):
     lines = []
     if not verdict.valid:
         lines += [f"{name} decides nothing" for name in requirement.variables if f" {name} ? " not in requirement.meaning]
-        lines += never_lines(requirement)
     return lines + list(needless_lines(requirement))

@@ -164,7 +164,7 @@ def add_arguments(parser):
     parser.add_argument("--csv", action="store_const", const="csv", dest="kind", help="the log is CSV, whatever its name")
     parser.add_argument("--vcd", action="store_const", const="vcd", dest="kind", help="the log is VCD, whatever its name")
     parser.add_argument("--trace", action="store_true", help="writes the trace that replay-c takes, and judges nothing")
-    parser.add_argument("--piece", metavar="N", type=at_least_one, default=PIECE, help=argparse.SUPPRESS)
+    parser.add_argument("--piece", metavar="N", type=at_least_one, default=PIECE, help=f"the rows of one replay, 1,000,000 at most (else {PIECE})")
 
 
 def run(options, program):
@@ -185,7 +185,7 @@ def run(options, program):
 def judged(options, program, text, variables):
     unknown = [name for name, _ in options.column if name not in variables]
     if unknown:
-        raise LogFault(f"--column: {unknown[0]} is no variable of {options.file}; it has: {', '.join(variables) or 'none'}")
+        raise LogFault(f"--column: {unknown[0]} is no variable of {options.shown}; it has: {', '.join(variables) or 'none'}")
     rows = rows_of(options.log, variables, dict(options.column), options.kind, options.clock, options.period)
     if options.trace:
         for _, letter in rows:

@@ -3,7 +3,6 @@ import os
 import tempfile
 import unittest
 
-import asking  # the path of the modules
 from logs import LogFault, rows_of
 
 VCD = """$date today $end
