@@ -51,7 +51,7 @@ class Tables:
 
 def nodes_of(automaton):
     """The nodes of all rows, each once: those of the last variable first."""
-    found, todo = {}, list(automaton.rows)
+    found, todo = {}, automaton.rows[::-1]
     while todo:
         node = todo.pop()
         if isinstance(node, Choice) and id(node) not in found:

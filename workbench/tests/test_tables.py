@@ -56,7 +56,7 @@ int main(void)
 
 class Arrays(unittest.TestCase):
     def test_by_hand(self):
-        """The node of q is place 4 and that of p, which leads to it, place 5; states 2 and 3 accept, so the bits are 4 and 8."""
+        """Nodes follow the 4 states, those of q first. The node of q is place 4 and that of p, which leads to it, place 5; states 2 and 3 accept, so the bits are 4 and 8."""
         wanted = tables.Tables(2, 4, [5, 4], [5, 1, 1, 3], [2, 3], [1, 4], [12])
         self.assertEqual(tables.tables_of(read_automaton(SMALL)), wanted)
 
@@ -81,7 +81,7 @@ class Files(WithFolder):
             made = tables.tables_of(automaton)
             tables.write(self.folder, "one", [("c", tables.source_text(made, "one", "one.dc"))])
             read = tables_check.read_tables(os.path.join(self.folder, "one_tables.c"), "one")
-            self.assertEqual(read, made)
+            self.assertEqual((read.rows, read.high, read.low), (made.rows, made.high or [0], made.low or [0]))
             tables_check.walk(read, automaton)
             for word in tables_check.drawn_behaviours(automaton, 50):
                 self.assertEqual(read.accept(self.state(read, word)), automaton.accepts(word))
@@ -115,7 +115,7 @@ class Files(WithFolder):
         path = self.write(RESPONSE, "door")
         text = read_text(path)
         with open(path, "w") as file:
-            file.write(text.replace("4u, 3u, 2u, 1u, 0u", "4u, 3u, 3u, 1u, 0u"))
+            file.write(text.replace("1u, 2u, 3u, 4u, 0u", "1u, 2u, 4u, 4u, 0u"))
         status, out, _ = run("ask", "tables", RESPONSE, "--name", "door", "--out", self.folder, "--verify")
         self.assertEqual(status, 1)
         self.assertIn("wrong: state 2, letter 00: the automaton goes to state 3, and the tables do not", out)
