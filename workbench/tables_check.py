@@ -13,7 +13,7 @@ from waves import in_line
 
 FLAGS = ["-std=c89", "-O1", "-Wall", "-Wextra", "-Wconversion", "-pedantic", "-Werror"]
 DRAWN, WALKED = 1000, 1_000_000
-REPLAYED = 500_000_000  # instants times states: what a replay of an observer takes
+REPLAYED = 600_000_000  # instants times states: what a replay of an observer takes
 
 # Reads behaviours, a line of digits for each instant and an empty line behind each; or, with a word, takes each letter from each state.
 HARNESS = """
