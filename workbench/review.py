@@ -138,30 +138,39 @@ def twin_of(goal, variable):
 
 
 def near_miss(requirement, goal, variable, high):
-    """A shortest good behaviour, at one instant of which the variable has this value, and is bad with the other value there."""
+    """A shortest good behaviour that is bad with the other value of the variable at one instant, at which it has this value: both, or None, or `over`."""
     one, other = (variable, TWIN) if high else (TWIN, variable)
     once = f"scount ({one} && !{other}) = 1 && [[{other} => {one}]]"
-    names = ", ".join((*requirement.variables, TWIN))
+    names, place = ", ".join((*requirement.variables, TWIN)), requirement.variables.index(variable)
     verdict = requirement.check(f"var {names};\ninfer {once} && ({to_text(goal)}) && !({to_text(twin_of(goal, variable))});\n", wide=True)
-    return "over" if verdict is None else verdict.example
+    if verdict is None:
+        return confirmed(requirement, requirement.search().shortest(place, high))
+    word = verdict.example
+    return word and ([letter[:-1] for letter in word], [letter[:place] + letter[-1] + letter[place + 1:-1] for letter in word])
+
+
+def confirmed(requirement, found):
+    """A pair that was found in the automaton's text, once the program's observer has said of both what they are."""
+    if found in (None, "over"):
+        return found
+    answers = [requirement.program.replay(requirement.observer(), word)[-1] for word in found]
+    return found if answers == [True, False] else "over"
 
 
 def near_section(requirement):
-    if len(requirement.variables) > 15 or TWIN in names_in(expand(requirement.file)) | set(requirement.variables):
-        return []
     goal = expand(requirement.file)
+    if len(requirement.variables) > 15 or TWIN in names_in(goal) | set(requirement.variables):
+        return []
     cases = [(variable, high) for variable in requirement.variables for high in (True, False)]
     answers = requirement.side_by_side(lambda variable, high: near_miss(requirement, goal, variable, high), cases)
     lines = []
-    for (variable, high), word in zip(cases, answers):
-        if word in (None, "over"):
-            lines += [f"{variable} has to be {'true' if high else 'false'}: over the limits of this question"] if word else []
-            continue
-        place = requirement.variables.index(variable)
-        good = [letter[:-1] for letter in word]
-        bad = [letter[:place] + letter[-1] + letter[place + 1:-1] for letter in word]
-        at = next(instant for instant, pair in enumerate(zip(good, bad)) if pair[0] != pair[1])
-        lines.append(f"{variable} has to be {'true' if high else 'false'} at instant {at}:  good {in_line(good)}   bad {in_line(bad)}")
+    for (variable, high), pair in zip(cases, answers):
+        what = f"{variable} has to be {'true' if high else 'false'}"
+        if pair == "over":
+            lines.append(f"{what}: over the limits of this question")
+        elif pair:
+            at = next(instant for instant, letters in enumerate(zip(*pair)) if letters[0] != letters[1])
+            lines.append(f"{what} at instant {at}:  good {in_line(pair[0])}   bad {in_line(pair[1])}")
     return lines
 
 

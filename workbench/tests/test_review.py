@@ -1,7 +1,10 @@
 """`review`: boundaries, near misses, examples and parts that do not matter, of requirements whose answers are reasoned out by hand."""
 import unittest
 
-from support import WithFolder, needs_program, run
+from language import read_text
+from program import Program
+from support import PROGRAM, WithFolder, examples, needs_program, run
+from writing import expand
 
 
 @needs_program
@@ -73,6 +76,24 @@ class Review(WithFolder):
     def test_an_assumption_that_a_theorem_does_not_need(self):
         lines = self.review("var p, q; infer [[p]] && [[q]] => <><p>;")["Does each part matter"]
         self.assertEqual(lines, ["line 1: [[q]] may be true and the meaning is the same: the others of the && imply it"])
+
+    def test_near_misses_in_the_automaton_are_as_short(self):
+        """The search in an automaton's text finds pairs of the same lengths as the program does, or none where it has none."""
+        import review
+        from questions import Requirement
+        found = 0
+        for path in examples():
+            requirement = Requirement(Program(PROGRAM), read_text(path))
+            goal = expand(requirement.file)
+            for place, variable in enumerate(requirement.variables):
+                for high in (True, False):
+                    asked, searched = review.near_miss(requirement, goal, variable, high), requirement.search().shortest(place, high)
+                    self.assertEqual(bool(asked), bool(searched))
+                    if asked and "over" not in (asked, searched):
+                        found += 1
+                        self.assertEqual(len(asked[0]), len(searched[0]), (path, variable))
+                        self.assertEqual(review.confirmed(requirement, searched), searched)
+        self.assertGreater(found, 30)
 
     def test_the_questions_are_shown(self):
         status, _, err = run("ask", "review", self.file("one.dc", "var p; infer [[p]];"), "--show")
