@@ -8,7 +8,7 @@ from questions import Requirement
 from waves import in_line, waves
 from writing import expand, to_text
 
-TWIN = "twin"
+MOST_WISHES = 14  # with more of them the limits of an example are lower
 
 
 # ---- a telling example
@@ -49,15 +49,15 @@ def wishes_of(requirement):
 def telling(requirement):
     """A shortest behaviour in which as much happens as can together; and what else was wished, by why it does not happen in it."""
     wishes = wishes_of(requirement)
-    whole = requirement.check(requirement.and_also(wishes), wide=True)
+    whole = requirement.check(requirement.and_also(wishes), wide=len(wishes) <= MOST_WISHES)
     if whole and whole.satisfiable:
         return whole.example, {}
-    alone = requirement.side_by_side(lambda wish: requirement.check(requirement.and_also([wish]), wide=True), [(wish,) for wish in wishes])
+    alone = requirement.side_by_side(lambda wish: requirement.check(requirement.and_also([wish])), [(wish,) for wish in wishes])
     got, best, without = [], None, {"never": [], "apart": [], "over": []}
     for (wish, said), answer in zip(wishes.items(), alone):
         possible = answer and answer.satisfiable
         if possible and got:
-            answer = requirement.check(requirement.and_also(got + [wish]), wide=True)
+            answer = None if len(without["over"]) > 1 else requirement.check(requirement.and_also(got + [wish]), wide=len(wishes) <= MOST_WISHES)
         if answer is None:
             without["over"].append(said)
         elif answer.satisfiable:
@@ -68,7 +68,7 @@ def telling(requirement):
     return best, without
 
 
-MISSING = {"never": "Where it holds it never happens that", "apart": "Not together with the rest", "over": "Too large to ask for"}
+MISSING = {"never": "Where it holds it never happens that", "apart": "Not together with the rest", "over": "Too large to ask for besides"}
 
 
 def example_section(requirement):
@@ -130,19 +130,26 @@ def boundaries_of(cases, valid):
 # ---- near misses
 
 
-def twin_of(goal, variable):
+def twin_of(goal, variable, twin):
     """The goal without macros, another variable in the place of one."""
     if goal.kind == "name" and goal.value == variable:
-        return Tree("name", (), TWIN)
-    return replace(goal, parts=tuple(twin_of(part, variable) for part in goal.parts))
+        return Tree("name", (), twin)
+    return replace(goal, parts=tuple(twin_of(part, variable, twin) for part in goal.parts))
+
+
+def free_name(goal, variables):
+    """A name for a copy of a variable, which is none of the goal's."""
+    taken = names_in(goal) | set(variables) | {part.value for part in goal.walk() if part.kind in ("ex", "all")}
+    return next(name for name in (f"twin{number or ''}" for number in range(len(taken) + 1)) if name not in taken)
 
 
 def near_miss(requirement, goal, variable, high):
     """A shortest good behaviour that is bad with the other value of the variable at one instant, at which it has this value: both, or None, or `over`."""
-    one, other = (variable, TWIN) if high else (TWIN, variable)
+    twin = free_name(goal, requirement.variables)
+    one, other = (variable, twin) if high else (twin, variable)
     once = f"scount ({one} && !{other}) = 1 && [[{other} => {one}]]"
-    names, place = ", ".join((*requirement.variables, TWIN)), requirement.variables.index(variable)
-    verdict = requirement.check(f"var {names};\ninfer {once} && ({to_text(goal)}) && !({to_text(twin_of(goal, variable))});\n", wide=True)
+    names, place = ", ".join((*requirement.variables, twin)), requirement.variables.index(variable)
+    verdict = requirement.check(f"var {names};\ninfer {once} && ({to_text(goal)}) && !({to_text(twin_of(goal, variable, twin))});\n", wide=True)
     if verdict is None:
         return confirmed(requirement, requirement.search().shortest(place, high))
     word = verdict.example
@@ -159,8 +166,8 @@ def confirmed(requirement, found):
 
 def near_section(requirement):
     goal = expand(requirement.file)
-    if len(requirement.variables) > 15 or TWIN in names_in(goal) | set(requirement.variables):
-        return []
+    if len(requirement.variables) > 15:
+        return ["(Not asked: with 16 variables none can be copied.)"]
     cases = [(variable, high) for variable in requirement.variables for high in (True, False)]
     answers = requirement.side_by_side(lambda variable, high: near_miss(requirement, goal, variable, high), cases)
     lines = []

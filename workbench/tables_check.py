@@ -5,6 +5,7 @@ import re
 import shutil
 import subprocess
 import tempfile
+from concurrent.futures import ThreadPoolExecutor
 
 import observers
 from automaton import Choice
@@ -180,21 +181,28 @@ def by_numbers(tables, word):
 
 
 def run_drawn(program, text, binary, tables, automaton):
-    """The drawn behaviours through the tables and, one behind another, through the program's own observer with an input that restarts it."""
+    """The drawn behaviours through the tables and through the program's own observer; how many there were, and their instants."""
     words, instants = [], 0
     for word in drawn_behaviours(automaton):
         instants += len(word)
         if words and instants * automaton.states > REPLAYED:
             break
         words.append(word)
-    trace = [("0" if instant else "1") + letter.strip("-") for word in words for instant, letter in enumerate(word)]
-    replayed = iter(program.replay(observers.restarted(program.observer(text)), trace))
-    for word, found in zip(words, answers_of(binary, tables, words)):
-        wanted = "".join(str(int(next(replayed))) for _ in word)
+    for word, found, wanted in zip(words, answers_of(binary, tables, words), replayed(program, program.observer(text), tables, words)):
         if found != wanted:
             at = next((i for i, pair in enumerate(zip(found, wanted)) if pair[0] != pair[1]), min(len(found), len(wanted)))
             raise Wrong(f"instant {at} of {in_line(word[:at + 1])}: the tables answer {found[at:at + 1]}, replay-c {wanted[at:at + 1]}")
-    return len(words), len(trace)
+    return len(words), sum(map(len, words))
+
+
+def replayed(program, observer, tables, words):
+    """What replay-c answers: in one run, by an input that restarts the observer, or with 16 variables, which leave no room for one, in a run each."""
+    if tables.variables < 16:
+        trace = [("0" if instant else "1") + letter.strip("-") for word in words for instant, letter in enumerate(word)]
+        answers = iter(program.replay(observers.restarted(observer), trace))
+        return ["".join(str(int(next(answers))) for _ in word) for word in words]
+    with ThreadPoolExecutor(4) as pool:
+        return list(pool.map(lambda word: "".join(str(int(answer)) for answer in program.replay(observer, word)), words))
 
 
 def verify(program, text, automaton, folder, name):

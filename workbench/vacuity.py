@@ -1,4 +1,6 @@
 """The last question of `review`: parts of a requirement that do not matter, variables that decide nothing, values that never happen."""
+from writing import expand, goal_text, to_text
+
 CONSTANTS = ("true", "false", "p_true", "p_false")
 
 # What it says that a part may be a constant, by what stands around it, the part's place there, and the constant.
@@ -88,11 +90,38 @@ def needless_lines(requirement):
         yield line
 
 
+# ---- parts that are constant by themselves
+
+
+def by_itself(requirement, tree):
+    """`always true` or `never true` where the part is, whatever its variables do; else nothing."""
+    names = sorted({part.value for part in tree.walk() if part.kind == "name"})
+    if tree.kind in CONSTANTS + ("name", "pt", "ext") or len(names) > 16:
+        return None
+    text = to_text(tree)
+    holds, fails = (f"<><{text}>", f"!<><!({text})>") if tree.is_proposition else (text, text)
+    can, must = (requirement.check(goal_text(names, goal)) for goal in (holds, fails))
+    if can is None or must is None:
+        return None
+    return "never true" if not can.satisfiable else "always true" if must.valid else None
+
+
+def constant_lines(requirement):
+    """The innermost parts of the goal, macros in place, that are constant; of a theorem those that are never true."""
+    goal = expand(requirement.file)
+    parts = {to_text(tree): tree for tree in reversed(list(goal.walk())) if tree is not goal}
+    found = dict(zip(parts, requirement.side_by_side(lambda tree: by_itself(requirement, tree), [(tree,) for tree in parts.values()])))
+    told = ("never true",) if requirement.verdict.valid else ("never true", "always true")
+    for text, tree in reversed(list(parts.items())):
+        if found[text] in told and not any(found.get(to_text(part)) for part in list(tree.walk())[1:]):
+            yield f"line {requirement.line(tree)}: {text if len(text) <= 60 else text[:57] + ' ..'} is {found[text]}, whatever its variables do"
+
+
 def section(requirement):
     verdict = requirement.verdict
     if not verdict.satisfiable:
-        return []
-    lines = []
+        return list(constant_lines(requirement))
+    lines = list(constant_lines(requirement)) if verdict.valid else []
     if not verdict.valid:
         lines += [f"{name} decides nothing" for name in requirement.variables if f" {name} ? " not in requirement.meaning]
     return lines + list(needless_lines(requirement))
