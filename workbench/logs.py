@@ -147,8 +147,9 @@ class Vcd:
         raise LogFault(f"{self.path}: no $enddefinitions: this is no VCD file")
 
     def times(self, tokens):
-        """The changes of each time: the time, and the values that signals take, in order."""
-        changes = []
+        """The changes of each time: the time, and the values that signals take, in order. A last time without a change is where the file
+        ends, and its changes are None."""
+        changes, first_time = [], None
         for word in tokens:
             first = word[0]
             if first == "#":
@@ -158,6 +159,7 @@ class Vcd:
                     yield self.now, changes
                     changes = []
                 self.now = int(word[1:])
+                first_time = self.now if first_time is None else first_time
             elif first in "01xXzZ":
                 changes.append((word[1:], first.lower()))
             elif first in "bBrR":
@@ -167,7 +169,7 @@ class Vcd:
             elif first != "$":
                 raise self.fault(f"{word} is no change of a value")
         if self.now is not None:
-            yield self.now, changes
+            yield self.now, changes if changes or self.now == first_time else None
 
     def change(self, changes):
         for code, value in changes:
@@ -196,15 +198,17 @@ def from_vcd(path, variables, columns, clock=None, period=None):
 
 def _at_times(vcd, times, names, _):
     for time, changes in times:
-        vcd.change(changes)
-        yield f"#{time}", vcd.word(names, time)
+        if changes is not None:
+            vcd.change(changes)
+            yield f"#{time}", vcd.word(names, time)
 
 
 def _at_rises(vcd, times, names, clock):
     for time, changes in times:
-        if vcd.values.get(clock) == "0" and any(value == "1" and clock in vcd.codes.get(code, ()) for code, value in changes):
+        rises = any(value == "1" and clock in vcd.codes.get(code, ()) for code, value in changes or ())
+        if rises and vcd.values.get(clock) == "0":
             yield f"#{time}", vcd.word(names, time)
-        vcd.change(changes)
+        vcd.change(changes or ())
 
 
 def _at_periods(vcd, times, names, period):
@@ -214,6 +218,8 @@ def _at_periods(vcd, times, names, period):
         while due < time:
             yield f"#{due}", vcd.word(names, due)
             due += period
+        if changes is None:
+            return
         vcd.change(changes)
     if due is not None and due == vcd.now:
         yield f"#{due}", vcd.word(names, due)

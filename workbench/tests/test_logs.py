@@ -81,6 +81,12 @@ class Logs(unittest.TestCase):
         wanted = [("#0", "01"), ("#3", "01"), ("#6", "11"), ("#9", "11"), ("#12", "10"), ("#15", "10")]
         self.assertEqual(self.rows(VCD, ["door", "lamp"], "vcd", period=3), wanted)
 
+    def test_where_a_vcd_file_ends(self):
+        """A last time without a change is no instant; with one it is."""
+        self.assertEqual(self.rows(VCD + "#18\n", ["door"], "vcd", period=3), [("#0", "0"), ("#3", "0"), ("#6", "1"), ("#9", "1"), ("#12", "1"), ("#15", "1")])
+        self.assertEqual(self.rows(VCD + "#18\n", ["door"], "vcd")[-1], ("#15", "1"))
+        self.assertEqual(self.rows(VCD + "#18\n0!\n", ["door"], "vcd", period=3)[-1], ("#18", "1"))
+
     def test_vcd_by_the_path_of_a_signal(self):
         self.assertEqual(self.rows(VCD, ["p"], "vcd", columns={"p": "top.inner.lamp"})[2], ("#10", "0"))
 

@@ -73,6 +73,13 @@ class Watching(WithFolder):
     def test_the_trace_alone(self):
         self.assertEqual(self.ask(RESPONSE, self.log(["10", "01"]), "--trace"), (0, "10\n01\n", ""))
 
+    def test_a_drawn_behaviour_is_read_back(self):
+        """The dump of `draw --vcd` has an instant for each unit of time; its behaviour is the counterexample, 10 00 00 00."""
+        dump = os.path.join(self.folder, "one.vcd")
+        self.assertEqual(run("ask", "draw", RESPONSE, "--vcd", dump)[0], 0)
+        self.assertEqual(self.ask(RESPONSE, dump, "--period", "1", "--trace"), (0, "10\n00\n00\n00\n", ""))
+        self.assertEqual(self.ask(RESPONSE, dump, "--period", "1")[0], 1)
+
     def test_an_empty_log(self):
         self.assertEqual(self.ask(RESPONSE, self.log([]))[0], 8)
 
