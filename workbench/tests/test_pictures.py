@@ -5,7 +5,6 @@ import unittest
 import xml.dom.minidom
 
 import pages
-from arcs import automaton_svg
 from commands import ASK, PROGRAM
 from conditions import conditions
 from pictures import vcd, waves_svg
