@@ -124,7 +124,10 @@ fn what_was_merged_is_remembered(rt: HostRuntime) -> Result<(), Fail> {
 fn faults_are_told_in_words(rt: HostRuntime) -> Result<(), Fail> {
     let alloc = rt.alloc();
     let states = ApplyFault::States { limit: 2 };
-    assert_eq!(rt; states.to_string(alloc)?.as_str(), "there are more than 2 states");
+    assert_eq!(rt;
+        states.to_string(alloc)?.as_str(),
+        "there are more than 2 states"
+    );
     let full = ArenaFault::Full { limit: 1 };
     assert_eq!(rt;
         full.to_string(alloc)?.as_str(),

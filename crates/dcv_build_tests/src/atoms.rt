@@ -33,12 +33,7 @@ pub(crate) fn atom_of<'a>(
 }
 
 // Its automaton.
-fn explored(
-    alloc: Global,
-    atom: &Atom,
-    states: u32,
-    nodes: u32,
-) -> Result<Raw, ExploreFault> {
+fn explored(alloc: Global, atom: &Atom, states: u32, nodes: u32) -> Result<Raw, ExploreFault> {
     explore(alloc, atom, Limits { states, nodes })
 }
 
