@@ -11,140 +11,111 @@ import itertools
 import os
 import sys
 
-sys.path.insert(0, os.path.join(os.path.dirname(os.path.abspath(__file__)), "..", "bench"))
-from to_mona import Reader, text_of  # only how a text is read; what it means is said here
+sys.path.insert(0, os.path.join(os.path.dirname(os.path.abspath(__file__)), "..", "workbench"))
+from language import parse, read_text  # only how a text is read; what it means is said here
+from writing import expand
 
 RELATIONS = {"=": lambda a, b: a == b, "<": lambda a, b: a < b, "<=": lambda a, b: a <= b, ">": lambda a, b: a > b, ">=": lambda a, b: a >= b}
 
 
-class Evaluator(Reader):
-    """Reads a formula file into tests: a proposition of a behaviour and an instant, a formula of a behaviour and an interval.
+class Evaluator:
+    """Makes trees tests: a proposition of a behaviour and an instant, a formula of a behaviour and an interval.
 
     A behaviour is the number of its instants, the tracks of the declared variables, and those of the quantified ones in sight.
     """
 
-    def file(self):
-        names = []
-        if self.has("var"):
-            names = [self.take()]
-            while self.has(","):
-                names.append(self.take())
-            self.take(";")
-        for slot, name in enumerate(names, 1):
-            self.scope[name] = ("set", lambda w, i, slot=slot: w[slot][i])
-        while self.peek() in ("define", "prop"):
-            self.macro(self.take())
-        self.depth = 1 + len(names)
-        goal = self.goal()
+    def __init__(self, file):
+        self.slots = {name: slot for slot, name in enumerate(file.variables, 1)}
+        self.depth = 1 + len(file.variables)
+        goal = self.formula(expand(file))
         # e is the last instant of the whole behaviour
-        return names, lambda tracks, b, e: goal((e + 1, *tracks), b, e)
+        self.goal = lambda tracks, b, e: goal((e + 1, *tracks), b, e)
 
-    def proposition(self):
-        return self.list_of("<=>", self.p_imply, lambda a, c: lambda w, i: a(w, i) == c(w, i))
+    def proposition(self, tree):
+        kind = tree.kind
+        if kind == "name":
+            slot = self.slots[tree.value]
+            return lambda w, i: w[slot][i]
+        if kind in ("p_true", "p_false"):
+            return lambda w, i: kind == "p_true"
+        parts = [self.proposition(part) for part in tree.parts]
+        if kind == "p_not":
+            return lambda w, i: not parts[0](w, i)
+        if kind in ("prior", "next"):
+            step = -1 if kind == "prior" else 1
+            return lambda w, i: 0 <= i + step < w[0] and parts[0](w, i + step)
+        return connected(kind[2:], parts)
 
-    def p_imply(self):
-        first = self.list_of("||", lambda: self.list_of("&&", self.p_prefix, lambda a, c: lambda w, i: a(w, i) and c(w, i)),
-                             lambda a, c: lambda w, i: a(w, i) or c(w, i))
-        if self.has("=>"):
-            second = self.p_imply()
-            return lambda w, i: not first(w, i) or second(w, i)
-        return first
-
-    def p_prefix(self):
-        if self.has("!"):
-            inner = self.p_prefix()
-            return lambda w, i: not inner(w, i)
-        if self.peek() in ("-", "+"):
-            step, inner = (-1 if self.take() == "-" else 1), self.p_prefix()
-            return lambda w, i: 0 <= i + step < w[0] and inner(w, i + step)
-        if self.has("("):
-            inner = self.proposition()
-            self.take(")")
-            return inner
-        if self.peek() in ("true", "false"):
-            word = self.take()
-            return lambda w, i: word == "true"
-        return self.named()
-
-    def formula(self):
-        if self.peek() in ("ex", "all"):
-            word, name = self.take(), self.take()
-            self.take(".")
-            slot, outer = self.depth, self.scope
-            self.scope = {**outer, name: ("set", lambda w, i: w[slot][i])}
-            self.depth += 1
-            inner = self.formula()
-            self.scope, self.depth = outer, slot
-            some = any if word == "ex" else all
-            return lambda w, b, e: some(
-                inner(w[:slot] + ((False,) * b + choice,), b, e) for choice in itertools.product((False, True), repeat=e - b + 1))
-        return self.list_of("<=>", self.f_imply, lambda a, c: lambda w, b, e: a(w, b, e) == c(w, b, e))
-
-    def f_imply(self):
-        first = self.list_of("||", self.f_and, lambda a, c: lambda w, b, e: a(w, b, e) or c(w, b, e))
-        if self.has("=>"):
-            second = self.f_imply()
-            return lambda w, b, e: not first(w, b, e) or second(w, b, e)
-        return first
-
-    def f_and(self):
-        return self.list_of("&&", self.f_chop, lambda a, c: lambda w, b, e: a(w, b, e) and c(w, b, e))
-
-    def f_chop(self):
-        return self.list_of("^", self.f_prefix, lambda a, c: functools.lru_cache(10_000)(
-            lambda w, b, e: any(a(w, b, m) and c(w, m, e) for m in range(b, e + 1))))
-
-    def f_prefix(self):
-        word = self.peek()
-        if word not in ("!", "<>", "[]"):
-            inner = self.f_atom()
-            while self.has("*"):
-                inner = self.star(inner)
-            return inner
-        self.take()
-        inner = self.f_prefix()
-        if word == "!":
-            return lambda w, b, e: not inner(w, b, e)
-        some = any if word == "<>" else all
-        return lambda w, b, e: some(inner(w, x, y) for x in range(b, e + 1) for y in range(x, e + 1))
-
-    def star(self, inner):
-        @functools.lru_cache(10_000)
-        def starred(w, b, e):
-            return b == e or any(inner(w, b, m) and starred(w, m, e) for m in range(b + 1, e + 1))
-
-        return starred
-
-    def f_atom(self):
-        word = self.peek()
-        if word == "(":
-            self.take()
-            inner = self.formula()
-            self.take(")")
-            return inner
-        if word in ("<", "[", "[[", "{{"):
-            self.take()
-            inner = self.proposition()
-            self.take({"<": ">", "[": "]", "[[": "]]", "{{": "}}"}[word])
-            return {
-                "<": lambda w, b, e: b == e and inner(w, b),
-                "[": lambda w, b, e: b < e and all(inner(w, i) for i in range(b, e)),
-                "[[": lambda w, b, e: all(inner(w, i) for i in range(b, e + 1)),
-                "{{": lambda w, b, e: e == b + 1 and inner(w, b),
-            }[word]
-        if word in ("pt", "ext", "true", "false"):
-            self.take()
-            return {"pt": lambda w, b, e: b == e, "ext": lambda w, b, e: b < e}.get(word, lambda w, b, e: word == "true")
-        if word == "slen":
-            self.take()
-            relation, n = RELATIONS[self.take()], int(self.take())
+    def formula(self, tree):
+        kind = tree.kind
+        if kind in ("and", "or", "implies", "iff"):
+            return connected(kind, [self.formula(part) for part in tree.parts])
+        if kind == "chop":
+            return functools.reduce(chopped, [self.formula(part) for part in tree.parts])
+        if kind in ("ex", "all"):
+            return self.quantified(tree)
+        if kind in ("point", "run", "every", "unit"):
+            return bracket(kind, self.proposition(tree.parts[0]))
+        if kind == "slen":
+            relation, n = RELATIONS[tree.value[0]], tree.value[1]
             return lambda w, b, e: relation(e - b, n)
-        if word in ("scount", "sdur"):
-            self.take()
-            inner, relation, n = self.p_prefix(), RELATIONS[self.take()], int(self.take())
-            last = 1 if word == "scount" else 0
+        if kind in ("scount", "sdur"):
+            inner, relation, n = self.proposition(tree.parts[0]), RELATIONS[tree.value[0]], tree.value[1]
+            last = 1 if kind == "scount" else 0
             return lambda w, b, e: relation(sum(inner(w, i) for i in range(b, e + last)), n)
-        return self.named()
+        if tree.parts:
+            return prefixed(kind, self.formula(tree.parts[0]))
+        return {"pt": lambda w, b, e: b == e, "ext": lambda w, b, e: b < e}.get(kind, lambda w, b, e: kind == "true")
+
+    def quantified(self, tree):
+        slot = self.slots[tree.value] = self.depth
+        self.depth += 1
+        inner = self.formula(tree.parts[0])
+        self.depth = slot
+        some = any if tree.kind == "ex" else all
+        return lambda w, b, e: some(
+            inner(w[:slot] + ((False,) * b + choice,), b, e) for choice in itertools.product((False, True), repeat=e - b + 1))
+
+
+def connected(kind, parts):
+    """A connective of tests of anything: of an instant or of an interval."""
+    if kind == "and":
+        return lambda *at: all(part(*at) for part in parts)
+    if kind == "or":
+        return lambda *at: any(part(*at) for part in parts)
+    if kind == "implies":
+        return lambda *at: not parts[0](*at) or parts[1](*at)
+    return lambda *at: functools.reduce(lambda a, b: a == b, [bool(part(*at)) for part in parts])
+
+
+def chopped(a, c):
+    return functools.lru_cache(10_000)(lambda w, b, e: any(a(w, b, m) and c(w, m, e) for m in range(b, e + 1)))
+
+
+def prefixed(kind, inner):
+    if kind == "not":
+        return lambda w, b, e: not inner(w, b, e)
+    if kind == "star":
+        return star(inner)
+    some = any if kind == "diamond" else all
+    return lambda w, b, e: some(inner(w, x, y) for x in range(b, e + 1) for y in range(x, e + 1))
+
+
+def star(inner):
+    @functools.lru_cache(10_000)
+    def starred(w, b, e):
+        return b == e or any(inner(w, b, m) and starred(w, m, e) for m in range(b + 1, e + 1))
+
+    return starred
+
+
+def bracket(kind, inner):
+    return {
+        "point": lambda w, b, e: b == e and inner(w, b),
+        "run": lambda w, b, e: b < e and all(inner(w, i) for i in range(b, e)),
+        "every": lambda w, b, e: all(inner(w, i) for i in range(b, e + 1)),
+        "unit": lambda w, b, e: e == b + 1 and inner(w, b),
+    }[kind]
 
 
 def least(width, length, test):
@@ -157,10 +128,11 @@ def least(width, length, test):
 
 
 def main():
-    names, goal = Evaluator(text_of(sys.argv[1])).file()
+    file = parse(read_text(sys.argv[1]))
+    goal, width = Evaluator(file).goal, len(file.variables)
     length = int(sys.argv[2]) if len(sys.argv) > 2 else 6
-    counterexample = least(len(names), length, lambda w, b, e: not goal(w, b, e))
-    example = least(len(names), length, goal)
+    counterexample = least(width, length, lambda w, b, e: not goal(w, b, e))
+    example = least(width, length, goal)
     print("not valid" if counterexample else f"valid up to {length}")
     print("satisfiable" if example else f"not satisfiable up to {length}")
     for heading, word in (("counterexample", counterexample), ("example", example)):

@@ -17,7 +17,7 @@ import tempfile
 
 here = os.path.dirname(os.path.abspath(__file__))
 sys.path.insert(0, here)
-from least_words import Evaluator, text_of
+from least_words import Evaluator, parse, read_text
 
 FLAGS = ["-std=c99", "-Wall", "-Wextra", "-Werror", "-pedantic", "-Wno-unused-parameter"]
 DRAWN, LONGEST = 1000, 9
@@ -72,8 +72,8 @@ def answers(compiler, observer, width, behaviours, folder):
 
 def judge(path, folder):
     program = os.environ.get("PROGRAM") or os.path.join(here, "..", "crates/dcvalid/out/dcvalid")
-    names, goal = Evaluator(text_of(path)).file()
-    width = len(names)
+    file = parse(read_text(path))
+    goal, width = Evaluator(file).goal, len(file.variables)
     verdict, observer = run(program, "check", path).stdout, run(program, "c", path).stdout
     behaviours, wanted = [], []
     for heading, answer in (("counterexample", "0"), ("example", "1")):

@@ -12,7 +12,7 @@ use std::alloc::{AllocError, Global};
 use std::marker::Model;
 use std::num::NonZeroUsize;
 
-#[derive(Debug, Drop)]
+#[derive(Drop)]
 pub(crate) struct Cache {
     made: Option<LruCache<Key, Ref>>,
     capacity: NonZeroUsize,

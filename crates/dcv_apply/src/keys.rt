@@ -106,7 +106,7 @@ impl Pair {
 
 // Any number of operands. The digest is a number that they were mixed into once, so that neither a look-up nor
 // an entry goes over the operands again to hash them. Leaves alone are not looked up, so they have none.
-#[derive(Debug, PartialEq, Eq, Drop)]
+#[derive(PartialEq, Eq, Drop)]
 pub(crate) struct Key {
     digest: u32,
     pub(crate) round: u32,

@@ -2,7 +2,8 @@
 // were met, 1986). Its size is bounded. Most operations have two operands, whose entries stand side by side in two maps, a younger
 // and an older: when the younger is full the older one is forgotten, which takes no list by last use and no memory for an entry
 // alone. Of other numbers of operands the first entries stand in a map too, and what comes after them goes through a cache, from
-// which the entry that was used least lately goes first.
+// which the entry that was used least lately goes first. The lists of that map are bounded together as well, since a list may be
+// as long as an automaton has states.
 ghost use Rattle.std.specs.Prelude.{◌≡◌, ◌≤◌, ◌==◌, [], length, IfOk, IfSome, OnErr, Contains};
 ghost use Rattle.dcv_apply.specs.Remembered.{entry, KeepsEntries, Adds};
 ghost use Rattle.dcv_apply.specs.Pairs.{pair_operands};
@@ -24,6 +25,9 @@ const FIRST_ROOM: usize = 72;
 /// joined. It is a bound alone: a memo grows with its entries.
 pub const USUAL_CAPACITY: usize = 65_536;
 
+// How many operands the lists of the map of other numbers of operands may have together before they are forgotten: 16 bytes each.
+const MOST_OPERANDS: usize = 2_097_152;
+
 // Makes room for the first entries of a map that will have so many at most, unless memory runs out.
 fn make_first_room(pairs: &mut IndexMap<Pair, Ref>, most: usize)
     ensures { pairs.new.entries ≡ pairs.old.entries }
@@ -36,14 +40,17 @@ fn make_first_room(pairs: &mut IndexMap<Pair, Ref>, most: usize)
 /// What operations remember: for a round and operands, the ref that they were merged into.
 ///
 /// It never holds more entries than its capacity. Entries of two operands are forgotten by age, a half at a time, whether they were used or
-/// not. Of other numbers of operands the first ones are kept for good, while there is room; the rest, of two operands too where the room is
-/// taken up, goes through a cache of an eighth of the capacity, from which the entry that was used least lately goes first. A round is a number
-/// that the caller gives to one merge with one arena for the results, and entries are found again in their round alone.
-#[derive(Debug, Drop)]
+/// not. Of other numbers of operands the first ones are kept, while there is room, and forgotten together once their lists have more than
+/// 2,097,152 operands; the rest, of two operands too where the room is taken up, goes through a cache of an eighth of the capacity, from which
+/// the entry that was used least lately goes first. A round is a number that the caller gives to one merge with one arena for the results, and
+/// entries are found again in their round alone.
+#[derive(Drop)]
 pub struct Memo {
     younger: IndexMap<Pair, Ref>,
     older: IndexMap<Pair, Ref>,
     first: IndexMap<Key, Ref>,
+    // How many operands the keys of `first` have together.
+    operands: usize,
     // How many entries the maps may have together.
     room: usize,
     later: Cache,
@@ -77,6 +84,7 @@ impl Memo {
             younger: IndexMap::new(alloc),
             older: IndexMap::new(alloc),
             first: IndexMap::new(alloc),
+            operands: 0,
             room: capacity - rest,
             later: Cache::new(NonZeroUsize::new(rest).unwrap()),
         })
@@ -173,12 +181,33 @@ impl Memo {
         self.later.get(key)
     }
 
-    // Remembers the ref, unless memory runs out. Another may be forgotten for it.
+    // Remembers the ref, unless memory runs out. Others may be forgotten for it, and then too.
     pub(crate) fn put(&mut self, key: Key, root: Ref)
         ensures adds { Adds (entry key.round key.operands.items root) self.old self.new }
         ensures capacity { self.new.capacity ≡ self.old.capacity }
     {
+        self.forget_lists();
+        self.add(key, root);
+    }
+
+    // Where the lists of operands are too long together, they are forgotten.
+    fn forget_lists(&mut self)
+        ensures kept { KeepsEntries self.old self.new }
+        ensures capacity { self.new.capacity ≡ self.old.capacity }
+    {
+        if self.operands > MOST_OPERANDS {
+            self.first.clear();
+            self.operands = 0;
+        }
+    }
+
+    // Adds an entry.
+    fn add(&mut self, key: Key, root: Ref)
+        ensures adds { Adds (entry key.round key.operands.items root) self.old self.new }
+        ensures capacity { self.new.capacity ≡ self.old.capacity }
+    {
         if self.first.len() + self.younger.len() + self.older.len() < self.room {
+            self.operands = self.operands.saturating_add(key.operands.len());
             drop(self.first.insert(key, root));
         } else {
             let alloc = *self.first.allocator();

@@ -25,7 +25,7 @@ use std::alloc::{AllocError, Global};
 use std::marker::Model;
 
 /// A form of a core, with the diagrams of its proposition and its slot.
-#[derive(Debug, Drop)]
+#[derive(Drop)]
 pub struct Atom<'a> {
     basic: &'a Basic,
     arena: Arena,

@@ -10,7 +10,7 @@ pub enum Target {
 }
 
 /// A node of the rows.
-#[derive(Clone, Copy, Debug)]
+#[derive(Clone, Copy)]
 pub struct NodeLine<'a> {
     /// The node's own number.
     pub number: u32,
@@ -23,7 +23,7 @@ pub struct NodeLine<'a> {
 }
 
 /// A state.
-#[derive(Clone, Copy, Debug)]
+#[derive(Clone, Copy)]
 pub struct StateLine {
     /// Its own number.
     pub number: u32,
@@ -34,7 +34,7 @@ pub struct StateLine {
 }
 
 /// How an access word is spelled. A letter is as in a trace.
-#[derive(Clone, Copy, Debug)]
+#[derive(Clone, Copy)]
 pub enum AccessWord<'a> {
     /// The word with no letter.
     Empty,
@@ -45,7 +45,7 @@ pub enum AccessWord<'a> {
 }
 
 /// The access word of the state with this number.
-#[derive(Clone, Copy, Debug)]
+#[derive(Clone, Copy)]
 pub struct AccessLine<'a> {
     /// The number of the state.
     pub number: u32,
@@ -54,7 +54,7 @@ pub struct AccessLine<'a> {
 }
 
 /// How a suffix is spelled. A letter is as in a trace.
-#[derive(Clone, Copy, Debug)]
+#[derive(Clone, Copy)]
 pub enum SuffixWord<'a> {
     /// The suffix with no letter.
     Empty,
@@ -63,7 +63,7 @@ pub enum SuffixWord<'a> {
 }
 
 /// The suffix with this number.
-#[derive(Clone, Copy, Debug)]
+#[derive(Clone, Copy)]
 pub struct SuffixLine<'a> {
     /// The suffix's own number.
     pub number: u32,
@@ -72,7 +72,7 @@ pub struct SuffixLine<'a> {
 }
 
 /// What a step of the requirement took.
-#[derive(Clone, Copy, Debug)]
+#[derive(Clone, Copy)]
 pub struct StepLine {
     /// The step's own number.
     pub number: u32,
@@ -85,7 +85,7 @@ pub struct StepLine {
 }
 
 /// What the steps of the requirement took, in order.
-#[derive(Debug, Drop)]
+#[derive(Drop)]
 pub struct StepPart {
     /// How many steps it says there are.
     pub count: u32,
@@ -94,7 +94,7 @@ pub struct StepPart {
 }
 
 /// What the lines of a text say, those of each kind in order.
-#[derive(Debug, Drop)]
+#[derive(Drop)]
 pub struct Lines<'a> {
     /// The names of the variables.
     pub names: Vec<&'a [u8]>,

@@ -11,7 +11,7 @@ use crate::words::visible_length;
 use std::alloc::Global;
 
 /// A name of the line, and whether it is the last there.
-#[derive(Clone, Copy, Debug)]
+#[derive(Clone, Copy)]
 struct Listed<'a> {
     word: &'a [u8],
     is_last: bool,

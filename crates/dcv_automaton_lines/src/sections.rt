@@ -27,7 +27,7 @@ pub enum Kind {
 }
 
 /// A line behind the head, or the word that closes the sections.
-#[derive(Clone, Copy, Debug)]
+#[derive(Clone, Copy)]
 pub enum Line<'a> {
     Node(NodeLine<'a>),
     State(StateLine),

@@ -5,13 +5,13 @@ ghost use Rattle.dcv_automaton_lines.specs.declared.stop.Stop.TheVariants.{Synta
 use std::alloc::{AllocError, AllocFailed};
 
 /// A text that begins a part up to what is left of it, and no further.
-#[derive(Clone, Copy, Debug)]
+#[derive(Clone, Copy)]
 pub struct Stuck<'a> {
     pub left: &'a [u8],
 }
 
 /// Why the lines of a text were not read.
-#[derive(Clone, Copy, Debug)]
+#[derive(Clone, Copy)]
 pub enum Stop<'a> {
     /// The text is not of the form.
     Syntax(Stuck<'a>),

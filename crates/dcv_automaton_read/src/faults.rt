@@ -14,7 +14,7 @@ pub enum AutoFault {
 }
 
 // Where the rules stop.
-#[derive(Clone, Copy, Debug)]
+#[derive(Clone, Copy)]
 pub(crate) enum Stop {
     // At the word with this number.
     Word(u64),

@@ -20,7 +20,7 @@ use indexmap::IndexSet;
 use std::marker::Model;
 
 /// A state.
-#[derive(Clone, Copy, Debug)]
+#[derive(Clone, Copy)]
 pub struct Row {
     /// Whether it accepts.
     pub accepting: bool,
@@ -29,7 +29,7 @@ pub struct Row {
 }
 
 /// What the text of an automaton says, where it keeps the table rules. It is seen as the plain data of the text.
-#[derive(Debug, Drop)]
+#[derive(Drop)]
 pub struct AutoFile {
     names: Vec<Text>,
     nodes: IndexSet<Node>,

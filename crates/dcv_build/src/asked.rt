@@ -12,7 +12,7 @@ pub(crate) enum Asked {
 }
 
 // The number of its automaton there, and what was counted as its machine was explored.
-#[derive(Clone, Copy, Debug)]
+#[derive(Clone, Copy)]
 pub(crate) struct Answer {
     pub(crate) number: u32,
     pub(crate) states: u32,

@@ -20,7 +20,7 @@ use std::alloc::Global;
 use std::marker::Model;
 
 /// The canonical automaton of a goal's words, and what each step took, in the order of the steps.
-#[derive(Debug, Drop)]
+#[derive(Drop)]
 pub struct Built {
     /// The automaton, over the variables that the core declares.
     pub auto: Auto,
@@ -29,7 +29,7 @@ pub struct Built {
 }
 
 /// Builds cores within limits, each from nothing.
-#[derive(Debug, Drop)]
+#[derive(Drop)]
 pub struct Builder {
     alloc: Global,
     limits: Limits,

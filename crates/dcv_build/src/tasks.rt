@@ -7,7 +7,7 @@ use crate::asked::Asked;
 use dcv_core::{Core, Op};
 
 // An operator over numbers of the shelf, or a form without a formula in it.
-#[derive(Clone, Copy, Debug)]
+#[derive(Clone, Copy)]
 pub(crate) enum Task {
     Atom,
     Complement(u32),

@@ -1,6 +1,6 @@
 // The plain evaluator of formulas, which the program does not call.
 use crate::goals::file_of;
-use dcv_logic::holds;
+use dcv_evaluator::holds;
 use dcv_syntax::File;
 use dcv_tables::behaviour;
 use std::alloc::{AllocError, Global};

@@ -30,7 +30,7 @@ pub enum Statement {
 }
 
 /// What a step returns.
-#[derive(Debug, Drop)]
+#[derive(Drop)]
 pub enum Returned {
     Fixed(u16),
     /// The number that the name at this place has.
@@ -47,14 +47,14 @@ pub struct Assignment {
 }
 
 /// The function that sets the statics.
-#[derive(Debug, Drop)]
+#[derive(Drop)]
 pub struct Reset {
     pub name: Text,
     pub assignments: Vec<Assignment>,
 }
 
 /// The function that makes a step. Its parameters are the values of the variables, as 0 and 1.
-#[derive(Debug, Drop)]
+#[derive(Drop)]
 pub struct Step {
     pub name: Text,
     pub parameters: Vec<Text>,
@@ -65,7 +65,7 @@ pub struct Step {
 
 /// A unit that keeps the rules of names: its names differ, each static is set once, and a step reads no local before it is assigned. So what a
 /// step does depends on the statics and on the parameters alone.
-#[derive(Debug, Drop)]
+#[derive(Drop)]
 pub struct CUnit {
     statics: Vec<Text>,
     reset: Reset,

@@ -2,14 +2,14 @@
 use dcv_observer::Item;
 
 /// `name == number`.
-#[derive(Clone, Copy, Debug)]
+#[derive(Clone, Copy)]
 pub struct PlacedTest<'a> {
     pub name: Item<'a>,
     pub number: Item<'a>,
 }
 
 /// What stands behind the name of a condition on a right side: `? item : otherwise`, or `== number ? item : otherwise`.
-#[derive(Clone, Copy, Debug)]
+#[derive(Clone, Copy)]
 pub struct PlacedChoice<'a> {
     /// Where the condition compares.
     pub number: Option<Item<'a>>,
@@ -18,7 +18,7 @@ pub struct PlacedChoice<'a> {
 }
 
 /// What stands behind the `=` of an assignment.
-#[derive(Debug, Drop)]
+#[derive(Drop)]
 pub enum PlacedRight<'a> {
     Plain(Item<'a>),
     Chosen(Item<'a>, Box<PlacedChoice<'a>>),
@@ -27,7 +27,7 @@ pub enum PlacedRight<'a> {
 /// A statement of a step.
 ///
 /// What is large stands on the heap, since each statement, and each part of a body, has the size of the largest.
-#[derive(Debug, Drop)]
+#[derive(Drop)]
 pub enum PlacedStatement<'a> {
     /// `left = right;`.
     Assign(Item<'a>, PlacedRight<'a>),
@@ -36,7 +36,7 @@ pub enum PlacedStatement<'a> {
 }
 
 /// An assignment behind `if`.
-#[derive(Clone, Copy, Debug)]
+#[derive(Clone, Copy)]
 pub struct PlacedWhen<'a> {
     pub name: Item<'a>,
     /// Where the condition compares.
@@ -46,7 +46,7 @@ pub struct PlacedWhen<'a> {
 }
 
 /// What stands behind the name of the first test: `== number`, and `|| name == number` any number of times.
-#[derive(Debug, Drop)]
+#[derive(Drop)]
 pub struct PlacedTests<'a> {
     pub number: Item<'a>,
     /// From the last to the first.
@@ -54,7 +54,7 @@ pub struct PlacedTests<'a> {
 }
 
 /// What stands behind `return`.
-#[derive(Debug, Drop)]
+#[derive(Drop)]
 pub enum PlacedReturned<'a> {
     Fixed(Item<'a>),
     /// A name alone.
@@ -64,14 +64,14 @@ pub enum PlacedReturned<'a> {
 }
 
 /// `name = number;`.
-#[derive(Clone, Copy, Debug)]
+#[derive(Clone, Copy)]
 pub struct PlacedAssignment<'a> {
     pub name: Item<'a>,
     pub number: Item<'a>,
 }
 
 /// The function that sets the statics.
-#[derive(Debug, Drop)]
+#[derive(Drop)]
 pub struct PlacedReset<'a> {
     pub name: Item<'a>,
     pub assignments: Vec<PlacedAssignment<'a>>,
@@ -80,7 +80,7 @@ pub struct PlacedReset<'a> {
 }
 
 /// The function that makes a step.
-#[derive(Debug, Drop)]
+#[derive(Drop)]
 pub struct PlacedStep<'a> {
     pub name: Item<'a>,
     pub parameters: Vec<Item<'a>>,
@@ -90,7 +90,7 @@ pub struct PlacedStep<'a> {
 }
 
 /// A whole unit.
-#[derive(Debug, Drop)]
+#[derive(Drop)]
 pub struct PlacedUnit<'a> {
     pub statics: Vec<Item<'a>>,
     pub reset: PlacedReset<'a>,

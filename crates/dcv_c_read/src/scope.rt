@@ -15,7 +15,7 @@ use dcv_observer::{Declared, Item};
 use std::alloc::{AllocError, Global};
 
 /// What a name with a place stands for.
-#[derive(Clone, Copy, Debug)]
+#[derive(Clone, Copy)]
 pub(crate) enum Sort {
     /// A static or a local, which has a number once it is assigned.
     Variable,
@@ -35,7 +35,7 @@ impl Sort {
 }
 
 /// What is told of a name where it is declared, and whether it is known: a parameter, or on the left of an earlier assignment.
-#[derive(Clone, Copy, Debug)]
+#[derive(Clone, Copy)]
 pub(crate) struct Declaration {
     pub(crate) place: u32,
     pub(crate) sort: Sort,

@@ -8,6 +8,7 @@ ghost use Rattle.dcv_c.specs.Language.{language};
 
 use dcv_grammar::grammar::Symbol::{Class, Rule};
 use dcv_grammar::grammar::{Alternative, ContextFree, Production};
+use dcv_grammar::{after, always, optional};
 use dcv_lexer::Lexicon;
 use dcv_observer::{NAME, NUMBER, UNKNOWN};
 
@@ -129,36 +130,6 @@ pub(crate) const TESTS: u8 = 20;
 pub(crate) const MORE_TESTS: u8 = 21;
 
 pub(crate) const TEST: u8 = 22;
-
-// A rule with one body.
-macro_rules! always {
-    ($($symbol:expr),*) => {
-        Production {
-            alternatives: &[],
-            otherwise: &[$($symbol),*],
-        }
-    };
-}
-
-// A body that begins with a class, which picks it.
-macro_rules! after {
-    ($class:expr $(, $symbol:expr)*) => {
-        Alternative {
-            classes: &[$class],
-            body: &[Class($class) $(, $symbol)*],
-        }
-    };
-}
-
-// A body that begins with a class, or nothing.
-macro_rules! optional {
-    ($class:expr $(, $symbol:expr)*) => {
-        Production {
-            alternatives: &[after!($class $(, $symbol)*)],
-            otherwise: &[],
-        }
-    };
-}
 
 // Any number of what begins with one of some classes.
 macro_rules! many {

@@ -6,7 +6,7 @@ use std::marker::Model;
 
 /// The access word of each state, and suffixes by which every two of them are told apart: so no automaton with fewer states
 /// accepts the same words (A. Nerode, 1958).
-#[derive(Debug, Drop)]
+#[derive(Drop)]
 pub struct Proof {
     access: Vec<Access>,
     suffixes: Vec<Suffix>,

@@ -31,7 +31,7 @@ use dcv_word::Word;
 use std::alloc::Global;
 
 /// The least behaviour that models the first of two files and not the second, if there is one.
-#[derive(Debug, Drop)]
+#[derive(Drop)]
 pub(crate) struct Compared {
     least: Option<Word>,
 }

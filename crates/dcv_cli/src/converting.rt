@@ -27,7 +27,7 @@ use std::alloc::Global;
 const VERSION_BYTES: usize = 11;
 
 /// A text in pieces: what says its version, what follows up to the step part or the last line, and these.
-#[derive(Clone, Copy, Debug)]
+#[derive(Clone, Copy)]
 pub(crate) struct Conversion<'a> {
     head: &'a [u8],
     said: &'a [u8],

@@ -40,7 +40,7 @@ use std::alloc::{AllocError, Global};
 const MOST_OUTPUTS: u64 = 8;
 
 /// What is found for a requirement of which some variables are inputs.
-#[derive(Debug, Drop)]
+#[derive(Drop)]
 pub(crate) enum Synthesis {
     /// A controller that wins.
     Controller(CUnit),

@@ -22,7 +22,7 @@ use std::convert::AsStr;
 use std::fmt::Display;
 
 /// What the program is asked for.
-#[derive(Clone, Copy, Debug)]
+#[derive(Clone, Copy)]
 pub enum Request<'a> {
     /// A report on the formula in the file of this name, of which no step exceeds the limits.
     Report {
@@ -65,21 +65,21 @@ pub enum Request<'a> {
 }
 
 /// The subset of a language that an observer is written in.
-#[derive(Clone, Copy, Debug)]
+#[derive(Clone, Copy)]
 pub enum Subset {
     Lustre,
     C,
 }
 
 /// A version of an automaton's text: the second has a line for each step of the formula.
-#[derive(Clone, Copy, Debug)]
+#[derive(Clone, Copy)]
 pub enum Version {
     One,
     Two,
 }
 
 /// Why words ask for nothing.
-#[derive(Debug, Drop)]
+#[derive(Drop)]
 pub enum WordsFault {
     /// They are no command's, or ask for help, which is the text.
     Usage { text: String },

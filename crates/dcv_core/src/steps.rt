@@ -10,7 +10,7 @@ use std::alloc::{AllocError, Global};
 use std::marker::Model;
 
 /// The operator of a step. Its operands are the numbers of earlier steps.
-#[derive(Debug, Drop)]
+#[derive(Drop)]
 pub enum Op<'a> {
     Atom(&'a Basic),
     Not(u32),
@@ -24,7 +24,7 @@ pub enum Op<'a> {
 }
 
 /// The same, with a form of its own, as a step is made.
-#[derive(Debug, Drop)]
+#[derive(Drop)]
 pub enum Operator {
     Atom(Basic),
     Not(u32),
@@ -37,7 +37,7 @@ pub enum Operator {
 }
 
 // An operator with its place and the number of slots over which it is judged.
-#[derive(Debug, Drop)]
+#[derive(Drop)]
 struct Step {
     operator: Operator,
     span: Span,
@@ -45,7 +45,7 @@ struct Step {
 }
 
 /// The core of a goal: how many variables are declared, and its steps, numbered from 0. The last is that of the whole.
-#[derive(Debug, Drop)]
+#[derive(Drop)]
 pub struct Core {
     declared: u8,
     steps: Vec<Step>,

@@ -16,7 +16,7 @@ pub enum Direction {
 
 /// A proposition over slots. A list may have any number of operands; `Iff` groups to the left.
 #[cycle(truth)]
-#[derive(Debug, Drop)]
+#[derive(Drop)]
 pub enum Truth {
     Constant(bool),
     /// The value of the letter in this slot.
@@ -31,7 +31,7 @@ pub enum Truth {
 }
 
 /// A form without a formula in it.
-#[derive(Debug, Drop)]
+#[derive(Drop)]
 pub enum Basic {
     Constant(bool),
     /// One instant, which has the proposition.

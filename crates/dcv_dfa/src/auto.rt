@@ -21,7 +21,7 @@ use std::marker::Model;
 /// has the nodes of its rows and no others.
 ///
 /// A start that no word leads to stands alone, and rejects.
-#[derive(Debug, Drop)]
+#[derive(Drop)]
 pub struct Auto {
     raw: Raw,
     alone: bool,

@@ -35,7 +35,7 @@ pub struct NodeLine {
 }
 
 /// The nodes of an automaton's rows, in the order of their numbers, and the rows by these numbers.
-#[derive(Debug, Drop)]
+#[derive(Drop)]
 pub struct NodeLines {
     lines: Vec<NodeLine>,
     rows: Vec<Child>,

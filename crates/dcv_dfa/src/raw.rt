@@ -10,7 +10,7 @@ use std::marker::Model;
 
 /// An automaton as an exploration leaves it. It has at least one state, and its start and all numbers of its rows are
 /// states.
-#[derive(Debug, Drop)]
+#[derive(Drop)]
 pub struct Raw {
     arena: Arena,
     rows: Vec<Ref>,

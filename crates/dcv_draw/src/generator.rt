@@ -6,7 +6,7 @@ use std::marker::Model;
 
 /// A linear congruential generator (D. H. Lehmer, 1951) of the states below 2^31, with the multiplier and the increment of the C
 /// standard's example of `rand`.
-#[derive(Debug, Drop)]
+#[derive(Drop)]
 pub struct Draw {
     state: u32,
 }

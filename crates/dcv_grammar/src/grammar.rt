@@ -18,7 +18,7 @@ pub enum Symbol {
 }
 
 /// A body, and the classes that pick it. What the body derives begins with one of them.
-#[derive(Clone, Copy, Debug)]
+#[derive(Clone, Copy)]
 pub struct Alternative<'g> {
     pub classes: &'g [u8],
     pub body: &'g [Symbol],
@@ -28,7 +28,7 @@ pub struct Alternative<'g> {
 ///
 /// A rule with no empty body has one of its others as `otherwise`, from which such bodies alone come to an end. The
 /// reader takes it at a class that picks nothing too, and still finds the fault at that class.
-#[derive(Clone, Copy, Debug)]
+#[derive(Clone, Copy)]
 pub struct Production<'g> {
     pub alternatives: &'g [Alternative<'g>],
     pub otherwise: &'g [Symbol],
@@ -38,7 +38,7 @@ pub struct Production<'g> {
 ///
 /// The rules stand in tables, and are numbered through all of them from 0. A table of more than about thirty rules
 /// may be too large for a check, so a large grammar has several, each from a function of its own.
-#[derive(Clone, Copy, Debug)]
+#[derive(Clone, Copy)]
 pub struct ContextFree<'g> {
     pub start: u8,
     pub tables: &'g [&'g [Production<'g>]],

@@ -7,4 +7,5 @@
 pub mod grammar;
 pub mod laws;
 pub mod reader;
+mod rules;
 pub mod trees;

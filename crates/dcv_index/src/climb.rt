@@ -12,7 +12,7 @@ use dcv_members::SparseSet;
 use std::alloc::{AllocError, Global};
 
 /// What stands above some leaves.
-#[derive(Debug, Drop)]
+#[derive(Drop)]
 pub struct Above {
     /// The places of the nodes, in the order in which they were met on the way up.
     pub nodes: SparseSet,

@@ -15,7 +15,7 @@ use std::alloc::{AllocError, Global};
 use std::marker::Model;
 
 /// The nodes above each leaf and node of some rows, and the rows that it is, by their places.
-#[derive(Debug, Drop)]
+#[derive(Drop)]
 pub struct Index<'a> {
     arena: &'a Arena,
     refs: &'a [Ref],

@@ -8,14 +8,14 @@ use dcv_members::number_of;
 use std::alloc::{AllocError, Global};
 
 // A number in a list, and the entry before it, counted from 1, or 0 where it is the first.
-#[derive(Clone, Copy, Debug)]
+#[derive(Clone, Copy)]
 pub(crate) struct Entry {
     pub(crate) number: u32,
     pub(crate) earlier: u32,
 }
 
 // For each leaf and each place the last entry of its list, counted from 1, or 0 where nothing is listed.
-#[derive(Debug, Drop)]
+#[derive(Drop)]
 pub(crate) struct Lists {
     pub(crate) leaves: Vec<u32>,
     pub(crate) places: Vec<u32>,

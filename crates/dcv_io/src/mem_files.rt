@@ -11,7 +11,7 @@ use std::alloc::{AllocError, Global};
 use std::marker::Model;
 
 /// Files in memory, which tell everything but the names that they were asked for. They stand in for the real ones in tests.
-#[derive(Debug, Drop)]
+#[derive(Drop)]
 pub struct MemFiles {
     alloc: Global,
     files: Vec<HeldFile>,
@@ -21,14 +21,14 @@ pub struct MemFiles {
     read_faults: u64,
 }
 
-#[derive(Debug, Drop)]
+#[derive(Drop)]
 struct HeldFile {
     name: String,
     bytes: Vec<u8>,
 }
 
 // Where the next read begins: the file by its index, and the byte in it.
-#[derive(Clone, Copy, Debug)]
+#[derive(Clone, Copy)]
 struct Place {
     file: usize,
     at: usize,

@@ -1,5 +1,6 @@
 // The files and the streams of the system. No clause says which bytes they give or take.
-ghost use Rattle.std.specs.Prelude.{◌≡◌, None, false};
+ghost use Rattle.std.specs.Prelude.{◌≡◌, ◌<◌, ◌≤◌, None, false, length, take, IfOk};
+ghost use Rattle.std.specs.Io.KnownBytes.{Appends as AppendsKnown, Consumes};
 
 use crate::counts::raise;
 use crate::{Failed, Files, Sink};
@@ -72,7 +73,7 @@ impl<R: rt::Files> Files for RealFiles<R> {
     fn read(&mut self, buf: &mut [u8]) -> Result<usize, Failed> {
         raise(&mut self.calls);
         if let Some(file) = &mut self.file
-            && let Ok(count) = file.read(buf)
+            && let Ok(count) = read_once(file, buf)
         {
             return Ok(count);
         }
@@ -137,19 +138,36 @@ impl Sink for RealOut {
 
     fn write(&mut self, bytes: &[u8]) -> Result<usize, Failed> {
         let taken = match self.stream {
-            Stream::Output(mut stdout) => stdout.write(bytes),
-            Stream::Error(mut stderr) => stderr.write(bytes),
+            Stream::Output(mut stdout) => write_once(&mut stdout, bytes),
+            Stream::Error(mut stderr) => write_once(&mut stderr, bytes),
         };
-        match taken {
-            Ok(count) if count > 0 || bytes.is_empty() => {
-                self.last_failed = false;
-                Ok(count)
-            }
-            _ => {
-                self.last_failed = true;
-                raise(&mut self.faults);
-                Err(Failed)
-            }
+        self.last_failed = taken.is_err();
+        if self.last_failed {
+            raise(&mut self.faults);
         }
+        taken
+    }
+}
+
+// Reads once, whatever it is read from.
+fn read_once<T: Read>(source: &mut T, buf: &mut [u8]) -> Result<usize, Failed>
+    ensures bound { IfOk result (λ count. count ≤ length buf.old) }
+    ensures gives { IfOk result (λ count. Consumes (T.remaining source.old) (T.remaining source.new) (take count buf.new)) }
+{
+    match source.read(buf) {
+        Ok(count) => Ok(count),
+        Err(_) => Err(Failed),
+    }
+}
+
+// Writes once, whatever it is written to. A write that takes none of some bytes has failed.
+fn write_once<T: Write>(target: &mut T, bytes: &[u8]) -> Result<usize, Failed>
+    ensures bound { IfOk result (λ count. count ≤ length bytes.now) }
+    ensures progress { IfOk result (λ count. 0 < length bytes.now → 0 < count) }
+    ensures takes { IfOk result (λ count. AppendsKnown (T.contents target.old) (T.contents target.new) (take count bytes.now)) }
+{
+    match target.write(bytes) {
+        Ok(count) if count > 0 || bytes.is_empty() => Ok(count),
+        _ => Err(Failed),
     }
 }

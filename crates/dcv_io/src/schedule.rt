@@ -7,7 +7,7 @@ use std::alloc::{AllocError, Global};
 use std::marker::Model;
 
 // Which calls fail, and how many bytes each call moves at most.
-#[derive(Debug, Drop)]
+#[derive(Drop)]
 pub struct Schedule {
     sizes: Vec<usize>,
     turn: usize,

@@ -9,7 +9,7 @@ ghost use Rattle.dcv_lexer.specs.Fronts.{first_fit, front_of, IsFront};
 use crate::tables::Lexicon;
 
 /// A piece with which a text begins.
-#[derive(Clone, Copy, Debug)]
+#[derive(Clone, Copy)]
 pub struct Front {
     /// How many bytes it has.
     pub length: usize,

@@ -6,7 +6,7 @@ use crate::pieces::first_piece;
 use crate::tables::Lexicon;
 
 /// A token where it stands.
-#[derive(Clone, Copy, Debug)]
+#[derive(Clone, Copy)]
 pub struct Lexeme<'a> {
     pub bytes: &'a [u8],
     /// The offset of its first byte.
@@ -16,7 +16,7 @@ pub struct Lexeme<'a> {
 }
 
 /// The tokens of a text from some offset on. They end where no piece begins: at the end of the text, or before.
-#[derive(Debug, Drop)]
+#[derive(Drop)]
 pub struct Lexer<'a> {
     lexicon: &'a Lexicon<'a>,
     rest: &'a [u8],

@@ -3,7 +3,7 @@ ghost use Rattle.std.specs.Prelude.{◌≡◌, map, IsTrue};
 ghost use Rattle.dcv_lexer.specs.Lexicon.{class_in};
 
 /// What a language is written with. Each token has a class, a number for which the crate above has a name.
-#[derive(Clone, Copy, Debug)]
+#[derive(Clone, Copy)]
 pub struct Lexicon<'a> {
     /// Each symbol with its class, the longer ones first.
     pub symbols: &'a [(&'a [u8], u8)],

@@ -1,5 +1,3 @@
-pub mod Environments
 pub mod InWords
 pub mod Measures
-pub mod Rows
 pub mod SearchSteps

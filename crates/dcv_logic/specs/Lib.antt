@@ -7,5 +7,3 @@ pub mod Value
 pub mod Satisfaction
 pub mod Models
 pub mod Laws
--- For the proofs alone: what the evaluator's own data stand for.
-pub mod Scope

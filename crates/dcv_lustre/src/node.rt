@@ -34,7 +34,7 @@ pub struct Arm {
 }
 
 /// What an equation says that its left side is, at each instant.
-#[derive(Debug, Drop)]
+#[derive(Drop)]
 pub enum Right {
     /// `first -> pre source`: the constant at the first instant, and then what the name at this place had at the instant before.
     Delayed(Value, u32),
@@ -45,14 +45,14 @@ pub enum Right {
 }
 
 /// `left = right`, where `left` is the place of a name.
-#[derive(Debug, Drop)]
+#[derive(Drop)]
 pub struct Equation {
     pub left: u32,
     pub right: Right,
 }
 
 /// A name that is neither an input nor the output, and what values it has.
-#[derive(Debug, Drop)]
+#[derive(Drop)]
 pub struct Local {
     pub name: Text,
     pub kind: Kind,
@@ -60,7 +60,7 @@ pub struct Local {
 
 /// A node that keeps the rules of names: each local and the output have one equation, which reads inputs and what stands before it, but for
 /// what is behind `pre`; and each name is used for values of its own kind. So it has one trace over each word.
-#[derive(Debug, Drop)]
+#[derive(Drop)]
 pub struct Node {
     name: Text,
     inputs: Vec<Text>,

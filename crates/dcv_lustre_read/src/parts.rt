@@ -3,7 +3,7 @@ use crate::placed::{PlacedArm, PlacedEquation, PlacedLocal, PlacedNode, PlacedRi
 use dcv_observer::Item;
 
 // What a symbol stands for. A list is kept from its last element to its first, since its last action is that of the first one.
-#[derive(Debug, Drop)]
+#[derive(Drop)]
 pub(crate) enum Part<'a> {
     Token(Item<'a>),
     Tokens(Vec<Item<'a>>),

@@ -2,7 +2,7 @@
 use dcv_observer::Item;
 
 /// `if name then item`, or `if name = number then item`.
-#[derive(Clone, Copy, Debug)]
+#[derive(Clone, Copy)]
 pub struct PlacedArm<'a> {
     pub name: Item<'a>,
     /// Where the condition compares.
@@ -11,14 +11,14 @@ pub struct PlacedArm<'a> {
 }
 
 /// `(name = number)`.
-#[derive(Clone, Copy, Debug)]
+#[derive(Clone, Copy)]
 pub struct PlacedTest<'a> {
     pub name: Item<'a>,
     pub number: Item<'a>,
 }
 
 /// What stands behind the `=` of an equation.
-#[derive(Debug, Drop)]
+#[derive(Drop)]
 pub enum PlacedRight<'a> {
     /// `first -> pre source`.
     Delayed(Item<'a>, Item<'a>),
@@ -29,21 +29,21 @@ pub enum PlacedRight<'a> {
 }
 
 /// `left = right;`.
-#[derive(Debug, Drop)]
+#[derive(Drop)]
 pub struct PlacedEquation<'a> {
     pub left: Item<'a>,
     pub right: PlacedRight<'a>,
 }
 
 /// `name: kind;`.
-#[derive(Clone, Copy, Debug)]
+#[derive(Clone, Copy)]
 pub struct PlacedLocal<'a> {
     pub name: Item<'a>,
     pub kind: Item<'a>,
 }
 
 /// A whole node.
-#[derive(Debug, Drop)]
+#[derive(Drop)]
 pub struct PlacedNode<'a> {
     pub name: Item<'a>,
     pub inputs: Vec<Item<'a>>,

@@ -13,7 +13,7 @@ use dcv_observer::{Declared, Item};
 use std::alloc::AllocError;
 
 /// What is told of a name where it is declared, and whether it is known: an input, or on the left of an earlier equation.
-#[derive(Clone, Copy, Debug)]
+#[derive(Clone, Copy)]
 pub(crate) struct Declaration {
     pub(crate) place: u32,
     pub(crate) kind: Kind,

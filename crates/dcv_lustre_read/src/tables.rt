@@ -8,6 +8,7 @@ ghost use Rattle.dcv_lustre.specs.Language.{language};
 
 use dcv_grammar::grammar::Symbol::{Class, Rule};
 use dcv_grammar::grammar::{Alternative, ContextFree, Production};
+use dcv_grammar::{after, always, optional};
 use dcv_lexer::Lexicon;
 use dcv_observer::{NAME, NUMBER, UNKNOWN};
 
@@ -139,36 +140,6 @@ pub(crate) const LITERAL: u8 = 17;
 pub(crate) const NAME_RULE: u8 = 18;
 
 pub(crate) const OUTPUT: u8 = 19;
-
-// A rule with one body.
-macro_rules! always {
-    ($($symbol:expr),*) => {
-        Production {
-            alternatives: &[],
-            otherwise: &[$($symbol),*],
-        }
-    };
-}
-
-// A body that begins with a class, which picks it.
-macro_rules! after {
-    ($class:expr $(, $symbol:expr)*) => {
-        Alternative {
-            classes: &[$class],
-            body: &[Class($class) $(, $symbol)*],
-        }
-    };
-}
-
-// A body that begins with a class, or nothing.
-macro_rules! optional {
-    ($class:expr $(, $symbol:expr)*) => {
-        Production {
-            alternatives: &[after!($class $(, $symbol)*)],
-            otherwise: &[],
-        }
-    };
-}
 
 // A body that begins with a name, or nothing.
 macro_rules! by_name {

@@ -8,7 +8,7 @@ use std::alloc::{AllocError, Global};
 use std::marker::Model;
 
 /// A list for each block, of its members and maybe of some that have moved on.
-#[derive(Debug, Drop)]
+#[derive(Drop)]
 pub struct Members {
     lists: Vec<Vec<u32>>,
 }

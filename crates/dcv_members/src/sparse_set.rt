@@ -10,7 +10,7 @@ use std::alloc::{AllocError, Global};
 use std::marker::Model;
 
 /// Numbers, in the order in which they came. It takes four bytes for each number up to the largest that it ever had.
-#[derive(Debug, Drop)]
+#[derive(Drop)]
 pub struct SparseSet {
     numbers: Vec<u32>,
     places: Vec<u32>,

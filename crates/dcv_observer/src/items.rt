@@ -24,7 +24,7 @@ pub const LONGEST_WORD: usize = 32;
 pub const LARGEST_NUMBER: u32 = 32_767;
 
 /// A word, a number, a symbol, or a byte with which no piece begins.
-#[derive(Clone, Copy, Debug)]
+#[derive(Clone, Copy)]
 pub struct Item<'a> {
     pub bytes: &'a [u8],
     /// The offset of its first byte.
@@ -34,7 +34,7 @@ pub struct Item<'a> {
 }
 
 /// The items of a text from some offset on. Behind a stray byte there are none.
-#[derive(Debug, Drop)]
+#[derive(Drop)]
 pub struct Items<'a> {
     lexer: Lexer<'a>,
 }

@@ -11,7 +11,7 @@ use itoa::Buffer;
 use std::alloc::{AllocError, Global};
 
 /// The shortlex-least behaviour that is not in a set of behaviours, and the least that is, where there are such.
-#[derive(Debug, Drop)]
+#[derive(Drop)]
 pub struct Verdict {
     pub counterexample: Option<Word>,
     pub example: Option<Word>,

@@ -25,7 +25,7 @@ pub use files::build_file;
 use std::alloc::{AllocError, Global};
 
 /// The tokens of a sentence that are left, and the allocator of the tree.
-#[derive(Debug, Drop)]
+#[derive(Drop)]
 pub struct Builder<'t, 'a> {
     alloc: Global,
     rest: &'t [Token<'a>],

@@ -9,7 +9,7 @@ use std::alloc::{AllocError, Global};
 use std::marker::Model;
 
 // What a place became in a round.
-#[derive(Clone, Copy, Debug)]
+#[derive(Clone, Copy)]
 pub(crate) struct Became {
     round: u32,
     new: Ref,
@@ -23,7 +23,7 @@ const BLANK: Became = Became {
 
 /// What the places of an arena became, in one round of renumbering after another. In each round nothing counts but what became in it, so
 /// the list may be handed from round to round, and from arena to arena.
-#[derive(Debug, Drop)]
+#[derive(Drop)]
 pub struct Places {
     became: Vec<Became>,
     round: u32,

@@ -13,7 +13,7 @@ use std::marker::Model;
 
 // Puts the number in one of two slots into the slot `target`: that of `when_equal` where the slot `tested` has the number `number`,
 // and else that of `otherwise`.
-#[derive(Clone, Copy, Debug)]
+#[derive(Clone, Copy)]
 pub(crate) struct Select {
     pub(crate) target: u32,
     pub(crate) tested: u32,
@@ -23,7 +23,7 @@ pub(crate) struct Select {
 }
 
 /// An observer, and what it keeps of the letters so far.
-#[derive(Debug, Drop)]
+#[derive(Drop)]
 pub struct Replay {
     width: u8,
     inputs: u32,

@@ -22,7 +22,7 @@ use std::alloc::{AllocError, Global};
 
 /// How many nodes a goal or a body has, how deep they are nested, and how deep its quantifiers are. Each number stops at the
 /// greatest of its type.
-#[derive(Clone, Copy, Debug)]
+#[derive(Clone, Copy)]
 pub(crate) struct Measure {
     pub(crate) size: u32,
     pub(crate) depth: u32,
@@ -75,7 +75,7 @@ impl Measure {
 }
 
 /// How often a macro's expansion has an argument, and how deep below the root its deepest use is, in nodes and in quantifiers.
-#[derive(Clone, Copy, Debug)]
+#[derive(Clone, Copy)]
 pub(crate) struct Share {
     uses: u32,
     depth: u32,
@@ -128,7 +128,7 @@ impl Share {
 
 /// The measure of a macro as a function of its arguments' measures: its own nodes, and a share of each argument that is used.
 /// Sizes add up, and depths go by the greatest.
-#[derive(Clone, Copy, Debug)]
+#[derive(Clone, Copy)]
 pub(crate) struct MacroMeasure {
     own: Measure,
     shares: [Option<Share>; MOST_PARAMETERS],

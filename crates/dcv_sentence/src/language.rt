@@ -5,6 +5,7 @@ ghost use Rattle.dcv_sentence.specs.Language.{file_rules, formula_rules, prop_ru
 
 use dcv_grammar::grammar::Symbol::{Class, Rule};
 use dcv_grammar::grammar::{Alternative, Production};
+use dcv_grammar::{after, always, optional};
 use dcv_tokens::classes::*;
 
 pub const FILE: u8 = 0;
@@ -74,36 +75,6 @@ pub const PROP_AND_MORE: u8 = 31;
 pub const PROP_PREFIX: u8 = 32;
 
 pub const PROP_ATOM: u8 = 33;
-
-// A rule with one body.
-macro_rules! always {
-    ($($symbol:expr),*) => {
-        Production {
-            alternatives: &[],
-            otherwise: &[$($symbol),*],
-        }
-    };
-}
-
-// A body that begins with a class, which picks it.
-macro_rules! after {
-    ($class:expr $(, $symbol:expr)*) => {
-        Alternative {
-            classes: &[$class],
-            body: &[Class($class) $(, $symbol)*],
-        }
-    };
-}
-
-// A body that begins with a class, or nothing.
-macro_rules! optional {
-    ($class:expr $(, $symbol:expr)*) => {
-        Production {
-            alternatives: &[after!($class $(, $symbol)*)],
-            otherwise: &[],
-        }
-    };
-}
 
 // The rules of a file and its macros.
 #[tactic(auto, unfolding(crate::specs::Language::file_rules))]

@@ -9,7 +9,7 @@ use std::hash::{Hash, Hasher};
 use std::marker::Model;
 
 /// A set of states, in ascending order.
-#[derive(Debug, Drop)]
+#[derive(Drop)]
 pub struct StateSet {
     states: SmallVec<u32, 8>,
 }

@@ -24,7 +24,7 @@ const MOST_TABLES: usize = 1_000_000_000;
 /// Canonical automata in one arena, each with a number. Two have one number exactly where their tables and their widths are the same.
 ///
 /// A shelf that has as many nodes or tables as it may have answers a call that needs more as if memory had run out.
-#[derive(Debug, Drop)]
+#[derive(Drop)]
 pub struct Shelf {
     alloc: Global,
     arena: Arena,

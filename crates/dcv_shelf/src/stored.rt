@@ -19,7 +19,7 @@ pub(crate) struct State {
     pub(crate) row: Ref,
 }
 
-#[derive(Debug, Drop, PartialEq, Eq, Hash)]
+#[derive(Drop, PartialEq, Eq, Hash)]
 pub(crate) struct Stored {
     // How many variables the letters have.
     pub(crate) slots: u8,

@@ -12,7 +12,7 @@ use std::marker::Model;
 
 /// A canonical automaton of a shelf, which machines take as an operand. Its arena is the shelf's, which may have more slots; its rows
 /// depend on its own slots alone.
-#[derive(Debug, Drop)]
+#[derive(Drop)]
 pub struct View<'a> {
     arena: &'a Arena,
     stored: &'a Stored,

@@ -6,7 +6,7 @@ use crate::names::{Name, Span};
 use crate::propositions::Prop;
 
 /// What a macro stands for.
-#[derive(Debug, Drop)]
+#[derive(Drop)]
 pub enum MacroBody {
     /// The body of `define`.
     Formula(Formula),
@@ -15,7 +15,7 @@ pub enum MacroBody {
 }
 
 /// A macro: `define name(a, b) as F;` or `prop name(a, b) as P;`. The span has all of it, the `;` too.
-#[derive(Debug, Drop)]
+#[derive(Drop)]
 pub struct Macro {
     pub name: Name,
     pub parameters: Vec<Name>,
@@ -25,7 +25,7 @@ pub struct Macro {
 
 /// A formula file: the variables in declared order, the macros in order, and the formula after `infer`, whose
 /// span begins at the first token after that word.
-#[derive(Debug, Drop)]
+#[derive(Drop)]
 pub struct File {
     pub variables: Vec<Name>,
     pub macros: Vec<Macro>,

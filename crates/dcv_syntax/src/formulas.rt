@@ -21,7 +21,7 @@ pub struct Number {
 
 /// A formula and its place. Its own outermost parentheses are not in the span; those of its operands are.
 #[cycle(formula)]
-#[derive(Debug, Drop)]
+#[derive(Drop)]
 pub struct Formula {
     pub kind: FormulaKind,
     pub span: Span,
@@ -29,7 +29,7 @@ pub struct Formula {
 
 /// The forms of a formula. A list form has two operands or more.
 #[cycle(formula)]
-#[derive(Debug, Drop)]
+#[derive(Drop)]
 pub enum FormulaKind {
     /// `true` or `false`.
     Constant(bool),
@@ -79,7 +79,7 @@ pub enum FormulaKind {
 
 /// An operand of a list, or the goal. Its span has the parentheses that stand round it.
 #[cycle(formula)]
-#[derive(Debug, Drop)]
+#[derive(Drop)]
 pub struct FormulaOperand {
     pub formula: Formula,
     pub span: Span,

@@ -3,7 +3,7 @@ use crate::names::{Name, Span};
 
 /// A proposition and its place. Its own outermost parentheses are not in the span.
 #[cycle(prop)]
-#[derive(Debug, Drop)]
+#[derive(Drop)]
 pub struct Prop {
     pub kind: PropKind,
     pub span: Span,
@@ -11,7 +11,7 @@ pub struct Prop {
 
 /// The forms of a proposition. A list form has two operands or more.
 #[cycle(prop)]
-#[derive(Debug, Drop)]
+#[derive(Drop)]
 pub enum PropKind {
     /// `true` or `false`.
     Constant(bool),
@@ -35,7 +35,7 @@ pub enum PropKind {
 
 /// An operand of a list. Its span has the parentheses that stand round it.
 #[cycle(prop)]
-#[derive(Debug, Drop)]
+#[derive(Drop)]
 pub struct PropOperand {
     pub prop: Prop,
     pub span: Span,

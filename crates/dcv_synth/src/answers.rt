@@ -9,7 +9,7 @@ use dcv_arena::{Arena, Ref};
 use std::alloc::{AllocError, Global};
 
 // The least values of the slots from a ref on, and the state to which they lead.
-#[derive(Clone, Copy, Debug)]
+#[derive(Clone, Copy)]
 pub(crate) struct Answer {
     pub(crate) output: u32,
     pub(crate) next: u32,

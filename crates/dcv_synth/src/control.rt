@@ -7,7 +7,7 @@ use dcv_word::Letter;
 use std::marker::Model;
 
 /// Functions of the inputs, as diagrams in one arena.
-#[derive(Debug, Drop)]
+#[derive(Drop)]
 pub struct Rows {
     arena: Arena,
     rows: Vec<Ref>,
@@ -58,7 +58,7 @@ impl Rows {
 }
 
 /// A controller of least outputs. It begins in state 0, and its states are those of the automaton from which it never loses.
-#[derive(Debug, Drop)]
+#[derive(Drop)]
 pub struct Control {
     states: Vec<u32>,
     next: Rows,

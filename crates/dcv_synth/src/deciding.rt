@@ -20,7 +20,7 @@ use dcv_dfa::Auto;
 use std::alloc::{AllocError, Global};
 
 /// What is found for a requirement.
-#[derive(Debug, Drop)]
+#[derive(Drop)]
 pub enum Outcome {
     /// A controller that wins.
     Controller(Control),

@@ -16,7 +16,7 @@ use dcv_dfa::Auto;
 use std::alloc::{AllocError, Global};
 
 // What of an answer a diagram tells.
-#[derive(Clone, Copy, Debug)]
+#[derive(Clone, Copy)]
 pub(crate) enum Part {
     Next,
     Output,

@@ -15,7 +15,7 @@ use dcv_word::Letter;
 use std::alloc::{AllocError, Global};
 
 // The rank of a state, and its move.
-#[derive(Clone, Copy, Debug)]
+#[derive(Clone, Copy)]
 pub(crate) struct Ranked {
     pub(crate) rank: u32,
     pub(crate) input: Letter,

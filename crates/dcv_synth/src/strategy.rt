@@ -11,7 +11,7 @@ use dcv_word::Letter;
 use std::alloc::{AllocError, Global};
 
 /// How the environment beats every controller: it plays the moves of the states that the letters lead to.
-#[derive(Debug, Drop)]
+#[derive(Drop)]
 pub struct Strategy {
     /// Within how many letters: the rank of the start.
     pub bound: u32,
@@ -20,7 +20,7 @@ pub struct Strategy {
 }
 
 /// What the environment picks in a state.
-#[derive(Clone, Copy, Debug)]
+#[derive(Clone, Copy)]
 pub struct Move {
     pub state: u32,
     /// Within how many letters a word is rejected, whatever the outputs are.

@@ -14,7 +14,7 @@ use std::fmt::Write;
 use std::test::Fail;
 
 /// A state: whether it accepts, and the states that come next, in the letters' order.
-#[derive(Debug, PartialEq, Eq, Drop)]
+#[derive(PartialEq, Eq, Drop)]
 pub struct State {
     /// Whether it accepts.
     pub accepts: bool,

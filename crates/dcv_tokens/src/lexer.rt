@@ -12,7 +12,7 @@ use dcv_lexer::{Lexeme, Lexer, value_up_to};
 use dcv_syntax::Span;
 
 /// A token where it stands.
-#[derive(Clone, Copy, Debug)]
+#[derive(Clone, Copy)]
 pub struct Token<'a> {
     pub bytes: &'a [u8],
     /// The offset of its first byte.
@@ -115,7 +115,7 @@ impl Classified for Token<'_> {
 }
 
 /// The tokens of a formula file from some offset on. They end where no piece begins: at the end, or at a byte fault.
-#[derive(Debug, Drop)]
+#[derive(Drop)]
 pub struct Tokens<'a> {
     lexer: Lexer<'a>,
     ghost of_formulas: { lexicon_of lexer.lexicon.now ≡ formulas },

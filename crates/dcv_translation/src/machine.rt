@@ -18,7 +18,7 @@ use dcv_observer::{Item, Items, ObsFault};
 use std::alloc::{AllocError, Global};
 
 // What is still to be done.
-#[derive(Clone, Copy, Debug)]
+#[derive(Clone, Copy)]
 pub(crate) enum Step {
     // A token of this class is to come.
     Class(u8),

@@ -10,7 +10,7 @@ use std::cmp::Ordering;
 use std::marker::Model;
 
 /// A row of letters, each of the word's width.
-#[derive(Debug, Drop)]
+#[derive(Drop)]
 pub struct Word {
     width: u8,
     letters: Vec<Letter>,

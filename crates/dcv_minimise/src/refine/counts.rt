@@ -5,7 +5,7 @@ ghost use Rattle.std.specs.List.{All};
 use std::alloc::{AllocError, Global};
 
 // How many each block has, by its number, and the blocks that have some. One is kept for all rounds.
-#[derive(Debug, Drop)]
+#[derive(Drop)]
 pub(crate) struct Counts {
     counts: Vec<u32>,
     blocks: Vec<u32>,

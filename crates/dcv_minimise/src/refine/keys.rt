@@ -11,7 +11,7 @@ use dcv_renumber::{Places, Remapping};
 use std::alloc::{AllocError, Global};
 
 // A state beside its key.
-#[derive(Clone, Copy, Debug)]
+#[derive(Clone, Copy)]
 pub(crate) struct Keyed {
     pub(crate) state: u32,
     pub(crate) key: Ref,

@@ -12,7 +12,7 @@ use dcv_members::{Members, SparseSet};
 use std::alloc::{AllocError, Global};
 
 // The states that a round compares with the witnesses, and the blocks of which these are all. One is kept for all rounds.
-#[derive(Debug, Drop)]
+#[derive(Drop)]
 pub(crate) struct Listed {
     pub(crate) states: Vec<u32>,
     pub(crate) full: SparseSet,

@@ -13,7 +13,7 @@ use dcv_renumber::Places;
 use std::alloc::{AllocError, Global};
 use std::mem;
 
-#[derive(Debug, Drop)]
+#[derive(Drop)]
 pub(crate) struct Partition {
     pub(crate) blocks: Vec<u32>,
     pub(crate) witness: Vec<u32>,

@@ -12,7 +12,7 @@ use dcv_members::SparseSet;
 use std::alloc::{AllocError, Global};
 
 // What the votes of a block have come to: the key that leads, and by how many votes.
-#[derive(Clone, Copy, Debug)]
+#[derive(Clone, Copy)]
 struct Ballot {
     key: Ref,
     votes: u32,

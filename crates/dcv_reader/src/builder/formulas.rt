@@ -16,7 +16,7 @@ use dcv_tokens::classes::*;
 use std::alloc::{AllocError, Global};
 
 // The lists of operands.
-#[derive(Clone, Copy, Debug)]
+#[derive(Clone, Copy)]
 enum FormulaList {
     And,
     Or,

@@ -14,7 +14,7 @@ use dcv_tokens::classes::*;
 use std::alloc::{AllocError, Global};
 
 // The lists of operands.
-#[derive(Clone, Copy, Debug)]
+#[derive(Clone, Copy)]
 enum PropList {
     And,
     Or,
@@ -101,7 +101,7 @@ impl PropList {
 }
 
 /// The arguments of a call, and the span of their parentheses, if these stand there.
-#[derive(Debug, Drop)]
+#[derive(Drop)]
 pub struct Arguments {
     pub props: Vec<Prop>,
     pub parentheses: Option<Span>,

@@ -1,0 +1,2 @@
+-- For the proofs alone: what the evaluator's own data stand for.
+pub mod Scope

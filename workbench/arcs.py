@@ -1,0 +1,120 @@
+"""An automaton as a picture: its states side by side in the order of the text, arcs to later states above, to earlier ones below."""
+from conditions import conditions, is_final
+from pictures import GRAY, GREEN, INK, RED, page, text_width, words
+
+MOST_STATES = 12  # a larger automaton is a table
+LINE, LABEL = 15, 13  # heights of a line in a box, and of one of a label
+ARROW = (f'<defs><marker id="arrow" viewBox="0 0 8 8" refX="7" refY="4" markerWidth="8" markerHeight="8" orient="auto">'
+         f'<path d="M0 0L8 4L0 8z" fill="{INK}"/></marker></defs>')
+
+
+def lines_of(found):
+    """Conditions as a few short lines."""
+    joined = " or ".join(found)
+    if len(joined) <= 26:
+        return [joined]
+    return found[:1] + [f"or {condition}" for condition in found[1:3]] + ([f"or {len(found) - 3} more"] if len(found) > 3 else [])
+
+
+class Diagram:
+    """Where everything of the picture stands."""
+
+    def __init__(self, automaton):
+        self.automaton = automaton
+        edges = [conditions(automaton, state) for state in range(automaton.states)]
+        self.lost = {state for state in range(automaton.states) if is_final(automaton, state) and not automaton.accept[state]}
+        self.shown = [state for state in range(automaton.states) if state not in self.lost or state == 0]
+        self.position = {state: place for place, state in enumerate(self.shown)}
+        self.boxes = {state: self._box(state, edges[state]) for state in self.shown}
+        self.arcs = [(state, target, lines_of(found)) for state in self.shown for target, found in edges[state].items()
+                     if target != state and target in self.position]
+        self._measure()
+        self.ports = self._ports()
+
+    def _box(self, state, edges):
+        """The lines in a state's box: its number, by what it is kept, and by what the requirement is lost."""
+        lines = [(str(state), 13, "#222", "bold")]
+        own = [(edges.get(state), "stays: ", "#333")] if state in edges else []
+        own += [(found, "broken: ", RED) for target, found in edges.items() if target in self.lost and target != state]
+        for found, head, color in own:
+            for number, text in enumerate(lines_of(found)):
+                lines.append(((head if number == 0 else " " * len(head)) + text, 11, color, "normal"))
+        return lines
+
+    def _measure(self):
+        most_lines = max([len(label) for _, _, label in self.arcs], default=1)
+        self.level = 44 + LABEL * (most_lines - 1)
+        self.box_width = max([60] + [text_width(text, size) + 20 for box in self.boxes.values() for text, size, _, _ in box])
+        self.box_height = max(len(box) for box in self.boxes.values()) * LINE + 14
+        labels = [text_width(text, 11) + 20 for _, _, label in self.arcs for text in label]
+        self.distance = max([self.box_width + 34] + labels)
+        above = [self.height(arc) + LABEL * len(arc[2]) + 4 for arc in self.arcs if self.goes_on(arc)]
+        below = [self.height(arc) + LABEL * len(arc[2]) + 4 for arc in self.arcs if not self.goes_on(arc)]
+        self.top = 36 + max(above, default=8)
+        self.bottom = self.top + self.box_height
+        self.size = (48 + self.distance * (len(self.shown) - 1) + self.box_width + 20, self.bottom + max(below, default=4) + 14)
+
+    def goes_on(self, arc):
+        return self.position[arc[1]] > self.position[arc[0]]
+
+    def height(self, arc):
+        return 26 + self.level * (abs(self.position[arc[1]] - self.position[arc[0]]) - 1)
+
+    def middle(self, state):
+        return 48 + self.position[state] * self.distance + self.box_width / 2
+
+    def _ports(self):
+        """Where each arc touches a box: side by side, the long arcs nearest to the middle so that they go round the short ones."""
+        ports = {}
+        for on in (True, False):
+            arcs = [arc for arc in self.arcs if self.goes_on(arc) == on]
+            for state in self.shown:
+                ends = [(arc[1], arc, "from") for arc in arcs if arc[0] == state] + [(arc[0], arc, "to") for arc in arcs if arc[1] == state]
+                for sign in (1, -1):
+                    side = [end for end in ends if (self.position[end[0]] - self.position[state]) * sign > 0]
+                    side.sort(key=lambda end: -abs(self.position[end[0]] - self.position[state]))
+                    gap = min(11, (self.box_width / 2 - 14) / max(1, len(side)))
+                    for number, (_, arc, end) in enumerate(side):
+                        ports[(arc[0], arc[1], end)] = self.middle(state) + sign * (8 + gap * number)
+        return ports
+
+
+def automaton_svg(automaton, title):
+    drawn = Diagram(automaton)
+    width = max(drawn.size[0], text_width(title, 13) + 24)
+    parts, labels = [ARROW, words(12, 22, title, 13, INK, weight="bold")], []
+    for arc in drawn.arcs:
+        path, label = _arc(drawn, arc)
+        parts.append(path)
+        labels += label
+    for state in drawn.shown:
+        labels += _boxed(drawn, state)
+    y = (drawn.top + drawn.bottom) / 2
+    parts.append(f'<path d="M10 {y:.1f}H44" stroke="{INK}" fill="none" marker-end="url(#arrow)"/>')
+    return page(width, drawn.size[1], parts + labels)
+
+
+def _arc(drawn, arc):
+    state, target, label = arc
+    begin, end = drawn.ports[(state, target, "from")], drawn.ports[(state, target, "to")]
+    y, sign = (drawn.top, -1) if drawn.goes_on(arc) else (drawn.bottom, 1)
+    pull = y + sign * drawn.height(arc) * 4 / 3
+    path = (f'<path d="M{begin:.1f} {y} C{begin:.1f} {pull:.1f} {end:.1f} {pull:.1f} {end:.1f} {y + sign * 2}" stroke="{INK}" fill="none" '
+            f'marker-end="url(#arrow)"/>')
+    middle, parts = (begin + end) / 2, []
+    top = y + sign * drawn.height(arc) + 4 - (LABEL * (len(label) - 1) if sign < 0 else 0)
+    for number, text in enumerate(label):
+        line, half = top + LABEL * number, text_width(text, 11) / 2
+        parts.append(f'<rect x="{middle - half - 3:.1f}" y="{line - 10:.1f}" width="{2 * half + 6:.1f}" height="{LABEL}" fill="white"/>')
+        parts.append(words(middle, line, text, 11, "#333", "middle"))
+    return path, parts
+
+
+def _boxed(drawn, state):
+    fill, edge = ("#e3f1e4", GREEN) if drawn.automaton.accept[state] else ("#f3d9d6", RED) if state in drawn.lost else ("#f4f4f4", GRAY)
+    left = drawn.middle(state) - drawn.box_width / 2
+    parts = [f'<rect x="{left:.1f}" y="{drawn.top}" width="{drawn.box_width:.1f}" height="{drawn.box_height}" rx="8" fill="{fill}" '
+             f'stroke="{edge}" stroke-width="2"/>']
+    for number, (text, size, color, weight) in enumerate(drawn.boxes[state]):
+        parts.append(words(left + 9, drawn.top + 19 + LINE * number, text, size, color, weight=weight))
+    return parts

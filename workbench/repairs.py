@@ -1,0 +1,212 @@
+"""What may stand where a fault is, and which one change leaves no fault in the file. Each answer is the program's.
+
+`fault syntax at N` names the first token that no file goes on with, so a token may stand at N exactly where the text before N with
+that token behind it has no fault there. A change is told only where the program finds no fault in the whole changed file.
+"""
+import difflib
+import re
+
+from language import RELATIONS, RESERVED, TOKEN, tokens_before
+
+NAME, NUMBER = "a name", "a number"
+MARKS = "; , . ( ) [ ] [[ ]] < > {{ }} ! - + && || => <=> ^ * <> [] = <= >=".split()
+HERE = "\0"  # where the tokens of phrases of one shape go
+FILLERS = (NAME, NUMBER, "true", "false", "pt", "ext", "*")  # what fits without saying anything
+OPERATORS = "^ && || => <=> *".split()
+ENDS = ") ] ]] > }} , . ;".split()
+FORMULAS = "< [ [[ {{ <> [] ! ( slen scount sdur pt ext true false ex all".split()
+PROPOSITIONS = "! - + ( true false".split()
+
+# What other notations write, and what is written here for it.
+FOREIGN = {
+    "and": ["&&"], "or": ["||"], "not": ["!"], "implies": ["=>"], "iff": ["<=>"], "xor": [], "AND": ["&&"], "OR": ["||"], "NOT": ["!"],
+    "&": ["&&"], "|": ["||"], "~": ["!"], "->": ["=>"], "<->": ["<=>"], "==": ["<=>", "="], "==>": ["=>"], "-->": ["=>"], "&&&": ["&&"],
+    "|||": ["||"], "=<": ["<="], "=>": [">="], "forall": ["all"], "exists": ["ex"], "A": ["all"], "E": ["ex"], ":": [".", "as"], ":=": ["as"],
+    "=": ["as", "<=>"], "#": ["//"], "--": ["//"], "let": ["define"], "goal": ["infer"], "assert": ["infer"], "check": ["infer"],
+    "bool": ["var"], "input": ["var"],
+    "True": ["true"], "False": ["false"], "TRUE": ["true"], "FALSE": ["false"], "length": ["slen"], "len": ["slen"], "count": ["scount"],
+}
+# Pieces around a fault that other notations write, and what is written here for them.
+REWRITES = (
+    (r"/\*.*?\*/", " "),
+    (r"(slen|(?:scount|sdur)\s*(?:[A-Za-z]\w*|\([^()]*\)))\s*(?:!=|<>|/=)\s*([0-9]+)", r"!(\1 = \2)"),
+    (r"([A-Za-z]\w*)\s*(?:!=|/=)\s*([A-Za-z]\w*)", r"!(\1 <=> \2)"),
+    (r"[A-Za-z]\w*(?:-[A-Za-z]\w*)+", lambda match: match.group().replace("-", "_")),
+    (r"(scount|sdur)\s+([A-Za-z]\w*\s*(?:&&|\|\||=>|<=>)\s*[^()<>=]*?[\w)])(?=\s*(?:<|>|=))", r"\1 (\2)"),
+    (r"==+", "="), (r"==+", "<=>"),
+    (r"(?<!\{)\{([^{}]*)\}(?!\})", r"{{\1}}"),
+    (r"\[\[\s*<([^<>]*)>\s*\]\]", r"[[\1]]"),
+    (r":\s*(?:bool|boolean|bit|int|BOOL)\b", ""),
+    (r"\bforall(?=\s+\w+\s*\.)", "all"), (r"\bexists(?=\s+\w+\s*\.)", "ex"),
+    (r"\b(?:ex|all)\s+\w+\s*\.[^;]*[^;\s]", r"(\g<0>)"),
+)
+
+
+def may_stand(program, text, place):
+    """The tokens that may stand at a place that no token before it is a fault of."""
+    front = text[:place] + "\n"
+    found = []
+    for token in [NAME, NUMBER] + RESERVED + MARKS:
+        written = {NAME: "x", NUMBER: "1"}.get(token, token)
+        fault = program.fault(front + written + "\n$")
+        if fault is None or (fault.kind, fault.place) not in (("syntax", place + 1), ("nest", place + 1)):
+            found.append(token)
+    return found
+
+
+def names_that_fit(text, place, tokens):
+    """The names in sight that a proposition or a formula at this place may begin with."""
+    statements = [[]]
+    for token in tokens_before(text, place)[0]:
+        if token.text == ";":
+            statements.append([])
+        else:
+            statements[-1].append(token.text)
+    named = {"var": [], "prop": [], "define": []}
+    for head, *words in filter(None, statements[:-1]):
+        if head in named:
+            named[head] += [word for word in words if word != ","] if head == "var" else words[:1]
+    here = statements[-1]
+    local = [name for word, name in zip(here, here[1:]) if word in ("ex", "all")]
+    if here[:1] in (["define"], ["prop"]) and here[2:3] == ["("] and ")" in here:
+        local += [word for word in here[3:here.index(")")] if word != ","]
+    if "-" in tokens:
+        return list(dict.fromkeys(local + named["var"] + named["prop"]))
+    return named["define"] if "<>" in tokens else []
+
+
+def spoken(text, place, tokens):
+    """What may stand at a place, in groups, as one phrase."""
+    left = [token for token in tokens if token not in (NAME, NUMBER)]
+    before = [token.text for token in tokens_before(text, place)[0]][-1:]
+    if "(" in left and NAME not in tokens and before and not re.search(r"\b(define|prop)\s+%s\b" % re.escape(before[0]), text):
+        left.remove("(")  # the arguments of what has no parameters
+    names, parts = names_that_fit(text, place, tokens), []
+
+    def group(title, members, also=()):
+        found = [token for token in members if token in left]
+        if found or also:
+            parts.append(" ".join([title, *also, *found]))
+            left[:] = [token for token in left if token not in found]
+
+    if "<>" in tokens:
+        group("a formula", FORMULAS, _few(names))
+    elif "-" in tokens:
+        group("a proposition", PROPOSITIONS, _few(names))
+    elif NAME in tokens:
+        parts.append("a new name")
+    if NUMBER in tokens:
+        parts.append("a number 0 .. 9999")
+    if "=" in left:
+        group("a comparison", RELATIONS)
+    group("an operator", OPERATORS)
+    group("a list of parameters or arguments", ["("])
+    group("an end", ENDS)
+    group("a word", RESERVED)
+    group("also", MARKS)
+    return ", ".join(parts) or "the end of the text"
+
+
+def _few(names):
+    return names if len(names) <= 6 else names[:5] + [".."]
+
+
+def changes(program, text, fault, tokens=()):
+    """Phrases for the one change that leaves no fault, such as `write && for and`; the likeliest shape alone where one is."""
+    for phrase, changed in _rewritten(text, fault.place):
+        if program.fault(changed) is None:
+            return [phrase]
+    if fault.kind in ("syntax", "byte"):
+        likely, others = _token_changes(text, fault.place, tokens)
+    else:
+        likely, others = _name_changes(program, text, fault), []
+    for phrase, _, changed in likely:
+        if program.fault(changed) is None:
+            return [phrase]
+    return _joined((phrase, token) for phrase, token, changed in others if program.fault(changed) is None)
+
+
+def _rewritten(text, place):
+    """The text with a piece of another notation around the place put right, there alone or everywhere."""
+    start = text.rfind("\n", 0, place) + 1
+    end = (text + "\n").index("\n", place)
+    for pattern, new in REWRITES:
+        for match in re.finditer(pattern, text[start:min(end, start + 10_000)], re.S | re.A):
+            if match.start() <= place - start <= match.end() + 1:
+                written, piece = re.sub(pattern, new, match.group(), 1, re.S | re.A) if callable(new) else match.expand(new), match.group()
+                phrase = f"write {written} for {piece}" if written.strip() else f"leave out {piece}"
+                yield phrase, text[:start + match.start()] + written + text[start + match.end():]
+                if text.count(piece) > 1:
+                    yield phrase + " everywhere", text.replace(piece, written)
+
+
+def _token_changes(text, place, tokens):
+    """Changes at a token: the likely ones as (phrase, token, text), and all others as (pattern of a phrase, token, text)."""
+    match = TOKEN.match(text, place)
+    token = match.group() if match and match.group("blank") is None else text[place:place + 1]
+    piece = re.match(r"[-=<>!&|~^+*/%:]+|[A-Za-z]\w*|", text[place:]).group() or token
+    fit = names_that_fit(text, place, tokens)[:4]
+    usual = fit + [mark for mark in tokens if mark not in FILLERS] + ([NUMBER] if NUMBER in tokens else [])
+    likely = [(f"write {new} for {old}", new, text[:place] + new + text[place + len(old):])
+              for old in dict.fromkeys((piece, token)) if old for new in FOREIGN.get(old, [])]
+    behind = tokens_before(text, place)[0]
+    where = f"before {token}" if token.strip() else "at the end"
+    fresh_line = bool(behind) and "\n" in text[behind[-1].end:place]
+    if fresh_line or not token.strip():
+        likely += [(f"put ; {'behind ' + behind[-1].text if behind else where}", ";", _put(text, behind, ";"))]
+    others = []
+    for new in usual:
+        written = " 1 " if new == NUMBER else f" {new} "
+        others.append((f"put {HERE} {where}", new, text[:place] + written + text[place:]))
+        for old in dict.fromkeys((token, piece)):
+            if old.strip():
+                others.append((f"write {HERE} for {old}", new, text[:place] + written + text[place + len(old):]))
+    for old in dict.fromkeys((token, piece)):
+        if old.strip():
+            others.append((f"leave out {old}", "", text[:place] + " " + text[place + len(old):]))
+    if behind and behind[-1].text != token:
+        last = behind[-1]
+        others.append((f"leave out {last.text} in front of it", "", text[:last.start] + " " + text[place:]))
+    return likely, others
+
+
+def _put(text, behind, new):
+    end = behind[-1].end if behind else 0
+    return text[:end] + new + text[end:]
+
+
+def _name_changes(program, text, fault):
+    """Changes of a name that is unknown, or that stands for another kind of thing than its place asks for."""
+    match = re.match(r"[A-Za-z]\w*(\s*\([^()]*\))?", text[fault.place:])
+    if match is None:
+        return []
+    name = re.match(r"\w+", match.group()).group()
+    end = fault.place + match.end()
+    found = []
+    if fault.kind == "unknown":
+        known = sorted({token.text for token in tokens_before(text, fault.place)[0] if token.text[0].isalpha()} - set(RESERVED) - {name})
+        for new in FOREIGN.get(name, []) + difflib.get_close_matches(name, known, 3, 0.6):
+            found.append((f"write {new} for {name}", new, text[:fault.place] + new + text[fault.place + len(name):]))
+    elif fault.kind == "kind":
+        call = match.group()
+        for opening, closing in (("[[", "]]"), ("<><", ">")):
+            found.append((f"write {opening}{call}{closing} for {call}", "", text[:fault.place] + opening + call + closing + text[end:]))
+        for opening, closing in (("[[", "]]"), ("[", "]"), ("<", ">"), ("{{", "}}")):
+            front, rest = text[:fault.place].rstrip(), text[end:].lstrip()
+            if front.endswith(opening) and rest.startswith(closing):
+                bare = front[:-len(opening)] + call + rest[len(closing):]
+                found.insert(0, (f"write {call} for {opening}{call}{closing}", "", bare))
+    return found
+
+
+def _joined(phrases):
+    """Phrases of one shape told together: `put ^, && or || before [`."""
+    shapes = {}
+    for phrase, token in phrases:
+        shapes.setdefault(phrase, []).append(token)
+    told = []
+    for phrase, tokens in shapes.items():
+        tokens = [token for token in dict.fromkeys(tokens) if token]
+        spoken_tokens = ", ".join(tokens[:-1]) + (" or " if len(tokens) > 1 else "") + tokens[-1] if tokens else ""
+        told.append(phrase.replace(HERE, spoken_tokens))
+    return told[:4]

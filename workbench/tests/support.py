@@ -1,0 +1,46 @@
+"""What the tests share: the program, where there is one, and runs of ./ask and ./explain."""
+import os
+import subprocess
+import tempfile
+import unittest
+
+ROOT = os.path.dirname(os.path.dirname(os.path.dirname(os.path.abspath(__file__))))
+BUILT = os.path.join(ROOT, "crates", "dcvalid", "out", "dcvalid")
+PROGRAM = os.environ.get("DCVALID") or (BUILT if os.access(BUILT, os.X_OK) else None)
+
+needs_program = unittest.skipUnless(PROGRAM, "there is no program: DCVALID names none, and ./dcvalid is not built")
+
+
+def examples():
+    folder = os.path.join(ROOT, "examples")
+    return [os.path.join(folder, name) for name in sorted(os.listdir(folder)) if name.endswith(".dc")]
+
+
+def run(script, *words, stdin="", program=None, **variables):
+    """A run of a script of the root: status, output, error."""
+    environment = {**os.environ, "COLUMNS": "100", "DCVALID": program or PROGRAM or "", **variables}
+    done = subprocess.run([os.path.join(ROOT, script), *words], input=stdin.encode("latin-1"), env=environment, stdout=subprocess.PIPE,
+                          stderr=subprocess.PIPE)
+    return done.returncode, done.stdout.decode(), done.stderr.decode()
+
+
+class WithFolder(unittest.TestCase):
+    """A test with a folder of its own."""
+
+    def setUp(self):
+        room = tempfile.TemporaryDirectory()
+        self.addCleanup(room.cleanup)
+        self.folder = room.name
+
+    def file(self, name, text):
+        path = os.path.join(self.folder, name)
+        with open(path, "w", encoding="latin-1", newline="") as file:
+            file.write(text)
+        return path
+
+    def stub(self, output="", error="", status=0):
+        """A program that answers this to everything."""
+        said, told = self.file("stub.out", output), self.file("stub.err", error)
+        path = self.file("stub", f"#!/bin/sh\ncat '{said}'\ncat '{told}' >&2\nexit {status}\n")
+        os.chmod(path, 0o755)
+        return path
