@@ -3,8 +3,8 @@
 
     DCVALID=PROGRAM tests/rows.py FILE ..
 
-The head of `runs.rows` says how a row is written. The gate runs them by `dcv_rows`, over files and streams in memory. Rows of calls that fail or
-move a few bytes are passed over here.
+The head of `runs.rows` says how a row is written. The gate runs them by `dcv_rows`, over files and streams in memory. Rows with failing calls or
+short reads and writes are skipped here.
 """
 import os
 import subprocess

@@ -8,8 +8,8 @@ use thiserror::Error;
 pub(crate) enum Fault {
     #[error("{0}")]
     Take(#[from] TakeFault),
-    #[error("the file is no UTF-8 text")]
-    NoText,
+    #[error("the file is not UTF-8 text")]
+    NotUtf8,
     #[error("out of memory")]
     Memory(#[from] AllocError),
     #[error("{0}")]

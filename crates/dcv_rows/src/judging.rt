@@ -1,5 +1,5 @@
-// Runs the words of a row over its files, and compares what came with what is wanted.
-ghost use Rattle.std.specs.Prelude.{◌<◌, All, IfOk};
+// Runs the words of a row over its files, and compares the outcome with the expected one.
+ghost use Rattle.std.specs.Prelude.{◌≡◌, ◌<◌, All, false, IfNone, IfOk, OnSome};
 
 use crate::fault::Fault;
 use crate::pattern::Pattern;
@@ -11,7 +11,7 @@ use std::alloc::{AllocError, Global};
 // Room for each report and each message, in bytes.
 const ROOM: usize = 2_097_152;
 
-// How many reads or writes in turn are short, where they are.
+// How many reads or writes are short, if they are.
 const SHORT: usize = 1_024;
 
 // What a run wrote, and its exit status.
@@ -22,10 +22,15 @@ struct Ran {
     err: MemSink,
 }
 
-/// Whether the row holds. Where it does not it is told why.
-pub(crate) fn judge(rt: &HostRuntime, row: &Row) -> Result<bool, Fault> {
+/// Whether the row holds. If not, it prints why.
+pub(crate) fn judge(rt: &HostRuntime, row: &Row) -> Result<bool, Fault>
+    // A row with a line that is not of this form, without words or without a status never holds.
+    ensures refused { OnSome row.now.refused (IfOk result (λ holds. holds ≡ false)) }
+    ensures words { IfNone row.now.words (IfOk result (λ holds. holds ≡ false)) }
+    ensures status { IfNone row.now.numbers.status (IfOk result (λ holds. holds ≡ false)) }
+{
     if let Some(line) = &row.refused {
-        println!(rt; "{}: no line of a row: {line}", row.title)?;
+        println!(rt; "{}: not a line of a row: {line}", row.title)?;
         return Ok(false);
     }
     let (Some(words), Some(status)) = (&row.words, row.numbers.status) else {
@@ -61,11 +66,11 @@ fn files_of(alloc: Global, row: &Row) -> Result<MemFiles, AllocError> {
     let mut files = MemFiles::new(alloc, &sizes, row.numbers.failing_call.as_slice())?;
     match (&row.first, &row.second) {
         (Some(first), Some(second)) => {
-            files.hold("f", &first.front)?;
-            files.hold("g", &second.front)?;
+            files.hold("f", &first.prefix)?;
+            files.hold("g", &second.prefix)?;
         }
-        (Some(first), None) => files.hold("f", &first.front)?,
-        (None, Some(second)) => files.hold("g", &second.front)?,
+        (Some(first), None) => files.hold("f", &first.prefix)?,
+        (None, Some(second)) => files.hold("g", &second.prefix)?,
         (None, None) => {}
     }
     Ok(files)
@@ -77,7 +82,7 @@ fn sink(alloc: Global, writes: Option<u64>, failing: Option<u64>) -> Result<MemS
     MemSink::new(alloc, ROOM, &sizes, failing.as_slice())
 }
 
-// The sizes of reads or writes in turn, if they are short.
+// The sizes of the first reads or writes, if they are short.
 fn sizes(alloc: Global, most: Option<u64>) -> Result<Vec<usize>, AllocError>
     ensures { IfOk result (λ sizes. All (λ size. 0 < size) sizes.items) }
 {
@@ -87,36 +92,36 @@ fn sizes(alloc: Global, most: Option<u64>) -> Result<Vec<usize>, AllocError>
     }
 }
 
-// Whether just what is wanted was written. Where nothing is said of it, that is nothing.
-fn fits(wanted: &Option<Pattern>, sink: &MemSink) -> bool {
-    match wanted {
+// Whether exactly the expected bytes were written. A row that says nothing of them expects none.
+fn fits(expected: &Option<Pattern>, sink: &MemSink) -> bool {
+    match expected {
         Some(pattern) => pattern.fits(sink.written()),
         None => sink.written().is_empty(),
     }
 }
 
-// Tells of a row that does not hold.
+// Prints the expected and the actual outcome of a row that does not hold.
 fn tell(rt: &HostRuntime, row: &Row, status: u64, ran: &Ran) -> Result<(), Fault> {
     let alloc = rt.alloc();
     println!(rt; "{}: does not hold", row.title)?;
     let out = shown(alloc, &row.out)?;
     let err = shown(alloc, &row.err)?;
-    println!(rt; "  wanted: status {status}, out {out}, err {err}")?;
+    println!(rt; "  expected: status {status}, out {out}, err {err}")?;
     let out = String::from_utf8_lossy(alloc, ran.out.written())?;
     let err = String::from_utf8_lossy(alloc, ran.err.written())?;
-    println!(rt; "  came: status {}, out {out:?}, err {err:?}", ran.status)?;
+    println!(rt; "  actual: status {}, out {out:?}, err {err:?}", ran.status)?;
     Ok(())
 }
 
-// What is wanted of a text, as a quoted text, or as two with a gap between them.
-fn shown(alloc: Global, wanted: &Option<Pattern>) -> Result<String, AllocError> {
-    let Some(pattern) = wanted else {
+// An expected text in quotes, or the two parts around its gap.
+fn shown(alloc: Global, expected: &Option<Pattern>) -> Result<String, AllocError> {
+    let Some(pattern) = expected else {
         return String::from_str(alloc, "\"\"");
     };
-    let front = String::from_utf8_lossy(alloc, &pattern.front)?;
-    let Some(back) = &pattern.back else {
-        return format!(in alloc; "{front:?}");
+    let prefix = String::from_utf8_lossy(alloc, &pattern.prefix)?;
+    let Some(suffix) = &pattern.suffix else {
+        return format!(in alloc; "{prefix:?}");
     };
-    let back = String::from_utf8_lossy(alloc, back)?;
-    format!(in alloc; "{front:?} .. {back:?}")
+    let suffix = String::from_utf8_lossy(alloc, suffix)?;
+    format!(in alloc; "{prefix:?} .. {suffix:?}")
 }

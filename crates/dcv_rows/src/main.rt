@@ -1,5 +1,5 @@
-//! Rows of words, files and what the run of the program answers, read from files of rows and run over files and streams in memory: of each
-//! file that is named, the rows that do not hold, and how many do. The head of `data/runs.rows` says how a row is written.
+//! Tests as data: rows of words, files and the expected outcome of a run, which are run over files and streams in memory. For each file of
+//! rows that is named it prints the rows that do not hold, and how many do. The head of `data/runs.rows` says how a row is written.
 #![tactic(auto)]
 
 mod fault;
@@ -9,7 +9,7 @@ mod row;
 
 use crate::fault::Fault;
 use crate::judging::judge;
-use crate::row::{Row, is_remark};
+use crate::row::{Row, is_comment};
 use dcv_io::{RealFiles, read_all};
 use std::env;
 use std::process::ExitCode;
@@ -30,7 +30,7 @@ fn main(rt: HostRuntime) -> ExitCode {
     };
     for name in arguments.skip(1) {
         if let Err(fault) = judge_file(&rt, name.as_str()) {
-            // Where this cannot be written either, the status alone says it.
+            // If this cannot be written either, the status alone says it.
             let _ = println!(rt; "{}: {fault}", name.as_str());
             return ExitCode::FAILURE;
         }
@@ -42,14 +42,14 @@ fn main(rt: HostRuntime) -> ExitCode {
 fn judge_file(rt: &HostRuntime, name: &str) -> Result<(), Fault> {
     let bytes = read_all(rt.alloc(), &mut RealFiles::new(rt), name, MOST_BYTES)?;
     let Ok(text) = str::from_utf8(&bytes) else {
-        return Err(Fault::NoText);
+        return Err(Fault::NotUtf8);
     };
     let tally = judge_rows(rt, text)?;
     println!(rt; "{name}: {} of {} rows hold", tally.held, tally.rows)?;
     Ok(())
 }
 
-// Judges the rows of a text. Before the first of them there are remarks alone.
+// Judges the rows of a text. Before the first row only comments may stand.
 fn judge_rows(rt: &HostRuntime, text: &str) -> Result<Tally, Fault> {
     let mut tally = Tally { rows: 0, held: 0 };
     let mut row: Option<Row> = None;
@@ -59,7 +59,7 @@ fn judge_rows(rt: &HostRuntime, text: &str) -> Result<Tally, Fault> {
             row = Some(Row::new(rt.alloc(), title)?);
         } else if let Some(row) = &mut row {
             row.add_line(line)?;
-        } else if !is_remark(line) {
+        } else if !is_comment(line) {
             let mut stray = Row::new(rt.alloc(), "before the first row")?;
             stray.refuse(line)?;
             row = Some(stray);

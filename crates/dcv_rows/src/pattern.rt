@@ -1,12 +1,14 @@
-// The bytes of a file, and what is wanted of a report or of a message.
+// The bytes of a file, and the bytes expected as a report or as a message.
+ghost use Rattle.std.specs.Prelude.{◌≡◌, true, None};
+
 use std::alloc::{AllocError, Global};
 
-/// Bytes, and where there is a gap in them, those behind it.
+/// Bytes, and if there is a gap in them, the bytes after it.
 #[derive(Drop)]
 pub(crate) struct Pattern {
     alloc: Global,
-    pub(crate) front: Vec<u8>,
-    pub(crate) back: Option<Vec<u8>>,
+    pub(crate) prefix: Vec<u8>,
+    pub(crate) suffix: Option<Vec<u8>>,
 }
 
 impl Pattern {
@@ -14,30 +16,32 @@ impl Pattern {
     pub(crate) fn new(alloc: Global) -> Pattern {
         Pattern {
             alloc,
-            front: Vec::new(alloc),
-            back: None,
+            prefix: Vec::new(alloc),
+            suffix: None,
         }
     }
 
     /// Adds what the line stands for, and answers whether it stands for something.
     pub(crate) fn add_line(&mut self, line: &str) -> Result<bool, AllocError> {
-        if let Some(back) = &mut self.back {
-            return add_piece(self.alloc, back, line);
+        if let Some(suffix) = &mut self.suffix {
+            return add_piece(self.alloc, suffix, line);
         }
         if line == ".." {
-            self.back = Some(Vec::new(self.alloc));
+            self.suffix = Some(Vec::new(self.alloc));
             return Ok(true);
         }
-        add_piece(self.alloc, &mut self.front, line)
+        add_piece(self.alloc, &mut self.prefix, line)
     }
 
     /// Whether these are the bytes, with some at the gap, if there is one.
-    pub(crate) fn fits(&self, bytes: &[u8]) -> bool {
-        let Some(back) = &self.back else {
-            return bytes == self.front.as_slice();
+    pub(crate) fn fits(&self, bytes: &[u8]) -> bool
+        ensures whole { self.now.suffix ≡ None → result ≡ true → bytes.now ≡ self.now.prefix.items }
+    {
+        let Some(suffix) = &self.suffix else {
+            return bytes == self.prefix.as_slice();
         };
-        match bytes.strip_prefix(self.front.as_slice()) {
-            Some(rest) => rest.len() > back.len() && rest.ends_with(back),
+        match bytes.strip_prefix(self.prefix.as_slice()) {
+            Some(rest) => rest.len() > suffix.len() && rest.ends_with(suffix),
             None => false,
         }
     }

@@ -1,9 +1,11 @@
 // A row, line by line.
+ghost use Rattle.std.specs.Prelude.{IsSome, OnOk};
+
 use crate::pattern::Pattern;
 use dcv_cli::Words;
 use std::alloc::{AllocError, Global};
 
-/// A row: words, the files that are held, and what is wanted of the run.
+/// A row: the words, the files, and the expected outcome of the run.
 #[derive(Drop)]
 pub(crate) struct Row {
     alloc: Global,
@@ -18,8 +20,8 @@ pub(crate) struct Row {
     section: Option<Section>,
 }
 
-/// The status that is wanted, at most how many bytes each read and each write moves, and which call of the files, write of the report and
-/// write of the message fails.
+/// The expected status, the most bytes that a read and a write move, and which call of the files, write of the report and write of the
+/// message fails.
 #[derive(Clone, Copy, Default)]
 pub(crate) struct Numbers {
     pub(crate) status: Option<u64>,
@@ -39,13 +41,13 @@ enum Section {
     Err,
 }
 
-/// Whether the line is for the reader alone.
-pub(crate) fn is_remark(line: &str) -> bool {
+/// Whether the line is empty or a comment.
+pub(crate) fn is_comment(line: &str) -> bool {
     line.is_empty() || line == "#" || line.starts_with("# ")
 }
 
 impl Row {
-    /// A row of which the title alone is there.
+    /// A row with a title and nothing else.
     pub(crate) fn new(alloc: Global, title: &str) -> Result<Row, AllocError> {
         Ok(Row {
             alloc,
@@ -61,7 +63,7 @@ impl Row {
         })
     }
 
-    /// Adds a line. The first that is none of a row is kept as such.
+    /// Adds a line. The first line that is not of this form is kept as such.
     pub(crate) fn add_line(&mut self, line: &str) -> Result<(), AllocError> {
         let added = if let Some(words) = line.strip_prefix('$') {
             self.set_words(words)?
@@ -72,13 +74,15 @@ impl Row {
         } else if let Some(section) = section_of(line) {
             self.begin(section)
         } else {
-            is_remark(line) || self.add_piece(line)?
+            is_comment(line) || self.add_piece(line)?
         };
         if added { Ok(()) } else { self.refuse(line) }
     }
 
-    /// Keeps the line as one that is none of a row, if it is the first.
-    pub(crate) fn refuse(&mut self, line: &str) -> Result<(), AllocError> {
+    /// Keeps the line as one that is not of this form, if it is the first.
+    pub(crate) fn refuse(&mut self, line: &str) -> Result<(), AllocError>
+        ensures refused { OnOk result (IsSome self.new.refused) }
+    {
         if self.refused.is_none() {
             self.refused = Some(String::from_str(self.alloc, line)?);
         }
@@ -96,7 +100,7 @@ impl Row {
         Ok(added)
     }
 
-    // Begins a text that is not there yet.
+    // Begins a text. It may begin once.
     fn begin(&mut self, section: Section) -> bool {
         let pattern = Pattern::new(self.alloc);
         let text = self.text_of(section);
@@ -106,14 +110,14 @@ impl Row {
         added
     }
 
-    // Adds a piece to the text that has begun. The bytes of a file have no gap.
+    // Adds a piece to the current text. The bytes of a file have no gap.
     fn add_piece(&mut self, piece: &str) -> Result<bool, AllocError> {
         let Some(section) = self.section else {
             return Ok(false);
         };
-        let is_wanted = matches!(section, Section::Out | Section::Err);
+        let is_expected = matches!(section, Section::Out | Section::Err);
         match self.text_of(section) {
-            Some(text) if is_wanted || piece != ".." => text.add_line(piece),
+            Some(text) if is_expected || piece != ".." => text.add_line(piece),
             _ => Ok(false),
         }
     }
@@ -142,14 +146,14 @@ impl Numbers {
     }
 }
 
-// Sets a number, if it is not there yet, and these are the digits of one.
+// Sets a number, if it is not set yet and these are digits.
 fn set(number: &mut Option<u64>, digits: &str) -> bool {
     let added = number.is_none();
     *number = digits.parse().ok();
     added && number.is_some()
 }
 
-// The text that begins behind this line, if one does.
+// The text that begins after this line, if one does.
 fn section_of(line: &str) -> Option<Section> {
     match line {
         "f:" => Some(Section::First),

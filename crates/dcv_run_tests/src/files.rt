@@ -4,7 +4,7 @@ use dcv_io::{Files, MemFiles, MemSink, NotingFiles};
 use std::alloc::{AllocError, Global};
 use std::test::Fail;
 
-// Runs the words over the files, and answers the status with the report and the message, one behind the other.
+// Runs the words over the files. Answers the status, and the report followed by the message.
 fn ran<F: Files>(
     alloc: Global,
     words: &[&str],
@@ -34,7 +34,7 @@ const ANSWER: Answer = (
 );
 
 // The call of the files that fails, and what each of three runs over them answers. A run opens its file, and reads its bytes and its end: three
-// calls, of which none is made behind one that failed.
+// calls, and none after one that failed.
 const RUNS: [(u64, [Answer; 3]); 9] = [
     (1, [OPEN, ANSWER, ANSWER]),
     (2, [READ, ANSWER, ANSWER]),
@@ -47,7 +47,7 @@ const RUNS: [(u64, [Answer; 3]); 9] = [
     (10, [ANSWER, ANSWER, ANSWER]),
 ];
 
-// How many of three runs over files of which this call fails answer so.
+// How many of three runs over files of which this call fails give the expected answer.
 fn right_in_turn(alloc: Global, call: u64, wanted: &[Answer; 3]) -> Result<u32, AllocError> {
     let mut files = MemFiles::new(alloc, &[], &[call])?;
     files.hold("f", b"var p; infer [[p]];")?;
@@ -59,7 +59,7 @@ fn right_in_turn(alloc: Global, call: u64, wanted: &[Answer; 3]) -> Result<u32, 
     Ok(right)
 }
 
-// What has failed in one run is forgotten in the next.
+// A failure in one run does not affect the next.
 #[test]
 fn files_are_opened_again(rt: HostRuntime) -> Result<(), Fail> {
     for (call, wanted) in &RUNS {
@@ -68,7 +68,7 @@ fn files_are_opened_again(rt: HostRuntime) -> Result<(), Fail> {
     Ok(())
 }
 
-// The names of the files for which a run of the words asks, each with a space behind it.
+// The names of the files for which a run of the words asks, each followed by a space.
 fn asked(alloc: Global, words: &[&str]) -> Result<String, AllocError> {
     let mut files = NotingFiles::new(alloc, MemFiles::new(alloc, &[], &[])?);
     let _ = ran(alloc, words, &mut files)?;

@@ -1,5 +1,5 @@
-//! Tests of what no row of `dcv_rows` says of a run: several runs over the same files, which files are asked for, and drawn formulas over
-//! limits that the command line does not take.
+//! Tests that cannot be rows of `dcv_rows`: several runs over the same files, which files are asked for, and drawn formulas over limits that
+//! the command line does not take.
 #![tactic(auto)]
 
 #[cfg(test)]

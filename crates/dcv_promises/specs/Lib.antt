@@ -1,0 +1,2 @@
+-- The words in which the promises are made.
+pub mod Promises

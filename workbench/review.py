@@ -1,0 +1,216 @@
+"""`review`: what a colleague would ask of a requirement, each question with its answer and a behaviour that shows it."""
+import itertools
+from dataclasses import replace
+
+import vacuity
+from language import Tree, read_text
+from questions import Requirement
+from waves import in_line, waves
+from writing import expand, to_text
+
+MOST_WISHES = 14  # with more of them the limits of an example are lower
+
+
+# ---- a telling example
+
+
+def names_in(tree):
+    return {part.value for part in tree.walk() if part.kind == "name"}
+
+
+def happenings(goal):
+    """The left sides of => and the propositions of <P>, {{P}} and P => Q that have no quantified name: what may happen, or not."""
+    lefts, events = {}, {}
+
+    def walk(tree, bound):
+        if tree.kind in ("ex", "all"):
+            bound = bound | {tree.value}
+        first = tree.parts[0] if tree.parts else None
+        if tree.kind == "implies" and not names_in(first) & bound:
+            lefts[f"<>({to_text(first)})"] = to_text(first)
+        if tree.kind in ("point", "unit", "p_implies") and not names_in(first) & bound:
+            events[f"<><{to_text(first)}>"] = to_text(first)
+        for part in tree.parts:
+            walk(part, bound)
+
+    walk(goal, frozenset())
+    return {**lefts, **events}
+
+
+def wishes_of(requirement):
+    """What may happen, as a formula and in words: the wishes that hold in fewest behaviours come first."""
+    wishes = {f"<><{name}>": f"{name} is true" for name in requirement.variables}
+    for wish, event in happenings(expand(requirement.file)).items():
+        wishes.setdefault(wish, f"{event} happens")
+    wishes.update((f"<><!{name}>", f"{name} is false") for name in requirement.variables)
+    return wishes
+
+
+def telling(requirement):
+    """A shortest behaviour in which as much happens as can together; and what else was wished, by why it does not happen in it."""
+    wishes = wishes_of(requirement)
+    whole = requirement.check(requirement.and_also(wishes), wide=len(wishes) <= MOST_WISHES)
+    if whole and whole.satisfiable:
+        return whole.example, {}
+    alone = requirement.side_by_side(lambda wish: requirement.check(requirement.and_also([wish])), [(wish,) for wish in wishes])
+    got, best, without = [], None, {"never": [], "apart": [], "over": []}
+    for (wish, said), answer in zip(wishes.items(), alone):
+        possible = answer and answer.satisfiable
+        if possible and got:
+            answer = None if len(without["over"]) > 1 else requirement.check(requirement.and_also(got + [wish]), wide=len(wishes) <= MOST_WISHES)
+        if answer is None:
+            without["over"].append(said)
+        elif answer.satisfiable:
+            got.append(wish)
+            best = answer.example
+        else:
+            without["apart" if possible else "never"].append(said)
+    return best, without
+
+
+MISSING = {"never": "Where it holds it never happens that", "apart": "Not together with the rest", "over": "Too large to ask for besides"}
+
+
+def example_section(requirement):
+    best, without = telling(requirement)
+    if best is None:
+        return []
+    lines = waves(requirement.variables, best) if requirement.variables else [in_line(best)]
+    return lines + [f"{MISSING[why]}: {'; '.join(said)}." for why, said in without.items() if said]
+
+
+# ---- boundaries
+
+
+def neighbours(requirement):
+    """Each number one lower and one higher, and each [P] as [[P]] and back: the part, what stands there then, and the whole text."""
+    for occurrence in requirement.occurrences():
+        tree = occurrence.tree
+        start, end = occurrence.place
+        if tree.kind in ("slen", "scount", "sdur"):
+            digits = len(requirement.text[start:end]) - len(requirement.text[start:end].rstrip("0123456789"))
+            for number in (tree.value[1] - 1, tree.value[1] + 1):
+                if 0 <= number <= 9999:
+                    yield tree, str(number), requirement.put(end - digits, end, str(number))
+        elif tree.kind == "run":
+            yield tree, "[[..]]", requirement.put(start, end, f"[{requirement.text[start:end]}]")
+        elif tree.kind == "every":
+            yield tree, "[..]", requirement.put(start, end, requirement.text[start + 1:end - 1])
+
+
+def boundary_section(requirement):
+    cases = list(neighbours(requirement))
+    pairs = [pair for _, _, text in cases for pair in ((requirement.text, text), (text, requirement.text))]
+    answers = iter(requirement.side_by_side(requirement.difference, pairs))
+    found = [(tree, new, next(answers), next(answers)) for tree, new, _ in cases]
+    lines = []
+    for tree, those in itertools.groupby(found, lambda case: case[0]):
+        told = list(boundaries_of(those, requirement.verdict.valid))
+        if told:
+            lines += [f"line {requirement.line(tree)}: {requirement.part(tree)}", *told]
+    return lines
+
+
+def boundaries_of(cases, valid):
+    """What is told of the neighbours of one part. That a theorem's neighbour is one too is worth saying where all of them are."""
+    same, others = [], []
+    for _, new, here, there in cases:
+        if here == there == "same":
+            same.append(new)
+        elif here is None or there is None:
+            others.append(f"  with {new}: over the limits of this question")
+        else:
+            others += [f"  with {new}: good now, bad then: {in_line(here)}"] if here != "same" else []
+            others += [f"  with {new}: bad now, good then: {in_line(there)}"] if there != "same" else []
+    if same and not (valid and others):
+        yield f"  with {' or '.join(same)}: the same meaning"
+    yield from others
+
+
+# ---- near misses
+
+
+def twin_of(goal, variable, twin):
+    """The goal without macros, another variable in the place of one."""
+    if goal.kind == "name" and goal.value == variable:
+        return Tree("name", (), twin)
+    return replace(goal, parts=tuple(twin_of(part, variable, twin) for part in goal.parts))
+
+
+def free_name(goal, variables):
+    """A name for a copy of a variable, which is none of the goal's."""
+    taken = names_in(goal) | set(variables) | {part.value for part in goal.walk() if part.kind in ("ex", "all")}
+    return next(name for name in (f"twin{number or ''}" for number in range(len(taken) + 1)) if name not in taken)
+
+
+def near_miss(requirement, goal, variable, high):
+    """A shortest good behaviour that is bad with the other value of the variable at one instant, at which it has this value: both, or None, or `over`."""
+    twin = free_name(goal, requirement.variables)
+    one, other = (variable, twin) if high else (twin, variable)
+    once = f"scount ({one} && !{other}) = 1 && [[{other} => {one}]]"
+    names, place = ", ".join((*requirement.variables, twin)), requirement.variables.index(variable)
+    verdict = requirement.check(f"var {names};\ninfer {once} && ({to_text(goal)}) && !({to_text(twin_of(goal, variable, twin))});\n", wide=True)
+    if verdict is None:
+        return confirmed(requirement, requirement.search().shortest(place, high))
+    word = verdict.example
+    return word and ([letter[:-1] for letter in word], [letter[:place] + letter[-1] + letter[place + 1:-1] for letter in word])
+
+
+def confirmed(requirement, found):
+    """A pair that was found in the automaton's text, once the program's observer has said of both what they are."""
+    if found in (None, "over"):
+        return found
+    answers = [requirement.program.replay(requirement.observer(), word)[-1] for word in found]
+    return found if answers == [True, False] else "over"
+
+
+def near_section(requirement):
+    goal = expand(requirement.file)
+    if len(requirement.variables) > 15:
+        return ["(Not asked: with 16 variables none can be copied.)"]
+    cases = [(variable, high) for variable in requirement.variables for high in (True, False)]
+    answers = requirement.side_by_side(lambda variable, high: near_miss(requirement, goal, variable, high), cases)
+    lines = []
+    for (variable, high), pair in zip(cases, answers):
+        what = f"{variable} has to be {'true' if high else 'false'}"
+        if pair == "over":
+            lines.append(f"{what}: over the limits of this question")
+        elif pair:
+            at = next(instant for instant, letters in enumerate(zip(*pair)) if letters[0] != letters[1])
+            lines.append(f"{what} at instant {at}:  good {in_line(pair[0])}   bad {in_line(pair[1])}")
+    return lines
+
+
+# ---- the review
+
+
+def verdict_section(verdict):
+    if not verdict.satisfiable:
+        return ["No behaviour satisfies it."]
+    return ["Every behaviour satisfies it: it asks for nothing, or it is a theorem."] if verdict.valid else []
+
+
+SECTIONS = (
+    ("Does it say anything at all?", lambda requirement: verdict_section(requirement.verdict)),
+    ("What does it look like when it holds? A shortest behaviour in which as much as can happens:", example_section),
+    ("Is each number and bracket the one that is meant? Shortest behaviours that tell it from its neighbour:", boundary_section),
+    ("What does each variable decide? A good and a bad behaviour that differ in one value:", near_section),
+    ("Does each part matter?", vacuity.section),
+)
+
+
+def add_arguments(parser):
+    parser.add_argument("file", metavar="FILE")
+
+
+def run(options, program):
+    requirement = Requirement(program, read_text(options.file))
+    requirement.verdict = program.check(requirement.text)
+    names = " ".join(requirement.variables)
+    print(f"{options.shown}: " + (f"an instant is written as the digits of {names}" if names else "no variables"))
+    sections = list(requirement.outer.map(lambda section: section[1](requirement), SECTIONS))
+    for (title, _), lines in zip(SECTIONS, sections):
+        if lines:
+            print(f"\n{title}")
+            print("\n".join("  " + line if line else "" for line in lines))
+    return 0

@@ -1,0 +1,68 @@
+"""`examples/project/`: its build from a copy; what breaks it leaves no file behind that `make` would take for a made one."""
+import os
+import shutil
+import subprocess
+import unittest
+
+from support import PROGRAM, ROOT, WithFolder, needs_program
+
+
+@needs_program
+@unittest.skipUnless(shutil.which("make") and shutil.which("cc"), "there is no make, or no C compiler")
+class Project(WithFolder):
+    def setUp(self):
+        super().setUp()
+        self.room = os.path.join(self.folder, "project")
+        shutil.copytree(os.path.join(ROOT, "examples", "project"), self.room, ignore=shutil.ignore_patterns("build"))
+
+    def make(self, *goals):
+        done = subprocess.run(["make", f"TOP={ROOT}", f"DCVALID={os.path.abspath(PROGRAM)}", *goals], cwd=self.room, stdout=subprocess.PIPE, stderr=subprocess.STDOUT)
+        return done.returncode, done.stdout.decode()
+
+    def put(self, name, text):
+        with open(os.path.join(self.room, name), "w") as file:
+            file.write(text)
+
+    def made(self, name):
+        return os.path.exists(os.path.join(self.room, "build", name))
+
+    def test_the_whole(self):
+        status, out = self.make()
+        self.assertEqual(status, 0, out)
+        rows = open(os.path.join(self.room, "logs", "monday.csv"))
+        self.addCleanup(rows.close)
+        trace = "".join(line.split(",", 1)[1].replace(",", "") for line in rows.readlines()[1:])
+        monitor = subprocess.run([os.path.join(self.room, "build", "monitor")], input=trace.encode(), stdout=subprocess.PIPE)
+        self.assertEqual((monitor.returncode, monitor.stdout), (0, b"both hold at each of 400 instants\n"))
+        self.assertEqual(self.make("check", "observers", "watch")[0], 0)
+
+    def test_a_log_that_breaks_a_requirement(self):
+        self.put("logs/bad.csv", "time,guard_closed,motor,oil\n" + "".join(f"{i},1,1,0\n" for i in range(60)))
+        status, out = self.make("watch")
+        self.assertNotEqual(status, 0)
+        self.assertIn("broken at instant 59, row 59", out)
+        self.assertFalse(self.made("bad.oil.watched"))
+
+    def test_what_is_no_answer_is_not_kept(self):
+        self.put("requirements/fault.dc", "var p; infer [[p;\n")
+        self.put("requirements/large.dc", "var p, q; infer scount p = 200 && scount q = 200;\n")
+        for goal in ("build/fault.c", "build/large.c", "build/fault.verdict", "build/large.verdict", "build/large_tables.c"):
+            self.assertNotEqual(self.make(goal)[0], 0)
+            self.assertFalse(self.made(os.path.basename(goal)), goal)
+
+    def test_requirements_that_ask_nothing_or_too_much(self):
+        for text in ("var p; infer [[p]] => <><p>;", "var p; infer <p && !p>;"):
+            self.put("requirements/slip.dc", text)
+            self.assertNotEqual(self.make("check")[0], 0)
+            self.assertFalse(self.made("slip.verdict"))
+
+    def test_a_promise_that_is_not_enough(self):
+        self.put("requirements/guard_strict.dc", "var guard_closed, motor; infer []([[motor && !guard_closed]] => slen < 4);")
+        status, out = self.make("check")
+        self.assertNotEqual(status, 0)
+        self.assertIn("does not imply\ncounterexample 4", out)
+        self.assertFalse(self.made("supplier.verdict"))
+
+
+if __name__ == "__main__":
+    unittest.main()
