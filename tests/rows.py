@@ -81,12 +81,17 @@ def holds(lines):
     return held, f"{ran.returncode} {ran.stdout} {ran.stderr}"
 
 
-for path in sys.argv[1:]:
-    rows = [row for row in rows_of(path) if not any(line.startswith(IN_MEMORY) for line in row[1])]
-    held = 0
-    for title, lines in rows:
-        good, came = holds(lines)
-        held += good
-        if not good:
-            print(f"{title}: {came}")
-    print(f"{os.path.basename(path)}: {held} of {len(rows)} rows hold")
+def main():
+    for path in sys.argv[1:]:
+        rows = [row for row in rows_of(path) if not any(line.startswith(IN_MEMORY) for line in row[1])]
+        held = 0
+        for title, lines in rows:
+            good, came = holds(lines)
+            held += good
+            if not good:
+                print(f"{title}: {came}")
+        print(f"{os.path.basename(path)}: {held} of {len(rows)} rows hold")
+
+
+if __name__ == "__main__":
+    main()

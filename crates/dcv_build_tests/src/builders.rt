@@ -1,4 +1,6 @@
 // How often builders explore.
+ghost use Rattle.dcv_build.specs.Given.{IsCore};
+
 use crate::goals::{LIMITS, core_of};
 use dcv_build::{BuildFault, Builder};
 use dcv_core::Core;
@@ -19,7 +21,9 @@ fn repeated(alloc: Global) -> Result<String, AllocError> {
 }
 
 // How often one builder explores in each of two builds, and how many states the automaton has.
-fn explored_twice(alloc: Global, core: &Core) -> Result<[(u32, u32); 2], BuildFault> {
+fn explored_twice(alloc: Global, core: &Core) -> Result<[(u32, u32); 2], BuildFault>
+    requires { IsCore core.now }
+{
     let mut builder = Builder::new(alloc, LIMITS);
     let states = builder.build(core)?.states();
     let first = (builder.explored(), states);

@@ -1,5 +1,5 @@
 // What automata look like: tables and texts, so that tests compare them with those written by hand.
-ghost use Rattle.std.specs.Prelude.{◌≡◌, ◌<◌, length, map, count_by, IfOk};
+ghost use Rattle.std.specs.Prelude.{◌≡◌, ◌<◌, map, IfOk};
 ghost use Rattle.std.specs.List.{range_with_len};
 ghost use Rattle.dcv_arena.specs.Arena.{value_of};
 ghost use Rattle.dcv_word.specs.Letter.{letters_of_width};
@@ -9,7 +9,7 @@ ghost use Rattle.dcv_tables.specs.Tables.{table_state, state_over};
 
 use crate::states::{State, text_of_states};
 use crate::words::letters;
-use dcv_dfa::{Raw, Table};
+use dcv_dfa::Table;
 use dcv_word::Letter;
 use std::alloc::Global;
 use std::test::Fail;
@@ -56,19 +56,4 @@ fn row<T: Table>(alloc: Global, table: &T, state: u32, letters: &[Letter]) -> Re
         row.push(table.arena().eval(root, letter))?;
     }
     Ok(row)
-}
-
-/// How many states and nodes there are, and how many states accept.
-pub fn counts(raw: &Raw) -> (u32, u32, u32)
-    ensures states { result.0 ≡ length raw.now.rows }
-    ensures nodes { result.1 ≡ length raw.now.arena.nodes }
-    ensures accepting { result.2 ≡ count_by (λ accepts. accepts) raw.now.accepting }
-{
-    let mut accepting = 0u32;
-    for state in 0..raw.states() {
-        if raw.accepting(state) {
-            accepting = accepting.saturating_add(1);
-        }
-    }
-    (raw.states(), raw.arena().len(), accepting)
 }

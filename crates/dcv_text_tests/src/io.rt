@@ -6,14 +6,8 @@ use std::alloc::{AllocError, Global};
 use std::fs;
 use std::test::Fail;
 
-// The names that are noted where a missing file is asked for, and one that is held twice, each with a blank behind it.
-fn noted(alloc: Global) -> Result<String, AllocError> {
-    let mut held = MemFiles::new(alloc, &[], &[])?;
-    held.hold("here", b"eight by")?;
-    let mut files = NotingFiles::new(alloc, held);
-    for name in ["missing", "here", "here"] {
-        let _ = files.open_file(name);
-    }
+// The names that are noted, each with a blank after it.
+fn noted(alloc: Global, files: &NotingFiles<MemFiles>) -> Result<String, AllocError> {
     let mut names = String::new(alloc);
     for name in files.asked().unwrap_or(&[]) {
         names.push_str(name)?;
@@ -24,8 +18,35 @@ fn noted(alloc: Global) -> Result<String, AllocError> {
 
 #[test]
 fn names_are_noted_in_order(rt: HostRuntime) -> Result<(), Fail> {
-    assert_eq!(rt; noted(rt.alloc())?.as_str(), "missing here here ");
+    let alloc = rt.alloc();
+    let mut files = NotingFiles::new(alloc, MemFiles::new(alloc, &[], &[])?);
+    let first = files.open_file("first");
+    let second = files.open_file("second");
+    let names = noted(alloc, &files);
+    drop(files);
+    assert_eq!(rt; (first, second), (Err(Failed), Err(Failed)));
+    assert_eq!(rt; names?.as_str(), "first second ");
     Ok(())
+}
+
+// What is read of the file of this name, if it has no more bytes.
+fn read_within<F: Files>(
+    alloc: Global,
+    files: &mut F,
+    name: &str,
+    limit: u8,
+) -> Result<Vec<u8>, TakeFault> {
+    read_all(alloc, files, name, u64::from(limit))
+}
+
+// The fault of such a read.
+fn fault_within<F: Files>(
+    alloc: Global,
+    files: &mut F,
+    name: &str,
+    limit: u8,
+) -> Option<TakeFault> {
+    read_within(alloc, files, name, limit).err()
 }
 
 #[test]
@@ -33,20 +54,19 @@ fn real_files_are_read(rt: HostRuntime) -> Result<(), Fail> {
     let alloc = rt.alloc();
     fs::write(&rt, "held.txt", "eight by")?;
     let mut files = RealFiles::new(&rt);
-    let bytes = read_all(alloc, &mut files, "held.txt", 8)?;
-    assert_eq!(rt; bytes.as_slice(), b"eight by".as_slice());
-    drop(bytes);
-    let cases = [
-        ("held.txt", TakeFault::TooLong { limit: 7 }),
-        ("missing.txt", TakeFault::Open),
-        (".", TakeFault::Read),
-    ];
-    for (name, fault) in cases {
-        let found = read_all(alloc, &mut files, name, 7).err();
-        assert_eq!(rt; found, Some(fault), "at {name}");
-    }
-    assert_eq!(rt; files.open_file("missing.txt"), Err(Failed));
-    assert_eq!(rt; files.read(&mut [0; 4]), Err(Failed));
+    let bytes = read_within(alloc, &mut files, "held.txt", 8);
+    let long = fault_within(alloc, &mut files, "held.txt", 7);
+    let missing = fault_within(alloc, &mut files, "missing.txt", 7);
+    let folder = fault_within(alloc, &mut files, ".", 7);
+    let closed = files.open_file("missing.txt").is_err() && files.read(&mut [0; 4]).is_err();
+    drop(files);
+    assert_eq!(rt; bytes?.as_slice(), b"eight by".as_slice());
+    assert_eq!(rt; long, Some(TakeFault::TooLong { limit: 7 }));
+    assert_eq!(rt;
+        (missing, folder),
+        (Some(TakeFault::Open), Some(TakeFault::Read))
+    );
+    assert!(rt; closed);
     fs::remove_file(&rt, "held.txt")?;
     Ok(())
 }
