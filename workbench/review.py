@@ -144,7 +144,8 @@ def free_name(goal, variables):
 
 
 def near_miss(requirement, goal, variable, high):
-    """A shortest good behaviour that is bad with the other value of the variable at one instant, at which it has this value: both, or None, or `over`."""
+    """A shortest good behaviour that is bad with the other value of the variable at one instant, at which it has this value, and
+    that bad one; None where there is none, and `over` where that is not known."""
     twin = free_name(goal, requirement.variables)
     one, other = (variable, twin) if high else (twin, variable)
     once = f"scount ({one} && !{other}) = 1 && [[{other} => {one}]]"

@@ -166,7 +166,8 @@ def add_arguments(parser):
     parser.add_argument("--name", type=c_name, help="writes NAME_tables.h and NAME_tables.c (else the file's name is taken)")
     parser.add_argument("--out", metavar="FOLDER", help="where they are written (else here)")
     parser.add_argument("--code", action="store_true", help="writes observer_tables.h and observer_tables.c beside them")
-    parser.add_argument("--verify", action="store_true", help="writes nothing, and checks the files that are there against the program; status 1 where they are wrong")
+    parser.add_argument("--verify", action="store_true",
+                        help="writes nothing, and checks the files that are there against the program; status 1 where they are wrong")
 
 
 def run(options, program):

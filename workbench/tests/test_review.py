@@ -74,14 +74,16 @@ class Review(WithFolder):
         self.assertNotIn("What does it look like when it holds", nothing)
 
     def test_a_part_that_is_never_true(self):
-        """The cut belongs to both parts of a chop, so p would be true and false there: the slip makes a theorem of the one and a contradiction of the other."""
+        """The cut belongs to both parts of a chop, so p would be true and false there: the slip makes a theorem of the one and a
+        contradiction of the other."""
         never = "line 1: [[p]] ^ [[!p]] is never true, whatever its variables do"
         theorem = self.review("var p; infer [[p]] ^ [[!p]] => slen > 70;")
         self.assertEqual(theorem["Does each part matter"],
                          [never, "line 1: slen > 70 may be false and the meaning is the same: the left side of the => never happens"])
         self.assertIn("Where it holds it never happens that: [[p]] ^ [[!p]] happens.", theorem["What does it look like when it holds"])
         self.assertEqual(self.review("var p; infer [[p]] ^ [[!p]] && slen > 70;")["Does each part matter"], [never])
-        self.assertEqual(self.review("var p; infer <p && !p> && slen < 70;")["Does each part matter"], ["line 1: p && !p is never true, whatever its variables do"])
+        lines = self.review("var p; infer <p && !p> && slen < 70;")["Does each part matter"]
+        self.assertEqual(lines, ["line 1: p && !p is never true, whatever its variables do"])
 
     def test_an_assumption_that_a_theorem_does_not_need(self):
         lines = self.review("var p, q; infer [[p]] && [[q]] => <><p>;")["Does each part matter"]
