@@ -39,10 +39,15 @@ def happenings(goal):
 
 def wishes_of(requirement):
     """What may happen, as a formula and in words: the wishes that hold in fewest behaviours come first."""
-    wishes = {f"<><{name}>": f"{name} is true" for name in requirement.variables}
+    names, wishes = requirement.variables, {}
+    if 2 <= len(names) <= 4:
+        for name in names:
+            others = "".join(f" && !{other}" for other in names if other != name)
+            wishes[f"<><{name}{others}>"] = f"{name} alone is true"
+    wishes.update((f"<><{name}>", f"{name} is true") for name in names)
     for wish, event in happenings(expand(requirement.file)).items():
         wishes.setdefault(wish, f"{event} happens")
-    wishes.update((f"<><!{name}>", f"{name} is false") for name in requirement.variables)
+    wishes.update((f"<><!{name}>", f"{name} is false") for name in names)
     return wishes
 
 
