@@ -132,7 +132,7 @@ def said(variables, watch):
     yield f"broken at instant {at}, row {label}{more}"
     yield from shown_rows(variables, watch)
     if watch.rearm:
-        yield f"broken {watch.broken} times in {instants(watch.count)}; behind each violation the requirement begins anew:"
+        yield f"{watch.broken} violation{'s' * (watch.broken > 1)} in {instants(watch.count)}; behind each the requirement begins anew:"
         for at, label, letter in watch.violations:
             yield f"  instant {at}, row {label}: " + " ".join(f"{name}={digit}" for name, digit in zip(variables, letter))
         if watch.broken > len(watch.violations):
