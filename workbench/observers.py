@@ -20,5 +20,6 @@ def rearmed(observer, rejecting):
 
 def restarted(observer):
     """Has one more input, the first: where it is 1, the observer begins anew before the instant."""
-    observer = observer.replace("int observer_step(void)", "int observer_step(int restart)", 1).replace("int observer_step(int v_", "int observer_step(int restart, int v_", 1)
+    observer = observer.replace("int observer_step(void)", "int observer_step(int restart)", 1)
+    observer = observer.replace("int observer_step(int v_", "int observer_step(int restart, int v_", 1)
     return observer.replace("  nx = 0;\n", "  if (restart == 1) st = 0;\n  nx = 0;\n", 1)

@@ -118,11 +118,10 @@ class Program:
         return answer
 
     def shown(self, command, texts, options):
-        """With --show, what is asked, on standard error."""
+        """With --show, what is asked, on standard error: at once, since questions may be asked side by side."""
         if self.show:
-            print(" ".join(["asked:", command, *options]), file=sys.stderr)
-            for text in texts:
-                print("".join(f"    {line}\n" for line in text.splitlines()), end="", file=sys.stderr)
+            lines = [" ".join(["asked:", command, *options])] + [f"    {line}" for text in texts for line in text.splitlines()]
+            sys.stderr.write("".join(line + "\n" for line in lines))
 
     # ---- questions
 

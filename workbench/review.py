@@ -39,10 +39,15 @@ def happenings(goal):
 
 def wishes_of(requirement):
     """What may happen, as a formula and in words: the wishes that hold in fewest behaviours come first."""
-    wishes = {f"<><{name}>": f"{name} is true" for name in requirement.variables}
+    names, wishes = requirement.variables, {}
+    if 2 <= len(names) <= 4:
+        for name in names:
+            others = "".join(f" && !{other}" for other in names if other != name)
+            wishes[f"<><{name}{others}>"] = f"{name} alone is true"
+    wishes.update((f"<><{name}>", f"{name} is true") for name in names)
     for wish, event in happenings(expand(requirement.file)).items():
         wishes.setdefault(wish, f"{event} happens")
-    wishes.update((f"<><!{name}>", f"{name} is false") for name in requirement.variables)
+    wishes.update((f"<><!{name}>", f"{name} is false") for name in names)
     return wishes
 
 
@@ -144,7 +149,8 @@ def free_name(goal, variables):
 
 
 def near_miss(requirement, goal, variable, high):
-    """A shortest good behaviour that is bad with the other value of the variable at one instant, at which it has this value: both, or None, or `over`."""
+    """A shortest good behaviour that is bad with the other value of the variable at one instant, at which it has this value, and
+    that bad one; None where there is none, and `over` where that is not known."""
     twin = free_name(goal, requirement.variables)
     one, other = (variable, twin) if high else (twin, variable)
     once = f"scount ({one} && !{other}) = 1 && [[{other} => {one}]]"

@@ -54,7 +54,8 @@ def write(folder, automaton, words):
 def add_arguments(parser):
     parser.epilog = "The suite holds for implementations with at most as many states as the requirement's automaton has."
     parser.add_argument("file", metavar="FILE")
-    parser.add_argument("--out", metavar="FOLDER", help="writes a trace and its expected answers for each word, and none for a word that another one goes on with")
+    parser.add_argument("--out", metavar="FOLDER", 
+                        help="writes a trace and its expected answers for each word, and none for a word that another one goes on with")
 
 
 def run(options, program):
@@ -67,7 +68,8 @@ def run(options, program):
     if options.out:
         traces = without_prefixes(words)
         write(options.out, automaton, traces)
-        print(f"{options.out}: {len(traces)} traces that hold all {len(words)} words of the suite, for implementations with up to {automaton.states} states")
+        print(f"{options.out}: {len(traces)} traces that hold all {len(words)} words of the suite, "
+              f"for implementations with up to {automaton.states} states")
         return 0
     print(f"{len(words)} words, {sum(map(len, words))} instants, for implementations with up to {automaton.states} states; "
           f"an instant is the digits of {' '.join(automaton.variables) or 'no variable'}")

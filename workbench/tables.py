@@ -31,7 +31,7 @@ class Tables:
 
     @property
     def size(self):
-        """The bytes of the arrays, a place being 2 bytes or, in the wide form, 4 or 8 (it is counted as 4)."""
+        """The bytes of the arrays, a place being 2 bytes, and 4 in the wide form where a long of C has 4."""
         places = len(self.first) + len(self.rows) + len(self.high) + len(self.low)
         return places * (4 if self.wide else 2) + len(self.accepts)
 
@@ -106,11 +106,11 @@ const observer_tables {name}_tables = {{
 """
 
 
-def array_text(kind, name, numbers, suffix="u"):
+def array_text(kind, name, numbers):
     """A constant array; C has none of no elements, so one that is not read stands for it."""
     lines, line = [], " "
     for number in numbers or [0]:
-        word = f" {number}{suffix},"
+        word = f" {number}u,"
         if len(line) + len(word) > 110:
             lines.append(line)
             line = " "
@@ -127,8 +127,7 @@ def header_text(tables, variables, name, source):
 
 
 def source_text(tables, name, source):
-    suffix = "UL" if tables.wide else "u"
-    arrays = [array_text("observer_place", f"{name}_{field}", getattr(tables, field), suffix) for field in ("first", "rows", "high", "low")]
+    arrays = [array_text("observer_place", f"{name}_{field}", getattr(tables, field)) for field in ("first", "rows", "high", "low")]
     arrays.append(array_text("unsigned char", f"{name}_accepts", tables.accepts))
     return SOURCE.format(source=source, name=name, arrays="\n".join(arrays), variables=tables.variables, states=tables.states)
 
@@ -166,7 +165,8 @@ def add_arguments(parser):
     parser.add_argument("--name", type=c_name, help="writes NAME_tables.h and NAME_tables.c (else the file's name is taken)")
     parser.add_argument("--out", metavar="FOLDER", help="where they are written (else here)")
     parser.add_argument("--code", action="store_true", help="writes observer_tables.h and observer_tables.c beside them")
-    parser.add_argument("--verify", action="store_true", help="writes nothing, and checks the files that are there against the program; status 1 where they are wrong")
+    parser.add_argument("--verify", action="store_true",
+                        help="writes nothing, and checks the files that are there against the program; status 1 where they are wrong")
 
 
 def run(options, program):

@@ -133,7 +133,8 @@ def compile_harness(room, folder, name, tables):
         file.write(HARNESS.format(name=name, states=tables.states, width=tables.variables))
     wide = ["-DOBSERVER_TABLES_WIDE"] if tables.wide else []
     files = [source, os.path.join(folder, f"{name}_tables.c"), os.path.join(CODE, "observer_tables.c")]
-    built = subprocess.run([*compiler.split(), *FLAGS, *wide, "-I", CODE, "-I", folder, "-o", binary, *files], stdout=subprocess.PIPE, stderr=subprocess.STDOUT)
+    command = [*compiler.split(), *FLAGS, *wide, "-I", CODE, "-I", folder, "-o", binary, *files]
+    built = subprocess.run(command, stdout=subprocess.PIPE, stderr=subprocess.STDOUT)
     if built.returncode:
         raise Wrong(f"{compiler} does not take the tables:\n{built.stdout.decode(errors='replace')}")
     return binary

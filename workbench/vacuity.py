@@ -83,8 +83,8 @@ def needless(requirement):
 def needless_lines(requirement):
     most = max(requirement.steps, default=0)
     for occurrence, constant, states in needless(requirement):
-        why = role(occurrence, constant)
-        line = f"line {requirement.line(occurrence.tree)}: {requirement.part(occurrence.tree)} may be {constant} and the meaning is the same" + (f": {why}" if why else "")
+        tree, why = occurrence.tree, role(occurrence, constant)
+        line = f"line {requirement.line(tree)}: {requirement.part(tree)} may be {constant} and the meaning is the same" + (f": {why}" if why else "")
         if states > most:
             line += f" (it is there for the budget: a step has {states} states without it, and {most} with it)"
         yield line

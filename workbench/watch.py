@@ -128,10 +128,11 @@ def said(variables, watch):
         yield f"holds at each of {instants(watch.count)}"
         return
     at, label, _ = watch.violations[0]
-    yield f"broken at instant {at}, row {label}" + ("" if watch.rearm else f"; of {instants(watch.count)} it is broken at {watch.broken}, the last of them {watch.last}")
+    more = "" if watch.rearm else f"; of {instants(watch.count)} it is broken at {watch.broken}, the last of them {watch.last}"
+    yield f"broken at instant {at}, row {label}{more}"
     yield from shown_rows(variables, watch)
     if watch.rearm:
-        yield f"broken {watch.broken} times in {instants(watch.count)}; behind each violation the requirement begins anew:"
+        yield f"{watch.broken} violation{'s' * (watch.broken > 1)} in {instants(watch.count)}; behind each the requirement begins anew:"
         for at, label, letter in watch.violations:
             yield f"  instant {at}, row {label}: " + " ".join(f"{name}={digit}" for name, digit in zip(variables, letter))
         if watch.broken > len(watch.violations):
@@ -160,7 +161,8 @@ def add_arguments(parser):
     parser.add_argument("--rearm", action="store_true", help="all violations: behind each one the requirement begins anew")
     parser.add_argument("--clock", metavar="NAME", help="VCD: an instant is a rise of this signal, with the values before it")
     parser.add_argument("--period", metavar="N", type=at_least_one, help="VCD: an instant is each Nth unit of time, from the first time on")
-    parser.add_argument("--column", metavar="VARIABLE=NAME", type=column, action="append", default=[], help="the column or signal of a variable, where it has another name")
+    parser.add_argument("--column", metavar="VARIABLE=NAME", type=column, action="append", default=[],
+                        help="the column or signal of a variable, where it has another name")
     parser.add_argument("--csv", action="store_const", const="csv", dest="kind", help="the log is CSV, whatever its name")
     parser.add_argument("--vcd", action="store_const", const="vcd", dest="kind", help="the log is VCD, whatever its name")
     parser.add_argument("--trace", action="store_true", help="writes the trace that replay-c takes, and judges nothing")

@@ -83,7 +83,8 @@ class Logs(unittest.TestCase):
 
     def test_where_a_vcd_file_ends(self):
         """A last time without a change is no instant; with one it is."""
-        self.assertEqual(self.rows(VCD + "#18\n", ["door"], "vcd", period=3), [("#0", "0"), ("#3", "0"), ("#6", "1"), ("#9", "1"), ("#12", "1"), ("#15", "1")])
+        wanted = [("#0", "0"), ("#3", "0"), ("#6", "1"), ("#9", "1"), ("#12", "1"), ("#15", "1")]
+        self.assertEqual(self.rows(VCD + "#18\n", ["door"], "vcd", period=3), wanted)
         self.assertEqual(self.rows(VCD + "#18\n", ["door"], "vcd")[-1], ("#15", "1"))
         self.assertEqual(self.rows(VCD + "#18\n0!\n", ["door"], "vcd", period=3)[-1], ("#18", "1"))
 

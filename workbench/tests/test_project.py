@@ -16,7 +16,8 @@ class Project(WithFolder):
         shutil.copytree(os.path.join(ROOT, "examples", "project"), self.room, ignore=shutil.ignore_patterns("build"))
 
     def make(self, *goals):
-        done = subprocess.run(["make", f"TOP={ROOT}", f"DCVALID={os.path.abspath(PROGRAM)}", *goals], cwd=self.room, stdout=subprocess.PIPE, stderr=subprocess.STDOUT)
+        words = ["make", f"TOP={ROOT}", f"DCVALID={os.path.abspath(PROGRAM)}", *goals]
+        done = subprocess.run(words, cwd=self.room, stdout=subprocess.PIPE, stderr=subprocess.STDOUT)
         return done.returncode, done.stdout.decode()
 
     def put(self, name, text):

@@ -56,7 +56,8 @@ int main(void)
 
 class Arrays(unittest.TestCase):
     def test_by_hand(self):
-        """Nodes follow the 4 states, those of q first. The node of q is place 4 and that of p, which leads to it, place 5; states 2 and 3 accept, so the bits are 4 and 8."""
+        """Nodes follow the 4 states, those of q first. The node of q is place 4 and that of p, which leads to it, place 5; states 2 and 3
+        accept, so the bits are 4 and 8."""
         wanted = tables.Tables(2, 4, [5, 4], [5, 1, 1, 3], [2, 3], [1, 4], [12])
         self.assertEqual(tables.tables_of(read_automaton(SMALL)), wanted)
 
