@@ -24,7 +24,7 @@ fn explored(alloc: Global, capacity: usize) -> Result<(String, u32, usize), Fail
     Ok((text_of(alloc, &raw)?, raw.arena().len(), memo.len()))
 }
 
-// The states are the start, and behind it what was counted and the last truth: (0, 0), (0, 1), (1, 0), (1, 1) and so on up to (3, 1).
+// The states are the start, and after it what was counted and the last truth: (0, 0), (0, 1), (1, 0), (1, 1) and so on up to (3, 1).
 const TABLE: &str =
     "reject 1 2; reject 1 2; reject 3 4; reject 3 4; reject 5 6; accept 5 6; accept 7 8; accept 7 8; accept 7 8";
 

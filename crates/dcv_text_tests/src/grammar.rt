@@ -86,7 +86,7 @@ fn thirty_levels_pass()
     ensures { is_predictive thirty_levels ≡ true }
 {}
 
-/// How deep an item is nested, and the tokens behind it.
+/// How deep an item is nested, and the tokens after it.
 #[cycle(items)]
 fn item(tokens: &[u8]) -> (u8, &[u8])
     requires { BeginsRule lists (λ class. class) ITEM tokens.now }
@@ -102,7 +102,7 @@ fn item(tokens: &[u8]) -> (u8, &[u8])
     (inner.wrapping_add(1), rest)
 }
 
-/// How deep items are nested, and the tokens behind them.
+/// How deep items are nested, and the tokens after them.
 #[cycle(items)]
 fn items(tokens: &[u8]) -> (u8, &[u8])
     requires { BeginsRule lists (λ class. class) ITEMS tokens.now }
