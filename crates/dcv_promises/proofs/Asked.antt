@@ -15,12 +15,10 @@ use Rattle.dcv_cli.specs.declared.refused.Which.TheVariants.{First, Second}
 use Rattle.dcv_cli.specs.declared.status.Status.{Status}
 use Rattle.dcv_cli.specs.Comparison.{IsCompared}
 use Rattle.dcv_cli.specs.Ending.{EndsBy}
-use Rattle.dcv_cli.specs.FormulaFile.{OnText}
-use Rattle.dcv_cli.specs.FormulaFile.OnText as text
+use Rattle.dcv_cli.specs.FormulaFile.{OnText, Refused, Read}
 use Rattle.dcv_cli.specs.Headline.{Headline, IsAnswered}
 use Rattle.dcv_cli.specs.Held.{Texts, OnHeld}
-use Rattle.dcv_cli.specs.ObserverFile.{OnObserver}
-use Rattle.dcv_cli.specs.ObserverFile.OnObserver as observer
+use Rattle.dcv_cli.specs.ObserverFile.{OnObserver, Refused as RefusedObserver, Read as ReadObserver}
 use Rattle.dcv_cli.specs.Outcome.{Outcome}
 use Rattle.dcv_cli.specs.Replayed.{IsReplay}
 use Rattle.dcv_cli.specs.Request.{AsksFor}
@@ -39,24 +37,25 @@ fulfils words held outcome request asks (Fulfilled other asked right) =
 one_text : (found : Option (List ℕ → Option (List ℕ))) (name text : List ℕ) (R : List ℕ → Outcome → Type 0) (outcome : Outcome)
     → IsSomeAnd found (λ held. held name ≡ Some text) → (texts : Texts) → IfSome found (λ held. (time : ℕ) → texts time ≡ held)
     → (time : ℕ) → OnHeld (texts time) name R outcome → R text outcome
+one_text None name text R outcome there texts same time on = elim there [ ]
 one_text (Some held) name text R outcome there texts same time on =
     subst (λ (one : Option (List ℕ)). IsSomeAnd one (λ text. R text outcome)) (ap (λ (held : List ℕ → Option (List ℕ)). held name) (same time) ∙ there) on
 
 on_text : (text : List ℕ) (which : Which) (A B : PlainFile → Outcome → Type 0) (outcome : Outcome) → ((file : PlainFile) → A file outcome → B file outcome)
     → OnText text which A outcome → OnText text which B outcome
-on_text text which A B outcome from (text.Refused refusal is e) = text.Refused refusal is e
-on_text text which A B outcome from (text.Read file is right) = text.Read file is (from file right)
+on_text text which A B outcome from (Refused refusal is e) = Refused refusal is e
+on_text text which A B outcome from (Read file is right) = Read file is (from file right)
 
 on_observer : (subset : Subset) (text : List ℕ) (A B : Observer → Outcome → Type 0) (outcome : Outcome) → ((one : Observer) → A one outcome → B one outcome)
     → OnObserver subset text A outcome → OnObserver subset text B outcome
-on_observer subset text A B outcome from (observer.Refused refusal is e) = observer.Refused refusal is e
-on_observer subset text A B outcome from (observer.Read one is right) = observer.Read one is (from one right)
+on_observer subset text A B outcome from (RefusedObserver refusal is e) = RefusedObserver refusal is e
+on_observer subset text A B outcome from (ReadObserver one is right) = ReadObserver one is (from one right)
 
-ends_also : (b : Bool) {Right Other : Outcome → Type 0} {status : Status} {old new : Option (List ℕ)} {P : List ℕ → Type 0}
+ends_also : (b : Bool) (Right Other : Outcome → Type 0) (status : Status) (old new : Option (List ℕ)) (P : List ℕ → Type 0)
     → ((outcome : Outcome) → Right outcome → Other outcome) → OnTrue b (EndsBy Right status old new P) → OnTrue b (EndsBy Other status old new P)
-ends_also true from ended =
+ends_also true Right Other status old new P from ended =
     record { outcome = ended.outcome; right = from ended.outcome ended.right; ends = ended.ends; report = ended.report; message = ended.message }
-ends_also false from ended = tt
+ends_also false Right Other status old new P from ended = tt
 
 module _ (words : List (List ℕ)) (told : Option Disk) where
   -- a request that reads one file
@@ -67,48 +66,51 @@ module _ (words : List (List ℕ)) (told : Option Disk) where
       one_text (held_of told) name text R outcome holds right.held right.same 0 (is right.held outcome (fulfils words right.held outcome request asks right.holds))
 
   pub reported : (kind : Kind) (name : List ℕ) (limits : Limits) (text : List ℕ) → AsksFor words (Report kind name limits) → Holds told name text
-      → {b : Bool} {status : Status} {old new : Option (List ℕ)} {P : List ℕ → Type 0}
+      → (b : Bool) (status : Status) (old new : Option (List ℕ)) (P : List ℕ → Type 0)
       → OnTrue b (EndsBy (IsRightOver words told) status old new P) → OnTrue b (EndsBy (IsReported kind text limits) status old new P)
-  reported kind name limits text asks holds {b} = ends_also b
+  reported kind name limits text asks holds b status old new P = ends_also b (IsRightOver words told) (IsReported kind text limits) status old new P
       (on_one (Report kind name limits) name text (λ text. IsReported kind text limits) asks holds (λ held outcome on. on))
 
   pub answered : Headline → (name : List ℕ) (limits : Limits) (text : List ℕ) → AsksFor words (Report All name limits) → Holds told name text
-      → {b : Bool} {status : Status} {old new : Option (List ℕ)} {P : List ℕ → Type 0}
+      → (b : Bool) (status : Status) (old new : Option (List ℕ)) (P : List ℕ → Type 0)
       → OnTrue b (EndsBy (IsRightOver words told) status old new P) → OnTrue b (EndsBy (IsAnswered text limits) status old new P)
-  answered headline name limits text asks holds {b} = ends_also b (λ outcome right.
+  answered headline name limits text asks holds b status old new P = ends_also b (IsRightOver words told) (IsAnswered text limits) status old new P (λ outcome right.
       headline words right.held name limits text outcome asks (held_text (held_of told) holds right.held right.same) right.holds)
     where
       held_text : (found : Option (List ℕ → Option (List ℕ))) → IsSomeAnd found (λ held. held name ≡ Some text) → (texts : Texts)
           → IfSome found (λ held. (time : ℕ) → texts time ≡ held) → texts 0 name ≡ Some text
+      held_text None there texts same = elim there [ ]
       held_text (Some held) there texts same = ap (λ (held : List ℕ → Option (List ℕ)). held name) (same 0) ∙ there
 
   pub certified : (name text : List ℕ) → AsksFor words (Certify name) → Holds told name text
-      → {b : Bool} {status : Status} {old new : Option (List ℕ)} {P : List ℕ → Type 0}
+      → (b : Bool) (status : Status) (old new : Option (List ℕ)) (P : List ℕ → Type 0)
       → OnTrue b (EndsBy (IsRightOver words told) status old new P) → OnTrue b (EndsBy (IsCertified text) status old new P)
-  certified name text asks holds {b} = ends_also b (on_one (Certify name) name text IsCertified asks holds (λ held outcome on. on))
+  certified name text asks holds b status old new P = ends_also b (IsRightOver words told) (IsCertified text) status old new P (on_one (Certify name) name text IsCertified asks holds (λ held outcome on. on))
 
   pub played : (name : List ℕ) (inputs : ℕ) (limits : Limits) (text : List ℕ) → AsksFor words (Synth name inputs limits) → Holds told name text
-      → {b : Bool} {status : Status} {old new : Option (List ℕ)} {P : List ℕ → Type 0}
+      → (b : Bool) (status : Status) (old new : Option (List ℕ)) (P : List ℕ → Type 0)
       → OnTrue b (EndsBy (IsRightOver words told) status old new P) → OnTrue b (EndsBy (IsPlayed text inputs limits) status old new P)
-  played name inputs limits text asks holds {b} = ends_also b
+  played name inputs limits text asks holds b status old new P = ends_also b (IsRightOver words told) (IsPlayed text inputs limits) status old new P
       (on_one (Synth name inputs limits) name text (λ text. IsPlayed text inputs limits) asks holds (λ held outcome on. on))
 
   pub implied : (first second : List ℕ) (limits : Limits) (one other : List ℕ) → AsksFor words (Implies first second limits)
       → Holds told first one → Holds told second other
-      → {b : Bool} {status : Status} {old new : Option (List ℕ)} {P : List ℕ → Type 0}
+      → (b : Bool) (status : Status) (old new : Option (List ℕ)) (P : List ℕ → Type 0)
       → OnTrue b (EndsBy (IsRightOver words told) status old new P) → OnTrue b (EndsBy (IsImplied one other limits) status old new P)
-  implied first second limits one other asks holds_one holds_other {b} = ends_also b (λ outcome right.
-      on_text one First _ _ outcome
+  implied first second limits one other asks holds_one holds_other b status old new P = ends_also b (IsRightOver words told) (IsImplied one other limits) status old new P (λ outcome right.
+      on_text one First (λ file. OnHeld (right.held 1) second (λ text. OnText text Second (IsCompared limits file)))
+      (λ file. OnText other Second (IsCompared limits file)) outcome
       (λ file. one_text (held_of told) second other (λ text. OnText text Second (IsCompared limits file)) outcome holds_other right.held right.same 1)
-      (one_text (held_of told) first one _ outcome holds_one right.held right.same 0
+      (one_text (held_of told) first one
+      (λ text. OnText text First (λ file. OnHeld (right.held 1) second (λ also. OnText also Second (IsCompared limits file)))) outcome holds_one right.held right.same 0
       (fulfils words right.held outcome (Implies first second limits) asks right.holds)))
 
   pub replayed : (subset : Subset) (observer trace : List ℕ) (one other : List ℕ) → AsksFor words (Replay subset observer trace)
       → Holds told observer one → Holds told trace other
-      → {b : Bool} {status : Status} {old new : Option (List ℕ)} {P : List ℕ → Type 0}
+      → (b : Bool) (status : Status) (old new : Option (List ℕ)) (P : List ℕ → Type 0)
       → OnTrue b (EndsBy (IsRightOver words told) status old new P) → OnTrue b (EndsBy (IsReplayed subset one other) status old new P)
-  replayed subset observer trace one other asks holds_one holds_other {b} = ends_also b (λ outcome right.
-      on_observer subset one _ _ outcome
+  replayed subset observer trace one other asks holds_one holds_other b status old new P = ends_also b (IsRightOver words told) (IsReplayed subset one other) status old new P (λ outcome right.
+      on_observer subset one (λ node. OnHeld (right.held 1) trace (IsReplay node)) (λ node. IsReplay node other) outcome
       (λ node. one_text (held_of told) trace other (IsReplay node) outcome holds_other right.held right.same 1)
-      (one_text (held_of told) observer one _ outcome holds_one right.held right.same 0
+      (one_text (held_of told) observer one (λ text. OnObserver subset text (λ node. OnHeld (right.held 1) trace (IsReplay node))) outcome holds_one right.held right.same 0
       (fulfils words right.held outcome (Replay subset observer trace) asks right.holds)))

@@ -16,7 +16,6 @@ use Rattle.dcv_cli.specs.AutomatonFile.{OnAutomaton}
 use Rattle.dcv_cli.specs.Budget.{IsBudgeted}
 use Rattle.dcv_cli.specs.Certificate.{IsCertificate}
 use Rattle.dcv_cli.specs.Comparison.{IsCompared}
-use Rattle.dcv_cli.specs.Conversion.{IsConverted}
 use Rattle.dcv_cli.specs.Ending.{EndsBy, Tells}
 use Rattle.dcv_cli.specs.FormulaFile.{OnText}
 use Rattle.dcv_cli.specs.ObserverFile.{OnObserver}
