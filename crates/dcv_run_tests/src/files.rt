@@ -5,7 +5,7 @@ use std::alloc::{AllocError, Global};
 use std::test::Fail;
 
 // Runs the words over the files. Answers the status, and the report followed by the message.
-fn ran<F: Files>(
+pub(crate) fn ran<F: Files>(
     alloc: Global,
     words: &[&str],
     files: &mut F,
