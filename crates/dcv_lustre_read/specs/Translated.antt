@@ -2,13 +2,38 @@
 use Rattle.std.specs.Prelude.{List, [], ◌∷◌, Option}
 use Rattle.dcv_lexer.specs.Cuts.{Token}
 use Rattle.dcv_lustre.specs.Placed.{PlacedArm, PlacedLocal, PlacedChosen}
-use Rattle.dcv_lustre.specs.Actions.{Part, AToken, Tokens, Locals, Equations, ARight, Choice, ATest, ANode, Nothing, arm}
+use Rattle.dcv_lustre.specs.Actions.{Part, AToken, Tokens, Locals, Equations, ARight, Choice, Tests, ANode, Nothing, arm}
 
--- ---- name "=" number ")"
+-- ---- the kinds of the next parts
 
-abbrev pub comparison_part : List Part → Part
-comparison_part (AToken name ∷ AToken equals ∷ AToken number ∷ AToken closing ∷ []) = ATest (record { name = name; number = number })
-comparison_part _ = Nothing
+abbrev pub BeginsWithToken : List Part → Type 0
+BeginsWithToken (AToken token ∷ parts) = Unit {0}
+BeginsWithToken _ = ⊥
+
+abbrev pub BeginsWithTokenIfAny : List Part → Type 0
+BeginsWithTokenIfAny [] = Unit {0}
+BeginsWithTokenIfAny (AToken token ∷ parts) = Unit {0}
+BeginsWithTokenIfAny _ = ⊥
+
+abbrev pub BeginsWithThreeTokens : List Part → Type 0
+BeginsWithThreeTokens (AToken first ∷ AToken second ∷ AToken third ∷ parts) = Unit {0}
+BeginsWithThreeTokens _ = ⊥
+
+abbrev pub BeginsWithTokens : List Part → Type 0
+BeginsWithTokens (Tokens tokens ∷ parts) = Unit {0}
+BeginsWithTokens _ = ⊥
+
+abbrev pub BeginsWithLocals : List Part → Type 0
+BeginsWithLocals (Locals locals ∷ parts) = Unit {0}
+BeginsWithLocals _ = ⊥
+
+abbrev pub BeginsWithEquations : List Part → Type 0
+BeginsWithEquations (Equations equations ∷ parts) = Unit {0}
+BeginsWithEquations _ = ⊥
+
+abbrev pub BeginsWithTests : List Part → Type 0
+BeginsWithTests (Tests tests ∷ parts) = Unit {0}
+BeginsWithTests _ = ⊥
 
 -- ---- "then" item "else" choice
 
