@@ -6,7 +6,7 @@ use Rattle.dcv_lustre.specs.Placed.{PlacedLocal, PlacedEquation, PlacedTest}
 use Rattle.dcv_lustre.specs.Actions.{Part, AToken, Tokens, ALocal, Locals, AnEquation, Equations, Compared, Choice, ATest, Tests}
 use Rattle.dcv_lustre.specs.Actions.{more_inputs_part, input_part, output_part, variables_part, locals_part, local_part, token_part, equations_part, equation_part, delay_part, condition_part, compared_part, test_part, more_tests_part, choice_part, right_part, node_part}
 use Rattle.dcv_lustre_read.specs.Symbols.{IsMeant}
-use Rattle.dcv_lustre_read.specs.Translated.{BeginsWithToken, BeginsWithTokenIfAny, BeginsWithThreeTokens, BeginsWithTokens, BeginsWithLocals, BeginsWithEquations, BeginsWithTests, behind_condition, chosen, behind_name}
+use Rattle.dcv_lustre_read.specs.Translated.{BeginsWithToken, BeginsWithTokenIfAny, BeginsWithThreeTokens, BeginsWithTokens, BeginsWithLocals, BeginsWithEquations, BeginsWithTests, behind_condition, chosen, behind_name, behind_inputs, body_part}
 
 pub forwards : {A B : Type 0} (f : A → B) (list : List A) → map f (reverse list) ≡ reverse (map f list)
 forwards f [] = refl
@@ -136,3 +136,51 @@ more_tests_first _ is = absurd is
 pub more_tests_third : (or_word : Token) (test : PlacedTest) (parts : List Part) → IsMeant (more_tests_part (AToken or_word ∷ ATest test ∷ parts)) → BeginsWithTests parts
 more_tests_third or_word test (Tests tests ∷ parts) is = tt
 more_tests_third or_word test _ is = absurd is
+
+pub right_second : (test : PlacedTest) (parts : List Part) → IsMeant (right_part (ATest test ∷ parts)) → BeginsWithTests parts
+right_second test (Tests tests ∷ parts) is = tt
+right_second test _ is = absurd is
+
+pub choice_first : (parts : List Part) → IsMeant (choice_part parts) → BeginsWithToken parts
+choice_first (AToken token ∷ parts) is = tt
+choice_first _ is = absurd is
+
+pub longer_choice_first : (name : Token) (number : Option Token) (parts : List Part) → IsMeant (behind_condition name number parts) → BeginsWithThreeTokens parts
+longer_choice_first name number (AToken a ∷ AToken b ∷ AToken c ∷ parts) is = tt
+longer_choice_first name number _ is = absurd is
+
+pub node_first : (parts : List Part) → IsMeant (node_part parts) → BeginsWithThreeTokens parts
+node_first (AToken a ∷ AToken b ∷ AToken c ∷ parts) is = tt
+node_first _ is = absurd is
+
+pub input_in_name : (name : Token) (parts : List Part) → IsMeant (behind_name name parts) → BeginsWithToken parts
+input_in_name name (AToken token ∷ parts) is = tt
+input_in_name name _ is = absurd is
+
+pub inputs_in_name : (name : Token) (input : Token) (parts : List Part) → IsMeant (behind_name name (AToken input ∷ parts)) → BeginsWithTokens parts
+inputs_in_name name input (Tokens inputs ∷ parts) is = tt
+inputs_in_name name input _ is = absurd is
+
+pub closing_in_name : (name : Token) (input : Token) (inputs : List Token) (parts : List Part) → IsMeant (behind_name name (AToken input ∷ Tokens inputs ∷ parts)) → BeginsWithToken parts
+closing_in_name name input inputs (AToken token ∷ parts) is = tt
+closing_in_name name input inputs _ is = absurd is
+
+pub output_in_inputs : (name : Token) (inputs : List Token) (parts : List Part) → IsMeant (behind_inputs name inputs parts) → BeginsWithToken parts
+output_in_inputs name inputs (AToken token ∷ parts) is = tt
+output_in_inputs name inputs _ is = absurd is
+
+pub locals_in_inputs : (name : Token) (inputs : List Token) (output : Token) (parts : List Part) → IsMeant (behind_inputs name inputs (AToken output ∷ parts)) → BeginsWithLocals parts
+locals_in_inputs name inputs output (Locals locals ∷ parts) is = tt
+locals_in_inputs name inputs output _ is = absurd is
+
+pub let_in_inputs : (name : Token) (inputs : List Token) (output : Token) (locals : List PlacedLocal) (parts : List Part) → IsMeant (behind_inputs name inputs (AToken output ∷ Locals locals ∷ parts)) → BeginsWithToken parts
+let_in_inputs name inputs output locals (AToken token ∷ parts) is = tt
+let_in_inputs name inputs output locals _ is = absurd is
+
+pub equations_in_body : (name : Token) (inputs : List Token) (output : Token) (locals : List PlacedLocal) (parts : List Part) → IsMeant (body_part name inputs output locals parts) → BeginsWithEquations parts
+equations_in_body name inputs output locals (Equations equations ∷ parts) is = tt
+equations_in_body name inputs output locals _ is = absurd is
+
+pub tel_in_body : (name : Token) (inputs : List Token) (output : Token) (locals : List PlacedLocal) (equations : List PlacedEquation) (parts : List Part) → IsMeant (body_part name inputs output locals (Equations equations ∷ parts)) → BeginsWithToken parts
+tel_in_body name inputs output locals equations (AToken token ∷ parts) is = tt
+tel_in_body name inputs output locals equations _ is = absurd is

@@ -1,7 +1,7 @@
 -- The translation of nodes. A long body is taken in steps, each with what the symbols before stand for.
 use Rattle.std.specs.Prelude.{List, [], ◌∷◌, Option}
 use Rattle.dcv_lexer.specs.Cuts.{Token}
-use Rattle.dcv_lustre.specs.Placed.{PlacedArm, PlacedLocal, PlacedChosen}
+use Rattle.dcv_lustre.specs.Placed.{PlacedLocal, PlacedChosen}
 use Rattle.dcv_lustre.specs.Actions.{Part, AToken, Tokens, Locals, Equations, ARight, Choice, Tests, ANode, Nothing, arm}
 
 -- ---- the kinds of the next parts
@@ -37,12 +37,8 @@ BeginsWithTests _ = ⊥
 
 -- ---- "then" item "else" choice
 
-abbrev pub otherwise_part : PlacedArm → List Part → Part
-otherwise_part first (AToken else_word ∷ Choice arms otherwise ∷ []) = Choice (first ∷ arms) otherwise
-otherwise_part first _ = Nothing
-
 abbrev pub behind_condition : Token → Option Token → List Part → Part
-behind_condition name number (AToken then_word ∷ AToken item ∷ parts) = otherwise_part (arm name number item) parts
+behind_condition name number (AToken then_word ∷ AToken item ∷ AToken else_word ∷ Choice arms otherwise ∷ []) = Choice (arm name number item ∷ arms) otherwise
 behind_condition name number _ = Nothing
 
 -- the right side that is such a choice

@@ -6,6 +6,7 @@ ghost use Rattle.dcv_lustre_read.specs.Seen.{seen_local};
 ghost use Rattle.dcv_lustre_read.specs.Symbols.{seen_part, IsMeant};
 ghost use Rattle.dcv_lustre_read.specs.Translated.{behind_name, behind_inputs, body_part};
 
+use crate::accessors;
 use crate::parts::Part;
 use crate::placed::{PlacedLocal, PlacedNode};
 use dcv_observer::Item;
@@ -13,20 +14,17 @@ use dcv_translation::Body;
 use std::alloc::{AllocError, Global};
 
 // node = "node" name "(" input more_inputs ")" output variables "let" equations "tel"
-#[tactic(auto, using(crate::proofs::Bodies::node_in_steps))]
+#[tactic(auto, using(crate::proofs::Bodies::node_first, crate::proofs::Bodies::node_in_steps))]
 pub(crate) fn node<'a>(alloc: Global, parts: &mut Body<Part<'a>>) -> Result<Part<'a>, AllocError>
     requires { IsMeant (node_part (map seen_part parts.old)) }
     ensures { IfOk result (λ part. seen_part part ≡ node_part (map seen_part parts.old)) }
 {
-    match (parts.next(), parts.next(), parts.next()) {
-        (Some(Part::Token(_)), Some(Part::Token(name)), Some(Part::Token(_))) => {
-            inputs(alloc, name, parts)
-        }
-        _ => unreachable!(),
-    }
+    let (_, name, _) = accessors::three_tokens(parts);
+    inputs(alloc, name, parts)
 }
 
 // What stands behind the node's name, from the first input on.
+#[tactic(auto, using(crate::proofs::Bodies::input_in_name, crate::proofs::Bodies::inputs_in_name, crate::proofs::Bodies::closing_in_name))]
 fn inputs<'a>(
     alloc: Global,
     name: Item<'a>,
@@ -35,13 +33,11 @@ fn inputs<'a>(
     requires { IsMeant (behind_name (seen name) (map seen_part parts.old)) }
     ensures { IfOk result (λ part. seen_part part ≡ behind_name (seen name.entry) (map seen_part parts.old)) }
 {
-    match (parts.next(), parts.next(), parts.next()) {
-        (Some(Part::Token(input)), Some(Part::Tokens(inputs)), Some(Part::Token(_))) => {
-            let inputs = with_input(input, inputs)?;
-            locals(alloc, name, inputs, parts)
-        }
-        _ => unreachable!(),
-    }
+    let input = accessors::token(parts);
+    let inputs = accessors::tokens(parts);
+    accessors::token(parts);
+    let inputs = with_input(input, inputs)?;
+    locals(alloc, name, inputs, parts)
 }
 
 // An input before others, from the last to the first.
@@ -53,6 +49,7 @@ fn with_input<'a>(input: Item<'a>, mut inputs: Vec<Item<'a>>) -> Result<Vec<Item
 }
 
 // What stands behind the inputs.
+#[tactic(auto, using(crate::proofs::Bodies::output_in_inputs, crate::proofs::Bodies::locals_in_inputs, crate::proofs::Bodies::let_in_inputs))]
 fn locals<'a>(
     alloc: Global,
     name: Item<'a>,
@@ -63,16 +60,14 @@ fn locals<'a>(
     ensures { IfOk result (λ part. seen_part part
         ≡ behind_inputs (seen name.entry) (reverse (map seen inputs.entry.items)) (map seen_part parts.old)) }
 {
-    match (parts.next(), parts.next(), parts.next()) {
-        (Some(Part::Token(output)), Some(Part::Locals(locals)), Some(Part::Token(_))) => {
-            body(alloc, name, inputs, output, locals, parts)
-        }
-        _ => unreachable!(),
-    }
+    let output = accessors::token(parts);
+    let locals = accessors::locals(parts);
+    accessors::token(parts);
+    body(alloc, name, inputs, output, locals, parts)
 }
 
 // What stands behind `let`.
-#[tactic(auto, using(crate::proofs::Bodies::forwards))]
+#[tactic(auto, using(crate::proofs::Bodies::equations_in_body, crate::proofs::Bodies::tel_in_body, crate::proofs::Bodies::forwards))]
 fn body<'a>(
     alloc: Global,
     name: Item<'a>,
@@ -87,21 +82,18 @@ fn body<'a>(
         ≡ body_part (seen name.entry) (reverse (map seen inputs.entry.items)) (seen output.entry) (reverse (map seen_local locals.entry.items))
         (map seen_part parts.old)) }
 {
-    match (parts.next(), parts.next()) {
-        (Some(Part::Equations(mut equations)), Some(Part::Token(tel))) => {
-            inputs.reverse();
-            locals.reverse();
-            equations.reverse();
-            let placed = PlacedNode {
-                name,
-                inputs,
-                output,
-                locals,
-                equations,
-                tel,
-            };
-            Ok(Part::Node(Box::new(alloc, placed)?))
-        }
-        _ => unreachable!(),
-    }
+    let mut equations = accessors::equations(parts);
+    let tel = accessors::token(parts);
+    inputs.reverse();
+    locals.reverse();
+    equations.reverse();
+    let placed = PlacedNode {
+        name,
+        inputs,
+        output,
+        locals,
+        equations,
+        tel,
+    };
+    Ok(Part::Node(Box::new(alloc, placed)?))
 }
