@@ -1,4 +1,4 @@
--- Long bodies in steps, and lists from the first element on.
+-- What the parts of a body begin with, after those that were taken; bodies in steps, and lists from the first element on.
 use Rattle.std.proofs.Common.{◌≡◌, List, [], ◌∷◌, ◌++◌, Option, map, reverse, refl, sym, ap, ◌∙◌}
 use Rattle.std.proofs.lemmas.List.{map-append, reverse-append}
 use Rattle.dcv_lexer.specs.Cuts.{Token}
@@ -6,7 +6,7 @@ use Rattle.dcv_lustre.specs.Placed.{PlacedLocal, PlacedEquation, PlacedTest}
 use Rattle.dcv_lustre.specs.Actions.{Part, AToken, Tokens, ALocal, Locals, AnEquation, Equations, Compared, Choice, ATest, Tests}
 use Rattle.dcv_lustre.specs.Actions.{more_inputs_part, input_part, output_part, variables_part, locals_part, local_part, token_part, equations_part, equation_part, delay_part, condition_part, compared_part, test_part, more_tests_part, choice_part, right_part, node_part}
 use Rattle.dcv_lustre_read.specs.Symbols.{IsMeant}
-use Rattle.dcv_lustre_read.specs.Translated.{BeginsWithToken, BeginsWithTokenIfAny, BeginsWithThreeTokens, BeginsWithTokens, BeginsWithLocals, BeginsWithEquations, BeginsWithTests, behind_condition, chosen, behind_name, behind_inputs, body_part}
+use Rattle.dcv_lustre_read.specs.Translated.{BeginsWithToken, BeginsWithTokenIfAny, BeginsWithThreeTokens, BeginsWithTokens, BeginsWithLocals, BeginsWithEquations, BeginsWithTests, behind_condition, chosen}
 
 pub forwards : {A B : Type 0} (f : A → B) (list : List A) → map f (reverse list) ≡ reverse (map f list)
 forwards f [] = refl
@@ -23,10 +23,6 @@ choice_in_steps if_word name number _ = refl
 pub right_in_steps : (if_word name : Token) (number : Option Token) (parts : List Part) → right_part (AToken if_word ∷ Compared name number ∷ parts) ≡ chosen (behind_condition name number parts)
 right_in_steps if_word name number (AToken then_word ∷ AToken item ∷ AToken else_word ∷ Choice arms otherwise ∷ []) = refl
 right_in_steps if_word name number _ = refl
-
-pub node_in_steps : (word name opening : Token) (parts : List Part) → node_part (AToken word ∷ AToken name ∷ AToken opening ∷ parts) ≡ behind_name name parts
-node_in_steps word name opening (AToken input ∷ Tokens inputs ∷ AToken closing ∷ AToken output ∷ Locals locals ∷ AToken let_word ∷ Equations equations ∷ AToken tel ∷ []) = refl
-node_in_steps word name opening _ = refl
 
 pub first_of_three : (parts : List Part) → BeginsWithThreeTokens parts → BeginsWithToken parts
 first_of_three (AToken token ∷ parts) is = tt
@@ -153,34 +149,34 @@ pub node_first : (parts : List Part) → IsMeant (node_part parts) → BeginsWit
 node_first (AToken a ∷ AToken b ∷ AToken c ∷ parts) is = tt
 node_first _ is = absurd is
 
-pub input_in_name : (name : Token) (parts : List Part) → IsMeant (behind_name name parts) → BeginsWithToken parts
-input_in_name name (AToken token ∷ parts) is = tt
-input_in_name name _ is = absurd is
+pub node_input : (word name opening : Token) (parts : List Part) → IsMeant (node_part (AToken word ∷ AToken name ∷ AToken opening ∷ parts)) → BeginsWithToken parts
+node_input word name opening (AToken token ∷ parts) is = tt
+node_input word name opening _ is = absurd is
 
-pub inputs_in_name : (name : Token) (input : Token) (parts : List Part) → IsMeant (behind_name name (AToken input ∷ parts)) → BeginsWithTokens parts
-inputs_in_name name input (Tokens inputs ∷ parts) is = tt
-inputs_in_name name input _ is = absurd is
+pub node_inputs : (word name opening input : Token) (parts : List Part) → IsMeant (node_part (AToken word ∷ AToken name ∷ AToken opening ∷ AToken input ∷ parts)) → BeginsWithTokens parts
+node_inputs word name opening input (Tokens inputs ∷ parts) is = tt
+node_inputs word name opening input _ is = absurd is
 
-pub closing_in_name : (name : Token) (input : Token) (inputs : List Token) (parts : List Part) → IsMeant (behind_name name (AToken input ∷ Tokens inputs ∷ parts)) → BeginsWithToken parts
-closing_in_name name input inputs (AToken token ∷ parts) is = tt
-closing_in_name name input inputs _ is = absurd is
+pub node_closing : (word name opening input : Token) (inputs : List Token) (parts : List Part) → IsMeant (node_part (AToken word ∷ AToken name ∷ AToken opening ∷ AToken input ∷ Tokens inputs ∷ parts)) → BeginsWithToken parts
+node_closing word name opening input inputs (AToken token ∷ parts) is = tt
+node_closing word name opening input inputs _ is = absurd is
 
-pub output_in_inputs : (name : Token) (inputs : List Token) (parts : List Part) → IsMeant (behind_inputs name inputs parts) → BeginsWithToken parts
-output_in_inputs name inputs (AToken token ∷ parts) is = tt
-output_in_inputs name inputs _ is = absurd is
+pub node_output : (word name opening input : Token) (inputs : List Token) (closing : Token) (parts : List Part) → IsMeant (node_part (AToken word ∷ AToken name ∷ AToken opening ∷ AToken input ∷ Tokens inputs ∷ AToken closing ∷ parts)) → BeginsWithToken parts
+node_output word name opening input inputs closing (AToken token ∷ parts) is = tt
+node_output word name opening input inputs closing _ is = absurd is
 
-pub locals_in_inputs : (name : Token) (inputs : List Token) (output : Token) (parts : List Part) → IsMeant (behind_inputs name inputs (AToken output ∷ parts)) → BeginsWithLocals parts
-locals_in_inputs name inputs output (Locals locals ∷ parts) is = tt
-locals_in_inputs name inputs output _ is = absurd is
+pub node_locals : (word name opening input : Token) (inputs : List Token) (closing output : Token) (parts : List Part) → IsMeant (node_part (AToken word ∷ AToken name ∷ AToken opening ∷ AToken input ∷ Tokens inputs ∷ AToken closing ∷ AToken output ∷ parts)) → BeginsWithLocals parts
+node_locals word name opening input inputs closing output (Locals locals ∷ parts) is = tt
+node_locals word name opening input inputs closing output _ is = absurd is
 
-pub let_in_inputs : (name : Token) (inputs : List Token) (output : Token) (locals : List PlacedLocal) (parts : List Part) → IsMeant (behind_inputs name inputs (AToken output ∷ Locals locals ∷ parts)) → BeginsWithToken parts
-let_in_inputs name inputs output locals (AToken token ∷ parts) is = tt
-let_in_inputs name inputs output locals _ is = absurd is
+pub node_let : (word name opening input : Token) (inputs : List Token) (closing output : Token) (locals : List PlacedLocal) (parts : List Part) → IsMeant (node_part (AToken word ∷ AToken name ∷ AToken opening ∷ AToken input ∷ Tokens inputs ∷ AToken closing ∷ AToken output ∷ Locals locals ∷ parts)) → BeginsWithToken parts
+node_let word name opening input inputs closing output locals (AToken token ∷ parts) is = tt
+node_let word name opening input inputs closing output locals _ is = absurd is
 
-pub equations_in_body : (name : Token) (inputs : List Token) (output : Token) (locals : List PlacedLocal) (parts : List Part) → IsMeant (body_part name inputs output locals parts) → BeginsWithEquations parts
-equations_in_body name inputs output locals (Equations equations ∷ parts) is = tt
-equations_in_body name inputs output locals _ is = absurd is
+pub node_equations : (word name opening input : Token) (inputs : List Token) (closing output : Token) (locals : List PlacedLocal) (let_word : Token) (parts : List Part) → IsMeant (node_part (AToken word ∷ AToken name ∷ AToken opening ∷ AToken input ∷ Tokens inputs ∷ AToken closing ∷ AToken output ∷ Locals locals ∷ AToken let_word ∷ parts)) → BeginsWithEquations parts
+node_equations word name opening input inputs closing output locals let_word (Equations equations ∷ parts) is = tt
+node_equations word name opening input inputs closing output locals let_word _ is = absurd is
 
-pub tel_in_body : (name : Token) (inputs : List Token) (output : Token) (locals : List PlacedLocal) (equations : List PlacedEquation) (parts : List Part) → IsMeant (body_part name inputs output locals (Equations equations ∷ parts)) → BeginsWithToken parts
-tel_in_body name inputs output locals equations (AToken token ∷ parts) is = tt
-tel_in_body name inputs output locals equations _ is = absurd is
+pub node_tel : (word name opening input : Token) (inputs : List Token) (closing output : Token) (locals : List PlacedLocal) (let_word : Token) (equations : List PlacedEquation) (parts : List Part) → IsMeant (node_part (AToken word ∷ AToken name ∷ AToken opening ∷ AToken input ∷ Tokens inputs ∷ AToken closing ∷ AToken output ∷ Locals locals ∷ AToken let_word ∷ Equations equations ∷ parts)) → BeginsWithToken parts
+node_tel word name opening input inputs closing output locals let_word equations (AToken token ∷ parts) is = tt
+node_tel word name opening input inputs closing output locals let_word equations _ is = absurd is

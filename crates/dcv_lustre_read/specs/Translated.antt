@@ -1,8 +1,8 @@
--- The translation of nodes. A long body is taken in steps, each with what the symbols before stand for.
+-- The translation of nodes: what the next parts of a body are, and the steps of a long body.
 use Rattle.std.specs.Prelude.{List, [], ◌∷◌, Option}
 use Rattle.dcv_lexer.specs.Cuts.{Token}
-use Rattle.dcv_lustre.specs.Placed.{PlacedLocal, PlacedChosen}
-use Rattle.dcv_lustre.specs.Actions.{Part, AToken, Tokens, Locals, Equations, ARight, Choice, Tests, ANode, Nothing, arm}
+use Rattle.dcv_lustre.specs.Placed.{PlacedChosen}
+use Rattle.dcv_lustre.specs.Actions.{Part, AToken, Tokens, Locals, Equations, ARight, Choice, Tests, Nothing, arm}
 
 -- ---- the kinds of the next parts
 
@@ -45,18 +45,3 @@ behind_condition name number _ = Nothing
 abbrev pub chosen : Part → Part
 chosen (Choice arms otherwise) = ARight (PlacedChosen arms otherwise)
 chosen _ = Nothing
-
--- ---- name "(" input more_inputs ")" output variables "let" equations "tel"
-
-abbrev pub body_part : Token → List Token → Token → List PlacedLocal → List Part → Part
-body_part name inputs output locals (Equations equations ∷ AToken tel ∷ []) =
-    ANode (record { name = name; inputs = inputs; output = output; locals = locals; equations = equations; tel = tel })
-body_part name inputs output locals _ = Nothing
-
-abbrev pub behind_inputs : Token → List Token → List Part → Part
-behind_inputs name inputs (AToken output ∷ Locals locals ∷ AToken let_word ∷ parts) = body_part name inputs output locals parts
-behind_inputs name inputs _ = Nothing
-
-abbrev pub behind_name : Token → List Part → Part
-behind_name name (AToken input ∷ Tokens inputs ∷ AToken closing ∷ parts) = behind_inputs name (input ∷ inputs) parts
-behind_name name _ = Nothing
