@@ -1,41 +1,47 @@
--- The translation of nodes. A long body is taken in steps, each with what the symbols before stand for.
+-- The translation of nodes: what the next parts of a body are, and the steps of a long body.
 use Rattle.std.specs.Prelude.{List, [], ◌∷◌, Option}
 use Rattle.dcv_lexer.specs.Cuts.{Token}
-use Rattle.dcv_lustre.specs.Placed.{PlacedArm, PlacedLocal, PlacedChosen}
-use Rattle.dcv_lustre.specs.Actions.{Part, AToken, Tokens, Locals, Equations, ARight, Choice, ATest, ANode, Nothing, arm}
+use Rattle.dcv_lustre.specs.Placed.{PlacedChosen}
+use Rattle.dcv_lustre.specs.Actions.{Part, AToken, Tokens, Locals, Equations, ARight, Choice, Tests, Nothing, arm}
 
--- ---- name "=" number ")"
+-- ---- the kinds of the next parts
 
-abbrev pub comparison_part : List Part → Part
-comparison_part (AToken name ∷ AToken equals ∷ AToken number ∷ AToken closing ∷ []) = ATest (record { name = name; number = number })
-comparison_part _ = Nothing
+abbrev pub BeginsWithToken : List Part → Type 0
+BeginsWithToken (AToken token ∷ parts) = Unit {0}
+BeginsWithToken _ = ⊥
+
+abbrev pub BeginsWithTokenIfAny : List Part → Type 0
+BeginsWithTokenIfAny [] = Unit {0}
+BeginsWithTokenIfAny (AToken token ∷ parts) = Unit {0}
+BeginsWithTokenIfAny _ = ⊥
+
+abbrev pub BeginsWithThreeTokens : List Part → Type 0
+BeginsWithThreeTokens (AToken first ∷ AToken second ∷ AToken third ∷ parts) = Unit {0}
+BeginsWithThreeTokens _ = ⊥
+
+abbrev pub BeginsWithTokens : List Part → Type 0
+BeginsWithTokens (Tokens tokens ∷ parts) = Unit {0}
+BeginsWithTokens _ = ⊥
+
+abbrev pub BeginsWithLocals : List Part → Type 0
+BeginsWithLocals (Locals locals ∷ parts) = Unit {0}
+BeginsWithLocals _ = ⊥
+
+abbrev pub BeginsWithEquations : List Part → Type 0
+BeginsWithEquations (Equations equations ∷ parts) = Unit {0}
+BeginsWithEquations _ = ⊥
+
+abbrev pub BeginsWithTests : List Part → Type 0
+BeginsWithTests (Tests tests ∷ parts) = Unit {0}
+BeginsWithTests _ = ⊥
 
 -- ---- "then" item "else" choice
 
-abbrev pub otherwise_part : PlacedArm → List Part → Part
-otherwise_part first (AToken else_word ∷ Choice arms otherwise ∷ []) = Choice (first ∷ arms) otherwise
-otherwise_part first _ = Nothing
-
 abbrev pub behind_condition : Token → Option Token → List Part → Part
-behind_condition name number (AToken then_word ∷ AToken item ∷ parts) = otherwise_part (arm name number item) parts
+behind_condition name number (AToken then_word ∷ AToken item ∷ AToken else_word ∷ Choice arms otherwise ∷ []) = Choice (arm name number item ∷ arms) otherwise
 behind_condition name number _ = Nothing
 
 -- the right side that is such a choice
 abbrev pub chosen : Part → Part
 chosen (Choice arms otherwise) = ARight (PlacedChosen arms otherwise)
 chosen _ = Nothing
-
--- ---- name "(" input more_inputs ")" output variables "let" equations "tel"
-
-abbrev pub body_part : Token → List Token → Token → List PlacedLocal → List Part → Part
-body_part name inputs output locals (Equations equations ∷ AToken tel ∷ []) =
-    ANode (record { name = name; inputs = inputs; output = output; locals = locals; equations = equations; tel = tel })
-body_part name inputs output locals _ = Nothing
-
-abbrev pub behind_inputs : Token → List Token → List Part → Part
-behind_inputs name inputs (AToken output ∷ Locals locals ∷ AToken let_word ∷ parts) = body_part name inputs output locals parts
-behind_inputs name inputs _ = Nothing
-
-abbrev pub behind_name : Token → List Part → Part
-behind_name name (AToken input ∷ Tokens inputs ∷ AToken closing ∷ parts) = behind_inputs name (input ∷ inputs) parts
-behind_name name _ = Nothing

@@ -4,8 +4,9 @@ ghost use Rattle.dcv_observer.specs.Left.{seen};
 ghost use Rattle.dcv_lustre.specs.Actions.{AToken, ARight, Maybe, Choice, right_part, choice_part};
 ghost use Rattle.dcv_lustre_read.specs.Seen.{seen_arm, seen_test, seen_right};
 ghost use Rattle.dcv_lustre_read.specs.Symbols.{seen_part, IsMeant};
-ghost use Rattle.dcv_lustre_read.specs.Translated.{behind_condition, otherwise_part};
+ghost use Rattle.dcv_lustre_read.specs.Translated.{behind_condition};
 
+use crate::accessors;
 use crate::parts::Part;
 use crate::placed::{PlacedArm, PlacedRight, PlacedTest};
 use dcv_observer::Item;
@@ -13,14 +14,15 @@ use dcv_translation::Body;
 use std::alloc::{AllocError, Global};
 
 // choice = {"if" condition "then" item "else"} item
-#[tactic(auto, using(crate::proofs::Bodies::choice_in_steps))]
+#[tactic(auto, using(crate::proofs::Bodies::choice_first, crate::proofs::Bodies::choice_in_steps))]
 pub(crate) fn choice<'a>(alloc: Global, parts: &mut Body<Part<'a>>) -> Result<Part<'a>, AllocError>
     requires { IsMeant (choice_part (map seen_part parts.old)) }
     ensures { IfOk result (λ part. seen_part part ≡ choice_part (map seen_part parts.old)) }
 {
-    match (parts.next(), parts.next()) {
-        (Some(Part::Token(item)), None) => Ok(Part::Choice(Vec::new(alloc), item)),
-        (Some(Part::Token(_)), Some(Part::Compared(name, number))) => {
+    let item = accessors::token(parts);
+    match parts.next() {
+        None => Ok(Part::Choice(Vec::new(alloc), item)),
+        Some(Part::Compared(name, number)) => {
             let (arms, otherwise) = longer_choice(name, number, parts)?;
             Ok(Part::Choice(arms, otherwise))
         }
@@ -29,6 +31,7 @@ pub(crate) fn choice<'a>(alloc: Global, parts: &mut Body<Part<'a>>) -> Result<Pa
 }
 
 // What stands behind a condition: the arms, from the last to the first, and the last item.
+#[tactic(auto, using(crate::proofs::Bodies::longer_choice_first))]
 fn longer_choice<'a>(
     name: Item<'a>,
     number: Option<Item<'a>>,
@@ -38,26 +41,10 @@ fn longer_choice<'a>(
     ensures { IfOk result (λ made. Choice (reverse (map seen_arm made.0.items)) (seen made.1)
         ≡ behind_condition (seen name.entry) (option_map seen number.entry) (map seen_part parts.old)) }
 {
-    match (parts.next(), parts.next()) {
-        (Some(Part::Token(_)), Some(Part::Token(item))) => {
-            other_arms(PlacedArm { name, number, item }, parts)
-        }
-        _ => unreachable!(),
-    }
-}
-
-// What stands behind the first arm.
-fn other_arms<'a>(
-    arm: PlacedArm<'a>,
-    parts: &mut Body<Part<'a>>,
-) -> Result<(Vec<PlacedArm<'a>>, Item<'a>), AllocError>
-    requires { IsMeant (otherwise_part (seen_arm arm) (map seen_part parts.old)) }
-    ensures { IfOk result (λ made. Choice (reverse (map seen_arm made.0.items)) (seen made.1)
-        ≡ otherwise_part (seen_arm arm.entry) (map seen_part parts.old)) }
-{
-    match (parts.next(), parts.next()) {
-        (Some(Part::Token(_)), Some(Part::Choice(arms, otherwise))) => {
-            Ok((with_arm(arm, arms)?, otherwise))
+    let (_, item, _) = accessors::three_tokens(parts);
+    match parts.next() {
+        Some(Part::Choice(arms, otherwise)) => {
+            Ok((with_arm(PlacedArm { name, number, item }, arms)?, otherwise))
         }
         _ => unreachable!(),
     }
@@ -78,27 +65,39 @@ fn with_arm<'a>(
 }
 
 // right = literal delay | "if" condition "then" item "else" choice | test more_tests | name
-#[tactic(auto, using(crate::proofs::Bodies::right_in_steps, crate::proofs::Bodies::forwards))]
+#[tactic(auto, using(crate::proofs::Bodies::right_second, crate::proofs::Bodies::forwards))]
 pub(crate) fn right<'a>(alloc: Global, parts: &mut Body<Part<'a>>) -> Result<Part<'a>, AllocError>
     requires { IsMeant (right_part (map seen_part parts.old)) }
     ensures { IfOk result (λ part. seen_part part ≡ right_part (map seen_part parts.old)) }
 {
-    match (parts.next(), parts.next()) {
-        (Some(Part::Token(name)), None) => {
-            Ok(Part::Right(PlacedRight::Chosen(Vec::new(alloc), name)))
+    match parts.next() {
+        Some(Part::Token(first)) => behind_token(alloc, first, parts),
+        Some(Part::Test(test)) => {
+            let mut tests = with_test(test, accessors::tests(parts))?;
+            tests.reverse();
+            Ok(Part::Right(PlacedRight::Tested(tests)))
         }
-        (Some(Part::Token(literal)), Some(Part::Maybe(source))) => {
-            Ok(Part::Right(of_literal(alloc, literal, source)))
-        }
-        (Some(Part::Token(_)), Some(Part::Compared(name, number))) => {
+        _ => unreachable!(),
+    }
+}
+
+// A right side that begins with a token.
+#[tactic(auto, using(crate::proofs::Bodies::right_in_steps, crate::proofs::Bodies::forwards))]
+fn behind_token<'a>(
+    alloc: Global,
+    first: Item<'a>,
+    parts: &mut Body<Part<'a>>,
+) -> Result<Part<'a>, AllocError>
+    requires { IsMeant (right_part (AToken (seen first) ∷ map seen_part parts.old)) }
+    ensures { IfOk result (λ part. seen_part part ≡ right_part (AToken (seen first.entry) ∷ map seen_part parts.old)) }
+{
+    match parts.next() {
+        None => Ok(Part::Right(PlacedRight::Chosen(Vec::new(alloc), first))),
+        Some(Part::Maybe(source)) => Ok(Part::Right(of_literal(alloc, first, source))),
+        Some(Part::Compared(name, number)) => {
             let (mut arms, otherwise) = longer_choice(name, number, parts)?;
             arms.reverse();
             Ok(Part::Right(PlacedRight::Chosen(arms, otherwise)))
-        }
-        (Some(Part::Test(test)), Some(Part::Tests(tests))) => {
-            let mut tests = with_test(test, tests)?;
-            tests.reverse();
-            Ok(Part::Right(PlacedRight::Tested(tests)))
         }
         _ => unreachable!(),
     }

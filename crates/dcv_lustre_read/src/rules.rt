@@ -4,14 +4,15 @@ ghost use Rattle.dcv_lustre.specs.Actions.{more_inputs_part, input_part, output_
 ghost use Rattle.dcv_lustre.specs.Actions.{token_part, equations_part, equation_part, delay_part, condition_part};
 ghost use Rattle.dcv_lustre.specs.Actions.{compared_part, test_part, more_tests_part};
 ghost use Rattle.dcv_lustre_read.specs.Symbols.{seen_part, IsMeant};
-ghost use Rattle.dcv_lustre_read.specs.Translated.{comparison_part};
 
+use crate::accessors;
 use crate::parts::Part;
 use crate::placed::{PlacedEquation, PlacedLocal, PlacedTest};
 use dcv_translation::Body;
 use std::alloc::{AllocError, Global};
 
 // more_inputs = {";" input}
+#[tactic(auto, using(crate::proofs::Bodies::more_inputs_first, crate::proofs::Bodies::more_inputs_second, crate::proofs::Bodies::more_inputs_third))]
 pub(crate) fn more_inputs<'a>(
     alloc: Global,
     parts: &mut Body<Part<'a>>,
@@ -19,39 +20,38 @@ pub(crate) fn more_inputs<'a>(
     requires { IsMeant (more_inputs_part (map seen_part parts.old)) }
     ensures { IfOk result (λ part. seen_part part ≡ more_inputs_part (map seen_part parts.old)) }
 {
-    match (parts.next(), parts.next(), parts.next()) {
-        (None, _, _) => Ok(Part::Tokens(Vec::new(alloc))),
-        (Some(Part::Token(_)), Some(Part::Token(input)), Some(Part::Tokens(mut inputs))) => {
+    match accessors::token_or_end(parts) {
+        None => Ok(Part::Tokens(Vec::new(alloc))),
+        Some(_) => {
+            let input = accessors::token(parts);
+            let mut inputs = accessors::tokens(parts);
             inputs.push(input)?;
             Ok(Part::Tokens(inputs))
         }
-        _ => unreachable!(),
     }
 }
 
 // input = name ":" "bool"
+#[tactic(auto, using(crate::proofs::Bodies::input_first))]
 pub(crate) fn input<'a>(parts: &mut Body<Part<'a>>) -> Part<'a>
     requires { IsMeant (input_part (map seen_part parts.old)) }
     ensures { seen_part result ≡ input_part (map seen_part parts.old) }
 {
-    match parts.next() {
-        Some(Part::Token(name)) => Part::Token(name),
-        _ => unreachable!(),
-    }
+    Part::Token(accessors::token(parts))
 }
 
 // output = "returns" "(" "ok" ":" "bool" ")" ";"
+#[tactic(auto, using(crate::proofs::Bodies::output_first))]
 pub(crate) fn output<'a>(parts: &mut Body<Part<'a>>) -> Part<'a>
     requires { IsMeant (output_part (map seen_part parts.old)) }
     ensures { seen_part result ≡ output_part (map seen_part parts.old) }
 {
-    match (parts.next(), parts.next(), parts.next()) {
-        (Some(Part::Token(_)), Some(Part::Token(_)), Some(Part::Token(ok))) => Part::Token(ok),
-        _ => unreachable!(),
-    }
+    let (_, _, ok) = accessors::three_tokens(parts);
+    Part::Token(ok)
 }
 
 // variables = ["var" local locals]
+#[tactic(auto, using(crate::proofs::Bodies::variables_first, crate::proofs::Bodies::variables_third))]
 pub(crate) fn variables<'a>(
     alloc: Global,
     parts: &mut Body<Part<'a>>,
@@ -59,24 +59,29 @@ pub(crate) fn variables<'a>(
     requires { IsMeant (variables_part (map seen_part parts.old)) }
     ensures { IfOk result (λ part. seen_part part ≡ variables_part (map seen_part parts.old)) }
 {
-    match (parts.next(), parts.next(), parts.next()) {
-        (None, _, _) => Ok(Part::Locals(Vec::new(alloc))),
-        (Some(Part::Token(_)), Some(Part::Local(local)), Some(Part::Locals(mut locals))) => {
-            locals.push(local)?;
-            Ok(Part::Locals(locals))
+    match accessors::token_or_end(parts) {
+        None => Ok(Part::Locals(Vec::new(alloc))),
+        Some(_) => match parts.next() {
+            Some(Part::Local(local)) => {
+                let mut locals = accessors::locals(parts);
+                locals.push(local)?;
+                Ok(Part::Locals(locals))
+            }
+            _ => unreachable!(),
         }
-        _ => unreachable!(),
     }
 }
 
 // locals = {local}
+#[tactic(auto, using(crate::proofs::Bodies::locals_second))]
 pub(crate) fn locals<'a>(alloc: Global, parts: &mut Body<Part<'a>>) -> Result<Part<'a>, AllocError>
     requires { IsMeant (locals_part (map seen_part parts.old)) }
     ensures { IfOk result (λ part. seen_part part ≡ locals_part (map seen_part parts.old)) }
 {
-    match (parts.next(), parts.next()) {
-        (None, _) => Ok(Part::Locals(Vec::new(alloc))),
-        (Some(Part::Local(local)), Some(Part::Locals(mut locals))) => {
+    match parts.next() {
+        None => Ok(Part::Locals(Vec::new(alloc))),
+        Some(Part::Local(local)) => {
+            let mut locals = accessors::locals(parts);
             locals.push(local)?;
             Ok(Part::Locals(locals))
         }
@@ -85,30 +90,26 @@ pub(crate) fn locals<'a>(alloc: Global, parts: &mut Body<Part<'a>>) -> Result<Pa
 }
 
 // local = name ":" kind ";"
+#[tactic(auto, using(crate::proofs::Bodies::local_first))]
 pub(crate) fn local<'a>(parts: &mut Body<Part<'a>>) -> Part<'a>
     requires { IsMeant (local_part (map seen_part parts.old)) }
     ensures { seen_part result ≡ local_part (map seen_part parts.old) }
 {
-    match (parts.next(), parts.next(), parts.next()) {
-        (Some(Part::Token(name)), Some(Part::Token(_)), Some(Part::Token(kind))) => {
-            Part::Local(PlacedLocal { name, kind })
-        }
-        _ => unreachable!(),
-    }
+    let (name, _, kind) = accessors::three_tokens(parts);
+    Part::Local(PlacedLocal { name, kind })
 }
 
 // A rule that is one token.
+#[tactic(auto, using(crate::proofs::Bodies::token_first))]
 pub(crate) fn token<'a>(parts: &mut Body<Part<'a>>) -> Part<'a>
     requires { IsMeant (token_part (map seen_part parts.old)) }
     ensures { seen_part result ≡ token_part (map seen_part parts.old) }
 {
-    match parts.next() {
-        Some(Part::Token(token)) => Part::Token(token),
-        _ => unreachable!(),
-    }
+    Part::Token(accessors::token(parts))
 }
 
 // equations = {equation}
+#[tactic(auto, using(crate::proofs::Bodies::equations_second))]
 pub(crate) fn equations<'a>(
     alloc: Global,
     parts: &mut Body<Part<'a>>,
@@ -116,9 +117,10 @@ pub(crate) fn equations<'a>(
     requires { IsMeant (equations_part (map seen_part parts.old)) }
     ensures { IfOk result (λ part. seen_part part ≡ equations_part (map seen_part parts.old)) }
 {
-    match (parts.next(), parts.next()) {
-        (None, _) => Ok(Part::Equations(Vec::new(alloc))),
-        (Some(Part::Equation(equation)), Some(Part::Equations(mut equations))) => {
+    match parts.next() {
+        None => Ok(Part::Equations(Vec::new(alloc))),
+        Some(Part::Equation(equation)) => {
+            let mut equations = accessors::equations(parts);
             equations.push(equation)?;
             Ok(Part::Equations(equations))
         }
@@ -127,81 +129,72 @@ pub(crate) fn equations<'a>(
 }
 
 // equation = name "=" right ";"
+#[tactic(auto, using(crate::proofs::Bodies::equation_first, crate::proofs::Bodies::equation_second))]
 pub(crate) fn equation<'a>(parts: &mut Body<Part<'a>>) -> Part<'a>
     requires { IsMeant (equation_part (map seen_part parts.old)) }
     ensures { seen_part result ≡ equation_part (map seen_part parts.old) }
 {
-    match (parts.next(), parts.next(), parts.next()) {
-        (Some(Part::Token(left)), Some(Part::Token(_)), Some(Part::Right(right))) => {
-            Part::Equation(PlacedEquation { left, right })
-        }
+    let left = accessors::token(parts);
+    accessors::token(parts);
+    match parts.next() {
+        Some(Part::Right(right)) => Part::Equation(PlacedEquation { left, right }),
         _ => unreachable!(),
     }
 }
 
 // delay = ["->" "pre" name]
+#[tactic(auto, using(crate::proofs::Bodies::delay_first, crate::proofs::Bodies::delay_second, crate::proofs::Bodies::delay_third))]
 pub(crate) fn delay<'a>(parts: &mut Body<Part<'a>>) -> Part<'a>
     requires { IsMeant (delay_part (map seen_part parts.old)) }
     ensures { seen_part result ≡ delay_part (map seen_part parts.old) }
 {
-    match (parts.next(), parts.next(), parts.next()) {
-        (None, _, _) => Part::Maybe(None),
-        (Some(Part::Token(_)), Some(Part::Token(_)), Some(Part::Token(source))) => Part::Maybe(Some(
-            source,
-        )),
-        _ => unreachable!(),
+    match accessors::token_or_end(parts) {
+        None => Part::Maybe(None),
+        Some(_) => {
+            accessors::token(parts);
+            Part::Maybe(Some(accessors::token(parts)))
+        }
     }
 }
 
 // condition = name compared
+#[tactic(auto, using(crate::proofs::Bodies::condition_first))]
 pub(crate) fn condition<'a>(parts: &mut Body<Part<'a>>) -> Part<'a>
     requires { IsMeant (condition_part (map seen_part parts.old)) }
     ensures { seen_part result ≡ condition_part (map seen_part parts.old) }
 {
-    match (parts.next(), parts.next()) {
-        (Some(Part::Token(name)), Some(Part::Maybe(number))) => Part::Compared(name, number),
+    let name = accessors::token(parts);
+    match parts.next() {
+        Some(Part::Maybe(number)) => Part::Compared(name, number),
         _ => unreachable!(),
     }
 }
 
 // compared = ["=" number]
+#[tactic(auto, using(crate::proofs::Bodies::compared_first, crate::proofs::Bodies::compared_second))]
 pub(crate) fn compared<'a>(parts: &mut Body<Part<'a>>) -> Part<'a>
     requires { IsMeant (compared_part (map seen_part parts.old)) }
     ensures { seen_part result ≡ compared_part (map seen_part parts.old) }
 {
-    match (parts.next(), parts.next()) {
-        (None, _) => Part::Maybe(None),
-        (Some(Part::Token(_)), Some(Part::Token(number))) => Part::Maybe(Some(number)),
-        _ => unreachable!(),
+    match accessors::token_or_end(parts) {
+        None => Part::Maybe(None),
+        Some(_) => Part::Maybe(Some(accessors::token(parts))),
     }
 }
 
 // test = "(" name "=" number ")"
-#[tactic(auto, using(crate::proofs::Bodies::test_in_steps))]
+#[tactic(auto, using(crate::proofs::Bodies::test_first, crate::proofs::Bodies::test_fourth))]
 pub(crate) fn test<'a>(parts: &mut Body<Part<'a>>) -> Part<'a>
     requires { IsMeant (test_part (map seen_part parts.old)) }
     ensures { seen_part result ≡ test_part (map seen_part parts.old) }
 {
-    match parts.next() {
-        Some(Part::Token(_)) => comparison(parts),
-        _ => unreachable!(),
-    }
-}
-
-// What stands behind the parenthesis with which a test begins.
-fn comparison<'a>(parts: &mut Body<Part<'a>>) -> Part<'a>
-    requires { IsMeant (comparison_part (map seen_part parts.old)) }
-    ensures { seen_part result ≡ comparison_part (map seen_part parts.old) }
-{
-    match (parts.next(), parts.next(), parts.next()) {
-        (Some(Part::Token(name)), Some(Part::Token(_)), Some(Part::Token(number))) => {
-            Part::Test(PlacedTest { name, number })
-        }
-        _ => unreachable!(),
-    }
+    let (_, name, _) = accessors::three_tokens(parts);
+    let number = accessors::token(parts);
+    Part::Test(PlacedTest { name, number })
 }
 
 // more_tests = {"or" test}
+#[tactic(auto, using(crate::proofs::Bodies::more_tests_first, crate::proofs::Bodies::more_tests_third))]
 pub(crate) fn more_tests<'a>(
     alloc: Global,
     parts: &mut Body<Part<'a>>,
@@ -209,12 +202,15 @@ pub(crate) fn more_tests<'a>(
     requires { IsMeant (more_tests_part (map seen_part parts.old)) }
     ensures { IfOk result (λ part. seen_part part ≡ more_tests_part (map seen_part parts.old)) }
 {
-    match (parts.next(), parts.next(), parts.next()) {
-        (None, _, _) => Ok(Part::Tests(Vec::new(alloc))),
-        (Some(Part::Token(_)), Some(Part::Test(test)), Some(Part::Tests(mut tests))) => {
-            tests.push(test)?;
-            Ok(Part::Tests(tests))
+    match accessors::token_or_end(parts) {
+        None => Ok(Part::Tests(Vec::new(alloc))),
+        Some(_) => match parts.next() {
+            Some(Part::Test(test)) => {
+                let mut tests = accessors::tests(parts);
+                tests.push(test)?;
+                Ok(Part::Tests(tests))
+            }
+            _ => unreachable!(),
         }
-        _ => unreachable!(),
     }
 }
