@@ -2,8 +2,7 @@
 pub mod Seen
 -- for proofs alone: the parts of the code, and the steps of bodies
 pub mod Symbols
-pub mod ShortBodies
-pub mod Translated
+pub mod Taken
 -- and how names are judged
 pub mod Judged
 pub mod Scope
