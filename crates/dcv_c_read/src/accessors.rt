@@ -30,7 +30,7 @@ pub(crate) fn token<'a>(parts: &mut Body<Part<'a>>) -> Item<'a>
     }
 }
 
-// The next part, which are tokens.
+// The next part, a list of tokens.
 pub(crate) fn tokens<'a>(parts: &mut Body<Part<'a>>) -> Vec<Item<'a>>
     requires { BeginsWithTokens (map seen_part parts.old) }
     ensures { map seen_part parts.old ≡ Tokens (reverse (map seen result.items)) ∷ map seen_part parts.new }
@@ -41,7 +41,7 @@ pub(crate) fn tokens<'a>(parts: &mut Body<Part<'a>>) -> Vec<Item<'a>>
     }
 }
 
-// The next part, which are assignments.
+// The next part, a list of assignments.
 pub(crate) fn assignments<'a>(parts: &mut Body<Part<'a>>) -> Vec<PlacedAssignment<'a>>
     requires { BeginsWithAssignments (map seen_part parts.old) }
     ensures { map seen_part parts.old ≡ Assignments (reverse (map seen_assignment result.items)) ∷ map seen_part parts.new }
@@ -52,7 +52,7 @@ pub(crate) fn assignments<'a>(parts: &mut Body<Part<'a>>) -> Vec<PlacedAssignmen
     }
 }
 
-// The next part, which are statements.
+// The next part, a list of statements.
 pub(crate) fn statements<'a>(parts: &mut Body<Part<'a>>) -> Vec<PlacedStatement<'a>>
     requires { BeginsWithStatements (map seen_part parts.old) }
     ensures { map seen_part parts.old ≡ Statements (reverse (map seen_statement result.items)) ∷ map seen_part parts.new }
@@ -74,7 +74,7 @@ pub(crate) fn test<'a>(parts: &mut Body<Part<'a>>) -> PlacedTest<'a>
     }
 }
 
-// The next part, which are tests.
+// The next part, a list of tests.
 pub(crate) fn tests<'a>(parts: &mut Body<Part<'a>>) -> Vec<PlacedTest<'a>>
     requires { BeginsWithTests (map seen_part parts.old) }
     ensures { map seen_part parts.old ≡ Tests (reverse (map seen_test result.items)) ∷ map seen_part parts.new }
@@ -141,7 +141,7 @@ pub(crate) fn token_or_end<'a>(parts: &mut Body<Part<'a>>) -> Option<Item<'a>>
     }
 }
 
-// The next part, which are tokens, or none at the end.
+// The next part, a list of tokens, or none at the end.
 pub(crate) fn tokens_or_end<'a>(parts: &mut Body<Part<'a>>) -> Option<Vec<Item<'a>>>
     requires { EndsOrBeginsWithTokens (map seen_part parts.old) }
     ensures { Takes (λ items. Tokens (reverse (map seen items.items))) result (map seen_part parts.old) (map seen_part parts.new) }
