@@ -1,6 +1,5 @@
 pub mod Judging
 pub mod Bodies
-pub mod ShortBodies
 pub mod Translated
 pub mod Found
 pub mod Declaring

@@ -8,6 +8,7 @@
 //! place, up to the first token with which no sentence goes on. Then its names are judged in the order of the text.
 #![tactic(auto)]
 
+mod accessors;
 mod assignments;
 mod choices;
 mod functions;

@@ -3,26 +3,22 @@ ghost use Rattle.std.specs.Prelude.{◌≡◌, map, IfOk};
 ghost use Rattle.dcv_c.specs.Actions.{static_part, tokens_part, assignments_part, assignment_part, parameters_part};
 ghost use Rattle.dcv_c.specs.Actions.{more_parameters_part, parameter_part, local_part, statements_part, condition_part};
 ghost use Rattle.dcv_c.specs.Actions.{compared_part, item_part, tests_part, more_tests_part, test_part};
-ghost use Rattle.dcv_observer.specs.Left.{seen};
 ghost use Rattle.dcv_c_read.specs.Symbols.{seen_part, IsMeant};
-ghost use Rattle.dcv_c_read.specs.ShortBodies.{assigned_part, tested_part};
 
+use crate::accessors;
 use crate::parts::Part;
 use crate::placed::{PlacedAssignment, PlacedTest, PlacedTests};
-use dcv_observer::Item;
 use dcv_translation::Body;
 use std::alloc::{AllocError, Global};
 
-// static = "static" "int" name ";", which goes on as a local
-#[tactic(auto, using(crate::proofs::ShortBodies::static_in_steps))]
+// static = "static" "int" name ";"
 pub(crate) fn static_name<'a>(parts: &mut Body<Part<'a>>) -> Part<'a>
     requires { IsMeant (static_part (map seen_part parts.old)) }
     ensures { seen_part result ≡ static_part (map seen_part parts.old) }
 {
-    match parts.next() {
-        Some(Part::Token(_)) => local(parts),
-        _ => unreachable!(),
-    }
+    accessors::token(parts);
+    accessors::token(parts);
+    Part::Token(accessors::token(parts))
 }
 
 // more_statics = {static}, locals = {local}
@@ -30,14 +26,12 @@ pub(crate) fn tokens<'a>(alloc: Global, parts: &mut Body<Part<'a>>) -> Result<Pa
     requires { IsMeant (tokens_part (map seen_part parts.old)) }
     ensures { IfOk result (λ part. seen_part part ≡ tokens_part (map seen_part parts.old)) }
 {
-    match (parts.next(), parts.next()) {
-        (None, _) => Ok(Part::Tokens(Vec::new(alloc))),
-        (Some(Part::Token(name)), Some(Part::Tokens(mut names))) => {
-            names.push(name)?;
-            Ok(Part::Tokens(names))
-        }
-        _ => unreachable!(),
-    }
+    let Some(name) = accessors::token_or_end(parts) else {
+        return Ok(Part::Tokens(Vec::new(alloc)));
+    };
+    let mut names = accessors::tokens(parts);
+    names.push(name)?;
+    Ok(Part::Tokens(names))
 }
 
 // assignments = {assignment}
@@ -48,37 +42,23 @@ pub(crate) fn assignments<'a>(
     requires { IsMeant (assignments_part (map seen_part parts.old)) }
     ensures { IfOk result (λ part. seen_part part ≡ assignments_part (map seen_part parts.old)) }
 {
-    match (parts.next(), parts.next()) {
-        (None, _) => Ok(Part::Assignments(Vec::new(alloc))),
-        (Some(Part::Assignment(assignment)), Some(Part::Assignments(mut assignments))) => {
-            assignments.push(assignment)?;
-            Ok(Part::Assignments(assignments))
-        }
-        _ => unreachable!(),
-    }
+    let Some(assignment) = accessors::assignment_or_end(parts) else {
+        return Ok(Part::Assignments(Vec::new(alloc)));
+    };
+    let mut assignments = accessors::assignments(parts);
+    assignments.push(assignment)?;
+    Ok(Part::Assignments(assignments))
 }
 
 // assignment = name "=" number ";"
-#[tactic(auto, using(crate::proofs::ShortBodies::assignment_in_steps))]
 pub(crate) fn assignment<'a>(parts: &mut Body<Part<'a>>) -> Part<'a>
     requires { IsMeant (assignment_part (map seen_part parts.old)) }
     ensures { seen_part result ≡ assignment_part (map seen_part parts.old) }
 {
-    match (parts.next(), parts.next()) {
-        (Some(Part::Token(name)), Some(Part::Token(_))) => assigned_number(name, parts),
-        _ => unreachable!(),
-    }
-}
-
-// What stands behind the `=`.
-fn assigned_number<'a>(name: Item<'a>, parts: &mut Body<Part<'a>>) -> Part<'a>
-    requires { IsMeant (assigned_part (seen name) (map seen_part parts.old)) }
-    ensures { seen_part result ≡ assigned_part (seen name.entry) (map seen_part parts.old) }
-{
-    match parts.next() {
-        Some(Part::Token(number)) => Part::Assignment(PlacedAssignment { name, number }),
-        _ => unreachable!(),
-    }
+    let name = accessors::token(parts);
+    accessors::token(parts);
+    let number = accessors::token(parts);
+    Part::Assignment(PlacedAssignment { name, number })
 }
 
 // parameters = "void" | parameter more_parameters
@@ -89,14 +69,12 @@ pub(crate) fn parameters<'a>(
     requires { IsMeant (parameters_part (map seen_part parts.old)) }
     ensures { IfOk result (λ part. seen_part part ≡ parameters_part (map seen_part parts.old)) }
 {
-    match (parts.next(), parts.next()) {
-        (Some(Part::Token(_)), None) => Ok(Part::Tokens(Vec::new(alloc))),
-        (Some(Part::Token(name)), Some(Part::Tokens(mut names))) => {
-            names.push(name)?;
-            Ok(Part::Tokens(names))
-        }
-        _ => unreachable!(),
-    }
+    let name = accessors::token(parts);
+    let Some(mut names) = accessors::tokens_or_end(parts) else {
+        return Ok(Part::Tokens(Vec::new(alloc)));
+    };
+    names.push(name)?;
+    Ok(Part::Tokens(names))
 }
 
 // more_parameters = {"," parameter}
@@ -107,14 +85,13 @@ pub(crate) fn more_parameters<'a>(
     requires { IsMeant (more_parameters_part (map seen_part parts.old)) }
     ensures { IfOk result (λ part. seen_part part ≡ more_parameters_part (map seen_part parts.old)) }
 {
-    match (parts.next(), parts.next(), parts.next()) {
-        (None, _, _) => Ok(Part::Tokens(Vec::new(alloc))),
-        (Some(Part::Token(_)), Some(Part::Token(name)), Some(Part::Tokens(mut names))) => {
-            names.push(name)?;
-            Ok(Part::Tokens(names))
-        }
-        _ => unreachable!(),
+    if accessors::token_or_end(parts).is_none() {
+        return Ok(Part::Tokens(Vec::new(alloc)));
     }
+    let name = accessors::token(parts);
+    let mut names = accessors::tokens(parts);
+    names.push(name)?;
+    Ok(Part::Tokens(names))
 }
 
 // parameter = "int" name
@@ -122,10 +99,8 @@ pub(crate) fn parameter<'a>(parts: &mut Body<Part<'a>>) -> Part<'a>
     requires { IsMeant (parameter_part (map seen_part parts.old)) }
     ensures { seen_part result ≡ parameter_part (map seen_part parts.old) }
 {
-    match (parts.next(), parts.next()) {
-        (Some(Part::Token(_)), Some(Part::Token(name))) => Part::Token(name),
-        _ => unreachable!(),
-    }
+    accessors::token(parts);
+    Part::Token(accessors::token(parts))
 }
 
 // local = "int" name ";"
@@ -133,10 +108,8 @@ pub(crate) fn local<'a>(parts: &mut Body<Part<'a>>) -> Part<'a>
     requires { IsMeant (local_part (map seen_part parts.old)) }
     ensures { seen_part result ≡ local_part (map seen_part parts.old) }
 {
-    match (parts.next(), parts.next()) {
-        (Some(Part::Token(_)), Some(Part::Token(name))) => Part::Token(name),
-        _ => unreachable!(),
-    }
+    accessors::token(parts);
+    Part::Token(accessors::token(parts))
 }
 
 // statements = {statement}
@@ -147,14 +120,12 @@ pub(crate) fn statements<'a>(
     requires { IsMeant (statements_part (map seen_part parts.old)) }
     ensures { IfOk result (λ part. seen_part part ≡ statements_part (map seen_part parts.old)) }
 {
-    match (parts.next(), parts.next()) {
-        (None, _) => Ok(Part::Statements(Vec::new(alloc))),
-        (Some(Part::Statement(statement)), Some(Part::Statements(mut statements))) => {
-            statements.push(statement)?;
-            Ok(Part::Statements(statements))
-        }
-        _ => unreachable!(),
-    }
+    let Some(statement) = accessors::statement_or_end(parts) else {
+        return Ok(Part::Statements(Vec::new(alloc)));
+    };
+    let mut statements = accessors::statements(parts);
+    statements.push(statement)?;
+    Ok(Part::Statements(statements))
 }
 
 // condition = name compared
@@ -162,10 +133,8 @@ pub(crate) fn condition<'a>(parts: &mut Body<Part<'a>>) -> Part<'a>
     requires { IsMeant (condition_part (map seen_part parts.old)) }
     ensures { seen_part result ≡ condition_part (map seen_part parts.old) }
 {
-    match (parts.next(), parts.next()) {
-        (Some(Part::Token(name)), Some(Part::Maybe(number))) => Part::Compared(name, number),
-        _ => unreachable!(),
-    }
+    let name = accessors::token(parts);
+    Part::Compared(name, accessors::maybe(parts))
 }
 
 // compared = ["==" number]
@@ -173,11 +142,10 @@ pub(crate) fn compared<'a>(parts: &mut Body<Part<'a>>) -> Part<'a>
     requires { IsMeant (compared_part (map seen_part parts.old)) }
     ensures { seen_part result ≡ compared_part (map seen_part parts.old) }
 {
-    match (parts.next(), parts.next()) {
-        (None, _) => Part::Maybe(None),
-        (Some(Part::Token(_)), Some(Part::Token(number))) => Part::Maybe(Some(number)),
-        _ => unreachable!(),
+    if accessors::token_or_end(parts).is_none() {
+        return Part::Maybe(None);
     }
+    Part::Maybe(Some(accessors::token(parts)))
 }
 
 // item = number | name
@@ -185,10 +153,7 @@ pub(crate) fn item<'a>(parts: &mut Body<Part<'a>>) -> Part<'a>
     requires { IsMeant (item_part (map seen_part parts.old)) }
     ensures { seen_part result ≡ item_part (map seen_part parts.old) }
 {
-    match parts.next() {
-        Some(Part::Token(item)) => Part::Token(item),
-        _ => unreachable!(),
-    }
+    Part::Token(accessors::token(parts))
 }
 
 // tests = ["==" number more_tests]
@@ -196,13 +161,12 @@ pub(crate) fn tests<'a>(parts: &mut Body<Part<'a>>) -> Part<'a>
     requires { IsMeant (tests_part (map seen_part parts.old)) }
     ensures { seen_part result ≡ tests_part (map seen_part parts.old) }
 {
-    match (parts.next(), parts.next(), parts.next()) {
-        (None, _, _) => Part::Behind(None),
-        (Some(Part::Token(_)), Some(Part::Token(number)), Some(Part::Tests(others))) => {
-            Part::Behind(Some(PlacedTests { number, others }))
-        }
-        _ => unreachable!(),
+    if accessors::token_or_end(parts).is_none() {
+        return Part::Behind(None);
     }
+    let number = accessors::token(parts);
+    let others = accessors::tests(parts);
+    Part::Behind(Some(PlacedTests { number, others }))
 }
 
 // more_tests = {"||" test}
@@ -213,35 +177,22 @@ pub(crate) fn more_tests<'a>(
     requires { IsMeant (more_tests_part (map seen_part parts.old)) }
     ensures { IfOk result (λ part. seen_part part ≡ more_tests_part (map seen_part parts.old)) }
 {
-    match (parts.next(), parts.next(), parts.next()) {
-        (None, _, _) => Ok(Part::Tests(Vec::new(alloc))),
-        (Some(Part::Token(_)), Some(Part::Test(test)), Some(Part::Tests(mut tests))) => {
-            tests.push(test)?;
-            Ok(Part::Tests(tests))
-        }
-        _ => unreachable!(),
+    if accessors::token_or_end(parts).is_none() {
+        return Ok(Part::Tests(Vec::new(alloc)));
     }
+    let test = accessors::test(parts);
+    let mut tests = accessors::tests(parts);
+    tests.push(test)?;
+    Ok(Part::Tests(tests))
 }
 
 // test = name "==" number
-#[tactic(auto, using(crate::proofs::ShortBodies::test_in_steps))]
 pub(crate) fn test<'a>(parts: &mut Body<Part<'a>>) -> Part<'a>
     requires { IsMeant (test_part (map seen_part parts.old)) }
     ensures { seen_part result ≡ test_part (map seen_part parts.old) }
 {
-    match (parts.next(), parts.next()) {
-        (Some(Part::Token(name)), Some(Part::Token(_))) => tested_number(name, parts),
-        _ => unreachable!(),
-    }
-}
-
-// What stands behind the `==`.
-fn tested_number<'a>(name: Item<'a>, parts: &mut Body<Part<'a>>) -> Part<'a>
-    requires { IsMeant (tested_part (seen name) (map seen_part parts.old)) }
-    ensures { seen_part result ≡ tested_part (seen name.entry) (map seen_part parts.old) }
-{
-    match parts.next() {
-        Some(Part::Token(number)) => Part::Test(PlacedTest { name, number }),
-        _ => unreachable!(),
-    }
+    let name = accessors::token(parts);
+    accessors::token(parts);
+    let number = accessors::token(parts);
+    Part::Test(PlacedTest { name, number })
 }
