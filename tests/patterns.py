@@ -80,6 +80,8 @@ def of_goal(pattern, program):
     """What the file says of itself, for the numbers of its goal."""
     automaton = program.automaton(text_of(pattern, {}))
     yield from of_words(pattern, automaton)
+    if program.check(text_of(pattern, pattern.least)).valid:
+        yield "with its least number it asks nothing"
     told = " ".join(f"{name} = {value}" for name, value in pattern.numbers.items()).replace(" k", ", k").replace(" m", ", m")
     for field in ("good", "bad"):
         if pattern.fields[field].partition(", where ")[2] != told:
@@ -103,11 +105,16 @@ def of_numbers(pattern, program, numbers, lengths):
     states = states_told(pattern, numbers)
     if states is not None and states != automaton.states:
         yield f"with {told} it has {automaton.states} states, and says {states}"
-    if "short" in pattern.fields and all(1 <= value <= 4 for value in numbers.values()):
-        short = short_of(pattern, numbers)
+
+
+def of_short(pattern, program, most):
+    """The short form says the same for the numbers 1 to `most`."""
+    for values in itertools.product(range(1, most + 1), repeat=len(pattern.numbers)):
+        numbers = dict(zip(pattern.numbers, values))
+        text, short = text_of(pattern, numbers), short_of(pattern, numbers)
         for one, other in ((text, short), (short, text)):
             if program.implies(one, other) is not None:
-                yield f"with {told} the short form says another thing"
+                yield f"with {numbers} the short form says another thing"
 
 
 def states_told(pattern, numbers):
@@ -145,6 +152,8 @@ def check(pattern, program, fast, reach):
     faults = list(of_goal(pattern, program))
     for numbers in choices(pattern, 2 if fast else 4):
         faults += of_numbers(pattern, program, numbers, SHORT if fast else LONG)
+    if "short" in pattern.fields:
+        faults += of_short(pattern, program, 2 if fast else 4)
     return faults + (list(of_reach(pattern, program)) if reach else [])
 
 
