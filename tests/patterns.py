@@ -82,7 +82,7 @@ def of_goal(pattern, program):
     yield from of_words(pattern, automaton)
     if program.check(text_of(pattern, pattern.least)).valid:
         yield "with its least number it asks nothing"
-    told = " ".join(f"{name} = {value}" for name, value in pattern.numbers.items()).replace(" k", ", k").replace(" m", ", m")
+    told = ", ".join(f"{name} = {value}" for name, value in pattern.numbers.items())
     for field in ("good", "bad"):
         if pattern.fields[field].partition(", where ")[2] != told:
             yield f"the numbers of {field} are not those of the goal"
