@@ -14,7 +14,7 @@ from concurrent.futures import ThreadPoolExecutor
 
 ROOT = os.path.dirname(os.path.dirname(os.path.abspath(__file__)))
 sys.path[:0] = [os.path.join(ROOT, "workbench"), os.path.join(ROOT, "tests")]
-from expand import Expansion  # noqa: E402
+from expansion import Expansion  # noqa: E402
 from library import patterns  # noqa: E402
 from pattern_monitors import MONITORS  # noqa: E402
 from program import Program, Refusal  # noqa: E402

@@ -80,7 +80,7 @@ class Source:
         return [token.text for token in self.tokens[first:last]]
 
     def split(self):
-        """The statements as the numbers of their first token and of their `;`. One that is not ended is none."""
+        """The statements as the numbers of their first token and of their `;`."""
         found, first = [], 0
         for at, token in enumerate(self.tokens):
             if token.text == ";":
@@ -88,6 +88,8 @@ class Source:
                 first = at + 1
             elif at > first and self.begins(at) and self.word(first) in FIRST_WORDS:
                 raise self.fault(at, f"a ; is missing before {token.text}")
+        if self.word(first) in FIRST_WORDS:
+            raise self.fault(len(self.tokens), "a ; is missing at the end")
         return found
 
     def begins(self, at):
@@ -191,7 +193,15 @@ class Source:
         if definition.source is self:
             return False
         found = [it for used in self.used for it in used.visible().get(definition.name, ())]
-        return len({tuple(it.source.words(it.first, it.last)) for it in found}) > 1
+        return len({it.source.said(it) for it in found}) > 1
+
+    def said(self, definition):
+        """The words of a macro and of all that it calls."""
+        words, calls = tuple(self.words(definition.first, definition.last)), []
+        for word in words[2:]:
+            called = self.meaning(word, definition.order, definition.parameters)
+            calls += [called.source.said(called)] if called else []
+        return words, tuple(calls)
 
     def quantified(self, first, last):
         return {self.word(at + 1) for at in range(first, last) if self.word(at) in ("ex", "all") and self.word(at + 2) == "."}
