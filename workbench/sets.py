@@ -52,7 +52,9 @@ class Questions:
 
     def __init__(self, program, inputs):
         self.program, self.inputs = program, inputs
-        self.late = set()  # requirements that no behaviour of one instant satisfies: they are judged at the end alone
+        self.late = set()  # requirements that no behaviour of one instant satisfies: they are judged at the end
+        self.alone = {"stuck": set(), "unrealisable": set()}
+        self.unasked = []
 
     def asked(self, question):
         """The answer; where the program refuses the question for a limit, Unanswered."""
@@ -61,32 +63,46 @@ class Questions:
         except Refusal as refusal:
             if refusal.status not in (3, 4):
                 raise
-            raise Unanswered("over the budget" if refusal.over_budget else f"over a limit of the language ({refusal.message})") from None
+            why = "more than 8 outputs" if refusal.message == "fault outputs" else f"over a limit of the language ({refusal.message})"
+            raise Unanswered("over the budget" if refusal.over_budget else why) from None
 
     def of(self, requirements):
-        """The first thing that is not well with all of these together, or None."""
+        """The first thing that is not well with all of these together, or None. Of several it is not asked what one of them has alone."""
         if len(names_of(requirements)) > MOST_NAMES:
-            raise Unanswered(f"{len(names_of(requirements))} names, and {MOST_NAMES} are the most")
+            raise Unanswered(f"more than {MOST_NAMES} names")
         verdict = self.asked(lambda: self.program.check(joined(requirements)))
         members = tuple(requirements)
         if not verdict.satisfiable:
             return Finding("impossible", members)
         if verdict.valid:
             return Finding("always true", members) if len(members) == 1 else None
-        if self.late & set(requirements):
+        if (self.late | self.alone["stuck"]) & set(members):
             return None
-        if not self.asked(lambda: self.program.check(joined(requirements, "pt && {all}"))).satisfiable:
+        finding = self.at_each_instant(members)
+        if len(members) == 1 and finding:
+            self.alone[finding.kind].add(members[0])
+        return finding
+
+    def at_each_instant(self, members):
+        """What is not well where they are kept to from the first instant on."""
+        if not self.asked(lambda: self.program.check(joined(members, "pt && {all}"))).satisfiable:
             if len(members) > 1:
                 return Finding("no first instant", members)
             self.late.update(members)
             return None
-        word = self.asked(lambda: stuck(self.program, requirements))
+        word = self.asked(lambda: stuck(self.program, members))
         if word is not None:
             return Finding("stuck", members, tuple(word))
-        return self.controller(members) if self.inputs else None
+        if not self.inputs or self.alone["unrealisable"] & set(members):
+            return None
+        try:
+            return self.controller(members)
+        except Unanswered as unanswered:
+            self.unasked.append((members, "a controller", str(unanswered)))
+            return None
 
     def controller(self, requirements):
-        """Whether no controller keeps to them; without one of the inputs among their names that is not asked."""
+        """Whether no controller keeps to them."""
         names = names_of(requirements, self.inputs)
         inputs = [name for name in names if name in self.inputs]
         text = joined(requirements, first=self.inputs)
@@ -99,7 +115,7 @@ class Questions:
         """Whether all of the left together imply the right one."""
         names = names_of(list(left) + [right])
         if len(names) > MOST_NAMES:
-            raise Unanswered(f"{len(names)} names, and {MOST_NAMES} are the most")
+            raise Unanswered(f"more than {MOST_NAMES} names")
         return self.asked(lambda: self.program.implies(joined(left, names=names), joined([right], names=names))) is None
 
 
@@ -125,7 +141,7 @@ class Survey:
             answers.alone[it] = Finding("fault", (it,)) if it.fault is not None else None
         for it, finding in zip(good, self.pool.map(self.one, good)):
             answers.alone[it] = finding
-        sound = [it for it in good if answers.alone[it] is None]
+        sound = [it for it in good if answers.alone[it] is None or answers.alone[it].kind in ("stuck", "unrealisable")]
         answers.pairs = [(a, b) for place, a in enumerate(sound) for b in sound[place + 1:] if set(a.variables) & set(b.variables)]
         for found in self.pool.map(self.pair, answers.pairs):
             answers.findings += found
@@ -135,6 +151,7 @@ class Survey:
         for found in self.pool.map(self.following, [group for group in answers.groups if len(group) > 2]):
             answers.implied += found
         answers.late = self.questions.late
+        answers.unasked += self.questions.unasked
         order = answers.requirements.index
         answers.findings.sort(key=lambda it: (len(it.members), [order(member) for member in it.members]))
         return answers

@@ -83,7 +83,14 @@ def grouped(answers):
 
 
 def unasked_lines(answers):
-    return [f"{spoken(members)}, {what}: {why}" for members, what, why in answers.unasked]
+    """What could not be asked. Those that could not join the same group for the same reason stand in one line."""
+    lines, groups = [], {}
+    for members, what, why in answers.unasked:
+        if what == "together" and len(members) > 1:
+            groups.setdefault((members[:-1], why), []).append(members[-1])
+        else:
+            lines.append(f"{spoken(members)}, {what}: {why}")
+    return [f"{spoken(group)} together with {spoken(others, 'or')}: {why}" for (group, why), others in groups.items()] + lines
 
 
 def print_report(answers, runs, seconds):
