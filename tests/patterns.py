@@ -128,24 +128,31 @@ def states_told(pattern, numbers):
     return eval(python, {}, numbers)
 
 
+def is_within(program, text):
+    try:
+        program.check(text)
+        return True
+    except Refusal as refusal:
+        if not refusal.over_budget:
+            raise
+        return False
+
+
 def of_reach(pattern, program):
-    """How far the number goes in the default budget: there, and not much further."""
-    match = re.search(r"within the default budget to (\w) = (\d+)", pattern.fields["reach"])
+    """How far the number goes in the default budget, and that of the short form: there, and not much further."""
+    match = re.search(r"within the default budget to (\w) = (\d+)(?:, the short form to (\d+))?", pattern.fields["reach"])
     if not match:
         return
-    name, last = match.group(1), int(match.group(2))
-    other = re.search(r"with (\w) = (.*?)[;]", pattern.fields["reach"])
-    for value, wanted in ((last, True),) + (((last + max(2, last // 50), False),) if last < 9990 else ()):
-        numbers = {name: value}
-        if other:
-            numbers[other.group(1)] = eval(other.group(2), {}, numbers)
-        try:
-            program.check(text_of(pattern, numbers))
-            there = True
-        except Refusal as refusal:
-            there = not refusal.over_budget
-        if there != wanted:
-            yield f"{name} = {value} is {'within' if there else 'over'} the budget"
+    name, other = match.group(1), re.search(r"with (\w) = (.*?);", pattern.fields["reach"])
+    for form, last, text in (("it", match.group(2), text_of), ("the short form", match.group(3), short_of)):
+        last = int(last or 0)
+        tried = ([(last, True)] if last else []) + ([(last + max(1, last // 50), False)] if 0 < last < 9990 else [])
+        for value, wanted in tried:
+            numbers = {name: value, **({other.group(1): eval(other.group(2), {}, {name: value})} if other else {})}
+            if set(numbers) != set(pattern.numbers):
+                numbers.update({it: value for it in pattern.numbers if it not in numbers})
+            if is_within(program, text(pattern, numbers)) != wanted:
+                yield f"{form} is {'over' if wanted else 'within'} the budget with {numbers}"
 
 
 def check(pattern, program, fast, reach):

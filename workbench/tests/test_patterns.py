@@ -10,8 +10,8 @@ import library  # noqa: E402
 import patterns as checks  # noqa: E402
 from program import Program  # noqa: E402
 
-RESPONSE = """// Each p at an instant i with n instants or more after it is followed by a q at one of the instants i to i + n (its
-// own instant counts; n + 1 instants in all).
+RESPONSE = """// Each p at an instant i with n instants or more after it is followed by a q at one of the instants i to i+n (its own
+// instant counts; n + 1 instants in all).
 // At the end: once broken, it stays broken; a p with fewer than n instants after it is let pass.
 // bounded_response_ended judges these too.
 // Here p is ask && !off, q is served || off, n is 100.
