@@ -20,7 +20,8 @@ def listing(found):
             lines += ["", HEADS[group]]
         lines.append(f"  {call_of(it)}")
         lines += textwrap.wrap(it.fields["sentence"], width, initial_indent="      ", subsequent_indent="      ")
-    return lines[1:] + ["", "./ask patterns NAME says more of one: its end, behaviours, how far its numbers go, synthesis. ./ask pattern NAME makes a requirement of it."]
+    return lines[1:] + ["", "./ask patterns NAME says more of one: its end, behaviours, how far its numbers go, synthesis.",
+                    "./ask pattern NAME makes a requirement of it."]
 
 
 def whole(pattern):

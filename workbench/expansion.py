@@ -210,7 +210,8 @@ class Expansion:
             if used and source.word(first) in ("define", "prop", "infer"):
                 self.pieces += self.written(used)
                 used = []
-            copies = self.written(it for it in self.copies.values() if it.definition.source is source and it.definition.first == first and it.definition.numeric)
+            copies = self.written(it for it in self.copies.values()
+                                  if it.definition.source is source and it.definition.first == first and it.definition.numeric)
             if copies:
                 self.pieces += copies[:-1] + [copies[-1]._replace(thing=";")]
             end = source.tokens[last].end

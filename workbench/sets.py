@@ -154,6 +154,7 @@ class Survey:
         answers.unasked += self.questions.unasked
         order = answers.requirements.index
         answers.findings.sort(key=lambda it: (len(it.members), [order(member) for member in it.members]))
+        answers.implied.sort(key=lambda it: (len(it[0]), [order(member) for member in it[0]], order(it[1])))
         return answers
 
     def one(self, requirement):
@@ -204,7 +205,8 @@ class Survey:
         if len(together) == 2:
             return True
         failed = len(self.answers.unasked)
-        finding = self.ask(together, "together", lambda: self.questions.of(together))
+        in_order = sorted(together, key=self.answers.requirements.index)
+        finding = self.ask(together, "together", lambda: self.questions.of(in_order))
         if finding is not None:
             self.answers.findings.append(self.smallest(finding))
         return finding is None and len(self.answers.unasked) == failed

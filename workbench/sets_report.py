@@ -90,7 +90,7 @@ def unasked_lines(answers):
             groups.setdefault((members[:-1], why), []).append(members[-1])
         else:
             lines.append(f"{spoken(members)}, {what}: {why}")
-    return [f"{spoken(group)} together with {spoken(others, 'or')}: {why}" for (group, why), others in groups.items()] + lines
+    return [f"{spoken(group)} together with {spoken(others, 'or')}: {why}" for (group, why), others in groups.items()] + list(dict.fromkeys(lines))
 
 
 def print_report(answers, runs, seconds):
