@@ -224,13 +224,18 @@ class Survey:
         return finding
 
     def following(self, group):
-        """Which requirements of a group follow from the others, and from no single one."""
+        """Which requirements of a group follow from others together, and from no single one; each with a smallest part that implies it."""
         found = []
-        told = {right for left, right in self.answers.implied}
+        told = {right for _, right in self.answers.implied}
         for it in group:
-            others = [other for other in group if other is not it]
-            if it not in told and self.ask(group, f"what implies {it.name}", lambda: self.questions.follows(others, it)):
-                found.append((tuple(others), it))
+            left = [other for other in group if other is not it]
+            if it in told or not self.ask(group, f"what implies {it.name}", lambda: self.questions.follows(left, it)):
+                continue
+            for other in list(left):
+                fewer = [one for one in left if one is not other]
+                if fewer and self.ask(fewer + [it], f"what implies {it.name}", lambda: self.questions.follows(fewer, it)):
+                    left = fewer
+            found.append((tuple(left), it))
         return found
 
 
