@@ -232,7 +232,7 @@ class Source:
         return found
 
     def operand_end(self, at, last):
-        """Where the proposition behind scount or sdur ends."""
+        """Where the proposition after scount or sdur ends."""
         while self.word(at) in ("!", "-", "+"):
             at += 1
         if self.word(at) != "(":
@@ -243,7 +243,7 @@ class Source:
         return at
 
     def number_places(self, first, last):
-        """Where numbers stand behind slen, scount and sdur: the first token of each, and the end."""
+        """Where numbers stand after slen, scount and sdur: the first token of each, and the end."""
         found = {}
         for at in range(first, last):
             if self.word(at) in ("slen", "scount", "sdur"):

@@ -39,7 +39,7 @@ PAIRS = (
      "infer a_name_of_24_characte_12 || a_name_of_24_charact_345;\n"),
     ("constants of a used file", 'use "limits.dc";\nvar p;\ninfer []([[p]] => slen < limit - 1);\n', "var p;\ninfer []([[p]] => slen < 29);\n"),
     ("statements in one line", "const n = 3; var p; infer slen = n;", "var p; infer slen = 3;"),
-    ("blanks, a star behind a number, and comments stay",
+    ("blanks, a star after a number, and comments stay",
      "var  p ;\r\n\r\n  // of (n + 1)\r\ninfer  (slen = 2) * ^ slen = 3* ;\r\n", "var  p ;\r\n\r\n  // of (n + 1)\r\ninfer  (slen = 2) * ^ slen = 3* ;\r\n"),
 )
 

@@ -2,6 +2,7 @@
 import os
 import sys
 import unittest
+from concurrent.futures import ThreadPoolExecutor
 
 from support import PROGRAM, ROOT, needs_program, run
 
@@ -41,10 +42,11 @@ class Files(unittest.TestCase):
 @needs_program
 class Patterns(unittest.TestCase):
     def test_words_and_what_they_say_of_the_end_and_of_synthesis(self):
-        program = Program(PROGRAM)
-        for pattern in library.patterns():
-            with self.subTest(pattern.name):
-                self.assertEqual(list(checks.of_goal(pattern, program)), [])
+        program, found = Program(PROGRAM), library.patterns()
+        with ThreadPoolExecutor(4) as pool:
+            for pattern, faults in zip(found, pool.map(lambda it: list(checks.of_goal(it, program)), found)):
+                with self.subTest(pattern.name):
+                    self.assertEqual(faults, [])
 
     def test_a_requirement(self):
         status, out, err = run("ask", "pattern", "bounded_response", "--p", "ask && !off", "--q", "served || off", "--n", "100")
