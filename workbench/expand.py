@@ -20,7 +20,8 @@ def program_fault_lines(expansion, fault):
     """The lines for a fault that the program tells of the new text, at its place in the source."""
     piece, place = expansion.origin(fault.place)
     spot = Spot(piece.source.text, place)
-    lines = [f"{piece.source.shown}:{spot.row}:{spot.column}: fault {fault.kind}", *spot.pointed(), *hints.of_fault(fault.kind, spot)]
+    end = ", at the end of the text" if spot.at_end else ""
+    lines = [f"{piece.source.shown}:{spot.row}:{spot.column}: fault {fault.kind}{end}", *spot.pointed(), *hints.of_fault(fault.kind, spot)]
     if piece.copy is not None and (piece.copy.numbers or piece.source is not expansion.main):
         lines.append(f"  That is {piece.copy.told()}.")
     return lines

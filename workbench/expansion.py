@@ -197,7 +197,7 @@ class Expansion:
         found = []
         for copy in copies:
             source, last = copy.definition.source, copy.definition.last
-            found += self.head(copy) + copy.pieces + [Piece(";\n", source, source.tokens[last].start, False, copy)]
+            found += self.head(copy) + copy.pieces + [Piece(source.word(last) + "\n", source, source.tokens[last].start, False, copy)]
         return found
 
     # ---- the whole
@@ -213,10 +213,10 @@ class Expansion:
             copies = self.written(it for it in self.copies.values()
                                   if it.definition.source is source and it.definition.first == first and it.definition.numeric)
             if copies:
-                self.pieces += copies[:-1] + [copies[-1]._replace(thing=";")]
+                self.pieces += copies[:-1] + [copies[-1]._replace(thing=source.word(last))]
             end = source.tokens[last].end
             if bodies[first]:
-                self.pieces += bodies[first] + [Piece(";", source, end - 1, True, None)]
+                self.pieces += bodies[first] + [Piece(source.word(last), source, source.tokens[last].start, True, None)]
             gone = not copies and not bodies[first]
         self.blank(end, len(source.text), gone)
 

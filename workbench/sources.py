@@ -41,7 +41,7 @@ class Definition:
 
 
 def is_name(word):
-    return word[0].isalpha() and word not in RESERVED
+    return word[:1].isalpha() and word not in RESERVED
 
 
 class Source:
@@ -80,17 +80,29 @@ class Source:
         return [token.text for token in self.tokens[first:last]]
 
     def split(self):
-        """The statements as the numbers of their first token and of their `;`."""
-        found, first = [], 0
-        for at, token in enumerate(self.tokens):
-            if token.text == ";":
+        """The statements as the numbers of their first token and of their `;`. Where it is missing an empty token stands for it,
+        and the program tells the fault; but const and use, which it does not know, have to end."""
+        found, first, at = [], 0, 0
+        while at < len(self.tokens):
+            if at > first and self.begins(at) and self.word(first) in FIRST_WORDS:
+                if "const" in (self.word(first), self.word(at)) or "use" in (self.word(first), self.word(at)):
+                    raise self.fault(at, f"a ; is missing before {self.word(at)}")
+                self.tokens.insert(at, self.nothing(at))
+            if self.word(at) in (";", ""):
                 found.append((first, at))
                 first = at + 1
-            elif at > first and self.begins(at) and self.word(first) in FIRST_WORDS:
-                raise self.fault(at, f"a ; is missing before {token.text}")
+            at += 1
+        if self.word(first) in ("const", "use"):
+            raise self.fault(at, "a ; is missing at the end")
         if self.word(first) in FIRST_WORDS:
-            raise self.fault(len(self.tokens), "a ; is missing at the end")
+            self.tokens.append(self.nothing(at))
+            found.append((first, at))
         return found
+
+    def nothing(self, at):
+        """An empty token after the one before `at`."""
+        end = self.tokens[at - 1].end
+        return Token("", end, end)
 
     def begins(self, at):
         word, after = self.word(at), self.words(at + 1, at + 3)
@@ -232,11 +244,13 @@ class Source:
         return found
 
     def operand_end(self, at, last):
-        """Where the proposition after scount or sdur ends."""
+        """Where the proposition after scount or sdur ends; at `last` where there is none."""
         while self.word(at) in ("!", "-", "+"):
             at += 1
-        if self.word(at) != "(":
+        if is_name(self.word(at)) or self.word(at) in ("true", "false"):
             at += 1
+        elif self.word(at) != "(":
+            return last
         if self.word(at) == "(":
             close = self.closing(at, last)
             return last if close is None else close + 1
