@@ -173,11 +173,11 @@ class Expansion:
         return self.copies[key]
 
     def statement(self, order, first, last):
-        """The pieces of a statement of the file itself; a macro with numbers is written by its copies."""
+        """The pieces of a statement of the file itself; None where nothing is left of it, or its copies are written for it."""
         source, word = self.main, self.main.word(first)
         definition = next((it for it in source.definitions if it.first == first), None)
         if word in ("use", "const") or definition and definition.numeric:
-            return []
+            return None
         copy = self.copy(definition, ()) if definition else None
         begin = definition.body if definition else first
         head = source.text[source.tokens[first].start:source.tokens[begin].start]
@@ -215,9 +215,9 @@ class Expansion:
             if copies:
                 self.pieces += copies[:-1] + [copies[-1]._replace(thing=source.word(last))]
             end = source.tokens[last].end
-            if bodies[first]:
+            if bodies[first] is not None:
                 self.pieces += bodies[first] + [Piece(source.word(last), source, source.tokens[last].start, True, None)]
-            gone = not copies and not bodies[first]
+            gone = not copies and bodies[first] is None
         self.blank(end, len(source.text), gone)
 
     def blank(self, start, end, gone):

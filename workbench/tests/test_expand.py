@@ -73,6 +73,7 @@ FAULTS = (
     ("const hours = 1000;\nvar p;\ninfer slen = hours && [p p];\n", "3:26: fault syntax"),
     ("const n = 3;\nvar p;\ndefine f(q, n) as\n  [[q r]] && slen = n;\ninfer f(p, n) && f(p, 4);\n", "4:7: fault syntax"),
     ("const n = 3;\nvar p;\ninfer slen = n\n", "3:15: fault syntax, at the end of the text"),
+    ("const n = 3;\nvar p;;\ninfer slen = n;\n", "2:7: fault syntax"),
     ("const n = 3", "1:12: a ; is missing at the end"),
     ("const n = 3\nvar p; infer <p>;", "2:1: a ; is missing before var"),
     ("const n = 3;\nvar p;\ndefine f as [[p r]]\ninfer f && slen = n;\n", "3:17: fault syntax"),
