@@ -36,6 +36,10 @@ ASK = (
     Command("tests", "FILE", "a test suite that tells the requirement from every other of as many states"),
     Command("watch", "FILE LOG", "a log in CSV or VCD against a requirement, by the names of its variables"),
     Command("tables", "FILE", "an observer as C tables for embedded use"),
+    Command("patterns", "[NAME]", "the patterns of requirements with their sentences, or one of them in full"),
+    Command("pattern", "NAME ..", "a requirement made from a pattern, its propositions and its numbers"),
+    Command("expand", "FILE", "a file with constants, sums, numbers as arguments and use, as a file of the language"),
+    Command("set", "FILE ..", "several requirements together: contradictions, where they get stuck, what follows from the others"),
 )
 
 PROGRAM = (
@@ -55,7 +59,7 @@ PROGRAM = (
 )
 
 # Commands whose module has another name.
-MODULES = {"tests": "suite"}
+MODULES = {"tests": "suite", "patterns": "catalogue", "set": "sets"}
 
 
 def listing():

@@ -5,9 +5,10 @@ FORMULAS = ("slen", "scount", "sdur", "pt", "ext", "<", "[", "[[", "<>", "[]", "
 
 # Hints at a syntax fault: each is asked in turn of the text behind (`rest`), the token there (`word`) and the text in front (`ahead`).
 SYNTAX = (
+    (lambda rest, word, ahead: re.match(r'const\s+\w+\s*=|use\s+"', rest), "const and use are for ./ask expand, which writes a file of the language."),
     (lambda rest, word, ahead: rest.startswith("->"), 'Write => for "implies".'),
     (lambda rest, word, ahead: word in "+-" and not re.search(r"(^|\W)(infer|as)$|[(\]>})]$", ahead),
-     "There is no arithmetic, and no - in names: write _ there. In brackets -p is p one instant earlier and +p one later, as in [[-p]]."),
+     "There is no arithmetic (./ask expand writes out sums), and no - in names: write _ there. In brackets -p is p one instant earlier and +p one later, as in [[-p]]."),
     (lambda rest, word, ahead: re.search(r"infer(\W.*)?;$", ahead, re.A), "A file has one goal, and nothing behind it."),
     (lambda rest, word, ahead: word in ("=>", "=") and re.search(r"\b(slen|(scount|sdur)\s+\S+)$", ahead) and rest[:2] in ("=>", "=<"),
      'The relation "at least" is written >=, and "at most" <=.'),
@@ -18,7 +19,8 @@ SYNTAX = (
      "A count is written scount p >= 2, and slen >= 2 has no proposition."),
     (lambda rest, word, ahead: re.search(r"(scount|sdur)[ \t]+[A-Za-z0-9_!]+$", ahead),
      "A proposition with operators needs parentheses there: scount (p && q) >= 2."),
-    (lambda rest, word, ahead: re.search(r"(slen|scount\s.*|sdur\s.*)(<|>|=)$", ahead) and word[:1].isalpha(), "A count is compared with a number alone."),
+    (lambda rest, word, ahead: re.search(r"(slen|scount\s.*|sdur\s.*)(<|>|=)$", ahead) and word[:1].isalpha(),
+     "A count is compared with a number alone; ./ask expand writes out constants and sums."),
     (lambda rest, word, ahead: re.search(r"(\]|\}\}|>|\)|\bpt|\bext|\btrue|\bfalse|[0-9])$", ahead) and word in ("[", "[[", "<", "{{", "(", "[]", "<>", "!"),
      "Between two formulas stands an operator: D ^ E is first D and then E, and D && E is both on the same interval."),
     (lambda rest, word, ahead: word in ("var", "define", "prop"), "Variables come first, then macros, then the goal."),

@@ -116,6 +116,15 @@ def parse(text):
     return _Parser(text).file()
 
 
+def parse_proposition(text):
+    """The proposition that a text is, as an argument of a macro would be."""
+    parser = _Parser(text)
+    tree = parser.proposition()
+    if parser.peek() is not None:
+        raise Fault(parser.place(), "a token after the proposition")
+    return tree
+
+
 class _Parser:
     def __init__(self, text):
         self.tokens = tokens(text)

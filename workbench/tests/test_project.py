@@ -57,6 +57,14 @@ class Project(WithFolder):
             self.assertNotEqual(self.make("check")[0], 0)
             self.assertFalse(self.made("slip.verdict"))
 
+    def test_requirements_that_get_stuck_together(self):
+        self.put("requirements/long.dc", "var motor; infer !((pt || true ^ {{!motor}}) ^ ([motor] ^ <!motor> && slen < 70) ^ true);")
+        self.put("requirements/dry.dc", "var motor, oil; infer [[motor => !oil]];")
+        status, out = self.make("build/set.xml")
+        self.assertNotEqual(status, 0)
+        self.assertRegex(out, r"dry, long and oil get stuck together")
+        self.assertFalse(self.made("set.xml"))
+
     def test_a_promise_that_is_not_enough(self):
         self.put("requirements/guard_strict.dc", "var guard_closed, motor; infer []([[motor && !guard_closed]] => slen < 4);")
         status, out = self.make("check")

@@ -1,0 +1,91 @@
+"""Several requirements in one file: joined by the names of their variables, with their macros renamed apart."""
+import os
+from dataclasses import dataclass, replace
+from typing import List
+
+from language import File, parse
+from writing import to_text
+
+MOST_NAMES = 16
+
+
+@dataclass(eq=False)
+class Requirement:
+    """A file of the set: its name in the table, and its text in the language (None where it has a fault, which `fault` tells in lines)."""
+
+    name: str
+    path: str
+    text: str = None
+    fault: List[str] = None
+    file: File = None
+
+    @property
+    def variables(self):
+        return self.file.variables if self.file else ()
+
+
+def named(paths):
+    """Each path with a name for the table: the file's own where no other has it."""
+    short = [os.path.basename(path)[:-3] if path.endswith(".dc") else os.path.basename(path) for path in paths]
+    return [(name if short.count(name) == 1 else path, path) for name, path in zip(short, paths)]
+
+
+def names_of(requirements, first=()):
+    """The variables of all, each once; those of `first` that occur stand in front."""
+    found = dict.fromkeys(name for it in requirements for name in it.variables)
+    return [name for name in first if name in found] + [name for name in found if name not in first]
+
+
+def words_of(requirements):
+    """All names that occur in the requirements, but those of macros."""
+    found = set()
+    for it in requirements:
+        found.update(it.file.variables)
+        for tree in [it.file.goal] + [macro.body for macro in it.file.macros.values()]:
+            found.update(part.value for part in tree.walk() if part.kind in ("name", "ex", "all"))
+        for macro in it.file.macros.values():
+            found.update(macro.parameters)
+    return found
+
+
+def fresh_prefix(requirements, letter):
+    """A prefix that no name of the requirements begins with."""
+    words, prefix = words_of(requirements), letter
+    while any(word.startswith(prefix) for word in words):
+        prefix += letter
+    return prefix
+
+
+def renamed(tree, names):
+    """A tree whose calls of macros have their new names."""
+    value = names.get(tree.value, tree.value) if tree.kind in ("name", "call") else tree.value
+    return replace(tree, value=value, parts=tuple(renamed(part, names) for part in tree.parts))
+
+
+def macro_lines(requirement, prefix, number):
+    """The macros of a requirement with names of their own, and its goal as the macro PREFIX + number."""
+    names = {name: f"{prefix}{number}_{place}" for place, name in enumerate(requirement.file.macros)}
+    for macro in requirement.file.macros.values():
+        parameters = f"({', '.join(macro.parameters)})" if macro.parameters else ""
+        yield f"{macro.kind} {names[macro.name]}{parameters} as {to_text(renamed(macro.body, names))};"
+    yield f"define {prefix}{number} as {to_text(renamed(requirement.file.goal, names))};"
+
+
+def joined(requirements, goal="{all}", names=None, first=()):
+    """A file about several requirements. In the goal `{all}` stands for all of them together; `names` may declare more variables."""
+    prefix = fresh_prefix(requirements, "r")
+    declared = names if names is not None else names_of(requirements, first)
+    lines = [f"var {', '.join(declared)};"] if declared else []
+    for number, it in enumerate(requirements):
+        lines += macro_lines(it, prefix, number)
+    together = " && ".join(f"{prefix}{number}" for number in range(len(requirements)))
+    return "\n".join(lines + [f"infer {goal.replace('{all}', f'({together})')};", ""])
+
+
+def read_requirement(name, path, expanded):
+    """A requirement of the set; `expanded(path)` gives the text in the language and the lines of a fault, one of both None."""
+    try:
+        text, fault = expanded(path)
+    except OSError as error:
+        text, fault = None, [f"{path}: {error.strerror}"]
+    return Requirement(name, path, text, fault, parse(text) if text is not None else None)
