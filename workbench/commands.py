@@ -36,6 +36,7 @@ ASK = (
     Command("tests", "FILE", "a test suite that tells the requirement from every other of as many states"),
     Command("watch", "FILE LOG", "a log in CSV or VCD against a requirement, by the names of its variables"),
     Command("tables", "FILE", "an observer as C tables for embedded use"),
+    Command("verify", "FILE", "the program's answers checked step by step, by a script that trusts neither its proofs nor its compiler"),
 )
 
 PROGRAM = (

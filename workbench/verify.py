@@ -1,0 +1,340 @@
+"""`verify`: the program's answers checked one by one, from what it prints of each part of a formula. `verify_meaning` says what each form means.
+
+Of each part the program prints an automaton, which is compared with the machine that the part's form makes of the automata of its operands:
+so it accepts what the part means, since theirs do. How a part is asked for needs no trust: what is compared is gone on with, and nothing else.
+"""
+import re
+import sys
+from dataclasses import replace
+from functools import lru_cache
+from itertools import groupby
+
+import verify_meaning as meaning
+from language import BRACKETS, LISTS, PREFIXES, Fault, Tree, parse, read_text
+from program import Refusal
+import verify_units as units
+from verify_meaning import Automaton, Choice, Difference, Wrong, choice, compare, insist
+
+QUANTIFIED = 1000  # the variable of a quantifier that stands in n others is QUANTIFIED + n
+MOST_NAMES = 16
+
+
+class Cannot(Exception):
+    """What is asked is beyond this check."""
+
+
+# ---- a file as a tree without macros
+
+
+class Meant:
+    """`tree` is the goal with each macro's body in the place of its call, and variables in the place of names. What -P and +P are at an
+    instant is said by variables behind the declared ones; `looks` has them."""
+
+    def __init__(self, text):
+        self.file = parse(text)
+        self.names = self.file.variables
+        self.declared = {name: Tree("name", (), variable) for variable, name in enumerate(self.names)}
+        self.looks = {}
+        self.tree = self.meant(self.file.goal, self.declared, 0)
+        self.letter = next(letter for letter in "abcdefghijklmnopq" if not any(name.startswith(letter) for name in self.names))
+
+    def meant(self, tree, scope, depth):
+        kind, value = tree.kind, tree.value
+        if kind in ("name", "call") and value in scope:
+            return scope[value]
+        if kind in ("ex", "all"):
+            value, depth = QUANTIFIED + depth, depth + 1
+            scope = {**scope, tree.value: Tree("name", (), value)}
+        parts = tuple(self.meant(part, scope, depth) for part in tree.parts)
+        if kind in ("name", "call"):
+            macro = self.file.macros[value]
+            return self.meant(macro.body, {**self.declared, **dict(zip(macro.parameters, parts))}, depth)
+        if kind in ("prior", "next"):
+            return Tree("name", (), self.looks.setdefault((kind, parts[0]), len(self.names) + len(self.looks)))
+        return replace(tree, parts=parts, value=value)
+
+    def name(self, variable):
+        return self.names[variable] if variable < len(self.names) else f"{self.letter}{variable}"
+
+    def used_looks(self):
+        """The automata of the looks that the tree depends on; one may look at another that was there before it."""
+        used, found = variables_of(self.tree), []
+        for (kind, proposition), variable in reversed(self.looks.items()):
+            if variable in used:
+                used |= variables_of(proposition)
+                found.append(meaning.look(kind, proposition, variable))
+        return found
+
+    def file_of(self, tree):
+        """A file that asks for a part, and its variables."""
+        variables = sorted(variables_of(tree))
+        if len(variables) > MOST_NAMES:
+            raise Cannot(f"a part has {len(variables)} names, those of quantifiers and of - and + counted, and the program takes {MOST_NAMES}")
+        declared = f"var {', '.join(map(self.name, variables))}; " if variables else ""
+        return f"{declared}infer {self.written(tree)};\n", variables
+
+    def written(self, tree):
+        """A tree as text, each operand that has operators in parentheses."""
+        kind, value = tree.kind, tree.value
+        if kind == "name":
+            return self.name(value)
+        parts = [self.written(part) if part.kind in ("name", *meaning.ATOMS) else f"({self.written(part)})" for part in tree.parts]
+        if kind in BRACKETS:
+            return self.written(tree.parts[0]).join(BRACKETS[kind])
+        if kind in ("slen", "scount", "sdur"):
+            return " ".join([kind, *parts, value[0], str(value[1])])
+        if kind in ("ex", "all"):
+            return f"{kind} {self.name(value)}. {parts[0]}"
+        if kind in LISTS or kind in ("implies", "p_implies"):
+            return f" {LISTS.get(kind, '=>')} ".join(parts)
+        return PREFIXES.get(kind, "") + "".join(parts) + "*" * (kind == "star") if parts else kind.replace("p_", "")
+
+
+@lru_cache(maxsize=None)
+def variables_of(tree):
+    """The variables that a tree depends on."""
+    found = frozenset().union(*map(variables_of, tree.parts))
+    return found | {tree.value} if tree.kind == "name" else found - {tree.value} if tree.kind in ("ex", "all") else found
+
+
+# ---- the text of an automaton
+
+TEXT = re.compile(r"automaton [12]\nvariables (.*)\nstates (\d+)\n((?:node .*\n)*)((?:state .*\n)*)((?:access .*\n)*)((?:suffix .*\n)*)"
+                  r"(?:steps \d+\n(?:step \d+ at \d+ states \d+ nodes \d+\n)*)?end\n")
+LINES = (r"node n(\d+) (\S+) \? ([nt])(\d+) : ([nt])(\d+)", r"state (\d+) (accept|reject) ([nt])(\d+)",
+         r"access (\d+) (empty|start|\d+) ?(|-|[01]+)", r"suffix (\d+) (empty|-|[01]+) ?(\d*)")
+
+
+class Printed:
+    """An automaton, and the words of its text: an access word for each state, and suffixes."""
+
+    def __init__(self, text, names, variables):
+        match = TEXT.fullmatch(text)
+        insist(match and match[1] == (" ".join(names) or "-"), "its text is none of an automaton with these names")
+        nodes, states, self.access, self.suffixes = (self.section(*section) for section in zip(match.groups()[2:], LINES))
+        self.states, self.nodes = len(states), []
+        for name, *ends in nodes:
+            variable, ends = variables[names.index(name)], (self.diagram(*ends[:2]), self.diagram(*ends[2:]))
+            insist(variable < meaning.first_of(ends), "in its text a node comes behind one of a later variable")
+            self.nodes.append(choice(variable, *ends))
+        self.automaton = Automaton([word == "accept" for word, *_ in states], [self.diagram(*row) for _, *row in states])
+        insist(0 < self.states == len(self.access) == int(match[2]), "its text has another number of states than it says")
+
+    def section(self, text, pattern):
+        """What stands in the lines of a section, which are numbered from 0."""
+        found = [re.fullmatch(pattern, line) for line in text.splitlines()]
+        insist(all(match and int(match[1]) == number for number, match in enumerate(found)), "a line of its text is wrong or out of order")
+        return [match.groups()[1:] for match in found]
+
+    def diagram(self, letter, number):
+        insist(int(number) < (len(self.nodes) if letter == "n" else self.states), f"in its text {letter}{number} is not there")
+        return self.nodes[int(number)] if letter == "n" else int(number)
+
+    def check_minimal(self, width):
+        """Each access word leads to its state, and of each two some suffix behind both tells them apart, both then being words of a letter or more."""
+        rows, empty = self.automaton.rows, self.access[0][0] == "empty"
+        letters = {letter for _, letter in self.access if letter} | {letter for letter, _ in self.suffixes if letter != "empty"}
+        insist(all(len(letter.strip("-")) == width for letter in letters), "a letter of its words has another number of digits")
+        nexts = {letter: [follow(row, letter) for row in rows] for letter in letters}
+        for state, (before, letter) in enumerate(self.access):
+            place = 0 if before in ("empty", "start") else int(before)
+            right = state == 0 and not letter if before == "empty" else letter and nexts[letter][place % self.states] == state
+            right = right and (before in ("empty", "start") or 0 < place < (state or self.states))
+            insist(right, f"the access word of state {state} does not lead there")
+        groups, rivals, ends = [list(range(empty, self.states))], set(range(1, self.states if empty else 1)), []
+        for number, (letter, rest) in enumerate(self.suffixes):
+            insist((letter == "empty") == (number == 0) and int(rest or -1) < number, f"suffix {number} is none")
+            ends.append(bytes(self.automaton.accept if number == 0 else map(ends[int(rest)].__getitem__, nexts[letter])))
+            groups = [part for group in groups for good in (0, 1) for part in [[state for state in group if ends[-1][state] == good]] if part[1:]]
+            rivals = {state for state in rivals if number == 0 or ends[-1][state] == ends[-1][0]}
+        insist(not rivals, f"no suffix tells states 0 and {min(rivals, default=0)} apart")
+        together = [group for group in groups if len(group) > 1]
+        insist(not together, f"no suffix tells states {together and together[0][:2]} apart")
+
+
+def follow(diagram, letter):
+    while type(diagram) is Choice:
+        diagram = diagram.high if letter[diagram.variable] == "1" else diagram.low
+    return diagram
+
+
+# ---- the check of a file
+
+
+class Check:
+    """`automaton`, as the program prints it, accepts what the file means once `check_parts` has passed."""
+
+    def __init__(self, program, path):
+        self.program, self.text, self.known, self.pairs = program, read_text(path), {}, 0
+        output = program.ask("automaton", self.text).output
+        try:
+            self.meant = Meant(self.text)
+        except (Fault, KeyError) as fault:
+            raise Wrong(f"the program takes this text, and the parser does not: {fault}")
+        self.names, self.variables = self.meant.names, range(len(self.meant.names))
+        self.printed = self.read(output, self.variables, "the file")
+        self.automaton = self.printed.automaton
+
+    def read(self, output, variables, what):
+        try:
+            return Printed(output, list(map(self.meant.name, variables)), variables)
+        except Wrong as wrong:
+            raise Wrong(f"the automaton of {what}: {wrong}")
+
+    def check_parts(self):
+        looks = self.meant.used_looks()
+        machine = meaning.quantified(any, len(self.names), self.part(self.meant.tree), *looks) if looks else self.machine(self.meant.tree)
+        self.same(machine, self.automaton, "the automaton of the file", self.variables)
+
+    def part(self, tree):
+        """The automaton of a part, checked."""
+        if tree not in self.known:
+            machine, (text, variables) = self.machine(tree), self.meant.file_of(tree)
+            try:
+                output = self.program.ask("automaton", text).output
+            except Refusal as refusal:
+                raise Cannot(f"the program refuses a part: {refusal.message}\n  {text.strip()}")
+            what = f"a part of line {self.text.count(chr(10), 0, tree.start) + 1}, asked as\n  {text.strip()}\n "
+            automaton = self.read(output, variables, what).automaton
+            self.same(machine, automaton, f"the automaton of {what}", variables)
+            self.known[tree] = automaton
+        return self.known[tree]
+
+    def machine(self, tree):
+        """What the form of a part makes of the automata of its operands; a list is one of two, the first of which is a list."""
+        parts = tree.parts if tree.kind not in meaning.ATOMS else ()
+        return meaning.machine_of(tree, [self.part(part) for part in ((replace(tree, parts=parts[:-1]), parts[-1]) if len(parts) > 2 else parts)])
+
+    def same(self, machine, automaton, what, variables):
+        try:
+            self.pairs += compare(machine, automaton)
+        except Difference as found:
+            word, state, place, accepts = found.args
+            raise Wrong(f"{what}: after {in_line(letters_of(word, variables))} it is in state {place} and {'accepts' if accepts else 'rejects'}, "
+                        f"and its machine is in {state} and does not")
+
+
+def letters_of(word, variables):
+    return ["".join("01"[variable in true] for variable in variables) or "-" for true in word]
+
+
+def in_line(word):
+    """A word in one line, with equal letters in a row counted."""
+    runs = [(letter, len(list(run))) for letter, run in groupby(word)]
+    return " ".join(letter + (f" x{count}" if count > 1 else "") for letter, count in runs)
+
+
+# ---- the program's other answers, by the checked automaton
+
+
+def shortest(machine, accepted):
+    """The least of the shortest words that the machine accepts, or rejects; or None."""
+    try:
+        compare(machine, Automaton([not accepted], [0]))
+    except Difference as found:
+        return found.word
+    return None
+
+
+def answered(program, words, right):
+    """Insists on the status and the report of a command."""
+    found = program.ask(*words)
+    insist(found[:2] == right, f"the answer to {words[0]}: it is, with status {right[0]},\n{right[1]}and the program's, with status {found[0]},\n{found[1]}")
+
+
+def report(heading, word, variables):
+    return f"{heading} {len(word)}\n" + "".join(letter + "\n" for letter in letters_of(word, variables)) if word else ""
+
+
+def check_verdict(check):
+    itself = meaning.joined("and", check.automaton, check.automaton)
+    bad, good = shortest(itself, False), shortest(itself, True)
+    text = f"{'not ' if bad else ''}valid\n{'' if good else 'not '}satisfiable\n"
+    text += report("counterexample", bad, check.variables) + report("example", good, check.variables)
+    answered(check.program, ("check", check.text), (1 if bad else 0, text))
+
+
+def check_implies(first, second):
+    word = shortest(meaning.joined("implies", first.automaton, second.automaton), False)
+    text = "does not imply\n" + report("counterexample", word, first.variables) if word else "implies\n"
+    answered(first.program, ("implies", first.text, second.text), (1 if word else 0, text))
+
+
+def check_observer(check, language, read):
+    what = f"the observer in {language}"
+    try:
+        machine = read(check.program.ask(language.lower(), check.text).output, check.names)
+        check.same(machine, check.automaton, f"{what}: the automaton", check.variables)
+    except Wrong as wrong:
+        raise Wrong(f"{what}: {wrong}")
+
+
+def check_synth(check, inputs):
+    answer = check.program.ask("synth", check.text, options=("--inputs", str(inputs)))
+    kind, _, text = answer.output.partition("\n")
+    try:
+        insist((answer.status, kind) in ((0, "realisable"), (1, "unrealisable")), f"it has status {answer.status} and begins with {kind}")
+        if answer.status:
+            units.check_strategy(check.automaton, answer.output, inputs)
+            return "strategy: the inputs beat each controller within its bound"
+        word = shortest(units.controlled(check.automaton, text, check.names, inputs), False)
+        insist(word is None, f"with the inputs {in_line(letters_of(word or (), range(inputs)))} the requirement is broken")
+        return "controller: it keeps to the requirement for all inputs"
+    except Wrong as wrong:
+        raise Wrong(f"the answer to synth: {wrong}")
+
+
+# ---- the command
+
+
+def add_arguments(parser):
+    parser.epilog = "Status 0: what was asked is verified. 1: there is a difference. 3: it cannot be checked, and why."
+    parser.add_argument("file", metavar="FILE")
+    parser.add_argument("other", metavar="FILE", nargs="?", help="with --implies the second formula")
+    parser.add_argument("--implies", action="store_true", help="checks the answer of implies too, to both files")
+    parser.add_argument("--observer", action="store_true", help="checks both observers too")
+    parser.add_argument("--inputs", type=int, metavar="N", help="checks the answer of synth too, with so many inputs")
+
+
+def verified(program, path, shown):
+    check = Check(program, path)
+    check.check_parts()
+    print(f"verified: the automaton of {shown}, {check.printed.states} states, by {len(check.known) + 1} parts and {check.pairs} pairs of states")
+    try:
+        check.printed.check_minimal(len(check.names))
+    except Wrong as wrong:
+        raise Wrong(f"the words of the automaton: {wrong}")
+    print("verified: no automaton has fewer states")
+    check_verdict(check)
+    print("verified: the verdict, and that no behaviours are shorter or before those shown")
+    return check
+
+
+def verify(options, program):
+    check = verified(program, options.file, options.shown)
+    if options.implies:
+        check_implies(check, verified(program, options.other, options.other))
+        print("verified: the answer to implies")
+    if options.observer:
+        for language, read in (("C", units.unit_in_c), ("Lustre", units.unit_in_lustre)):
+            check_observer(check, language, read)
+            print(f"verified: the observer in {language}, in all its states and for all letters")
+    if options.inputs is not None:
+        print("verified: the " + check_synth(check, options.inputs))
+
+
+def run(options, program):
+    if options.implies != (options.other is not None):
+        print("ask verify: --implies takes two files, and nothing else does", file=sys.stderr)
+        return 2
+    try:
+        verify(options, program)
+        return 0
+    except Wrong as wrong:
+        print(f"different: {wrong}")
+        return 1
+    except (Cannot, Refusal) as cannot:
+        if isinstance(cannot, Refusal) and not cannot.over_budget:
+            raise
+        print(f"cannot be verified: {cannot}", file=sys.stderr)
+        return 3
