@@ -5,6 +5,7 @@ so it accepts what the part means, since theirs do. How a part is asked for need
 """
 import re
 import sys
+from collections import deque
 from dataclasses import replace
 from functools import lru_cache
 from itertools import groupby
@@ -13,7 +14,7 @@ import verify_meaning as meaning
 from language import BRACKETS, LISTS, PREFIXES, Fault, Tree, parse, read_text
 from program import Refusal
 import verify_units as units
-from verify_meaning import Automaton, Choice, Difference, Wrong, choice, compare, insist
+from verify_meaning import Automaton, Choice, Difference, Wrong, branches, choice, compare, insist
 
 QUANTIFIED = 1000  # the variable of a quantifier that stands in n others is QUANTIFIED + n
 MOST_NAMES = 16
@@ -61,6 +62,7 @@ class Meant:
         used, found = variables_of(self.tree), []
         for (kind, proposition), variable in reversed(self.looks.items()):
             if variable in used:
+                insist(max(variables_of(proposition), default=0) < QUANTIFIED, "the program takes a - or + of a quantified name")
                 used |= variables_of(proposition)
                 found.append(meaning.look(kind, proposition, variable))
         return found
@@ -130,26 +132,34 @@ class Printed:
         insist(int(number) < (len(self.nodes) if letter == "n" else self.states), f"in its text {letter}{number} is not there")
         return self.nodes[int(number)] if letter == "n" else int(number)
 
+    def check_access(self, width):
+        least, todo = {}, deque([("start", 0)])
+        while todo:
+            before, state = todo.popleft()
+            for (place,), true in branches((self.automaton.rows[state],)).items():
+                if place not in least:
+                    least[place] = before, letters_of([true], range(width))[0]
+                    todo.append((str(place), place))
+        least.setdefault(0, ("empty", ""))
+        for state, access in enumerate(self.access):
+            insist(access == least.get(state), f"the access word of state {state} is not the least that leads there")
+
     def check_minimal(self, width):
-        """Each access word leads to its state, and of each two some suffix behind both tells them apart, both then being words of a letter or more."""
-        rows, empty = self.automaton.rows, self.access[0][0] == "empty"
-        letters = {letter for _, letter in self.access if letter} | {letter for letter, _ in self.suffixes if letter != "empty"}
-        insist(all(len(letter.strip("-")) == width for letter in letters), "a letter of its words has another number of digits")
+        """Each access word is the least that leads to its state, and of each two some suffix behind both tells them apart, both then being words
+        of a letter or more."""
+        self.check_access(width)
+        rows, empty, letters = self.automaton.rows, self.access[0][0] == "empty", {letter for letter, _ in self.suffixes if letter != "empty"}
+        insist(all(len(letter.strip("-")) == width for letter in letters), "a letter of a suffix has another number of digits")
         nexts = {letter: [follow(row, letter) for row in rows] for letter in letters}
-        for state, (before, letter) in enumerate(self.access):
-            place = 0 if before in ("empty", "start") else int(before)
-            right = state == 0 and not letter if before == "empty" else letter and nexts[letter][place % self.states] == state
-            right = right and (before in ("empty", "start") or 0 < place < (state or self.states))
-            insist(right, f"the access word of state {state} does not lead there")
         groups, rivals, ends = [list(range(empty, self.states))], set(range(1, self.states if empty else 1)), []
         for number, (letter, rest) in enumerate(self.suffixes):
             insist((letter == "empty") == (number == 0) and int(rest or -1) < number, f"suffix {number} is none")
-            ends.append(bytes(self.automaton.accept if number == 0 else map(ends[int(rest)].__getitem__, nexts[letter])))
-            groups = [part for group in groups for good in (0, 1) for part in [[state for state in group if ends[-1][state] == good]] if part[1:]]
-            rivals = {state for state in rivals if number == 0 or ends[-1][state] == ends[-1][0]}
-        insist(not rivals, f"no suffix tells states 0 and {min(rivals, default=0)} apart")
-        together = [group for group in groups if len(group) > 1]
-        insist(not together, f"no suffix tells states {together and together[0][:2]} apart")
+            end = bytes(self.automaton.accept if number == 0 else map(ends[int(rest)].__getitem__, nexts[letter]))
+            ends.append(end)
+            groups = [part for group in groups for part in ([s for s in group if end[s]], [s for s in group if not end[s]]) if len(part) > 1]
+            rivals = {state for state in rivals if number == 0 or end[state] == end[0]}
+        groups = [group for group in groups if len(group) > 1] + [[0, state] for state in sorted(rivals)]
+        insist(not groups, f"no suffix tells states {' and '.join(map(str, groups[0][:2])) if groups else ''} apart")
 
 
 def follow(diagram, letter):
@@ -247,8 +257,8 @@ def report(heading, word, variables):
 
 
 def check_verdict(check):
-    itself = meaning.joined("and", check.automaton, check.automaton)
-    bad, good = shortest(itself, False), shortest(itself, True)
+    negation = meaning.joined("not", check.automaton)
+    bad, good = shortest(negation, True), shortest(negation, False)
     text = f"{'not ' if bad else ''}valid\n{'' if good else 'not '}satisfiable\n"
     text += report("counterexample", bad, check.variables) + report("example", good, check.variables)
     answered(check.program, ("check", check.text), (1 if bad else 0, text))
@@ -336,5 +346,5 @@ def run(options, program):
     except (Cannot, Refusal) as cannot:
         if isinstance(cannot, Refusal) and not cannot.over_budget:
             raise
-        print(f"cannot be verified: {cannot}", file=sys.stderr)
+        print(f"cannot be verified: {'over the budget: ' if isinstance(cannot, Refusal) else ''}{cannot}", file=sys.stderr)
         return 3

@@ -39,13 +39,17 @@ def executed(statements, values):
 
 def unit(start, names, statements, result, tested):
     """The machine of a unit. Its state is st and what was returned last, and it accepts where that is not 0, or is one of the numbers tested."""
-    split = next((place for place, statement in enumerate(statements) if statement[0]), len(statements))
-    common, known = executed(statements[:split], {"v_" + name: choice(variable, 1, 0) for variable, name in enumerate(names)}), {}
+    order = "".join("w" if when else "-" for when, *_ in statements)
+    insist(re.fullmatch("-*w*-*", order), "its statements stand in another order")
+    first, cases, known = order.find("w") if "w" in order else len(order), {}, {}
+    for statement in statements[first:]:
+        cases.setdefault(statement[0], []).append(statement)
+    common = executed(statements[:first], {"v_" + name: choice(variable, 1, 0) for variable, name in enumerate(names)})
 
     def rows(state):
         st = state[0]
         if st not in known:
-            values = executed([statement for statement in statements[split:] if statement[0] in (None, str(st))], {**common, "st": st})
+            values = executed(cases.get(str(st), []) + cases.get(None, []), {**common, "st": st})
             known[st] = values["st"], item(result, values)
         return known[st]
 
