@@ -116,6 +116,7 @@ class Printed:
         nodes, states, self.access, self.suffixes = (self.section(*section) for section in zip(match.groups()[2:], LINES))
         self.states, self.nodes = len(states), []
         for name, *ends in nodes:
+            insist(name in names, f"in its text {name} is no variable")
             variable, ends = variables[names.index(name)], (self.diagram(*ends[:2]), self.diagram(*ends[2:]))
             insist(variable < meaning.first_of(ends), "in its text a node comes behind one of a later variable")
             self.nodes.append(choice(variable, *ends))
@@ -153,7 +154,8 @@ class Printed:
         nexts = {letter: [follow(row, letter) for row in rows] for letter in letters}
         groups, rivals, ends = [list(range(empty, self.states))], set(range(1, self.states if empty else 1)), []
         for number, (letter, rest) in enumerate(self.suffixes):
-            insist((letter == "empty") == (number == 0) and int(rest or -1) < number, f"suffix {number} is none")
+            right = (letter, rest) == ("empty", "") if number == 0 else letter in nexts and rest and int(rest) < number
+            insist(right, f"suffix {number} is not a letter before an earlier one, or the empty word as the first")
             end = bytes(self.automaton.accept if number == 0 else map(ends[int(rest)].__getitem__, nexts[letter]))
             ends.append(end)
             groups = [part for group in groups for part in ([s for s in group if end[s]], [s for s in group if not end[s]]) if len(part) > 1]
