@@ -3,18 +3,17 @@
 Of each part the program prints an automaton, which is compared with the machine that the part's form makes of the automata of its operands:
 so it accepts what the part means, since theirs do. How a part is asked for needs no trust: what is compared is gone on with, and nothing else.
 """
-import re
 import sys
-from collections import deque
+from contextlib import contextmanager
 from dataclasses import replace
 from functools import lru_cache
-from itertools import groupby
 
 import verify_meaning as meaning
+import verify_texts as texts
 from language import BRACKETS, LISTS, PREFIXES, Fault, Tree, parse, read_text
 from program import Refusal
-import verify_units as units
-from verify_meaning import Automaton, Choice, Difference, Wrong, branches, choice, compare, insist
+from verify_meaning import Automaton, Difference, Wrong, compare, insist
+from verify_texts import Printed, in_line, letters_of
 
 QUANTIFIED = 1000  # the variable of a quantifier that stands in n others is QUANTIFIED + n
 MOST_NAMES = 16
@@ -22,6 +21,15 @@ MOST_NAMES = 16
 
 class Cannot(Exception):
     """What is asked is beyond this check."""
+
+
+@contextmanager
+def told_of(what):
+    """What is wrong inside is wrong of this."""
+    try:
+        yield
+    except Wrong as wrong:
+        raise Wrong(f"{what}: {wrong}")
 
 
 # ---- a file as a tree without macros
@@ -99,77 +107,6 @@ def variables_of(tree):
     return found | {tree.value} if tree.kind == "name" else found - {tree.value} if tree.kind in ("ex", "all") else found
 
 
-# ---- the text of an automaton
-
-TEXT = re.compile(r"automaton [12]\nvariables (.*)\nstates (\d+)\n((?:node .*\n)*)((?:state .*\n)*)((?:access .*\n)*)((?:suffix .*\n)*)"
-                  r"(?:steps \d+\n(?:step \d+ at \d+ states \d+ nodes \d+\n)*)?end\n")
-LINES = (r"node n(\d+) (\S+) \? ([nt])(\d+) : ([nt])(\d+)", r"state (\d+) (accept|reject) ([nt])(\d+)",
-         r"access (\d+) (empty|start|\d+) ?(|-|[01]+)", r"suffix (\d+) (empty|-|[01]+) ?(\d*)")
-
-
-class Printed:
-    """An automaton, and the words of its text: an access word for each state, and suffixes."""
-
-    def __init__(self, text, names, variables):
-        match = TEXT.fullmatch(text)
-        insist(match and match[1] == (" ".join(names) or "-"), "its text is none of an automaton with these names")
-        nodes, states, self.access, self.suffixes = (self.section(*section) for section in zip(match.groups()[2:], LINES))
-        self.states, self.nodes = len(states), []
-        for name, *ends in nodes:
-            insist(name in names, f"in its text {name} is no variable")
-            variable, ends = variables[names.index(name)], (self.diagram(*ends[:2]), self.diagram(*ends[2:]))
-            insist(variable < meaning.first_of(ends), "in its text a node comes behind one of a later variable")
-            self.nodes.append(choice(variable, *ends))
-        self.automaton = Automaton([word == "accept" for word, *_ in states], [self.diagram(*row) for _, *row in states])
-        insist(0 < self.states == len(self.access) == int(match[2]), "its text has another number of states than it says")
-
-    def section(self, text, pattern):
-        """What stands in the lines of a section, which are numbered from 0."""
-        found = [re.fullmatch(pattern, line) for line in text.splitlines()]
-        insist(all(match and int(match[1]) == number for number, match in enumerate(found)), "a line of its text is wrong or out of order")
-        return [match.groups()[1:] for match in found]
-
-    def diagram(self, letter, number):
-        insist(int(number) < (len(self.nodes) if letter == "n" else self.states), f"in its text {letter}{number} is not there")
-        return self.nodes[int(number)] if letter == "n" else int(number)
-
-    def check_access(self, width):
-        least, todo = {}, deque([("start", 0)])
-        while todo:
-            before, state = todo.popleft()
-            for (place,), true in branches((self.automaton.rows[state],)).items():
-                if place not in least:
-                    least[place] = before, letters_of([true], range(width))[0]
-                    todo.append((str(place), place))
-        least.setdefault(0, ("empty", ""))
-        for state, access in enumerate(self.access):
-            insist(access == least.get(state), f"the access word of state {state} is not the least that leads there")
-
-    def check_minimal(self, width):
-        """Each access word is the least that leads to its state, and of each two some suffix behind both tells them apart, both then being words
-        of a letter or more."""
-        self.check_access(width)
-        rows, empty, letters = self.automaton.rows, self.access[0][0] == "empty", {letter for letter, _ in self.suffixes if letter != "empty"}
-        insist(all(len(letter.strip("-")) == width for letter in letters), "a letter of a suffix has another number of digits")
-        nexts = {letter: [follow(row, letter) for row in rows] for letter in letters}
-        groups, rivals, ends = [list(range(empty, self.states))], set(range(1, self.states if empty else 1)), []
-        for number, (letter, rest) in enumerate(self.suffixes):
-            right = (letter, rest) == ("empty", "") if number == 0 else letter in nexts and rest and int(rest) < number
-            insist(right, f"suffix {number} is not a letter before an earlier one, or the empty word as the first")
-            end = bytes(self.automaton.accept if number == 0 else map(ends[int(rest)].__getitem__, nexts[letter]))
-            ends.append(end)
-            groups = [part for group in groups for part in ([s for s in group if end[s]], [s for s in group if not end[s]]) if len(part) > 1]
-            rivals = {state for state in rivals if number == 0 or end[state] == end[0]}
-        groups = [group for group in groups if len(group) > 1] + [[0, state] for state in sorted(rivals)]
-        insist(not groups, f"no suffix tells states {' and '.join(map(str, groups[0][:2])) if groups else ''} apart")
-
-
-def follow(diagram, letter):
-    while type(diagram) is Choice:
-        diagram = diagram.high if letter[diagram.variable] == "1" else diagram.low
-    return diagram
-
-
 # ---- the check of a file
 
 
@@ -184,19 +121,15 @@ class Check:
         except (Fault, KeyError) as fault:
             raise Wrong(f"the program takes this text, and the parser does not: {fault}")
         self.names, self.variables = self.meant.names, range(len(self.meant.names))
-        self.printed = self.read(output, self.variables, "the file")
+        with told_of("the automaton of the file"):
+            self.printed = Printed(output, self.names, self.variables)
         self.automaton = self.printed.automaton
-
-    def read(self, output, variables, what):
-        try:
-            return Printed(output, list(map(self.meant.name, variables)), variables)
-        except Wrong as wrong:
-            raise Wrong(f"the automaton of {what}: {wrong}")
 
     def check_parts(self):
         looks = self.meant.used_looks()
         machine = meaning.quantified(any, len(self.names), self.part(self.meant.tree), *looks) if looks else self.machine(self.meant.tree)
-        self.same(machine, self.automaton, "the automaton of the file", self.variables)
+        with told_of("the automaton of the file"):
+            self.same(machine, self.automaton, self.variables)
 
     def part(self, tree):
         """The automaton of a part, checked."""
@@ -206,9 +139,10 @@ class Check:
                 output = self.program.ask("automaton", text).output
             except Refusal as refusal:
                 raise Cannot(f"the program refuses a part: {refusal.message}\n  {text.strip()}")
-            what = f"a part of line {self.text.count(chr(10), 0, tree.start) + 1}, asked as\n  {text.strip()}\n "
-            automaton = self.read(output, variables, what).automaton
-            self.same(machine, automaton, f"the automaton of {what}", variables)
+            line = self.text.count("\n", 0, tree.start) + 1
+            with told_of(f"the automaton of a part of line {line}, asked for by\n  {text.strip()}\n"):
+                automaton = Printed(output, list(map(self.meant.name, variables)), variables).automaton
+                self.same(machine, automaton, variables)
             self.known[tree] = automaton
         return self.known[tree]
 
@@ -217,23 +151,13 @@ class Check:
         parts = tree.parts if tree.kind not in meaning.ATOMS else ()
         return meaning.machine_of(tree, [self.part(part) for part in ((replace(tree, parts=parts[:-1]), parts[-1]) if len(parts) > 2 else parts)])
 
-    def same(self, machine, automaton, what, variables):
+    def same(self, machine, automaton, variables, name="what its form makes of its operands"):
         try:
             self.pairs += compare(machine, automaton)
         except Difference as found:
             word, state, place, accepts = found.args
-            raise Wrong(f"{what}: after {in_line(letters_of(word, variables))} it is in state {place} and {'accepts' if accepts else 'rejects'}, "
-                        f"and its machine is in {state} and does not")
-
-
-def letters_of(word, variables):
-    return ["".join("01"[variable in true] for variable in variables) or "-" for true in word]
-
-
-def in_line(word):
-    """A word in one line, with equal letters in a row counted."""
-    runs = [(letter, len(list(run))) for letter, run in groupby(word)]
-    return " ".join(letter + (f" x{count}" if count > 1 else "") for letter, count in runs)
+            raise Wrong(f"after {in_line(letters_of(word, variables))} the automaton is in state {place} and {'accepts' if accepts else 'rejects'}, "
+                        f"and {name} is in {state} and does not")
 
 
 # ---- the program's other answers, by the checked automaton
@@ -248,14 +172,12 @@ def shortest(machine, accepted):
     return None
 
 
-def answered(program, words, right):
-    """Insists on the status and the report of a command."""
-    found = program.ask(*words)
-    insist(found[:2] == right, f"the answer to {words[0]}: it is, with status {right[0]},\n{right[1]}and the program's, with status {found[0]},\n{found[1]}")
-
-
 def report(heading, word, variables):
     return f"{heading} {len(word)}\n" + "".join(letter + "\n" for letter in letters_of(word, variables)) if word else ""
+
+
+def answered(command, found, status, text):
+    insist(found[:2] == (status, text), f"the answer to {command}: it is, with status {status},\n{text}and the program's, with status {found[0]},\n{found[1]}")
 
 
 def check_verdict(check):
@@ -263,37 +185,34 @@ def check_verdict(check):
     bad, good = shortest(negation, True), shortest(negation, False)
     text = f"{'not ' if bad else ''}valid\n{'' if good else 'not '}satisfiable\n"
     text += report("counterexample", bad, check.variables) + report("example", good, check.variables)
-    answered(check.program, ("check", check.text), (1 if bad else 0, text))
+    answered("check", check.program.ask("check", check.text), int(bad is not None), text)
 
 
 def check_implies(first, second):
+    answer = first.program.ask("implies", first.text, second.text)  # which refuses files of other variables
+    insist(first.names == second.names, "the answer to implies: the files have different variables")
     word = shortest(meaning.joined("implies", first.automaton, second.automaton), False)
     text = "does not imply\n" + report("counterexample", word, first.variables) if word else "implies\n"
-    answered(first.program, ("implies", first.text, second.text), (1 if word else 0, text))
+    answered("implies", answer, int(word is not None), text)
 
 
 def check_observer(check, language, read):
-    what = f"the observer in {language}"
-    try:
+    with told_of(f"the observer in {language}"):
         machine = read(check.program.ask(language.lower(), check.text).output, check.names)
-        check.same(machine, check.automaton, f"{what}: the automaton", check.variables)
-    except Wrong as wrong:
-        raise Wrong(f"{what}: {wrong}")
+        check.same(machine, check.automaton, check.variables, "the observer")
 
 
 def check_synth(check, inputs):
     answer = check.program.ask("synth", check.text, options=("--inputs", str(inputs)))
     kind, _, text = answer.output.partition("\n")
-    try:
+    with told_of("the answer to synth"):
         insist((answer.status, kind) in ((0, "realisable"), (1, "unrealisable")), f"it has status {answer.status} and begins with {kind}")
         if answer.status:
-            units.check_strategy(check.automaton, answer.output, inputs)
+            texts.check_strategy(check.automaton, answer.output, inputs)
             return "strategy: the inputs beat each controller within its bound"
-        word = shortest(units.controlled(check.automaton, text, check.names, inputs), False)
+        word = shortest(texts.controlled(check.automaton, text, check.names, inputs), False)
         insist(word is None, f"with the inputs {in_line(letters_of(word or (), range(inputs)))} the requirement is broken")
         return "controller: it keeps to the requirement for all inputs"
-    except Wrong as wrong:
-        raise Wrong(f"the answer to synth: {wrong}")
 
 
 # ---- the command
@@ -312,10 +231,8 @@ def verified(program, path, shown):
     check = Check(program, path)
     check.check_parts()
     print(f"verified: the automaton of {shown}, {check.printed.states} states, by {len(check.known) + 1} parts and {check.pairs} pairs of states")
-    try:
+    with told_of("the words of the automaton"):
         check.printed.check_minimal(len(check.names))
-    except Wrong as wrong:
-        raise Wrong(f"the words of the automaton: {wrong}")
     print("verified: no automaton has fewer states")
     check_verdict(check)
     print("verified: the verdict, and that no behaviours are shorter or before those shown")
@@ -328,7 +245,7 @@ def verify(options, program):
         check_implies(check, verified(program, options.other, options.other))
         print("verified: the answer to implies")
     if options.observer:
-        for language, read in (("C", units.unit_in_c), ("Lustre", units.unit_in_lustre)):
+        for language, read in (("C", texts.unit_in_c), ("Lustre", texts.unit_in_lustre)):
             check_observer(check, language, read)
             print(f"verified: the observer in {language}, in all its states and for all letters")
     if options.inputs is not None:

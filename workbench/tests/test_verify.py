@@ -7,7 +7,7 @@ import unittest
 
 import verify
 import verify_meaning as meaning
-import verify_units as units
+import verify_texts as texts
 from language import parse, read_text
 from program import Answer, Program, Refusal
 from support import PROGRAM, ROOT, WithFolder, needs_program, run
@@ -49,8 +49,8 @@ def checked(program, path, inputs=None):
     check.check_parts()
     check.printed.check_minimal(len(check.names))
     verify.check_verdict(check)
-    verify.check_observer(check, "C", units.unit_in_c)
-    verify.check_observer(check, "Lustre", units.unit_in_lustre)
+    verify.check_observer(check, "C", texts.unit_in_c)
+    verify.check_observer(check, "Lustre", texts.unit_in_lustre)
     if inputs is not None:
         verify.check_synth(check, inputs)
     return check
@@ -154,7 +154,7 @@ class Right(WithFolder):
                     for word in itertools.product(("00", "01", "10", "11"), repeat=length):
                         tracks, place = {name: [letter[i] == "1" for letter in word] for i, name in enumerate("pq")}, 0
                         for letter in word:
-                            place = verify.follow(check.automaton.rows[place], letter)
+                            place = texts.follow(check.automaton.rows[place], letter)
                         self.assertEqual(check.automaton.accept[place], holds(goal, tracks, 0, length - 1), word)
 
     def test_macros(self):
@@ -214,9 +214,9 @@ class Planted(WithFolder):
         path, part = self.file("a.dc", "var p, q;\ninfer\n  [p] ^ (<q> || ext);"), "var q; infer <q>;\n"
         self.assertNotEqual(text, part)
         for changed in changes_of_rows(real.ask("automaton", part).output):
-            self.assertIn(f"a part of line 3, asked as\n  {part}", self.told(path, Changed(real, "automaton", part, changed)))
+            self.assertIn(f"a part of line 3, asked for by\n  {part}", self.told(path, Changed(real, "automaton", part, changed)))
         wrong = real.ask("automaton", part).output.replace("state 2 accept", "state 2 reject")
-        self.assertIn("after 1 it is in state 2 and rejects", self.told(path, Changed(real, "automaton", part, wrong)))
+        self.assertIn("after 1 the automaton is in state 2 and rejects", self.told(path, Changed(real, "automaton", part, wrong)))
 
     def test_a_program_that_is_wrong_everywhere(self):
         """It takes `[P]` for `[[P]]` in files and in parts alike, so all its answers fit together."""
@@ -224,7 +224,7 @@ class Planted(WithFolder):
             def ask(self, command, *texts, options=()):
                 return super().ask(command, *(re.sub(r"\[(\w+)\]", r"[[\1]]", text) for text in texts), options=options)
 
-        self.assertIn("asked as\n  var p; infer [p];", self.told(self.file("a.dc", "var p, q; infer [p] ^ <q>;"), Confused(Program(PROGRAM))))
+        self.assertIn("asked for by\n  var p; infer [p];", self.told(self.file("a.dc", "var p, q; infer [p] ^ <q>;"), Confused(Program(PROGRAM))))
 
     def test_words_of_the_text(self):
         """Access words are determined; suffixes are judged as a comparison of all words by the rows judges them."""
@@ -296,7 +296,7 @@ class Planted(WithFolder):
 
 def apart(text):
     """Whether the suffixes of a text tell all its access words apart, by following each word letter by letter."""
-    printed = verify.Printed(text, ["p", "q"], [0, 1])
+    printed = texts.Printed(text, ["p", "q"], [0, 1])
     words, suffixes = [], []
 
     def access(state):
@@ -306,7 +306,7 @@ def apart(text):
     def accepts(word):
         place = 0
         for letter in word:
-            place = verify.follow(printed.automaton.rows[place], letter)
+            place = texts.follow(printed.automaton.rows[place], letter)
         return printed.automaton.accept[place]
 
     for letter, rest in printed.suffixes:
