@@ -151,7 +151,7 @@ class Check:
         parts = tree.parts if tree.kind not in meaning.ATOMS else ()
         return meaning.machine_of(tree, [self.part(part) for part in ((replace(tree, parts=parts[:-1]), parts[-1]) if len(parts) > 2 else parts)])
 
-    def same(self, machine, automaton, variables, name="what its form makes of its operands"):
+    def same(self, machine, automaton, variables, name="the machine of its form"):
         try:
             self.pairs += compare(machine, automaton)
         except Difference as found:

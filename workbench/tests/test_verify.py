@@ -272,7 +272,8 @@ class Planted(WithFolder):
             for output in changes_of_numbers(real.ask(command, text).output):
                 if "  nx = 1;\n" not in output and not (command == "lustre" and re.search(rf"\b{states}\b", output)):
                     self.assertIn("the observer in", self.told(path, Changed(real, command, text, output)))
-        for old, new in (("v_p ?", "v_q ?"), (" == ", " != "), ("int observer_step(int v_p, int v_q)", "int observer_step(int v_q, int v_p)"), ("st = nx;", "st = n9;")):
+        for old, new in (("v_p ?", "v_q ?"), (" == ", " != "), ("int observer_step(int v_p, int v_q)", "int observer_step(int v_q, int v_p)"), ("st = nx;", "st = n9;"),
+                         ("  nx = 0;\n", "  nx = 0;\n  st = 0;\n"), ("if (st == 1) nx", "if (st == 1) st"), ("if (st == 1)", "if (st == 01)"), ("  st = nx;\n", "")):
             self.told(path, Changed(real, "c", text, real.ask("c", text).output.replace(old, new)))
 
     def test_controllers(self):
