@@ -226,8 +226,8 @@ class Planted(WithFolder):
 
         self.assertIn("asked for by\n  var p; infer [p];", self.told(self.file("a.dc", "var p, q; infer [p] ^ <q>;"), Confused(Program(PROGRAM))))
 
-    def test_words_of_the_text(self):
-        """Access words are determined; suffixes are judged as a comparison of all words by the rows judges them."""
+    def test_access_words(self):
+        """They are determined."""
         real = Program(PROGRAM)
         for goal in ("<p>", "slen = 3", "[p] ^ <q>", "[[p]]"):
             text = f"var p, q; infer {goal};"
@@ -235,13 +235,37 @@ class Planted(WithFolder):
             for line in re.findall(r"^access .*\n", output, re.M):
                 for changed in {line.replace(*pair) for pair in ((" 0", " 1"), (" 1", " 0"), ("start", "1"), ("empty", "start 00"))} - {line}:
                     self.told(path, Changed(real, "automaton", text, output.replace(line, changed)))
-            for line in re.findall(r"^suffix [1-9].*\n", output, re.M):
-                number, letter, rest = line.split()[1:]
-                for other in itertools.product(("00", "01", "10", "11"), range(int(number))):
-                    changed = output.replace(line, f"suffix {number} {other[0]} {other[1]}\n")
-                    if not apart(changed):
-                        self.told(path, Changed(real, "automaton", text, changed))
-                self.told(path, Changed(real, "automaton", text, output.replace(line, f"suffix {number} {letter} {int(number) + 1}\n")))
+
+    def test_suffixes(self):
+        """They are judged as by a comparison of all words, letter by letter, whatever is said of a start to which no letter leads."""
+        real, judged = Program(PROGRAM), set()
+        for goal in FORMS.values():
+            output = real.ask("automaton", f"var p, q; infer {goal};").output
+            for start in {output, output if "access 0 empty" not in output else re.sub("state 0 (reject|accept)", "state 0 accept", output)}:
+                for line in re.findall(r"^suffix [1-9].*\n", start, re.M):
+                    number = line.split()[1]
+                    for letter, rest in itertools.product(("00", "01", "10", "11"), range(int(number))):
+                        judged.add(self.judged(start.replace(line, f"suffix {number} {letter} {rest}\n")))
+                    self.assertEqual(self.judged(start.replace(line, f"suffix {number} 00 {number}\n"), True), (False, False))
+        self.assertEqual(judged, {(True, True), (False, False)})
+
+    def judged(self, text, malformed=False):
+        """What verify says of a text's words, and what `apart` does."""
+        try:
+            texts.Printed(text, ["p", "q"], [0, 1]).check_minimal(2)
+            return True, not malformed and apart(text)
+        except verify.Wrong:
+            return False, not malformed and apart(text)
+
+    def test_texts_that_are_none(self):
+        """Of rows that would be read in more ways than one, and of what is not there."""
+        right = Program(PROGRAM).ask("automaton", "var p, q; infer [[p && q]];").output
+        self.assertIn("node n0 q ? t0 : t1\nnode n1 p ? n0 : t1\n", right)
+        for old, new in (("n0 q", "n0 p"), ("n1 p", "n1 q"), ("n0 q", "n0 r"), ("n0 q ? t0", "n0 q ? n1"), ("t0 : t1", "t0 : t2"), ("n1\nstate 1", "n2\nstate 1"),
+                         ("states 2", "states 3"), ("node n1", "node n2"), ("state 1 reject t1\n", ""), ("variables p q", "variables q p"), ("end\n", "end"), ("suffix 0 empty\n", "")):
+            self.assertIn(old, right)
+            with self.assertRaises(verify.Wrong, msg=new):
+                texts.Printed(right.replace(old, new), ["p", "q"], [0, 1]).check_minimal(2)
 
     def test_verdicts(self):
         real = Program(PROGRAM)
@@ -284,6 +308,8 @@ class Planted(WithFolder):
         for changed in changes_of_numbers(output):
             if not re.search(r"^  (nx|y) = 1;|if \(st == 1\) y = 0;", changed, re.M):
                 self.assertIn("the answer to synth", self.told(path, Changed(real, "synth", text, changed), 1))
+        for changed in (output.replace("y = 1;", "y = 3;"), output.replace("realisable", "possible")):
+            self.told(path, Changed(real, "synth", text, changed), 1)
         self.told(path, Changed(real, "synth", text, output, 1), 1)
 
     def test_strategies(self):
@@ -293,6 +319,10 @@ class Planted(WithFolder):
         self.assertEqual(answer.output.count("\nstate"), 4)
         for changed in changes_of_numbers(answer.output):
             self.assertIn("the answer to synth", self.told(path, Changed(real, "synth", text, changed), 1))
+        text = "var i, o; infer [[!i]];"
+        sooner = "unrealisable\nbound 0\nstate 0 rank 0 input 1\nend\n"
+        self.assertEqual(real.ask("synth", text, options=("--inputs", "1")).output, sooner.replace("d 0", "d 1").replace("k 0", "k 1"))
+        self.told(self.file("a.dc", text), Changed(real, "synth", text, sooner), 1)
 
 
 def apart(text):
