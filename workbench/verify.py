@@ -37,7 +37,7 @@ def told_of(what):
 
 class Meant:
     """`tree` is the goal with each macro's body in the place of its call, and variables in the place of names. What -P and +P are at an
-    instant is said by variables behind the declared ones; `looks` has them."""
+    instant is said by variables after the declared ones; `looks` has them."""
 
     def __init__(self, text):
         self.file = parse(text)
@@ -168,7 +168,7 @@ def shortest(machine, accepted):
     try:
         compare(machine, Automaton([not accepted], [0]))
     except Difference as found:
-        return found.word
+        return found.args[0]
     return None
 
 

@@ -25,6 +25,22 @@ FORMS = {
 }
 
 
+# By hand: state 1 is where an even number of letters after the first are 1.
+START = """automaton 1
+variables p
+states 3
+node n0 p ? t2 : t1
+node n1 p ? t1 : t2
+state 0 {} t1
+state 1 accept n0
+state 2 reject n1
+access 0 empty
+access 1 start 0
+access 2 1 1
+{}end
+"""
+
+
 class Changed:
     """A program of which one answer is another: that to `command` about the file with this text, else the real one's."""
 
@@ -249,6 +265,16 @@ class Planted(WithFolder):
                     self.assertEqual(self.judged(start.replace(line, f"suffix {number} 00 {number}\n"), True), (False, False))
         self.assertEqual(judged, {(True, True), (False, False)})
 
+    def test_the_start_is_no_behaviour(self):
+        """No letter leads to state 0, so that it rejects tells it from nothing. From it 0 and 1 both lead to state 1, from state 1 only 0 does."""
+        for suffixes, right in (("suffix 0 empty\nsuffix 1 0 0\n", False), ("suffix 0 empty\nsuffix 1 0 0\nsuffix 2 1 0\n", True)):
+            for start in ("reject", "accept"):
+                printed = texts.Printed(START.format(start, suffixes), ["p"], [0])
+                if right:
+                    printed.check_minimal(1)
+                else:
+                    self.assertRaisesRegex(verify.Wrong, "states 0 and 1 apart", printed.check_minimal, 1)
+
     def judged(self, text, malformed=False):
         """What verify says of a text's words, and what `apart` does."""
         try:
@@ -261,7 +287,7 @@ class Planted(WithFolder):
         """Of rows that would be read in more ways than one, and of what is not there."""
         right = Program(PROGRAM).ask("automaton", "var p, q; infer [[p && q]];").output
         self.assertIn("node n0 q ? t0 : t1\nnode n1 p ? n0 : t1\n", right)
-        for old, new in (("n0 q", "n0 p"), ("n1 p", "n1 q"), ("n0 q", "n0 r"), ("n0 q ? t0", "n0 q ? n1"), ("t0 : t1", "t0 : t2"), ("n1\nstate 1", "n2\nstate 1"),
+        for old, new in (("n0 q ? t0 : t1\nnode n1 p", "n0 p ? t0 : t1\nnode n1 q"), ("n0 q", "n0 p"), ("n1 p", "n1 q"), ("n0 q", "n0 r"), ("n0 q ? t0", "n0 q ? n1"), ("t0 : t1", "t0 : t2"), ("n1\nstate 1", "n2\nstate 1"),
                          ("states 2", "states 3"), ("node n1", "node n2"), ("state 1 reject t1\n", ""), ("variables p q", "variables q p"), ("end\n", "end"), ("suffix 0 empty\n", "")):
             self.assertIn(old, right)
             with self.assertRaises(verify.Wrong, msg=new):
