@@ -30,6 +30,8 @@ case \$1 in
     shift
     printf '<%s>' "\$@"
     echo 'fault of the program' >&2
+    echo 'interpreter: no-answer: the run did not finish within 1 step' >&2
+    echo 'checked: ended status=4' >&2
     echo 'run=ended status=4 runners=1 proved=no' >&2
     exit 4 ;;
 esac
@@ -91,6 +93,7 @@ contains 'no rt' 'not on the path'
 run 4 '<check><1-a b.dc><--states><9>' "$clone/dcvalid" --try check 'a b.dc' --states 9
 contains 'without proofs' 'not proved'
 contains 'without proofs' 'fault of the program'
+expect 'lines of rt among the messages' 2 "$(wc -l <"$work/err")"
 expect 'the file that is handed over' "1-a b.dc=$work/a b.dc" "$(cat "$work/data")"
 run 5 '' "$clone/dcvalid" --try check missing
 expect 'builds for tries' 0 "$(calls)"
