@@ -83,7 +83,7 @@ expect 'builds before any is needed' 0 "$(calls)"
 
 # No rt on the path.
 mkdir "$work/plain"
-for tool in bash env readlink dirname awk find sort xargs cksum cat mkdir rm tail nproc ls sed; do
+for tool in bash env readlink dirname awk find sort xargs cksum cat mkdir rm tail nproc sed touch; do
   ln -s "$(command -v "$tool")" "$work/plain/$tool"
 done
 path=$work/plain run 125 '' "$clone/dcvalid" check f
