@@ -5,7 +5,8 @@
     tests/gate_costs.py               tells the sums by kind, and how long a gate takes on 4 and on 2 processors
 
 The table is tests/costs.txt, with a line for each crate: its name, and the seconds of its proof, of its tests' and of its edits. ./dcvalid reads
-it to tell how far a build is. Only checks that a gate makes from nothing are put into it: what is kept from earlier runs takes none.
+it to tell how far a build is. Only checks that a gate makes from nothing are put into it: what is kept from earlier runs takes none. A proof's
+seconds behind a `~` are an estimate, until a gate that proves the crate is watched.
 """
 import os
 import sys
@@ -18,14 +19,15 @@ TICKS = os.sysconf("SC_CLK_TCK")
 
 
 def read_table():
-    """The seconds of each crate by kind."""
+    """The seconds of each crate by kind, and whether those of its proof are an estimate."""
     costs = {}
     if os.path.exists(TABLE):
         with open(TABLE, encoding="ascii") as file:
             for line in file:
                 if line.strip() and not line.startswith("#"):
                     name, *seconds = line.split()
-                    costs[name] = dict(zip(KINDS, map(int, seconds)))
+                    costs[name] = dict(zip(KINDS, (int(each.lstrip("~")) for each in seconds)))
+                    costs[name]["estimate"] = seconds[0].startswith("~")
     return costs
 
 
@@ -42,10 +44,11 @@ def read_crates():
 
 def write_table(costs):
     with open(TABLE, "w", encoding="ascii") as file:
-        file.write("# processor seconds of each crate: proof, tests, edits (made by tests/gate_costs.py)\n")
+        file.write("# processor seconds of each crate: proof, tests, edits (tests/gate_costs.py; ~ before a proof's is an estimate)\n")
         for name in read_crates():
             row = costs.get(name, {})
-            file.write(f"{name} {' '.join(str(round(row.get(kind, 0))) for kind in KINDS)}\n")
+            mark = "~" if row.get("estimate") else ""
+            file.write(f"{name} {mark}{' '.join(str(round(row.get(kind, 0))) for kind in KINDS)}\n")
 
 
 # ---- a gate that runs
@@ -126,6 +129,9 @@ def tell():
     sums = {kind: sum(costs.get(name, {}).get(kind, 0) for name in needs) / 60 for kind in KINDS}
     told = ", ".join(f"{kind} {minutes:.0f}" for kind, minutes in sums.items())
     print(f"processor minutes: {sum(sums.values()):.0f} ({told})")
+    estimates = sum(row["proof"] for row in costs.values() if row.get("estimate")) / 60
+    if estimates:
+        print(f"  of these {estimates:.0f} are estimates")
     for processors in (4, 2):
         print(f"minutes of clock on {processors} processors: {clock(costs, needs, processors) / 60:.0f}")
     of_program = set()
@@ -148,7 +154,7 @@ def main():
     if words[:1] == ["watch"] and len(words) == 2:
         costs = read_table()
         for name, row in watch(words[1]).items():
-            costs.setdefault(name, {}).update(row)
+            costs.setdefault(name, {}).update({"estimate": False} if "proof" in row else {}, **row)
         write_table(costs)
     elif words:
         sys.exit(__doc__)
