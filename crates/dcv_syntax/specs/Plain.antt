@@ -10,6 +10,12 @@ use Rattle.dcv_syntax.specs.declared.names.Name.{Name}
 use Rattle.dcv_syntax.specs.declared.names.Span.{Span}
 use Rattle.dcv_syntax.specs.declared.formulas.Number.{Number}
 use Rattle.dcv_syntax.specs.declared.formulas.Relation.{Relation}
+use Rattle.dcv_syntax.specs.declared.formulas.Bracket.{Bracket}
+use Rattle.dcv_syntax.specs.declared.formulas.Count.{Count}
+use Rattle.dcv_syntax.specs.declared.formulas.Unary.{Unary}
+use Rattle.dcv_syntax.specs.declared.formulas.Quantifier.{Quantifier}
+use Rattle.dcv_syntax.specs.declared.propositions.Connective.{Connective}
+use Rattle.dcv_syntax.specs.declared.propositions.Direction.{Direction}
 
 mutual
   -- the forms of a proposition
@@ -17,13 +23,10 @@ mutual
     PropConstant : (truth : Bool) → PlainPropKind
     PropCall : (name : Name) → (arguments : PlainArguments) → PlainPropKind
     PropNot : (kind : PlainPropKind) → (span : Span) → PlainPropKind
-    PropAnd : (operands : PlainPropOperands) → PlainPropKind
-    PropOr : (operands : PlainPropOperands) → PlainPropKind
+    PropJoined : (connective : Connective) → (operands : PlainPropOperands) → PlainPropKind
     PropImplies : (left : PlainPropKind) → (left_span : Span) → (right : PlainPropKind) → (right_span : Span) → PlainPropKind
-    PropIff : (operands : PlainPropOperands) → PlainPropKind
-    -- the operand at the instant before, or at the next, with the span of the form and that of the operand
-    PropPrior : (form : Span) → (kind : PlainPropKind) → (span : Span) → PlainPropKind
-    PropNext : (form : Span) → (kind : PlainPropKind) → (span : Span) → PlainPropKind
+    -- the operand at another instant, with the span of the form and that of the operand
+    PropShifted : (direction : Direction) → (form : Span) → (kind : PlainPropKind) → (span : Span) → PlainPropKind
 
   -- propositions that are arguments
   pub data PlainArguments : Type 0 where
@@ -59,25 +62,15 @@ mutual
     FormulaConstant : (truth : Bool) → PlainFormulaKind
     FormulaPt : PlainFormulaKind
     FormulaExt : PlainFormulaKind
-    FormulaPoint : (prop : PlainProp) → PlainFormulaKind
-    FormulaRun : (prop : PlainProp) → PlainFormulaKind
-    FormulaEvery : (prop : PlainProp) → PlainFormulaKind
-    FormulaUnit : (prop : PlainProp) → PlainFormulaKind
+    FormulaBracketed : (bracket : Bracket) → (prop : PlainProp) → PlainFormulaKind
     FormulaSlen : (relation : Relation) → (number : Number) → PlainFormulaKind
-    FormulaScount : (prop : PlainProp) → (relation : Relation) → (number : Number) → PlainFormulaKind
-    FormulaSdur : (prop : PlainProp) → (relation : Relation) → (number : Number) → PlainFormulaKind
+    FormulaCounted : (count : Count) → (prop : PlainProp) → (relation : Relation) → (number : Number) → PlainFormulaKind
     FormulaCall : (name : Name) → (arguments : List PlainProp) → PlainFormulaKind
-    FormulaNot : (kind : PlainFormulaKind) → (span : Span) → PlainFormulaKind
-    FormulaAnd : (operands : PlainFormulaOperands) → PlainFormulaKind
-    FormulaOr : (operands : PlainFormulaOperands) → PlainFormulaKind
+    FormulaApplied : (unary : Unary) → (kind : PlainFormulaKind) → (span : Span) → PlainFormulaKind
+    FormulaJoined : (connective : Connective) → (operands : PlainFormulaOperands) → PlainFormulaKind
     FormulaImplies : (left : PlainFormulaKind) → (left_span : Span) → (right : PlainFormulaKind) → (right_span : Span) → PlainFormulaKind
-    FormulaIff : (operands : PlainFormulaOperands) → PlainFormulaKind
     FormulaChop : (operands : PlainFormulaOperands) → PlainFormulaKind
-    FormulaStar : (kind : PlainFormulaKind) → (span : Span) → PlainFormulaKind
-    FormulaSomewhere : (kind : PlainFormulaKind) → (span : Span) → PlainFormulaKind
-    FormulaEverywhere : (kind : PlainFormulaKind) → (span : Span) → PlainFormulaKind
-    FormulaExists : (name : Name) → (kind : PlainFormulaKind) → (span : Span) → PlainFormulaKind
-    FormulaForAll : (name : Name) → (kind : PlainFormulaKind) → (span : Span) → PlainFormulaKind
+    FormulaQuantified : (quantifier : Quantifier) → (name : Name) → (kind : PlainFormulaKind) → (span : Span) → PlainFormulaKind
 
   -- formulas that are operands, each with the span that has its own parentheses too
   pub data PlainFormulaOperands : Type 0 where

@@ -1,6 +1,23 @@
 // Propositions, which are judged at one instant.
 use crate::names::{Name, Span};
 
+/// What joins the operands of a list: `&&`, `||`, or `<=>`, which groups to the left.
+#[derive(Clone, Copy, Debug, PartialEq, Eq)]
+pub enum Connective {
+    And,
+    Or,
+    Iff,
+}
+
+/// Where a shifted proposition looks.
+#[derive(Clone, Copy, Debug, PartialEq, Eq)]
+pub enum Direction {
+    /// `-P`, prior: P at the instant before, and false at the first.
+    Prior,
+    /// `+P`, next: P at the next instant, and false at the last of the behaviour.
+    Next,
+}
+
 /// A proposition and its place. Its own outermost parentheses are not in the span.
 #[cycle(prop)]
 #[derive(Drop)]
@@ -19,18 +36,12 @@ pub enum PropKind {
     Call(Name, Vec<Prop>),
     /// `!P`.
     Not(Box<Prop>),
-    /// `P && Q && ..`.
-    And(Vec<PropOperand>),
-    /// `P || Q || ..`.
-    Or(Vec<PropOperand>),
+    /// `P && Q && ..`, `P || Q || ..` or `P <=> Q <=> ..`.
+    Joined(Connective, Vec<PropOperand>),
     /// `P => Q`.
     Implies(Box<Prop>, Box<Prop>),
-    /// `P <=> Q <=> ..`, which groups to the left.
-    Iff(Vec<PropOperand>),
-    /// `-P`, prior: P at the instant before, and false at the first. The span is that of the form.
-    Prior(Span, Box<Prop>),
-    /// `+P`, next: P at the next instant, and false at the last of the behaviour. The span is that of the form.
-    Next(Span, Box<Prop>),
+    /// `-P` or `+P`. The span is that of the form.
+    Shifted(Direction, Span, Box<Prop>),
 }
 
 /// An operand of a list. Its span has the parentheses that stand round it.
