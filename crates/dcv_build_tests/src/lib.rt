@@ -1,4 +1,4 @@
-//! Tests of atoms, builds, printed texts and the plain evaluator through public calls alone, where neither a clause nor a row of `dcv_rows` shows it: that calls
+//! Tests of atoms, builds and printed texts through public calls alone, where neither a clause nor a row of `dcv_rows` shows it: that calls
 //! succeed which the program does not make, and how often a builder explores. The expected values were worked out by hand.
 #![tactic(auto)]
 
@@ -10,8 +10,6 @@ mod builders;
 mod copies;
 #[cfg(test)]
 mod goals;
-#[cfg(test)]
-mod meanings;
 #[cfg(test)]
 mod memos;
 #[cfg(test)]

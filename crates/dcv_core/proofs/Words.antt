@@ -11,7 +11,7 @@ use Rattle.dcv_shifts.specs.Shifts.{goes_back, back, fore}
 use Rattle.dcv_language.specs.Atoms.{all_but_last}
 use Rattle.dcv_logic.specs.Search.{some_from, some_between, each_between, count_from, count_between}
 use Rattle.dcv_logic.specs.Satisfaction.{compares, star as star_of}
-use Rattle.dcv_logic.proofs.SearchSteps.{star_enough}
+use Rattle.dcv_logic.proofs.Stars.{star_enough}
 use Rattle.dcv_language.proofs.Behaviours.{some_track-same}
 use Rattle.dcv_core.specs.Core.{PlainTruth, TruthSlot, BasicConstant, BasicPoint, BasicRun, BasicEvery, BasicUnit, BasicSlen, BasicScount, BasicSdur, BasicBack, BasicFore, CoreTree}
 use Rattle.dcv_core.specs.Holds.{letter_at, truth_holds, holds_at, basic_holds, core_holds, words_of}

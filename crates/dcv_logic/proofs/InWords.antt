@@ -12,11 +12,12 @@ use Rattle.std.proofs.lemmas.List.FromFn.{length-map-range_with_len, get_or-map-
 use Rattle.dcv_logic.specs.Track.{Track, truth_at, values_from}
 use Rattle.dcv_logic.specs.Search.{some_from, some_between}
 use Rattle.dcv_language.specs.Operations.{some_track}
-use Rattle.dcv_logic.specs.Satisfaction.{satisfies, chop_holds, star, somewhere}
+use Rattle.dcv_logic.specs.Satisfaction.{satisfies, chop_holds}
+use Rattle.dcv_logic.specs.Connectives.{star, somewhere}
 use Rattle.dcv_logic.specs.Laws.{SomeBetweenIsThere, EachBetweenIsEvery, SomeTrackIsThere, TrackHasEachInstant, TrackHasItsValues, CountFromCounts, CountBetweenCounts, RunInWords, EveryInWords, ChopOfOne, ChopInWords, StarInWords, StarBoundIsFree, SomewhereInWords, EverywhereInWords, ExistsInWords, ForAllInWords}
 use Rattle.dcv_logic.specs.Value.{value}
 use Rattle.dcv_logic.specs.Environment.{bind}
-use Rattle.dcv_logic.proofs.SearchSteps.{star-step, star_enough, other_instants}
+use Rattle.dcv_logic.proofs.Stars.{star-step, star_enough, other_instants}
 
 -- a test decides that it is true
 itself : (x : Bool) → Decides x (x ≡ true)

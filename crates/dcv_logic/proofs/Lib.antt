@@ -1,3 +1,2 @@
 pub mod InWords
-pub mod Measures
-pub mod SearchSteps
+pub mod Stars

@@ -4,13 +4,17 @@ use Rattle.std.specs.Bool.{Decides}
 use Rattle.std.specs.List.{count_by, range_with_len}
 use Rattle.dcv_syntax.specs.declared.names.Name.{Name}
 use Rattle.dcv_syntax.specs.declared.names.Span.{Span}
-use Rattle.dcv_syntax.specs.Plain.{PlainProp, PlainFormulaKind, FormulaRun, FormulaEvery, FormulaStar, FormulaSomewhere, FormulaEverywhere, FormulaExists, FormulaForAll, PlainFormulaOperands, no_formula_operands, formula_operand}
+use Rattle.dcv_syntax.specs.Plain.{PlainProp, PlainFormulaKind, FormulaBracketed, FormulaApplied, FormulaQuantified, PlainFormulaOperands, no_formula_operands, formula_operand}
 use Rattle.dcv_logic.specs.Track.{Track, truth_at, track_of}
 use Rattle.dcv_logic.specs.Search.{some_between, each_between, count_from, count_between}
 use Rattle.dcv_language.specs.Operations.{some_track}
 use Rattle.dcv_logic.specs.Environment.{Environment, bind}
 use Rattle.dcv_logic.specs.Value.{value}
-use Rattle.dcv_logic.specs.Satisfaction.{satisfies, chop_holds, star}
+use Rattle.dcv_logic.specs.Connectives.{star}
+use Rattle.dcv_logic.specs.Satisfaction.{satisfies, chop_holds}
+use Rattle.dcv_syntax.specs.declared.formulas.Bracket.TheVariants.{Run, Every}
+use Rattle.dcv_syntax.specs.declared.formulas.Unary.TheVariants.{Star, Somewhere, Everywhere}
+use Rattle.dcv_syntax.specs.declared.formulas.Quantifier.TheVariants.{Exists, ForAll}
 
 -- ---- searches, tracks and counts
 
@@ -47,12 +51,12 @@ CountBetweenCounts = (b e : ℕ) (p : ℕ → Bool) → count_between b e p ≡ 
 -- `[P]` holds exactly where b < e, and P at every instant i with b ≤ i < e
 abbrev pub RunInWords : Type 0
 RunInWords = (env : Environment) (p : PlainProp) (b e : ℕ) →
-    Decides (satisfies env (FormulaRun p) b e) ((b < e) × ((i : ℕ) → b ≤ i → i < e → value env p.kind i ≡ true))
+    Decides (satisfies env (FormulaBracketed Run p) b e) ((b < e) × ((i : ℕ) → b ≤ i → i < e → value env p.kind i ≡ true))
 
 -- `[[P]]` exactly where P at every instant i with b ≤ i ≤ e
 abbrev pub EveryInWords : Type 0
 EveryInWords = (env : Environment) (p : PlainProp) (b e : ℕ) →
-    Decides (satisfies env (FormulaEvery p) b e) ((i : ℕ) → b ≤ i → i ≤ e → value env p.kind i ≡ true)
+    Decides (satisfies env (FormulaBracketed Every p) b e) ((i : ℕ) → b ≤ i → i ≤ e → value env p.kind i ≡ true)
 
 -- A chop of one operand is that operand,
 abbrev pub ChopOfOne : Type 0
@@ -69,8 +73,8 @@ ChopInWords = (env : Environment) (d : PlainFormulaKind) (span outer : Span) (re
 -- `D*` holds exactly where e = b, or some m with b < m ≤ e has D on [b,m] and `D*` on [m,e]
 abbrev pub StarInWords : Type 0
 StarInWords = (env : Environment) (d : PlainFormulaKind) (span : Span) (b e : ℕ) → b ≤ e →
-    Decides (satisfies env (FormulaStar d span) b e)
-    ((e ≡ b) ⊎ ((m : ℕ) × (b < m) × (m ≤ e) × (satisfies env d b m ≡ true) × (satisfies env (FormulaStar d span) m e ≡ true)))
+    Decides (satisfies env (FormulaApplied Star d span) b e)
+    ((e ≡ b) ⊎ ((m : ℕ) × (b < m) × (m ≤ e) × (satisfies env d b m ≡ true) × (satisfies env (FormulaApplied Star d span) m e ≡ true)))
 
 -- the bound of `star` does not matter, where it is no less than the steps of the interval
 abbrev pub StarBoundIsFree : Type 0
@@ -79,13 +83,13 @@ StarBoundIsFree = (d : ℕ → ℕ → Bool) (n b e : ℕ) → e - b ≤ n → s
 -- `<>D` holds exactly where some x, y with b ≤ x ≤ y ≤ e have D on [x,y]
 abbrev pub SomewhereInWords : Type 0
 SomewhereInWords = (env : Environment) (d : PlainFormulaKind) (span : Span) (b e : ℕ) →
-    Decides (satisfies env (FormulaSomewhere d span) b e)
+    Decides (satisfies env (FormulaApplied Somewhere d span) b e)
     ((x : ℕ) × (y : ℕ) × (b ≤ x) × (x ≤ y) × (y ≤ e) × (satisfies env d x y ≡ true))
 
 -- `[]D` exactly where all such x, y have
 abbrev pub EverywhereInWords : Type 0
 EverywhereInWords = (env : Environment) (d : PlainFormulaKind) (span : Span) (b e : ℕ) →
-    Decides (satisfies env (FormulaEverywhere d span) b e)
+    Decides (satisfies env (FormulaApplied Everywhere d span) b e)
     ((x y : ℕ) → b ≤ x → x ≤ y → y ≤ e → satisfies env d x y ≡ true)
 
 -- ---- quantifiers
@@ -93,11 +97,11 @@ EverywhereInWords = (env : Environment) (d : PlainFormulaKind) (span : Span) (b 
 -- `ex p. D` holds exactly where D does for some truths of p, one for each instant of the behaviour
 abbrev pub ExistsInWords : Type 0
 ExistsInWords = (env : Environment) (name : Name) (d : PlainFormulaKind) (span : Span) (b e : ℕ) →
-    Decides (satisfies env (FormulaExists name d span) b e)
+    Decides (satisfies env (FormulaQuantified Exists name d span) b e)
     ((track : Track) × (length track ≡ env.instants) × (satisfies (bind env name.text track) d b e ≡ true))
 
 -- `all p. D` exactly where D does for all of them
 abbrev pub ForAllInWords : Type 0
 ForAllInWords = (env : Environment) (name : Name) (d : PlainFormulaKind) (span : Span) (b e : ℕ) →
-    Decides (satisfies env (FormulaForAll name d span) b e)
+    Decides (satisfies env (FormulaQuantified ForAll name d span) b e)
     ((track : Track) → length track ≡ env.instants → satisfies (bind env name.text track) d b e ≡ true)

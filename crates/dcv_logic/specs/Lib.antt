@@ -3,6 +3,7 @@ pub mod Track
 pub mod Search
 pub mod Environment
 pub mod Newest
+pub mod Connectives
 pub mod Value
 pub mod Satisfaction
 pub mod Models

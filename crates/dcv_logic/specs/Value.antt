@@ -1,7 +1,10 @@
 -- The value of a proposition at an instant: an equation for each form, below the form as it is written in a file.
 use Rattle.std.specs.Prelude.{ℕ, ◌+◌, ◌-◌, nat_lt, Bool, true, false, ◌&&◌, ◌||◌, not, List, [], ◌∷◌, Option, Some, None}
-use Rattle.dcv_syntax.specs.Plain.{PlainPropKind, PropConstant, PropCall, PropNot, PropAnd, PropOr, PropImplies, PropIff, PropPrior, PropNext, PlainArguments, no_arguments, argument, PlainPropOperands, no_prop_operands, prop_operand}
-use Rattle.dcv_language.specs.Operations.{iff}
+use Rattle.dcv_syntax.specs.Plain.{PlainPropKind, PropConstant, PropCall, PropNot, PropJoined, PropImplies, PropShifted, PlainArguments, no_arguments, argument, PlainPropOperands, no_prop_operands, prop_operand}
+use Rattle.dcv_syntax.specs.declared.propositions.Connective.{Connective}
+use Rattle.dcv_syntax.specs.declared.propositions.Direction.{Direction}
+use Rattle.dcv_syntax.specs.declared.propositions.Direction.TheVariants.{Prior, Next}
+use Rattle.dcv_logic.specs.Connectives.{joins, of_none}
 use Rattle.dcv_logic.specs.Track.{Track, truth_at, track_of}
 use Rattle.dcv_logic.specs.Environment.{Environment, Meaning, PropMeaning, FormulaMeaning, found}
 
@@ -21,6 +24,11 @@ abbrev pub call_value : Option Track → Option Meaning → List Track → ℕ �
 call_value (Some track) macro arguments i = track_value track arguments i
 call_value None macro arguments i = macro_value macro arguments i
 
+-- what f is one instant earlier, or later, where that is one of the n instants
+abbrev pub shifted : Direction → ℕ → (ℕ → Bool) → ℕ → Bool
+shifted Prior n f i = nat_lt 0 i && f (i - 1)
+shifted Next n f i = nat_lt (i + 1) n && f (i + 1)
+
 abbrev mutual
   -- the truth of a proposition at an instant
   pub value : Environment → PlainPropKind → ℕ → Bool
@@ -31,33 +39,19 @@ abbrev mutual
       call_value (found env.tracks name.text) (found env.macros name.text) (argument_tracks env arguments) i
   -- !P
   value env (PropNot p span) i = not (value env p i)
-  -- P && Q && ..
-  value env (PropAnd operands) i = all_true env operands i
-  -- P || Q || ..
-  value env (PropOr operands) i = some_true env operands i
+  -- P && Q && .., P || Q || .., P <=> Q <=> ..
+  value env (PropJoined connective operands) i = joined_value env connective (of_none connective) operands i
   -- P => Q
   value env (PropImplies p p_span q q_span) i = not (value env p i) || value env q i
-  -- P <=> Q <=> ..
-  value env (PropIff operands) i = iff_all env true operands i
-  -- -P
-  value env (PropPrior form p span) i = nat_lt 0 i && value env p (i - 1)
-  -- +P, which looks beyond an interval, up to the last instant of the behaviour
-  value env (PropNext form p span) i = nat_lt (i + 1) env.instants && value env p (i + 1)
+  -- -P, and +P, which looks beyond an interval, up to the last instant of the behaviour
+  value env (PropShifted direction form p span) i = shifted direction env.instants (value env p) i
 
   -- the track of each argument has its values at all instants of the behaviour
   pub argument_tracks : Environment → PlainArguments → List Track
   argument_tracks env no_arguments = []
   argument_tracks env (argument p span arguments) = track_of env.instants (value env p) ∷ argument_tracks env arguments
 
-  pub all_true : Environment → PlainPropOperands → ℕ → Bool
-  all_true env no_prop_operands i = true
-  all_true env (prop_operand p span outer operands) i = value env p i && all_true env operands i
-
-  pub some_true : Environment → PlainPropOperands → ℕ → Bool
-  some_true env no_prop_operands i = false
-  some_true env (prop_operand p span outer operands) i = value env p i || some_true env operands i
-
-  -- from the left: each operand is joined to the iff of those before it
-  pub iff_all : Environment → Bool → PlainPropOperands → ℕ → Bool
-  iff_all env so_far no_prop_operands i = so_far
-  iff_all env so_far (prop_operand p span outer operands) i = iff_all env (iff so_far (value env p i)) operands i
+  -- from the left: each operand is joined to those before it
+  pub joined_value : Environment → Connective → Bool → PlainPropOperands → ℕ → Bool
+  joined_value env connective so_far no_prop_operands i = so_far
+  joined_value env connective so_far (prop_operand p span outer operands) i = joined_value env connective (joins connective so_far (value env p i)) operands i

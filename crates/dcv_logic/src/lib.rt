@@ -3,7 +3,7 @@
 //! (after Pandya, "Specifying and Deciding Quantified Discrete-time Duration Calculus Formulae using DCVALID", 2001).
 //!
 //! `specs/Lib` names the definitions, which speak of plain trees (`dcv_syntax`'s `Plain`). `laws` has each definition by
-//! a search again in words, as laws; `dcv_evaluator` answers by them form by form.
+//! a search again in words, as laws.
 #![tactic(auto)]
 
 pub mod laws;

@@ -13,10 +13,10 @@ pub mod LookUps
 pub mod Means
 pub mod MeasuredMacros
 pub mod MeasuredText
+pub mod Measures
 pub mod NameRows
 pub mod Relays
 pub mod Sizes
 pub mod Skipped
 pub mod Slots
 pub mod TextRows
-pub mod WorkLeft

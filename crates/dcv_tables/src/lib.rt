@@ -20,4 +20,4 @@ pub use diagrams::{RowFault, function, parity};
 pub use names::one_name;
 pub use shown::{states_over, text_of, text_over};
 pub use states::{State, raw_of, raw_of_text, states_of, text_of_states};
-pub use words::{behaviour, letters};
+pub use words::letters;

@@ -1,4 +1,4 @@
-// Letters in order, and behaviours of one variable.
+// Letters in order.
 ghost use Rattle.std.specs.Prelude.{◌≡◌, ◌==◌, [], ◌∷◌, length, map, if◌then◌else◌, IfOk};
 ghost use Rattle.std.specs.List.{All};
 ghost use Rattle.std.specs.Str.{byte};
@@ -31,16 +31,4 @@ pub(crate) fn before(place: usize, between: &str) -> &str
     ensures { result.now ≡ (if place == 0 then [] else between.now) }
 {
     if place == 0 { "" } else { between }
-}
-
-/// The behaviour of one variable with these truths, as `011`.
-pub fn behaviour(alloc: Global, truths: &str) -> Result<Word, AllocError>
-    ensures width { IfOk result (λ word. word.width ≡ 1) }
-    ensures letters { IfOk result (λ word. word.letters ≡ map (λ truth. (truth == byte "1") ∷ []) truths.now) }
-{
-    let mut word = Word::new(alloc, 1);
-    for truth in truths.bytes() {
-        word.push(Letter::new(1, if truth == b'1' { 1 } else { 0 }))?;
-    }
-    Ok(word)
 }

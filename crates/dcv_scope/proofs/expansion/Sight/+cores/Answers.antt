@@ -6,7 +6,7 @@ use Rattle.dcv_syntax.specs.declared.names.Span.{Span}
 use Rattle.dcv_syntax.specs.declared.formulas.FormulaKind.{FormulaKind}
 use Rattle.dcv_syntax.specs.Views.{plain_formula_kind}
 use Rattle.dcv_logic.specs.Environment.{found}
-use Rattle.dcv_logic.proofs.Measures.{work, list_work, work-And, work-Or, work-Iff, work-Chop, work_at, body_work, all_bodies, left_after_call}
+use Rattle.dcv_scope.proofs.Measures.{work, list_work, work-And, work-Or, work-Iff, work-Chop, work_at, body_work, all_bodies, left_after_call}
 use Rattle.dcv_scope.specs.declared.expansion.Join.TheVariants as join
 use Rattle.dcv_core.specs.Core.{CoreTree, CoreNot}
 use Rattle.dcv_scope.specs.CoreOf.{Sight, core_of, core_of_macro, joined, list_core}
@@ -27,9 +27,9 @@ call-formula-requires t c =
     let self = c.args.self.now in
     let called = c.in-Some.called in
     let inside = c.in_ok-inside-in-Formula.inside in
-    let body : body_work 0 called.defined.now.body ≡ work 0 c.in-Formula.body.kind = ap (body_work 0) c.in-Formula.is in
-    let left = left_after_call (body_work 0) self.macros.now c.args.name.now.text called.defined.now called.macros.now c.in-Some.ensures.newest in
-    let macros : all_bodies (body_work 0) inside.macros.now ≡ all_bodies (body_work 0) called.macros.now = ap (all_bodies (body_work 0)) c.in_ok-inside-in-Formula.ensures.macros in
+    let body : body_work called.defined.now.body ≡ work c.in-Formula.body.kind = ap body_work c.in-Formula.is in
+    let left = left_after_call body_work self.macros.now c.args.name.now.text called.defined.now called.macros.now c.in-Some.ensures.newest in
+    let macros : all_bodies body_work inside.macros.now ≡ all_bodies body_work called.macros.now = ap (all_bodies body_work) c.in_ok-inside-in-Formula.ensures.macros in
     let given = ap (map plain_truth) c.deref.ensures.value ∙ c.in_ok-arguments-in-Formula.ensures in
     let same = core_inside self inside called c.args.name.now.text c.args.arguments.now c.args.span c.in-Some.ensures c.deref.result.now given c.in_ok-inside-in-Formula.ensures.sight c.in-Formula.body c.in-Formula.is in
     (omega (arith, left, body, macros), (c.in_ok-inside-in-Formula.ensures.is_sight, room_same c.requires.room (sym same.slots) (sym same.core)))
@@ -127,7 +127,7 @@ formula-call-requires t c =
     let same = ap (λ (kind : FormulaKind). core_of sight (plain_formula_kind kind) span) c.in-Call.is
     ∙ core-Call sight span c.in-Call.name c.in-Call.arguments
     ∙ ap (λ arguments. core_of_macro (found sight.macros c.in-Call.name.text) sight.slots (truths_in sight arguments) span) (sym c.deref.ensures.value) in
-    let one : work 0 c.args.formula.now.kind ≡ 1 = ap (work 0) c.in-Call.is in
+    let one : work c.args.formula.now.kind ≡ 1 = ap work c.in-Call.is in
     (omega (arith, one), (c.requires.is_sight, room_same c.requires.room refl same))
 
 pub formula-returns-in-Call : goal.formula-returns-in-Call
@@ -146,8 +146,8 @@ formula-list-requires t c =
     let same = ap (λ (kind : FormulaKind). core_of sight (plain_formula_kind kind) span) c.in-And.is
     ∙ core-And sight span c.in-And.operands
     ∙ ap (listed sight span join.And) (sym c.deref-in-And.ensures.value) in
-    let left : work 0 c.args.formula.now.kind ≡ list_work 0 c.deref-in-And.result.now + 1 =
-    ap (work 0) c.in-And.is ∙ work-And 0 c.in-And.operands ∙ ap (λ os. list_work 0 os + 1) (sym c.deref-in-And.ensures.value) in
+    let left : work c.args.formula.now.kind ≡ list_work c.deref-in-And.result.now + 1 =
+    ap work c.in-And.is ∙ work-And c.in-And.operands ∙ ap (λ os. list_work os + 1) (sym c.deref-in-And.ensures.value) in
     (omega (arith, left), (c.requires.is_sight, room_same c.requires.room refl same))
 
 pub formula-list-requires-in-Or : goal.formula-list-requires-in-Or
@@ -157,8 +157,8 @@ formula-list-requires-in-Or t c =
     let same = ap (λ (kind : FormulaKind). core_of sight (plain_formula_kind kind) span) c.in-Or.is
     ∙ core-Or sight span c.in-Or.operands
     ∙ ap (listed sight span join.Or) (sym c.deref-in-Or.ensures.value) in
-    let left : work 0 c.args.formula.now.kind ≡ list_work 0 c.deref-in-Or.result.now + 1 =
-    ap (work 0) c.in-Or.is ∙ work-Or 0 c.in-Or.operands ∙ ap (λ os. list_work 0 os + 1) (sym c.deref-in-Or.ensures.value) in
+    let left : work c.args.formula.now.kind ≡ list_work c.deref-in-Or.result.now + 1 =
+    ap work c.in-Or.is ∙ work-Or c.in-Or.operands ∙ ap (λ os. list_work os + 1) (sym c.deref-in-Or.ensures.value) in
     (omega (arith, left), (c.requires.is_sight, room_same c.requires.room refl same))
 
 pub formula-list-requires-in-Iff : goal.formula-list-requires-in-Iff
@@ -168,8 +168,8 @@ formula-list-requires-in-Iff t c =
     let same = ap (λ (kind : FormulaKind). core_of sight (plain_formula_kind kind) span) c.in-Iff.is
     ∙ core-Iff sight span c.in-Iff.operands
     ∙ ap (listed sight span join.Iff) (sym c.deref-in-Iff.ensures.value) in
-    let left : work 0 c.args.formula.now.kind ≡ list_work 0 c.deref-in-Iff.result.now + 1 =
-    ap (work 0) c.in-Iff.is ∙ work-Iff 0 c.in-Iff.operands ∙ ap (λ os. list_work 0 os + 1) (sym c.deref-in-Iff.ensures.value) in
+    let left : work c.args.formula.now.kind ≡ list_work c.deref-in-Iff.result.now + 1 =
+    ap work c.in-Iff.is ∙ work-Iff c.in-Iff.operands ∙ ap (λ os. list_work os + 1) (sym c.deref-in-Iff.ensures.value) in
     (omega (arith, left), (c.requires.is_sight, room_same c.requires.room refl same))
 
 pub formula-list-requires-in-Chop : goal.formula-list-requires-in-Chop
@@ -179,8 +179,8 @@ formula-list-requires-in-Chop t c =
     let same = ap (λ (kind : FormulaKind). core_of sight (plain_formula_kind kind) span) c.in-Chop.is
     ∙ core-Chop sight span c.in-Chop.operands
     ∙ ap (listed sight span join.Chop) (sym c.deref-in-Chop.ensures.value) in
-    let left : work 0 c.args.formula.now.kind ≡ list_work 0 c.deref-in-Chop.result.now + 1 =
-    ap (work 0) c.in-Chop.is ∙ work-Chop 0 c.in-Chop.operands ∙ ap (λ os. list_work 0 os + 1) (sym c.deref-in-Chop.ensures.value) in
+    let left : work c.args.formula.now.kind ≡ list_work c.deref-in-Chop.result.now + 1 =
+    ap work c.in-Chop.is ∙ work-Chop c.in-Chop.operands ∙ ap (λ os. list_work os + 1) (sym c.deref-in-Chop.ensures.value) in
     (omega (arith, left), (c.requires.is_sight, room_same c.requires.room refl same))
 
 -- ---- lists
@@ -191,7 +191,7 @@ list-formula-requires t c =
     let first = c.in-Some.first.now in
     let rest = c.in-Some.rest.now in
     let operands : c.args.operands.now ≡ first ∷ rest = c.in-Some.ensures.cases.0 in
-    let work_is : list_work 0 c.args.operands.now ≡ work 0 first.formula.kind + 2 + list_work 0 rest = ap (list_work 0) operands in
+    let work_is : list_work c.args.operands.now ≡ work first.formula.kind + 1 + list_work rest = ap list_work operands in
     (omega (arith, work_is), (c.requires.is_sight, first_room (join_is_two c.args.join) (sight_of self) (unit_of c.args.join) c.args.span c.args.operands.now first rest operands c.requires.room))
 
 pub list-loop-operand-init : goal.list-loop-operand-init
@@ -224,10 +224,10 @@ list-formula-requires-in-loop-operand t c =
     let far = c.loop-operand.invariant in
     let lt = c.loop-operand-test.true in
     let operands : c.args.operands.now ≡ first ∷ rest = c.in-Some.ensures.cases.0 in
-    let work_is : list_work 0 c.args.operands.now ≡ work 0 first.formula.kind + 2 + list_work 0 rest = ap (list_work 0) operands in
-    let item_work : work 0 item.formula.kind ≡ work 0 (slice_index_or rest i item).formula.kind = ap (λ (o : FormulaOperand). work 0 o.formula.kind) c.operand-item.is in
+    let work_is : list_work c.args.operands.now ≡ work first.formula.kind + 1 + list_work rest = ap list_work operands in
+    let item_work : work item.formula.kind ≡ work (slice_index_or rest i item).formula.kind = ap (λ (o : FormulaOperand). work o.formula.kind) c.operand-item.is in
     let all = goes_on sight (join_of c.args.join) first.span rest i item far.0 _ lt c.operand-item.is far.2 in (
-      omega (arith, work_is, item_work, work_at 0 rest i item lt),
+      omega (arith, work_is, item_work, work_at rest i item lt),
       (
         c.requires.is_sight,
         operand_room (join_is_two c.args.join) sight first.span c.requires.room far.1 (core_of sight (plain_formula_kind item.formula.kind) item.formula.span)

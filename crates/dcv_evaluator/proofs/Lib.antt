@@ -1,2 +1,0 @@
-pub mod Environments
-pub mod Rows
