@@ -3,7 +3,8 @@ use Rattle.std.proofs.Common.{◌≡◌, map, Vec, Global, refl, ap, ◌∙◌}
 use mathlib.Core.Former.{Count}
 use Rattle.dcv_core.specs.declared.truths.Truth.{Truth, And', And, Or, Iff, items-the_row-Truth, items_hidden-the_row-Truth-0}
 use Rattle.dcv_core.specs.declared.truths.Truth.TheBlock.{Row_of-Truth, end_of-Truth, more_of-Truth}
-use Rattle.dcv_core.specs.Core.{TruthAnd, TruthOr, TruthIff, truth_operand}
+use Rattle.dcv_syntax.specs.declared.propositions.Connective.TheVariants as connective
+use Rattle.dcv_core.specs.Core.{TruthJoined, truth_operand}
 use Rattle.dcv_core.specs.TruthViews.{plain_truth, plain_truths, truths_of}
 
 truths_are : (n : _) (row : Row_of-Truth n) → plain_truths row ≡ truths_of (map plain_truth (items-the_row-Truth n row))
@@ -20,13 +21,13 @@ module _ (operands : Vec Truth Global) where
       let row = truth_row (And operands) in
       truths_are row.0 row.1 ∙ ap (λ ps. truths_of (map plain_truth ps)) (items_hidden-the_row-Truth-0 operands)
 
-  pub truth_and : plain_truth (And operands) ≡ TruthAnd (truths_of (map plain_truth operands.items))
-  truth_and = ap TruthAnd row_is
+  pub truth_and : plain_truth (And operands) ≡ TruthJoined connective.And (truths_of (map plain_truth operands.items))
+  truth_and = ap (TruthJoined connective.And) row_is
 
-  pub truth_or : plain_truth (Or operands) ≡ TruthOr (truths_of (map plain_truth operands.items))
-  truth_or = ap TruthOr row_is
+  pub truth_or : plain_truth (Or operands) ≡ TruthJoined connective.Or (truths_of (map plain_truth operands.items))
+  truth_or = ap (TruthJoined connective.Or) row_is
 
-  pub truth_iff : plain_truth (Iff operands) ≡ TruthIff (truths_of (map plain_truth operands.items))
-  truth_iff = ap TruthIff row_is
+  pub truth_iff : plain_truth (Iff operands) ≡ TruthJoined connective.Iff (truths_of (map plain_truth operands.items))
+  truth_iff = ap (TruthJoined connective.Iff) row_is
 
 pub ruleset truth_rows = (truth_and, truth_or, truth_iff)

@@ -2,13 +2,14 @@
 use Rattle.std.specs.Prelude.{◌≡◌, ℕ, suc, ◌-◌, ◌<◌, ◌≤◌, length, Some}
 use Rattle.std.specs.List.{slice_get}
 use Rattle.dcv_syntax.specs.declared.names.Span.{Span}
+use Rattle.dcv_syntax.specs.declared.propositions.Connective.{Connective}
 use Rattle.dcv_word.specs.Behaviour.{Word}
 use Rattle.dcv_language.specs.Language.{Language, outside}
-use Rattle.dcv_language.specs.Operations.{intersection, union, agreement, chop, star, projection}
-use Rattle.dcv_core.specs.Core.{PlainBasic, CoreTree, CoreAtom, CoreNot, CoreAnd, CoreOr, CoreIff, CoreChop, CoreStar, CoreExists}
+use Rattle.dcv_language.specs.Operations.{chop, star, projection}
+use Rattle.dcv_core.specs.Core.{PlainBasic, CoreTree, CoreAtom, CoreNot, CoreJoined, CoreChop, CoreStar, CoreExists}
 use Rattle.dcv_core.specs.Holds.{core_holds, words_of, part_of}
 use Rattle.dcv_core.specs.Steps.{PlainStep, steps_of, steps_before}
-use Rattle.dcv_core.specs.StepWords.{basic_words, IsOperation}
+use Rattle.dcv_core.specs.StepWords.{basic_words, joined_words, IsOperation}
 
 -- a core holds on an interval exactly where it holds on the whole of that part of the word
 abbrev pub CoreIsLocal : Type 0
@@ -26,14 +27,9 @@ WordsOfAtom = (basic : PlainBasic) (span : Span) → SameNonempty (words_of (Cor
 abbrev pub WordsOfNot : Type 0
 WordsOfNot = (d : CoreTree) (span : Span) → SameNonempty (words_of (CoreNot d span)) (outside (words_of d))
 
-abbrev pub WordsOfAnd : Type 0
-WordsOfAnd = (c d : CoreTree) (span : Span) → SameNonempty (words_of (CoreAnd c d span)) (intersection (words_of c) (words_of d))
-
-abbrev pub WordsOfOr : Type 0
-WordsOfOr = (c d : CoreTree) (span : Span) → SameNonempty (words_of (CoreOr c d span)) (union (words_of c) (words_of d))
-
-abbrev pub WordsOfIff : Type 0
-WordsOfIff = (c d : CoreTree) (span : Span) → SameNonempty (words_of (CoreIff c d span)) (agreement (words_of c) (words_of d))
+abbrev pub WordsOfJoined : Type 0
+WordsOfJoined = (connective : Connective) (c d : CoreTree) (span : Span)
+    → SameNonempty (words_of (CoreJoined connective c d span)) (joined_words connective (words_of c) (words_of d))
 
 abbrev pub WordsOfChop : Type 0
 WordsOfChop = (c d : CoreTree) (span : Span) → SameNonempty (words_of (CoreChop c d span)) (chop (words_of c) (words_of d))

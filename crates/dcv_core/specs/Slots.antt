@@ -6,19 +6,16 @@
 --     OpHasNoShift op    nor in the operator's proposition, where it has one
 --     CoreHasNoShift c   nor in the core's propositions
 use Rattle.std.specs.Prelude.{ℕ, ◌+◌, ◌<◌}
-use Rattle.dcv_core.specs.Core.{PlainTruth, TruthConstant, TruthSlot, TruthNot, TruthAnd, TruthOr, TruthIff, TruthShift, PlainTruths, no_truths, truth_operand, PlainBasic, BasicConstant, BasicPoint, BasicRun, BasicEvery, BasicUnit}
-use Rattle.dcv_core.specs.Core.{BasicSlen, BasicScount, BasicSdur, BasicBack, BasicFore}
-use Rattle.dcv_core.specs.Core.{CoreTree, CoreAtom, CoreNot, CoreAnd, CoreOr, CoreIff, CoreChop, CoreStar, CoreExists}
-use Rattle.dcv_core.specs.Steps.{PlainOp, OpAtom, OpNot, OpAnd, OpOr, OpIff, OpChop, OpStar, OpExists}
+use Rattle.dcv_core.specs.Core.{PlainTruth, TruthConstant, TruthSlot, TruthNot, TruthJoined, TruthShift, PlainTruths, no_truths, truth_operand, PlainBasic, BasicConstant, BasicBracketed, BasicSlen, BasicCounted, BasicTrack}
+use Rattle.dcv_core.specs.Core.{CoreTree, CoreAtom, CoreNot, CoreJoined, CoreChop, CoreStar, CoreExists}
+use Rattle.dcv_core.specs.Steps.{PlainOp, OpAtom}
 
 abbrev mutual
   pub IsBelow : ℕ → PlainTruth → Type 0
   IsBelow k (TruthConstant truth) = Unit {0}
   IsBelow k (TruthSlot slot) = slot < k
   IsBelow k (TruthNot p) = IsBelow k p
-  IsBelow k (TruthAnd operands) = AreBelow k operands
-  IsBelow k (TruthOr operands) = AreBelow k operands
-  IsBelow k (TruthIff operands) = AreBelow k operands
+  IsBelow k (TruthJoined connective operands) = AreBelow k operands
   IsBelow k (TruthShift direction p span) = IsBelow k p
 
   pub AreBelow : ℕ → PlainTruths → Type 0
@@ -27,32 +24,19 @@ abbrev mutual
 
 abbrev pub BasicIsBelow : ℕ → PlainBasic → Type 0
 BasicIsBelow k (BasicConstant truth) = Unit {0}
-BasicIsBelow k (BasicPoint p) = IsBelow k p
-BasicIsBelow k (BasicRun p) = IsBelow k p
-BasicIsBelow k (BasicEvery p) = IsBelow k p
-BasicIsBelow k (BasicUnit p) = IsBelow k p
+BasicIsBelow k (BasicBracketed bracket p) = IsBelow k p
 BasicIsBelow k (BasicSlen relation n) = Unit {0}
-BasicIsBelow k (BasicScount p relation n) = IsBelow k p
-BasicIsBelow k (BasicSdur p relation n) = IsBelow k p
-BasicIsBelow k (BasicBack p slot) = IsBelow k p × (slot < k)
-BasicIsBelow k (BasicFore p slot) = IsBelow k p × (slot < k)
+BasicIsBelow k (BasicCounted count p relation n) = IsBelow k p
+BasicIsBelow k (BasicTrack direction p slot) = IsBelow k p × (slot < k)
 
 abbrev pub OpIsBelow : ℕ → PlainOp → Type 0
 OpIsBelow k (OpAtom basic) = BasicIsBelow k basic
-OpIsBelow k (OpNot d) = Unit {0}
-OpIsBelow k (OpAnd c d) = Unit {0}
-OpIsBelow k (OpOr c d) = Unit {0}
-OpIsBelow k (OpIff c d) = Unit {0}
-OpIsBelow k (OpChop c d) = Unit {0}
-OpIsBelow k (OpStar d) = Unit {0}
-OpIsBelow k (OpExists d) = Unit {0}
+OpIsBelow k op = Unit {0}
 
 abbrev pub CoreIsBelow : ℕ → CoreTree → Type 0
 CoreIsBelow k (CoreAtom basic span) = BasicIsBelow k basic
 CoreIsBelow k (CoreNot d span) = CoreIsBelow k d
-CoreIsBelow k (CoreAnd c d span) = CoreIsBelow k c × CoreIsBelow k d
-CoreIsBelow k (CoreOr c d span) = CoreIsBelow k c × CoreIsBelow k d
-CoreIsBelow k (CoreIff c d span) = CoreIsBelow k c × CoreIsBelow k d
+CoreIsBelow k (CoreJoined connective c d span) = CoreIsBelow k c × CoreIsBelow k d
 CoreIsBelow k (CoreChop c d span) = CoreIsBelow k c × CoreIsBelow k d
 CoreIsBelow k (CoreStar d span) = CoreIsBelow k d
 CoreIsBelow k (CoreExists d span) = CoreIsBelow (k + 1) d
@@ -64,9 +48,7 @@ abbrev mutual
   HasNoShift (TruthConstant truth) = Unit {0}
   HasNoShift (TruthSlot slot) = Unit {0}
   HasNoShift (TruthNot p) = HasNoShift p
-  HasNoShift (TruthAnd operands) = HaveNoShift operands
-  HasNoShift (TruthOr operands) = HaveNoShift operands
-  HasNoShift (TruthIff operands) = HaveNoShift operands
+  HasNoShift (TruthJoined connective operands) = HaveNoShift operands
   HasNoShift (TruthShift direction p span) = ⊥
 
   pub HaveNoShift : PlainTruths → Type 0
@@ -75,32 +57,19 @@ abbrev mutual
 
 abbrev pub BasicHasNoShift : PlainBasic → Type 0
 BasicHasNoShift (BasicConstant truth) = Unit {0}
-BasicHasNoShift (BasicPoint p) = HasNoShift p
-BasicHasNoShift (BasicRun p) = HasNoShift p
-BasicHasNoShift (BasicEvery p) = HasNoShift p
-BasicHasNoShift (BasicUnit p) = HasNoShift p
+BasicHasNoShift (BasicBracketed bracket p) = HasNoShift p
 BasicHasNoShift (BasicSlen relation n) = Unit {0}
-BasicHasNoShift (BasicScount p relation n) = HasNoShift p
-BasicHasNoShift (BasicSdur p relation n) = HasNoShift p
-BasicHasNoShift (BasicBack p slot) = HasNoShift p
-BasicHasNoShift (BasicFore p slot) = HasNoShift p
+BasicHasNoShift (BasicCounted count p relation n) = HasNoShift p
+BasicHasNoShift (BasicTrack direction p slot) = HasNoShift p
 
 abbrev pub OpHasNoShift : PlainOp → Type 0
 OpHasNoShift (OpAtom basic) = BasicHasNoShift basic
-OpHasNoShift (OpNot d) = Unit {0}
-OpHasNoShift (OpAnd c d) = Unit {0}
-OpHasNoShift (OpOr c d) = Unit {0}
-OpHasNoShift (OpIff c d) = Unit {0}
-OpHasNoShift (OpChop c d) = Unit {0}
-OpHasNoShift (OpStar d) = Unit {0}
-OpHasNoShift (OpExists d) = Unit {0}
+OpHasNoShift op = Unit {0}
 
 abbrev pub CoreHasNoShift : CoreTree → Type 0
 CoreHasNoShift (CoreAtom basic span) = BasicHasNoShift basic
 CoreHasNoShift (CoreNot d span) = CoreHasNoShift d
-CoreHasNoShift (CoreAnd c d span) = CoreHasNoShift c × CoreHasNoShift d
-CoreHasNoShift (CoreOr c d span) = CoreHasNoShift c × CoreHasNoShift d
-CoreHasNoShift (CoreIff c d span) = CoreHasNoShift c × CoreHasNoShift d
+CoreHasNoShift (CoreJoined connective c d span) = CoreHasNoShift c × CoreHasNoShift d
 CoreHasNoShift (CoreChop c d span) = CoreHasNoShift c × CoreHasNoShift d
 CoreHasNoShift (CoreStar d span) = CoreHasNoShift d
 CoreHasNoShift (CoreExists d span) = CoreHasNoShift d

@@ -10,14 +10,13 @@
 --     IsChoppedRound   the last three steps of `true ^ D ^ true` more
 use Rattle.std.specs.Prelude.{◌≡◌, ℕ, true, suc, ◌+◌, ◌^◌, ◌<◌, max, List, [], ◌∷◌, ◌++◌, length, map}
 use Rattle.dcv_syntax.specs.declared.names.Span.{Span}
-use Rattle.dcv_core.specs.Core.{PlainBasic, BasicConstant, CoreTree, CoreAtom, CoreNot, CoreAnd, CoreOr, CoreIff, CoreChop, CoreStar, CoreExists}
+use Rattle.dcv_syntax.specs.declared.propositions.Connective.{Connective}
+use Rattle.dcv_core.specs.Core.{PlainBasic, BasicConstant, CoreTree, CoreAtom, CoreNot, CoreJoined, CoreChop, CoreStar, CoreExists}
 
 pub data PlainOp : Type 0 where
   OpAtom : (basic : PlainBasic) → PlainOp
   OpNot : (operand : ℕ) → PlainOp
-  OpAnd : (first : ℕ) → (second : ℕ) → PlainOp
-  OpOr : (first : ℕ) → (second : ℕ) → PlainOp
-  OpIff : (first : ℕ) → (second : ℕ) → PlainOp
+  OpJoined : (connective : Connective) → (first : ℕ) → (second : ℕ) → PlainOp
   OpChop : (first : ℕ) → (second : ℕ) → PlainOp
   OpStar : (operand : ℕ) → PlainOp
   OpExists : (operand : ℕ) → PlainOp
@@ -32,9 +31,7 @@ pub record PlainStep : Type 0 where
 abbrev pub steps_before : CoreTree → ℕ
 steps_before (CoreAtom basic span) = 0
 steps_before (CoreNot d span) = suc (steps_before d)
-steps_before (CoreAnd c d span) = suc (suc (steps_before c + steps_before d))
-steps_before (CoreOr c d span) = suc (suc (steps_before c + steps_before d))
-steps_before (CoreIff c d span) = suc (suc (steps_before c + steps_before d))
+steps_before (CoreJoined connective c d span) = suc (suc (steps_before c + steps_before d))
 steps_before (CoreChop c d span) = suc (suc (steps_before c + steps_before d))
 steps_before (CoreStar d span) = suc (steps_before d)
 steps_before (CoreExists d span) = suc (steps_before d)
@@ -47,18 +44,10 @@ own_step op span slots core = record { op = op; span = span; slots = slots; core
 abbrev pub steps_from : ℕ → ℕ → CoreTree → List PlainStep
 steps_from n k (CoreAtom basic span) = own_step (OpAtom basic) span k (CoreAtom basic span) ∷ []
 steps_from n k (CoreNot d span) = steps_from n k d ++ own_step (OpNot (n + steps_before d)) span k (CoreNot d span) ∷ []
-steps_from n k (CoreAnd c d span) =
+steps_from n k (CoreJoined connective c d span) =
     let first = n + steps_before c in
     let second = suc first + steps_before d in
-    (steps_from n k c ++ steps_from (suc first) k d) ++ own_step (OpAnd first second) span k (CoreAnd c d span) ∷ []
-steps_from n k (CoreOr c d span) =
-    let first = n + steps_before c in
-    let second = suc first + steps_before d in
-    (steps_from n k c ++ steps_from (suc first) k d) ++ own_step (OpOr first second) span k (CoreOr c d span) ∷ []
-steps_from n k (CoreIff c d span) =
-    let first = n + steps_before c in
-    let second = suc first + steps_before d in
-    (steps_from n k c ++ steps_from (suc first) k d) ++ own_step (OpIff first second) span k (CoreIff c d span) ∷ []
+    (steps_from n k c ++ steps_from (suc first) k d) ++ own_step (OpJoined connective first second) span k (CoreJoined connective c d span) ∷ []
 steps_from n k (CoreChop c d span) =
     let first = n + steps_before c in
     let second = suc first + steps_before d in
@@ -104,9 +93,7 @@ pub record Made (old : PlainCore) (slots : ℕ) (core : CoreTree) (new : PlainCo
 abbrev pub nesting : CoreTree → ℕ
 nesting (CoreAtom basic span) = 0
 nesting (CoreNot d span) = nesting d
-nesting (CoreAnd c d span) = max (nesting c) (nesting d)
-nesting (CoreOr c d span) = max (nesting c) (nesting d)
-nesting (CoreIff c d span) = max (nesting c) (nesting d)
+nesting (CoreJoined connective c d span) = max (nesting c) (nesting d)
 nesting (CoreChop c d span) = max (nesting c) (nesting d)
 nesting (CoreStar d span) = nesting d
 nesting (CoreExists d span) = suc (nesting d)

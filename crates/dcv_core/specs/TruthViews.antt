@@ -4,17 +4,21 @@ use Rattle.dcv_core.specs.declared.truths.Truth.{Truth, Constant, Slot, Not', An
 use Rattle.dcv_core.specs.declared.truths.Truth.TheBlock.{Row_of-Truth, end_of-Truth, more_of-Truth}
 use Rattle.dcv_core.specs.declared.truths.Basic.{Basic}
 use Rattle.dcv_core.specs.declared.truths.Basic.TheVariants.{Constant as ConstantForm, Point, Run, Every, Unit as TwoInstants, Slen, Scount, Sdur, Back, Fore}
-use Rattle.dcv_core.specs.Core.{PlainTruth, TruthConstant, TruthSlot, TruthNot, TruthAnd, TruthOr, TruthIff, TruthShift, PlainTruths, no_truths, truth_operand}
-use Rattle.dcv_core.specs.Core.{PlainBasic, BasicConstant, BasicPoint, BasicRun, BasicEvery, BasicUnit, BasicSlen, BasicScount, BasicSdur, BasicBack, BasicFore}
+use Rattle.dcv_syntax.specs.declared.propositions.Connective.TheVariants as connective
+use Rattle.dcv_syntax.specs.declared.propositions.Direction.TheVariants as direction
+use Rattle.dcv_syntax.specs.declared.formulas.Bracket.TheVariants as bracket
+use Rattle.dcv_syntax.specs.declared.formulas.Count.TheVariants as count
+use Rattle.dcv_core.specs.Core.{PlainTruth, TruthConstant, TruthSlot, TruthNot, TruthJoined, TruthShift, PlainTruths, no_truths, truth_operand}
+use Rattle.dcv_core.specs.Core.{PlainBasic, BasicConstant, BasicBracketed, BasicSlen, BasicCounted, BasicTrack}
 
 abbrev mutual
   pub plain_truth : Truth → PlainTruth
   plain_truth (Constant truth) = TruthConstant truth
   plain_truth (Slot slot) = TruthSlot slot
   plain_truth (Not' pointer operand) = TruthNot (plain_truth operand)
-  plain_truth (And' shape operands) = TruthAnd (plain_truths operands)
-  plain_truth (Or' shape operands) = TruthOr (plain_truths operands)
-  plain_truth (Iff' shape operands) = TruthIff (plain_truths operands)
+  plain_truth (And' shape operands) = TruthJoined connective.And (plain_truths operands)
+  plain_truth (Or' shape operands) = TruthJoined connective.Or (plain_truths operands)
+  plain_truth (Iff' shape operands) = TruthJoined connective.Iff (plain_truths operands)
   plain_truth (Shift' direction pointer operand span) = TruthShift direction (plain_truth operand) span
 
   pub plain_truths : {m : _} → Row_of-Truth m → PlainTruths
@@ -28,12 +32,12 @@ truths_of (p ∷ truths) = truth_operand p (truths_of truths)
 
 abbrev pub plain_basic : Basic → PlainBasic
 plain_basic (ConstantForm truth) = BasicConstant truth
-plain_basic (Point p) = BasicPoint (plain_truth p)
-plain_basic (Run p) = BasicRun (plain_truth p)
-plain_basic (Every p) = BasicEvery (plain_truth p)
-plain_basic (TwoInstants p) = BasicUnit (plain_truth p)
+plain_basic (Point p) = BasicBracketed bracket.Point (plain_truth p)
+plain_basic (Run p) = BasicBracketed bracket.Run (plain_truth p)
+plain_basic (Every p) = BasicBracketed bracket.Every (plain_truth p)
+plain_basic (TwoInstants p) = BasicBracketed bracket.Unit (plain_truth p)
 plain_basic (Slen relation number) = BasicSlen relation number
-plain_basic (Scount p relation number) = BasicScount (plain_truth p) relation number
-plain_basic (Sdur p relation number) = BasicSdur (plain_truth p) relation number
-plain_basic (Back p slot) = BasicBack (plain_truth p) slot
-plain_basic (Fore p slot) = BasicFore (plain_truth p) slot
+plain_basic (Scount p relation number) = BasicCounted count.Scount (plain_truth p) relation number
+plain_basic (Sdur p relation number) = BasicCounted count.Sdur (plain_truth p) relation number
+plain_basic (Back p slot) = BasicTrack direction.Prior (plain_truth p) slot
+plain_basic (Fore p slot) = BasicTrack direction.Next (plain_truth p) slot

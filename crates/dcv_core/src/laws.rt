@@ -1,6 +1,6 @@
 //! Laws of the core. Each function here does nothing: its contract is the law.
 ghost use Rattle.dcv_core.specs.Laws.{CoreIsLocal, StepsAreOperations, LastStepIsCore};
-ghost use Rattle.dcv_core.specs.Laws.{WordsOfAtom, WordsOfNot, WordsOfAnd, WordsOfOr, WordsOfIff, WordsOfChop, WordsOfStar, WordsOfExists};
+ghost use Rattle.dcv_core.specs.Laws.{WordsOfAtom, WordsOfNot, WordsOfJoined, WordsOfChop, WordsOfStar, WordsOfExists};
 
 /// What a core says of an interval depends on the letters of that interval alone.
 pub fn core_is_local()
@@ -11,9 +11,7 @@ pub fn core_is_local()
 pub fn words_are_operations()
     ensures atom { WordsOfAtom }
     ensures not { WordsOfNot }
-    ensures and { WordsOfAnd }
-    ensures or { WordsOfOr }
-    ensures iff { WordsOfIff }
+    ensures joined { WordsOfJoined }
     ensures chop { WordsOfChop }
     ensures star { WordsOfStar }
     ensures exists { WordsOfExists }

@@ -18,6 +18,6 @@ pub mod laws;
 mod steps;
 mod truths;
 
-pub use dcv_syntax::Relation as Rel;
+pub use dcv_syntax::{Direction, Relation as Rel};
 pub use steps::{Core, Op, Operator};
-pub use truths::{Basic, Direction, Truth};
+pub use truths::{Basic, Truth};

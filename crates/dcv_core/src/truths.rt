@@ -2,17 +2,8 @@
 ghost use Rattle.std.specs.Prelude.{◌≡◌, map, IfOk};
 ghost use Rattle.dcv_core.specs.TruthViews.{plain_truth};
 
-use dcv_syntax::{Relation as Rel, Span};
+use dcv_syntax::{Direction, Relation as Rel, Span};
 use std::alloc::{AllocError, Global};
-
-/// Where a shifted proposition looks.
-#[derive(Clone, Copy, Debug, PartialEq, Eq)]
-pub enum Direction {
-    /// At the instant before, as `-P` does.
-    Prior,
-    /// At the next instant, as `+P` does.
-    Next,
-}
 
 /// A proposition over slots. A list may have any number of operands; `Iff` groups to the left.
 #[cycle(truth)]
