@@ -3,7 +3,7 @@ use Rattle.std.proofs.Common.{◌≡◌, ℕ, zero, suc, ◌+◌, ◌-◌, ◌�
 use Rattle.std.specs.Prelude.{◌||◌, ◌&&◌, ◌==◌, not}
 use Rattle.std.proofs.lemmas.Bool.Decides.{nat_tests}
 use Rattle.dcv_logic.specs.Search.{some_from, some_between, each_between}
-use Rattle.dcv_logic.specs.Satisfaction.{somewhere}
+use Rattle.dcv_logic.specs.Connectives.{somewhere}
 use Rattle.dcv_logic.proofs.InWords.{some_between-found}
 
 -- two truths are the same where each implies the other

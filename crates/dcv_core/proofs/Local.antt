@@ -1,21 +1,20 @@
 -- What a core says of an interval depends on the letters of that interval alone: two words whose letters agree there, instant
 -- by instant, say the same, wherever the intervals begin.
-use Rattle.std.proofs.Common.{◌≡◌, ℕ, suc, ◌+◌, ◌-◌, ◌<◌, ◌≤◌, Bool, true, false, not, [], ◌∷◌, ◌++◌, length, drop, refl, sym, ap, ◌∙◌, arith, length-take, length-drop}
-use Rattle.std.specs.Prelude.{◌||◌, ◌&&◌, ◌==◌, nat_lt}
-use Rattle.std.proofs.lemmas.Bool.Decides.{nat_tests}
+use Rattle.std.proofs.Common.{◌≡◌, ℕ, suc, ◌+◌, ◌-◌, ◌<◌, ◌≤◌, Bool, true, not, [], ◌∷◌, ◌++◌, length, drop, refl, sym, ap, ◌∙◌, arith, length-take, length-drop}
+use Rattle.std.specs.Prelude.{◌&&◌}
 use Rattle.std.proofs.lemmas.List.{get_or-take, get_or-drop}
 use Rattle.dcv_word.specs.Behaviour.{Word}
-use Rattle.dcv_language.specs.Operations.{with_track, some_track, iff}
+use Rattle.dcv_language.specs.Operations.{with_track, some_track}
 use Rattle.dcv_logic.specs.Track.{Track, truth_at, track_of}
-use Rattle.dcv_logic.specs.Search.{each_between, count_from}
-use Rattle.dcv_logic.specs.Satisfaction.{compares, star}
+use Rattle.dcv_logic.specs.Satisfaction.{compares}
+use Rattle.dcv_logic.specs.Connectives.{joins, star}
 use Rattle.dcv_logic.proofs.InWords.{some_track-found, track-length, track-values}
-use Rattle.dcv_core.specs.Core.{PlainTruth, TruthSlot, PlainBasic, BasicConstant, BasicPoint, BasicRun, BasicEvery, BasicUnit, BasicSlen, BasicScount, BasicSdur, BasicBack, BasicFore, CoreTree, CoreAtom, CoreNot, CoreAnd, CoreOr, CoreIff, CoreChop, CoreStar, CoreExists}
+use Rattle.dcv_core.specs.Core.{PlainTruth, TruthSlot, PlainBasic, BasicConstant, BasicBracketed, BasicSlen, BasicCounted, BasicTrack, CoreTree, CoreAtom, CoreNot, CoreJoined, CoreChop, CoreStar, CoreExists}
 use Rattle.dcv_core.specs.Holds.{letter_at, truth_holds, holds_at, basic_holds, core_holds, part_of}
 use Rattle.dcv_core.specs.Laws.{CoreIsLocal}
 use Rattle.dcv_core.proofs.Tracks.{with_track-length, with_track-letter}
 use Rattle.dcv_core.proofs.Chops.{by_both}
-use Rattle.dcv_core.proofs.Aligned.{Beside, some_between-beside, count_from-beside, count_between-beside, each_between-beside, equal-beside, star-beside}
+use Rattle.dcv_core.proofs.Aligned.{Beside, some_between-beside, bracket-beside, counted-beside, track-beside, star-beside}
 
 -- from instant b to e the word u has the letters that v has from x to y
 pub record SamePart (u v : Word) (b e x y : ℕ) : Type 0 where
@@ -44,19 +43,6 @@ other_way u v b e x y s = record {
   letters = λ i i' low high beside. sym (s.letters i' i (omega (arith, low, beside)) (omega (arith, high, beside, s.level)) (omega (arith, beside)));
 }
 
-less-beside : (b e x y : ℕ) → Beside b x e y → nat_lt b e ≡ nat_lt x y
-less-beside b e x y level = grind (arith, nat_tests)
-
-next-beside : (b e x y : ℕ) → Beside b x e y → (e == b + 1) ≡ (y == x + 1)
-next-beside b e x y level = grind (arith, nat_tests)
-
-less_only : (b e : ℕ) → nat_lt b e ≡ true → b < e
-less_only b e more = grind (arith, nat_tests)
-
-and_given : (t p q : Bool) → (t ≡ true → p ≡ q) → (t && p) ≡ (t && q)
-and_given true p q h = h refl
-and_given false p q h = refl
-
 -- the atoms
 module _ (u v : Word) (b e x y : ℕ) (s : SamePart u v b e x y) where
   here : (p : PlainTruth) (m m' : ℕ) → b ≤ m → m ≤ e → Beside b x m m' → holds_at p u m ≡ holds_at p v m'
@@ -65,51 +51,13 @@ module _ (u v : Word) (b e x y : ℕ) (s : SamePart u v b e x y) where
   steps : e - b ≡ y - x
   steps = omega (arith, s.level)
 
-  -- each instant but the last, where there is more than one
-  run_local : (p : PlainTruth) → (nat_lt b e && each_between b (e - 1) (holds_at p u)) ≡ (nat_lt x y && each_between x (y - 1) (holds_at p v))
-  run_local p =
-      and_given (nat_lt b e) (each_between b (e - 1) (holds_at p u)) (each_between x (y - 1) (holds_at p v)) (λ more.
-      let lt : b < e = less_only b e more in
-      each_between-beside b (e - 1) x (y - 1) (omega (arith, s.level, lt)) (holds_at p u) (holds_at p v)
-      (λ m m' lo hi beside. here p m m' lo (omega (arith, hi)) beside))
-      ∙ ap (λ t. t && each_between x (y - 1) (holds_at p v)) (less-beside b e x y s.level)
-
   basic_local : (basic : PlainBasic) → basic_holds basic u b e ≡ basic_holds basic v x y
   basic_local (BasicConstant truth) = refl
-  basic_local (BasicPoint p) =
-      let one = equal-beside b e x y s.level in
-      let two = here p b x (omega arith) s.begins (omega arith) in
-      λ i. one i && two i
-  basic_local (BasicRun p) = run_local p
-  basic_local (BasicEvery p) = each_between-beside b e x y s.level (holds_at p u) (holds_at p v) (here p)
-  basic_local (BasicUnit p) =
-      let one = next-beside b e x y s.level in
-      let two = here p b x (omega arith) s.begins (omega arith) in
-      λ i. one i && two i
+  basic_local (BasicBracketed bracket p) = bracket-beside b e x y s.level s.begins (holds_at p u) (holds_at p v) (here p) bracket
   basic_local (BasicSlen relation n) = ap (λ c. compares relation c n) steps
-  basic_local (BasicScount p relation n) = ap (λ c. compares relation c n) (count_between-beside b e x y s.level (holds_at p u) (holds_at p v) (here p))
-  basic_local (BasicSdur p relation n) =
-      ap (λ c. compares relation c n) (
-      count_from-beside (e - b) b x (holds_at p u) (holds_at p v) (λ m m' lo hi beside. here p m m' lo (omega (arith, hi, s.begins)) beside)
-      ∙ ap (λ n. count_from x n (holds_at p v)) steps)
-  basic_local (BasicBack p slot) =
-      let first = here (TruthSlot slot) b x (omega arith) s.begins (omega arith) in
-      let later = each_between-beside (b + 1) e (x + 1) y (omega (arith, s.level))
-      (λ m. iff (holds_at (TruthSlot slot) u m) (holds_at p u (m - 1))) (λ m. iff (holds_at (TruthSlot slot) v m) (holds_at p v (m - 1)))
-      (λ m m' lo hi beside.
-      let own = here (TruthSlot slot) m m' (omega (arith, lo)) hi (omega (arith, beside)) in
-      let before = here p (m - 1) (m' - 1) (omega (arith, lo)) (omega (arith, hi)) (omega (arith, lo, beside)) in
-      λ i. iff (own i) (before i)) in
-      λ i. not (first i) && later i
-  basic_local (BasicFore p slot) =
-      let last = here (TruthSlot slot) e y s.begins (omega arith) s.level in
-      let earlier = each_between-beside (b + 1) e (x + 1) y (omega (arith, s.level))
-      (λ m. iff (holds_at (TruthSlot slot) u (m - 1)) (holds_at p u m)) (λ m. iff (holds_at (TruthSlot slot) v (m - 1)) (holds_at p v m))
-      (λ m m' lo hi beside.
-      let own = here (TruthSlot slot) (m - 1) (m' - 1) (omega (arith, lo)) (omega (arith, hi)) (omega (arith, lo, beside)) in
-      let next = here p m m' (omega (arith, lo)) hi (omega (arith, beside)) in
-      λ i. iff (own i) (next i)) in
-      λ i. not (last i) && earlier i
+  basic_local (BasicCounted count p relation n) = ap (λ c. compares relation c n) (counted-beside b e x y s.level s.begins (holds_at p u) (holds_at p v) (here p) count)
+  basic_local (BasicTrack direction p slot) =
+      track-beside b e x y s.level s.begins (holds_at p u) (holds_at p v) (here p) (holds_at (TruthSlot slot) u) (holds_at (TruthSlot slot) v) (here (TruthSlot slot)) direction
 
 -- a track of one word, moved to the other
 abbrev moved : Track → ℕ → ℕ → ℕ → Track
@@ -150,18 +98,10 @@ some_moved u v b e x y p q s same some = give ((some_track-found (length u) p).0
 pub local : (core : CoreTree) (u v : Word) (b e x y : ℕ) → SamePart u v b e x y → core_holds core u b e ≡ core_holds core v x y
 local (CoreAtom basic span) u v b e x y s = basic_local u v b e x y s basic
 local (CoreNot d span) u v b e x y s = ap not (local d u v b e x y s)
-local (CoreAnd c d span) u v b e x y s =
+local (CoreJoined connective c d span) u v b e x y s =
     let one = local c u v b e x y s in
     let two = local d u v b e x y s in
-    λ i. one i && two i
-local (CoreOr c d span) u v b e x y s =
-    let one = local c u v b e x y s in
-    let two = local d u v b e x y s in
-    λ i. one i || two i
-local (CoreIff c d span) u v b e x y s =
-    let one = local c u v b e x y s in
-    let two = local d u v b e x y s in
-    λ i. iff (one i) (two i)
+    λ i. joins connective (one i) (two i)
 local (CoreChop c d span) u v b e x y s =
     some_between-beside b e x y s.level (λ m. core_holds c u b m && core_holds d u m e) (λ m. core_holds c v x m && core_holds d v m y)
     (λ m m' lo hi beside.

@@ -3,8 +3,9 @@ use Rattle.std.proofs.Common.{◌≡◌, ℕ, suc, ◌+◌, true, List, [], ◌�
 use Rattle.std.proofs.Common.{length-append, max}
 use Rattle.std.proofs.lemmas.List.{map-append, append_assoc, length-map}
 use Rattle.dcv_syntax.specs.declared.names.Span.{Span}
-use Rattle.dcv_core.specs.Core.{PlainBasic, BasicConstant, CoreTree, CoreAtom, CoreNot, CoreAnd, CoreOr, CoreIff, CoreChop, CoreStar, CoreExists}
-use Rattle.dcv_core.specs.Steps.{PlainOp, OpAtom, OpNot, OpAnd, OpOr, OpIff, OpChop, OpStar, OpExists, steps_before, own_step, steps_from}
+use Rattle.dcv_syntax.specs.declared.propositions.Connective.{Connective}
+use Rattle.dcv_core.specs.Core.{PlainBasic, BasicConstant, CoreTree, CoreAtom, CoreNot, CoreJoined, CoreChop, CoreStar, CoreExists}
+use Rattle.dcv_core.specs.Steps.{PlainOp, OpAtom, OpNot, OpJoined, OpChop, OpStar, OpExists, steps_before, own_step, steps_from}
 use Rattle.dcv_core.specs.Steps.{CoreStep, without_core, PlainCore, Pushed, Made, HasRoom, IsChoppedRound, nesting}
 use Rattle.dcv_core.proofs.StepList.{steps_from-length}
 
@@ -74,14 +75,8 @@ pub record IsTwo (make : CoreTree → CoreTree → Span → CoreTree) (op : ℕ 
   pub before : (c d : CoreTree) (span : Span) → steps_before (make c d span) ≡ suc (suc (steps_before c + steps_before d))
   pub nested : (c d : CoreTree) (span : Span) → nesting (make c d span) ≡ max (nesting c) (nesting d)
 
-pub and_is_two : IsTwo CoreAnd OpAnd
-and_is_two = record { steps = λ n k c d span. refl; before = λ c d span. refl; nested = λ c d span. refl }
-
-pub or_is_two : IsTwo CoreOr OpOr
-or_is_two = record { steps = λ n k c d span. refl; before = λ c d span. refl; nested = λ c d span. refl }
-
-pub iff_is_two : IsTwo CoreIff OpIff
-iff_is_two = record { steps = λ n k c d span. refl; before = λ c d span. refl; nested = λ c d span. refl }
+pub joined_is_two : (connective : Connective) → IsTwo (CoreJoined connective) (OpJoined connective)
+joined_is_two connective = record { steps = λ n k c d span. refl; before = λ c d span. refl; nested = λ c d span. refl }
 
 pub chop_is_two : IsTwo CoreChop OpChop
 chop_is_two = record { steps = λ n k c d span. refl; before = λ c d span. refl; nested = λ c d span. refl }

@@ -4,13 +4,13 @@ use Rattle.std.specs.List.{slice_get}
 use Rattle.std.proofs.Math.Nat.{eq-or-lt_of_le}
 use Rattle.std.proofs.lemmas.Option.{slice_get_within}
 use Rattle.dcv_language.specs.Language.{Language, HaveSameBehaviours}
-use Rattle.dcv_language.specs.Operations.{intersection, union, agreement, chop}
-use Rattle.dcv_core.specs.Core.{CoreTree, CoreAtom, CoreNot, CoreAnd, CoreOr, CoreIff, CoreChop, CoreStar, CoreExists}
+use Rattle.dcv_language.specs.Operations.{chop}
+use Rattle.dcv_core.specs.Core.{CoreTree, CoreAtom, CoreNot, CoreJoined, CoreChop, CoreStar, CoreExists}
 use Rattle.dcv_core.specs.Holds.{words_of}
 use Rattle.dcv_core.specs.Steps.{OpAtom, PlainStep, steps_before, own_step, steps_from, steps_of}
-use Rattle.dcv_core.specs.StepWords.{TakesOne, TakesTwo, IsOperation}
+use Rattle.dcv_core.specs.StepWords.{joined_words, TakesOne, TakesTwo, IsOperation}
 use Rattle.dcv_core.specs.Laws.{SameNonempty, StepsAreOperations, LastStepIsCore}
-use Rattle.dcv_core.proofs.Words.{words_of_atom, words_of_not, words_of_and, words_of_or, words_of_iff, words_of_chop, words_of_star, words_of_exists}
+use Rattle.dcv_core.proofs.Words.{words_of_atom, words_of_not, words_of_joined, words_of_chop, words_of_star, words_of_exists}
 
 slice_get-left : (xs ys : List PlainStep) (i : ℕ) → i < length xs → slice_get (xs ++ ys) i ≡ slice_get xs i
 slice_get-left [] ys i lt = absurd (omega (arith, lt))
@@ -50,9 +50,7 @@ both_more xs ys step m n e f = omega (arith, e, f, length-append xs ys, length-a
 pub steps_from-length : (core : CoreTree) (n k : ℕ) → length (steps_from n k core) ≡ suc (steps_before core)
 steps_from-length (CoreAtom basic span) n k = refl
 steps_from-length (CoreNot d span) n k = one_more (steps_from n k d) _ (steps_before d) (steps_from-length d n k)
-steps_from-length (CoreAnd c d span) n k = both_more (steps_from n k c) (steps_from (suc (n + steps_before c)) k d) _ (steps_before c) (steps_before d) (steps_from-length c n k) (steps_from-length d _ k)
-steps_from-length (CoreOr c d span) n k = both_more (steps_from n k c) (steps_from (suc (n + steps_before c)) k d) _ (steps_before c) (steps_before d) (steps_from-length c n k) (steps_from-length d _ k)
-steps_from-length (CoreIff c d span) n k = both_more (steps_from n k c) (steps_from (suc (n + steps_before c)) k d) _ (steps_before c) (steps_before d) (steps_from-length c n k) (steps_from-length d _ k)
+steps_from-length (CoreJoined connective c d span) n k = both_more (steps_from n k c) (steps_from (suc (n + steps_before c)) k d) _ (steps_before c) (steps_before d) (steps_from-length c n k) (steps_from-length d _ k)
 steps_from-length (CoreChop c d span) n k = both_more (steps_from n k c) (steps_from (suc (n + steps_before c)) k d) _ (steps_before c) (steps_before d) (steps_from-length c n k) (steps_from-length d _ k)
 steps_from-length (CoreStar d span) n k = one_more (steps_from n k d) _ (steps_before d) (steps_from-length d n k)
 steps_from-length (CoreExists d span) n k = one_more (steps_from n (k + 1) d) _ (steps_before d) (steps_from-length d n (k + 1))
@@ -98,11 +96,7 @@ last_step all (CoreAtom basic span) n k h =
     record { step = own_step (OpAtom basic) span k (CoreAtom basic span); is_there = ap (slice_get all) (omega arith) ∙ has_one all n _ h; core_is = refl; slots_are = refl }
 last_step all (CoreNot d span) n k h =
     record { step = _; is_there = last_of_one all n k (steps_from n k d) (steps_before d) _ (steps_from-length d n k) h; core_is = refl; slots_are = refl }
-last_step all (CoreAnd c d span) n k h =
-    record { step = _; is_there = last_of_two all n k (steps_from n k c) (steps_from (suc (n + steps_before c)) k d) (steps_before c) (steps_before d) _ (steps_from-length c n k) (steps_from-length d _ k) h; core_is = refl; slots_are = refl }
-last_step all (CoreOr c d span) n k h =
-    record { step = _; is_there = last_of_two all n k (steps_from n k c) (steps_from (suc (n + steps_before c)) k d) (steps_before c) (steps_before d) _ (steps_from-length c n k) (steps_from-length d _ k) h; core_is = refl; slots_are = refl }
-last_step all (CoreIff c d span) n k h =
+last_step all (CoreJoined connective c d span) n k h =
     record { step = _; is_there = last_of_two all n k (steps_from n k c) (steps_from (suc (n + steps_before c)) k d) (steps_before c) (steps_before d) _ (steps_from-length c n k) (steps_from-length d _ k) h; core_is = refl; slots_are = refl }
 last_step all (CoreChop c d span) n k h =
     record { step = _; is_there = last_of_two all n k (steps_from n k c) (steps_from (suc (n + steps_before c)) k d) (steps_before c) (steps_before d) _ (steps_from-length c n k) (steps_from-length d _ k) h; core_is = refl; slots_are = refl }
@@ -197,24 +191,12 @@ each_step all (CoreNot d span) n k h =
     by_place_of_one (Says all) n (steps_before d) (each_step all d n k inner)
     (says_own all _ _ (last_of_one all n k (steps_from n k d) (steps_before d) _ (steps_from-length d n k) h)
     (takes_one all d _ (n + suc (steps_before d)) (n + steps_before d) k k _ (last_step all d n k inner) (omega arith) (words_of_not d span)))
-each_step all (CoreAnd c d span) n k h =
+each_step all (CoreJoined connective c d span) n k h =
     by_place_of_two (Says all) n (steps_before c) (steps_before d)
     (each_step all c n k (first_of_two all n k (steps_from n k c) (steps_from (suc (n + steps_before c)) k d) _ h))
     (each_step all d (suc (n + steps_before c)) k (second_of_two all n k (steps_from n k c) (steps_from (suc (n + steps_before c)) k d) _ (steps_before c) (steps_from-length c n k) h))
     (says_own all _ _ (last_of_two all n k (steps_from n k c) (steps_from (suc (n + steps_before c)) k d) (steps_before c) (steps_before d) _ (steps_from-length c n k) (steps_from-length d _ k) h)
-    (two_operands all c d n k _ intersection h refl (words_of_and c d span)))
-each_step all (CoreOr c d span) n k h =
-    by_place_of_two (Says all) n (steps_before c) (steps_before d)
-    (each_step all c n k (first_of_two all n k (steps_from n k c) (steps_from (suc (n + steps_before c)) k d) _ h))
-    (each_step all d (suc (n + steps_before c)) k (second_of_two all n k (steps_from n k c) (steps_from (suc (n + steps_before c)) k d) _ (steps_before c) (steps_from-length c n k) h))
-    (says_own all _ _ (last_of_two all n k (steps_from n k c) (steps_from (suc (n + steps_before c)) k d) (steps_before c) (steps_before d) _ (steps_from-length c n k) (steps_from-length d _ k) h)
-    (two_operands all c d n k _ union h refl (words_of_or c d span)))
-each_step all (CoreIff c d span) n k h =
-    by_place_of_two (Says all) n (steps_before c) (steps_before d)
-    (each_step all c n k (first_of_two all n k (steps_from n k c) (steps_from (suc (n + steps_before c)) k d) _ h))
-    (each_step all d (suc (n + steps_before c)) k (second_of_two all n k (steps_from n k c) (steps_from (suc (n + steps_before c)) k d) _ (steps_before c) (steps_from-length c n k) h))
-    (says_own all _ _ (last_of_two all n k (steps_from n k c) (steps_from (suc (n + steps_before c)) k d) (steps_before c) (steps_before d) _ (steps_from-length c n k) (steps_from-length d _ k) h)
-    (two_operands all c d n k _ agreement h refl (words_of_iff c d span)))
+    (two_operands all c d n k _ (joined_words connective) h refl (words_of_joined connective c d span)))
 each_step all (CoreChop c d span) n k h =
     by_place_of_two (Says all) n (steps_before c) (steps_before d)
     (each_step all c n k (first_of_two all n k (steps_from n k c) (steps_from (suc (n + steps_before c)) k d) _ h))

@@ -10,12 +10,17 @@ use Rattle.dcv_language.specs.Operations.{some_below, with_track, star_within, i
 use Rattle.dcv_shifts.specs.Shifts.{goes_back, back, fore}
 use Rattle.dcv_language.specs.Atoms.{all_but_last}
 use Rattle.dcv_logic.specs.Search.{some_from, some_between, each_between, count_from, count_between}
-use Rattle.dcv_logic.specs.Satisfaction.{compares, star as star_of}
+use Rattle.dcv_logic.specs.Satisfaction.{compares}
+use Rattle.dcv_logic.specs.Connectives.{star as star_of}
 use Rattle.dcv_logic.proofs.Stars.{star_enough}
 use Rattle.dcv_language.proofs.Behaviours.{some_track-same}
-use Rattle.dcv_core.specs.Core.{PlainTruth, TruthSlot, BasicConstant, BasicPoint, BasicRun, BasicEvery, BasicUnit, BasicSlen, BasicScount, BasicSdur, BasicBack, BasicFore, CoreTree}
+use Rattle.dcv_core.specs.Core.{PlainTruth, TruthSlot, BasicConstant, BasicBracketed, BasicSlen, BasicCounted, BasicTrack, CoreTree}
+use Rattle.dcv_syntax.specs.declared.propositions.Connective.TheVariants.{And, Or, Iff}
+use Rattle.dcv_syntax.specs.declared.propositions.Direction.TheVariants.{Prior, Next}
+use Rattle.dcv_syntax.specs.declared.formulas.Bracket.TheVariants.{Point, Run, Every, Unit as TwoInstants}
+use Rattle.dcv_syntax.specs.declared.formulas.Count.TheVariants.{Scount, Sdur}
 use Rattle.dcv_core.specs.Holds.{letter_at, truth_holds, holds_at, basic_holds, core_holds, words_of}
-use Rattle.dcv_core.specs.Laws.{WordsOfAtom, WordsOfNot, WordsOfAnd, WordsOfOr, WordsOfIff, WordsOfChop, WordsOfStar, WordsOfExists}
+use Rattle.dcv_core.specs.Laws.{WordsOfAtom, WordsOfNot, WordsOfJoined, WordsOfChop, WordsOfStar, WordsOfExists}
 use Rattle.dcv_core.proofs.Tracks.{with_track-length}
 use Rattle.dcv_core.proofs.Aligned.{star-beside}
 use Rattle.dcv_core.proofs.Local.{SamePart, inner_part, local}
@@ -57,23 +62,17 @@ rest_words core word m lt =
     local core word (drop m word) m (length word - 1) 0 (length (drop m word) - 1) (rest_same word m lt)
     ∙ sym (whole core (drop m word) (omega (arith, lt, length-drop m word)))
 
--- ---- not, and, or, iff
+-- ---- not, connectives
 
 pub words_of_not : WordsOfNot
 words_of_not d span [] some = absurd (omega (arith, some))
 words_of_not d span (letter ∷ letters) some = refl
 
-pub words_of_and : WordsOfAnd
-words_of_and c d span [] some = absurd (omega (arith, some))
-words_of_and c d span (letter ∷ letters) some = refl
-
-pub words_of_or : WordsOfOr
-words_of_or c d span [] some = absurd (omega (arith, some))
-words_of_or c d span (letter ∷ letters) some = refl
-
-pub words_of_iff : WordsOfIff
-words_of_iff c d span [] some = absurd (omega (arith, some))
-words_of_iff c d span (letter ∷ letters) some = refl
+pub words_of_joined : WordsOfJoined
+words_of_joined connective c d span [] some = absurd (omega (arith, some))
+words_of_joined And c d span (letter ∷ letters) some = refl
+words_of_joined Or c d span (letter ∷ letters) some = refl
+words_of_joined Iff c d span (letter ∷ letters) some = refl
 
 -- ---- chop
 
@@ -269,7 +268,7 @@ module _ (p : PlainTruth) (slot : ℕ) (letter : List Bool) (letters : Word) whe
   count : length letters + 1 - (0 + 1) ≡ length letters
   count = omega arith
 
-  back_words : basic_holds (BasicBack p slot) whole_word 0 (length letters) ≡ back (truth_holds p) (truth_holds (TruthSlot slot)) whole_word
+  back_words : basic_holds (BasicTrack Prior p slot) whole_word 0 (length letters) ≡ back (truth_holds p) (truth_holds (TruthSlot slot)) whole_word
   back_words =
       let q : ℕ → Bool = λ i. iff (own i) (holds_at p whole_word (i - 1)) in
       ap (λ n. not (own 0) && not (some_from (0 + 1) n (λ m. not (q m)))) count
@@ -279,7 +278,7 @@ module _ (p : PlainTruth) (slot : ℕ) (letter : List Bool) (letters : Word) whe
       let before : suc m - 1 ≡ m = omega arith in
       ap q at ∙ ap (λ i. iff (own (suc m)) (holds_at p whole_word i)) before))
 
-  fore_words : basic_holds (BasicFore p slot) whole_word 0 (length letters) ≡ fore (truth_holds p) (truth_holds (TruthSlot slot)) whole_word
+  fore_words : basic_holds (BasicTrack Next p slot) whole_word 0 (length letters) ≡ fore (truth_holds p) (truth_holds (TruthSlot slot)) whole_word
   fore_words =
       let q : ℕ → Bool = λ i. iff (own (i - 1)) (holds_at p whole_word i) in
       ap (λ n. not (own (length letters)) && not (some_from (0 + 1) n (λ m. not (q m)))) count
@@ -292,23 +291,23 @@ module _ (p : PlainTruth) (slot : ℕ) (letter : List Bool) (letters : Word) whe
 pub words_of_atom : WordsOfAtom
 words_of_atom basic span [] some = absurd (omega (arith, some))
 words_of_atom (BasicConstant truth) span (a ∷ word) some = refl
-words_of_atom (BasicPoint p) span (a ∷ []) some = refl
-words_of_atom (BasicPoint p) span (a ∷ b ∷ word) some =
+words_of_atom (BasicBracketed Point p) span (a ∷ []) some = refl
+words_of_atom (BasicBracketed Point p) span (a ∷ b ∷ word) some =
     let later : (0 == length (b ∷ word)) ≡ false = grind (arith, nat_tests) in
     ap (λ t. t && truth_holds p a) later
-words_of_atom (BasicRun p) span (a ∷ []) some = refl
-words_of_atom (BasicRun p) span (a ∷ b ∷ word) some =
+words_of_atom (BasicBracketed Run p) span (a ∷ []) some = refl
+words_of_atom (BasicBracketed Run p) span (a ∷ b ∷ word) some =
     let more : nat_lt 0 (length (b ∷ word)) ≡ true = grind (arith, nat_tests) in
     ap (λ t. t && each_between 0 (length (b ∷ word) - 1) (holds_at p (a ∷ b ∷ word))) more
     ∙ but_last_every p a (b ∷ word) (omega arith)
-words_of_atom (BasicEvery p) span (a ∷ word) some = every_words p a word
-words_of_atom (BasicUnit p) span (a ∷ []) some = refl
-words_of_atom (BasicUnit p) span (a ∷ b ∷ []) some = refl
-words_of_atom (BasicUnit p) span (a ∷ b ∷ c ∷ word) some =
+words_of_atom (BasicBracketed Every p) span (a ∷ word) some = every_words p a word
+words_of_atom (BasicBracketed TwoInstants p) span (a ∷ []) some = refl
+words_of_atom (BasicBracketed TwoInstants p) span (a ∷ b ∷ []) some = refl
+words_of_atom (BasicBracketed TwoInstants p) span (a ∷ b ∷ c ∷ word) some =
     let other : (length (b ∷ c ∷ word) == 0 + 1) ≡ false = grind (arith, nat_tests) in
     ap (λ t. t && truth_holds p a) other
 words_of_atom (BasicSlen relation n) span (a ∷ word) some = ap (λ c. compares relation c n) (omega (arith, but_last-length a word))
-words_of_atom (BasicScount p relation n) span (a ∷ word) some = ap (λ c. compares relation c n) (count_words p a word)
-words_of_atom (BasicSdur p relation n) span (a ∷ word) some = ap (λ c. compares relation c n) (but_last_count p a word)
-words_of_atom (BasicBack p slot) span (a ∷ word) some = back_words p slot a word
-words_of_atom (BasicFore p slot) span (a ∷ word) some = fore_words p slot a word
+words_of_atom (BasicCounted Scount p relation n) span (a ∷ word) some = ap (λ c. compares relation c n) (count_words p a word)
+words_of_atom (BasicCounted Sdur p relation n) span (a ∷ word) some = ap (λ c. compares relation c n) (but_last_count p a word)
+words_of_atom (BasicTrack Prior p slot) span (a ∷ word) some = back_words p slot a word
+words_of_atom (BasicTrack Next p slot) span (a ∷ word) some = fore_words p slot a word

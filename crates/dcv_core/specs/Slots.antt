@@ -26,7 +26,7 @@ abbrev pub BasicIsBelow : ℕ → PlainBasic → Type 0
 BasicIsBelow k (BasicConstant truth) = Unit {0}
 BasicIsBelow k (BasicBracketed bracket p) = IsBelow k p
 BasicIsBelow k (BasicSlen relation n) = Unit {0}
-BasicIsBelow k (BasicCounted count p relation n) = IsBelow k p
+BasicIsBelow k (BasicCounted _ p relation n) = IsBelow k p
 BasicIsBelow k (BasicTrack direction p slot) = IsBelow k p × (slot < k)
 
 abbrev pub OpIsBelow : ℕ → PlainOp → Type 0
@@ -59,7 +59,7 @@ abbrev pub BasicHasNoShift : PlainBasic → Type 0
 BasicHasNoShift (BasicConstant truth) = Unit {0}
 BasicHasNoShift (BasicBracketed bracket p) = HasNoShift p
 BasicHasNoShift (BasicSlen relation n) = Unit {0}
-BasicHasNoShift (BasicCounted count p relation n) = HasNoShift p
+BasicHasNoShift (BasicCounted _ p relation n) = HasNoShift p
 BasicHasNoShift (BasicTrack direction p slot) = HasNoShift p
 
 abbrev pub OpHasNoShift : PlainOp → Type 0

@@ -1,4 +1,4 @@
-use Rattle.dcv_core.proofs.Words.{words_of_atom, words_of_not, words_of_and, words_of_or, words_of_iff, words_of_chop, words_of_star, words_of_exists}
+use Rattle.dcv_core.proofs.Words.{words_of_atom, words_of_not, words_of_joined, words_of_chop, words_of_star, words_of_exists}
 use Rattle.dcv_core.proofs.laws.words_are_operations.Goals as goal
 
 pub returns-clause-atom : goal.returns-clause-atom
@@ -7,14 +7,8 @@ returns-clause-atom c = words_of_atom
 pub returns-clause-not : goal.returns-clause-not
 returns-clause-not c = words_of_not
 
-pub returns-clause-and : goal.returns-clause-and
-returns-clause-and c = words_of_and
-
-pub returns-clause-or : goal.returns-clause-or
-returns-clause-or c = words_of_or
-
-pub returns-clause-iff : goal.returns-clause-iff
-returns-clause-iff c = words_of_iff
+pub returns-clause-joined : goal.returns-clause-joined
+returns-clause-joined c = words_of_joined
 
 pub returns-clause-chop : goal.returns-clause-chop
 returns-clause-chop c = words_of_chop
