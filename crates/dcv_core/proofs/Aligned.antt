@@ -63,7 +63,7 @@ less-beside b e x y level = grind (arith, nat_tests)
 next-beside : (b e x y : ℕ) → Beside b x e y → (e == b + 1) ≡ (y == x + 1)
 next-beside b e x y level = grind (arith, nat_tests)
 
-less_only : (b e : ℕ) → nat_lt b e ≡ true → b < e
+pub less_only : (b e : ℕ) → nat_lt b e ≡ true → b < e
 less_only b e more = grind (arith, nat_tests)
 
 pub and_given : (t p q : Bool) → (t ≡ true → p ≡ q) → (t && p) ≡ (t && q)

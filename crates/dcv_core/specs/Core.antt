@@ -2,8 +2,9 @@
 -- joined two by two, and each operator of the tree is a step.
 --     PlainTruth       a proposition over slots
 --     PlainBasic       the forms without a formula in them
+--     truth_in         the proposition in such a form, where it has one
 --     CoreTree         a formula over slots, each operator with its place in the source
-use Rattle.std.specs.Prelude.{ℕ, Bool}
+use Rattle.std.specs.Prelude.{ℕ, Bool, Option, None, Some}
 use Rattle.dcv_syntax.specs.declared.names.Span.{Span}
 use Rattle.dcv_syntax.specs.declared.formulas.Relation.{Relation}
 use Rattle.dcv_syntax.specs.declared.propositions.Connective.{Connective}
@@ -32,6 +33,14 @@ pub data PlainBasic : Type 0 where
   BasicCounted : (count : Count) → (truth : PlainTruth) → (relation : Relation) → (number : ℕ) → PlainBasic
   -- at each instant the slot is what P is at the one before, or at the next, and false where there is none
   BasicTrack : (direction : Direction) → (truth : PlainTruth) → (slot : ℕ) → PlainBasic
+
+-- the proposition in a form
+abbrev pub truth_in : PlainBasic → Option PlainTruth
+truth_in (BasicConstant truth) = None
+truth_in (BasicBracketed bracket p) = Some p
+truth_in (BasicSlen relation n) = None
+truth_in (BasicCounted _ p relation n) = Some p
+truth_in (BasicTrack direction p slot) = Some p
 
 pub data CoreTree : Type 0 where
   CoreAtom : (basic : PlainBasic) → (span : Span) → CoreTree

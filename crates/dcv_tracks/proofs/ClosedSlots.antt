@@ -3,37 +3,24 @@ use Rattle.std.proofs.Common.{◌≡◌, ℕ, suc, ◌+◌, ◌*◌, ◌<◌, �
 use Rattle.std.specs.Prelude.{nat_lt, if◌then◌else◌}
 use Rattle.std.proofs.lemmas.Bool.Decides.{nat_tests}
 use Rattle.std.proofs.lemmas.List.{append_assoc, append-nil}
-use Rattle.dcv_core.specs.declared.truths.Direction.{Direction}
-use Rattle.dcv_core.specs.declared.truths.Direction.TheVariants.{Prior, Next}
-use Rattle.dcv_core.specs.Core.{PlainTruth, TruthConstant, TruthSlot, TruthNot, TruthAnd, TruthOr, TruthIff, TruthShift, PlainTruths, no_truths, truth_operand}
-use Rattle.dcv_core.specs.Core.{PlainBasic, BasicConstant, BasicPoint, BasicRun, BasicEvery, BasicUnit, BasicSlen, BasicScount, BasicSdur, BasicBack, BasicFore}
-use Rattle.dcv_core.specs.Core.{CoreTree, CoreAtom, CoreNot, CoreAnd, CoreOr, CoreIff, CoreChop, CoreStar, CoreExists}
+use Rattle.dcv_core.specs.Core.{PlainTruth, TruthConstant, TruthSlot, TruthNot, TruthJoined, TruthShift, PlainTruths, no_truths, truth_operand}
+use Rattle.dcv_core.specs.Core.{PlainBasic, BasicConstant, BasicBracketed, BasicSlen, BasicCounted, BasicTrack}
+use Rattle.dcv_core.specs.Core.{truth_in, CoreTree, CoreAtom, CoreNot, CoreJoined, CoreChop, CoreStar, CoreExists}
 use Rattle.dcv_core.specs.Steps.{steps_before, nesting}
 use Rattle.dcv_core.specs.Slots.{IsBelow, AreBelow, BasicIsBelow, CoreIsBelow}
-use Rattle.dcv_tracks.specs.Shifting.{Shift, placed_slot, placed, all_placed, placed_basic, placed_core, shift_row, shift_basic, closed_from, shifted_core, shifts_in, bound_shift}
-use Rattle.dcv_tracks.proofs.Standing.{IsCovered, AreCovered, BasicIsCovered, CoreIsCovered, position}
+use Rattle.dcv_tracks.specs.Shifting.{Shift, placed_slot, placed, all_placed, placed_basic, placed_core, closed_from, shifted_core, shifts_in, bound_shift}
+use Rattle.dcv_tracks.proofs.Standing.{IsCovered, AreCovered, FormIsCovered, CoreIsCovered, position}
+use Rattle.dcv_tracks.proofs.PlacedSteps.{placed_before}
 use Rattle.dcv_tracks.proofs.Order.{AreOrdered, shifts_ordered, goal_covered}
 use Rattle.dcv_tracks.proofs.Unbound.{AreUnbound, unbound_below, shifts_unbound}
 
 -- ---- steps and quantifiers
 
 module _ (k : ℕ) (all : List Shift) where
-  placed_steps : (core : CoreTree) → steps_before (placed_core k all core) ≡ steps_before core
-  placed_steps (CoreAtom basic span) = refl
-  placed_steps (CoreNot d span) = ap suc (placed_steps d)
-  placed_steps (CoreAnd c d span) = λ i. suc (suc (placed_steps c i + placed_steps d i))
-  placed_steps (CoreOr c d span) = λ i. suc (suc (placed_steps c i + placed_steps d i))
-  placed_steps (CoreIff c d span) = λ i. suc (suc (placed_steps c i + placed_steps d i))
-  placed_steps (CoreChop c d span) = λ i. suc (suc (placed_steps c i + placed_steps d i))
-  placed_steps (CoreStar d span) = ap suc (placed_steps d)
-  placed_steps (CoreExists d span) = ap suc (placed_steps d)
-
   placed_nesting : (core : CoreTree) → nesting (placed_core k all core) ≡ nesting core
   placed_nesting (CoreAtom basic span) = refl
   placed_nesting (CoreNot d span) = placed_nesting d
-  placed_nesting (CoreAnd c d span) = λ i. max (placed_nesting c i) (placed_nesting d i)
-  placed_nesting (CoreOr c d span) = λ i. max (placed_nesting c i) (placed_nesting d i)
-  placed_nesting (CoreIff c d span) = λ i. max (placed_nesting c i) (placed_nesting d i)
+  placed_nesting (CoreJoined connective c d span) = λ i. max (placed_nesting c i) (placed_nesting d i)
   placed_nesting (CoreChop c d span) = λ i. max (placed_nesting c i) (placed_nesting d i)
   placed_nesting (CoreStar d span) = placed_nesting d
   placed_nesting (CoreExists d span) = ap suc (placed_nesting d)
@@ -48,7 +35,7 @@ module _ (k : ℕ) (all : List Shift) where
 
 -- each shift adds three steps
 pub shifted_steps : (k : ℕ) (goal : CoreTree) → steps_before (shifted_core k goal) ≡ steps_before goal + 3 * length (shifts_in goal)
-shifted_steps k goal = omega (arith, closed_steps k (shifts_in goal) (shifts_in goal) k (placed_core k (shifts_in goal) goal), placed_steps k (shifts_in goal) goal)
+shifted_steps k goal = omega (arith, closed_steps k (shifts_in goal) (shifts_in goal) k (placed_core k (shifts_in goal) goal), placed_before k (shifts_in goal) goal)
 
 -- and one quantifier
 pub shifted_nesting : (k : ℕ) (goal : CoreTree) → nesting (shifted_core k goal) ≡ nesting goal + length (shifts_in goal)
@@ -64,9 +51,7 @@ module _ (k : ℕ) (all seen rest : List Shift) (is : all ≡ seen ++ rest) wher
       placed_below (TruthConstant truth) c b = tt
       placed_below (TruthSlot slot) c b = slots slot b
       placed_below (TruthNot p) c b = placed_below p c b
-      placed_below (TruthAnd operands) c b = all_placed_below operands c b
-      placed_below (TruthOr operands) c b = all_placed_below operands c b
-      placed_below (TruthIff operands) c b = all_placed_below operands c b
+      placed_below (TruthJoined connective operands) c b = all_placed_below operands c b
       placed_below (TruthShift direction p span) c b =
           let has = position k all seen rest (record { direction = direction; operand = p; span = span }) is c in
           let at = has.slot in
@@ -77,17 +62,12 @@ module _ (k : ℕ) (all seen rest : List Shift) (is : all ≡ seen ++ rest) wher
       all_placed_below no_truths c b = tt
       all_placed_below (truth_operand p operands) c b = (placed_below p c.0 b.0, all_placed_below operands c.1 b.1)
 
-    basic_placed_below : (basic : PlainBasic) → BasicIsCovered seen basic → BasicIsBelow j basic → BasicIsBelow wide (placed_basic k all basic)
+    basic_placed_below : (basic : PlainBasic) → FormIsCovered seen (truth_in basic) → BasicIsBelow j basic → BasicIsBelow wide (placed_basic k all basic)
     basic_placed_below (BasicConstant truth) c b = tt
-    basic_placed_below (BasicPoint p) c b = placed_below p c b
-    basic_placed_below (BasicRun p) c b = placed_below p c b
-    basic_placed_below (BasicEvery p) c b = placed_below p c b
-    basic_placed_below (BasicUnit p) c b = placed_below p c b
+    basic_placed_below (BasicBracketed bracket p) c b = placed_below p c b
     basic_placed_below (BasicSlen relation n) c b = tt
-    basic_placed_below (BasicScount p relation n) c b = placed_below p c b
-    basic_placed_below (BasicSdur p relation n) c b = placed_below p c b
-    basic_placed_below (BasicBack p slot) c b = (placed_below p c b.0, slots slot b.1)
-    basic_placed_below (BasicFore p slot) c b = (placed_below p c b.0, slots slot b.1)
+    basic_placed_below (BasicCounted which p relation n) c b = placed_below p c b
+    basic_placed_below (BasicTrack direction p slot) c b = (placed_below p c b.0, slots slot b.1)
 
 -- all slots of a goal have those of the shifts before them, or stay
 moved_below : (k : ℕ) (all : List Shift) (j slot : ℕ) → slot < j → placed_slot k all slot < j + length all
@@ -108,22 +88,12 @@ module _ (k : ℕ) (all : List Shift) where
   goal_placed_below (CoreAtom basic span) c j le b =
       basic_placed_below k all all [] (sym (append-nil all)) j (j + length all) (moved_below k all j) (omega (arith, le)) basic c b
   goal_placed_below (CoreNot d span) c j le b = goal_placed_below d c j le b
-  goal_placed_below (CoreAnd a d span) c j le b = (goal_placed_below a c.0 j le b.0, goal_placed_below d c.1 j le b.1)
-  goal_placed_below (CoreOr a d span) c j le b = (goal_placed_below a c.0 j le b.0, goal_placed_below d c.1 j le b.1)
-  goal_placed_below (CoreIff a d span) c j le b = (goal_placed_below a c.0 j le b.0, goal_placed_below d c.1 j le b.1)
+  goal_placed_below (CoreJoined connective a d span) c j le b = (goal_placed_below a c.0 j le b.0, goal_placed_below d c.1 j le b.1)
   goal_placed_below (CoreChop a d span) c j le b = (goal_placed_below a c.0 j le b.0, goal_placed_below d c.1 j le b.1)
   goal_placed_below (CoreStar d span) c j le b = goal_placed_below d c j le b
   goal_placed_below (CoreExists d span) c j le b =
       let wider : j + 1 + length all ≡ j + length all + 1 = omega arith in
       subst (λ wide. CoreIsBelow wide (placed_core k all d)) wider (goal_placed_below d c (j + 1) (omega (arith, le)) b)
-
-  -- what a shift's row names
-  row_below : (shift : Shift) (slot : ℕ) → IsBelow (slot + 1) (placed k all shift.operand) → BasicIsBelow (slot + 1) (shift_basic k all shift slot)
-  row_below shift slot b = by_direction shift.direction
-    where
-      by_direction : (direction : Direction) → BasicIsBelow (slot + 1) (shift_row direction (placed k all shift.operand) slot)
-      by_direction Next = (b, omega arith)
-      by_direction Prior = (b, omega arith)
 
   closed_below : (seen shifts : List Shift) → all ≡ seen ++ shifts → AreOrdered seen shifts → AreUnbound k shifts → (slot : ℕ) → slot ≡ k + length seen
       → (core : CoreTree) → CoreIsBelow (k + length all) core → CoreIsBelow slot (closed_from k all slot shifts core)
@@ -136,7 +106,7 @@ module _ (k : ℕ) (all : List Shift) where
       let next : suc slot ≡ slot + 1 = omega arith in
       let inner = closed_below (seen ++ shift ∷ []) shifts (is ∙ sym (append_assoc seen (shift ∷ []) shifts)) ordered.1 unbound.1 (suc slot)
       (omega (arith, at, length-append seen (shift ∷ []))) core b in
-      (subst (λ wide. CoreIsBelow wide (closed_from k all (suc slot) shifts core)) next inner, row_below shift slot operand)
+      (subst (λ wide. CoreIsBelow wide (closed_from k all (suc slot) shifts core)) next inner, (operand, omega arith))
 
 pub shifted_below : (k : ℕ) (goal : CoreTree) → bound_shift k goal ≡ None → CoreIsBelow k goal → CoreIsBelow k (shifted_core k goal)
 shifted_below k goal none b =

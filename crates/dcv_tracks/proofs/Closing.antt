@@ -1,38 +1,27 @@
 -- On the tracks of its shifts the goal with slots holds where the goal does, and closing it asks for these tracks and no others: so the core holds on a word where the
 -- goal does.
-use Rattle.std.proofs.Common.{◌≡◌, ℕ, suc, ◌+◌, ◌-◌, ◌<◌, Bool, true, false, List, [], ◌∷◌, ◌++◌, length, length-append, refl, sym, ap, subst, ◌∙◌, arith}
-use Rattle.std.specs.Prelude.{◌&&◌, nat_lt}
-use Rattle.std.proofs.lemmas.Bool.Decides.{nat_tests}
+use Rattle.std.proofs.Common.{◌≡◌, ℕ, suc, ◌+◌, ◌-◌, ◌<◌, Bool, true, List, [], ◌∷◌, ◌++◌, length, length-append, refl, sym, ap, subst, ◌∙◌, arith}
+use Rattle.std.specs.Prelude.{◌&&◌}
 use Rattle.std.proofs.lemmas.List.{append_assoc, append-nil}
 use Rattle.dcv_word.specs.Behaviour.{Word, IsBehaviour}
 use Rattle.dcv_language.specs.Operations.{with_track, some_track}
 use Rattle.dcv_logic.specs.Track.{Track}
+use Rattle.dcv_logic.specs.Value.{shifted}
 use Rattle.dcv_logic.proofs.InWords.{some_track-found}
-use Rattle.dcv_core.specs.declared.truths.Direction.{Direction}
-use Rattle.dcv_core.specs.declared.truths.Direction.TheVariants.{Prior, Next}
 use Rattle.dcv_core.specs.Core.{CoreTree}
-use Rattle.dcv_core.specs.Holds.{letter_at, truth_holds, value_at, shifted, basic_holds, core_holds}
+use Rattle.dcv_core.specs.Holds.{letter_at, truth_holds, value_at, basic_holds, core_holds}
 use Rattle.dcv_core.proofs.Chops.{and-parts, by_both}
 use Rattle.dcv_core.proofs.Tracks.{with_track-length}
 use Rattle.dcv_tracks.specs.Shifting.{Shift, placed, placed_core, shift_basic, closed_from, shifts_in}
 use Rattle.dcv_tracks.specs.Tracks.{with_tracks, AreTracks}
 use Rattle.dcv_tracks.specs.Laws.{GoalHoldsOnTracks, CoreHoldsOnWord}
-use Rattle.dcv_tracks.proofs.Standing.{Stands, placed_value, placed_holds, first_stand, one_shift_more}
+use Rattle.dcv_tracks.proofs.Standing.{shifted_within, Stands, placed_value, placed_holds, first_stand, one_shift_more}
 use Rattle.dcv_tracks.proofs.Order.{AreOrdered, shifts_ordered, goal_covered}
 use Rattle.dcv_tracks.proofs.Unbound.{shifts_unbound, unbound_at}
 use Rattle.dcv_tracks.proofs.Rows.{Avoids, row_follows}
 use Rattle.dcv_tracks.proofs.OneList.{own_track, own_only, operand_avoids, wider, width_at, one_list_of_tracks}
 
 -- ---- tracks of shifts stand for them
-
--- shifts of values that are equal at the instants
-shifted_within : (direction : Direction) (n : ℕ) (f g : ℕ → Bool) → ((i : ℕ) → i < n → f i ≡ g i) → (i : ℕ) → i < n → shifted direction n f i ≡ shifted direction n g i
-shifted_within Next n f g same i lt = later (nat_lt (i + 1) n) refl
-  where
-    later : (there : Bool) → nat_lt (i + 1) n ≡ there → (there && f (i + 1)) ≡ (there && g (i + 1))
-    later true is = same (i + 1) (grind (arith, nat_tests))
-    later false is = refl
-shifted_within Prior n f g same i lt = ap (λ b. nat_lt 0 i && b) (same (i - 1) (omega (arith, lt)))
 
 module _ (k : ℕ) (all : List Shift) (word : Word) (some : 0 < length word) where
   stand_on : (seen shifts : List Shift) → all ≡ seen ++ shifts → AreOrdered seen shifts → (slot : ℕ) → slot ≡ k + length seen → (other : Word) → Stands k all seen 0 word other

@@ -1,8 +1,9 @@
 -- The steps that close a goal's shifts are those of the closed tree.
 use Rattle.std.proofs.Common.{◌≡◌, ℕ, suc, ◌+◌, ◌-◌, ◌<◌, List, [], ◌∷◌, ◌++◌, length, map, sym, ap, ◌∙◌, arith, length-append}
 use Rattle.std.proofs.lemmas.List.{map-append, append_assoc, length-map}
-use Rattle.dcv_core.specs.Core.{PlainBasic, CoreTree, CoreAtom, CoreAnd, CoreExists}
-use Rattle.dcv_core.specs.Steps.{OpAtom, OpAnd, OpExists, PlainStep, CoreStep, without_core, steps_before, steps_from, steps_of, PlainCore, Pushed}
+use Rattle.dcv_syntax.specs.declared.propositions.Connective.TheVariants.{And}
+use Rattle.dcv_core.specs.Core.{PlainBasic, CoreTree, CoreAtom, CoreJoined, CoreExists}
+use Rattle.dcv_core.specs.Steps.{OpAtom, OpJoined, OpExists, PlainStep, CoreStep, without_core, steps_before, steps_from, steps_of, PlainCore, Pushed}
 use Rattle.dcv_core.proofs.StepList.{steps_from-length}
 use Rattle.dcv_tracks.specs.Shifting.{Shift, placed_core, shift_basic, closed_from, closed}
 use Rattle.dcv_tracks.specs.ShiftSteps.{with_steps, placed_step, closed_step, closed_steps}
@@ -17,12 +18,12 @@ three_more xs a b c =
 
 module _ (k : ℕ) (all : List Shift) where
   one_closed : (slot : ℕ) (shift : Shift) (inner : CoreTree) (steps : List CoreStep) → map without_core (steps_from 0 (slot + 1) inner) ≡ steps
-      → map without_core (steps_from 0 slot (CoreExists (CoreAnd inner (CoreAtom (shift_basic k all shift slot) shift.span) shift.span) shift.span)) ≡ closed_step k all slot shift steps
+      → map without_core (steps_from 0 slot (CoreExists (CoreJoined And inner (CoreAtom (shift_basic k all shift slot) shift.span) shift.span) shift.span)) ≡ closed_step k all slot shift steps
   one_closed slot shift inner steps same =
       let size : length steps ≡ suc (steps_before inner) =
       ap length (sym same) ∙ length-map (steps_from 0 (slot + 1) inner) without_core ∙ steps_from-length inner 0 (slot + 1) in
       let atom : CoreStep = record { op = OpAtom (shift_basic k all shift slot); span = shift.span; slots = slot + 1 } in
-      let both : ℕ → ℕ → CoreStep = λ first second. record { op = OpAnd first second; span = shift.span; slots = slot + 1 } in
+      let both : ℕ → ℕ → CoreStep = λ first second. record { op = OpJoined And first second; span = shift.span; slots = slot + 1 } in
       let some : ℕ → CoreStep = λ operand. record { op = OpExists operand; span = shift.span; slots = slot } in
       let first : 0 + steps_before inner ≡ length steps - 1 = omega (arith, size) in
       let second : suc (0 + steps_before inner) + 0 ≡ length steps = omega (arith, size) in
@@ -46,11 +47,11 @@ module _ (k : ℕ) (all : List Shift) where
 
 pub slot_closed : (k : ℕ) (all : List Shift) (slot over : ℕ) (shift : Shift) (basic : PlainBasic) (goal track both last : ℕ) (old one two new : PlainCore)
     → basic ≡ shift_basic k all shift slot → goal ≡ length old.steps - 1 → over ≡ slot + 1
-    → Pushed old (OpAtom basic) shift.span over one track → Pushed one (OpAnd goal track) shift.span over two both → Pushed two (OpExists both) shift.span slot new last
+    → Pushed old (OpAtom basic) shift.span over one track → Pushed one (OpJoined And goal track) shift.span over two both → Pushed two (OpExists both) shift.span slot new last
     → new ≡ with_steps old (closed_step k all slot shift old.steps)
 slot_closed k all slot over shift basic goal track both last old one two new basic_is goal_is over_is first second third =
     let a : PlainBasic → ℕ → CoreStep = λ basic over. record { op = OpAtom basic; span = shift.span; slots = over } in
-    let b : ℕ → ℕ → ℕ → CoreStep = λ goal track over. record { op = OpAnd goal track; span = shift.span; slots = over } in
+    let b : ℕ → ℕ → ℕ → CoreStep = λ goal track over. record { op = OpJoined And goal track; span = shift.span; slots = over } in
     let c : ℕ → CoreStep = λ both. record { op = OpExists both; span = shift.span; slots = slot } in
     let one_is : one.steps ≡ old.steps ++ a basic over ∷ [] = ap (λ (core : PlainCore). core.steps) first.added in
     let two_is : two.steps ≡ one.steps ++ b goal track over ∷ [] = ap (λ (core : PlainCore). core.steps) second.added in

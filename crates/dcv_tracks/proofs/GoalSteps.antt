@@ -8,16 +8,14 @@ use Rattle.std.specs.Option.{unwrap_or}
 use Rattle.std.specs.Result.{IsErrAnd}
 use lib.Dec.{ltb}
 use Rattle.std.proofs.lemmas.Bool.{ltb-false}
-use Rattle.dcv_core.specs.Core.{PlainTruth, TruthConstant, TruthSlot, TruthNot, TruthAnd, TruthOr, TruthIff, TruthShift, PlainTruths, no_truths, truth_operand}
-use Rattle.dcv_core.specs.Core.{PlainBasic, BasicConstant, BasicPoint, BasicRun, BasicEvery, BasicUnit, BasicSlen, BasicScount, BasicSdur, BasicBack, BasicFore}
-use Rattle.dcv_core.specs.Core.{CoreTree, CoreAtom, CoreNot, CoreAnd, CoreOr, CoreIff, CoreChop, CoreStar, CoreExists}
+use Rattle.dcv_core.specs.Core.{PlainTruth, TruthConstant, TruthSlot, TruthNot, TruthJoined, TruthShift, PlainTruths, no_truths, truth_operand}
+use Rattle.dcv_core.specs.Core.{truth_in, CoreTree, CoreAtom, CoreNot, CoreJoined, CoreChop, CoreStar, CoreExists}
 use Rattle.dcv_core.specs.Steps.{PlainOp, PlainStep, CoreStep, without_core, steps_before, steps_from}
 use Rattle.dcv_core.specs.declared.truths.Truth.{Truth}
 use Rattle.dcv_core.specs.TruthViews.{plain_truth, truths_of}
 use Rattle.dcv_core.proofs.TruthRows.{truth_and, truth_or, truth_iff}
-use Rattle.dcv_tracks.specs.Shifting.{Shift, same_truth, same_truths, same_shift, with_shift, collected, all_collected, collected_of_basic, collected_of}
-use Rattle.dcv_tracks.specs.Shifting.{bound_in, bound_in_basic, bound_shift}
-use Rattle.dcv_tracks.specs.ShiftSteps.{truth_in, step_truth}
+use Rattle.dcv_tracks.specs.Shifting.{Shift, same_truth, same_truths, same_shift, with_shift, collected, all_collected, collected_by, collected_of, bound_by, bound_shift}
+use Rattle.dcv_tracks.specs.ShiftSteps.{step_truth}
 
 -- a proposition that holds a vector joins the propositions in it
 pub ruleset list_rows = (truth_and, truth_or, truth_iff)
@@ -57,9 +55,7 @@ mutual
   collected-grows (TruthConstant truth) seen = omega arith
   collected-grows (TruthSlot slot) seen = omega arith
   collected-grows (TruthNot p) seen = collected-grows p seen
-  collected-grows (TruthAnd operands) seen = all_collected-grows operands seen
-  collected-grows (TruthOr operands) seen = all_collected-grows operands seen
-  collected-grows (TruthIff operands) seen = all_collected-grows operands seen
+  collected-grows (TruthJoined connective operands) seen = all_collected-grows operands seen
   collected-grows (TruthShift direction p span) seen =
       omega (arith, collected-grows p seen, with_shift-grows (collected seen p) (record { direction = direction; operand = p; span = span }))
 
@@ -86,10 +82,6 @@ step_at (step ∷ steps) (suc i) op is =
 
 -- ---- what is collected step by step
 
-abbrev pub collected_by : List Shift → Option PlainTruth → List Shift
-collected_by seen None = seen
-collected_by seen (Some p) = collected seen p
-
 abbrev pub collected_in : List Shift → List CoreStep → List Shift
 collected_in seen [] = seen
 collected_in seen (step ∷ steps) = collected_in (collected_by seen (step_truth step.op)) steps
@@ -112,18 +104,6 @@ collected_in-grows (step ∷ steps) seen =
     by_one None = omega arith
     by_one (Some p) = collected-grows p seen
 
-collected_basic : (seen : List Shift) (basic : PlainBasic) → collected_by seen (truth_in basic) ≡ collected_of_basic seen basic
-collected_basic seen (BasicConstant truth) = refl
-collected_basic seen (BasicPoint p) = refl
-collected_basic seen (BasicRun p) = refl
-collected_basic seen (BasicEvery p) = refl
-collected_basic seen (BasicUnit p) = refl
-collected_basic seen (BasicSlen relation n) = refl
-collected_basic seen (BasicScount p relation n) = refl
-collected_basic seen (BasicSdur p relation n) = refl
-collected_basic seen (BasicBack p slot) = refl
-collected_basic seen (BasicFore p slot) = refl
-
 in_turn : (xs ys : List PlainStep) (seen : List Shift)
     → collected_in seen (map without_core (xs ++ ys)) ≡ collected_in (collected_in seen (map without_core xs)) (map without_core ys)
 in_turn [] ys seen = refl
@@ -144,13 +124,9 @@ module _ (seen : List Shift) (c d : CoreTree) (xs ys : List PlainStep) (own : Pl
       ∙ other
 
 pub collected_steps : (tree : CoreTree) (n k : ℕ) (seen : List Shift) → collected_in seen (map without_core (steps_from n k tree)) ≡ collected_of seen tree
-collected_steps (CoreAtom basic span) n k seen = collected_basic seen basic
+collected_steps (CoreAtom basic span) n k seen = refl
 collected_steps (CoreNot d span) n k seen = by_one seen d d (steps_from n k d) [] _ refl (collected_steps d n k seen)
-collected_steps (CoreAnd c d span) n k seen =
-    by_two seen c d (steps_from n k c) (steps_from (suc (n + steps_before c)) k d) _ refl (collected_steps c n k seen) (collected_steps d _ k (collected_of seen c))
-collected_steps (CoreOr c d span) n k seen =
-    by_two seen c d (steps_from n k c) (steps_from (suc (n + steps_before c)) k d) _ refl (collected_steps c n k seen) (collected_steps d _ k (collected_of seen c))
-collected_steps (CoreIff c d span) n k seen =
+collected_steps (CoreJoined connective c d span) n k seen =
     by_two seen c d (steps_from n k c) (steps_from (suc (n + steps_before c)) k d) _ refl (collected_steps c n k seen) (collected_steps d _ k (collected_of seen c))
 collected_steps (CoreChop c d span) n k seen =
     by_two seen c d (steps_from n k c) (steps_from (suc (n + steps_before c)) k d) _ refl (collected_steps c n k seen) (collected_steps d _ k (collected_of seen c))
@@ -158,10 +134,6 @@ collected_steps (CoreStar d span) n k seen = by_one seen d d (steps_from n k d) 
 collected_steps (CoreExists d span) n k seen = by_one seen d d (steps_from n (k + 1) d) [] _ refl (collected_steps d n (k + 1) seen)
 
 -- ---- the first shift that looks at a quantified variable, step by step
-
-abbrev pub bound_by : ℕ → Option PlainTruth → Option ℕ
-bound_by k None = None
-bound_by k (Some p) = bound_in k p
 
 abbrev pub bound_among : ℕ → List CoreStep → Option ℕ
 bound_among k [] = None
@@ -175,18 +147,6 @@ bound_next k steps i op truth is of =
     let next : suc i ≡ i + 1 = omega arith in
     let truth_is : step_truth at.step.op ≡ truth = ap step_truth at.op_is ∙ sym of in
     ap (bound_among k) at.left ∙ (λ j. option_or (bound_by k (truth_is j)) (bound_among k (drop (next j) steps)))
-
-bound_basic : (k : ℕ) (basic : PlainBasic) → bound_by k (truth_in basic) ≡ bound_in_basic k basic
-bound_basic k (BasicConstant truth) = refl
-bound_basic k (BasicPoint p) = refl
-bound_basic k (BasicRun p) = refl
-bound_basic k (BasicEvery p) = refl
-bound_basic k (BasicUnit p) = refl
-bound_basic k (BasicSlen relation n) = refl
-bound_basic k (BasicScount p relation n) = refl
-bound_basic k (BasicSdur p relation n) = refl
-bound_basic k (BasicBack p slot) = refl
-bound_basic k (BasicFore p slot) = refl
 
 or_none : (x : Option ℕ) → option_or x None ≡ x
 or_none None = refl
@@ -224,13 +184,9 @@ module _ (k : ℕ) (c d : CoreTree) (xs ys : List PlainStep) (own : PlainStep) (
       ∙ (λ j. option_or (one j) (other j))
 
 pub bound_steps : (k : ℕ) (tree : CoreTree) (n slots : ℕ) → bound_among k (map without_core (steps_from n slots tree)) ≡ bound_shift k tree
-bound_steps k (CoreAtom basic span) n slots = or_none (bound_by k (truth_in basic)) ∙ bound_basic k basic
+bound_steps k (CoreAtom basic span) n slots = or_none (bound_by k (truth_in basic))
 bound_steps k (CoreNot d span) n slots = first_of_one k d d (steps_from n slots d) [] _ refl (bound_steps k d n slots)
-bound_steps k (CoreAnd c d span) n slots =
-    first_of_two k c d (steps_from n slots c) (steps_from (suc (n + steps_before c)) slots d) _ refl (bound_steps k c n slots) (bound_steps k d _ slots)
-bound_steps k (CoreOr c d span) n slots =
-    first_of_two k c d (steps_from n slots c) (steps_from (suc (n + steps_before c)) slots d) _ refl (bound_steps k c n slots) (bound_steps k d _ slots)
-bound_steps k (CoreIff c d span) n slots =
+bound_steps k (CoreJoined connective c d span) n slots =
     first_of_two k c d (steps_from n slots c) (steps_from (suc (n + steps_before c)) slots d) _ refl (bound_steps k c n slots) (bound_steps k d _ slots)
 bound_steps k (CoreChop c d span) n slots =
     first_of_two k c d (steps_from n slots c) (steps_from (suc (n + steps_before c)) slots d) _ refl (bound_steps k c n slots) (bound_steps k d _ slots)

@@ -2,15 +2,13 @@
 use Rattle.std.proofs.Common.{◌≡◌, ℕ, zero, suc, ◌+◌, List, [], ◌∷◌, ◌++◌, Some, subst, arith}
 use Rattle.std.specs.List.{slice_get}
 use Rattle.std.proofs.lemmas.Option.{slice_get_within}
-use Rattle.dcv_core.specs.declared.truths.Direction.{Direction}
-use Rattle.dcv_core.specs.declared.truths.Direction.TheVariants.{Prior, Next}
-use Rattle.dcv_core.specs.Core.{PlainTruth, TruthConstant, TruthSlot, TruthNot, TruthAnd, TruthOr, TruthIff, TruthShift, PlainTruths, no_truths, truth_operand}
-use Rattle.dcv_core.specs.Core.{PlainBasic, BasicConstant, BasicPoint, BasicRun, BasicEvery, BasicUnit, BasicSlen, BasicScount, BasicSdur, BasicBack, BasicFore}
-use Rattle.dcv_core.specs.Core.{CoreTree, CoreAtom, CoreNot, CoreAnd, CoreOr, CoreIff, CoreChop, CoreStar, CoreExists}
+use Rattle.dcv_core.specs.Core.{PlainTruth, TruthConstant, TruthSlot, TruthNot, TruthJoined, TruthShift, PlainTruths, no_truths, truth_operand}
+use Rattle.dcv_core.specs.Core.{PlainBasic, BasicConstant, BasicBracketed, BasicSlen, BasicCounted, BasicTrack}
+use Rattle.dcv_core.specs.Core.{CoreTree, CoreAtom, CoreNot, CoreJoined, CoreChop, CoreStar, CoreExists}
 use Rattle.dcv_core.specs.Steps.{PlainStep, steps_before, steps_from, steps_of}
 use Rattle.dcv_core.specs.Slots.{HasNoShift, HaveNoShift, BasicHasNoShift, OpHasNoShift, CoreHasNoShift}
 use Rattle.dcv_core.proofs.StepList.{some_same}
-use Rattle.dcv_tracks.specs.Shifting.{Shift, placed, all_placed, placed_basic, placed_core, shift_row, shift_basic, closed_from, shifted_core, shifts_in}
+use Rattle.dcv_tracks.specs.Shifting.{Shift, placed, all_placed, placed_basic, placed_core, closed_from, shifted_core, shifts_in}
 
 module _ (k : ℕ) (all : List Shift) where
   mutual
@@ -18,9 +16,7 @@ module _ (k : ℕ) (all : List Shift) where
     placed_free (TruthConstant truth) = tt
     placed_free (TruthSlot slot) = tt
     placed_free (TruthNot p) = placed_free p
-    placed_free (TruthAnd operands) = all_placed_free operands
-    placed_free (TruthOr operands) = all_placed_free operands
-    placed_free (TruthIff operands) = all_placed_free operands
+    placed_free (TruthJoined connective operands) = all_placed_free operands
     placed_free (TruthShift direction p span) = tt
 
     all_placed_free : (operands : PlainTruths) → HaveNoShift (all_placed k all operands)
@@ -29,37 +25,22 @@ module _ (k : ℕ) (all : List Shift) where
 
   basic_placed_free : (basic : PlainBasic) → BasicHasNoShift (placed_basic k all basic)
   basic_placed_free (BasicConstant truth) = tt
-  basic_placed_free (BasicPoint p) = placed_free p
-  basic_placed_free (BasicRun p) = placed_free p
-  basic_placed_free (BasicEvery p) = placed_free p
-  basic_placed_free (BasicUnit p) = placed_free p
+  basic_placed_free (BasicBracketed bracket p) = placed_free p
   basic_placed_free (BasicSlen relation n) = tt
-  basic_placed_free (BasicScount p relation n) = placed_free p
-  basic_placed_free (BasicSdur p relation n) = placed_free p
-  basic_placed_free (BasicBack p slot) = placed_free p
-  basic_placed_free (BasicFore p slot) = placed_free p
+  basic_placed_free (BasicCounted which p relation n) = placed_free p
+  basic_placed_free (BasicTrack direction p slot) = placed_free p
 
   goal_placed_free : (goal : CoreTree) → CoreHasNoShift (placed_core k all goal)
   goal_placed_free (CoreAtom basic span) = basic_placed_free basic
   goal_placed_free (CoreNot d span) = goal_placed_free d
-  goal_placed_free (CoreAnd c d span) = (goal_placed_free c, goal_placed_free d)
-  goal_placed_free (CoreOr c d span) = (goal_placed_free c, goal_placed_free d)
-  goal_placed_free (CoreIff c d span) = (goal_placed_free c, goal_placed_free d)
+  goal_placed_free (CoreJoined connective c d span) = (goal_placed_free c, goal_placed_free d)
   goal_placed_free (CoreChop c d span) = (goal_placed_free c, goal_placed_free d)
   goal_placed_free (CoreStar d span) = goal_placed_free d
   goal_placed_free (CoreExists d span) = goal_placed_free d
 
-  -- nor does a shift stand in its row
-  row_free : (shift : Shift) (slot : ℕ) → BasicHasNoShift (shift_basic k all shift slot)
-  row_free shift slot = by_direction shift.direction
-    where
-      by_direction : (direction : Direction) → BasicHasNoShift (shift_row direction (placed k all shift.operand) slot)
-      by_direction Prior = placed_free shift.operand
-      by_direction Next = placed_free shift.operand
-
   closed_free : (shifts : List Shift) (slot : ℕ) (core : CoreTree) → CoreHasNoShift core → CoreHasNoShift (closed_from k all slot shifts core)
   closed_free [] slot core free = free
-  closed_free (shift ∷ shifts) slot core free = (closed_free shifts (suc slot) core free, row_free shift slot)
+  closed_free (shift ∷ shifts) slot core free = (closed_free shifts (suc slot) core free, placed_free shift.operand)
 
 pub shifted_free : (k : ℕ) (goal : CoreTree) → CoreHasNoShift (shifted_core k goal)
 shifted_free k goal = let all = shifts_in goal in closed_free k all all k (placed_core k all goal) (goal_placed_free k all goal)
@@ -81,9 +62,7 @@ two_free xs ys last a b c = steps_append (xs ++ ys) (last ∷ []) (steps_append 
 steps_free : (core : CoreTree) (n k : ℕ) → CoreHasNoShift core → StepsFree (steps_from n k core)
 steps_free (CoreAtom basic span) n k free = (free, tt)
 steps_free (CoreNot d span) n k free = steps_append (steps_from n k d) _ (steps_free d n k free) (tt, tt)
-steps_free (CoreAnd c d span) n k free = two_free (steps_from n k c) _ _ (steps_free c n k free.0) (steps_free d (suc (n + steps_before c)) k free.1) tt
-steps_free (CoreOr c d span) n k free = two_free (steps_from n k c) _ _ (steps_free c n k free.0) (steps_free d (suc (n + steps_before c)) k free.1) tt
-steps_free (CoreIff c d span) n k free = two_free (steps_from n k c) _ _ (steps_free c n k free.0) (steps_free d (suc (n + steps_before c)) k free.1) tt
+steps_free (CoreJoined connective c d span) n k free = two_free (steps_from n k c) _ _ (steps_free c n k free.0) (steps_free d (suc (n + steps_before c)) k free.1) tt
 steps_free (CoreChop c d span) n k free = two_free (steps_from n k c) _ _ (steps_free c n k free.0) (steps_free d (suc (n + steps_before c)) k free.1) tt
 steps_free (CoreStar d span) n k free = steps_append (steps_from n k d) _ (steps_free d n k free) (tt, tt)
 steps_free (CoreExists d span) n k free = steps_append (steps_from n (k + 1) d) _ (steps_free d n (k + 1) free) (tt, tt)

@@ -8,8 +8,9 @@ use Rattle.dcv_word.specs.Behaviour.{Word, IsBehaviour}
 use Rattle.dcv_language.specs.Operations.{with_track}
 use Rattle.dcv_logic.specs.Track.{Track, truth_at, track_of}
 use Rattle.dcv_logic.proofs.InWords.{track-length, track-values}
-use Rattle.dcv_core.specs.Core.{PlainTruth, TruthConstant, TruthSlot, TruthNot, TruthAnd, TruthOr, TruthIff, TruthShift, PlainTruths, no_truths, truth_operand}
-use Rattle.dcv_core.specs.Holds.{letter_at, truth_holds, basic_holds, shifted}
+use Rattle.dcv_core.specs.Core.{PlainTruth, TruthConstant, TruthSlot, TruthNot, TruthJoined, TruthShift, PlainTruths, no_truths, truth_operand}
+use Rattle.dcv_core.specs.Holds.{letter_at, truth_holds, basic_holds}
+use Rattle.dcv_logic.specs.Value.{shifted}
 use Rattle.dcv_core.proofs.Tracks.{with_track-length, with_track-letter}
 use Rattle.dcv_tracks.specs.Shifting.{Shift, placed, all_placed, placed_slot, slot_of, shift_basic, shifts_in}
 use Rattle.dcv_tracks.specs.Tracks.{AreTracks}
@@ -39,9 +40,7 @@ module _ (k : ℕ) (all seen : List Shift) (own : Shift) (rest : List Shift) (is
     operand_avoids (TruthConstant truth) c = tt
     operand_avoids (TruthSlot slot) c = slot_avoids slot
     operand_avoids (TruthNot p) c = operand_avoids p c
-    operand_avoids (TruthAnd operands) c = operands_avoid operands c
-    operand_avoids (TruthOr operands) c = operands_avoid operands c
-    operand_avoids (TruthIff operands) c = operands_avoid operands c
+    operand_avoids (TruthJoined connective operands) c = operands_avoid operands c
     operand_avoids (TruthShift direction p span) c =
         let shift : Shift = record { direction = direction; operand = p; span = span } in
         let slot = position k all seen (own ∷ rest) shift is c in

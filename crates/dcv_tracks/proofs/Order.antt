@@ -1,14 +1,13 @@
 -- The list of a goal's shifts: it only grows, an inner shift stands before the outer one, and each shift of the goal is the same as one in it.
-use Rattle.std.proofs.Common.{◌≡◌, Bool, true, false, List, [], ◌∷◌, ◌++◌, refl, sym, ap, subst, ◌∙◌, true≢false}
+use Rattle.std.proofs.Common.{◌≡◌, Bool, true, false, List, [], ◌∷◌, ◌++◌, Option, Some, None, refl, sym, ap, subst, ◌∙◌, true≢false}
 use Rattle.std.specs.Prelude.{◌||◌, if◌then◌else◌}
 use Rattle.std.specs.List.{list_any}
 use Rattle.std.proofs.lemmas.List.{append_assoc, append-nil}
-use Rattle.dcv_core.specs.Core.{PlainTruth, TruthConstant, TruthSlot, TruthNot, TruthAnd, TruthOr, TruthIff, TruthShift, PlainTruths, no_truths, truth_operand}
-use Rattle.dcv_core.specs.Core.{PlainBasic, BasicConstant, BasicPoint, BasicRun, BasicEvery, BasicUnit, BasicSlen, BasicScount, BasicSdur, BasicBack, BasicFore}
-use Rattle.dcv_core.specs.Core.{CoreTree, CoreAtom, CoreNot, CoreAnd, CoreOr, CoreIff, CoreChop, CoreStar, CoreExists}
-use Rattle.dcv_tracks.specs.Shifting.{Shift, same_shift, with_shift, collected, all_collected, collected_of_basic, collected_of, shifts_in}
+use Rattle.dcv_core.specs.Core.{PlainTruth, TruthConstant, TruthSlot, TruthNot, TruthJoined, TruthShift, PlainTruths, no_truths, truth_operand}
+use Rattle.dcv_core.specs.Core.{truth_in, CoreTree, CoreAtom, CoreNot, CoreJoined, CoreChop, CoreStar, CoreExists}
+use Rattle.dcv_tracks.specs.Shifting.{Shift, same_shift, with_shift, collected, all_collected, collected_by, collected_of, shifts_in}
 use Rattle.dcv_tracks.proofs.Sameness.{shift_itself}
-use Rattle.dcv_tracks.proofs.Standing.{IsCovered, AreCovered, BasicIsCovered, CoreIsCovered}
+use Rattle.dcv_tracks.proofs.Standing.{IsCovered, AreCovered, FormIsCovered, CoreIsCovered}
 
 -- ---- one of a list
 
@@ -35,33 +34,21 @@ mutual
   covered_more seen more (TruthConstant truth) c = tt
   covered_more seen more (TruthSlot slot) c = tt
   covered_more seen more (TruthNot p) c = covered_more seen more p c
-  covered_more seen more (TruthAnd operands) c = all_covered_more seen more operands c
-  covered_more seen more (TruthOr operands) c = all_covered_more seen more operands c
-  covered_more seen more (TruthIff operands) c = all_covered_more seen more operands c
+  covered_more seen more (TruthJoined connective operands) c = all_covered_more seen more operands c
   covered_more seen more (TruthShift direction p span) c = any_more (same_shift (record { direction = direction; operand = p; span = span })) seen more c
 
   all_covered_more : (seen more : List Shift) (operands : PlainTruths) → AreCovered seen operands → AreCovered (seen ++ more) operands
   all_covered_more seen more no_truths c = tt
   all_covered_more seen more (truth_operand p operands) c = (covered_more seen more p c.0, all_covered_more seen more operands c.1)
 
-basic_covered_more : (seen more : List Shift) (basic : PlainBasic) → BasicIsCovered seen basic → BasicIsCovered (seen ++ more) basic
-basic_covered_more seen more (BasicConstant truth) c = tt
-basic_covered_more seen more (BasicPoint p) c = covered_more seen more p c
-basic_covered_more seen more (BasicRun p) c = covered_more seen more p c
-basic_covered_more seen more (BasicEvery p) c = covered_more seen more p c
-basic_covered_more seen more (BasicUnit p) c = covered_more seen more p c
-basic_covered_more seen more (BasicSlen relation n) c = tt
-basic_covered_more seen more (BasicScount p relation n) c = covered_more seen more p c
-basic_covered_more seen more (BasicSdur p relation n) c = covered_more seen more p c
-basic_covered_more seen more (BasicBack p slot) c = covered_more seen more p c
-basic_covered_more seen more (BasicFore p slot) c = covered_more seen more p c
+form_covered_more : (seen more : List Shift) (p : Option PlainTruth) → FormIsCovered seen p → FormIsCovered (seen ++ more) p
+form_covered_more seen more None c = tt
+form_covered_more seen more (Some p) c = covered_more seen more p c
 
 core_covered_more : (seen more : List Shift) (core : CoreTree) → CoreIsCovered seen core → CoreIsCovered (seen ++ more) core
-core_covered_more seen more (CoreAtom basic span) c = basic_covered_more seen more basic c
+core_covered_more seen more (CoreAtom basic span) c = form_covered_more seen more (truth_in basic) c
 core_covered_more seen more (CoreNot d span) c = core_covered_more seen more d c
-core_covered_more seen more (CoreAnd a d span) c = (core_covered_more seen more a c.0, core_covered_more seen more d c.1)
-core_covered_more seen more (CoreOr a d span) c = (core_covered_more seen more a c.0, core_covered_more seen more d c.1)
-core_covered_more seen more (CoreIff a d span) c = (core_covered_more seen more a c.0, core_covered_more seen more d c.1)
+core_covered_more seen more (CoreJoined connective a d span) c = (core_covered_more seen more a c.0, core_covered_more seen more d c.1)
 core_covered_more seen more (CoreChop a d span) c = (core_covered_more seen more a c.0, core_covered_more seen more d c.1)
 core_covered_more seen more (CoreStar d span) c = core_covered_more seen more d c
 core_covered_more seen more (CoreExists d span) c = core_covered_more seen more d c
@@ -115,9 +102,7 @@ mutual
   truth_grows (TruthConstant truth) seen = (grown_itself seen, tt)
   truth_grows (TruthSlot slot) seen = (grown_itself seen, tt)
   truth_grows (TruthNot p) seen = truth_grows p seen
-  truth_grows (TruthAnd operands) seen = truths_grow operands seen
-  truth_grows (TruthOr operands) seen = truths_grow operands seen
-  truth_grows (TruthIff operands) seen = truths_grow operands seen
+  truth_grows (TruthJoined connective operands) seen = truths_grow operands seen
   truth_grows (TruthShift direction p span) seen =
       let shift : Shift = record { direction = direction; operand = p; span = span } in
       let inner = truth_grows p seen in
@@ -132,17 +117,9 @@ mutual
       let last = all_collected (collected seen p) operands in
       (grown_on seen (collected seen p) last one.0 more.0, (covered_on (collected seen p) last more.0 p one.1, more.1))
 
-basic_grows : (basic : PlainBasic) (seen : List Shift) → Grown seen (collected_of_basic seen basic) × BasicIsCovered (collected_of_basic seen basic) basic
-basic_grows (BasicConstant truth) seen = (grown_itself seen, tt)
-basic_grows (BasicPoint p) seen = truth_grows p seen
-basic_grows (BasicRun p) seen = truth_grows p seen
-basic_grows (BasicEvery p) seen = truth_grows p seen
-basic_grows (BasicUnit p) seen = truth_grows p seen
-basic_grows (BasicSlen relation n) seen = (grown_itself seen, tt)
-basic_grows (BasicScount p relation n) seen = truth_grows p seen
-basic_grows (BasicSdur p relation n) seen = truth_grows p seen
-basic_grows (BasicBack p slot) seen = truth_grows p seen
-basic_grows (BasicFore p slot) seen = truth_grows p seen
+form_grows : (p : Option PlainTruth) (seen : List Shift) → Grown seen (collected_by seen p) × FormIsCovered (collected_by seen p) p
+form_grows None seen = (grown_itself seen, tt)
+form_grows (Some p) seen = truth_grows p seen
 
 -- what a goal adds, with the shifts that it is covered by
 abbrev GoalGrows : List Shift → CoreTree → Type 0
@@ -155,11 +132,9 @@ both_grow c d seen one two =
     (grown_on seen (collected_of seen c) last one.0 two.0, (core_covered_on (collected_of seen c) last two.0 c one.1, two.1))
 
 pub goal_grows : (core : CoreTree) (seen : List Shift) → GoalGrows seen core
-goal_grows (CoreAtom basic span) seen = basic_grows basic seen
+goal_grows (CoreAtom basic span) seen = form_grows (truth_in basic) seen
 goal_grows (CoreNot d span) seen = goal_grows d seen
-goal_grows (CoreAnd c d span) seen = both_grow c d seen (goal_grows c seen) (goal_grows d (collected_of seen c))
-goal_grows (CoreOr c d span) seen = both_grow c d seen (goal_grows c seen) (goal_grows d (collected_of seen c))
-goal_grows (CoreIff c d span) seen = both_grow c d seen (goal_grows c seen) (goal_grows d (collected_of seen c))
+goal_grows (CoreJoined connective c d span) seen = both_grow c d seen (goal_grows c seen) (goal_grows d (collected_of seen c))
 goal_grows (CoreChop c d span) seen = both_grow c d seen (goal_grows c seen) (goal_grows d (collected_of seen c))
 goal_grows (CoreStar d span) seen = goal_grows d seen
 goal_grows (CoreExists d span) seen = goal_grows d seen

@@ -4,11 +4,11 @@ use Rattle.std.specs.List.{All, slice_get, slice_index_or}
 use Rattle.std.specs.Option.{option_map, unwrap_or}
 use Rattle.std.proofs.lemmas.List.{map-append, append_assoc}
 use Rattle.dcv_syntax.specs.declared.names.Span.{Span}
-use Rattle.dcv_core.specs.Core.{PlainTruth, TruthConstant, TruthSlot, TruthNot, TruthAnd, TruthOr, TruthIff, TruthShift, PlainTruths, no_truths, truth_operand}
-use Rattle.dcv_core.specs.Core.{PlainBasic, BasicConstant, BasicPoint, BasicRun, BasicEvery, BasicUnit, BasicSlen, BasicScount, BasicSdur, BasicBack, BasicFore}
-use Rattle.dcv_core.specs.Core.{CoreTree, CoreAtom, CoreNot, CoreAnd, CoreOr, CoreIff, CoreChop, CoreStar, CoreExists}
+use Rattle.dcv_core.specs.Core.{PlainTruth, TruthConstant, TruthSlot, TruthNot, TruthJoined, TruthShift, PlainTruths, no_truths, truth_operand}
+use Rattle.dcv_core.specs.Core.{PlainBasic, BasicConstant, BasicBracketed, BasicSlen, BasicCounted, BasicTrack}
+use Rattle.dcv_core.specs.Core.{CoreTree, CoreAtom, CoreNot, CoreJoined, CoreChop, CoreStar, CoreExists}
 use Rattle.dcv_core.specs.Slots.{IsBelow, AreBelow, BasicIsBelow, OpIsBelow}
-use Rattle.dcv_core.specs.Steps.{PlainOp, OpAtom, OpNot, OpAnd, OpOr, OpIff, OpChop, OpStar, OpExists, PlainStep, CoreStep, without_core, steps_before, steps_from, PlainCore, Pushed}
+use Rattle.dcv_core.specs.Steps.{PlainOp, OpAtom, OpNot, OpJoined, OpChop, OpStar, OpExists, PlainStep, CoreStep, without_core, steps_before, steps_from, PlainCore, Pushed}
 use Rattle.dcv_core.specs.TruthViews.{truths_of}
 use Rattle.dcv_tracks.specs.Shifting.{Shift, placed, all_placed, placed_core}
 use Rattle.dcv_tracks.specs.ShiftSteps.{with_steps, placed_op, placed_step}
@@ -20,9 +20,7 @@ abbrev mutual
   parts (TruthConstant truth) = 0
   parts (TruthSlot slot) = 0
   parts (TruthNot p) = suc (parts p)
-  parts (TruthAnd operands) = suc (all_parts operands)
-  parts (TruthOr operands) = suc (all_parts operands)
-  parts (TruthIff operands) = suc (all_parts operands)
+  parts (TruthJoined connective operands) = suc (all_parts operands)
   parts (TruthShift direction p span) = suc (parts p)
 
   pub all_parts : PlainTruths → ℕ
@@ -36,9 +34,7 @@ mutual
   more_slots (TruthConstant truth) k j le b = tt
   more_slots (TruthSlot slot) k j le b = omega (arith, le, b)
   more_slots (TruthNot p) k j le b = more_slots p k j le b
-  more_slots (TruthAnd operands) k j le b = more_slots_in operands k j le b
-  more_slots (TruthOr operands) k j le b = more_slots_in operands k j le b
-  more_slots (TruthIff operands) k j le b = more_slots_in operands k j le b
+  more_slots (TruthJoined connective operands) k j le b = more_slots_in operands k j le b
   more_slots (TruthShift direction p span) k j le b = more_slots p k j le b
 
   more_slots_in : (operands : PlainTruths) (k j : ℕ) → k ≤ j → AreBelow k operands → AreBelow j operands
@@ -47,25 +43,14 @@ mutual
 
 more_slots_of_basic : (basic : PlainBasic) (k j : ℕ) → k ≤ j → BasicIsBelow k basic → BasicIsBelow j basic
 more_slots_of_basic (BasicConstant truth) k j le b = tt
-more_slots_of_basic (BasicPoint p) k j le b = more_slots p k j le b
-more_slots_of_basic (BasicRun p) k j le b = more_slots p k j le b
-more_slots_of_basic (BasicEvery p) k j le b = more_slots p k j le b
-more_slots_of_basic (BasicUnit p) k j le b = more_slots p k j le b
+more_slots_of_basic (BasicBracketed bracket p) k j le b = more_slots p k j le b
 more_slots_of_basic (BasicSlen relation n) k j le b = tt
-more_slots_of_basic (BasicScount p relation n) k j le b = more_slots p k j le b
-more_slots_of_basic (BasicSdur p relation n) k j le b = more_slots p k j le b
-more_slots_of_basic (BasicBack p slot) k j le b = (more_slots p k j le b.0, omega (arith, le, b.1))
-more_slots_of_basic (BasicFore p slot) k j le b = (more_slots p k j le b.0, omega (arith, le, b.1))
+more_slots_of_basic (BasicCounted which p relation n) k j le b = more_slots p k j le b
+more_slots_of_basic (BasicTrack direction p slot) k j le b = (more_slots p k j le b.0, omega (arith, le, b.1))
 
 pub more_slots_of_op : (op : PlainOp) (k j : ℕ) → k ≤ j → OpIsBelow k op → OpIsBelow j op
 more_slots_of_op (OpAtom basic) k j le b = more_slots_of_basic basic k j le b
-more_slots_of_op (OpNot d) k j le b = tt
-more_slots_of_op (OpAnd c d) k j le b = tt
-more_slots_of_op (OpOr c d) k j le b = tt
-more_slots_of_op (OpIff c d) k j le b = tt
-more_slots_of_op (OpChop c d) k j le b = tt
-more_slots_of_op (OpStar d) k j le b = tt
-more_slots_of_op (OpExists d) k j le b = tt
+more_slots_of_op op k j le b = tt
 
 -- ---- slots in place of shifts
 
@@ -74,12 +59,10 @@ module _ (k : ℕ) (all : List Shift) where
   truths_placed [] = refl
   truths_placed (p ∷ ps) = ap (truth_operand (placed k all p)) (truths_placed ps)
 
-  placed_before : (tree : CoreTree) → steps_before (placed_core k all tree) ≡ steps_before tree
+  pub placed_before : (tree : CoreTree) → steps_before (placed_core k all tree) ≡ steps_before tree
   placed_before (CoreAtom basic span) = refl
   placed_before (CoreNot d span) = ap suc (placed_before d)
-  placed_before (CoreAnd c d span) = λ i. suc (suc (placed_before c i + placed_before d i))
-  placed_before (CoreOr c d span) = λ i. suc (suc (placed_before c i + placed_before d i))
-  placed_before (CoreIff c d span) = λ i. suc (suc (placed_before c i + placed_before d i))
+  placed_before (CoreJoined connective c d span) = λ i. suc (suc (placed_before c i + placed_before d i))
   placed_before (CoreChop c d span) = λ i. suc (suc (placed_before c i + placed_before d i))
   placed_before (CoreStar d span) = ap suc (placed_before d)
   placed_before (CoreExists d span) = ap suc (placed_before d)
@@ -110,24 +93,12 @@ module _ (k : ℕ) (all : List Shift) where
   placed_steps (CoreNot d span) n s =
       placed_both (steps_from n (s + length all) (placed_core k all d)) (_ ∷ []) (steps_from n s d) (_ ∷ []) (placed_steps d n s)
       (ap (λ b. over span s (OpNot (n + b)) ∷ []) (placed_before d))
-  placed_steps (CoreAnd c d span) n s =
+  placed_steps (CoreJoined connective c d span) n s =
       two_placed (steps_from n (s + length all) (placed_core k all c)) (steps_from n s c)
       (steps_from (suc (n + steps_before (placed_core k all c))) (s + length all) (placed_core k all d)) (steps_from (suc (n + steps_before c)) s d) _ _
       (placed_steps c n s)
       (ap (λ b. map without_core (steps_from (suc (n + b)) (s + length all) (placed_core k all d))) (placed_before c) ∙ placed_steps d (suc (n + steps_before c)) s)
-      (λ i. over span s (OpAnd (n + placed_before c i) (suc (n + placed_before c i) + placed_before d i)))
-  placed_steps (CoreOr c d span) n s =
-      two_placed (steps_from n (s + length all) (placed_core k all c)) (steps_from n s c)
-      (steps_from (suc (n + steps_before (placed_core k all c))) (s + length all) (placed_core k all d)) (steps_from (suc (n + steps_before c)) s d) _ _
-      (placed_steps c n s)
-      (ap (λ b. map without_core (steps_from (suc (n + b)) (s + length all) (placed_core k all d))) (placed_before c) ∙ placed_steps d (suc (n + steps_before c)) s)
-      (λ i. over span s (OpOr (n + placed_before c i) (suc (n + placed_before c i) + placed_before d i)))
-  placed_steps (CoreIff c d span) n s =
-      two_placed (steps_from n (s + length all) (placed_core k all c)) (steps_from n s c)
-      (steps_from (suc (n + steps_before (placed_core k all c))) (s + length all) (placed_core k all d)) (steps_from (suc (n + steps_before c)) s d) _ _
-      (placed_steps c n s)
-      (ap (λ b. map without_core (steps_from (suc (n + b)) (s + length all) (placed_core k all d))) (placed_before c) ∙ placed_steps d (suc (n + steps_before c)) s)
-      (λ i. over span s (OpIff (n + placed_before c i) (suc (n + placed_before c i) + placed_before d i)))
+      (λ i. over span s (OpJoined connective (n + placed_before c i) (suc (n + placed_before c i) + placed_before d i)))
   placed_steps (CoreChop c d span) n s =
       two_placed (steps_from n (s + length all) (placed_core k all c)) (steps_from n s c)
       (steps_from (suc (n + steps_before (placed_core k all c))) (s + length all) (placed_core k all d)) (steps_from (suc (n + steps_before c)) s d) _ _

@@ -1,7 +1,7 @@
 -- The row of a shift accepts a word with a track exactly where the track is what the shift is at each instant, since the shift's operand does not name the track's
 -- slot.
 use Rattle.std.proofs.Common.{◌≡◌, ℕ, zero, suc, ◌+◌, ◌-◌, ◌<◌, ◌≤◌, Bool, true, false, List, [], ◌∷◌, ◌++◌, ◌⊎◌, inl, inr, length, length-append, refl, sym, ap, subst, ◌∙◌, arith, true≢false}
-use Rattle.std.specs.Prelude.{◌||◌, ◌&&◌, not, nat_eq, nat_lt}
+use Rattle.std.specs.Prelude.{◌&&◌, not, nat_eq, nat_lt}
 use Rattle.std.specs.Bool.{Decides}
 use Rattle.std.proofs.lemmas.Bool.Decides.{nat_tests}
 use Rattle.std.proofs.lemmas.List.{get_or_past}
@@ -10,14 +10,15 @@ use Rattle.dcv_language.specs.Operations.{with_track, iff}
 use Rattle.dcv_logic.specs.Search.{each_between}
 use Rattle.dcv_logic.specs.Track.{Track, truth_at}
 use Rattle.dcv_logic.proofs.InWords.{each_between-every}
-use Rattle.dcv_core.specs.declared.truths.Direction.{Direction}
-use Rattle.dcv_core.specs.declared.truths.Direction.TheVariants.{Prior, Next}
-use Rattle.dcv_core.specs.Core.{PlainTruth, TruthConstant, TruthSlot, TruthNot, TruthAnd, TruthOr, TruthIff, TruthShift, PlainTruths, no_truths, truth_operand}
-use Rattle.dcv_core.specs.Core.{BasicBack, BasicFore}
-use Rattle.dcv_core.specs.Holds.{letter_at, truth_holds, all_truths, some_truth, iff_truths, holds_at, basic_holds, shifted}
+use Rattle.dcv_syntax.specs.declared.propositions.Direction.{Direction}
+use Rattle.dcv_syntax.specs.declared.propositions.Direction.TheVariants.{Prior, Next}
+use Rattle.dcv_core.specs.Core.{PlainTruth, TruthConstant, TruthSlot, TruthNot, TruthJoined, TruthShift, PlainTruths, no_truths, truth_operand, BasicTrack}
+use Rattle.dcv_core.specs.Holds.{letter_at, truth_holds, joined_truths, holds_at, basic_holds}
+use Rattle.dcv_logic.specs.Value.{shifted}
+use Rattle.dcv_logic.specs.Connectives.{joins, of_none}
+use Rattle.dcv_syntax.specs.declared.propositions.Connective.{Connective}
 use Rattle.dcv_core.proofs.Tracks.{with_track-letter, slot_further, slot_behind}
 use Rattle.dcv_core.proofs.Chops.{and-parts}
-use Rattle.dcv_tracks.specs.Shifting.{shift_row}
 
 -- ---- a proposition that does not name a slot
 
@@ -26,9 +27,7 @@ abbrev mutual
   Avoids slot (TruthConstant truth) = Unit {0}
   Avoids slot (TruthSlot other) = nat_eq other slot ≡ false
   Avoids slot (TruthNot p) = Avoids slot p
-  Avoids slot (TruthAnd operands) = AllAvoid slot operands
-  Avoids slot (TruthOr operands) = AllAvoid slot operands
-  Avoids slot (TruthIff operands) = AllAvoid slot operands
+  Avoids slot (TruthJoined connective operands) = AllAvoid slot operands
   Avoids slot (TruthShift direction p span) = Unit {0}
 
   pub AllAvoid : ℕ → PlainTruths → Type 0
@@ -50,29 +49,15 @@ module _ (letter : List Bool) (truth : Bool) where
     avoids_same (TruthConstant constant) a = refl
     avoids_same (TruthSlot slot) a = slot_avoided slot a
     avoids_same (TruthNot p) a = ap not (avoids_same p a)
-    avoids_same (TruthAnd operands) a = all_avoid_same operands a
-    avoids_same (TruthOr operands) a = some_avoid_same operands a
-    avoids_same (TruthIff operands) a = iff_avoid_same true operands a
+    avoids_same (TruthJoined connective operands) a = joined_avoid_same connective (of_none connective) operands a
     avoids_same (TruthShift direction p span) a = refl
 
-    all_avoid_same : (operands : PlainTruths) → AllAvoid (length letter) operands → all_truths operands (letter ++ truth ∷ []) ≡ all_truths operands letter
-    all_avoid_same no_truths a = refl
-    all_avoid_same (truth_operand p operands) a =
-        let one = avoids_same p a.0 in
-        let more = all_avoid_same operands a.1 in
-        λ i. one i && more i
-
-    some_avoid_same : (operands : PlainTruths) → AllAvoid (length letter) operands → some_truth operands (letter ++ truth ∷ []) ≡ some_truth operands letter
-    some_avoid_same no_truths a = refl
-    some_avoid_same (truth_operand p operands) a =
-        let one = avoids_same p a.0 in
-        let more = some_avoid_same operands a.1 in
-        λ i. one i || more i
-
-    iff_avoid_same : (so_far : Bool) (operands : PlainTruths) → AllAvoid (length letter) operands → iff_truths so_far operands (letter ++ truth ∷ []) ≡ iff_truths so_far operands letter
-    iff_avoid_same so_far no_truths a = refl
-    iff_avoid_same so_far (truth_operand p operands) a =
-        ap (λ b. iff_truths (iff so_far b) operands (letter ++ truth ∷ [])) (avoids_same p a.0) ∙ iff_avoid_same (iff so_far (truth_holds p letter)) operands a.1
+    joined_avoid_same : (connective : Connective) (so_far : Bool) (operands : PlainTruths) → AllAvoid (length letter) operands
+        → joined_truths connective so_far operands (letter ++ truth ∷ []) ≡ joined_truths connective so_far operands letter
+    joined_avoid_same connective so_far no_truths a = refl
+    joined_avoid_same connective so_far (truth_operand p operands) a =
+        ap (λ b. joined_truths connective (joins connective so_far b) operands (letter ++ truth ∷ [])) (avoids_same p a.0)
+        ∙ joined_avoid_same connective (joins connective so_far (truth_holds p letter)) operands a.1
 
 -- ---- tests
 
@@ -132,15 +117,15 @@ module _ (p : PlainTruth) (slot : ℕ) (avoids : Avoids slot p) (word : Word) (s
   abbrev fore_test : ℕ → Bool
   fore_test = λ i. iff (holds_at (TruthSlot slot) (with_track word track) (i - 1)) (holds_at p (with_track word track) i)
 
-  back_parts : basic_holds (BasicBack p slot) (with_track word track) 0 (length word - 1) ≡ true
+  back_parts : basic_holds (BasicTrack Prior p slot) (with_track word track) 0 (length word - 1) ≡ true
       → (not (holds_at (TruthSlot slot) (with_track word track) 0) ≡ true) × (each_between 1 (length word - 1) back_test ≡ true)
   back_parts is = and-parts (not (holds_at (TruthSlot slot) (with_track word track) 0)) (each_between 1 (length word - 1) back_test) is
 
-  fore_parts : basic_holds (BasicFore p slot) (with_track word track) 0 (length word - 1) ≡ true
+  fore_parts : basic_holds (BasicTrack Next p slot) (with_track word track) 0 (length word - 1) ≡ true
       → (not (holds_at (TruthSlot slot) (with_track word track) (length word - 1)) ≡ true) × (each_between 1 (length word - 1) fore_test ≡ true)
   fore_parts is = and-parts (not (holds_at (TruthSlot slot) (with_track word track) (length word - 1))) (each_between 1 (length word - 1) fore_test) is
 
-  back_follows : basic_holds (BasicBack p slot) (with_track word track) 0 (length word - 1) ≡ true → Follows Prior
+  back_follows : basic_holds (BasicTrack Prior p slot) (with_track word track) 0 (length word - 1) ≡ true → Follows Prior
   back_follows is zero lt = sym (slot_here 0 lt) ∙ not_only (holds_at (TruthSlot slot) (with_track word track) 0) (back_parts is).0
   back_follows is (suc i) lt =
       let test = (each_between-every 1 (length word - 1) back_test).0 (back_parts is).1 (suc i) (omega arith) (omega (arith, lt)) in
@@ -149,7 +134,7 @@ module _ (p : PlainTruth) (slot : ℕ) (avoids : Avoids slot p) (word : Word) (s
       ∙ operand_here (suc i - 1) (omega (arith, lt))
       ∙ sym (earlier_there (suc i) (truth_holds p (letter_at word (suc i - 1))) (omega arith))
 
-  follows_back : Follows Prior → basic_holds (BasicBack p slot) (with_track word track) 0 (length word - 1) ≡ true
+  follows_back : Follows Prior → basic_holds (BasicTrack Prior p slot) (with_track word track) 0 (length word - 1) ≡ true
   follows_back follows =
       let first : not (holds_at (TruthSlot slot) (with_track word track) 0) ≡ true = ap not (slot_here 0 some ∙ follows 0 some) in
       let later = (each_between-every 1 (length word - 1) back_test).1 (λ m lo hi.
@@ -158,7 +143,7 @@ module _ (p : PlainTruth) (slot : ℕ) (avoids : Avoids slot p) (word : Word) (s
       (slot_here m lt ∙ follows m lt ∙ earlier_there m (truth_holds p (letter_at word (m - 1))) (omega (arith, lo)) ∙ sym (operand_here (m - 1) (omega (arith, lt))))) in
       λ i. first i && later i
 
-  fore_follows : basic_holds (BasicFore p slot) (with_track word track) 0 (length word - 1) ≡ true → Follows Next
+  fore_follows : basic_holds (BasicTrack Next p slot) (with_track word track) 0 (length word - 1) ≡ true → Follows Next
   fore_follows is i lt = elim (later_or_last i (length word) lt) [
     | inl more ↦
         let test = (each_between-every 1 (length word - 1) fore_test).0 (fore_parts is).1 (i + 1) (omega arith) (omega (arith, more)) in
@@ -175,7 +160,7 @@ module _ (p : PlainTruth) (slot : ℕ) (avoids : Avoids slot p) (word : Word) (s
         ∙ sym (none_later i (length word) (truth_holds p (letter_at word (i + 1))) (omega (arith, last)))
   ]
 
-  follows_fore : Follows Next → basic_holds (BasicFore p slot) (with_track word track) 0 (length word - 1) ≡ true
+  follows_fore : Follows Next → basic_holds (BasicTrack Next p slot) (with_track word track) 0 (length word - 1) ≡ true
   follows_fore follows =
       let end : length word - 1 < length word = omega (arith, some) in
       let last : not (holds_at (TruthSlot slot) (with_track word track) (length word - 1)) ≡ true =
@@ -192,6 +177,6 @@ module _ (p : PlainTruth) (slot : ℕ) (avoids : Avoids slot p) (word : Word) (s
       ∙ sym (operand_here m lt))) in
       λ i. last i && earlier i
 
-  pub row_follows : (direction : Direction) → Decides (basic_holds (shift_row direction p slot) (with_track word track) 0 (length word - 1)) (Follows direction)
+  pub row_follows : (direction : Direction) → Decides (basic_holds (BasicTrack direction p slot) (with_track word track) 0 (length word - 1)) (Follows direction)
   row_follows Next = (fore_follows, follows_fore)
   row_follows Prior = (back_follows, follows_back)

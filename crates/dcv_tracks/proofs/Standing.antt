@@ -1,7 +1,7 @@
 -- A goal with slots for its shifts, on a word with a slot more for each of them, has the values that the goal has on the word.
-use Rattle.std.proofs.Common.{◌≡◌, ℕ, zero, suc, ◌+◌, ◌-◌, ◌<◌, ◌≤◌, Bool, true, false, cond, not, List, [], ◌∷◌, ◌++◌, ◌⊎◌, inl, inr, length, slice_get, Some, unwrap_or, is_some, refl, sym, ap, ◌∙◌, arith, true≢false}
+use Rattle.std.proofs.Common.{◌≡◌, ℕ, zero, suc, ◌+◌, ◌-◌, ◌<◌, ◌≤◌, Bool, true, false, cond, not, List, [], ◌∷◌, ◌++◌, ◌⊎◌, inl, inr, length, slice_get, Option, Some, None, unwrap_or, is_some, refl, sym, ap, ◌∙◌, arith, true≢false}
 use Rattle.std.proofs.Common.{length-append, append-nil}
-use Rattle.std.specs.Prelude.{◌||◌, ◌&&◌, ◌==◌, nat_lt, if◌then◌else◌}
+use Rattle.std.specs.Prelude.{◌||◌, ◌&&◌, nat_lt, if◌then◌else◌}
 use Rattle.std.proofs.Math.Nat.{eq-or-lt_of_le}
 use Rattle.std.proofs.lemmas.Bool.{cases_lt}
 use Rattle.std.specs.List.{list_any, position_or_len}
@@ -9,29 +9,25 @@ use Rattle.std.proofs.lemmas.Bool.Decides.{nat_tests}
 use Rattle.std.proofs.lemmas.List.{get_or_past}
 use Rattle.std.proofs.lemmas.Option.{slice_get_within}
 use Rattle.dcv_word.specs.Behaviour.{Word}
-use Rattle.dcv_language.specs.Operations.{with_track, some_track, iff}
+use Rattle.dcv_language.specs.Operations.{with_track, some_track}
 use Rattle.dcv_language.proofs.Behaviours.{some_track-same}
 use Rattle.dcv_logic.specs.Track.{Track, truth_at}
 use Rattle.dcv_logic.specs.Satisfaction.{compares}
-use Rattle.dcv_core.specs.declared.truths.Direction.{Direction}
-use Rattle.dcv_core.specs.declared.truths.Direction.TheVariants.{Prior, Next}
-use Rattle.dcv_core.specs.Core.{PlainTruth, TruthConstant, TruthSlot, TruthNot, TruthAnd, TruthOr, TruthIff, TruthShift, PlainTruths, no_truths, truth_operand}
-use Rattle.dcv_core.specs.Core.{PlainBasic, BasicConstant, BasicPoint, BasicRun, BasicEvery, BasicUnit, BasicSlen, BasicScount, BasicSdur, BasicBack, BasicFore}
-use Rattle.dcv_core.specs.Core.{CoreTree, CoreAtom, CoreNot, CoreAnd, CoreOr, CoreIff, CoreChop, CoreStar, CoreExists}
-use Rattle.dcv_core.specs.Holds.{letter_at, truth_holds, all_truths, some_truth, iff_truths, holds_at, shifted, value_at, all_values, some_value, iff_values, basic_holds_by, basic_holds, core_holds, expanded_holds}
+use Rattle.dcv_syntax.specs.declared.propositions.Direction.{Direction}
+use Rattle.dcv_syntax.specs.declared.propositions.Direction.TheVariants.{Prior, Next}
+use Rattle.dcv_core.specs.Core.{PlainTruth, TruthConstant, TruthSlot, TruthNot, TruthJoined, TruthShift, PlainTruths, no_truths, truth_operand}
+use Rattle.dcv_core.specs.Core.{PlainBasic, BasicConstant, BasicBracketed, BasicSlen, BasicCounted, BasicTrack}
+use Rattle.dcv_core.specs.Core.{truth_in, CoreTree, CoreAtom, CoreNot, CoreJoined, CoreChop, CoreStar, CoreExists}
+use Rattle.dcv_core.specs.Holds.{letter_at, truth_holds, joined_truths, holds_at, value_at, joined_values, basic_holds_by, basic_holds, core_holds, expanded_holds}
+use Rattle.dcv_logic.specs.Value.{shifted}
+use Rattle.dcv_logic.specs.Connectives.{joins, of_none}
+use Rattle.dcv_syntax.specs.declared.propositions.Connective.{Connective}
 use Rattle.dcv_core.proofs.Tracks.{with_track-length, with_track-letter, slot_further, slot_behind}
-use Rattle.dcv_core.proofs.Aligned.{some_between-same, count_from-same, count_between-same, each_between-same, star-same}
+use Rattle.dcv_core.proofs.Aligned.{less_only, and_given, some_between-same, bracket-same, counted-same, track-same, star-same}
 use Rattle.dcv_tracks.specs.Shifting.{Shift, same_shift, placed_slot, slot_of, placed, all_placed, placed_basic, placed_core, names_bound, some_names_bound}
 use Rattle.dcv_tracks.proofs.Sameness.{same_value}
 
-and_given : (t p q : Bool) → (t ≡ true → p ≡ q) → (t && p) ≡ (t && q)
-and_given true p q h = h refl
-and_given false p q h = refl
-
-less_only : (b e : ℕ) → nat_lt b e ≡ true → b < e
-less_only b e more = grind (arith, nat_tests)
-
-neither : (a b : Bool) → (a || b) ≡ false → (a ≡ false) × (b ≡ false)
+pub neither : (a b : Bool) → (a || b) ≡ false → (a ≡ false) × (b ≡ false)
 neither true b is = absurd (true≢false is)
 neither false b is = (refl, is)
 
@@ -43,33 +39,22 @@ abbrev mutual
   IsCovered seen (TruthConstant truth) = Unit {0}
   IsCovered seen (TruthSlot slot) = Unit {0}
   IsCovered seen (TruthNot p) = IsCovered seen p
-  IsCovered seen (TruthAnd operands) = AreCovered seen operands
-  IsCovered seen (TruthOr operands) = AreCovered seen operands
-  IsCovered seen (TruthIff operands) = AreCovered seen operands
+  IsCovered seen (TruthJoined connective operands) = AreCovered seen operands
   IsCovered seen (TruthShift direction p span) = list_any (same_shift (record { direction = direction; operand = p; span = span })) seen ≡ true
 
   pub AreCovered : List Shift → PlainTruths → Type 0
   AreCovered seen no_truths = Unit {0}
   AreCovered seen (truth_operand p operands) = IsCovered seen p × AreCovered seen operands
 
-abbrev pub BasicIsCovered : List Shift → PlainBasic → Type 0
-BasicIsCovered seen (BasicConstant truth) = Unit {0}
-BasicIsCovered seen (BasicPoint p) = IsCovered seen p
-BasicIsCovered seen (BasicRun p) = IsCovered seen p
-BasicIsCovered seen (BasicEvery p) = IsCovered seen p
-BasicIsCovered seen (BasicUnit p) = IsCovered seen p
-BasicIsCovered seen (BasicSlen relation n) = Unit {0}
-BasicIsCovered seen (BasicScount p relation n) = IsCovered seen p
-BasicIsCovered seen (BasicSdur p relation n) = IsCovered seen p
-BasicIsCovered seen (BasicBack p slot) = IsCovered seen p
-BasicIsCovered seen (BasicFore p slot) = IsCovered seen p
+-- so is the proposition of a form, where it has one
+abbrev pub FormIsCovered : List Shift → Option PlainTruth → Type 0
+FormIsCovered seen None = Unit {0}
+FormIsCovered seen (Some p) = IsCovered seen p
 
 abbrev pub CoreIsCovered : List Shift → CoreTree → Type 0
-CoreIsCovered seen (CoreAtom basic span) = BasicIsCovered seen basic
+CoreIsCovered seen (CoreAtom basic span) = FormIsCovered seen (truth_in basic)
 CoreIsCovered seen (CoreNot d span) = CoreIsCovered seen d
-CoreIsCovered seen (CoreAnd c d span) = CoreIsCovered seen c × CoreIsCovered seen d
-CoreIsCovered seen (CoreOr c d span) = CoreIsCovered seen c × CoreIsCovered seen d
-CoreIsCovered seen (CoreIff c d span) = CoreIsCovered seen c × CoreIsCovered seen d
+CoreIsCovered seen (CoreJoined connective c d span) = CoreIsCovered seen c × CoreIsCovered seen d
 CoreIsCovered seen (CoreChop c d span) = CoreIsCovered seen c × CoreIsCovered seen d
 CoreIsCovered seen (CoreStar d span) = CoreIsCovered seen d
 CoreIsCovered seen (CoreExists d span) = CoreIsCovered seen d
@@ -164,30 +149,15 @@ module _ (k : ℕ) (all seen rest : List Shift) (is : all ≡ seen ++ rest) (dee
     placed_value (TruthConstant truth) covered = refl
     placed_value (TruthSlot slot) covered = s.slots i slot lt
     placed_value (TruthNot p) covered = ap not (placed_value p covered)
-    placed_value (TruthAnd operands) covered = all_placed_values operands covered
-    placed_value (TruthOr operands) covered = some_placed_value operands covered
-    placed_value (TruthIff operands) covered = iff_placed_values operands covered true
+    placed_value (TruthJoined connective operands) covered = joined_placed_values connective operands covered (of_none connective)
     placed_value (TruthShift direction p span) covered = placed_shift (record { direction = direction; operand = p; span = span }) covered
 
-    all_placed_values : (ps : PlainTruths) → AreCovered seen ps → all_truths (all_placed k all ps) (letter_at other i) ≡ all_values ps word i
-    all_placed_values no_truths covered = refl
-    all_placed_values (truth_operand p ps) covered =
-        let one = placed_value p covered.0 in
-        let more = all_placed_values ps covered.1 in
-        λ j. one j && more j
-
-    some_placed_value : (ps : PlainTruths) → AreCovered seen ps → some_truth (all_placed k all ps) (letter_at other i) ≡ some_value ps word i
-    some_placed_value no_truths covered = refl
-    some_placed_value (truth_operand p ps) covered =
-        let one = placed_value p covered.0 in
-        let more = some_placed_value ps covered.1 in
-        λ j. one j || more j
-
-    iff_placed_values : (ps : PlainTruths) → AreCovered seen ps → (so_far : Bool) → iff_truths so_far (all_placed k all ps) (letter_at other i) ≡ iff_values so_far ps word i
-    iff_placed_values no_truths covered so_far = refl
-    iff_placed_values (truth_operand p ps) covered so_far =
-        ap (λ b. iff_truths (iff so_far b) (all_placed k all ps) (letter_at other i)) (placed_value p covered.0)
-        ∙ iff_placed_values ps covered.1 (iff so_far (value_at p word i))
+    joined_placed_values : (connective : Connective) (ps : PlainTruths) → AreCovered seen ps → (so_far : Bool)
+        → joined_truths connective so_far (all_placed k all ps) (letter_at other i) ≡ joined_values connective so_far ps word i
+    joined_placed_values connective no_truths covered so_far = refl
+    joined_placed_values connective (truth_operand p ps) covered so_far =
+        ap (λ b. joined_truths connective (joins connective so_far b) (all_placed k all ps) (letter_at other i)) (placed_value p covered.0)
+        ∙ joined_placed_values connective ps covered.1 (joins connective so_far (value_at p word i))
 
 -- ---- one slot more
 
@@ -243,7 +213,7 @@ module _ (k : ℕ) (all : List Shift) (letter other : List Bool) (truth : Bool) 
 -- ---- shifts that look at declared variables alone
 
 -- shifts of what is the same at each instant
-shifted_within : (direction : Direction) (n : ℕ) (f g : ℕ → Bool) → ((i : ℕ) → i < n → f i ≡ g i) → (i : ℕ) → i < n → shifted direction n f i ≡ shifted direction n g i
+pub shifted_within : (direction : Direction) (n : ℕ) (f g : ℕ → Bool) → ((i : ℕ) → i < n → f i ≡ g i) → (i : ℕ) → i < n → shifted direction n f i ≡ shifted direction n g i
 shifted_within Next n f g same i lt = and_given (nat_lt (i + 1) n) (f (i + 1)) (g (i + 1)) (λ less. same (i + 1) (less_only (i + 1) n less))
 shifted_within Prior n f g same i lt = ap (λ b. nat_lt 0 i && b) (same (i - 1) (omega (arith, lt)))
 
@@ -256,35 +226,18 @@ module _ (k : ℕ) (word : Word) (track : Track) (level : length track ≡ lengt
         ap (λ letter. truth_at letter slot) (with_track-letter word track i level lt)
         ∙ slot_further (letter_at word i) (truth_at track i ∷ []) slot (omega (arith, less, declared i lt))
     unbound_value (TruthNot p) unbound i lt = ap not (unbound_value p unbound i lt)
-    unbound_value (TruthAnd operands) unbound i lt = all_unbound operands unbound i lt
-    unbound_value (TruthOr operands) unbound i lt = some_unbound operands unbound i lt
-    unbound_value (TruthIff operands) unbound i lt = iff_unbound operands unbound i lt true
+    unbound_value (TruthJoined connective operands) unbound i lt = joined_unbound connective operands unbound i lt (of_none connective)
     unbound_value (TruthShift direction p span) unbound i lt =
         ap (λ n. shifted direction n (value_at p (with_track word track)) i) (with_track-length word track level)
         ∙ shifted_within direction (length word) (value_at p (with_track word track)) (value_at p word) (unbound_value p unbound) i lt
 
-    all_unbound : (ps : PlainTruths) → some_names_bound k ps ≡ false → (i : ℕ) → i < length word → all_values ps (with_track word track) i ≡ all_values ps word i
-    all_unbound no_truths unbound i lt = refl
-    all_unbound (truth_operand p ps) unbound i lt =
+    joined_unbound : (connective : Connective) (ps : PlainTruths) → some_names_bound k ps ≡ false → (i : ℕ) → i < length word → (so_far : Bool)
+        → joined_values connective so_far ps (with_track word track) i ≡ joined_values connective so_far ps word i
+    joined_unbound connective no_truths unbound i lt so_far = refl
+    joined_unbound connective (truth_operand p ps) unbound i lt so_far =
         let parts = neither (names_bound k p) (some_names_bound k ps) unbound in
-        let one = unbound_value p parts.0 i lt in
-        let more = all_unbound ps parts.1 i lt in
-        λ j. one j && more j
-
-    some_unbound : (ps : PlainTruths) → some_names_bound k ps ≡ false → (i : ℕ) → i < length word → some_value ps (with_track word track) i ≡ some_value ps word i
-    some_unbound no_truths unbound i lt = refl
-    some_unbound (truth_operand p ps) unbound i lt =
-        let parts = neither (names_bound k p) (some_names_bound k ps) unbound in
-        let one = unbound_value p parts.0 i lt in
-        let more = some_unbound ps parts.1 i lt in
-        λ j. one j || more j
-
-    iff_unbound : (ps : PlainTruths) → some_names_bound k ps ≡ false → (i : ℕ) → i < length word → (so_far : Bool) → iff_values so_far ps (with_track word track) i ≡ iff_values so_far ps word i
-    iff_unbound no_truths unbound i lt so_far = refl
-    iff_unbound (truth_operand p ps) unbound i lt so_far =
-        let parts = neither (names_bound k p) (some_names_bound k ps) unbound in
-        ap (λ b. iff_values (iff so_far b) ps (with_track word track) i) (unbound_value p parts.0 i lt)
-        ∙ iff_unbound ps parts.1 i lt (iff so_far (value_at p word i))
+        ap (λ b. joined_values connective (joins connective so_far b) ps (with_track word track) i) (unbound_value p parts.0 i lt)
+        ∙ joined_unbound connective ps parts.1 i lt (joins connective so_far (value_at p word i))
 
 -- ---- one slot more of a quantifier
 
@@ -351,58 +304,28 @@ module _ (k : ℕ) (all : List Shift) (deep : ℕ) (word other : Word) (s : Stan
   own_slot : (slot i : ℕ) → i ≤ e → truth_at (letter_at other i) (placed_slot k all slot) ≡ truth_at (letter_at word i) slot
   own_slot slot i le = s.slots i slot (omega (arith, le, inside))
 
-  placed_basic_holds : (basic : PlainBasic) → BasicIsCovered all basic → basic_holds (placed_basic k all basic) other b e ≡ basic_holds_by value_at basic word b e
+  placed_basic_holds : (basic : PlainBasic) → FormIsCovered all (truth_in basic) → basic_holds (placed_basic k all basic) other b e ≡ basic_holds_by value_at basic word b e
   placed_basic_holds (BasicConstant truth) covered = refl
-  placed_basic_holds (BasicPoint p) covered = ap (λ t. b == e && t) (here p covered b begins)
-  placed_basic_holds (BasicRun p) covered =
-      ap (λ t. nat_lt b e && t) (each_between-same (holds_at (placed k all p) other) (value_at p word) b (e - 1) (λ m lo hi. here p covered m (omega (arith, hi))))
-  placed_basic_holds (BasicEvery p) covered = each_between-same (holds_at (placed k all p) other) (value_at p word) b e (λ m lo hi. here p covered m hi)
-  placed_basic_holds (BasicUnit p) covered = ap (λ t. e == b + 1 && t) (here p covered b begins)
+  placed_basic_holds (BasicBracketed bracket p) covered = bracket-same b e (holds_at (placed k all p) other) (value_at p word) (λ m lo hi. here p covered m hi) begins bracket
   placed_basic_holds (BasicSlen relation n) covered = refl
-  placed_basic_holds (BasicScount p relation n) covered =
-      ap (λ c. compares relation c n) (count_between-same (holds_at (placed k all p) other) (value_at p word) b e (λ m lo hi. here p covered m hi))
-  placed_basic_holds (BasicSdur p relation n) covered =
-      ap (λ c. compares relation c n)
-      (count_from-same (holds_at (placed k all p) other) (value_at p word) b (e - b) (λ m lo hi. here p covered m (omega (arith, hi, begins))))
-  placed_basic_holds (BasicBack p slot) covered =
-      let first = own_slot slot b begins in
-      let later = each_between-same (λ m. iff (truth_at (letter_at other m) (placed_slot k all slot)) (holds_at (placed k all p) other (m - 1)))
-      (λ m. iff (truth_at (letter_at word m) slot) (value_at p word (m - 1))) (b + 1) e
-      (λ m lo hi.
-      let own = own_slot slot m hi in
-      let before = here p covered (m - 1) (omega (arith, hi)) in
-      λ i. iff (own i) (before i)) in
-      λ i. not (first i) && later i
-  placed_basic_holds (BasicFore p slot) covered =
-      let last = own_slot slot e (omega arith) in
-      let earlier = each_between-same (λ m. iff (truth_at (letter_at other (m - 1)) (placed_slot k all slot)) (holds_at (placed k all p) other m))
-      (λ m. iff (truth_at (letter_at word (m - 1)) slot) (value_at p word m)) (b + 1) e
-      (λ m lo hi.
-      let own = own_slot slot (m - 1) (omega (arith, hi)) in
-      let next = here p covered m hi in
-      λ i. iff (own i) (next i)) in
-      λ i. not (last i) && earlier i
+  placed_basic_holds (BasicCounted which p relation n) covered =
+      ap (λ c. compares relation c n) (counted-same b e (holds_at (placed k all p) other) (value_at p word) (λ m lo hi. here p covered m hi) begins which)
+  placed_basic_holds (BasicTrack direction p slot) covered =
+      track-same b e (holds_at (placed k all p) other) (value_at p word) (holds_at (TruthSlot (placed_slot k all slot)) other) (value_at (TruthSlot slot) word)
+      (λ m lo hi. here p covered m hi) (λ m lo hi. own_slot slot m hi) begins direction
 
 module _ (k : ℕ) (all : List Shift) (unbound : NoneBound k all) where
   pub placed_holds : (core : CoreTree) → CoreIsCovered all core → (deep : ℕ) (word other : Word) → Stands k all all deep word other → (b e : ℕ) → b ≤ e → e < length word
       → core_holds (placed_core k all core) other b e ≡ expanded_holds core word b e
   placed_holds (CoreAtom basic span) covered deep word other s b e begins inside = placed_basic_holds k all deep word other s b e begins inside basic covered
   placed_holds (CoreNot d span) covered deep word other s b e begins inside = ap not (placed_holds d covered deep word other s b e begins inside)
-  placed_holds (CoreAnd c d span) covered deep word other s b e begins inside =
+  placed_holds (CoreJoined connective c d span) covered deep word other s b e begins inside =
       let one = placed_holds c covered.0 deep word other s b e begins inside in
       let two = placed_holds d covered.1 deep word other s b e begins inside in
-      λ i. one i && two i
-  placed_holds (CoreOr c d span) covered deep word other s b e begins inside =
-      let one = placed_holds c covered.0 deep word other s b e begins inside in
-      let two = placed_holds d covered.1 deep word other s b e begins inside in
-      λ i. one i || two i
-  placed_holds (CoreIff c d span) covered deep word other s b e begins inside =
-      let one = placed_holds c covered.0 deep word other s b e begins inside in
-      let two = placed_holds d covered.1 deep word other s b e begins inside in
-      λ i. iff (one i) (two i)
+      λ i. joins connective (one i) (two i)
   placed_holds (CoreChop c d span) covered deep word other s b e begins inside =
-      some_between-same (λ m. core_holds (placed_core k all c) other b m && core_holds (placed_core k all d) other m e)
-      (λ m. expanded_holds c word b m && expanded_holds d word m e) b e
+      some_between-same b e (λ m. core_holds (placed_core k all c) other b m && core_holds (placed_core k all d) other m e)
+      (λ m. expanded_holds c word b m && expanded_holds d word m e)
       (λ m lo hi.
       let one = placed_holds c covered.0 deep word other s b m lo (omega (arith, hi, inside)) in
       let two = placed_holds d covered.1 deep word other s m e hi inside in

@@ -1,15 +1,15 @@
 -- Where no shift of a goal looks at a quantified variable, none in the list of its shifts does.
 use Rattle.std.proofs.Common.{◌≡◌, ℕ, zero, suc, ◌<◌, Bool, true, false, List, [], ◌∷◌, ◌++◌, Option, Some, None, refl, sym, ap, ◌∙◌, arith, true≢false}
-use Rattle.std.specs.Prelude.{◌||◌, nat_le, if◌then◌else◌}
+use Rattle.std.specs.Prelude.{nat_le, if◌then◌else◌}
 use Rattle.std.specs.List.{list_any, slice_get}
 use Rattle.std.specs.Option.{option_or}
 use Rattle.std.proofs.lemmas.Bool.Decides.{nat_tests}
-use Rattle.dcv_core.specs.Core.{PlainTruth, TruthConstant, TruthSlot, TruthNot, TruthAnd, TruthOr, TruthIff, TruthShift, PlainTruths, no_truths, truth_operand}
-use Rattle.dcv_core.specs.Core.{PlainBasic, BasicConstant, BasicPoint, BasicRun, BasicEvery, BasicUnit, BasicSlen, BasicScount, BasicSdur, BasicBack, BasicFore}
-use Rattle.dcv_core.specs.Core.{CoreTree, CoreAtom, CoreNot, CoreAnd, CoreOr, CoreIff, CoreChop, CoreStar, CoreExists}
+use Rattle.dcv_core.specs.Core.{PlainTruth, TruthConstant, TruthSlot, TruthNot, TruthJoined, TruthShift, PlainTruths, no_truths, truth_operand}
+use Rattle.dcv_core.specs.Core.{truth_in, CoreTree, CoreAtom, CoreNot, CoreJoined, CoreChop, CoreStar, CoreExists}
 use Rattle.dcv_core.specs.Slots.{IsBelow, AreBelow}
-use Rattle.dcv_tracks.specs.Shifting.{Shift, same_shift, with_shift, collected, all_collected, collected_of_basic, collected_of, shifts_in}
-use Rattle.dcv_tracks.specs.Shifting.{names_bound, some_names_bound, bound_in, first_bound, bound_in_basic, bound_shift}
+use Rattle.dcv_tracks.specs.Shifting.{Shift, same_shift, with_shift, collected, all_collected, collected_by, collected_of, shifts_in}
+use Rattle.dcv_tracks.specs.Shifting.{names_bound, some_names_bound, bound_in, first_bound, bound_by, bound_shift}
+use Rattle.dcv_tracks.proofs.Standing.{neither}
 
 -- ---- tests
 
@@ -23,10 +23,6 @@ none_of_both A (Some x) y is = (is, absurd (some_is_none is))
         filled : Option A → Bool
         filled None = false
         filled (Some x) = true
-
-neither : (a b : Bool) → (a || b) ≡ false → (a ≡ false) × (b ≡ false)
-neither false b is = (refl, is)
-neither true b is = (is, absurd (true≢false is))
 
 module _ (k : ℕ) where
   unbound_only : (bound : Bool) (at : ℕ) → (if bound then Some at else None) ≡ None → bound ≡ false
@@ -44,9 +40,7 @@ module _ (k : ℕ) where
     unbound_within (TruthConstant truth) is = refl
     unbound_within (TruthSlot slot) is = refl
     unbound_within (TruthNot p) is = unbound_within p is
-    unbound_within (TruthAnd operands) is = unbound_among operands is
-    unbound_within (TruthOr operands) is = unbound_among operands is
-    unbound_within (TruthIff operands) is = unbound_among operands is
+    unbound_within (TruthJoined connective operands) is = unbound_among operands is
     unbound_within (TruthShift direction p span) is = ap (λ (bound : Bool). if bound then Some span.start else None) is
 
     unbound_among : (operands : PlainTruths) → some_names_bound k operands ≡ false → first_bound k operands ≡ None
@@ -64,9 +58,7 @@ module _ (k : ℕ) where
     unbound_below (TruthConstant truth) is = tt
     unbound_below (TruthSlot slot) is = slot_below slot is
     unbound_below (TruthNot p) is = unbound_below p is
-    unbound_below (TruthAnd operands) is = all_unbound_below operands is
-    unbound_below (TruthOr operands) is = all_unbound_below operands is
-    unbound_below (TruthIff operands) is = all_unbound_below operands is
+    unbound_below (TruthJoined connective operands) is = all_unbound_below operands is
     unbound_below (TruthShift direction p span) is = unbound_below p is
 
     all_unbound_below : (operands : PlainTruths) → some_names_bound k operands ≡ false → AreBelow k operands
@@ -110,9 +102,7 @@ module _ (k : ℕ) where
     unbound_collected (TruthConstant truth) seen is u = u
     unbound_collected (TruthSlot slot) seen is u = u
     unbound_collected (TruthNot p) seen is u = unbound_collected p seen is u
-    unbound_collected (TruthAnd operands) seen is u = unbound_all operands seen is u
-    unbound_collected (TruthOr operands) seen is u = unbound_all operands seen is u
-    unbound_collected (TruthIff operands) seen is u = unbound_all operands seen is u
+    unbound_collected (TruthJoined connective operands) seen is u = unbound_all operands seen is u
     unbound_collected (TruthShift direction p span) seen is u =
         let names = unbound_only (names_bound k p) span.start is in
         unbound_added (collected seen p) (record { direction = direction; operand = p; span = span }) (unbound_collected p seen (unbound_within p names) u) names
@@ -123,28 +113,14 @@ module _ (k : ℕ) where
         let parts = none_of_both ℕ (bound_in k p) (first_bound k operands) is in
         unbound_all operands (collected seen p) parts.1 (unbound_collected p seen parts.0 u)
 
-  unbound_basic : (basic : PlainBasic) (seen : List Shift) → bound_in_basic k basic ≡ None → AreUnbound seen → AreUnbound (collected_of_basic seen basic)
-  unbound_basic (BasicConstant truth) seen is u = u
-  unbound_basic (BasicPoint p) seen is u = unbound_collected p seen is u
-  unbound_basic (BasicRun p) seen is u = unbound_collected p seen is u
-  unbound_basic (BasicEvery p) seen is u = unbound_collected p seen is u
-  unbound_basic (BasicUnit p) seen is u = unbound_collected p seen is u
-  unbound_basic (BasicSlen relation n) seen is u = u
-  unbound_basic (BasicScount p relation n) seen is u = unbound_collected p seen is u
-  unbound_basic (BasicSdur p relation n) seen is u = unbound_collected p seen is u
-  unbound_basic (BasicBack p slot) seen is u = unbound_collected p seen is u
-  unbound_basic (BasicFore p slot) seen is u = unbound_collected p seen is u
+  unbound_form : (p : Option PlainTruth) (seen : List Shift) → bound_by k p ≡ None → AreUnbound seen → AreUnbound (collected_by seen p)
+  unbound_form None seen is u = u
+  unbound_form (Some p) seen is u = unbound_collected p seen is u
 
   unbound_goal : (core : CoreTree) (seen : List Shift) → bound_shift k core ≡ None → AreUnbound seen → AreUnbound (collected_of seen core)
-  unbound_goal (CoreAtom basic span) seen is u = unbound_basic basic seen is u
+  unbound_goal (CoreAtom basic span) seen is u = unbound_form (truth_in basic) seen is u
   unbound_goal (CoreNot d span) seen is u = unbound_goal d seen is u
-  unbound_goal (CoreAnd c d span) seen is u =
-      let parts = none_of_both ℕ (bound_shift k c) (bound_shift k d) is in
-      unbound_goal d (collected_of seen c) parts.1 (unbound_goal c seen parts.0 u)
-  unbound_goal (CoreOr c d span) seen is u =
-      let parts = none_of_both ℕ (bound_shift k c) (bound_shift k d) is in
-      unbound_goal d (collected_of seen c) parts.1 (unbound_goal c seen parts.0 u)
-  unbound_goal (CoreIff c d span) seen is u =
+  unbound_goal (CoreJoined connective c d span) seen is u =
       let parts = none_of_both ℕ (bound_shift k c) (bound_shift k d) is in
       unbound_goal d (collected_of seen c) parts.1 (unbound_goal c seen parts.0 u)
   unbound_goal (CoreChop c d span) seen is u =

@@ -10,11 +10,13 @@ use Rattle.std.specs.Bool.{beq}
 use Rattle.std.specs.List.{list_any, position_or_len}
 use Rattle.std.specs.Option.{option_or}
 use Rattle.dcv_syntax.specs.declared.names.Span.{Span}
-use Rattle.dcv_core.specs.declared.truths.Direction.{Direction}
-use Rattle.dcv_core.specs.declared.truths.Direction.TheVariants.{Prior, Next}
-use Rattle.dcv_core.specs.Core.{PlainTruth, TruthConstant, TruthSlot, TruthNot, TruthAnd, TruthOr, TruthIff, TruthShift, PlainTruths, no_truths, truth_operand}
-use Rattle.dcv_core.specs.Core.{PlainBasic, BasicConstant, BasicPoint, BasicRun, BasicEvery, BasicUnit, BasicSlen, BasicScount, BasicSdur, BasicBack, BasicFore}
-use Rattle.dcv_core.specs.Core.{CoreTree, CoreAtom, CoreNot, CoreAnd, CoreOr, CoreIff, CoreChop, CoreStar, CoreExists}
+use Rattle.dcv_syntax.specs.declared.propositions.Connective.{Connective}
+use Rattle.dcv_syntax.specs.declared.propositions.Connective.TheVariants.{And, Or, Iff}
+use Rattle.dcv_syntax.specs.declared.propositions.Direction.{Direction}
+use Rattle.dcv_syntax.specs.declared.propositions.Direction.TheVariants.{Prior, Next}
+use Rattle.dcv_core.specs.Core.{PlainTruth, TruthConstant, TruthSlot, TruthNot, TruthJoined, TruthShift, PlainTruths, no_truths, truth_operand}
+use Rattle.dcv_core.specs.Core.{PlainBasic, BasicConstant, BasicBracketed, BasicSlen, BasicCounted, BasicTrack, truth_in}
+use Rattle.dcv_core.specs.Core.{CoreTree, CoreAtom, CoreNot, CoreJoined, CoreChop, CoreStar, CoreExists}
 
 pub record Shift : Type 0 where
   pub direction : Direction
@@ -28,14 +30,18 @@ same_direction Prior Prior = true
 same_direction Next Next = true
 same_direction _ _ = false
 
+abbrev pub same_connective : Connective → Connective → Bool
+same_connective And And = true
+same_connective Or Or = true
+same_connective Iff Iff = true
+same_connective _ _ = false
+
 abbrev mutual
   pub same_truth : PlainTruth → PlainTruth → Bool
   same_truth (TruthConstant truth) (TruthConstant other) = beq truth other
   same_truth (TruthSlot slot) (TruthSlot other) = nat_eq slot other
   same_truth (TruthNot p) (TruthNot q) = same_truth p q
-  same_truth (TruthAnd operands) (TruthAnd others) = same_truths operands others
-  same_truth (TruthOr operands) (TruthOr others) = same_truths operands others
-  same_truth (TruthIff operands) (TruthIff others) = same_truths operands others
+  same_truth (TruthJoined connective operands) (TruthJoined other others) = same_connective connective other && same_truths operands others
   same_truth (TruthShift direction p span) (TruthShift other q other_span) = same_direction direction other && same_truth p q
   same_truth _ _ = false
 
@@ -58,33 +64,22 @@ abbrev mutual
   collected seen (TruthConstant truth) = seen
   collected seen (TruthSlot slot) = seen
   collected seen (TruthNot p) = collected seen p
-  collected seen (TruthAnd operands) = all_collected seen operands
-  collected seen (TruthOr operands) = all_collected seen operands
-  collected seen (TruthIff operands) = all_collected seen operands
+  collected seen (TruthJoined connective operands) = all_collected seen operands
   collected seen (TruthShift direction p span) = with_shift (collected seen p) (record { direction = direction; operand = p; span = span })
 
   pub all_collected : List Shift → PlainTruths → List Shift
   all_collected seen no_truths = seen
   all_collected seen (truth_operand p operands) = all_collected (collected seen p) operands
 
-abbrev pub collected_of_basic : List Shift → PlainBasic → List Shift
-collected_of_basic seen (BasicConstant truth) = seen
-collected_of_basic seen (BasicPoint p) = collected seen p
-collected_of_basic seen (BasicRun p) = collected seen p
-collected_of_basic seen (BasicEvery p) = collected seen p
-collected_of_basic seen (BasicUnit p) = collected seen p
-collected_of_basic seen (BasicSlen relation n) = seen
-collected_of_basic seen (BasicScount p relation n) = collected seen p
-collected_of_basic seen (BasicSdur p relation n) = collected seen p
-collected_of_basic seen (BasicBack p slot) = collected seen p
-collected_of_basic seen (BasicFore p slot) = collected seen p
+-- the shifts of a form or a step, which may have no proposition
+abbrev pub collected_by : List Shift → Option PlainTruth → List Shift
+collected_by seen None = seen
+collected_by seen (Some p) = collected seen p
 
 abbrev pub collected_of : List Shift → CoreTree → List Shift
-collected_of seen (CoreAtom basic span) = collected_of_basic seen basic
+collected_of seen (CoreAtom basic span) = collected_by seen (truth_in basic)
 collected_of seen (CoreNot d span) = collected_of seen d
-collected_of seen (CoreAnd c d span) = collected_of (collected_of seen c) d
-collected_of seen (CoreOr c d span) = collected_of (collected_of seen c) d
-collected_of seen (CoreIff c d span) = collected_of (collected_of seen c) d
+collected_of seen (CoreJoined connective c d span) = collected_of (collected_of seen c) d
 collected_of seen (CoreChop c d span) = collected_of (collected_of seen c) d
 collected_of seen (CoreStar d span) = collected_of seen d
 collected_of seen (CoreExists d span) = collected_of seen d
@@ -111,9 +106,7 @@ abbrev mutual
   placed k all (TruthConstant truth) = TruthConstant truth
   placed k all (TruthSlot slot) = TruthSlot (placed_slot k all slot)
   placed k all (TruthNot p) = TruthNot (placed k all p)
-  placed k all (TruthAnd operands) = TruthAnd (all_placed k all operands)
-  placed k all (TruthOr operands) = TruthOr (all_placed k all operands)
-  placed k all (TruthIff operands) = TruthIff (all_placed k all operands)
+  placed k all (TruthJoined connective operands) = TruthJoined connective (all_placed k all operands)
   placed k all (TruthShift direction p span) = TruthSlot (slot_of k all (record { direction = direction; operand = p; span = span }))
 
   pub all_placed : ℕ → List Shift → PlainTruths → PlainTruths
@@ -122,42 +115,30 @@ abbrev mutual
 
 abbrev pub placed_basic : ℕ → List Shift → PlainBasic → PlainBasic
 placed_basic k all (BasicConstant truth) = BasicConstant truth
-placed_basic k all (BasicPoint p) = BasicPoint (placed k all p)
-placed_basic k all (BasicRun p) = BasicRun (placed k all p)
-placed_basic k all (BasicEvery p) = BasicEvery (placed k all p)
-placed_basic k all (BasicUnit p) = BasicUnit (placed k all p)
+placed_basic k all (BasicBracketed bracket p) = BasicBracketed bracket (placed k all p)
 placed_basic k all (BasicSlen relation n) = BasicSlen relation n
-placed_basic k all (BasicScount p relation n) = BasicScount (placed k all p) relation n
-placed_basic k all (BasicSdur p relation n) = BasicSdur (placed k all p) relation n
-placed_basic k all (BasicBack p slot) = BasicBack (placed k all p) (placed_slot k all slot)
-placed_basic k all (BasicFore p slot) = BasicFore (placed k all p) (placed_slot k all slot)
+placed_basic k all (BasicCounted which p relation n) = BasicCounted which (placed k all p) relation n
+placed_basic k all (BasicTrack direction p slot) = BasicTrack direction (placed k all p) (placed_slot k all slot)
 
 abbrev pub placed_core : ℕ → List Shift → CoreTree → CoreTree
 placed_core k all (CoreAtom basic span) = CoreAtom (placed_basic k all basic) span
 placed_core k all (CoreNot d span) = CoreNot (placed_core k all d) span
-placed_core k all (CoreAnd c d span) = CoreAnd (placed_core k all c) (placed_core k all d) span
-placed_core k all (CoreOr c d span) = CoreOr (placed_core k all c) (placed_core k all d) span
-placed_core k all (CoreIff c d span) = CoreIff (placed_core k all c) (placed_core k all d) span
+placed_core k all (CoreJoined connective c d span) = CoreJoined connective (placed_core k all c) (placed_core k all d) span
 placed_core k all (CoreChop c d span) = CoreChop (placed_core k all c) (placed_core k all d) span
 placed_core k all (CoreStar d span) = CoreStar (placed_core k all d) span
 placed_core k all (CoreExists d span) = CoreExists (placed_core k all d) span
 
 -- ---- a track for each slot
 
--- the row of a shift with this operand: the slot is what the operand is one instant earlier, or later
-abbrev pub shift_row : Direction → PlainTruth → ℕ → PlainBasic
-shift_row Prior p slot = BasicBack p slot
-shift_row Next p slot = BasicFore p slot
-
--- the slot is what the shift is
+-- the row of a shift: the slot is what the operand is one instant earlier, or later
 abbrev pub shift_basic : ℕ → List Shift → Shift → ℕ → PlainBasic
-shift_basic k all shift slot = shift_row shift.direction (placed k all shift.operand) slot
+shift_basic k all shift slot = BasicTrack shift.direction (placed k all shift.operand) slot
 
 -- these shifts have the slots from the next on; the last of them is closed first
 abbrev pub closed_from : ℕ → List Shift → ℕ → List Shift → CoreTree → CoreTree
 closed_from k all slot [] core = core
 closed_from k all slot (shift ∷ shifts) core =
-    CoreExists (CoreAnd (closed_from k all (suc slot) shifts core) (CoreAtom (shift_basic k all shift slot) shift.span) shift.span) shift.span
+    CoreExists (CoreJoined And (closed_from k all (suc slot) shifts core) (CoreAtom (shift_basic k all shift slot) shift.span) shift.span) shift.span
 
 abbrev pub closed : ℕ → List Shift → CoreTree → CoreTree
 closed k all core = closed_from k all k all core
@@ -174,9 +155,7 @@ abbrev mutual
   names_bound k (TruthConstant truth) = false
   names_bound k (TruthSlot slot) = nat_le k slot
   names_bound k (TruthNot p) = names_bound k p
-  names_bound k (TruthAnd operands) = some_names_bound k operands
-  names_bound k (TruthOr operands) = some_names_bound k operands
-  names_bound k (TruthIff operands) = some_names_bound k operands
+  names_bound k (TruthJoined connective operands) = some_names_bound k operands
   names_bound k (TruthShift direction p span) = names_bound k p
 
   pub some_names_bound : ℕ → PlainTruths → Bool
@@ -189,34 +168,22 @@ abbrev mutual
   bound_in k (TruthConstant truth) = None
   bound_in k (TruthSlot slot) = None
   bound_in k (TruthNot p) = bound_in k p
-  bound_in k (TruthAnd operands) = first_bound k operands
-  bound_in k (TruthOr operands) = first_bound k operands
-  bound_in k (TruthIff operands) = first_bound k operands
+  bound_in k (TruthJoined connective operands) = first_bound k operands
   bound_in k (TruthShift direction p span) = if names_bound k p then Some span.start else None
 
   pub first_bound : ℕ → PlainTruths → Option ℕ
   first_bound k no_truths = None
   first_bound k (truth_operand p operands) = option_or (bound_in k p) (first_bound k operands)
 
-abbrev pub bound_in_basic : ℕ → PlainBasic → Option ℕ
-bound_in_basic k (BasicConstant truth) = None
-bound_in_basic k (BasicPoint p) = bound_in k p
-bound_in_basic k (BasicRun p) = bound_in k p
-bound_in_basic k (BasicEvery p) = bound_in k p
-bound_in_basic k (BasicUnit p) = bound_in k p
-bound_in_basic k (BasicSlen relation n) = None
-bound_in_basic k (BasicScount p relation n) = bound_in k p
-bound_in_basic k (BasicSdur p relation n) = bound_in k p
-bound_in_basic k (BasicBack p slot) = bound_in k p
-bound_in_basic k (BasicFore p slot) = bound_in k p
+abbrev pub bound_by : ℕ → Option PlainTruth → Option ℕ
+bound_by k None = None
+bound_by k (Some p) = bound_in k p
 
 -- at the byte where the shift begins
 abbrev pub bound_shift : ℕ → CoreTree → Option ℕ
-bound_shift k (CoreAtom basic span) = bound_in_basic k basic
+bound_shift k (CoreAtom basic span) = bound_by k (truth_in basic)
 bound_shift k (CoreNot d span) = bound_shift k d
-bound_shift k (CoreAnd c d span) = option_or (bound_shift k c) (bound_shift k d)
-bound_shift k (CoreOr c d span) = option_or (bound_shift k c) (bound_shift k d)
-bound_shift k (CoreIff c d span) = option_or (bound_shift k c) (bound_shift k d)
+bound_shift k (CoreJoined connective c d span) = option_or (bound_shift k c) (bound_shift k d)
 bound_shift k (CoreChop c d span) = option_or (bound_shift k c) (bound_shift k d)
 bound_shift k (CoreStar d span) = bound_shift k d
 bound_shift k (CoreExists d span) = bound_shift k d

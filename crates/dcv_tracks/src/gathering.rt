@@ -2,14 +2,14 @@
 ghost use Rattle.std.specs.Prelude.{◌≡◌, ◌<◌, ◌≤◌, length, map, IfOk, IfErr};
 ghost use Rattle.std.specs.List.{list_any, position_or_len};
 ghost use Rattle.std.specs.Option.{option_map};
-ghost use Rattle.dcv_core.specs.Core.{CoreTree};
+ghost use Rattle.dcv_core.specs.Core.{CoreTree, truth_in};
 ghost use Rattle.dcv_core.specs.Steps.{IsCoreOf};
 ghost use Rattle.dcv_core.specs.StepViews.{plain_op};
 ghost use Rattle.dcv_core.specs.TruthViews.{plain_truth, plain_basic, truths_of};
 ghost use Rattle.dcv_tracks.specs.Shifting.{same_truth, same_truths, same_shift, with_shift, collected, all_collected};
 ghost use Rattle.dcv_tracks.specs.Shifting.{shifts_in, most_shifts};
 ghost use Rattle.dcv_tracks.specs.ShiftViews.{plain_shift};
-ghost use Rattle.dcv_tracks.specs.ShiftSteps.{truth_in, step_truth};
+ghost use Rattle.dcv_tracks.specs.ShiftSteps.{step_truth};
 
 use dcv_core::{Basic, Core, Direction, Op, Truth};
 use dcv_syntax::Span;

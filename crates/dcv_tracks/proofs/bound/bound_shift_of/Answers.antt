@@ -4,7 +4,8 @@ use Rattle.std.proofs.lemmas.List.{at_drop_all}
 use Rattle.dcv_core.specs.StepViews.{plain_op}
 use Rattle.dcv_core.specs.TruthViews.{plain_truth}
 use Rattle.dcv_tracks.specs.Shifting.{bound_in}
-use Rattle.dcv_tracks.proofs.GoalSteps.{bound_by, bound_among, bound_next, bound_steps, found_truth}
+use Rattle.dcv_tracks.specs.Shifting.{bound_by}
+use Rattle.dcv_tracks.proofs.GoalSteps.{bound_among, bound_next, bound_steps, found_truth}
 use Rattle.dcv_tracks.proofs.bound.bound_shift_of.Goals.{in-Some+in_default-bound_within, in_default}
 use Rattle.dcv_tracks.proofs.bound.bound_shift_of.Goals as goal
 

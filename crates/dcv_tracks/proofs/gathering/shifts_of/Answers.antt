@@ -8,7 +8,8 @@ use Rattle.dcv_tracks.specs.declared.gathering.Shift.{Shift}
 use Rattle.dcv_tracks.specs.declared.gathering.GatherFault.TheVariants.{TooMany}
 use Rattle.dcv_tracks.specs.Shifting.{collected, shifts_in, most_shifts}
 use Rattle.dcv_tracks.specs.ShiftViews.{plain_shift}
-use Rattle.dcv_tracks.proofs.GoalSteps.{collected_by, collected_in, collected_in-grows, collected_next, collected_steps, found_truth, as_before}
+use Rattle.dcv_tracks.specs.Shifting.{collected_by}
+use Rattle.dcv_tracks.proofs.GoalSteps.{collected_in, collected_in-grows, collected_next, collected_steps, found_truth, as_before}
 use Rattle.dcv_tracks.proofs.gathering.shifts_of.Goals.{in-Some+in_ok-gather, in_default}
 use Rattle.dcv_tracks.proofs.gathering.shifts_of.Goals as goal
 

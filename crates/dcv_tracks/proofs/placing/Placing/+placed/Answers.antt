@@ -1,7 +1,8 @@
 use Rattle.std.proofs.Common.{◌≡◌, ◌-◌, ◌++◌, List, length, map, sym, ap, subst, ◌∙◌, arith, append-nil}
 use Rattle.std.proofs.lemmas.List.{at_drop_all}
 use Rattle.dcv_core.specs.declared.truths.Truth.{Truth}
-use Rattle.dcv_core.specs.Core.{TruthNot, TruthAnd, TruthOr, TruthIff}
+use Rattle.dcv_syntax.specs.declared.propositions.Connective.TheVariants as connective
+use Rattle.dcv_core.specs.Core.{TruthNot, TruthJoined}
 use Rattle.dcv_core.specs.Slots.{IsBelow, AreBelow}
 use Rattle.dcv_core.specs.TruthViews.{plain_truth, truths_of}
 use Rattle.dcv_core.proofs.TruthRows.{truth_and, truth_or, truth_iff}
@@ -19,20 +20,20 @@ truth-truth-requires t c =
 
 pub truth-truths-requires : goal.truth-truths-requires
 truth-truths-requires t c =
-    let same : plain_truth c.args.truth.now ≡ TruthAnd (truths_of (map plain_truth c.deref-in-And.result.now)) =
-    ap plain_truth c.in-And.is ∙ truth_and c.in-And.operands ∙ ap (λ (truths : List Truth). TruthAnd (truths_of (map plain_truth truths))) (sym c.deref-in-And.ensures.value) in
+    let same : plain_truth c.args.truth.now ≡ TruthJoined connective.And (truths_of (map plain_truth c.deref-in-And.result.now)) =
+    ap plain_truth c.in-And.is ∙ truth_and c.in-And.operands ∙ ap (λ (truths : List Truth). TruthJoined connective.And (truths_of (map plain_truth truths))) (sym c.deref-in-And.ensures.value) in
     (omega (arith, ap parts same), (c.requires.declared, subst (IsBelow (256 - length c.args.self.now.shifts.now)) same c.requires.below))
 
 pub truth-truths-requires-in-Or : goal.truth-truths-requires-in-Or
 truth-truths-requires-in-Or t c =
-    let same : plain_truth c.args.truth.now ≡ TruthOr (truths_of (map plain_truth c.deref-in-Or.result.now)) =
-    ap plain_truth c.in-Or.is ∙ truth_or c.in-Or.operands ∙ ap (λ (truths : List Truth). TruthOr (truths_of (map plain_truth truths))) (sym c.deref-in-Or.ensures.value) in
+    let same : plain_truth c.args.truth.now ≡ TruthJoined connective.Or (truths_of (map plain_truth c.deref-in-Or.result.now)) =
+    ap plain_truth c.in-Or.is ∙ truth_or c.in-Or.operands ∙ ap (λ (truths : List Truth). TruthJoined connective.Or (truths_of (map plain_truth truths))) (sym c.deref-in-Or.ensures.value) in
     (omega (arith, ap parts same), (c.requires.declared, subst (IsBelow (256 - length c.args.self.now.shifts.now)) same c.requires.below))
 
 pub truth-truths-requires-in-Iff : goal.truth-truths-requires-in-Iff
 truth-truths-requires-in-Iff t c =
-    let same : plain_truth c.args.truth.now ≡ TruthIff (truths_of (map plain_truth c.deref-in-Iff.result.now)) =
-    ap plain_truth c.in-Iff.is ∙ truth_iff c.in-Iff.operands ∙ ap (λ (truths : List Truth). TruthIff (truths_of (map plain_truth truths))) (sym c.deref-in-Iff.ensures.value) in
+    let same : plain_truth c.args.truth.now ≡ TruthJoined connective.Iff (truths_of (map plain_truth c.deref-in-Iff.result.now)) =
+    ap plain_truth c.in-Iff.is ∙ truth_iff c.in-Iff.operands ∙ ap (λ (truths : List Truth). TruthJoined connective.Iff (truths_of (map plain_truth truths))) (sym c.deref-in-Iff.ensures.value) in
     (omega (arith, ap parts same), (c.requires.declared, subst (IsBelow (256 - length c.args.self.now.shifts.now)) same c.requires.below))
 
 pub truths-truth-requires : goal.truths-truth-requires
