@@ -10,7 +10,10 @@ use Rattle.dcv_language.specs.MachineLaws.{SlenMachineAccepts, ScountMachineAcce
 use Rattle.dcv_language.specs.MachineLaws.{EqualSettles, LessSettles, AtMostSettles, GreaterSettles, AtLeastSettles}
 use Rattle.dcv_shifts.specs.Machines.{back_machine, fore_machine}
 use Rattle.dcv_shifts.specs.Laws.{BackMachineAccepts, ForeMachineAccepts}
-use Rattle.dcv_core.specs.Core.{TruthSlot, BasicBack, BasicFore, BasicConstant, BasicPoint, BasicRun, BasicEvery, BasicUnit, BasicSlen, BasicScount, BasicSdur}
+use Rattle.dcv_syntax.specs.declared.formulas.Bracket.TheVariants.{Point, Run, Every, Unit as TwoInstants}
+use Rattle.dcv_syntax.specs.declared.formulas.Count.TheVariants.{Scount, Sdur}
+use Rattle.dcv_syntax.specs.declared.propositions.Direction.TheVariants.{Prior, Next}
+use Rattle.dcv_core.specs.Core.{TruthSlot, BasicConstant, BasicBracketed, BasicSlen, BasicCounted, BasicTrack}
 use Rattle.dcv_core.specs.Holds.{truth_holds}
 use Rattle.dcv_atoms.specs.AtomRows.{kept_constant, constant_found, kept_point, point_found, kept_run, run_found, kept_every, every_found}
 use Rattle.dcv_atoms.specs.AtomRows.{kept_unit, unit_found, kept_count, count_found, kept_duration, duration_found}
@@ -50,28 +53,28 @@ module _ (accept : MachinesAccept) (settle : RelationsSettle) where
   pub accepts_form : MachineAcceptsForm
   accepts_form slots (BasicConstant truth) word some =
       embedded_accepts kept_constant constant_found constant_again (constant_machine slots truth) word ∙ accept.constant slots truth word some
-  accepts_form slots (BasicPoint p) word some =
+  accepts_form slots (BasicBracketed Point p) word some =
       embedded_accepts kept_point point_found point_again (point_machine slots (truth_holds p)) word ∙ accept.point slots (truth_holds p) word some
-  accepts_form slots (BasicRun p) word some =
+  accepts_form slots (BasicBracketed Run p) word some =
       embedded_accepts kept_run run_found run_again (run_machine slots (truth_holds p)) word ∙ accept.run slots (truth_holds p) word some
-  accepts_form slots (BasicEvery p) word some =
+  accepts_form slots (BasicBracketed Every p) word some =
       embedded_accepts kept_every every_found every_again (every_machine slots (truth_holds p)) word ∙ accept.every slots (truth_holds p) word some
-  accepts_form slots (BasicUnit p) word some =
+  accepts_form slots (BasicBracketed TwoInstants p) word some =
       embedded_accepts kept_unit unit_found unit_again (unit_machine slots (truth_holds p)) word ∙ accept.unit slots (truth_holds p) word some
   accepts_form slots (BasicSlen relation n) word some =
       let meets : ℕ → Bool = λ count. compares relation count n in
       embedded_accepts kept_count count_found count_again (slen_machine slots n meets) word ∙ accept.slen slots n meets (settles relation n) word some
-  accepts_form slots (BasicScount p relation n) word some =
+  accepts_form slots (BasicCounted Scount p relation n) word some =
       let meets : ℕ → Bool = λ count. compares relation count n in
       embedded_accepts kept_count count_found count_again (scount_machine slots (truth_holds p) n meets) word
       ∙ accept.scount slots (truth_holds p) n meets (settles relation n) word some
-  accepts_form slots (BasicSdur p relation n) word some =
+  accepts_form slots (BasicCounted Sdur p relation n) word some =
       let meets : ℕ → Bool = λ count. compares relation count n in
       embedded_accepts kept_duration duration_found duration_again (sdur_machine slots (truth_holds p) n meets) word
       ∙ accept.sdur slots (truth_holds p) n meets (settles relation n) word some
-  accepts_form slots (BasicBack p slot) word some =
+  accepts_form slots (BasicTrack Prior p slot) word some =
       embedded_accepts kept_back back_found back_again (back_machine slots (truth_holds p) (truth_holds (TruthSlot slot))) word
       ∙ accept.back slots (truth_holds p) (truth_holds (TruthSlot slot)) word some
-  accepts_form slots (BasicFore p slot) word some =
+  accepts_form slots (BasicTrack Next p slot) word some =
       embedded_accepts kept_fore fore_found fore_again (fore_machine slots (truth_holds p) (truth_holds (TruthSlot slot))) word
       ∙ accept.fore slots (truth_holds p) (truth_holds (TruthSlot slot)) word some

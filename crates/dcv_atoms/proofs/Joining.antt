@@ -1,19 +1,17 @@
 -- Truths as numbers, and how they are joined.
-use Rattle.std.proofs.Common.{◌≡◌, ℕ, zero, suc, ◌<◌, Bool, true, false, not, ◌&&◌, ◌||◌, ◌==◌, List, [], ◌∷◌, ◌++◌, length, map, get_or, refl, ap, sym, subst, ◌∙◌, arith}
+use Rattle.std.proofs.Common.{◌≡◌, ℕ, zero, suc, ◌<◌, Bool, true, false, not, ◌==◌, List, [], ◌∷◌, ◌++◌, length, map, get_or, refl, ap, sym, subst, ◌∙◌, arith}
 use Rattle.std.specs.List.{flat_map}
-use Rattle.dcv_language.specs.Operations.{iff}
 use Rattle.dcv_arena.specs.Arena.{ArenaValue, IsRef, value_of, table_of, places, count_with}
 use Rattle.dcv_arena.specs.Diagram.{node_count}
 use Rattle.dcv_arena.specs.declared.nodes.Ref.{Ref}
 use Rattle.dcv_arena.proofs.Tables.{same_table}
-use Rattle.dcv_core.specs.Core.{PlainTruth}
-use Rattle.dcv_core.specs.Holds.{truth_holds, all_truths, some_truth, iff_truths}
+use Rattle.dcv_core.specs.Core.{PlainTruth, TruthJoined}
 use Rattle.dcv_core.specs.TruthViews.{truths_of}
-use Rattle.dcv_atoms.specs.declared.functions.Join.{Join}
-use Rattle.dcv_atoms.specs.declared.functions.Join.TheVariants.{And, Or, Iff}
+use Rattle.dcv_syntax.specs.declared.propositions.Connective.{Connective}
+use Rattle.dcv_logic.specs.Connectives.{joins}
 use Rattle.dcv_atoms.specs.Parts.{number_of_truth, parts, all_parts}
 use Rattle.dcv_renumber.specs.Renumbered.{renumbered}
-use Rattle.dcv_atoms.specs.Functions.{FunctionValue, Means, HasTruths, joined, unit_of, all_joined, list_of, number_joined}
+use Rattle.dcv_atoms.specs.Functions.{FunctionValue, Means, HasTruths, number_joined}
 
 -- ---- truths as numbers
 
@@ -54,17 +52,17 @@ same_count_with arena f g same =
 -- ---- two functions joined
 
 -- what two functions' numbers are merged into is 1 where the truths that they stand for are joined to true
-pub means_joined : (join : Join) (first second new : ArenaValue) (one other root : Ref) (slots : ℕ) (P Q : List Bool → Bool) → Means first one slots P → Means second other slots Q
+pub means_joined : (connective : Connective) (first second new : ArenaValue) (one other root : Ref) (slots : ℕ) (P Q : List Bool → Bool) → Means first one slots P → Means second other slots Q
     → IsRef new root → new.slots ≡ slots
-    → ((letter : List Bool) → length letter ≡ new.slots → value_of new root letter ≡ number_joined join (value_of first one letter ∷ value_of second other letter ∷ []))
-    → Means new root slots (λ letter. joined join (P letter) (Q letter))
-means_joined join first second new one other root slots P Q p q is_ref same merged = record {
+    → ((letter : List Bool) → length letter ≡ new.slots → value_of new root letter ≡ number_joined connective (value_of first one letter ∷ value_of second other letter ∷ []))
+    → Means new root slots (λ letter. joins connective (P letter) (Q letter))
+means_joined connective first second new one other root slots P Q p q is_ref same merged = record {
   is_ref = is_ref;
   slots_are = same;
   value = λ letter size.
       merged letter (size ∙ sym same)
-      ∙ (λ i. number_of_truth (joined join (p.value letter size i == 1) (q.value letter size i == 1)))
-      ∙ (λ i. number_of_truth (joined join (truth_again (P letter) i) (truth_again (Q letter) i)));
+      ∙ (λ i. number_of_truth (joins connective (p.value letter size i == 1) (q.value letter size i == 1)))
+      ∙ (λ i. number_of_truth (joins connective (truth_again (P letter) i) (truth_again (Q letter) i)));
 }
 
 -- ---- a function turned round
@@ -80,36 +78,13 @@ means_opposite old new root opposite P means is_ref same renumbers = record {
 
 -- ---- operands joined one after another
 
-module _ (letter : List Bool) where
-  and_joined : (so_far : Bool) (listed : List PlainTruth) → all_joined And so_far listed letter ≡ (so_far && all_truths (truths_of listed) letter)
-  and_joined true [] = refl
-  and_joined false [] = refl
-  and_joined true (p ∷ listed) = and_joined (truth_holds p letter) listed
-  and_joined false (p ∷ listed) = and_joined false listed
-
-  or_joined : (so_far : Bool) (listed : List PlainTruth) → all_joined Or so_far listed letter ≡ (so_far || some_truth (truths_of listed) letter)
-  or_joined true [] = refl
-  or_joined false [] = refl
-  or_joined true (p ∷ listed) = or_joined true listed
-  or_joined false (p ∷ listed) = or_joined (truth_holds p letter) listed
-
-  iff_joined : (so_far : Bool) (listed : List PlainTruth) → all_joined Iff so_far listed letter ≡ iff_truths so_far (truths_of listed) letter
-  iff_joined so_far [] = refl
-  iff_joined so_far (p ∷ listed) = iff_joined (iff so_far (truth_holds p letter)) listed
-
-  pub list_holds : (join : Join) (listed : List PlainTruth) → all_joined join (unit_of join) listed letter ≡ truth_holds (list_of join (truths_of listed)) letter
-  list_holds And listed = and_joined true listed
-  list_holds Or listed = or_joined false listed
-  list_holds Iff listed = iff_joined true listed
-
 all_parts_are : (listed : List PlainTruth) → all_parts (truths_of listed) ≡ flat_map parts listed
 all_parts_are [] = refl
 all_parts_are (p ∷ listed) = ap (λ rest. parts p ++ rest) (all_parts_are listed)
 
-pub list_parts : (join : Join) (listed : List PlainTruth) → flat_map parts listed ++ list_of join (truths_of listed) ∷ [] ≡ parts (list_of join (truths_of listed))
-list_parts And listed = ap (λ all. all ++ list_of And (truths_of listed) ∷ []) (sym (all_parts_are listed))
-list_parts Or listed = ap (λ all. all ++ list_of Or (truths_of listed) ∷ []) (sym (all_parts_are listed))
-list_parts Iff listed = ap (λ all. all ++ list_of Iff (truths_of listed) ∷ []) (sym (all_parts_are listed))
+pub list_parts : (connective : Connective) (listed : List PlainTruth)
+    → flat_map parts listed ++ TruthJoined connective (truths_of listed) ∷ [] ≡ parts (TruthJoined connective (truths_of listed))
+list_parts connective listed = ap (λ all. all ++ TruthJoined connective (truths_of listed) ∷ []) (sym (all_parts_are listed))
 
 -- ---- the test of a function may be another that says the same
 pub means_alike : (arena : ArenaValue) (root : Ref) (slots : ℕ) (P Q : List Bool → Bool) → ((letter : List Bool) → length letter ≡ slots → P letter ≡ Q letter)

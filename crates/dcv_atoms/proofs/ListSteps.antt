@@ -7,16 +7,17 @@ use Rattle.std.specs.Result.{IfOk, OnOk}
 use Rattle.dcv_arena.specs.Arena.{ArenaValue, IsArena, KeepsRefs, AddsOnlyNodesOf, count_with}
 use Rattle.dcv_arena.specs.declared.nodes.Ref.{Ref}
 use Rattle.dcv_core.specs.declared.truths.Truth.{Truth}
-use Rattle.dcv_core.specs.Core.{PlainTruth, TruthNot}
+use Rattle.dcv_core.specs.Core.{PlainTruth, TruthNot, TruthJoined}
 use Rattle.dcv_core.specs.Holds.{truth_holds}
 use Rattle.dcv_core.specs.TruthViews.{plain_truth, truths_of}
 use Rattle.dcv_atoms.specs.declared.faults.AtomFault.{AtomFault}
-use Rattle.dcv_atoms.specs.declared.functions.Join.{Join}
+use Rattle.dcv_syntax.specs.declared.propositions.Connective.{Connective}
+use Rattle.dcv_logic.specs.Connectives.{joins, of_none}
 use Rattle.dcv_atoms.specs.Parts.{parts, number_at}
-use Rattle.dcv_atoms.specs.Functions.{Means, joined, unit_of, list_of}
+use Rattle.dcv_atoms.specs.Functions.{Means}
 use Rattle.dcv_atoms.specs.Built.{Builds, Exceeds, OnTheWay}
 use Rattle.dcv_atoms.proofs.Building.{builds_one, builds_in_turn, builds_nothing, exceeds_one, exceeds_more, exceeds_after, leads_itself, leads_on, leads_over}
-use Rattle.dcv_atoms.proofs.Joining.{list_holds, list_parts, means_alike}
+use Rattle.dcv_atoms.proofs.Joining.{list_parts, means_alike}
 
 -- what a fact gives that holds where a call succeeds
 pub on_ok : {T E P Q : Type 0} (result : Result T E) → (P → Q) → OnOk result P → OnOk result Q
@@ -54,49 +55,49 @@ operand_exceeds old first whole limit same more = subst (λ listed. Exceeds old 
 
 -- ---- the operands of a list
 
-pub way_begins : (old : ArenaValue) (join : Join) (listed : List PlainTruth) (all : ArenaValue) (root : Ref) → IsArena old → Means all root old.slots (λ letter. unit_of join)
-    → OnTheWay old old join listed listed all root
-way_begins old join listed all root is means = record {
+pub way_begins : (old : ArenaValue) (connective : Connective) (listed : List PlainTruth) (all : ArenaValue) (root : Ref) → IsArena old → Means all root old.slots (λ letter. of_none connective)
+    → OnTheWay old old connective listed listed all root
+way_begins old connective listed all root is means = record {
   arena = is;
   leads = leads_itself old (flat_map parts listed);
-  so_far = λ letter. unit_of join;
+  so_far = λ letter. of_none connective;
   means = means;
   rest = λ letter. refl;
 }
 
-pub way_goes_on : (old here there : ArenaValue) (join : Join) (listed left : List PlainTruth) (p : PlainTruth) (all next : ArenaValue) (root part after : Ref)
-    → OnTheWay old here join listed (p ∷ left) all root
+pub way_goes_on : (old here there : ArenaValue) (connective : Connective) (listed left : List PlainTruth) (p : PlainTruth) (all next : ArenaValue) (root part after : Ref)
+    → OnTheWay old here connective listed (p ∷ left) all root
     → IsArena there → Builds here there (parts p) → Means there part here.slots (truth_holds p)
-    → ((P Q : List Bool → Bool) → Means all root there.slots P → Means there part there.slots Q → Means next after there.slots (λ letter. joined join (P letter) (Q letter)))
-    → OnTheWay old there join listed left next after
-way_goes_on old here there join listed left p all next root part after way is built means joins =
+    → ((P Q : List Bool → Bool) → Means all root there.slots P → Means there part there.slots Q → Means next after there.slots (λ letter. joins connective (P letter) (Q letter)))
+    → OnTheWay old there connective listed left next after
+way_goes_on old here there connective listed left p all next root part after way is built means both =
     let leads = leads_on old here there (parts p) (flat_map parts left) (flat_map parts listed) way.leads built in
     record {
       arena = is;
       leads = leads;
-      so_far = λ letter. joined join (way.so_far letter) (truth_holds p letter);
-      means = means_at next after there.slots old.slots (λ letter. joined join (way.so_far letter) (truth_holds p letter)) leads.kept.slots
-          (joins way.so_far (truth_holds p)
+      so_far = λ letter. joins connective (way.so_far letter) (truth_holds p letter);
+      means = means_at next after there.slots old.slots (λ letter. joins connective (way.so_far letter) (truth_holds p letter)) leads.kept.slots
+          (both way.so_far (truth_holds p)
           (means_at all root old.slots there.slots way.so_far (sym leads.kept.slots) way.means)
           (means_at there part here.slots there.slots (truth_holds p) (sym built.kept.slots) means));
       rest = way.rest;
     }
 
-pub way_exceeds : (old here : ArenaValue) (join : Join) (listed left : List PlainTruth) (p : PlainTruth) (all : ArenaValue) (root : Ref) (limit : ℕ)
-    → OnTheWay old here join listed (p ∷ left) all root → Exceeds here (parts p) limit → Exceeds old (parts (list_of join (truths_of listed))) limit
-way_exceeds old here join listed left p all root limit way more =
-    operand_exceeds old (flat_map parts listed) (list_of join (truths_of listed)) limit (list_parts join listed)
+pub way_exceeds : (old here : ArenaValue) (connective : Connective) (listed left : List PlainTruth) (p : PlainTruth) (all : ArenaValue) (root : Ref) (limit : ℕ)
+    → OnTheWay old here connective listed (p ∷ left) all root → Exceeds here (parts p) limit → Exceeds old (parts (TruthJoined connective (truths_of listed))) limit
+way_exceeds old here connective listed left p all root limit way more =
+    operand_exceeds old (flat_map parts listed) (TruthJoined connective (truths_of listed)) limit (list_parts connective listed)
     (leads_over old here (parts p) (flat_map parts left) (flat_map parts listed) limit way.leads more)
 
 -- at the end the function is what the list says
-module _ (old here : ArenaValue) (join : Join) (listed : List PlainTruth) (all : ArenaValue) (root : Ref) (way : OnTheWay old here join listed [] all root) where
+module _ (old here : ArenaValue) (connective : Connective) (listed : List PlainTruth) (all : ArenaValue) (root : Ref) (way : OnTheWay old here connective listed [] all root) where
   abbrev whole : PlainTruth
-  whole = list_of join (truths_of listed)
+  whole = TruthJoined connective (truths_of listed)
 
   pub way_means : Means all root here.slots (truth_holds whole)
   way_means =
       means_at all root old.slots here.slots (truth_holds whole) (sym way.leads.kept.slots)
-      (means_alike all root old.slots way.so_far (truth_holds whole) (λ letter size. way.rest letter ∙ list_holds letter join listed) way.means)
+      (means_alike all root old.slots way.so_far (truth_holds whole) (λ letter size. way.rest letter) way.means)
 
   way_builds : Builds old here (flat_map parts listed)
   way_builds = way.leads.builds here (builds_nothing here)
@@ -104,12 +105,12 @@ module _ (old here : ArenaValue) (join : Join) (listed : List PlainTruth) (all :
   pub way_ends : (new : ArenaValue) (result : Result Ref AtomFault) → KeepsRefs here new → IfOk result (AddsOnlyNodesOf here new) → IfOk result (λ root. Means new root here.slots (truth_holds whole))
       → OnOk result (Builds old new (parts whole))
   way_ends new result kept adds means =
-      on_ok result (λ built. whole_builds old here new (flat_map parts listed) whole (list_parts join listed) way_builds built)
+      on_ok result (λ built. whole_builds old here new (flat_map parts listed) whole (list_parts connective listed) way_builds built)
       (put_builds here new whole kept result adds means)
 
   pub way_ends_over : (limit : ℕ) → IsArena here → (limit ≡ here.limit) × (limit < count_with here (number_at whole)) → Exceeds old (parts whole) limit
   way_ends_over limit is over =
-      whole_exceeds old here (flat_map parts listed) whole limit (list_parts join listed) way_builds (exceeds_one here whole limit is over.0 over.1)
+      whole_exceeds old here (flat_map parts listed) whole limit (list_parts connective listed) way_builds (exceeds_one here whole limit is over.0 over.1)
 
 -- ---- the opposite
 

@@ -1,7 +1,7 @@
 -- The working machine of each form, over the states that the code keeps.
 --     kept_.., .._found              what a state of a form's machine is kept as, and the state that is kept so
 --     machine_by slots basic P T     the machine of a form, with these tests of a letter for its proposition and for its slot
---     test_of basic                  whether its proposition holds in a letter
+--     test_by, test_of basic         whether its proposition, where it has one, holds in a letter
 --     slot_test_of basic             whether the slot of a shift is true in it
 --     atom_machine slots basic       the machine of a form
 --     after_letter basic from holds shifted
@@ -18,8 +18,10 @@ use Rattle.dcv_language.specs.AtomMachines.{UnitState, UnitStart, UnitOne, UnitG
 use Rattle.dcv_language.specs.AtomMachines.{slen_machine, scount_machine, DurationState, DurationStart, Lasted as DurationLasted, sdur_machine}
 use Rattle.dcv_shifts.specs.Machines.{BackState, BackStart, BackZero, BackOne, BackDead, back_machine}
 use Rattle.dcv_shifts.specs.Machines.{ForeState, ForeStart, ForeOwe, ForeFree, ForeDead, fore_machine}
-use Rattle.dcv_core.specs.Core.{PlainBasic, BasicConstant, BasicPoint, BasicRun, BasicEvery, BasicUnit, BasicSlen, BasicScount, BasicSdur}
-use Rattle.dcv_core.specs.Core.{TruthSlot, BasicBack, BasicFore}
+use Rattle.dcv_syntax.specs.declared.formulas.Bracket.TheVariants.{Point, Run, Every, Unit as TwoInstants}
+use Rattle.dcv_syntax.specs.declared.formulas.Count.TheVariants.{Scount, Sdur}
+use Rattle.dcv_syntax.specs.declared.propositions.Direction.TheVariants.{Prior, Next}
+use Rattle.dcv_core.specs.Core.{PlainTruth, TruthSlot, PlainBasic, BasicConstant, BasicBracketed, BasicSlen, BasicCounted, BasicTrack, truth_in}
 use Rattle.dcv_core.specs.Holds.{truth_holds}
 use Rattle.dcv_atoms.specs.declared.states.AtomMacro.{AtomMacro}
 use Rattle.dcv_atoms.specs.declared.states.AtomMacro.TheVariants.{Start, First, Good, Last, Bad, Count, Lasted}
@@ -137,41 +139,28 @@ duration_found state = DurationStart
 
 abbrev pub machine_by : ℕ → PlainBasic → (P T : List Bool → Bool) → WorkingMachine AtomMacro
 machine_by slots (BasicConstant truth) P T = embedded kept_constant constant_found (constant_machine slots truth)
-machine_by slots (BasicPoint p) P T = embedded kept_point point_found (point_machine slots P)
-machine_by slots (BasicRun p) P T = embedded kept_run run_found (run_machine slots P)
-machine_by slots (BasicEvery p) P T = embedded kept_every every_found (every_machine slots P)
-machine_by slots (BasicUnit p) P T = embedded kept_unit unit_found (unit_machine slots P)
+machine_by slots (BasicBracketed Point p) P T = embedded kept_point point_found (point_machine slots P)
+machine_by slots (BasicBracketed Run p) P T = embedded kept_run run_found (run_machine slots P)
+machine_by slots (BasicBracketed Every p) P T = embedded kept_every every_found (every_machine slots P)
+machine_by slots (BasicBracketed TwoInstants p) P T = embedded kept_unit unit_found (unit_machine slots P)
 machine_by slots (BasicSlen relation n) P T = embedded kept_count count_found (slen_machine slots n (λ steps. compares relation steps n))
-machine_by slots (BasicScount p relation n) P T = embedded kept_count count_found (scount_machine slots P n (λ count. compares relation count n))
-machine_by slots (BasicSdur p relation n) P T = embedded kept_duration duration_found (sdur_machine slots P n (λ count. compares relation count n))
-machine_by slots (BasicBack p slot) P T = embedded kept_back back_found (back_machine slots P T)
-machine_by slots (BasicFore p slot) P T = embedded kept_fore fore_found (fore_machine slots P T)
+machine_by slots (BasicCounted Scount p relation n) P T = embedded kept_count count_found (scount_machine slots P n (λ count. compares relation count n))
+machine_by slots (BasicCounted Sdur p relation n) P T = embedded kept_duration duration_found (sdur_machine slots P n (λ count. compares relation count n))
+machine_by slots (BasicTrack Prior p slot) P T = embedded kept_back back_found (back_machine slots P T)
+machine_by slots (BasicTrack Next p slot) P T = embedded kept_fore fore_found (fore_machine slots P T)
 
 -- a form without a proposition asks nothing of a letter
+abbrev pub test_by : Option PlainTruth → List Bool → Bool
+test_by None letter = false
+test_by (Some p) letter = truth_holds p letter
+
 abbrev pub test_of : PlainBasic → List Bool → Bool
-test_of (BasicConstant truth) letter = false
-test_of (BasicPoint p) letter = truth_holds p letter
-test_of (BasicRun p) letter = truth_holds p letter
-test_of (BasicEvery p) letter = truth_holds p letter
-test_of (BasicUnit p) letter = truth_holds p letter
-test_of (BasicSlen relation n) letter = false
-test_of (BasicScount p relation n) letter = truth_holds p letter
-test_of (BasicSdur p relation n) letter = truth_holds p letter
-test_of (BasicBack p slot) letter = truth_holds p letter
-test_of (BasicFore p slot) letter = truth_holds p letter
+test_of basic letter = test_by (truth_in basic) letter
 
 -- nor does a form that is no shift ask for a slot
 abbrev pub slot_test_of : PlainBasic → List Bool → Bool
-slot_test_of (BasicConstant truth) letter = false
-slot_test_of (BasicPoint p) letter = false
-slot_test_of (BasicRun p) letter = false
-slot_test_of (BasicEvery p) letter = false
-slot_test_of (BasicUnit p) letter = false
-slot_test_of (BasicSlen relation n) letter = false
-slot_test_of (BasicScount p relation n) letter = false
-slot_test_of (BasicSdur p relation n) letter = false
-slot_test_of (BasicBack p slot) letter = truth_holds (TruthSlot slot) letter
-slot_test_of (BasicFore p slot) letter = truth_holds (TruthSlot slot) letter
+slot_test_of (BasicTrack direction p slot) letter = truth_holds (TruthSlot slot) letter
+slot_test_of basic letter = false
 
 abbrev pub atom_machine : ℕ → PlainBasic → WorkingMachine AtomMacro
 atom_machine slots basic = machine_by slots basic (test_of basic) (slot_test_of basic)

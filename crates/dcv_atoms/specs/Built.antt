@@ -11,8 +11,11 @@ use Rattle.dcv_arena.specs.Arena.{ArenaValue, IsArena, IsRef, table_of, KeepsRef
 use Rattle.dcv_arena.specs.Diagram.{as_table}
 use Rattle.dcv_arena.specs.declared.nodes.Ref.{Ref}
 use Rattle.dcv_core.specs.Core.{PlainTruth}
-use Rattle.dcv_atoms.specs.declared.functions.Join.{Join}
-use Rattle.dcv_atoms.specs.Functions.{Means, unit_of, all_joined}
+use Rattle.dcv_syntax.specs.declared.propositions.Connective.{Connective}
+use Rattle.dcv_logic.specs.Connectives.{of_none}
+use Rattle.dcv_core.specs.Holds.{joined_truths}
+use Rattle.dcv_core.specs.TruthViews.{truths_of}
+use Rattle.dcv_atoms.specs.Functions.{Means}
 use Rattle.dcv_atoms.specs.Parts.{parts, number_at, part_nodes}
 
 abbrev pub truth_table : ℕ → PlainTruth → List ℕ
@@ -38,9 +41,9 @@ pub record Leads (old here : ArenaValue) (left listed : List PlainTruth) : Type 
   pub exceeds : (limit : ℕ) → Exceeds here left limit → Exceeds old listed limit
 
 -- what is true while the operands of a list are joined: this function is what those so far are joined to
-pub record OnTheWay (old here : ArenaValue) (join : Join) (listed left : List PlainTruth) (all : ArenaValue) (root : Ref) : Type 0 where
+pub record OnTheWay (old here : ArenaValue) (connective : Connective) (listed left : List PlainTruth) (all : ArenaValue) (root : Ref) : Type 0 where
   pub arena : IsArena here
   pub leads : Leads old here (flat_map parts left) (flat_map parts listed)
   pub so_far : List Bool → Bool
   pub means : Means all root old.slots so_far
-  pub rest : (letter : List Bool) → all_joined join (so_far letter) left letter ≡ all_joined join (unit_of join) listed letter
+  pub rest : (letter : List Bool) → joined_truths connective (so_far letter) (truths_of left) letter ≡ joined_truths connective (of_none connective) (truths_of listed) letter

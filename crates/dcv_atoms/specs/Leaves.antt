@@ -4,7 +4,7 @@
 --     state_told number count    the state of which these are the two
 --     leaf_count form            how many numbers a row has: the two, that of the proposition, and that of a shift's slot
 use Rattle.std.specs.Prelude.{◌==◌, ℕ, if◌then◌else◌}
-use Rattle.dcv_core.specs.Core.{PlainBasic, BasicBack, BasicFore}
+use Rattle.dcv_core.specs.Core.{PlainBasic, BasicTrack}
 use Rattle.dcv_atoms.specs.declared.states.AtomMacro.{AtomMacro}
 use Rattle.dcv_atoms.specs.declared.states.AtomMacro.TheVariants.{Start, First, Good, Last, Bad, Count, Lasted}
 
@@ -33,6 +33,5 @@ state_told number count =
     else Lasted count (number == 7)
 
 abbrev pub leaf_count : PlainBasic → ℕ
-leaf_count (BasicBack p slot) = 4
-leaf_count (BasicFore p slot) = 4
+leaf_count (BasicTrack direction p slot) = 4
 leaf_count _ = 3

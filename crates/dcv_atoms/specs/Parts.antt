@@ -3,16 +3,14 @@
 --     number_of_truth holds          1 or 0
 --     number_at p letter             1 where the proposition holds in the letter
 --     parts p, all_parts operands    a proposition's parts, each behind those of its operands
---     proposition_parts basic        the parts of a form's proposition, and none where it has no proposition
+--     parts_by, proposition_parts    the parts of a form's proposition, and none where it has no proposition
 --     slot_parts basic               the slot of a shift, and none of another form
 --     basic_parts basic              all of these
 --     part_nodes slots parts         how many nodes their diagrams have together, each counted once
 --     atom_nodes slots basic         how many those of the parts of a form's proposition have
-use Rattle.std.specs.Prelude.{ℕ, Bool, List, [], ◌∷◌, ◌++◌, map, if◌then◌else◌}
+use Rattle.std.specs.Prelude.{ℕ, Bool, List, [], ◌∷◌, ◌++◌, Option, None, Some, map, if◌then◌else◌}
 use Rattle.dcv_arena.specs.Diagram.{as_table, node_count}
-use Rattle.dcv_core.specs.Core.{PlainTruth, TruthConstant, TruthSlot, TruthNot, TruthAnd, TruthOr, TruthIff, TruthShift, PlainTruths, no_truths, truth_operand}
-use Rattle.dcv_core.specs.Core.{PlainBasic, BasicConstant, BasicPoint, BasicRun, BasicEvery, BasicUnit, BasicSlen, BasicScount, BasicSdur}
-use Rattle.dcv_core.specs.Core.{BasicBack, BasicFore}
+use Rattle.dcv_core.specs.Core.{PlainTruth, TruthConstant, TruthSlot, TruthNot, TruthJoined, TruthShift, PlainTruths, no_truths, truth_operand, PlainBasic, BasicTrack, truth_in}
 use Rattle.dcv_core.specs.Holds.{truth_holds}
 
 abbrev pub number_of_truth : Bool → ℕ
@@ -26,9 +24,7 @@ abbrev mutual
   parts (TruthConstant truth) = TruthConstant truth ∷ []
   parts (TruthSlot slot) = TruthSlot slot ∷ []
   parts (TruthNot p) = parts p ++ TruthNot p ∷ []
-  parts (TruthAnd operands) = all_parts operands ++ TruthAnd operands ∷ []
-  parts (TruthOr operands) = all_parts operands ++ TruthOr operands ∷ []
-  parts (TruthIff operands) = all_parts operands ++ TruthIff operands ∷ []
+  parts (TruthJoined connective operands) = all_parts operands ++ TruthJoined connective operands ∷ []
   -- of no core
   parts (TruthShift direction p span) = []
 
@@ -36,22 +32,16 @@ abbrev mutual
   all_parts no_truths = []
   all_parts (truth_operand p operands) = parts p ++ all_parts operands
 
+abbrev pub parts_by : Option PlainTruth → List PlainTruth
+parts_by None = []
+parts_by (Some p) = parts p
+
 abbrev pub proposition_parts : PlainBasic → List PlainTruth
-proposition_parts (BasicConstant truth) = []
-proposition_parts (BasicPoint p) = parts p
-proposition_parts (BasicRun p) = parts p
-proposition_parts (BasicEvery p) = parts p
-proposition_parts (BasicUnit p) = parts p
-proposition_parts (BasicSlen relation n) = []
-proposition_parts (BasicScount p relation n) = parts p
-proposition_parts (BasicSdur p relation n) = parts p
-proposition_parts (BasicBack p slot) = parts p
-proposition_parts (BasicFore p slot) = parts p
+proposition_parts basic = parts_by (truth_in basic)
 
 abbrev pub slot_parts : PlainBasic → List PlainTruth
-slot_parts (BasicBack p slot) = TruthSlot slot ∷ []
-slot_parts (BasicFore p slot) = TruthSlot slot ∷ []
-slot_parts _ = []
+slot_parts (BasicTrack direction p slot) = TruthSlot slot ∷ []
+slot_parts basic = []
 
 abbrev pub basic_parts : PlainBasic → List PlainTruth
 basic_parts basic = proposition_parts basic ++ slot_parts basic

@@ -5,19 +5,20 @@
 // leaves exchanged.
 ghost use Rattle.std.specs.Prelude.{◌≡◌, ℕ, Bool, List, [], ◌∷◌, Err, map, not, IfOk, OnOk};
 ghost use Rattle.dcv_arena.specs.Arena.{IsRef, IsArena};
-ghost use Rattle.dcv_core.specs.Core.{PlainTruth, TruthConstant, TruthSlot, TruthNot};
+ghost use Rattle.dcv_core.specs.Core.{PlainTruth, TruthConstant, TruthSlot, TruthNot, TruthJoined};
 ghost use Rattle.dcv_core.specs.Holds.{truth_holds};
 ghost use Rattle.dcv_core.specs.TruthViews.{plain_truth, truths_of};
 ghost use Rattle.dcv_atoms.specs.Parts.{parts};
-ghost use Rattle.dcv_atoms.specs.Functions.{Means, HasTruths, list_of};
+ghost use Rattle.dcv_atoms.specs.Functions.{Means, HasTruths};
 ghost use Rattle.dcv_atoms.specs.Built.{Builds, Exceeds};
 ghost use Rattle.dcv_atoms.specs.declared.faults.AtomFault.TheVariants.{Nodes};
 
 use crate::faults::AtomFault;
-use crate::functions::{Function, Join};
+use crate::functions::{Function, of_none};
 use crate::rounds::Rounds;
 use dcv_arena::{Arena, Ref};
 use dcv_core::Truth;
+use dcv_syntax::Connective;
 use std::alloc::Global;
 
 // The letters in which the proposition holds.
@@ -61,9 +62,9 @@ fn part(
             let root = part(alloc, arena, operand, rounds)?;
             opposite(alloc, arena, root)
         }
-        Truth::And(operands) => list(alloc, arena, Join::And, operands, rounds),
-        Truth::Or(operands) => list(alloc, arena, Join::Or, operands, rounds),
-        Truth::Iff(operands) => list(alloc, arena, Join::Iff, operands, rounds),
+        Truth::And(operands) => list(alloc, arena, Connective::And, operands, rounds),
+        Truth::Or(operands) => list(alloc, arena, Connective::Or, operands, rounds),
+        Truth::Iff(operands) => list(alloc, arena, Connective::Iff, operands, rounds),
         // of no core
         Truth::Shift(_, _, _) => Ok(arena.leaf(0)),
     }
@@ -116,22 +117,22 @@ fn opposite(alloc: Global, arena: &mut Arena, root: Ref) -> Result<Ref, AtomFaul
 fn list(
     alloc: Global,
     arena: &mut Arena,
-    join: Join,
+    connective: Connective,
     operands: &[Truth],
     rounds: &mut Rounds,
 ) -> Result<Ref, AtomFault>
     requires arena { IsArena arena.old }
     ensures means { IfOk result (λ root. Means arena.new root arena.old.slots
-        (truth_holds (list_of join (truths_of (map plain_truth operands.now))))) }
-    ensures builds { OnOk result (Builds arena.old arena.new (parts (list_of join (truths_of (map plain_truth operands.now))))) }
+        (truth_holds (TruthJoined connective (truths_of (map plain_truth operands.now))))) }
+    ensures builds { OnOk result (Builds arena.old arena.new (parts (TruthJoined connective (truths_of (map plain_truth operands.now))))) }
     ensures exceeds { (limit : ℕ) → result ≡ Err (Nodes limit)
-        → Exceeds arena.old (parts (list_of join (truths_of (map plain_truth operands.now)))) limit }
+        → Exceeds arena.old (parts (TruthJoined connective (truths_of (map plain_truth operands.now)))) limit }
     ensures arena { IsArena arena.new }
 {
-    let mut all = Function::constant(alloc, arena.slots(), join.unit());
+    let mut all = Function::constant(alloc, arena.slots(), of_none(connective));
     for operand in operands {
         let root = part(alloc, arena, operand, rounds)?;
-        all = all.with(alloc, join, arena, root, rounds)?;
+        all = all.with(alloc, connective, arena, root, rounds)?;
     }
     all.put(alloc, arena)
 }

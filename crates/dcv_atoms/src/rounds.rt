@@ -8,6 +8,7 @@ ghost use Rattle.dcv_atoms.specs.Functions.{number_joined};
 use crate::functions::Join;
 use dcv_apply::{ApplyFault, Memo, USUAL_CAPACITY, apply};
 use dcv_arena::{Arena, Ref};
+use dcv_syntax::Connective;
 use std::alloc::{AllocError, Global};
 use std::marker::Model;
 
@@ -44,7 +45,7 @@ impl Rounds {
     pub(crate) fn join(
         &mut self,
         alloc: Global,
-        join: Join,
+        connective: Connective,
         arena: &mut Arena,
         first: &Arena,
         second: &Arena,
@@ -54,7 +55,7 @@ impl Rounds {
         requires two { length operands.now ≡ 2 }
         ensures is_ref { IfOk result (IsRef arena.new) }
         ensures value { IfOk result (λ root. (letter : List Bool) → length letter ≡ arena.old.slots
-            → value_of arena.new root letter ≡ number_joined join (numbers_at first.now second.now operands.now letter)) }
+            → value_of arena.new root letter ≡ number_joined connective (numbers_at first.now second.now operands.now letter)) }
         ensures slots { OnOk result (arena.new.slots ≡ arena.old.slots) }
         ensures arena { OnOk result (IsArena arena.new) }
     {
@@ -63,7 +64,7 @@ impl Rounds {
             return Err(ApplyFault::Memory);
         };
         self.next = next;
-        let mut merge = join;
+        let mut merge = Join { connective };
         apply(
             alloc,
             arena,

@@ -1,12 +1,11 @@
 use Rattle.std.proofs.Common.{◌≡◌, ◌+◌, ℕ, List, [], map, drop, Err, refl, ap, sym, subst, ◌∙◌, arith}
 use Rattle.std.proofs.lemmas.Result.{err_from_is_err_and}
 use Rattle.dcv_core.specs.declared.truths.Truth.{Truth}
-use Rattle.dcv_core.specs.Core.{PlainTruth, TruthNot}
+use Rattle.dcv_core.specs.Core.{PlainTruth, TruthNot, TruthJoined}
 use Rattle.dcv_core.specs.Holds.{truth_holds}
 use Rattle.dcv_core.specs.TruthViews.{plain_truth, truths_of}
 use Rattle.dcv_atoms.specs.declared.faults.AtomFault.TheVariants.{Nodes}
 use Rattle.dcv_atoms.specs.Parts.{parts}
-use Rattle.dcv_atoms.specs.Functions.{list_of}
 use Rattle.dcv_atoms.specs.Built.{Exceeds, OnTheWay}
 use Rattle.dcv_atoms.proofs.FaultFacts.{same_fault}
 use Rattle.dcv_atoms.proofs.ListSteps.{on_ok, if_ok, means_at, operand_exceeds, not_means, not_is, not_builds, not_exceeds, left_is, none_left}
@@ -71,8 +70,8 @@ list-returns-in_err-root-clause-exceeds t c limit e =
     let here = c.loop-operand.arena in
     let all = c.loop-operand.all in
     let left = left_is operands place (place + 1) item c.loop-operand-test.true c.operand-item.is (omega arith) in
-    let way = subst (λ (left : List PlainTruth). OnTheWay old here c.args.join listed left all.arena all.root) left c.loop-operand.invariant in
-    way_exceeds old here c.args.join listed (map plain_truth (drop (place + 1) operands)) (plain_truth item) all.arena all.root limit way more
+    let way = subst (λ (left : List PlainTruth). OnTheWay old here c.args.connective listed left all.arena all.root) left c.loop-operand.invariant in
+    way_exceeds old here c.args.connective listed (map plain_truth (drop (place + 1) operands)) (plain_truth item) all.arena all.root limit way more
 
 pub list-loop-operand-preserved : goal.list-loop-operand-preserved
 list-loop-operand-preserved t c =
@@ -87,8 +86,8 @@ list-loop-operand-preserved t c =
     let next = c.in_ok-all.all in
     let one = c.in_ok-root.ensures in
     let left = left_is operands place (place + 1) item c.loop-operand-test.true c.operand-item.is (omega arith) in
-    let way = subst (λ (left : List PlainTruth). OnTheWay old here c.args.join listed left all.arena all.root) left c.loop-operand.invariant in
-    way_goes_on old here there c.args.join listed (map plain_truth (drop (place + 1) operands)) (plain_truth item) all.arena next.arena all.root c.in_ok-root.root next.root
+    let way = subst (λ (left : List PlainTruth). OnTheWay old here c.args.connective listed left all.arena all.root) left c.loop-operand.invariant in
+    way_goes_on old here there c.args.connective listed (map plain_truth (drop (place + 1) operands)) (plain_truth item) all.arena next.arena all.root c.in_ok-root.root next.root
     way one.arena one.builds one.means c.in_ok-all.ensures.joins
 
 module _ (t : ℕ) (c : goal.list-After-drop-all-inside-5 t) where
@@ -96,11 +95,11 @@ module _ (t : ℕ) (c : goal.list-After-drop-all-inside-5 t) where
   listed = map plain_truth c.args.operands.now
 
   abbrev whole : PlainTruth
-  whole = list_of c.args.join (truths_of listed)
+  whole = TruthJoined c.args.connective (truths_of listed)
 
-  way_end : OnTheWay c.args.arena.now c.loop-operand.arena c.args.join listed [] c.loop-operand.all.arena c.loop-operand.all.root
+  way_end : OnTheWay c.args.arena.now c.loop-operand.arena c.args.connective listed [] c.loop-operand.all.arena c.loop-operand.all.root
   way_end =
-      subst (λ (left : List PlainTruth). OnTheWay c.args.arena.now c.loop-operand.arena c.args.join listed left c.loop-operand.all.arena c.loop-operand.all.root)
+      subst (λ (left : List PlainTruth). OnTheWay c.args.arena.now c.loop-operand.arena c.args.connective listed left c.loop-operand.all.arena c.loop-operand.all.root)
       (none_left c.args.operands.now c.loop-operand.operand-index c.loop-operand-test.false) c.loop-operand.invariant
 
 pub list-returns-clause-means : goal.list-returns-clause-means
@@ -110,7 +109,7 @@ list-returns-clause-means t c =
     let all = c.loop-operand.all in
     let way = way_end t c in
     if_ok c.put.result (λ root means. means_at c.put.new.arena root here.slots old.slots (truth_holds (whole t c)) way.leads.kept.slots means)
-    (c.put.ensures.means (truth_holds (whole t c)) (way_means old here c.args.join (listed t c) all.arena all.root way))
+    (c.put.ensures.means (truth_holds (whole t c)) (way_means old here c.args.connective (listed t c) all.arena all.root way))
 
 pub list-returns-clause-builds : goal.list-returns-clause-builds
 list-returns-clause-builds t c =
@@ -118,8 +117,8 @@ list-returns-clause-builds t c =
     let here = c.loop-operand.arena in
     let all = c.loop-operand.all in
     let way = way_end t c in
-    way_ends old here c.args.join (listed t c) all.arena all.root way c.put.new.arena c.put.result c.put.ensures.kept c.put.ensures.adds
-    (c.put.ensures.means (truth_holds (whole t c)) (way_means old here c.args.join (listed t c) all.arena all.root way))
+    way_ends old here c.args.connective (listed t c) all.arena all.root way c.put.new.arena c.put.result c.put.ensures.kept c.put.ensures.adds
+    (c.put.ensures.means (truth_holds (whole t c)) (way_means old here c.args.connective (listed t c) all.arena all.root way))
 
 pub list-returns-clause-exceeds : goal.list-returns-clause-exceeds
 list-returns-clause-exceeds t c limit e =
@@ -127,5 +126,5 @@ list-returns-clause-exceeds t c limit e =
     let here = c.loop-operand.arena in
     let all = c.loop-operand.all in
     let way = way_end t c in
-    way_ends_over old here c.args.join (listed t c) all.arena all.root way limit way.arena
-    (c.put.ensures.full limit (truth_holds (whole t c)) e (way_means old here c.args.join (listed t c) all.arena all.root way))
+    way_ends_over old here c.args.connective (listed t c) all.arena all.root way limit way.arena
+    (c.put.ensures.full limit (truth_holds (whole t c)) e (way_means old here c.args.connective (listed t c) all.arena all.root way))

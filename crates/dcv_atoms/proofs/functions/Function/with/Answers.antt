@@ -10,5 +10,5 @@ returns-in-Ok-clause-joins c P Q first second =
     let new = c.in-Ok.ensures in
     let means = subst (λ (function : FunctionValue). Means function.arena function.root other.slots P) (sym c.self.view_is) first in
     let slots = new.slots ∙ c.new-all.ensures.slots ∙ c.slots.ensures.slots in
-    means_joined c.args.join own.arena other c.join.new.arena own.root c.args.root c.in-Ok.root other.slots P Q means second new.is_ref slots
+    means_joined c.args.connective own.arena other c.join.new.arena own.root c.args.root c.in-Ok.root other.slots P Q means second new.is_ref slots
     (λ letter size. new.value letter (size ∙ new.slots))
