@@ -6,7 +6,7 @@ pub mod FilesState
 pub mod Noted
 pub mod Plan
 pub mod Putting
-pub mod RealCounts
+pub mod RealState
 pub mod SinkState
 pub mod Taking
 pub mod Written

@@ -1,0 +1,121 @@
+// The files of a file system, read one at a time, with their faults counted.
+ghost use Rattle.std.specs.Prelude.{◌≡◌, ◌≤◌, None, length, drop, IfOk, OnErr};
+ghost use Rattle.std.specs.Io.KnownBytes.{ReadConsumes};
+ghost use Rattle.dcv_io.specs.RealState.{told_of};
+
+use crate::counts::raise;
+use crate::file_system::{FileSystem, SystemFiles};
+use crate::{Failed, Files};
+use std::io::Read;
+use std::marker::Model;
+use std::rt;
+
+// How many bytes are read at once.
+const BLOCK: usize = 4096;
+
+/// The files of a file system. What is read of a file is what it holds, wherever the file system tells that.
+///
+/// A read that a signal interrupts has failed.
+#[derive(Drop)]
+pub struct RealFiles<S: FileSystem> {
+    system: S,
+    file: Option<S::File>,
+    open_faults: u64,
+    read_faults: u64,
+    calls: u64,
+}
+
+impl<S: FileSystem> Model for RealFiles<S> {
+    ghost use Rattle.std.specs.Prelude.{IfSome, IsSome};
+    ghost use Rattle.dcv_io.specs.RealState.{RealState};
+
+    ghost Value = { RealState S S.File };
+
+    ghost view = { λ f. record { system = f.system; file = f.file; open_faults = f.open_faults; read_faults = f.read_faults; calls = f.calls } };
+
+    // An open file of a file system that tells what it holds tells what is left to read.
+    ghost invariant = { λ f. IfSome (S.held f.system) (λ _. IfSome f.file (λ file. IsSome (S.File.remaining file))) };
+}
+
+impl<R: rt::Files> RealFiles<SystemFiles<R>> {
+    /// The files of the system, of which nothing is told, with none open, no fault and no call.
+    pub fn new(runtime: R) -> Self
+        ensures told { ⟦<RealFiles<SystemFiles<R>> as Files>⟧.told result ≡ None }
+        ensures open_faults { result.open_faults ≡ 0 }
+        ensures read_faults { result.read_faults ≡ 0 }
+        ensures calls { result.calls ≡ 0 }
+    {
+        RealFiles::of(SystemFiles::new(runtime))
+    }
+}
+
+impl<S: FileSystem> RealFiles<S> {
+    /// The files of this file system, with none open, no fault and no call.
+    pub fn of(system: S) -> Self
+        ensures { result ≡ record { system = system; file = None; open_faults = 0; read_faults = 0; calls = 0 } }
+    {
+        RealFiles {
+            system,
+            file: None,
+            open_faults: 0,
+            read_faults: 0,
+            calls: 0,
+        }
+    }
+}
+
+impl<S: FileSystem> Files for RealFiles<S> {
+    ghost open_faults = { λ f. f.open_faults };
+
+    ghost read_faults = { λ f. f.read_faults };
+
+    ghost calls = { λ f. f.calls };
+
+    ghost told = { told_of S.held S.File.remaining };
+
+    ghost asked = { λ _. None };
+
+    fn open_file(&mut self, name: &str) -> Result<(), Failed> {
+        raise(&mut self.calls);
+        match self.system.open(name) {
+            Ok(file) => {
+                self.file = Some(file);
+                Ok(())
+            }
+            Err(fault) => {
+                self.file = None;
+                raise(&mut self.open_faults);
+                Err(fault)
+            }
+        }
+    }
+
+    fn read(&mut self, buf: &mut [u8]) -> Result<usize, Failed> {
+        raise(&mut self.calls);
+        if let Some(file) = &mut self.file
+            && let Ok(count) = read_once(file, buf)
+        {
+            return Ok(count);
+        }
+        raise(&mut self.read_faults);
+        Err(Failed)
+    }
+}
+
+// Reads once, whatever it is read from. The buffer stays as it was but for what came.
+fn read_once<T: Read>(source: &mut T, buf: &mut [u8]) -> Result<usize, Failed>
+    ensures bound { IfOk result (λ count. count ≤ length buf.old) }
+    ensures bytes { ReadConsumes (T.remaining source.old) (T.remaining source.new) result buf.new }
+    ensures buffer { IfOk result (λ count. drop count buf.new ≡ drop count buf.old) }
+    ensures same_buffer { OnErr result (buf.new ≡ buf.old) }
+{
+    let mut block = [0; BLOCK];
+    let room = buf.len().min(BLOCK);
+    match source.read(&mut block[..room]) {
+        Ok(count) => {
+            buf[..count].copy_from_slice(&block[..count]);
+            Ok(count)
+        }
+        Err(_) => Err(Failed),
+    }
+}
