@@ -3,13 +3,14 @@ pub mod Capped
 pub mod Examples
 pub mod Faulting
 pub mod Finding
+pub mod Fits
 pub mod GoalCore
-pub mod GoalRoom
 pub mod InSight
 pub mod LinearRows
 pub mod Linearity
 pub mod ListSteps
 pub mod LookUps
+pub mod Matching
 pub mod Means
 pub mod MeasuredMacros
 pub mod MeasuredText
@@ -18,5 +19,4 @@ pub mod NameRows
 pub mod Relays
 pub mod Sizes
 pub mod Skipped
-pub mod Slots
 pub mod TextRows
