@@ -293,8 +293,8 @@ module _ (sight : Measured) (q : PlainPropKind) (span : Span) where
   size_of_bracketed bracket = refl
 
   -- scount P R n, sdur P R n
-  size_of_counted : (count : Count) (relation : Relation) (n : Number) → measure_of_formula sight (FormulaCounted count (record { kind = q; span = span }) relation n) ≡ over_prop 1 1
-  size_of_counted count relation n = refl
+  size_of_counted : (counting : Count) (relation : Relation) (n : Number) → measure_of_formula sight (FormulaCounted counting (record { kind = q; span = span }) relation n) ≡ over_prop 1 1
+  size_of_counted counting relation n = refl
 
 module _ (sight : Measured) (d : PlainFormulaKind) (span : Span) where
   abbrev over : ℕ → ℕ → Measure

@@ -155,7 +155,7 @@ module _ (declared : ℕ) where
     formula_fits (FormulaBracketed bracket p) span measured sight fits =
         atom_fits sight.slots _ span (under 1 1 (measure_of_prop measured p.kind)) (omega arith) (truth_fits declared sight.slots measured sight fits p.kind).1
     formula_fits (FormulaSlen relation n) span measured sight fits = atom_fits sight.slots _ span leaf (omega arith) tt
-    formula_fits (FormulaCounted count p relation n) span measured sight fits =
+    formula_fits (FormulaCounted counting p relation n) span measured sight fits =
         atom_fits sight.slots _ span (under 1 1 (measure_of_prop measured p.kind)) (omega arith) (truth_fits declared sight.slots measured sight fits p.kind).1
     formula_fits (FormulaCall name arguments) span measured sight fits =
         macro_fits declared sight.slots (found measured.macros name.text) (found sight.macros name.text) (measures_of_arguments measured (arguments_of arguments))
@@ -207,7 +207,7 @@ module _ (declared : ℕ) where
       → SightFits declared k (record measured { names = zip parameters ms ++ measured.names }) (record (bind_arguments sight parameters truths) { slots = slots })
   arguments_known k measured sight parameters ms truths slots le fits all = record {
     enough = le;
-    names = parameters_match (TruthFits k) parameters ms truths all (more_names declared k measured sight le fits.names);
+    names = parameters_match (TruthFits k) parameters ms truths measured.names sight.truths all (more_names declared k measured sight le fits.names);
     macros = fits.macros;
   }
 

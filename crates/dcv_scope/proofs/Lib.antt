@@ -14,9 +14,9 @@ pub mod Matching
 pub mod Means
 pub mod MeasuredMacros
 pub mod MeasuredText
-pub mod Measures
 pub mod NameRows
 pub mod Relays
 pub mod Sizes
 pub mod Skipped
 pub mod TextRows
+pub mod WorkLeft

@@ -35,12 +35,12 @@ module _ {X Y : Type 0} (R : X → Y → Type 0) where
   found_both _ _ name m = absurd m
 
   -- parameters that stand for arguments
-  pub parameters_match : (parameters : List (List ℕ)) (xs : List X) (ys : List Y) {outer : List (List ℕ × X)} {others : List (List ℕ × Y)}
+  pub parameters_match : (parameters : List (List ℕ)) (xs : List X) (ys : List Y) (outer : List (List ℕ × X)) (others : List (List ℕ × Y))
       → AllBoth xs ys → Matched outer others → Matched (zip parameters xs ++ outer) (zip parameters ys ++ others)
-  parameters_match [] xs ys all m = m
-  parameters_match (p ∷ parameters) [] [] all m = m
-  parameters_match (p ∷ parameters) (x ∷ xs) (y ∷ ys) all m = (refl, (all.0, parameters_match parameters xs ys all.1 m))
-  parameters_match (p ∷ parameters) _ _ all m = absurd all
+  parameters_match [] xs ys outer others all m = m
+  parameters_match (p ∷ parameters) [] [] outer others all m = m
+  parameters_match (p ∷ parameters) (x ∷ xs) (y ∷ ys) outer others all m = (refl, (all.0, parameters_match parameters xs ys outer others all.1 m))
+  parameters_match (p ∷ parameters) _ _ outer others all m = absurd all
 
 -- what is related is related in another way too
 pub match_still : {X Y : Type 0} {R S : X → Y → Type 0} → ((x : X) (y : Y) → R x y → S x y)

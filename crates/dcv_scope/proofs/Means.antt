@@ -7,10 +7,6 @@ use Rattle.dcv_syntax.specs.declared.names.Span.{Span}
 use Rattle.dcv_syntax.specs.declared.propositions.Connective.{Connective}
 use Rattle.dcv_syntax.specs.declared.propositions.Connective.TheVariants.{And, Or, Iff}
 use Rattle.dcv_syntax.specs.declared.propositions.Direction.TheVariants.{Prior, Next}
-use Rattle.dcv_syntax.specs.declared.formulas.Bracket.{Bracket}
-use Rattle.dcv_syntax.specs.declared.formulas.Bracket.TheVariants.{Point, Run, Every, Unit as TwoInstants}
-use Rattle.dcv_syntax.specs.declared.formulas.Count.{Count}
-use Rattle.dcv_syntax.specs.declared.formulas.Count.TheVariants.{Scount, Sdur}
 use Rattle.dcv_syntax.specs.declared.formulas.Unary.{Unary}
 use Rattle.dcv_syntax.specs.declared.formulas.Unary.TheVariants.{Not, Star, Somewhere, Everywhere}
 use Rattle.dcv_syntax.specs.declared.formulas.Quantifier.{Quantifier}
@@ -23,23 +19,23 @@ use Rattle.dcv_syntax.specs.Plain.{PlainFormulaOperands, no_formula_operands, fo
 use Rattle.dcv_word.specs.Behaviour.{Word}
 use Rattle.dcv_language.specs.Operations.{with_track, some_track}
 use Rattle.dcv_logic.specs.Track.{Track, truth_at, slot_track}
-use Rattle.dcv_logic.specs.Search.{some_between, each_between}
+use Rattle.dcv_logic.specs.Search.{some_between}
 use Rattle.dcv_logic.specs.Environment.{Environment, Meaning, PropMeaning, FormulaMeaning, found, bind, bind_all}
-use Rattle.dcv_logic.specs.Connectives.{joins, of_none, bracket_holds, counted, applied, quantified}
+use Rattle.dcv_logic.specs.Connectives.{joins, of_none, somewhere, applied, quantified}
 use Rattle.dcv_logic.specs.Value.{value, call_value, argument_tracks, joined_value}
 use Rattle.dcv_logic.specs.Satisfaction.{compares, satisfies, macro_holds, joined_holds, chop_holds}
 use Rattle.dcv_logic.specs.Models.{declared_from, macro_meaning, body_meaning, with_macros, goal_environment}
 use Rattle.dcv_logic.proofs.InWords.{track-values}
-use Rattle.dcv_core.specs.Core.{PlainTruth, TruthSlot, CoreTree, CoreNot, CoreJoined, CoreChop}
+use Rattle.dcv_core.specs.Core.{PlainTruth, TruthSlot, CoreTree, CoreNot, CoreJoined, CoreChop, CoreExists}
 use Rattle.dcv_core.specs.Holds.{letter_at, value_at, joined_values, core_holds, expanded_holds}
 use Rattle.dcv_scope.specs.CoreOf.{Expansion, PropExpansion, FormulaExpansion, Sight, bind_slot, bind_arguments, truth_of_call, truth_of, argument_truths, operand_truths}
-use Rattle.dcv_scope.specs.CoreOf.{core_of_macro, applied_core, quantified_core, core_of, joined, body_expansion, expansion_of, with_expansions, declared_slots}
+use Rattle.dcv_scope.specs.CoreOf.{core_of_macro, somewhere_core, applied_core, quantified_core, core_of, joined, body_expansion, expansion_of, with_expansions, declared_slots}
 use Rattle.dcv_scope.specs.CoreOf.{goal_sight, expanded_file, core_of_file}
 use Rattle.dcv_tracks.proofs.Closing.{goal_holds_on_tracks, core_holds_on_word}
 use Rattle.dcv_scope.specs.Laws.{GoalMeansText, CoreMeansText, WordsAreModels}
 use Rattle.dcv_core.proofs.Tracks.{with_track-length, with_track-letter, slot_track-truth, Further, further_itself, further_on, further_by_track, slot_further, slot_behind}
 use Rattle.dcv_core.proofs.Chops.{and-true, chop-one, chop-assoc, somewhere-chop, each_true}
-use Rattle.dcv_core.proofs.Aligned.{count_from-same, some_between-same, count_between-same, each_between-same, star-same}
+use Rattle.dcv_core.proofs.Aligned.{some_between-same, bracket-same, counted-same, star-same}
 use Rattle.dcv_language.proofs.Behaviours.{some_track-same}
 use Rattle.std.proofs.lemmas.Bool.Decides.{nat_tests}
 use Rattle.dcv_scope.proofs.Fits.{goal_slots}
@@ -173,40 +169,37 @@ module _ (env : Environment) (sight : Sight) where
         joined_means operands connective word a i lt (joins connective x (value env p i)) (joins connective y (value_at (truth_of sight p) word i))
         (λ j. joins connective (same j) (one j))
 
--- ---- forms round what agrees on an interval
-
-module _ (p q : ℕ → Bool) (b e : ℕ) (le : b ≤ e) (same : (i : ℕ) → b ≤ i → i ≤ e → p i ≡ q i) where
-  bracket_same : (bracket : Bracket) → bracket_holds bracket p b e ≡ bracket_holds bracket q b e
-  bracket_same Point = ap (λ t. b == e && t) (same b (omega arith) le)
-  bracket_same Run = ap (λ t. nat_lt b e && t) (each_between-same p q b (e - 1) (λ i lo hi. same i lo (omega (arith, hi))))
-  bracket_same Every = each_between-same p q b e same
-  bracket_same TwoInstants = ap (λ t. e == b + 1 && t) (same b (omega arith) le)
-
-  counted_same : (count : Count) → counted count p b e ≡ counted count q b e
-  counted_same Scount = count_between-same p q b e same
-  counted_same Sdur = count_from-same p q b (e - b) (λ i lo hi. same i lo (omega (arith, hi, le)))
+-- ---- what tags make of truths that agree
 
 joins_none : (connective : Connective) (truth : Bool) → joins connective (of_none connective) truth ≡ truth
 joins_none And truth = refl
 joins_none Or truth = refl
 joins_none Iff truth = refl
 
+somewhere_means : (d : ℕ → ℕ → Bool) (core : CoreTree) (span : Span) (word : Word) (b e : ℕ)
+    → ((x y : ℕ) → b ≤ x → x ≤ y → y ≤ e → d x y ≡ expanded_holds core word x y) → somewhere d b e ≡ expanded_holds (somewhere_core core span) word b e
+somewhere_means d core span word b e same =
+    some_between-same b e _ _ (λ x lo hi. some_between-same x e _ _ (λ y up high. same x y lo up high)) ∙ sym (somewhere-chop (expanded_holds core word) b e)
+
 applied_means : (unary : Unary) (d : ℕ → ℕ → Bool) (core : CoreTree) (span : Span) (word : Word) (b e : ℕ) → b ≤ e
     → ((x y : ℕ) → b ≤ x → x ≤ y → y ≤ e → d x y ≡ expanded_holds core word x y) → applied unary d b e ≡ expanded_holds (applied_core unary core span) word b e
 applied_means Not d core span word b e le same = ap not (same b e (omega arith) le (omega arith))
 applied_means Star d core span word b e le same = star-same d (expanded_holds core word) (e - b) b e same
-applied_means Somewhere d core span word b e le same =
-    some_between-same _ _ b e (λ x lo hi. some_between-same _ _ x e (λ y up high. same x y lo up high)) ∙ sym (somewhere-chop (expanded_holds core word) b e)
+applied_means Somewhere d core span word b e le same = somewhere_means d core span word b e same
 applied_means Everywhere d core span word b e le same =
-    ap not (applied_means Somewhere (λ x y. not (d x y)) (CoreNot core span) span word b e le (λ x y lo up high. ap not (same x y lo up high)))
+    ap not (somewhere_means (λ x y. not (d x y)) (CoreNot core span) span word b e (λ x y lo up high. ap not (same x y lo up high)))
+
+exists_means : (n : ℕ) (d : Track → Bool) (core : CoreTree) (span : Span) (word : Word) (b e : ℕ) → n ≡ length word
+    → ((track : Track) → length track ≡ length word → d track ≡ expanded_holds core (with_track word track) b e) → some_track n d ≡ expanded_holds (CoreExists core span) word b e
+exists_means n d core span word b e is same =
+    ap (λ k. some_track k d) is ∙ some_track-same (length word) d (λ track. expanded_holds core (with_track word track) b e) same
 
 quantified_means : (quantifier : Quantifier) (n : ℕ) (d : Track → Bool) (core : CoreTree) (span : Span) (word : Word) (b e : ℕ) → n ≡ length word
     → ((track : Track) → length track ≡ length word → d track ≡ expanded_holds core (with_track word track) b e)
     → quantified quantifier n d ≡ expanded_holds (quantified_core quantifier core span) word b e
-quantified_means Exists n d core span word b e is same =
-    ap (λ k. some_track k d) is ∙ some_track-same (length word) d (λ track. expanded_holds core (with_track word track) b e) same
+quantified_means Exists n d core span word b e is same = exists_means n d core span word b e is same
 quantified_means ForAll n d core span word b e is same =
-    ap not (quantified_means Exists n (λ track. not (d track)) (CoreNot core span) span word b e is (λ track level. ap not (same track level)))
+    ap not (exists_means n (λ track. not (d track)) (CoreNot core span) span word b e is (λ track level. ap not (same track level)))
 
 formula_call_means : (word : Word) (k : ℕ) (span : Span) (m : Option Meaning) (c : Option Expansion) (tracks : List Track) (truths : List PlainTruth)
     → Both (MacroAgrees word) m c → AllBoth (Reads word) tracks truths → Widths k word → (b e : ℕ) → b ≤ e → e < length word
@@ -227,11 +220,11 @@ mutual
   formula_means FormulaPt span env sight word a w b e le lt = sym (and-true (b == e))
   formula_means FormulaExt span env sight word a w b e le lt = sym (and-true (nat_lt b e)) ∙ ap (λ t. nat_lt b e && t) (sym (each_true b (e - 1)))
   formula_means (FormulaBracketed bracket p) span env sight word a w b e le lt =
-      bracket_same (value env p.kind) (value_at (truth_of sight p.kind) word) b e le (λ i lo hi. prop_means env sight p.kind word a i (omega (arith, hi, lt))) bracket
+      bracket-same b e (value env p.kind) (value_at (truth_of sight p.kind) word) (λ i lo hi. prop_means env sight p.kind word a i (omega (arith, hi, lt))) le bracket
   formula_means (FormulaSlen relation n) span env sight word a w b e le lt = refl
-  formula_means (FormulaCounted count p relation n) span env sight word a w b e le lt =
+  formula_means (FormulaCounted counting p relation n) span env sight word a w b e le lt =
       ap (λ c. compares relation c n.value)
-      (counted_same (value env p.kind) (value_at (truth_of sight p.kind) word) b e le (λ i lo hi. prop_means env sight p.kind word a i (omega (arith, hi, lt))) count)
+      (counted-same b e (value env p.kind) (value_at (truth_of sight p.kind) word) (λ i lo hi. prop_means env sight p.kind word a i (omega (arith, hi, lt))) le counting)
   formula_means (FormulaCall name arguments) span env sight word a w b e le lt =
       formula_call_means word sight.slots span (found env.macros name.text) (found sight.macros name.text) (argument_tracks env (arguments_of arguments))
       (argument_truths sight (arguments_of arguments)) (found_both (MacroAgrees word) env.macros sight.macros name.text a.macros)
@@ -249,7 +242,7 @@ mutual
       λ i. not (one i) || two i
   formula_means (FormulaChop no_formula_operands) span env sight word a w b e le lt = sym (and-true (b == e))
   formula_means (FormulaChop (formula_operand d d_span outer operands)) span env sight word a w b e le lt =
-      some_between-same (λ m. satisfies env d b m && chop_holds env operands m e) (λ m. expanded_holds (core_of sight d d_span) word b m && chop_holds env operands m e) b e
+      some_between-same b e (λ m. satisfies env d b m && chop_holds env operands m e) (λ m. expanded_holds (core_of sight d d_span) word b m && chop_holds env operands m e)
       (λ m lo hi. ap (λ t. t && chop_holds env operands m e) (formula_means d d_span env sight word a w b m lo (omega (arith, hi, lt))))
       ∙ chops_mean operands outer (core_of sight d d_span) env sight word a w b e le lt
   formula_means (FormulaQuantified quantifier name d d_span) span env sight word a w b e le lt =
@@ -272,8 +265,8 @@ mutual
   chops_mean (formula_operand d d_span outer operands) first so_far env sight word a w b e le lt =
       let front = expanded_holds so_far word in
       let here = expanded_holds (core_of sight d d_span) word in
-      some_between-same _ _ b e (λ l lo hi. ap (λ t. front b l && t)
-      (some_between-same _ _ l e (λ m low high. ap (λ t. t && chop_holds env operands m e) (formula_means d d_span env sight word a w l m low (omega (arith, high, lt))))))
+      some_between-same b e _ _ (λ l lo hi. ap (λ t. front b l && t)
+      (some_between-same l e _ _ (λ m low high. ap (λ t. t && chop_holds env operands m e) (formula_means d d_span env sight word a w l m low (omega (arith, high, lt))))))
       ∙ sym (chop-assoc front here (chop_holds env operands) b e)
       ∙ chops_mean operands first (CoreChop so_far (core_of sight d d_span) (covering first outer)) env sight word a w b e le lt
 
@@ -285,12 +278,12 @@ body_agrees : (word : Word) (env : Environment) (sight : Sight) (parameters : Li
 body_agrees word env sight parameters (FormulaBody d) a = λ further f tracks truths r k w b e le lt.
     let here = agree_further word further f env sight a in
     formula_means d.kind d.span (bind_all env parameters tracks) (record (bind_arguments sight parameters truths) { slots = k }) further
-    (record { instants = here.instants; tracks = parameters_match (Reads further) parameters tracks truths r here.tracks; macros = here.macros })
+    (record { instants = here.instants; tracks = parameters_match (Reads further) parameters tracks truths env.tracks sight.truths r here.tracks; macros = here.macros })
     w b e le lt
 body_agrees word env sight parameters (PropBody p) a = λ further f tracks truths r i lt.
     let here = agree_further word further f env sight a in
     prop_means (bind_all env parameters tracks) (bind_arguments sight parameters truths) p.kind further
-    (record { instants = here.instants; tracks = parameters_match (Reads further) parameters tracks truths r here.tracks; macros = here.macros })
+    (record { instants = here.instants; tracks = parameters_match (Reads further) parameters tracks truths env.tracks sight.truths r here.tracks; macros = here.macros })
     i lt
 
 macros_agree : (word : Word) (macros : List PlainMacro) (env : Environment) (sight : Sight) → Agree word env sight → Agree word (with_macros env macros) (with_expansions sight macros)

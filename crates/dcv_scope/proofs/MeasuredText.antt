@@ -81,7 +81,7 @@ module _ (outer : List Measure) where
     formula_agrees FormulaExt sight measured agree = under_at 1 1 (constant leaf) outer leaf (at-constant leaf outer)
     formula_agrees (FormulaBracketed bracket p) sight measured agree = under_at 1 1 _ outer _ (prop_agrees outer sight measured agree p.kind)
     formula_agrees (FormulaSlen relation n) sight measured agree = at-constant leaf outer
-    formula_agrees (FormulaCounted count p relation n) sight measured agree = under_at 1 1 _ outer _ (prop_agrees outer sight measured agree p.kind)
+    formula_agrees (FormulaCounted counting p relation n) sight measured agree = under_at 1 1 _ outer _ (prop_agrees outer sight measured agree p.kind)
     formula_agrees (FormulaCall name arguments) sight measured agree =
         agree.macros name.text (linear_of_arguments sight (arguments_of arguments))
         ∙ ap (measure_of_macro (found measured.macros name.text)) (arguments_agree outer sight measured agree (arguments_of arguments))

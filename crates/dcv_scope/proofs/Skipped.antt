@@ -123,8 +123,8 @@ module _ (bound : ℕ) where
     core_agrees (FormulaBracketed bracket p) span measured sight others keeps lt =
         ap (λ x. CoreAtom (BasicBracketed bracket x) span) (truth_agrees measured sight others keeps p.kind (omega (arith, lt)))
     core_agrees (FormulaSlen relation n) span measured sight others keeps lt = refl
-    core_agrees (FormulaCounted count p relation n) span measured sight others keeps lt =
-        ap (λ x. CoreAtom (BasicCounted count x relation n.value) span) (truth_agrees measured sight others keeps p.kind (omega (arith, lt)))
+    core_agrees (FormulaCounted counting p relation n) span measured sight others keeps lt =
+        ap (λ x. CoreAtom (BasicCounted counting x relation n.value) span) (truth_agrees measured sight others keeps p.kind (omega (arith, lt)))
     core_agrees (FormulaCall name arguments) span measured sight others keeps lt =
         macro_core_agrees (found measured.macros name.text) (found sight.macros name.text) sight.slots (measures_of_arguments measured (arguments_of arguments))
         (argument_truths sight (arguments_of arguments)) (argument_truths (record sight { truths = others }) (arguments_of arguments)) span

@@ -134,7 +134,7 @@ abbrev mutual
   -- slen R n
   core_of sight (FormulaSlen relation n) span = CoreAtom (BasicSlen relation n.value) span
   -- scount P R n, sdur P R n
-  core_of sight (FormulaCounted count p relation n) span = CoreAtom (BasicCounted count (truth_of sight p.kind) relation n.value) span
+  core_of sight (FormulaCounted counting p relation n) span = CoreAtom (BasicCounted counting (truth_of sight p.kind) relation n.value) span
   -- f(P, Q, ..)
   core_of sight (FormulaCall name arguments) span =
       core_of_macro (found sight.macros name.text) sight.slots (argument_truths sight (arguments_of arguments)) span

@@ -124,7 +124,7 @@ abbrev mutual
   measure_of_formula sight (FormulaBracketed bracket p) = under 1 1 (measure_of_prop sight p.kind)
   -- slen R n, scount P R n, sdur P R n
   measure_of_formula sight (FormulaSlen relation n) = leaf
-  measure_of_formula sight (FormulaCounted count p relation n) = under 1 1 (measure_of_prop sight p.kind)
+  measure_of_formula sight (FormulaCounted counting p relation n) = under 1 1 (measure_of_prop sight p.kind)
   -- f(P, Q, ..)
   measure_of_formula sight (FormulaCall name arguments) =
       measure_of_macro (found sight.macros name.text) (measures_of_arguments sight (arguments_of arguments))

@@ -174,7 +174,7 @@ abbrev mutual
   occurrences_in_formula sight FormulaExt = []
   occurrences_in_formula sight (FormulaBracketed bracket p) = occurrences_in_prop sight p.kind
   occurrences_in_formula sight (FormulaSlen relation n) = []
-  occurrences_in_formula sight (FormulaCounted count p relation n) = occurrences_in_prop sight p.kind
+  occurrences_in_formula sight (FormulaCounted counting p relation n) = occurrences_in_prop sight p.kind
   occurrences_in_formula sight (FormulaCall name arguments) =
       occurs name (AtFormula (length arguments)) sight ∷ occurrences_in_arguments sight (arguments_of arguments)
   occurrences_in_formula sight (FormulaApplied unary d span) = occurrences_in_formula sight d

@@ -141,7 +141,7 @@ abbrev mutual
   linear_of_formula sight FormulaExt = linear_under 1 1 0 (constant leaf)
   linear_of_formula sight (FormulaBracketed bracket p) = linear_under 1 1 0 (linear_of_prop sight p.kind)
   linear_of_formula sight (FormulaSlen relation n) = constant leaf
-  linear_of_formula sight (FormulaCounted count p relation n) = linear_under 1 1 0 (linear_of_prop sight p.kind)
+  linear_of_formula sight (FormulaCounted counting p relation n) = linear_under 1 1 0 (linear_of_prop sight p.kind)
   linear_of_formula sight (FormulaCall name arguments) =
       linear_of_macro (found sight.macros name.text) (linear_of_arguments sight (arguments_of arguments))
   linear_of_formula sight (FormulaApplied unary d span) = linear_under (unary_nodes unary) (unary_depth unary) 0 (linear_of_formula sight d)

@@ -7,7 +7,7 @@ use Rattle.dcv_syntax.specs.declared.formulas.FormulaKind.{FormulaKind}
 use Rattle.dcv_syntax.specs.declared.propositions.Connective.TheVariants.{Or}
 use Rattle.dcv_syntax.specs.Views.{plain_formula_kind}
 use Rattle.dcv_logic.specs.Environment.{found}
-use Rattle.dcv_scope.proofs.Measures.{work, list_work, work-Joined, work-Chop, work_at, body_work, all_bodies, left_after_call}
+use Rattle.dcv_scope.proofs.WorkLeft.{work, list_work, work-Joined, work-Chop, work_at, body_work, all_bodies, left_after_call}
 use Rattle.dcv_core.specs.Core.{CoreTree, CoreNot}
 use Rattle.dcv_scope.specs.CoreOf.{Sight, core_of, core_of_macro, joined, list_core}
 use Rattle.dcv_core.specs.TruthViews.{plain_truth}

@@ -1,5 +1,5 @@
 use Rattle.std.proofs.Common.{◌≡◌, ◌+◌, ◌*◌, drop}
-use Rattle.dcv_scope.proofs.Measures.{work_left, work, list_work}
+use Rattle.dcv_scope.proofs.WorkLeft.{work_left, work, list_work}
 use Rattle.dcv_core.specs.Core.{CoreTree}
 use Rattle.dcv_scope.specs.CoreOf.{joined, list_core}
 use Rattle.dcv_core.specs.Steps.{Made}

@@ -2,7 +2,7 @@ use Rattle.std.proofs.Common.{◌≡◌, List, map, arith, sym, ap, ◌∙◌}
 use Rattle.dcv_syntax.specs.declared.propositions.Prop.{Prop, size-Prop}
 use Rattle.dcv_syntax.specs.Views.{plain_prop_kind, plain_prop, plain_body}
 use Rattle.dcv_logic.specs.Environment.{found}
-use Rattle.dcv_scope.proofs.Measures.{prop_depth, all_bodies, left_after_call}
+use Rattle.dcv_scope.proofs.WorkLeft.{prop_depth, all_bodies, left_after_call}
 use Rattle.dcv_core.specs.Core.{PlainTruth, TruthJoined}
 use Rattle.dcv_scope.specs.CoreOf.{bind_arguments, truth_of, truth_of_call}
 use Rattle.dcv_scope.specs.Names.{texts}
