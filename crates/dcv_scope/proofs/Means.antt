@@ -18,18 +18,18 @@ use Rattle.dcv_syntax.specs.Plain.{FormulaSlen, FormulaCounted, FormulaCall, For
 use Rattle.dcv_syntax.specs.Plain.{PlainFormulaOperands, no_formula_operands, formula_operand, arguments_of, PlainMacroBody, FormulaBody, PropBody, PlainMacro, PlainFile}
 use Rattle.dcv_word.specs.Behaviour.{Word}
 use Rattle.dcv_language.specs.Operations.{with_track, some_track}
-use Rattle.dcv_logic.specs.Track.{Track, truth_at, slot_track}
+use Rattle.dcv_logic.specs.Track.{Track, truth_at}
 use Rattle.dcv_logic.specs.Search.{some_between}
 use Rattle.dcv_logic.specs.Environment.{Environment, Meaning, PropMeaning, FormulaMeaning, found, bind, bind_all}
 use Rattle.dcv_logic.specs.Connectives.{joins, of_none, somewhere, applied, quantified}
 use Rattle.dcv_logic.specs.Value.{value, call_value, argument_tracks, joined_value}
 use Rattle.dcv_logic.specs.Satisfaction.{compares, satisfies, macro_holds, joined_holds, chop_holds}
-use Rattle.dcv_logic.specs.Models.{declared_from, macro_meaning, body_meaning, with_macros, goal_environment}
+use Rattle.dcv_logic.specs.Models.{declared_from, body_meaning, with_macros, goal_environment}
 use Rattle.dcv_logic.proofs.InWords.{track-values}
 use Rattle.dcv_core.specs.Core.{PlainTruth, TruthSlot, CoreTree, CoreNot, CoreJoined, CoreChop, CoreExists}
 use Rattle.dcv_core.specs.Holds.{letter_at, value_at, joined_values, core_holds, expanded_holds}
 use Rattle.dcv_scope.specs.CoreOf.{Expansion, PropExpansion, FormulaExpansion, Sight, bind_slot, bind_arguments, truth_of_call, truth_of, argument_truths, operand_truths}
-use Rattle.dcv_scope.specs.CoreOf.{core_of_macro, somewhere_core, applied_core, quantified_core, core_of, joined, body_expansion, expansion_of, with_expansions, declared_slots}
+use Rattle.dcv_scope.specs.CoreOf.{core_of_macro, somewhere_core, applied_core, quantified_core, core_of, joined, body_expansion, with_expansions, declared_slots}
 use Rattle.dcv_scope.specs.CoreOf.{goal_sight, expanded_file, core_of_file}
 use Rattle.dcv_tracks.proofs.Closing.{goal_holds_on_tracks, core_holds_on_word}
 use Rattle.dcv_scope.specs.Laws.{GoalMeansText, CoreMeansText, WordsAreModels}

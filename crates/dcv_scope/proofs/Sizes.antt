@@ -4,7 +4,7 @@ use Rattle.std.specs.List.{All, AllByRecursion, slice_get}
 use Rattle.std.proofs.lemmas.Option.{slice_get_within}
 use Rattle.dcv_syntax.specs.Plain.{PlainFile}
 use Rattle.dcv_core.specs.Core.{CoreTree, CoreAtom, CoreNot, CoreJoined, CoreChop, CoreStar, CoreExists}
-use Rattle.dcv_core.specs.Steps.{PlainStep, CoreStep, without_core, steps_before, steps_from, steps_of, nesting}
+use Rattle.dcv_core.specs.Steps.{PlainStep, CoreStep, without_core, steps_from, steps_of, nesting}
 use Rattle.dcv_core.specs.Slots.{OpIsBelow, CoreIsBelow}
 use Rattle.dcv_core.proofs.StepList.{some_same, steps_from-length}
 use Rattle.dcv_tracks.proofs.ClosedSlots.{shifted_steps, shifted_nesting, shifted_below}

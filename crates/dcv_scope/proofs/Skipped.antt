@@ -18,7 +18,7 @@ use Rattle.dcv_logic.specs.Environment.{found}
 use Rattle.dcv_logic.specs.Connectives.{of_none}
 use Rattle.dcv_core.specs.Core.{PlainTruth, TruthConstant, TruthSlot, TruthNot, TruthJoined, TruthShift, no_truths, truth_operand}
 use Rattle.dcv_core.specs.Core.{PlainBasic, BasicConstant, BasicBracketed, BasicCounted, CoreTree, CoreAtom, CoreNot, CoreJoined, CoreChop}
-use Rattle.dcv_scope.specs.CoreOf.{Expansion, PropExpansion, FormulaExpansion, Sight, bind_slot, bind_arguments, truth_of_macro, truth_without, truth_of_call}
+use Rattle.dcv_scope.specs.CoreOf.{Expansion, PropExpansion, FormulaExpansion, Sight, bind_slot, bind_arguments, truth_of_call}
 use Rattle.dcv_scope.specs.CoreOf.{truth_of, argument_truths, operand_truths, core_of_macro, applied_core, quantified_core, core_of, list_core, joined, body_expansion}
 use Rattle.dcv_scope.specs.CoreOf.{expansion_of, with_expansions, declared_slots}
 use Rattle.dcv_scope.specs.Measures.{Measure, leaf, Measured, measure_of_macro, measure_of_name, measure_of_prop, measures_of_arguments}

@@ -151,6 +151,16 @@ formula-list-requires t c =
     ap work c.in-Joined.is ∙ work-Joined connective c.in-Joined.operands ∙ ap (λ os. list_work os + 1) (sym c.deref-in-Joined.ensures.value) in
     (omega (arith, left), (c.requires.is_sight, room_same c.requires.room refl same))
 
+pub formula-returns-in-Joined : goal.formula-returns-in-Joined
+formula-returns-in-Joined t c =
+    let sight = sight_of c.args.self.now in
+    let span = c.args.formula.now.span in
+    let connective = c.in-Joined.connective in
+    let same = ap (λ (kind : FormulaKind). core_of sight (plain_formula_kind kind) span) c.in-Joined.is
+    ∙ core-Joined sight span connective c.in-Joined.operands
+    ∙ ap (listed sight span (Some connective)) (sym c.deref-in-Joined.ensures.value) in
+    then_ok c.list.result c.list.ensures (λ last made. made_same made refl (sym same))
+
 pub formula-list-requires-in-Chop : goal.formula-list-requires-in-Chop
 formula-list-requires-in-Chop t c =
     let sight = sight_of c.args.self.now in

@@ -52,11 +52,11 @@ form-returns-in-Call t c =
     ap of_list c.deref.ensures.value ∙ sym (truth-Call sight name c.in-Call.arguments) ∙ sym (ap (λ kind. truth_of sight (plain_prop_kind kind)) c.in-Call.is) in
     then_ok c.named.result c.named.ensures (λ truth e. e ∙ same)
 
-pub form-returns-in_ok-prop_operands : goal.form-returns-in_ok-prop_operands
-form-returns-in_ok-prop_operands t c =
+pub form-returns-in_ok-prop_operands-in-Joined : goal.form-returns-in_ok-prop_operands-in-Joined
+form-returns-in_ok-prop_operands-in-Joined t c =
     let sight = sight_of c.args.self.now in
     let connective = c.in-Joined.connective in
     c.joined.ensures
-    ∙ ap (λ truths. TruthJoined connective (truths_of truths)) (c.in_ok-prop_operands.ensures ∙ ap (map (operand_truth sight)) c.deref-in-Joined.ensures.value)
+    ∙ ap (λ truths. TruthJoined connective (truths_of truths)) (c.in_ok-prop_operands-in-Joined.ensures ∙ ap (map (operand_truth sight)) c.deref-in-Joined.ensures.value)
     ∙ sym (truth-Joined sight connective c.in-Joined.operands)
     ∙ sym (ap (λ kind. truth_of sight (plain_prop_kind kind)) c.in-Joined.is)

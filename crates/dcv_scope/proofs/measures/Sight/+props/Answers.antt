@@ -26,7 +26,7 @@ pub prop-returns-in_ok-prop_operands-in-Joined : goal.prop-returns-in_ok-prop_op
 prop-returns-in_ok-prop_operands-in-Joined t c =
     let sight = linear_in_sight c.args.self.now in
     c.below-in-Joined.ensures
-    ∙ ap (λ all. capped_macro (linear_under 1 1 0 all)) (c.in_ok-prop_operands.ensures ∙ ap (λ (os : List PropOperand). capped_macro (all_in_turn (measured_operand sight) (constant nothing) os)) c.deref-in-Joined.ensures.value)
+    ∙ ap (λ all. capped_macro (linear_under 1 1 0 all)) (c.in_ok-prop_operands-in-Joined.ensures ∙ ap (λ (os : List PropOperand). capped_macro (all_in_turn (measured_operand sight) (constant nothing) os)) c.deref-in-Joined.ensures.value)
     ∙ sym (linear-Joined sight c.in-Joined.field-0 c.in-Joined.operands)
     ∙ sym (ap (λ kind. capped_macro (linear_of_prop sight (plain_prop_kind kind))) c.in-Joined.is)
 
