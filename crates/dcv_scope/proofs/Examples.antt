@@ -4,19 +4,24 @@ use Rattle.dcv_syntax.specs.declared.names.Name.{Name}
 use Rattle.dcv_syntax.specs.declared.names.Span.{Span}
 use Rattle.dcv_syntax.specs.declared.formulas.Relation.{Relation}
 use Rattle.dcv_syntax.specs.declared.formulas.Number.{Number}
-use Rattle.dcv_syntax.specs.Plain.{PlainPropKind, PropConstant, PropCall, PropNot, PropAnd, PropOr, PropImplies, PropIff, no_arguments}
-use Rattle.dcv_syntax.specs.Plain.{PlainPropOperands, no_prop_operands, prop_operand, PlainProp, PlainFormulaKind, FormulaConstant, FormulaPt}
-use Rattle.dcv_syntax.specs.Plain.{FormulaExt, FormulaPoint, FormulaRun, FormulaEvery, FormulaUnit, FormulaSlen, FormulaScount, FormulaSdur}
-use Rattle.dcv_syntax.specs.Plain.{FormulaCall, FormulaNot, FormulaAnd, FormulaOr, FormulaImplies, FormulaIff, FormulaChop, FormulaStar}
-use Rattle.dcv_syntax.specs.Plain.{FormulaSomewhere, FormulaEverywhere, FormulaExists, FormulaForAll, PlainFormulaOperands, no_formula_operands}
-use Rattle.dcv_syntax.specs.Plain.{formula_operand, FormulaBody, PropBody, PlainMacro, PlainFile}
+use Rattle.dcv_syntax.specs.declared.propositions.Connective.{Connective}
+use Rattle.dcv_syntax.specs.declared.propositions.Connective.TheVariants.{And, Or, Iff}
+use Rattle.dcv_syntax.specs.declared.formulas.Bracket.{Bracket}
+use Rattle.dcv_syntax.specs.declared.formulas.Bracket.TheVariants.{Point, Run, Every}
+use Rattle.dcv_syntax.specs.declared.formulas.Count.{Count}
+use Rattle.dcv_syntax.specs.declared.formulas.Unary.TheVariants.{Not, Star, Somewhere, Everywhere}
+use Rattle.dcv_syntax.specs.declared.formulas.Quantifier.TheVariants.{Exists, ForAll}
+use Rattle.dcv_syntax.specs.Plain.{PlainPropKind, PropConstant, PropCall, PropNot, PropJoined, PropImplies, no_arguments}
+use Rattle.dcv_syntax.specs.Plain.{PlainPropOperands, no_prop_operands, prop_operand, PlainProp, PlainFormulaKind, FormulaConstant, FormulaPt, FormulaExt}
+use Rattle.dcv_syntax.specs.Plain.{FormulaBracketed, FormulaSlen, FormulaCounted, FormulaCall, FormulaApplied, FormulaJoined, FormulaImplies, FormulaChop}
+use Rattle.dcv_syntax.specs.Plain.{FormulaQuantified, PlainFormulaOperands, no_formula_operands, formula_operand, FormulaBody, PropBody, PlainMacro, PlainFile}
 use Rattle.dcv_word.specs.Behaviour.{Word}
 use Rattle.dcv_logic.specs.Models.{models}
 use Rattle.dcv_scope.specs.declared.faults.ScopeFault.TheVariants.{TooMany, Duplicate, Taken, Unknown, Kind, Arity, Size, Depth, Slots}
-use Rattle.dcv_core.specs.Core.{TruthConstant, TruthSlot, BasicPoint, BasicRun, BasicConstant}
+use Rattle.dcv_core.specs.Core.{TruthConstant, TruthSlot, BasicBracketed, BasicConstant}
 use Rattle.dcv_core.specs.Holds.{words_of}
 use Rattle.dcv_scope.specs.CoreOf.{core_of_file}
-use Rattle.dcv_core.specs.Steps.{PlainOp, OpAtom, OpNot, OpAnd, OpOr, OpChop, OpStar, PlainStep, steps_of}
+use Rattle.dcv_core.specs.Steps.{PlainOp, OpAtom, OpNot, OpJoined, OpChop, OpStar, PlainStep, steps_of}
 use Rattle.dcv_scope.specs.Names.{fault_of_names}
 use Rattle.dcv_scope.specs.Faults.{fault_of_goal}
 use Rattle.dcv_scope.specs.Measures.{Measure, leaf, Measured, measure_of_prop, name_in_sight, measure_of_formula, measure_of_file, slots_of_file}
@@ -68,12 +73,12 @@ two_props p q = prop_operand p (place 0 0) (place 0 0) (prop_operand q (place 0 
 -- var p; infer (pt && <p>) ^ [](pt => ext)*;
 abbrev many_forms : PlainFile
 many_forms = file_of (named 112 4 ∷ []) [] (FormulaChop (
-    formula_operand (FormulaAnd (
+    formula_operand (FormulaJoined And (
     formula_operand FormulaPt (place 14 16) (place 14 16) (
-    formula_operand (FormulaPoint (record { kind = plain_name (named 112 21); span = place 21 22 })) (place 20 23) (place 20 23)
+    formula_operand (FormulaBracketed Point (record { kind = plain_name (named 112 21); span = place 21 22 })) (place 20 23) (place 20 23)
     no_formula_operands))) (place 14 23) (place 13 24) (
-    formula_operand (FormulaEverywhere
-    (FormulaStar (FormulaImplies FormulaPt (place 30 32) FormulaExt (place 36 39)) (place 30 39)) (place 29 41)) (place 27 41) (place 27 41)
+    formula_operand (FormulaApplied Everywhere
+    (FormulaApplied Star (FormulaImplies FormulaPt (place 30 32) FormulaExt (place 36 39)) (place 30 39)) (place 29 41)) (place 27 41) (place 27 41)
     no_formula_operands))) (place 13 41) (place 13 41)
 
 record Row : Type 0 where
@@ -88,14 +93,14 @@ abbrev rows : PlainFile → List Row
 rows file = map (λ (s : PlainStep). row s.op s.span.start s.span.end) (steps_of 1 (core_of_file file))
 
 steps_of_many_forms : rows many_forms ≡
-    row (OpAtom (BasicPoint (TruthConstant true))) 14 16
-    ∷ row (OpAtom (BasicPoint (TruthSlot 0))) 20 23
-    ∷ row (OpAnd 0 1) 14 23
+    row (OpAtom (BasicBracketed Point (TruthConstant true))) 14 16
+    ∷ row (OpAtom (BasicBracketed Point (TruthSlot 0))) 20 23
+    ∷ row (OpJoined And 0 1) 14 23
     ∷ row (OpAtom (BasicConstant true)) 27 41
-    ∷ row (OpAtom (BasicPoint (TruthConstant true))) 30 32
+    ∷ row (OpAtom (BasicBracketed Point (TruthConstant true))) 30 32
     ∷ row (OpNot 4) 30 39
-    ∷ row (OpAtom (BasicRun (TruthConstant true))) 36 39
-    ∷ row (OpOr 5 6) 30 39
+    ∷ row (OpAtom (BasicBracketed Run (TruthConstant true))) 36 39
+    ∷ row (OpJoined Or 5 6) 30 39
     ∷ row (OpStar 7) 29 41
     ∷ row (OpNot 8) 27 41
     ∷ row (OpChop 3 9) 27 41
@@ -111,7 +116,7 @@ steps_of_many_forms = refl
 -- var q; define F(a) as (ex q. [[q <=> a]]); infer F(!q);
 abbrev captures : PlainFile
 captures = file_with (named 113 4 ∷ [])
-    (formula_macro (named 70 14) (named 97 16 ∷ []) (FormulaExists (named 113 26) (FormulaEvery (prop_of (PropIff (two_props (plain_name (named 113 31)) (plain_name (named 97 37)))))) (place 0 0)) ∷ [])
+    (formula_macro (named 70 14) (named 97 16 ∷ []) (FormulaQuantified Exists (named 113 26) (FormulaBracketed Every (prop_of (PropJoined Iff (two_props (plain_name (named 113 31)) (plain_name (named 97 37)))))) (place 0 0)) ∷ [])
     (FormulaCall (named 70 49) (prop_of (PropNot (plain_name (named 113 52)) (place 0 0)) ∷ []))
 
 abbrev false_true : Word
@@ -132,7 +137,7 @@ captures_is_measured = refl
 -- ---- faults
 
 -- infer [[r]];
-name_is_unknown : fault_of_names (file_with [] [] (FormulaEvery (prop_of (plain_name (named 114 8))))) ≡ Some (Unknown 8)
+name_is_unknown : fault_of_names (file_with [] [] (FormulaBracketed Every (prop_of (plain_name (named 114 8))))) ≡ Some (Unknown 8)
 name_is_unknown = refl
 
 -- var p,p;infer pt;
@@ -150,12 +155,12 @@ parameter_takes_a_macro = refl
 
 -- define f as ex f. pt; infer pt;
 quantifier_takes_its_macro : fault_of_names (file_with []
-    (formula_macro (named 102 7) [] (FormulaExists (named 102 15) FormulaPt (place 0 0)) ∷ []) FormulaPt) ≡ Some (Taken 15)
+    (formula_macro (named 102 7) [] (FormulaQuantified Exists (named 102 15) FormulaPt (place 0 0)) ∷ []) FormulaPt) ≡ Some (Taken 15)
 quantifier_takes_its_macro = refl
 
 -- var p; define f(p) as [[p]]; infer f(p);
 parameter_hides_a_variable : fault_of_names (file_with (named 112 4 ∷ [])
-    (formula_macro (named 102 14) (named 112 16 ∷ []) (FormulaEvery (prop_of (plain_name (named 112 24)))) ∷ [])
+    (formula_macro (named 102 14) (named 112 16 ∷ []) (FormulaBracketed Every (prop_of (plain_name (named 112 24)))) ∷ [])
     (FormulaCall (named 102 35) (prop_of (plain_name (named 112 37)) ∷ []))) ≡ None
 parameter_hides_a_variable = refl
 
@@ -169,7 +174,7 @@ variable_is_no_formula = refl
 
 -- define f(a) as [[a]]; infer f;
 call_lacks_an_argument : fault_of_names (file_with []
-    (formula_macro (named 102 7) (named 97 9 ∷ []) (FormulaEvery (prop_of (plain_name (named 97 17)))) ∷ []) (FormulaCall (named 102 28) [])) ≡ Some (Arity 28)
+    (formula_macro (named 102 7) (named 97 9 ∷ []) (FormulaBracketed Every (prop_of (plain_name (named 97 17)))) ∷ []) (FormulaCall (named 102 28) [])) ≡ Some (Arity 28)
 call_lacks_an_argument = refl
 
 -- prop g(a) as a; infer g; : a formula is asked for, and that counts before the missing argument
@@ -192,7 +197,7 @@ seventeen_variables = refl
 -- ---- measures
 
 abbrev doubled : ℕ → PlainFormulaKind
-doubled name = FormulaAnd (two (FormulaCall (anywhere (name ∷ [])) []) (FormulaCall (anywhere (name ∷ [])) []))
+doubled name = FormulaJoined And (two (FormulaCall (anywhere (name ∷ [])) []) (FormulaCall (anywhere (name ∷ [])) []))
 
 -- define m0 as pt; define m1 as m0 && m0; .. , each with its number as its name
 abbrev chain : List ℕ → List PlainMacro
@@ -208,7 +213,7 @@ chain_of_14 = refl
 -- define F0(a) as pt; define F1(a) as F0(a && a); define F2(a) as F1(a && a); infer F2(p); : no argument is used
 abbrev unused : ℕ → PlainMacro
 unused n = formula_macro (anywhere (suc n ∷ [])) (named 97 0 ∷ [])
-    (FormulaCall (anywhere (n ∷ [])) (prop_of (PropAnd (two_props (plain_name (named 97 0)) (plain_name (named 97 0)))) ∷ []))
+    (FormulaCall (anywhere (n ∷ [])) (prop_of (PropJoined And (two_props (plain_name (named 97 0)) (plain_name (named 97 0)))) ∷ []))
 
 arguments_that_are_not_used : measure_of_file (file_with (named 112 0 ∷ [])
     (formula_macro (anywhere (0 ∷ [])) (named 97 0 ∷ []) FormulaPt ∷ unused 0 ∷ unused 1 ∷ [])
@@ -217,17 +222,17 @@ arguments_that_are_not_used = refl
 
 -- define F0(a) as <a>; and the rest as before: four times p, joined by three nodes, below a point
 arguments_that_are_used : measure_of_file (file_with (named 112 0 ∷ [])
-    (formula_macro (anywhere (0 ∷ [])) (named 97 0 ∷ []) (FormulaPoint (prop_of (plain_name (named 97 0)))) ∷ unused 0 ∷ unused 1 ∷ [])
+    (formula_macro (anywhere (0 ∷ [])) (named 97 0 ∷ []) (FormulaBracketed Point (prop_of (plain_name (named 97 0)))) ∷ unused 0 ∷ unused 1 ∷ [])
     (FormulaCall (anywhere (2 ∷ [])) (prop_of (plain_name (named 112 0)) ∷ []))) ≡ record { size = 8; depth = 4; quantifiers = 0 }
 arguments_that_are_used = refl
 
 -- var p; infer ex a. ex b. pt; has three slots
 slots_of_two_quantifiers : slots_of_file (file_with (named 112 4 ∷ []) []
-    (FormulaExists (named 97 0) (FormulaExists (named 98 0) FormulaPt (place 0 0)) (place 0 0))) ≡ 3
+    (FormulaQuantified Exists (named 97 0) (FormulaQuantified Exists (named 98 0) FormulaPt (place 0 0)) (place 0 0))) ≡ 3
 slots_of_two_quantifiers = refl
 
 -- [] of [] of pt: 5 and 5 and 2 nodes, 3 and 3 and 2 deep
-everywhere_twice : measure_of_file (file_with [] [] (FormulaEverywhere (FormulaEverywhere FormulaPt (place 0 0)) (place 0 0)))
+everywhere_twice : measure_of_file (file_with [] [] (FormulaApplied Everywhere (FormulaApplied Everywhere FormulaPt (place 0 0)) (place 0 0)))
     ≡ record { size = 12; depth = 8; quantifiers = 0 }
 everywhere_twice = refl
 
@@ -284,24 +289,12 @@ module _ (sight : Measured) (q : PlainPropKind) (span : Span) where
   size_of_prop_not = refl
 
   -- <P>, [P], [[P]], {{P}}
-  size_of_point : measure_of_formula sight (FormulaPoint (record { kind = q; span = span })) ≡ over_prop 1 1
-  size_of_point = refl
-
-  size_of_run : measure_of_formula sight (FormulaRun (record { kind = q; span = span })) ≡ over_prop 1 1
-  size_of_run = refl
-
-  size_of_every : measure_of_formula sight (FormulaEvery (record { kind = q; span = span })) ≡ over_prop 1 1
-  size_of_every = refl
-
-  size_of_unit : measure_of_formula sight (FormulaUnit (record { kind = q; span = span })) ≡ over_prop 1 1
-  size_of_unit = refl
+  size_of_bracketed : (bracket : Bracket) → measure_of_formula sight (FormulaBracketed bracket (record { kind = q; span = span })) ≡ over_prop 1 1
+  size_of_bracketed bracket = refl
 
   -- scount P R n, sdur P R n
-  size_of_scount : (relation : Relation) (n : Number) → measure_of_formula sight (FormulaScount (record { kind = q; span = span }) relation n) ≡ over_prop 1 1
-  size_of_scount relation n = refl
-
-  size_of_sdur : (relation : Relation) (n : Number) → measure_of_formula sight (FormulaSdur (record { kind = q; span = span }) relation n) ≡ over_prop 1 1
-  size_of_sdur relation n = refl
+  size_of_counted : (counting : Count) (relation : Relation) (n : Number) → measure_of_formula sight (FormulaCounted counting (record { kind = q; span = span }) relation n) ≡ over_prop 1 1
+  size_of_counted counting relation n = refl
 
 module _ (sight : Measured) (d : PlainFormulaKind) (span : Span) where
   abbrev over : ℕ → ℕ → Measure
@@ -310,18 +303,18 @@ module _ (sight : Measured) (d : PlainFormulaKind) (span : Span) where
       record { size = nodes + m.size; depth = deeper + m.depth; quantifiers = m.quantifiers }
 
   -- !D, D*
-  size_of_not : measure_of_formula sight (FormulaNot d span) ≡ over 1 1
+  size_of_not : measure_of_formula sight (FormulaApplied Not d span) ≡ over 1 1
   size_of_not = refl
 
-  size_of_star : measure_of_formula sight (FormulaStar d span) ≡ over 1 1
+  size_of_star : measure_of_formula sight (FormulaApplied Star d span) ≡ over 1 1
   size_of_star = refl
 
   -- <>D
-  size_of_somewhere : measure_of_formula sight (FormulaSomewhere d span) ≡ over 3 1
+  size_of_somewhere : measure_of_formula sight (FormulaApplied Somewhere d span) ≡ over 3 1
   size_of_somewhere = refl
 
   -- []D
-  size_of_everywhere : measure_of_formula sight (FormulaEverywhere d span) ≡ over 5 3
+  size_of_everywhere : measure_of_formula sight (FormulaApplied Everywhere d span) ≡ over 5 3
   size_of_everywhere = refl
 
 module _ (sight : Measured) (name : Name) (d : PlainFormulaKind) (span : Span) where
@@ -332,11 +325,11 @@ module _ (sight : Measured) (name : Name) (d : PlainFormulaKind) (span : Span) w
       record { size = nodes + m.size; depth = deeper + m.depth; quantifiers = 1 + m.quantifiers }
 
   -- ex q. D
-  size_of_exists : measure_of_formula sight (FormulaExists name d span) ≡ over_quantified 1 1
+  size_of_exists : measure_of_formula sight (FormulaQuantified Exists name d span) ≡ over_quantified 1 1
   size_of_exists = refl
 
   -- all q. D
-  size_of_for_all : measure_of_formula sight (FormulaForAll name d span) ≡ over_quantified 3 3
+  size_of_for_all : measure_of_formula sight (FormulaQuantified ForAll name d span) ≡ over_quantified 3 3
   size_of_for_all = refl
 
 -- lists of propositions of 1, 3 and 2 nodes, which are 1, 3 and 2 deep
@@ -346,14 +339,8 @@ not_p = PropNot p (place 0 0)
 abbrev not_not_p : PlainPropKind
 not_not_p = PropNot not_p (place 0 0)
 
-size_of_prop_and : measure_of_prop p_alone (PropAnd (three_props p not_not_p not_p)) ≡ sized 7 4
-size_of_prop_and = refl
-
-size_of_prop_or : measure_of_prop p_alone (PropOr (three_props p not_not_p not_p)) ≡ sized 7 4
-size_of_prop_or = refl
-
-size_of_prop_iff : measure_of_prop p_alone (PropIff (three_props p not_not_p not_p)) ≡ sized 7 4
-size_of_prop_iff = refl
+size_of_prop_joined : (connective : Connective) → measure_of_prop p_alone (PropJoined connective (three_props p not_not_p not_p)) ≡ sized 7 4
+size_of_prop_joined connective = refl
 
 -- P => Q, where the depth is that of P, and where it is that of Q
 depth_of_premise : measure_of_prop p_alone (PropImplies not_p (place 0 0) not_p (place 0 0)) ≡ sized 6 4
@@ -367,16 +354,10 @@ abbrev truth : PlainFormulaKind
 truth = FormulaConstant true
 
 abbrev somewhere_pt : PlainFormulaKind
-somewhere_pt = FormulaSomewhere FormulaPt (place 0 0)
+somewhere_pt = FormulaApplied Somewhere FormulaPt (place 0 0)
 
-size_of_and : measure_of_formula p_alone (FormulaAnd (three truth somewhere_pt FormulaPt)) ≡ sized 9 4
-size_of_and = refl
-
-size_of_or : measure_of_formula p_alone (FormulaOr (three truth somewhere_pt FormulaPt)) ≡ sized 9 4
-size_of_or = refl
-
-size_of_iff : measure_of_formula p_alone (FormulaIff (three truth somewhere_pt FormulaPt)) ≡ sized 9 4
-size_of_iff = refl
+size_of_joined : (connective : Connective) → measure_of_formula p_alone (FormulaJoined connective (three truth somewhere_pt FormulaPt)) ≡ sized 9 4
+size_of_joined connective = refl
 
 size_of_chop : measure_of_formula p_alone (FormulaChop (three truth somewhere_pt FormulaPt)) ≡ sized 9 4
 size_of_chop = refl
@@ -389,9 +370,9 @@ depth_of_right : measure_of_formula p_alone (FormulaImplies truth (place 0 0) so
 depth_of_right = refl
 
 -- quantifiers side by side take no more slots than the deepest of them, and `all` takes one
-quantifiers_side_by_side : measure_of_formula p_alone (FormulaAnd (two
-    (FormulaExists (named 97 0) (FormulaForAll (named 98 0) truth (place 0 0)) (place 0 0))
-    (FormulaForAll (named 97 0) truth (place 0 0)))) ≡ record { size = 10; depth = 6; quantifiers = 2 }
+quantifiers_side_by_side : measure_of_formula p_alone (FormulaJoined And (two
+    (FormulaQuantified Exists (named 97 0) (FormulaQuantified ForAll (named 98 0) truth (place 0 0)) (place 0 0))
+    (FormulaQuantified ForAll (named 97 0) truth (place 0 0)))) ≡ record { size = 10; depth = 6; quantifiers = 2 }
 quantifiers_side_by_side = refl
 
 -- ---- limits
@@ -407,23 +388,23 @@ goal_of_doubled n = FormulaCall (anywhere (n ∷ [])) (prop_of p ∷ [])
 -- var p; and these macros, with the goal at offset 9
 abbrev with_doubled : ℕ → PlainFormulaKind → PlainFile
 with_doubled n goal = file_of (named 112 4 ∷ [])
-    (formula_macro (anywhere (0 ∷ [])) (named 97 0 ∷ []) (FormulaPoint (prop_of (plain_name (named 97 0)))) ∷ doubling n) goal (place 9 10) (place 9 10)
+    (formula_macro (anywhere (0 ∷ [])) (named 97 0 ∷ []) (FormulaBracketed Point (prop_of (plain_name (named 97 0)))) ∷ doubling n) goal (place 9 10) (place 9 10)
 
 size_65536 : fault_of_goal (with_doubled 15 (goal_of_doubled 15)) ≡ None
 size_65536 = refl
 
-size_65537 : fault_of_goal (with_doubled 15 (FormulaNot (goal_of_doubled 15) (place 0 0))) ≡ Some (Size 9)
+size_65537 : fault_of_goal (with_doubled 15 (FormulaApplied Not (goal_of_doubled 15) (place 0 0))) ≡ Some (Size 9)
 size_65537 = refl
 
 -- `!` so many times over pt
 abbrev denied : ℕ → PlainFormulaKind
 denied zero = FormulaPt
-denied (suc n) = FormulaNot (denied n) (place 0 0)
+denied (suc n) = FormulaApplied Not (denied n) (place 0 0)
 
 -- `ex p.` so many times over pt
 abbrev quantified_times : ℕ → PlainFormulaKind
 quantified_times zero = FormulaPt
-quantified_times (suc n) = FormulaExists (named 112 0) (quantified_times n) (place 0 0)
+quantified_times (suc n) = FormulaQuantified Exists (named 112 0) (quantified_times n) (place 0 0)
 
 abbrev goal_alone : PlainFormulaKind → PlainFile
 goal_alone goal = file_of [] [] goal (place 6 8) (place 6 8)

@@ -12,8 +12,7 @@ use Rattle.dcv_scope.specs.Measures.{measure_of_file}
 use Rattle.dcv_core.specs.Steps.{without_core, steps_from, steps_of, PlainCore, Made, HasRoom}
 use Rattle.dcv_scope.specs.Expansions.{names_of, top_sight_of}
 use Rattle.dcv_scope.proofs.InSight.{with_expansions-truths}
-use Rattle.dcv_scope.proofs.Means.{goal_slots}
-use Rattle.dcv_scope.proofs.Sizes.{file_fits}
+use Rattle.dcv_scope.proofs.Fits.{goal_slots, file_fits}
 
 module _ (file : File) (k : ℕ) (names : List Binding) where
   sight_is : k ≡ length file.variables.items → names_of names ≡ declared_slots 0 file.variables.items

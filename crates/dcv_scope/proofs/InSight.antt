@@ -8,14 +8,14 @@ use Rattle.std.proofs.lemmas.List.{map-append, append_assoc, length-map}
 use Rattle.std.proofs.lemmas.Slice.Eq.{bytes_eq-Decides}
 use Rattle.dcv_syntax.specs.declared.names.Name.{Name}
 use Rattle.dcv_syntax.specs.declared.files.Macro.{Macro}
-use Rattle.dcv_syntax.specs.Plain.{PlainMacro, PlainPropKind, PropConstant, PropCall, PropNot, PropAnd, PropOr, PropImplies, PropIff, PropPrior, PropNext, PlainArguments}
+use Rattle.dcv_syntax.specs.declared.propositions.Connective.TheVariants.{Or}
+use Rattle.dcv_syntax.specs.Plain.{PlainMacro, PlainPropKind, PropConstant, PropCall, PropNot, PropJoined, PropImplies, PropShifted, PlainArguments}
 use Rattle.dcv_syntax.specs.Plain.{no_arguments, argument, PlainPropOperands, no_prop_operands, prop_operand}
 use Rattle.dcv_syntax.specs.Views.{plain_macro}
 use Rattle.dcv_logic.specs.Environment.{found}
 use Rattle.dcv_logic.specs.Newest.{IsNewest}
 use Rattle.dcv_scope.specs.declared.measures.MacroMeasure.{MacroMeasure}
-use Rattle.dcv_core.specs.declared.truths.Direction.TheVariants.{Prior, Next}
-use Rattle.dcv_core.specs.Core.{PlainTruth, TruthConstant, TruthNot, TruthAnd, TruthOr, TruthIff, TruthShift, no_truths, truth_operand}
+use Rattle.dcv_core.specs.Core.{PlainTruth, TruthConstant, TruthNot, TruthJoined, TruthShift, no_truths, truth_operand}
 use Rattle.dcv_scope.specs.CoreOf.{Sight, expansion_of, with_expansions, declared_slots, truth_of, truth_of_call}
 use Rattle.dcv_scope.specs.CoreOf.{argument_truths, operand_truths}
 use Rattle.dcv_scope.specs.Measures.{Measured, macro_measure, with_measures}
@@ -145,12 +145,9 @@ module _ (sight : Sight) (k : ℕ) where
     truth-slots (PropConstant truth) = refl
     truth-slots (PropCall name arguments) = ap (truth_of_call (found sight.truths name.text) (found sight.macros name.text)) (arguments-slots arguments)
     truth-slots (PropNot p span) = ap TruthNot (truth-slots p)
-    truth-slots (PropAnd operands) = ap TruthAnd (operands-slots operands)
-    truth-slots (PropOr operands) = ap TruthOr (operands-slots operands)
-    truth-slots (PropImplies p p_span q q_span) = λ i. TruthOr (truth_operand (TruthNot (truth-slots p i)) (truth_operand (truth-slots q i) no_truths))
-    truth-slots (PropIff operands) = ap TruthIff (operands-slots operands)
-    truth-slots (PropPrior form p span) = ap (λ truth. TruthShift Prior truth form) (truth-slots p)
-    truth-slots (PropNext form p span) = ap (λ truth. TruthShift Next truth form) (truth-slots p)
+    truth-slots (PropJoined connective operands) = ap (TruthJoined connective) (operands-slots operands)
+    truth-slots (PropImplies p p_span q q_span) = λ i. TruthJoined Or (truth_operand (TruthNot (truth-slots p i)) (truth_operand (truth-slots q i) no_truths))
+    truth-slots (PropShifted direction form p span) = ap (λ truth. TruthShift direction truth form) (truth-slots p)
 
     arguments-slots : (arguments : PlainArguments) → argument_truths (record sight { slots = k }) arguments ≡ argument_truths sight arguments
     arguments-slots no_arguments = refl

@@ -6,12 +6,13 @@ use Rattle.std.specs.Option.{option_map, unwrap_or}
 use Rattle.dcv_syntax.specs.declared.names.Name.{Name}
 use Rattle.dcv_syntax.specs.declared.propositions.Prop.{Prop}
 use Rattle.dcv_syntax.specs.declared.propositions.PropOperand.{PropOperand}
-use Rattle.dcv_syntax.specs.declared.propositions.PropKind.{Call, And, Or, Iff}
+use Rattle.dcv_syntax.specs.declared.propositions.Connective.{Connective}
+use Rattle.dcv_syntax.specs.declared.propositions.PropKind.{Call, Joined}
 use Rattle.dcv_syntax.specs.declared.formulas.FormulaOperand.{FormulaOperand}
-use Rattle.dcv_syntax.specs.declared.formulas.FormulaKind.{Call as CallFormula, And as AndFormula, Or as OrFormula, Iff as IffFormula, Chop}
+use Rattle.dcv_syntax.specs.declared.formulas.FormulaKind.{Call as CallFormula, Joined as JoinedFormula, Chop}
 use Rattle.dcv_syntax.specs.Plain.{arguments_of, prop_operands_of, formula_operands_of}
 use Rattle.dcv_syntax.specs.Views.{plain_prop_kind, plain_prop, plain_prop_operand, plain_formula_kind, plain_formula_operand}
-use Rattle.dcv_syntax.proofs.PlainRows.{plain_call, plain_prop_and, plain_prop_or, plain_prop_iff, plain_and, plain_or, plain_iff, plain_chop}
+use Rattle.dcv_syntax.proofs.PlainRows.{plain_call, plain_prop_joined, plain_joined, plain_chop}
 use Rattle.dcv_logic.specs.Environment.{found}
 use Rattle.dcv_scope.specs.declared.measures.Share.{Share}
 use Rattle.dcv_scope.specs.declared.measures.MacroMeasure.{MacroMeasure}
@@ -53,24 +54,10 @@ module _ (sight : LinearSight) where
       ap (linear_of_prop sight) (plain_call name arguments)
       ∙ ap (linear_of_name (found sight.names name.text) (found sight.macros name.text)) (arguments-list arguments.items)
 
-  pub linear-And : (operands : Vec PropOperand Global) → capped_macro (linear_of_prop sight (plain_prop_kind (And operands)))
+  pub linear-Joined : (connective : Connective) (operands : Vec PropOperand Global) → capped_macro (linear_of_prop sight (plain_prop_kind (Joined connective operands)))
       ≡ capped_macro (linear_under 1 1 0 (capped_macro (all_in_turn measured_operand (constant nothing) operands.items)))
-  linear-And operands =
-      ap (λ kind. capped_macro (linear_of_prop sight kind)) (plain_prop_and operands)
-      ∙ ap (λ all. capped_macro (linear_under 1 1 0 all)) (operands-list operands.items (constant nothing))
-      ∙ sym (under_capped 1 1 0 (all_in_turn measured_operand (constant nothing) operands.items))
-
-  pub linear-Or : (operands : Vec PropOperand Global) → capped_macro (linear_of_prop sight (plain_prop_kind (Or operands)))
-      ≡ capped_macro (linear_under 1 1 0 (capped_macro (all_in_turn measured_operand (constant nothing) operands.items)))
-  linear-Or operands =
-      ap (λ kind. capped_macro (linear_of_prop sight kind)) (plain_prop_or operands)
-      ∙ ap (λ all. capped_macro (linear_under 1 1 0 all)) (operands-list operands.items (constant nothing))
-      ∙ sym (under_capped 1 1 0 (all_in_turn measured_operand (constant nothing) operands.items))
-
-  pub linear-Iff : (operands : Vec PropOperand Global) → capped_macro (linear_of_prop sight (plain_prop_kind (Iff operands)))
-      ≡ capped_macro (linear_under 1 1 0 (capped_macro (all_in_turn measured_operand (constant nothing) operands.items)))
-  linear-Iff operands =
-      ap (λ kind. capped_macro (linear_of_prop sight kind)) (plain_prop_iff operands)
+  linear-Joined connective operands =
+      ap (λ kind. capped_macro (linear_of_prop sight kind)) (plain_prop_joined connective operands)
       ∙ ap (λ all. capped_macro (linear_under 1 1 0 all)) (operands-list operands.items (constant nothing))
       ∙ sym (under_capped 1 1 0 (all_in_turn measured_operand (constant nothing) operands.items))
 
@@ -78,24 +65,10 @@ module _ (sight : LinearSight) where
       ≡ linear_of_macro (found sight.macros name.text) (map measured arguments.items)
   formula-Call name arguments = ap (linear_of_macro (found sight.macros name.text)) (arguments-list arguments.items)
 
-  pub formula-And : (operands : Vec FormulaOperand Global) → capped_macro (linear_of_formula sight (plain_formula_kind (AndFormula operands)))
+  pub formula-Joined : (connective : Connective) (operands : Vec FormulaOperand Global) → capped_macro (linear_of_formula sight (plain_formula_kind (JoinedFormula connective operands)))
       ≡ capped_macro (linear_under 1 1 0 (capped_macro (all_in_turn measured_formula (constant nothing) operands.items)))
-  formula-And operands =
-      ap (λ kind. capped_macro (linear_of_formula sight kind)) (plain_and operands)
-      ∙ ap (λ all. capped_macro (linear_under 1 1 0 all)) (formulas-list operands.items (constant nothing))
-      ∙ sym (under_capped 1 1 0 (all_in_turn measured_formula (constant nothing) operands.items))
-
-  pub formula-Or : (operands : Vec FormulaOperand Global) → capped_macro (linear_of_formula sight (plain_formula_kind (OrFormula operands)))
-      ≡ capped_macro (linear_under 1 1 0 (capped_macro (all_in_turn measured_formula (constant nothing) operands.items)))
-  formula-Or operands =
-      ap (λ kind. capped_macro (linear_of_formula sight kind)) (plain_or operands)
-      ∙ ap (λ all. capped_macro (linear_under 1 1 0 all)) (formulas-list operands.items (constant nothing))
-      ∙ sym (under_capped 1 1 0 (all_in_turn measured_formula (constant nothing) operands.items))
-
-  pub formula-Iff : (operands : Vec FormulaOperand Global) → capped_macro (linear_of_formula sight (plain_formula_kind (IffFormula operands)))
-      ≡ capped_macro (linear_under 1 1 0 (capped_macro (all_in_turn measured_formula (constant nothing) operands.items)))
-  formula-Iff operands =
-      ap (λ kind. capped_macro (linear_of_formula sight kind)) (plain_iff operands)
+  formula-Joined connective operands =
+      ap (λ kind. capped_macro (linear_of_formula sight kind)) (plain_joined operands connective)
       ∙ ap (λ all. capped_macro (linear_under 1 1 0 all)) (formulas-list operands.items (constant nothing))
       ∙ sym (under_capped 1 1 0 (all_in_turn measured_formula (constant nothing) operands.items))
 
@@ -106,9 +79,9 @@ module _ (sight : LinearSight) where
       ∙ ap (λ all. capped_macro (linear_under 1 1 0 all)) (formulas-list operands.items (constant nothing))
       ∙ sym (under_capped 1 1 0 (all_in_turn measured_formula (constant nothing) operands.items))
 
-pub ruleset rows = (linear-Call, linear-And, linear-Or, linear-Iff, under_capped, beside_both)
+pub ruleset rows = (linear-Call, linear-Joined, under_capped, beside_both)
 
-pub ruleset formula_rows = (formula-Call, formula-And, formula-Or, formula-Iff, formula-Chop, under_capped, beside_both)
+pub ruleset formula_rows = (formula-Call, formula-Joined, formula-Chop, under_capped, beside_both)
 
 -- ---- one after another
 

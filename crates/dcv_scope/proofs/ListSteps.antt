@@ -1,23 +1,20 @@
 -- The steps of a list are made operand by operand, from the left.
-use Rattle.std.proofs.Common.{◌≡◌, ℕ, zero, suc, ◌+◌, ◌<◌, ◌≤◌, List, [], ◌∷◌, length, drop, refl, ap, subst, arith}
+use Rattle.std.proofs.Common.{◌≡◌, ℕ, zero, suc, ◌+◌, ◌<◌, ◌≤◌, List, [], ◌∷◌, Option, Some, None, length, drop, refl, ap, subst, arith}
 use Rattle.dcv_syntax.specs.declared.names.Span.{Span}
 use Rattle.dcv_syntax.specs.declared.formulas.FormulaOperand.{FormulaOperand}
 use Rattle.dcv_syntax.specs.Spans.{covering}
 use Rattle.dcv_syntax.specs.Plain.{PlainFormulaOperands, no_formula_operands, formula_operand}
 use Rattle.dcv_syntax.specs.Views.{plain_formula_kind}
-use Rattle.dcv_scope.specs.declared.expansion.Join.{Join}
-use Rattle.dcv_scope.specs.declared.expansion.Join.TheVariants.{And, Or, Iff, Chop}
+use Rattle.dcv_syntax.specs.declared.propositions.Connective.{Connective}
 use Rattle.dcv_core.specs.Core.{PlainBasic, CoreTree}
 use Rattle.dcv_scope.specs.CoreOf.{Sight, core_of, joined, list_core}
 use Rattle.dcv_core.specs.Steps.{PlainOp, steps_before, nesting, PlainCore, Pushed, Made, HasRoom}
 use Rattle.dcv_scope.specs.Expansions.{join_of, join_op, operands_of}
-use Rattle.dcv_core.proofs.MadeSteps.{IsTwo, and_is_two, or_is_two, iff_is_two, chop_is_two, made_length}
+use Rattle.dcv_core.proofs.MadeSteps.{IsTwo, joined_is_two, chop_is_two, made_length}
 
-pub join_is_two : (j : Join) → IsTwo (join_of j) (join_op j)
-join_is_two And = and_is_two
-join_is_two Or = or_is_two
-join_is_two Iff = iff_is_two
-join_is_two Chop = chop_is_two
+pub join_is_two : (connective : Option Connective) → IsTwo (join_of connective) (join_op connective)
+join_is_two (Some connective) = joined_is_two connective
+join_is_two None = chop_is_two
 
 -- a part is no larger than the whole
 record Grows (part whole : CoreTree) : Type 0 where

@@ -22,10 +22,6 @@ found-append (x ∷ xs) ys name = here_or_later (bytes_eq x.0 name) (found-appen
     here_or_later true later = refl
     here_or_later false later = later
 
-option_map-or : (f : MacroMeasure → MacroMeasure) (a b : Option MacroMeasure) → option_map f (option_or a b) ≡ option_or (option_map f a) (option_map f b)
-option_map-or f None b = refl
-option_map-or f (Some a) b = refl
-
 pub found_in_turn : (xs ys zs : List (List ℕ × MacroMeasure)) (name : List ℕ) → option_map capped_macro (found (xs ++ (ys ++ zs)) name)
     ≡ option_or (option_or (option_map capped_macro (found xs name)) (option_map capped_macro (found ys name))) (option_map capped_macro (found zs name))
 found_in_turn xs ys zs name =

@@ -26,45 +26,47 @@ use Rattle.dcv_scope.specs.Walk.{LinearSight, constant, argument_at, linear_of_m
 use Rattle.dcv_scope.specs.Walk.{macro_too, with_linears, linears_of, linear_of_body, leaves, quantified_leaves, declared_alone, linear_measures}
 use Rattle.dcv_scope.proofs.Linearity.{at-constant, at-argument, at-linear, values, not_used, own_measure}
 use Rattle.dcv_scope.proofs.MeasuredText.{body_agrees, formula_agrees}
+use Rattle.dcv_scope.proofs.Matching.{Both, Matched, found_both}
 use Rattle.dcv_scope.proofs.NameRows.{first_fault-append}
 
 -- ---- what is in sight outside macros
 
-abbrev MacroAgrees : Option MacroMeasure → Option (List Measure → Measure) → Type 0
-MacroAgrees None None = Unit {0}
-MacroAgrees None (Some f) = ⊥
-MacroAgrees (Some m) None = ⊥
-MacroAgrees (Some m) (Some f) = (arguments : List Measure) → f arguments ≡ measure_at m arguments
+abbrev MacroAgrees : MacroMeasure → (List Measure → Measure) → Type 0
+MacroAgrees m f = (arguments : List Measure) → f arguments ≡ measure_at m arguments
 
-abbrev NameAgrees : Option MacroMeasure → Option Measure → Type 0
-NameAgrees None None = Unit {0}
-NameAgrees None (Some x) = ⊥
-NameAgrees (Some m) None = ⊥
-NameAgrees (Some m) (Some x) = (m ≡ constant leaf) × (x ≡ leaf)
+abbrev NameAgrees : MacroMeasure → Measure → Type 0
+NameAgrees m x = (m ≡ constant leaf) × (x ≡ leaf)
 
 record Level (sight : LinearSight) (measured : Measured) : Type 0 where
-  names : (name : List ℕ) → NameAgrees (found sight.names name) (found measured.names name)
-  macros : (name : List ℕ) → MacroAgrees (found sight.macros name) (found measured.macros name)
+  names : Matched NameAgrees sight.names measured.names
+  macros : Matched MacroAgrees sight.macros measured.macros
 
-macro_at : (outer : List Measure) (m : Option MacroMeasure) (f : Option (List Measure → Measure)) (arguments : List MacroMeasure) → MacroAgrees m f
+macro_at : (outer : List Measure) (m : Option MacroMeasure) (f : Option (List Measure → Measure)) (arguments : List MacroMeasure) → Both MacroAgrees m f
     → measure_at (linear_of_macro m arguments) outer ≡ measure_of_macro f (values outer arguments)
 macro_at outer None None arguments a = at-constant leaf outer
-macro_at outer None (Some f) arguments a = absurd a
-macro_at outer (Some m) None arguments a = absurd a
 macro_at outer (Some m) (Some f) arguments a = at-linear outer m arguments ∙ sym (a (values outer arguments))
+macro_at outer _ _ arguments a = absurd a
 
 name_at : (outer : List Measure) (n : Option MacroMeasure) (x : Option Measure) (m : Option MacroMeasure) (f : Option (List Measure → Measure)) (arguments : List MacroMeasure)
-    → NameAgrees n x → MacroAgrees m f → measure_at (linear_of_name n m arguments) outer ≡ measure_of_name x f (values outer arguments)
+    → Both NameAgrees n x → Both MacroAgrees m f → measure_at (linear_of_name n m arguments) outer ≡ measure_of_name x f (values outer arguments)
 name_at outer None None m f arguments n a = macro_at outer m f arguments a
-name_at outer None (Some x) m f arguments n a = absurd n
-name_at outer (Some y) None m f arguments n a = absurd n
 name_at outer (Some y) (Some x) m f arguments n a = ap (λ k. measure_at k outer) n.0 ∙ at-constant leaf outer ∙ sym n.1
+name_at outer _ _ m f arguments n a = absurd n
 
-leaf_at : (n : Option MacroMeasure) (x : Option Measure) (f : Option (List Measure → Measure)) (arguments : List Measure) → NameAgrees n x → f ≡ None → measure_of_name x f arguments ≡ leaf
+leaf_at : (n : Option MacroMeasure) (x : Option Measure) (f : Option (List Measure → Measure)) (arguments : List Measure) → Both NameAgrees n x → f ≡ None → measure_of_name x f arguments ≡ leaf
 leaf_at None None f arguments n none = ap (λ g. measure_of_macro g arguments) none
-leaf_at None (Some x) f arguments n none = absurd n
-leaf_at (Some y) None f arguments n none = absurd n
 leaf_at (Some y) (Some x) f arguments n none = n.1
+leaf_at _ _ f arguments n none = absurd n
+
+module _ (outer : List Measure) (sight : LinearSight) (measured : Measured) (level : Level sight measured) (name : List ℕ) (arguments : List MacroMeasure) where
+  macro_level : measure_at (linear_of_macro (found sight.macros name) arguments) outer ≡ measure_of_macro (found measured.macros name) (values outer arguments)
+  macro_level = macro_at outer (found sight.macros name) (found measured.macros name) arguments (found_both MacroAgrees sight.macros measured.macros name level.macros)
+
+  name_level : measure_at (linear_of_name (found sight.names name) (found sight.macros name) arguments) outer
+      ≡ measure_of_name (found measured.names name) (found measured.macros name) (values outer arguments)
+  name_level =
+      name_at outer (found sight.names name) (found measured.names name) (found sight.macros name) (found measured.macros name) arguments
+      (found_both NameAgrees sight.names measured.names name level.names) (found_both MacroAgrees sight.macros measured.macros name level.macros)
 
 -- ---- parameters
 
@@ -110,11 +112,12 @@ module _ (outer : List Measure) (sight : LinearSight) (measured : Measured) (lev
   parameter_agrees : (ps : List Name) (rest : List Measure) (j : ℕ) → rest ≡ drop j outer → j + length ps ≤ 8 → Free ps
       → measure_at (linear_of_name (found (parameters_from j ps ++ sight.names) name) (found sight.macros name) arguments) outer
       ≡ measure_of_name (found (zip (names_of ps) rest ++ measured.names) name) (found measured.macros name) (values outer arguments)
-  parameter_agrees [] rest j is few free = name_at outer (found sight.names name) (found measured.names name) (found sight.macros name) (found measured.macros name) arguments (level.names name) (level.macros name)
+  parameter_agrees [] rest j is few free = name_level outer sight measured level name arguments
   parameter_agrees (p ∷ ps) [] j is few free =
       let later = parameter_agrees ps [] (j + 1) (ap later_measures is ∙ later-drop outer j) (omega (arith, few)) free.1 in
       parameter-here j leaf (bytes_eq p.text name) (found (parameters_from (j + 1) ps ++ sight.names) name) (found measured.names name) (omega (arith, few)) (sym (ap first_measure is))
-      (λ here. leaf_at (found sight.names name) (found measured.names name) (found measured.macros name) (values outer arguments) (level.names name) (free.0 here))
+      (λ here. leaf_at (found sight.names name) (found measured.names name) (found measured.macros name) (values outer arguments)
+      (found_both NameAgrees sight.names measured.names name level.names) (free.0 here))
       (λ there. later ∙ ap (λ z. measure_of_name (found (z ++ measured.names) name) (found measured.macros name) (values outer arguments)) (zip-nothing (names_of ps)))
   parameter_agrees (p ∷ ps) (x ∷ rest) j is few free =
       let later = parameter_agrees ps rest (j + 1) (ap later_measures is ∙ later-drop outer j) (omega (arith, few)) free.1 in
@@ -181,7 +184,7 @@ module _ (sight : InSight) (measured : Measured) (known : Known sight measured) 
       let right = parameters_right sight m.name.text m.parameters [] (omega arith) list.1 in
       sym (body_agrees outer m.body _ _ (record {
         names = λ name arguments. parameter_agrees outer linear measured level name arguments m.parameters outer 0 refl right.0 (all_free m.parameters name arguments right.1);
-        macros = λ name arguments. macro_at outer (found linear.macros name) (found measured.macros name) arguments (level.macros name);
+        macros = macro_level outer linear measured level;
       }))
 
 stands-last : (xs : List (List ℕ × Signature)) (x : List ℕ × Signature) (name : List ℕ) → stands_in name (map (λ (m : List ℕ × Signature). m.0) (xs ++ x ∷ [])) ≡ false
@@ -196,11 +199,6 @@ stands-last (y ∷ xs) x name e =
     neither true b e f = absurd (cc)
     neither false b e f = f
 
-new_or_old : (here : Bool) (m : MacroMeasure) (f : List Measure → Measure) (old : Option MacroMeasure) (was : Option (List Measure → Measure))
-    → ((arguments : List Measure) → f arguments ≡ measure_at m arguments) → MacroAgrees old was → MacroAgrees (cond here (Some m) old) (cond here (Some f) was)
-new_or_old true m f old was now a = now
-new_or_old false m f old was now a = a
-
 none_there : (here : Bool) (f : List Measure → Measure) (was : Option (List Measure → Measure)) → here ≡ false → was ≡ None → cond here (Some f) was ≡ None
 none_there true f was there none = absurd (cc)
 none_there false f was there none = none
@@ -214,10 +212,7 @@ macros_agree (m ∷ macros) goal sight linear measured known level none =
     let now : (arguments : List Measure) → macro_measure measured m arguments ≡ measure_at (linear_of linear m) arguments =
     λ arguments. macro_agrees sight measured known linear level arguments m apart.0 in
     let with_it : Measured = record measured { macros = (m.name.text, macro_measure measured m) ∷ measured.macros } in
-    let further : Level (macro_too linear m) with_it = record {
-      names = level.names;
-      macros = λ name. new_or_old (bytes_eq m.name.text name) (linear_of linear m) (macro_measure measured m) (found linear.macros name) (found measured.macros name) now (level.macros name);
-    } in
+    let further : Level (macro_too linear m) with_it = record { names = level.names; macros = (refl, (now, level.macros)) } in
     let known_further : Known (behind_macro sight m) with_it =
     λ name not. let last = stands-last sight.macros (macro_in_sight m) name not in none_there (bytes_eq m.name.text name) (macro_measure measured m) (found measured.macros name) last.1 (known name last.0) in
     let later = macros_agree macros goal (behind_macro sight m) (macro_too linear m) with_it known_further further apart.1 in
@@ -231,13 +226,9 @@ macros_agree (m ∷ macros) goal sight linear measured known level none =
 
 -- ---- files
 
-declared_agree : (names : List Name) (name : List ℕ) → NameAgrees (found (leaves names) name) (found (variables_alone names).names name)
-declared_agree [] name = tt
-declared_agree (n ∷ names) name = here (bytes_eq n.text name) (found (leaves names) name) (found (variables_alone names).names name) (declared_agree names name)
-  where
-    here : (b : Bool) (old : Option MacroMeasure) (was : Option Measure) → NameAgrees old was → NameAgrees (cond b (Some (constant leaf)) old) (cond b (Some leaf) was)
-    here true old was a = (refl, refl)
-    here false old was a = a
+declared_agree : (names : List Name) → Matched NameAgrees (leaves names) (variables_alone names).names
+declared_agree [] = tt
+declared_agree (n ∷ names) = (refl, ((refl, refl), declared_agree names))
 
 all_agree : (file : PlainFile) → fault_of_names file ≡ None
     → AreMeasuresOf (variables_alone file.variables) file.macros (linear_measures file.variables file.macros)
@@ -246,7 +237,7 @@ all_agree file none =
     let outside : InSight = record nothing_in_sight { variables = texts file.variables } in
     let apart = append-none (occurrences_in_list Declared nothing_in_sight [] file.variables) (occurrences_from outside file.macros file.goal.formula.kind) none in
     macros_agree file.macros file.goal.formula.kind outside (declared_alone file.variables) (variables_alone file.variables) (λ name not. refl)
-    (record { names = declared_agree file.variables; macros = λ name. tt }) apart.1
+    (record { names = declared_agree file.variables; macros = tt }) apart.1
 
 pub macros_measured : (file : PlainFile) → fault_of_names file ≡ None → AreMeasuresOf (variables_alone file.variables) file.macros (linear_measures file.variables file.macros)
 macros_measured file none = (all_agree file none).0
@@ -265,10 +256,7 @@ goal_measured file none outer =
     let same : (let s : LinearSight = record { names = leaves file.variables; macros = sight.macros } in s) ≡ sight =
     λ i. record { names = sym (names_stay (declared_alone file.variables) file.macros) i; macros = sight.macros } in
     ap (λ s. measure_at (linear_of_formula s file.goal.formula.kind) outer) same
-    ∙ formula_agrees outer file.goal.formula.kind sight measured (record {
-      names = λ name arguments. name_at outer (found sight.names name) (found measured.names name) (found sight.macros name) (found measured.macros name) arguments (level.names name) (level.macros name);
-      macros = λ name arguments. macro_at outer (found sight.macros name) (found measured.macros name) arguments (level.macros name);
-    })
+    ∙ formula_agrees outer file.goal.formula.kind sight measured (record { names = name_level outer sight measured level; macros = macro_level outer sight measured level })
 
 -- ---- what the walk has in sight
 

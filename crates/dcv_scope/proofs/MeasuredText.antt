@@ -1,17 +1,15 @@
 -- Linear measures of a text, at arguments, are the measures of the text.
 use Rattle.std.proofs.Common.{◌≡◌, ℕ, Bool, true, false, cond, List, ◌∷◌, Option, Some, refl, sym, ap, ◌∙◌}
 use Rattle.std.specs.Prelude.{bytes_eq}
-use Rattle.dcv_syntax.specs.Plain.{PlainPropKind, PropConstant, PropCall, PropNot, PropAnd, PropOr, PropImplies, PropIff, PropPrior, PropNext, PlainArguments}
-use Rattle.dcv_syntax.specs.Plain.{no_arguments, argument, PlainPropOperands, no_prop_operands, prop_operand, PlainFormulaKind, FormulaConstant}
-use Rattle.dcv_syntax.specs.Plain.{FormulaPt, FormulaExt, FormulaPoint, FormulaRun, FormulaEvery, FormulaUnit, FormulaSlen, FormulaScount}
-use Rattle.dcv_syntax.specs.Plain.{FormulaSdur, FormulaCall, FormulaNot, FormulaAnd, FormulaOr, FormulaImplies, FormulaIff, FormulaChop, FormulaStar}
-use Rattle.dcv_syntax.specs.Plain.{FormulaSomewhere, FormulaEverywhere, FormulaExists, FormulaForAll, PlainFormulaOperands, no_formula_operands}
-use Rattle.dcv_syntax.specs.Plain.{formula_operand, arguments_of, PlainMacroBody, FormulaBody, PropBody}
+use Rattle.dcv_syntax.specs.Plain.{PlainPropKind, PropConstant, PropCall, PropNot, PropJoined, PropImplies, PropShifted, PlainArguments, no_arguments, argument}
+use Rattle.dcv_syntax.specs.Plain.{PlainPropOperands, no_prop_operands, prop_operand, PlainFormulaKind, FormulaConstant, FormulaPt, FormulaExt, FormulaBracketed}
+use Rattle.dcv_syntax.specs.Plain.{FormulaSlen, FormulaCounted, FormulaCall, FormulaApplied, FormulaJoined, FormulaImplies, FormulaChop, FormulaQuantified}
+use Rattle.dcv_syntax.specs.Plain.{PlainFormulaOperands, no_formula_operands, formula_operand, arguments_of, PlainMacroBody, FormulaBody, PropBody}
 use Rattle.dcv_logic.specs.Environment.{found}
 use Rattle.dcv_scope.specs.declared.measures.MacroMeasure.{MacroMeasure}
 use Rattle.dcv_scope.specs.Measures.{Measure, leaf, nothing, beside, Measured, measure_of_macro, measure_of_name, measure_of_prop}
 use Rattle.dcv_scope.specs.Measures.{measures_of_arguments, measure_of_prop_operands, name_in_sight, measure_of_formula, measure_of_operands}
-use Rattle.dcv_scope.specs.Measures.{measure_of_body}
+use Rattle.dcv_scope.specs.Measures.{unary_nodes, unary_depth, quantifier_nodes, measure_of_body}
 use Rattle.dcv_scope.specs.Linear.{measure_at}
 use Rattle.dcv_scope.specs.Walk.{LinearSight, constant, linear_beside, linear_under, linear_of_macro, linear_of_name, linear_of_prop}
 use Rattle.dcv_scope.specs.Walk.{linear_of_arguments, linear_of_prop_operands, name_too, linear_of_formula, linear_of_operands, linear_of_body}
@@ -42,14 +40,12 @@ module _ (outer : List Measure) (sight : LinearSight) (measured : Measured) (agr
         agree.names name.text (linear_of_arguments sight arguments)
         ∙ ap (measure_of_name (found measured.names name.text) (found measured.macros name.text)) (arguments_agree arguments)
     prop_agrees (PropNot p span) = under_at 1 1 (linear_of_prop sight p) outer (measure_of_prop measured p) (prop_agrees p)
-    prop_agrees (PropAnd operands) = under_at 1 1 _ outer _ (prop_operands_agree operands (constant nothing) ∙ from_nothing outer (measure_of_prop_operands measured operands))
-    prop_agrees (PropOr operands) = under_at 1 1 _ outer _ (prop_operands_agree operands (constant nothing) ∙ from_nothing outer (measure_of_prop_operands measured operands))
+    prop_agrees (PropJoined connective operands) =
+        under_at 1 1 _ outer _ (prop_operands_agree operands (constant nothing) ∙ from_nothing outer (measure_of_prop_operands measured operands))
     prop_agrees (PropImplies p p_span q q_span) =
         let refuted = under_at 1 1 (linear_of_prop sight p) outer (measure_of_prop measured p) (prop_agrees p) in
         under_at 1 1 _ outer _ (at-beside (linear_under 1 1 0 (linear_of_prop sight p)) (linear_of_prop sight q) outer ∙ (λ i. beside (refuted i) (prop_agrees q i)))
-    prop_agrees (PropIff operands) = under_at 1 1 _ outer _ (prop_operands_agree operands (constant nothing) ∙ from_nothing outer (measure_of_prop_operands measured operands))
-    prop_agrees (PropPrior form p span) = under_at 1 1 (linear_of_prop sight p) outer (measure_of_prop measured p) (prop_agrees p)
-    prop_agrees (PropNext form p span) = under_at 1 1 (linear_of_prop sight p) outer (measure_of_prop measured p) (prop_agrees p)
+    prop_agrees (PropShifted direction form p span) = under_at 1 1 (linear_of_prop sight p) outer (measure_of_prop measured p) (prop_agrees p)
 
     pub arguments_agree : (arguments : PlainArguments) → values outer (linear_of_arguments sight arguments) ≡ measures_of_arguments measured arguments
     arguments_agree no_arguments = refl
@@ -83,40 +79,24 @@ module _ (outer : List Measure) where
     formula_agrees (FormulaConstant truth) sight measured agree = at-constant leaf outer
     formula_agrees FormulaPt sight measured agree = under_at 1 1 (constant leaf) outer leaf (at-constant leaf outer)
     formula_agrees FormulaExt sight measured agree = under_at 1 1 (constant leaf) outer leaf (at-constant leaf outer)
-    formula_agrees (FormulaPoint p) sight measured agree = under_at 1 1 _ outer _ (prop_agrees outer sight measured agree p.kind)
-    formula_agrees (FormulaRun p) sight measured agree = under_at 1 1 _ outer _ (prop_agrees outer sight measured agree p.kind)
-    formula_agrees (FormulaEvery p) sight measured agree = under_at 1 1 _ outer _ (prop_agrees outer sight measured agree p.kind)
-    formula_agrees (FormulaUnit p) sight measured agree = under_at 1 1 _ outer _ (prop_agrees outer sight measured agree p.kind)
+    formula_agrees (FormulaBracketed bracket p) sight measured agree = under_at 1 1 _ outer _ (prop_agrees outer sight measured agree p.kind)
     formula_agrees (FormulaSlen relation n) sight measured agree = at-constant leaf outer
-    formula_agrees (FormulaScount p relation n) sight measured agree = under_at 1 1 _ outer _ (prop_agrees outer sight measured agree p.kind)
-    formula_agrees (FormulaSdur p relation n) sight measured agree = under_at 1 1 _ outer _ (prop_agrees outer sight measured agree p.kind)
+    formula_agrees (FormulaCounted counting p relation n) sight measured agree = under_at 1 1 _ outer _ (prop_agrees outer sight measured agree p.kind)
     formula_agrees (FormulaCall name arguments) sight measured agree =
         agree.macros name.text (linear_of_arguments sight (arguments_of arguments))
         ∙ ap (measure_of_macro (found measured.macros name.text)) (arguments_agree outer sight measured agree (arguments_of arguments))
-    formula_agrees (FormulaNot d span) sight measured agree = under_at 1 1 _ outer _ (formula_agrees d sight measured agree)
-    formula_agrees (FormulaAnd operands) sight measured agree = under_at 1 1 _ outer _ (list_agrees operands sight measured agree)
-    formula_agrees (FormulaOr operands) sight measured agree = under_at 1 1 _ outer _ (list_agrees operands sight measured agree)
+    formula_agrees (FormulaApplied unary d span) sight measured agree = under_at (unary_nodes unary) (unary_depth unary) _ outer _ (formula_agrees d sight measured agree)
+    formula_agrees (FormulaJoined connective operands) sight measured agree =
+        under_at 1 1 _ outer _ (operands_agree operands (constant nothing) sight measured agree ∙ from_nothing outer (measure_of_operands measured operands))
     formula_agrees (FormulaImplies c c_span d d_span) sight measured agree =
         let refuted = under_at 1 1 (linear_of_formula sight c) outer (measure_of_formula measured c) (formula_agrees c sight measured agree) in
         let conclusion = formula_agrees d sight measured agree in
         under_at 1 1 _ outer _ (at-beside (linear_under 1 1 0 (linear_of_formula sight c)) (linear_of_formula sight d) outer ∙ (λ i. beside (refuted i) (conclusion i)))
-    formula_agrees (FormulaIff operands) sight measured agree = under_at 1 1 _ outer _ (list_agrees operands sight measured agree)
-    formula_agrees (FormulaChop operands) sight measured agree = under_at 1 1 _ outer _ (list_agrees operands sight measured agree)
-    formula_agrees (FormulaStar d span) sight measured agree = under_at 1 1 _ outer _ (formula_agrees d sight measured agree)
-    formula_agrees (FormulaSomewhere d span) sight measured agree = under_at 3 1 _ outer _ (formula_agrees d sight measured agree)
-    formula_agrees (FormulaEverywhere d span) sight measured agree = under_at 5 3 _ outer _ (formula_agrees d sight measured agree)
-    formula_agrees (FormulaExists name d span) sight measured agree =
-        quantified_at 1 1 _ outer _ (formula_agrees d (name_too sight name.text) (name_in_sight measured name.text) (name_agrees outer sight measured name.text agree))
-    formula_agrees (FormulaForAll name d span) sight measured agree =
-        quantified_at 3 3 _ outer _ (formula_agrees d (name_too sight name.text) (name_in_sight measured name.text) (name_agrees outer sight measured name.text agree))
-
-    list_agrees : (operands : PlainFormulaOperands) (sight : LinearSight) (measured : Measured) → Agree outer sight measured
-        → measure_at (linear_of_operands sight (constant nothing) operands) outer ≡ measure_of_operands measured operands
-    list_agrees no_formula_operands sight measured agree = at-constant nothing outer
-    list_agrees (formula_operand d span own operands) sight measured agree =
-        operands_agree operands (linear_beside (constant nothing) (linear_of_formula sight d)) sight measured agree
-        ∙ in_turn (constant nothing) (linear_of_formula sight d) outer (measure_of_formula measured d) (measure_of_operands measured operands) (formula_agrees d sight measured agree)
-        ∙ from_nothing outer (measure_of_operands measured (formula_operand d span own operands))
+    formula_agrees (FormulaChop operands) sight measured agree =
+        under_at 1 1 _ outer _ (operands_agree operands (constant nothing) sight measured agree ∙ from_nothing outer (measure_of_operands measured operands))
+    formula_agrees (FormulaQuantified quantifier name d span) sight measured agree =
+        quantified_at (quantifier_nodes quantifier) (quantifier_nodes quantifier) _ outer _
+        (formula_agrees d (name_too sight name.text) (name_in_sight measured name.text) (name_agrees outer sight measured name.text agree))
 
     operands_agree : (operands : PlainFormulaOperands) (before : MacroMeasure) (sight : LinearSight) (measured : Measured) → Agree outer sight measured
         → measure_at (linear_of_operands sight before operands) outer ≡ beside (measure_at before outer) (measure_of_operands measured operands)

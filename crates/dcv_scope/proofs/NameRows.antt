@@ -8,12 +8,13 @@ use Rattle.dcv_syntax.specs.declared.files.Macro.{Macro}
 use Rattle.dcv_syntax.specs.declared.files.File.{File}
 use Rattle.dcv_syntax.specs.declared.propositions.Prop.{Prop}
 use Rattle.dcv_syntax.specs.declared.propositions.PropOperand.{PropOperand}
-use Rattle.dcv_syntax.specs.declared.propositions.PropKind.{Call, And, Or, Iff}
+use Rattle.dcv_syntax.specs.declared.propositions.Connective.{Connective}
+use Rattle.dcv_syntax.specs.declared.propositions.PropKind.{Call, Joined}
 use Rattle.dcv_syntax.specs.declared.formulas.FormulaOperand.{FormulaOperand}
-use Rattle.dcv_syntax.specs.declared.formulas.FormulaKind.{Call as CallFormula, And as AndFormula, Or as OrFormula, Iff as IffFormula, Chop}
+use Rattle.dcv_syntax.specs.declared.formulas.FormulaKind.{Call as CallFormula, Joined as JoinedFormula, Chop}
 use Rattle.dcv_syntax.specs.Plain.{PlainMacro, PlainFormulaKind, arguments_of, prop_operands_of, formula_operands_of}
 use Rattle.dcv_syntax.specs.Views.{plain_prop_kind, plain_prop, plain_prop_operand, plain_formula_kind, plain_formula_operand, plain_macro, plain_file}
-use Rattle.dcv_syntax.proofs.PlainRows.{plain_call, plain_prop_and, plain_prop_or, plain_prop_iff, plain_and, plain_or, plain_iff, plain_chop}
+use Rattle.dcv_syntax.proofs.PlainRows.{plain_call, plain_prop_joined, plain_joined, plain_chop}
 use Rattle.dcv_scope.specs.declared.faults.ScopeFault.{ScopeFault}
 use Rattle.dcv_scope.specs.Names.{InSight, Occurrence, Role, Declared, Parameter, Defined, texts, nothing_in_sight, macro_in_sight, behind_macro, occurrences_in_macro, occurrences_in_body, occurrences_from, fault_of_names, occurrences_in_list, AtFormula, AtProposition, occurs, fault_at, count_arguments, occurrences_in_prop, occurrences_in_arguments, occurrences_in_prop_operands, occurrences_in_formula, occurrences_in_operands, first_fault}
 use Rattle.dcv_scope.specs.Sights.{first_of, top_sight, faults_of_macros}
@@ -63,38 +64,25 @@ module _ (sight : InSight) where
       ap (λ kind. first_fault (occurrences_in_prop sight kind)) (plain_call name arguments)
       ∙ (λ i. option_or (fault_at (occurs name (AtProposition (count_arguments-list arguments.items i)) sight)) (arguments-list arguments.items i))
 
-  pub names-And : (operands : Vec PropOperand Global) → first_fault (occurrences_in_prop sight (plain_prop_kind (And operands)))
+  pub names-Joined : (connective : Connective) (operands : Vec PropOperand Global) → first_fault (occurrences_in_prop sight (plain_prop_kind (Joined connective operands)))
       ≡ first_of (λ (o : PropOperand). first_fault (occurrences_in_prop sight (plain_prop_kind o.prop.kind))) operands.items
-  names-And operands = ap (λ kind. first_fault (occurrences_in_prop sight kind)) (plain_prop_and operands) ∙ operands-list operands.items
-
-  pub names-Or : (operands : Vec PropOperand Global) → first_fault (occurrences_in_prop sight (plain_prop_kind (Or operands)))
-      ≡ first_of (λ (o : PropOperand). first_fault (occurrences_in_prop sight (plain_prop_kind o.prop.kind))) operands.items
-  names-Or operands = ap (λ kind. first_fault (occurrences_in_prop sight kind)) (plain_prop_or operands) ∙ operands-list operands.items
-
-  pub names-Iff : (operands : Vec PropOperand Global) → first_fault (occurrences_in_prop sight (plain_prop_kind (Iff operands)))
-      ≡ first_of (λ (o : PropOperand). first_fault (occurrences_in_prop sight (plain_prop_kind o.prop.kind))) operands.items
-  names-Iff operands = ap (λ kind. first_fault (occurrences_in_prop sight kind)) (plain_prop_iff operands) ∙ operands-list operands.items
+  names-Joined connective operands = ap (λ kind. first_fault (occurrences_in_prop sight kind)) (plain_prop_joined connective operands) ∙ operands-list operands.items
 
   pub formula-Call : (name : Name) (arguments : Vec Prop Global) → first_fault (occurrences_in_formula sight (plain_formula_kind (CallFormula name arguments)))
       ≡ option_or (fault_at (occurs name (AtFormula (length arguments.items)) sight)) (first_of fault_in arguments.items)
   formula-Call name arguments =
       (λ i. option_or (fault_at (occurs name (AtFormula (length-map arguments.items plain_prop i)) sight)) (arguments-list arguments.items i))
 
-  pub formula-And : (operands : Vec FormulaOperand Global) → first_fault (occurrences_in_formula sight (plain_formula_kind (AndFormula operands))) ≡ first_of fault_in_formula operands.items
-  formula-And operands = ap (λ kind. first_fault (occurrences_in_formula sight kind)) (plain_and operands) ∙ formulas-list operands.items
-
-  pub formula-Or : (operands : Vec FormulaOperand Global) → first_fault (occurrences_in_formula sight (plain_formula_kind (OrFormula operands))) ≡ first_of fault_in_formula operands.items
-  formula-Or operands = ap (λ kind. first_fault (occurrences_in_formula sight kind)) (plain_or operands) ∙ formulas-list operands.items
-
-  pub formula-Iff : (operands : Vec FormulaOperand Global) → first_fault (occurrences_in_formula sight (plain_formula_kind (IffFormula operands))) ≡ first_of fault_in_formula operands.items
-  formula-Iff operands = ap (λ kind. first_fault (occurrences_in_formula sight kind)) (plain_iff operands) ∙ formulas-list operands.items
+  pub formula-Joined : (connective : Connective) (operands : Vec FormulaOperand Global)
+      → first_fault (occurrences_in_formula sight (plain_formula_kind (JoinedFormula connective operands))) ≡ first_of fault_in_formula operands.items
+  formula-Joined connective operands = ap (λ kind. first_fault (occurrences_in_formula sight kind)) (plain_joined operands connective) ∙ formulas-list operands.items
 
   pub formula-Chop : (operands : Vec FormulaOperand Global) → first_fault (occurrences_in_formula sight (plain_formula_kind (Chop operands))) ≡ first_of fault_in_formula operands.items
   formula-Chop operands = ap (λ kind. first_fault (occurrences_in_formula sight kind)) (plain_chop operands) ∙ formulas-list operands.items
 
-pub ruleset rows = (names-Call, names-And, names-Or, names-Iff, first_fault-append)
+pub ruleset rows = (names-Call, names-Joined, first_fault-append)
 
-pub ruleset formula_rows = (formula-Call, formula-And, formula-Or, formula-Iff, formula-Chop, first_fault-append)
+pub ruleset formula_rows = (formula-Call, formula-Joined, formula-Chop, first_fault-append)
 
 -- ---- lists of names, one after another
 

@@ -1,21 +1,20 @@
 -- The definitions go along the operands of a plain tree, and the code along the list of them: they agree.
-use Rattle.std.proofs.Common.{◌≡◌, List, [], ◌∷◌, Vec, Global, map, refl, ap, ◌∙◌}
+use Rattle.std.proofs.Common.{◌≡◌, List, [], ◌∷◌, Option, Some, None, Vec, Global, map, refl, ap, ◌∙◌}
 use Rattle.dcv_syntax.specs.declared.names.Name.{Name}
 use Rattle.dcv_syntax.specs.declared.names.Span.{Span}
 use Rattle.dcv_syntax.specs.declared.propositions.Prop.{Prop}
 use Rattle.dcv_syntax.specs.declared.propositions.PropOperand.{PropOperand}
-use Rattle.dcv_syntax.specs.declared.propositions.PropKind.{Call, And, Or, Iff}
+use Rattle.dcv_syntax.specs.declared.propositions.Connective.{Connective}
+use Rattle.dcv_syntax.specs.declared.propositions.PropKind.{Call, Joined}
 use Rattle.dcv_syntax.specs.declared.formulas.FormulaOperand.{FormulaOperand}
-use Rattle.dcv_syntax.specs.declared.formulas.FormulaKind.{Call as CallFormula, And as AndFormula, Or as OrFormula, Iff as IffFormula, Chop}
+use Rattle.dcv_syntax.specs.declared.formulas.FormulaKind.{Call as CallFormula, Joined as JoinedFormula, Chop}
 use Rattle.dcv_syntax.specs.Plain.{arguments_of, prop_operands_of}
 use Rattle.dcv_syntax.specs.Views.{plain_prop_kind, plain_prop, plain_prop_operand, plain_formula_kind}
-use Rattle.dcv_syntax.proofs.PlainRows.{plain_call, plain_prop_and, plain_prop_or, plain_prop_iff, plain_and, plain_or, plain_iff, plain_chop}
+use Rattle.dcv_syntax.proofs.PlainRows.{plain_call, plain_prop_joined, plain_joined, plain_chop}
 use Rattle.dcv_logic.specs.Environment.{found}
-use Rattle.dcv_core.specs.Core.{TruthAnd, TruthOr, TruthIff, truth_operand, PlainTruth, CoreTree}
+use Rattle.dcv_core.specs.Core.{TruthJoined, truth_operand, PlainTruth, CoreTree}
 use Rattle.dcv_scope.specs.CoreOf.{Sight, truth_of, argument_truths, operand_truths, truth_of_call, core_of_macro, core_of, list_core}
 use Rattle.dcv_scope.specs.Expansions.{truths_in, join_of, unit_of, operands_of}
-use Rattle.dcv_scope.specs.declared.expansion.Join.{Join}
-use Rattle.dcv_scope.specs.declared.expansion.Join.TheVariants as join
 use Rattle.dcv_core.specs.TruthViews.{truths_of}
 use Rattle.dcv_core.proofs.TruthRows.{truth_and, truth_or, truth_iff}
 
@@ -37,14 +36,9 @@ module _ (sight : Sight) where
       ap (truth_of sight) (plain_call name arguments)
       ∙ ap (truth_of_call (found sight.truths name.text) (found sight.macros name.text)) (arguments-list arguments.items)
 
-  pub truth-And : (operands : Vec PropOperand Global) → truth_of sight (plain_prop_kind (And operands)) ≡ TruthAnd (truths_of (map operand_truth operands.items))
-  truth-And operands = ap (truth_of sight) (plain_prop_and operands) ∙ ap TruthAnd (operands-list operands.items)
-
-  pub truth-Or : (operands : Vec PropOperand Global) → truth_of sight (plain_prop_kind (Or operands)) ≡ TruthOr (truths_of (map operand_truth operands.items))
-  truth-Or operands = ap (truth_of sight) (plain_prop_or operands) ∙ ap TruthOr (operands-list operands.items)
-
-  pub truth-Iff : (operands : Vec PropOperand Global) → truth_of sight (plain_prop_kind (Iff operands)) ≡ TruthIff (truths_of (map operand_truth operands.items))
-  truth-Iff operands = ap (truth_of sight) (plain_prop_iff operands) ∙ ap TruthIff (operands-list operands.items)
+  pub truth-Joined : (connective : Connective) (operands : Vec PropOperand Global)
+      → truth_of sight (plain_prop_kind (Joined connective operands)) ≡ TruthJoined connective (truths_of (map operand_truth operands.items))
+  truth-Joined connective operands = ap (truth_of sight) (plain_prop_joined connective operands) ∙ ap (TruthJoined connective) (operands-list operands.items)
 
   -- the same of formulas
   module _ (span : Span) where
@@ -52,23 +46,18 @@ module _ (sight : Sight) where
         ≡ core_of_macro (found sight.macros name.text) sight.slots (truths_in sight arguments.items) span
     core-Call name arguments = ap (λ truths. core_of_macro (found sight.macros name.text) sight.slots truths span) (arguments-list arguments.items)
 
-    abbrev pub listed : Join → List FormulaOperand → CoreTree
-    listed j operands = list_core sight (join_of j) (unit_of j) (operands_of operands) span
+    abbrev pub listed : Option Connective → List FormulaOperand → CoreTree
+    listed connective operands = list_core sight (join_of connective) (unit_of connective) (operands_of operands) span
 
-    pub core-And : (operands : Vec FormulaOperand Global) → core_of sight (plain_formula_kind (AndFormula operands)) span ≡ listed join.And operands.items
-    core-And operands = ap (λ kind. core_of sight kind span) (plain_and operands)
+    pub core-Joined : (connective : Connective) (operands : Vec FormulaOperand Global)
+        → core_of sight (plain_formula_kind (JoinedFormula connective operands)) span ≡ listed (Some connective) operands.items
+    core-Joined connective operands = ap (λ kind. core_of sight kind span) (plain_joined operands connective)
 
-    pub core-Or : (operands : Vec FormulaOperand Global) → core_of sight (plain_formula_kind (OrFormula operands)) span ≡ listed join.Or operands.items
-    core-Or operands = ap (λ kind. core_of sight kind span) (plain_or operands)
-
-    pub core-Iff : (operands : Vec FormulaOperand Global) → core_of sight (plain_formula_kind (IffFormula operands)) span ≡ listed join.Iff operands.items
-    core-Iff operands = ap (λ kind. core_of sight kind span) (plain_iff operands)
-
-    pub core-Chop : (operands : Vec FormulaOperand Global) → core_of sight (plain_formula_kind (Chop operands)) span ≡ listed join.Chop operands.items
+    pub core-Chop : (operands : Vec FormulaOperand Global) → core_of sight (plain_formula_kind (Chop operands)) span ≡ listed None operands.items
     core-Chop operands = ap (λ kind. core_of sight kind span) (plain_chop operands)
 
 pub ruleset truth_rows = (truth_and, truth_or, truth_iff)
 
-pub ruleset prop_rows = (truth-Call, truth-And, truth-Or, truth-Iff)
+pub ruleset prop_rows = (truth-Call, truth-Joined)
 
-pub ruleset formula_rows = (core-Call, core-And, core-Or, core-Iff, core-Chop)
+pub ruleset formula_rows = (core-Call, core-Joined, core-Chop)

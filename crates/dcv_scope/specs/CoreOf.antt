@@ -13,18 +13,22 @@ use Rattle.std.specs.List.{zip}
 use Rattle.dcv_syntax.specs.declared.names.Name.{Name}
 use Rattle.dcv_syntax.specs.declared.names.Span.{Span}
 use Rattle.dcv_syntax.specs.Spans.{covering}
-use Rattle.dcv_syntax.specs.Plain.{PlainPropKind, PropConstant, PropCall, PropNot, PropAnd, PropOr, PropImplies, PropIff, PropPrior, PropNext, PlainArguments}
-use Rattle.dcv_syntax.specs.Plain.{no_arguments, argument, PlainPropOperands, no_prop_operands, prop_operand, PlainFormulaKind, FormulaConstant}
-use Rattle.dcv_syntax.specs.Plain.{FormulaPt, FormulaExt, FormulaPoint, FormulaRun, FormulaEvery, FormulaUnit, FormulaSlen, FormulaScount}
-use Rattle.dcv_syntax.specs.Plain.{FormulaSdur, FormulaCall, FormulaNot, FormulaAnd, FormulaOr, FormulaImplies, FormulaIff, FormulaChop, FormulaStar}
-use Rattle.dcv_syntax.specs.Plain.{FormulaSomewhere, FormulaEverywhere, FormulaExists, FormulaForAll, PlainFormulaOperands, no_formula_operands}
-use Rattle.dcv_syntax.specs.Plain.{formula_operand, arguments_of, PlainMacroBody, FormulaBody, PropBody, PlainMacro, PlainFile}
+use Rattle.dcv_syntax.specs.declared.propositions.Connective.TheVariants.{Or}
+use Rattle.dcv_syntax.specs.declared.formulas.Bracket.TheVariants.{Point, Run}
+use Rattle.dcv_syntax.specs.declared.formulas.Unary.{Unary}
+use Rattle.dcv_syntax.specs.declared.formulas.Unary.TheVariants.{Not, Star, Somewhere, Everywhere}
+use Rattle.dcv_syntax.specs.declared.formulas.Quantifier.{Quantifier}
+use Rattle.dcv_syntax.specs.declared.formulas.Quantifier.TheVariants.{Exists, ForAll}
+use Rattle.dcv_syntax.specs.Plain.{PlainPropKind, PropConstant, PropCall, PropNot, PropJoined, PropImplies, PropShifted, PlainArguments, no_arguments, argument}
+use Rattle.dcv_syntax.specs.Plain.{PlainPropOperands, no_prop_operands, prop_operand, PlainFormulaKind, FormulaConstant, FormulaPt, FormulaExt, FormulaBracketed}
+use Rattle.dcv_syntax.specs.Plain.{FormulaSlen, FormulaCounted, FormulaCall, FormulaApplied, FormulaJoined, FormulaImplies, FormulaChop, FormulaQuantified}
+use Rattle.dcv_syntax.specs.Plain.{PlainFormulaOperands, no_formula_operands, formula_operand, arguments_of, PlainMacroBody, FormulaBody, PropBody, PlainMacro, PlainFile}
 use Rattle.dcv_logic.specs.Environment.{found}
+use Rattle.dcv_logic.specs.Connectives.{of_none}
 use Rattle.dcv_tracks.specs.Shifting.{shifted_core}
-use Rattle.dcv_core.specs.declared.truths.Direction.TheVariants.{Prior, Next}
-use Rattle.dcv_core.specs.Core.{PlainTruth, TruthConstant, TruthSlot, TruthNot, TruthAnd, TruthOr, TruthIff, TruthShift, PlainTruths, no_truths, truth_operand}
-use Rattle.dcv_core.specs.Core.{PlainBasic, BasicConstant, BasicPoint, BasicRun, BasicEvery, BasicUnit, BasicSlen, BasicScount, BasicSdur, CoreTree}
-use Rattle.dcv_core.specs.Core.{CoreAtom, CoreNot, CoreAnd, CoreOr, CoreIff, CoreChop, CoreStar, CoreExists}
+use Rattle.dcv_core.specs.Core.{PlainTruth, TruthConstant, TruthSlot, TruthNot, TruthJoined, TruthShift, PlainTruths, no_truths, truth_operand}
+use Rattle.dcv_core.specs.Core.{PlainBasic, BasicConstant, BasicBracketed, BasicSlen, BasicCounted}
+use Rattle.dcv_core.specs.Core.{CoreTree, CoreAtom, CoreNot, CoreJoined, CoreChop, CoreStar, CoreExists}
 
 -- What a macro stands for is a function of its arguments, and knows nothing of its caller but the number of slots in use.
 pub data Expansion : Type 0 where
@@ -72,18 +76,13 @@ abbrev mutual
       truth_of_call (found sight.truths name.text) (found sight.macros name.text) (argument_truths sight arguments)
   -- !P
   truth_of sight (PropNot p span) = TruthNot (truth_of sight p)
-  -- P && Q && ..
-  truth_of sight (PropAnd operands) = TruthAnd (operand_truths sight operands)
-  -- P || Q || ..
-  truth_of sight (PropOr operands) = TruthOr (operand_truths sight operands)
-  -- P => Q
+  -- P && Q && .., P || Q || .., P <=> Q <=> ..
+  truth_of sight (PropJoined connective operands) = TruthJoined connective (operand_truths sight operands)
+  -- P => Q, which is !P || Q
   truth_of sight (PropImplies p p_span q q_span) =
-      TruthOr (truth_operand (TruthNot (truth_of sight p)) (truth_operand (truth_of sight q) no_truths))
-  -- P <=> Q <=> ..
-  truth_of sight (PropIff operands) = TruthIff (operand_truths sight operands)
+      TruthJoined Or (truth_operand (TruthNot (truth_of sight p)) (truth_operand (truth_of sight q) no_truths))
   -- -P, +P
-  truth_of sight (PropPrior form p span) = TruthShift Prior (truth_of sight p) form
-  truth_of sight (PropNext form p span) = TruthShift Next (truth_of sight p) form
+  truth_of sight (PropShifted direction form p span) = TruthShift direction (truth_of sight p) form
 
   pub argument_truths : Sight → PlainArguments → List PlainTruth
   argument_truths sight no_arguments = []
@@ -105,57 +104,50 @@ abbrev pub somewhere_core : CoreTree → Span → CoreTree
 somewhere_core d span =
     CoreChop (CoreChop (CoreAtom (BasicConstant true) span) d span) (CoreAtom (BasicConstant true) span) span
 
+abbrev pub applied_core : Unary → CoreTree → Span → CoreTree
+-- !D
+applied_core Not d span = CoreNot d span
+-- D*
+applied_core Star d span = CoreStar d span
+-- <>D
+applied_core Somewhere d span = somewhere_core d span
+-- []D, which is !<>!D
+applied_core Everywhere d span = CoreNot (somewhere_core (CoreNot d span) span) span
+
+abbrev pub quantified_core : Quantifier → CoreTree → Span → CoreTree
+-- ex p. D
+quantified_core Exists d span = CoreExists d span
+-- all p. D, which is !(ex p. !D)
+quantified_core ForAll d span = CoreNot (CoreExists (CoreNot d span) span) span
+
 abbrev mutual
   -- the core of a form that stands in this place
   pub core_of : Sight → PlainFormulaKind → Span → CoreTree
   -- true, false
   core_of sight (FormulaConstant truth) span = CoreAtom (BasicConstant truth) span
   -- pt
-  core_of sight FormulaPt span = CoreAtom (BasicPoint (TruthConstant true)) span
+  core_of sight FormulaPt span = CoreAtom (BasicBracketed Point (TruthConstant true)) span
   -- ext
-  core_of sight FormulaExt span = CoreAtom (BasicRun (TruthConstant true)) span
-  -- <P>
-  core_of sight (FormulaPoint p) span = CoreAtom (BasicPoint (truth_of sight p.kind)) span
-  -- [P]
-  core_of sight (FormulaRun p) span = CoreAtom (BasicRun (truth_of sight p.kind)) span
-  -- [[P]]
-  core_of sight (FormulaEvery p) span = CoreAtom (BasicEvery (truth_of sight p.kind)) span
-  -- {{P}}
-  core_of sight (FormulaUnit p) span = CoreAtom (BasicUnit (truth_of sight p.kind)) span
+  core_of sight FormulaExt span = CoreAtom (BasicBracketed Run (TruthConstant true)) span
+  -- <P>, [P], [[P]], {{P}}
+  core_of sight (FormulaBracketed bracket p) span = CoreAtom (BasicBracketed bracket (truth_of sight p.kind)) span
   -- slen R n
   core_of sight (FormulaSlen relation n) span = CoreAtom (BasicSlen relation n.value) span
-  -- scount P R n
-  core_of sight (FormulaScount p relation n) span = CoreAtom (BasicScount (truth_of sight p.kind) relation n.value) span
-  -- sdur P R n
-  core_of sight (FormulaSdur p relation n) span = CoreAtom (BasicSdur (truth_of sight p.kind) relation n.value) span
+  -- scount P R n, sdur P R n
+  core_of sight (FormulaCounted counting p relation n) span = CoreAtom (BasicCounted counting (truth_of sight p.kind) relation n.value) span
   -- f(P, Q, ..)
   core_of sight (FormulaCall name arguments) span =
       core_of_macro (found sight.macros name.text) sight.slots (argument_truths sight (arguments_of arguments)) span
-  -- !D
-  core_of sight (FormulaNot d d_span) span = CoreNot (core_of sight d d_span) span
-  -- D && E && ..
-  core_of sight (FormulaAnd operands) span = list_core sight CoreAnd (BasicConstant true) operands span
-  -- D || E || ..
-  core_of sight (FormulaOr operands) span = list_core sight CoreOr (BasicConstant false) operands span
-  -- C => D
-  core_of sight (FormulaImplies c c_span d d_span) span =
-      CoreOr (CoreNot (core_of sight c c_span) span) (core_of sight d d_span) span
-  -- D <=> E <=> ..
-  core_of sight (FormulaIff operands) span = list_core sight CoreIff (BasicConstant true) operands span
+  -- !D, D*, <>D, []D
+  core_of sight (FormulaApplied unary d d_span) span = applied_core unary (core_of sight d d_span) span
+  -- D && E && .., D || E || .., D <=> E <=> ..
+  core_of sight (FormulaJoined connective operands) span = list_core sight (CoreJoined connective) (BasicConstant (of_none connective)) operands span
+  -- C => D, which is !C || D
+  core_of sight (FormulaImplies c c_span d d_span) span = CoreJoined Or (CoreNot (core_of sight c c_span) span) (core_of sight d d_span) span
   -- D ^ E ^ ..
-  core_of sight (FormulaChop operands) span = list_core sight CoreChop (BasicPoint (TruthConstant true)) operands span
-  -- D*
-  core_of sight (FormulaStar d d_span) span = CoreStar (core_of sight d d_span) span
-  -- <>D
-  core_of sight (FormulaSomewhere d d_span) span = somewhere_core (core_of sight d d_span) span
-  -- []D
-  core_of sight (FormulaEverywhere d d_span) span =
-      CoreNot (somewhere_core (CoreNot (core_of sight d d_span) span) span) span
-  -- ex p. D
-  core_of sight (FormulaExists name d d_span) span = CoreExists (core_of (bind_slot sight name.text) d d_span) span
-  -- all p. D
-  core_of sight (FormulaForAll name d d_span) span =
-      CoreNot (CoreExists (CoreNot (core_of (bind_slot sight name.text) d d_span) span) span) span
+  core_of sight (FormulaChop operands) span = list_core sight CoreChop (BasicBracketed Point (TruthConstant true)) operands span
+  -- ex p. D, all p. D
+  core_of sight (FormulaQuantified quantifier name d d_span) span = quantified_core quantifier (core_of (bind_slot sight name.text) d d_span) span
 
   -- the operands of a list, joined from the left
   pub list_core : Sight → (CoreTree → CoreTree → Span → CoreTree) → PlainBasic → PlainFormulaOperands → Span → CoreTree

@@ -15,12 +15,13 @@ use Rattle.dcv_scope.specs.declared.expansion.Meaning.TheVariants.{Slot, Argumen
 use Rattle.dcv_scope.specs.declared.expansion.Binding.{Binding}
 use Rattle.dcv_scope.specs.declared.expansion.Called.{Called}
 use Rattle.dcv_scope.specs.declared.expansion.Sight.{Sight as SightOfCode}
-use Rattle.dcv_scope.specs.declared.expansion.Join.{Join}
-use Rattle.dcv_scope.specs.declared.expansion.Join.TheVariants.{And, Or, Iff, Chop}
 use Rattle.dcv_scope.specs.declared.measures.MacroMeasure.{MacroMeasure}
-use Rattle.dcv_core.specs.Core.{PlainTruth, TruthConstant, TruthSlot, PlainBasic, BasicConstant, BasicPoint, CoreTree, CoreAnd, CoreOr, CoreIff, CoreChop}
+use Rattle.dcv_syntax.specs.declared.propositions.Connective.{Connective}
+use Rattle.dcv_syntax.specs.declared.formulas.Bracket.TheVariants.{Point}
+use Rattle.dcv_logic.specs.Connectives.{of_none}
+use Rattle.dcv_core.specs.Core.{PlainTruth, TruthConstant, TruthSlot, PlainBasic, BasicConstant, BasicBracketed, CoreTree, CoreJoined, CoreChop}
 use Rattle.dcv_scope.specs.CoreOf.{Sight, Expansion, PropExpansion, FormulaExpansion, expansion_of, with_expansions, declared_slots, truth_of}
-use Rattle.dcv_core.specs.Steps.{PlainOp, OpAnd, OpOr, OpIff, OpChop}
+use Rattle.dcv_core.specs.Steps.{PlainOp, OpJoined, OpChop}
 use Rattle.dcv_scope.specs.Linear.{uses_parameter, AreMeasuresOf, variables_alone}
 use Rattle.dcv_scope.specs.Unused.{PassesOver}
 use Rattle.dcv_core.specs.TruthViews.{plain_truth}
@@ -122,25 +123,19 @@ used_from measure j (p ∷ truths) = (if uses_parameter measure j then p else Tr
 abbrev pub truths_in : Sight → List Prop → List PlainTruth
 truths_in sight = map (λ (p : Prop). truth_of sight (plain_prop_kind p.kind))
 
--- the joins of a list
-abbrev pub join_of : Join → CoreTree → CoreTree → Span → CoreTree
-join_of And = CoreAnd
-join_of Or = CoreOr
-join_of Iff = CoreIff
-join_of Chop = CoreChop
+-- the joins of a list: by a connective, or by chops where there is none
+abbrev pub join_of : Option Connective → CoreTree → CoreTree → Span → CoreTree
+join_of (Some connective) = CoreJoined connective
+join_of None = CoreChop
 
-abbrev pub join_op : Join → ℕ → ℕ → PlainOp
-join_op And = OpAnd
-join_op Or = OpOr
-join_op Iff = OpIff
-join_op Chop = OpChop
+abbrev pub join_op : Option Connective → ℕ → ℕ → PlainOp
+join_op (Some connective) = OpJoined connective
+join_op None = OpChop
 
 -- what a list without operands stands for
-abbrev pub unit_of : Join → PlainBasic
-unit_of And = BasicConstant true
-unit_of Or = BasicConstant false
-unit_of Iff = BasicConstant true
-unit_of Chop = BasicPoint (TruthConstant true)
+abbrev pub unit_of : Option Connective → PlainBasic
+unit_of (Some connective) = BasicConstant (of_none connective)
+unit_of None = BasicBracketed Point (TruthConstant true)
 
 abbrev pub operands_of : List FormulaOperand → PlainFormulaOperands
 operands_of operands = formula_operands_of (map plain_formula_operand operands)

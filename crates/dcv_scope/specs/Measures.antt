@@ -7,14 +7,14 @@
 use Rattle.std.specs.Prelude.{ℕ, ◌+◌, max, List, [], ◌∷◌, ◌++◌, Option, Some, None, map, length}
 use Rattle.std.specs.List.{zip}
 use Rattle.dcv_syntax.specs.declared.names.Name.{Name}
-use Rattle.dcv_syntax.specs.Plain.{PlainPropKind, PropConstant, PropCall, PropNot, PropAnd, PropOr, PropImplies, PropIff, PropPrior, PropNext}
-use Rattle.dcv_syntax.specs.Plain.{PlainArguments, no_arguments, argument, arguments_of, PlainPropOperands, no_prop_operands, prop_operand}
-use Rattle.dcv_syntax.specs.Plain.{PlainFormulaKind, FormulaConstant, FormulaPt, FormulaExt, FormulaPoint, FormulaRun, FormulaEvery, FormulaUnit}
-use Rattle.dcv_syntax.specs.Plain.{FormulaSlen, FormulaScount, FormulaSdur, FormulaCall}
-use Rattle.dcv_syntax.specs.Plain.{FormulaNot, FormulaAnd, FormulaOr, FormulaImplies, FormulaIff, FormulaChop, FormulaStar}
-use Rattle.dcv_syntax.specs.Plain.{FormulaSomewhere, FormulaEverywhere, FormulaExists, FormulaForAll}
-use Rattle.dcv_syntax.specs.Plain.{PlainFormulaOperands, no_formula_operands, formula_operand}
-use Rattle.dcv_syntax.specs.Plain.{PlainMacroBody, FormulaBody, PropBody, PlainMacro, PlainFile}
+use Rattle.dcv_syntax.specs.declared.formulas.Unary.{Unary}
+use Rattle.dcv_syntax.specs.declared.formulas.Unary.TheVariants.{Not, Star, Somewhere, Everywhere}
+use Rattle.dcv_syntax.specs.declared.formulas.Quantifier.{Quantifier}
+use Rattle.dcv_syntax.specs.declared.formulas.Quantifier.TheVariants.{Exists, ForAll}
+use Rattle.dcv_syntax.specs.Plain.{PlainPropKind, PropConstant, PropCall, PropNot, PropJoined, PropImplies, PropShifted, PlainArguments, no_arguments, argument}
+use Rattle.dcv_syntax.specs.Plain.{PlainPropOperands, no_prop_operands, prop_operand, PlainFormulaKind, FormulaConstant, FormulaPt, FormulaExt, FormulaBracketed}
+use Rattle.dcv_syntax.specs.Plain.{FormulaSlen, FormulaCounted, FormulaCall, FormulaApplied, FormulaJoined, FormulaImplies, FormulaChop, FormulaQuantified}
+use Rattle.dcv_syntax.specs.Plain.{PlainFormulaOperands, no_formula_operands, formula_operand, arguments_of, PlainMacroBody, FormulaBody, PropBody, PlainMacro, PlainFile}
 use Rattle.dcv_logic.specs.Environment.{found}
 use Rattle.dcv_scope.specs.CoreOf.{expanded_file}
 use Rattle.dcv_tracks.specs.Shifting.{shifts_in}
@@ -69,16 +69,12 @@ abbrev mutual
       measure_of_name (found sight.names name.text) (found sight.macros name.text) (measures_of_arguments sight arguments)
   -- !P
   measure_of_prop sight (PropNot p span) = under 1 1 (measure_of_prop sight p)
-  -- P && Q && .., P || Q || ..
-  measure_of_prop sight (PropAnd operands) = under 1 1 (measure_of_prop_operands sight operands)
-  measure_of_prop sight (PropOr operands) = under 1 1 (measure_of_prop_operands sight operands)
+  -- P && Q && .., P || Q || .., P <=> Q <=> ..
+  measure_of_prop sight (PropJoined connective operands) = under 1 1 (measure_of_prop_operands sight operands)
   -- P => Q, which is !P || Q
   measure_of_prop sight (PropImplies p p_span q q_span) = under 1 1 (beside (under 1 1 (measure_of_prop sight p)) (measure_of_prop sight q))
-  -- P <=> Q <=> ..
-  measure_of_prop sight (PropIff operands) = under 1 1 (measure_of_prop_operands sight operands)
   -- -P, +P
-  measure_of_prop sight (PropPrior form p span) = under 1 1 (measure_of_prop sight p)
-  measure_of_prop sight (PropNext form p span) = under 1 1 (measure_of_prop sight p)
+  measure_of_prop sight (PropShifted direction form p span) = under 1 1 (measure_of_prop sight p)
 
   pub measures_of_arguments : Measured → PlainArguments → List Measure
   measures_of_arguments sight no_arguments = []
@@ -91,6 +87,29 @@ abbrev mutual
 
 -- ---- formulas
 
+-- how many nodes an operator is, and how much deeper its formula stands
+abbrev pub unary_nodes : Unary → ℕ
+-- !D, D*
+unary_nodes Not = 1
+unary_nodes Star = 1
+-- <>D, which is true ^ D ^ true
+unary_nodes Somewhere = 3
+-- []D, which is !(true ^ !D ^ true)
+unary_nodes Everywhere = 5
+
+abbrev pub unary_depth : Unary → ℕ
+unary_depth Not = 1
+unary_depth Star = 1
+unary_depth Somewhere = 1
+unary_depth Everywhere = 3
+
+-- how many nodes a quantifier is, one below the other
+abbrev pub quantifier_nodes : Quantifier → ℕ
+-- ex p. D
+quantifier_nodes Exists = 1
+-- all p. D, which is !(ex p. !D)
+quantifier_nodes ForAll = 3
+
 abbrev pub name_in_sight : Measured → List ℕ → Measured
 name_in_sight sight name = record sight { names = (name, leaf) ∷ sight.names }
 
@@ -102,37 +121,24 @@ abbrev mutual
   measure_of_formula sight FormulaPt = under 1 1 leaf
   measure_of_formula sight FormulaExt = under 1 1 leaf
   -- <P>, [P], [[P]], {{P}}
-  measure_of_formula sight (FormulaPoint p) = under 1 1 (measure_of_prop sight p.kind)
-  measure_of_formula sight (FormulaRun p) = under 1 1 (measure_of_prop sight p.kind)
-  measure_of_formula sight (FormulaEvery p) = under 1 1 (measure_of_prop sight p.kind)
-  measure_of_formula sight (FormulaUnit p) = under 1 1 (measure_of_prop sight p.kind)
+  measure_of_formula sight (FormulaBracketed bracket p) = under 1 1 (measure_of_prop sight p.kind)
   -- slen R n, scount P R n, sdur P R n
   measure_of_formula sight (FormulaSlen relation n) = leaf
-  measure_of_formula sight (FormulaScount p relation n) = under 1 1 (measure_of_prop sight p.kind)
-  measure_of_formula sight (FormulaSdur p relation n) = under 1 1 (measure_of_prop sight p.kind)
+  measure_of_formula sight (FormulaCounted counting p relation n) = under 1 1 (measure_of_prop sight p.kind)
   -- f(P, Q, ..)
   measure_of_formula sight (FormulaCall name arguments) =
       measure_of_macro (found sight.macros name.text) (measures_of_arguments sight (arguments_of arguments))
-  -- !D
-  measure_of_formula sight (FormulaNot d span) = under 1 1 (measure_of_formula sight d)
-  -- D && E && .., D || E || ..
-  measure_of_formula sight (FormulaAnd operands) = under 1 1 (measure_of_operands sight operands)
-  measure_of_formula sight (FormulaOr operands) = under 1 1 (measure_of_operands sight operands)
+  -- !D, D*, <>D, []D
+  measure_of_formula sight (FormulaApplied unary d span) = under (unary_nodes unary) (unary_depth unary) (measure_of_formula sight d)
+  -- D && E && .., D || E || .., D <=> E <=> ..
+  measure_of_formula sight (FormulaJoined connective operands) = under 1 1 (measure_of_operands sight operands)
   -- C => D, which is !C || D
   measure_of_formula sight (FormulaImplies c c_span d d_span) = under 1 1 (beside (under 1 1 (measure_of_formula sight c)) (measure_of_formula sight d))
-  -- D <=> E <=> .., D ^ E ^ ..
-  measure_of_formula sight (FormulaIff operands) = under 1 1 (measure_of_operands sight operands)
+  -- D ^ E ^ ..
   measure_of_formula sight (FormulaChop operands) = under 1 1 (measure_of_operands sight operands)
-  -- D*
-  measure_of_formula sight (FormulaStar d span) = under 1 1 (measure_of_formula sight d)
-  -- <>D, which is true ^ D ^ true
-  measure_of_formula sight (FormulaSomewhere d span) = under 3 1 (measure_of_formula sight d)
-  -- []D, which is !(true ^ !D ^ true)
-  measure_of_formula sight (FormulaEverywhere d span) = under 5 3 (measure_of_formula sight d)
-  -- ex p. D
-  measure_of_formula sight (FormulaExists name d span) = quantified (under 1 1 (measure_of_formula (name_in_sight sight name.text) d))
-  -- all p. D, which is !(ex p. !D)
-  measure_of_formula sight (FormulaForAll name d span) = quantified (under 3 3 (measure_of_formula (name_in_sight sight name.text) d))
+  -- ex p. D, all p. D
+  measure_of_formula sight (FormulaQuantified quantifier name d span) =
+      quantified (under (quantifier_nodes quantifier) (quantifier_nodes quantifier) (measure_of_formula (name_in_sight sight name.text) d))
 
   pub measure_of_operands : Measured → PlainFormulaOperands → Measure
   measure_of_operands sight no_formula_operands = nothing

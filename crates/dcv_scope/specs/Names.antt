@@ -7,10 +7,10 @@ use Rattle.std.specs.Prelude.{ℕ, ◌+◌, Bool, true, false, ◌||◌, ◌==�
 use Rattle.std.specs.List.{list_any}
 use Rattle.std.specs.Option.{option_or}
 use Rattle.dcv_syntax.specs.declared.names.Name.{Name}
-use Rattle.dcv_syntax.specs.Plain.{PlainPropKind, PropConstant, PropCall, PropNot, PropAnd, PropOr, PropImplies, PropIff, PropPrior, PropNext, PlainArguments, no_arguments}
-use Rattle.dcv_syntax.specs.Plain.{argument, PlainPropOperands, no_prop_operands, prop_operand, PlainFormulaKind, FormulaConstant, FormulaPt, FormulaExt, FormulaPoint, FormulaRun, FormulaEvery, FormulaUnit}
-use Rattle.dcv_syntax.specs.Plain.{FormulaSlen, FormulaScount, FormulaSdur, FormulaCall, FormulaNot, FormulaAnd, FormulaOr, FormulaImplies, FormulaIff, FormulaChop, FormulaStar, FormulaSomewhere}
-use Rattle.dcv_syntax.specs.Plain.{FormulaEverywhere, FormulaExists, FormulaForAll, PlainFormulaOperands, no_formula_operands, formula_operand, arguments_of, PlainMacroBody, FormulaBody, PropBody, PlainMacro, PlainFile}
+use Rattle.dcv_syntax.specs.Plain.{PlainPropKind, PropConstant, PropCall, PropNot, PropJoined, PropImplies, PropShifted, PlainArguments, no_arguments, argument}
+use Rattle.dcv_syntax.specs.Plain.{PlainPropOperands, no_prop_operands, prop_operand, PlainFormulaKind, FormulaConstant, FormulaPt, FormulaExt, FormulaBracketed}
+use Rattle.dcv_syntax.specs.Plain.{FormulaSlen, FormulaCounted, FormulaCall, FormulaApplied, FormulaJoined, FormulaImplies, FormulaChop, FormulaQuantified}
+use Rattle.dcv_syntax.specs.Plain.{PlainFormulaOperands, no_formula_operands, formula_operand, arguments_of, PlainMacroBody, FormulaBody, PropBody, PlainMacro, PlainFile}
 use Rattle.dcv_logic.specs.Environment.{found}
 use Rattle.dcv_scope.specs.declared.faults.ScopeFault.{ScopeFault}
 use Rattle.dcv_scope.specs.declared.faults.ScopeFault.TheVariants.{TooMany, Duplicate, Taken, Unknown, Kind, Arity}
@@ -154,12 +154,9 @@ abbrev mutual
   occurrences_in_prop sight (PropCall name arguments) =
       occurs name (AtProposition (count_arguments arguments)) sight ∷ occurrences_in_arguments sight arguments
   occurrences_in_prop sight (PropNot p span) = occurrences_in_prop sight p
-  occurrences_in_prop sight (PropAnd operands) = occurrences_in_prop_operands sight operands
-  occurrences_in_prop sight (PropOr operands) = occurrences_in_prop_operands sight operands
+  occurrences_in_prop sight (PropJoined connective operands) = occurrences_in_prop_operands sight operands
   occurrences_in_prop sight (PropImplies p p_span q q_span) = occurrences_in_prop sight p ++ occurrences_in_prop sight q
-  occurrences_in_prop sight (PropIff operands) = occurrences_in_prop_operands sight operands
-  occurrences_in_prop sight (PropPrior form p span) = occurrences_in_prop sight p
-  occurrences_in_prop sight (PropNext form p span) = occurrences_in_prop sight p
+  occurrences_in_prop sight (PropShifted direction form p span) = occurrences_in_prop sight p
 
   pub occurrences_in_arguments : InSight → PlainArguments → List Occurrence
   occurrences_in_arguments sight no_arguments = []
@@ -175,27 +172,16 @@ abbrev mutual
   occurrences_in_formula sight (FormulaConstant truth) = []
   occurrences_in_formula sight FormulaPt = []
   occurrences_in_formula sight FormulaExt = []
-  occurrences_in_formula sight (FormulaPoint p) = occurrences_in_prop sight p.kind
-  occurrences_in_formula sight (FormulaRun p) = occurrences_in_prop sight p.kind
-  occurrences_in_formula sight (FormulaEvery p) = occurrences_in_prop sight p.kind
-  occurrences_in_formula sight (FormulaUnit p) = occurrences_in_prop sight p.kind
+  occurrences_in_formula sight (FormulaBracketed bracket p) = occurrences_in_prop sight p.kind
   occurrences_in_formula sight (FormulaSlen relation n) = []
-  occurrences_in_formula sight (FormulaScount p relation n) = occurrences_in_prop sight p.kind
-  occurrences_in_formula sight (FormulaSdur p relation n) = occurrences_in_prop sight p.kind
+  occurrences_in_formula sight (FormulaCounted counting p relation n) = occurrences_in_prop sight p.kind
   occurrences_in_formula sight (FormulaCall name arguments) =
       occurs name (AtFormula (length arguments)) sight ∷ occurrences_in_arguments sight (arguments_of arguments)
-  occurrences_in_formula sight (FormulaNot d span) = occurrences_in_formula sight d
-  occurrences_in_formula sight (FormulaAnd operands) = occurrences_in_operands sight operands
-  occurrences_in_formula sight (FormulaOr operands) = occurrences_in_operands sight operands
+  occurrences_in_formula sight (FormulaApplied unary d span) = occurrences_in_formula sight d
+  occurrences_in_formula sight (FormulaJoined connective operands) = occurrences_in_operands sight operands
   occurrences_in_formula sight (FormulaImplies c c_span d d_span) = occurrences_in_formula sight c ++ occurrences_in_formula sight d
-  occurrences_in_formula sight (FormulaIff operands) = occurrences_in_operands sight operands
   occurrences_in_formula sight (FormulaChop operands) = occurrences_in_operands sight operands
-  occurrences_in_formula sight (FormulaStar d span) = occurrences_in_formula sight d
-  occurrences_in_formula sight (FormulaSomewhere d span) = occurrences_in_formula sight d
-  occurrences_in_formula sight (FormulaEverywhere d span) = occurrences_in_formula sight d
-  occurrences_in_formula sight (FormulaExists name d span) =
-      occurs name Quantified sight ∷ occurrences_in_formula (in_sight_too sight name.text) d
-  occurrences_in_formula sight (FormulaForAll name d span) =
+  occurrences_in_formula sight (FormulaQuantified quantifier name d span) =
       occurs name Quantified sight ∷ occurrences_in_formula (in_sight_too sight name.text) d
 
   pub occurrences_in_operands : InSight → PlainFormulaOperands → List Occurrence

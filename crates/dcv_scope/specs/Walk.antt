@@ -3,18 +3,16 @@ use Rattle.std.specs.Prelude.{◌≡◌, ℕ, ◌+◌, ◌*◌, max, List, [], �
 use denote.Bor.{Bor}
 use Rattle.dcv_syntax.specs.declared.names.Name.{Name}
 use Rattle.dcv_syntax.specs.Views.{plain_macro}
-use Rattle.dcv_syntax.specs.Plain.{PlainPropKind, PropConstant, PropCall, PropNot, PropAnd, PropOr, PropImplies, PropIff, PropPrior, PropNext, PlainArguments}
-use Rattle.dcv_syntax.specs.Plain.{no_arguments, argument, PlainPropOperands, no_prop_operands, prop_operand, PlainFormulaKind, FormulaConstant}
-use Rattle.dcv_syntax.specs.Plain.{FormulaPt, FormulaExt, FormulaPoint, FormulaRun, FormulaEvery, FormulaUnit, FormulaSlen, FormulaScount}
-use Rattle.dcv_syntax.specs.Plain.{FormulaSdur, FormulaCall, FormulaNot, FormulaAnd, FormulaOr, FormulaImplies, FormulaIff, FormulaChop, FormulaStar}
-use Rattle.dcv_syntax.specs.Plain.{FormulaSomewhere, FormulaEverywhere, FormulaExists, FormulaForAll, PlainFormulaOperands, no_formula_operands}
-use Rattle.dcv_syntax.specs.Plain.{formula_operand, arguments_of, PlainMacroBody, FormulaBody, PropBody, PlainMacro}
+use Rattle.dcv_syntax.specs.Plain.{PlainPropKind, PropConstant, PropCall, PropNot, PropJoined, PropImplies, PropShifted, PlainArguments, no_arguments, argument}
+use Rattle.dcv_syntax.specs.Plain.{PlainPropOperands, no_prop_operands, prop_operand, PlainFormulaKind, FormulaConstant, FormulaPt, FormulaExt, FormulaBracketed}
+use Rattle.dcv_syntax.specs.Plain.{FormulaSlen, FormulaCounted, FormulaCall, FormulaApplied, FormulaJoined, FormulaImplies, FormulaChop, FormulaQuantified}
+use Rattle.dcv_syntax.specs.Plain.{PlainFormulaOperands, no_formula_operands, formula_operand, arguments_of, PlainMacroBody, FormulaBody, PropBody, PlainMacro}
 use Rattle.dcv_logic.specs.Environment.{found}
 use Rattle.dcv_scope.specs.declared.measures.Measure.{Measure as Numbers}
 use Rattle.dcv_scope.specs.declared.measures.Share.{Share}
 use Rattle.dcv_scope.specs.declared.measures.MacroMeasure.{MacroMeasure}
 use Rattle.dcv_scope.specs.declared.measures.Sight.{Sight}
-use Rattle.dcv_scope.specs.Measures.{Measure, leaf, nothing, beside}
+use Rattle.dcv_scope.specs.Measures.{Measure, leaf, nothing, beside, unary_nodes, unary_depth, quantifier_nodes}
 use Rattle.dcv_scope.specs.Linear.{measure_with, numbers_of, share_of, capped_macro}
 
 -- ---- what may be done with numbers
@@ -118,13 +116,10 @@ abbrev mutual
   linear_of_prop sight (PropCall name arguments) =
       linear_of_name (found sight.names name.text) (found sight.macros name.text) (linear_of_arguments sight arguments)
   linear_of_prop sight (PropNot p span) = linear_under 1 1 0 (linear_of_prop sight p)
-  linear_of_prop sight (PropAnd operands) = linear_under 1 1 0 (linear_of_prop_operands sight (constant nothing) operands)
-  linear_of_prop sight (PropOr operands) = linear_under 1 1 0 (linear_of_prop_operands sight (constant nothing) operands)
+  linear_of_prop sight (PropJoined connective operands) = linear_under 1 1 0 (linear_of_prop_operands sight (constant nothing) operands)
   linear_of_prop sight (PropImplies p p_span q q_span) =
       linear_under 1 1 0 (linear_beside (linear_under 1 1 0 (linear_of_prop sight p)) (linear_of_prop sight q))
-  linear_of_prop sight (PropIff operands) = linear_under 1 1 0 (linear_of_prop_operands sight (constant nothing) operands)
-  linear_of_prop sight (PropPrior form p span) = linear_under 1 1 0 (linear_of_prop sight p)
-  linear_of_prop sight (PropNext form p span) = linear_under 1 1 0 (linear_of_prop sight p)
+  linear_of_prop sight (PropShifted direction form p span) = linear_under 1 1 0 (linear_of_prop sight p)
 
   pub linear_of_arguments : LinearSight → PlainArguments → List MacroMeasure
   linear_of_arguments sight no_arguments = []
@@ -144,27 +139,18 @@ abbrev mutual
   linear_of_formula sight (FormulaConstant truth) = constant leaf
   linear_of_formula sight FormulaPt = linear_under 1 1 0 (constant leaf)
   linear_of_formula sight FormulaExt = linear_under 1 1 0 (constant leaf)
-  linear_of_formula sight (FormulaPoint p) = linear_under 1 1 0 (linear_of_prop sight p.kind)
-  linear_of_formula sight (FormulaRun p) = linear_under 1 1 0 (linear_of_prop sight p.kind)
-  linear_of_formula sight (FormulaEvery p) = linear_under 1 1 0 (linear_of_prop sight p.kind)
-  linear_of_formula sight (FormulaUnit p) = linear_under 1 1 0 (linear_of_prop sight p.kind)
+  linear_of_formula sight (FormulaBracketed bracket p) = linear_under 1 1 0 (linear_of_prop sight p.kind)
   linear_of_formula sight (FormulaSlen relation n) = constant leaf
-  linear_of_formula sight (FormulaScount p relation n) = linear_under 1 1 0 (linear_of_prop sight p.kind)
-  linear_of_formula sight (FormulaSdur p relation n) = linear_under 1 1 0 (linear_of_prop sight p.kind)
+  linear_of_formula sight (FormulaCounted counting p relation n) = linear_under 1 1 0 (linear_of_prop sight p.kind)
   linear_of_formula sight (FormulaCall name arguments) =
       linear_of_macro (found sight.macros name.text) (linear_of_arguments sight (arguments_of arguments))
-  linear_of_formula sight (FormulaNot d span) = linear_under 1 1 0 (linear_of_formula sight d)
-  linear_of_formula sight (FormulaAnd operands) = linear_under 1 1 0 (linear_of_operands sight (constant nothing) operands)
-  linear_of_formula sight (FormulaOr operands) = linear_under 1 1 0 (linear_of_operands sight (constant nothing) operands)
+  linear_of_formula sight (FormulaApplied unary d span) = linear_under (unary_nodes unary) (unary_depth unary) 0 (linear_of_formula sight d)
+  linear_of_formula sight (FormulaJoined connective operands) = linear_under 1 1 0 (linear_of_operands sight (constant nothing) operands)
   linear_of_formula sight (FormulaImplies c c_span d d_span) =
       linear_under 1 1 0 (linear_beside (linear_under 1 1 0 (linear_of_formula sight c)) (linear_of_formula sight d))
-  linear_of_formula sight (FormulaIff operands) = linear_under 1 1 0 (linear_of_operands sight (constant nothing) operands)
   linear_of_formula sight (FormulaChop operands) = linear_under 1 1 0 (linear_of_operands sight (constant nothing) operands)
-  linear_of_formula sight (FormulaStar d span) = linear_under 1 1 0 (linear_of_formula sight d)
-  linear_of_formula sight (FormulaSomewhere d span) = linear_under 3 1 0 (linear_of_formula sight d)
-  linear_of_formula sight (FormulaEverywhere d span) = linear_under 5 3 0 (linear_of_formula sight d)
-  linear_of_formula sight (FormulaExists name d span) = linear_under 1 1 1 (linear_of_formula (name_too sight name.text) d)
-  linear_of_formula sight (FormulaForAll name d span) = linear_under 3 3 1 (linear_of_formula (name_too sight name.text) d)
+  linear_of_formula sight (FormulaQuantified quantifier name d span) =
+      linear_under (quantifier_nodes quantifier) (quantifier_nodes quantifier) 1 (linear_of_formula (name_too sight name.text) d)
 
   pub linear_of_operands : LinearSight → MacroMeasure → PlainFormulaOperands → MacroMeasure
   linear_of_operands sight before no_formula_operands = before

@@ -4,15 +4,16 @@ ghost use Rattle.std.specs.Option.{option_map};
 ghost use Rattle.dcv_syntax.specs.Spans.{covering};
 ghost use Rattle.dcv_syntax.specs.Views.{plain_prop_kind, plain_formula_kind, plain_macro, plain_file};
 ghost use Rattle.dcv_logic.specs.Environment.{found};
-ghost use Rattle.dcv_core.specs.Core.{TruthConstant, TruthNot, TruthOr, TruthShift, no_truths, truth_operand, BasicConstant};
-ghost use Rattle.dcv_core.specs.Core.{CoreAtom, CoreNot, CoreOr, CoreStar, CoreExists};
+ghost use Rattle.dcv_syntax.specs.declared.propositions.Connective.TheVariants.{Or};
+ghost use Rattle.dcv_core.specs.Core.{TruthConstant, TruthNot, TruthJoined, TruthShift, no_truths, truth_operand, BasicConstant, BasicBracketed, BasicCounted};
+ghost use Rattle.dcv_core.specs.Core.{CoreAtom, CoreNot, CoreJoined, CoreStar, CoreExists};
 ghost use Rattle.dcv_scope.specs.CoreOf.{bind_slot, bind_arguments, declared_slots, truth_of_call, truth_of};
 ghost use Rattle.dcv_scope.specs.CoreOf.{core_of_macro, somewhere_core, core_of, list_core, expanded_file};
 ghost use Rattle.dcv_scope.specs.Measures.{measure_of_file};
 ghost use Rattle.dcv_scope.specs.Linear.{AreMeasuresOf, variables_alone};
 ghost use Rattle.dcv_core.specs.Steps.{Made, HasRoom, IsChoppedRound, without_core, steps_of};
 ghost use Rattle.dcv_core.specs.StepViews.{plain_operator};
-ghost use Rattle.dcv_core.specs.TruthViews.{plain_truth, plain_basic};
+ghost use Rattle.dcv_core.specs.TruthViews.{plain_truth, plain_basic, truths_of};
 ghost use Rattle.dcv_scope.specs.Names.{texts};
 ghost use Rattle.dcv_scope.specs.Faults.{most_nodes, most_slots};
 ghost use Rattle.dcv_scope.specs.Expansions.{meant, names_of, sight_of, top_sight_of, IsSight, IsCalled, used_from, truths_in};
@@ -23,11 +24,11 @@ mod relays;
 
 use self::relays::relays_of;
 use crate::measures::MacroMeasure;
-use dcv_core::{Basic, Core, Direction, Operator, Truth};
+use dcv_core::{Basic, Core, Operator, Truth};
 use dcv_logic::newest;
 use dcv_syntax::{
-    File, Formula, FormulaKind, FormulaOperand, Macro, MacroBody, Name, Prop, PropKind,
-    PropOperand, Span, Text,
+    Bracket, Connective, Count, Direction, File, Formula, FormulaKind, FormulaOperand, Macro,
+    MacroBody, Name, Prop, PropKind, PropOperand, Quantifier, Relation, Span, Text, Unary,
 };
 use std::alloc::{AllocError, Global};
 
@@ -189,12 +190,11 @@ impl<'a> Sight<'a> {
             PropKind::Constant(truth) => Ok(Truth::Constant(*truth)),
             PropKind::Call(name, arguments) => self.named(name, arguments),
             PropKind::Not(operand) => self.opposite(operand),
-            PropKind::And(operands) => Ok(Truth::And(self.prop_operands(operands)?)),
-            PropKind::Or(operands) => Ok(Truth::Or(self.prop_operands(operands)?)),
+            PropKind::Joined(connective, operands) => {
+                Ok(joined(*connective, self.prop_operands(operands)?))
+            }
             PropKind::Implies(premise, conclusion) => self.implication(premise, conclusion),
-            PropKind::Iff(operands) => Ok(Truth::Iff(self.prop_operands(operands)?)),
-            PropKind::Prior(form, operand) => self.shifted(Direction::Prior, operand, *form),
-            PropKind::Next(form, operand) => self.shifted(Direction::Next, operand, *form),
+            PropKind::Shifted(direction, form, operand) => self.shifted(*direction, operand, *form),
         }
     }
 
@@ -223,7 +223,7 @@ impl<'a> Sight<'a> {
     #[tactic(auto, using(crate::proofs::TextRows::truth_rows))]
     fn implication(&self, premise: &Prop, conclusion: &Prop) -> Result<Truth, AllocError>
         requires is_sight { IsSight self.now }
-        ensures { IfOk result (λ truth. plain_truth truth ≡ TruthOr (truth_operand
+        ensures { IfOk result (λ truth. plain_truth truth ≡ TruthJoined Or (truth_operand
             (TruthNot (truth_of (sight_of self.now) (plain_prop_kind premise.now.kind))) (truth_operand
             (truth_of (sight_of self.now) (plain_prop_kind conclusion.now.kind)) no_truths))) }
     {
@@ -306,37 +306,58 @@ fn reach(first: &FormulaOperand, last: &FormulaOperand) -> Span
     first.span.to(last.span)
 }
 
-// What joins the formulas of a list.
-#[derive(Clone, Copy, Drop)]
-enum Join {
-    And,
-    Or,
-    Iff,
-    Chop,
+#[tactic(auto, using(crate::proofs::TextRows::truth_rows))]
+fn joined(connective: Connective, operands: Vec<Truth>) -> Truth
+    ensures { plain_truth result ≡ TruthJoined connective (truths_of (map plain_truth operands.items)) }
+{
+    match connective {
+        Connective::And => Truth::And(operands),
+        Connective::Or => Truth::Or(operands),
+        Connective::Iff => Truth::Iff(operands),
+    }
 }
 
-impl Join {
-    fn operator(self, first: u32, second: u32) -> Operator
-        ensures { plain_operator result ≡ join_op self first second }
-    {
-        match self {
-            Join::And => Operator::And(first, second),
-            Join::Or => Operator::Or(first, second),
-            Join::Iff => Operator::Iff(first, second),
-            Join::Chop => Operator::Chop(first, second),
-        }
+fn bracketed(bracket: Bracket, truth: Truth) -> Basic
+    ensures { plain_basic result ≡ BasicBracketed bracket (plain_truth truth) }
+{
+    match bracket {
+        Bracket::Point => Basic::Point(truth),
+        Bracket::Run => Basic::Run(truth),
+        Bracket::Every => Basic::Every(truth),
+        Bracket::Unit => Basic::Unit(truth),
     }
+}
 
-    // What a list without operands stands for.
-    fn unit(self) -> Basic
-        ensures { plain_basic result ≡ unit_of self }
-    {
-        match self {
-            Join::And => Basic::Constant(true),
-            Join::Or => Basic::Constant(false),
-            Join::Iff => Basic::Constant(true),
-            Join::Chop => Basic::Point(Truth::Constant(true)),
-        }
+fn counted(count: Count, truth: Truth, relation: Relation, number: u32) -> Basic
+    ensures { plain_basic result ≡ BasicCounted count (plain_truth truth) relation number }
+{
+    match count {
+        Count::Scount => Basic::Scount(truth, relation, number),
+        Count::Sdur => Basic::Sdur(truth, relation, number),
+    }
+}
+
+// What joins two formulas of a list: a connective, or a chop where there is none.
+fn join(connective: Option<Connective>, first: u32, second: u32) -> Operator
+    ensures { plain_operator result ≡ join_op connective first second }
+{
+    match connective {
+        Some(Connective::And) => Operator::And(first, second),
+        Some(Connective::Or) => Operator::Or(first, second),
+        Some(Connective::Iff) => Operator::Iff(first, second),
+        None => Operator::Chop(first, second),
+    }
+}
+
+// What a list without operands stands for.
+fn unit(connective: Option<Connective>) -> Basic
+    ensures { plain_basic result ≡ unit_of connective }
+{
+    match connective {
+        Some(Connective::And) => Basic::Constant(true),
+        Some(Connective::Or) => Basic::Constant(false),
+        Some(Connective::Iff) => Basic::Constant(true),
+        None => Basic::Point(Truth::Constant(true)),
     }
 }
 
@@ -403,35 +424,34 @@ impl<'a> Sight<'a> {
             FormulaKind::Constant(truth) => self.atom(Basic::Constant(*truth), span, core),
             FormulaKind::Pt => self.atom(Basic::Point(Truth::Constant(true)), span, core),
             FormulaKind::Ext => self.atom(Basic::Run(Truth::Constant(true)), span, core),
-            FormulaKind::Point(prop) => self.atom(Basic::Point(self.prop(prop)?), span, core),
-            FormulaKind::Run(prop) => self.atom(Basic::Run(self.prop(prop)?), span, core),
-            FormulaKind::Every(prop) => self.atom(Basic::Every(self.prop(prop)?), span, core),
-            FormulaKind::Unit(prop) => self.atom(Basic::Unit(self.prop(prop)?), span, core),
+            FormulaKind::Bracketed(bracket, prop) => {
+                self.atom(bracketed(*bracket, self.prop(prop)?), span, core)
+            }
             FormulaKind::Slen(relation, number) => {
                 self.atom(Basic::Slen(*relation, number.value), span, core)
             }
-            FormulaKind::Scount(prop, relation, number) => {
+            FormulaKind::Counted(count, prop, relation, number) => {
                 let truth = self.prop(prop)?;
-                self.atom(Basic::Scount(truth, *relation, number.value), span, core)
-            }
-            FormulaKind::Sdur(prop, relation, number) => {
-                let truth = self.prop(prop)?;
-                self.atom(Basic::Sdur(truth, *relation, number.value), span, core)
+                self.atom(counted(*count, truth, *relation, number.value), span, core)
             }
             FormulaKind::Call(name, arguments) => self.call(name, arguments, span, core),
-            FormulaKind::Not(body) => self.not(body, span, core),
-            FormulaKind::And(operands) => self.list(Join::And, operands, span, core),
-            FormulaKind::Or(operands) => self.list(Join::Or, operands, span, core),
+            FormulaKind::Applied(unary, body) => match unary {
+                Unary::Not => self.not(body, span, core),
+                Unary::Star => self.star(body, span, core),
+                Unary::Somewhere => self.somewhere(body, span, core),
+                Unary::Everywhere => self.everywhere(body, span, core),
+            },
+            FormulaKind::Joined(connective, operands) => {
+                self.list(Some(*connective), operands, span, core)
+            }
             FormulaKind::Implies(premise, conclusion) => {
                 self.implies(premise, conclusion, span, core)
             }
-            FormulaKind::Iff(operands) => self.list(Join::Iff, operands, span, core),
-            FormulaKind::Chop(operands) => self.list(Join::Chop, operands, span, core),
-            FormulaKind::Star(body) => self.star(body, span, core),
-            FormulaKind::Somewhere(body) => self.somewhere(body, span, core),
-            FormulaKind::Everywhere(body) => self.everywhere(body, span, core),
-            FormulaKind::Exists(name, body) => self.exists(name, body, span, core),
-            FormulaKind::ForAll(name, body) => self.for_all(name, body, span, core),
+            FormulaKind::Chop(operands) => self.list(None, operands, span, core),
+            FormulaKind::Quantified(quantifier, name, body) => match quantifier {
+                Quantifier::Exists => self.exists(name, body, span, core),
+                Quantifier::ForAll => self.for_all(name, body, span, core),
+            },
         }
     }
 
@@ -499,10 +519,10 @@ impl<'a> Sight<'a> {
         core: &mut Core,
     ) -> Result<u32, AllocError>
         requires is_sight { IsSight self.now }
-        requires room { HasRoom core.old self.now.slots (CoreOr
+        requires room { HasRoom core.old self.now.slots (CoreJoined Or
             (CoreNot (core_of (sight_of self.now) (plain_formula_kind premise.now.kind) premise.now.span) span)
             (core_of (sight_of self.now) (plain_formula_kind conclusion.now.kind) conclusion.now.span) span) }
-        ensures { IfOk result (Made core.old self.now.slots (CoreOr
+        ensures { IfOk result (Made core.old self.now.slots (CoreJoined Or
             (CoreNot (core_of (sight_of self.now) (plain_formula_kind premise.now.kind) premise.now.span) span)
             (core_of (sight_of self.now) (plain_formula_kind conclusion.now.kind) conclusion.now.span) span) core.new) }
     {
@@ -583,25 +603,25 @@ impl<'a> Sight<'a> {
     #[cycle(cores)]
     fn list(
         &self,
-        join: Join,
+        connective: Option<Connective>,
         operands: &'a [FormulaOperand],
         span: Span,
         core: &mut Core,
     ) -> Result<u32, AllocError>
         requires is_sight { IsSight self.now }
         requires room { HasRoom core.old self.now.slots
-            (list_core (sight_of self.now) (join_of join) (unit_of join) (operands_of operands.now) span) }
+            (list_core (sight_of self.now) (join_of connective) (unit_of connective) (operands_of operands.now) span) }
         ensures { IfOk result (Made core.old self.now.slots
-            (list_core (sight_of self.now) (join_of join) (unit_of join) (operands_of operands.now) span) core.new) }
+            (list_core (sight_of self.now) (join_of connective) (unit_of connective) (operands_of operands.now) span) core.new) }
     {
         let Some((first, rest)) = operands.split_first() else {
-            return self.atom(join.unit(), span, core);
+            return self.atom(unit(connective), span, core);
         };
         let mut last = self.formula(&first.formula, core)?;
         for operand in rest {
             let second = self.formula(&operand.formula, core)?;
             let covered = reach(first, operand);
-            last = core.push(join.operator(last, second), covered, self.slots)?;
+            last = core.push(join(connective, last, second), covered, self.slots)?;
         }
         Ok(last)
     }

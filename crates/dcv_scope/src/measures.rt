@@ -3,7 +3,7 @@ ghost use Rattle.std.specs.Prelude.{◌≡◌, ◌++◌, ◌∷◌, [], IfOk, So
 ghost use Rattle.std.specs.Option.{option_map};
 ghost use Rattle.dcv_syntax.specs.Views.{plain_prop_kind, plain_formula_kind, plain_body, plain_macro, plain_file};
 ghost use Rattle.dcv_logic.specs.Environment.{found};
-ghost use Rattle.dcv_scope.specs.Measures.{leaf, nothing, measure_of_file};
+ghost use Rattle.dcv_scope.specs.Measures.{leaf, nothing, unary_nodes, unary_depth, quantifier_nodes, measure_of_file};
 ghost use Rattle.dcv_scope.specs.Names.{fault_of_names};
 ghost use Rattle.dcv_scope.specs.Linear.{AreMeasuresOf, variables_alone, measure_with, numbers_of, share_of, uses_parameter, capped_numbers};
 ghost use Rattle.dcv_scope.specs.Linear.{capped_share, capped_macro};
@@ -16,7 +16,7 @@ ghost use Rattle.dcv_scope.specs.Walk.{linear_of, with_linears, declared_alone, 
 use crate::faults::MOST_PARAMETERS;
 use dcv_syntax::{
     File, Formula, FormulaKind, FormulaOperand, Macro, MacroBody, Name, Prop, PropKind,
-    PropOperand, Text,
+    PropOperand, Quantifier, Text, Unary,
 };
 use std::alloc::{AllocError, Global};
 
@@ -324,16 +324,12 @@ impl<'a> Sight<'a> {
             PropKind::Constant(_) => alone(self.alloc),
             PropKind::Call(name, arguments) => self.use_of(name, arguments),
             PropKind::Not(operand) => Ok(below(self.prop(operand)?, 1, 1, 0)),
-            PropKind::And(operands) => Ok(below(self.prop_operands(operands)?, 1, 1, 0)),
-            PropKind::Or(operands) => Ok(below(self.prop_operands(operands)?, 1, 1, 0)),
+            PropKind::Joined(_, operands) => Ok(below(self.prop_operands(operands)?, 1, 1, 0)),
             PropKind::Implies(premise, conclusion) => {
                 let refuted = below(self.prop(premise)?, 1, 1, 0);
                 Ok(below(both(refuted, self.prop(conclusion)?), 1, 1, 0))
             }
-            PropKind::Iff(operands) => Ok(below(self.prop_operands(operands)?, 1, 1, 0)),
-            PropKind::Prior(_, operand) | PropKind::Next(_, operand) => {
-                Ok(below(self.prop(operand)?, 1, 1, 0))
-            }
+            PropKind::Shifted(_, _, operand) => Ok(below(self.prop(operand)?, 1, 1, 0)),
         }
     }
 
@@ -480,28 +476,24 @@ impl<'a> Sight<'a> {
             FormulaKind::Constant(_) => alone(self.alloc),
             FormulaKind::Pt => Ok(below(alone(self.alloc)?, 1, 1, 0)),
             FormulaKind::Ext => Ok(below(alone(self.alloc)?, 1, 1, 0)),
-            FormulaKind::Point(prop) => self.around(prop),
-            FormulaKind::Run(prop) => self.around(prop),
-            FormulaKind::Every(prop) => self.around(prop),
-            FormulaKind::Unit(prop) => self.around(prop),
+            FormulaKind::Bracketed(_, prop) => self.around(prop),
             FormulaKind::Slen(_, _) => alone(self.alloc),
-            FormulaKind::Scount(prop, _, _) => self.around(prop),
-            FormulaKind::Sdur(prop, _, _) => self.around(prop),
+            FormulaKind::Counted(_, prop, _, _) => self.around(prop),
             FormulaKind::Call(name, arguments) => self.call(name, arguments),
-            FormulaKind::Not(body) => Ok(below(self.formula(body)?, 1, 1, 0)),
-            FormulaKind::And(operands) => Ok(below(self.operands(operands)?, 1, 1, 0)),
-            FormulaKind::Or(operands) => Ok(below(self.operands(operands)?, 1, 1, 0)),
+            FormulaKind::Applied(unary, body) => {
+                let inside = self.formula(body)?;
+                Ok(below(inside, unary_nodes(*unary), unary_depth(*unary), 0))
+            }
+            FormulaKind::Joined(_, operands) => Ok(below(self.operands(operands)?, 1, 1, 0)),
             FormulaKind::Implies(premise, conclusion) => {
                 let refuted = below(self.formula(premise)?, 1, 1, 0);
                 Ok(below(both(refuted, self.formula(conclusion)?), 1, 1, 0))
             }
-            FormulaKind::Iff(operands) => Ok(below(self.operands(operands)?, 1, 1, 0)),
             FormulaKind::Chop(operands) => Ok(below(self.operands(operands)?, 1, 1, 0)),
-            FormulaKind::Star(body) => Ok(below(self.formula(body)?, 1, 1, 0)),
-            FormulaKind::Somewhere(body) => Ok(below(self.formula(body)?, 3, 1, 0)),
-            FormulaKind::Everywhere(body) => Ok(below(self.formula(body)?, 5, 3, 0)),
-            FormulaKind::Exists(name, body) => Ok(below(self.quantified(name, body)?, 1, 1, 1)),
-            FormulaKind::ForAll(name, body) => Ok(below(self.quantified(name, body)?, 3, 3, 1)),
+            FormulaKind::Quantified(quantifier, name, body) => {
+                let nodes = quantifier_nodes(*quantifier);
+                Ok(below(self.quantified(name, body)?, nodes, nodes, 1))
+            }
         }
     }
 
@@ -542,6 +534,37 @@ impl<'a> Sight<'a> {
             MacroBody::Formula(formula) => Ok(Box::into_inner(self.formula(formula)?)),
             MacroBody::Prop(prop) => Ok(Box::into_inner(self.prop(prop)?)),
         }
+    }
+}
+
+// How many nodes an operator is.
+fn unary_nodes(unary: Unary) -> u32
+    ensures { result ≡ unary_nodes unary }
+{
+    match unary {
+        Unary::Not | Unary::Star => 1,
+        Unary::Somewhere => 3,
+        Unary::Everywhere => 5,
+    }
+}
+
+// How much deeper its formula stands.
+fn unary_depth(unary: Unary) -> u32
+    ensures { result ≡ unary_depth unary }
+{
+    match unary {
+        Unary::Not | Unary::Star | Unary::Somewhere => 1,
+        Unary::Everywhere => 3,
+    }
+}
+
+// How many nodes a quantifier is, one below the other.
+fn quantifier_nodes(quantifier: Quantifier) -> u32
+    ensures { result ≡ quantifier_nodes quantifier }
+{
+    match quantifier {
+        Quantifier::Exists => 1,
+        Quantifier::ForAll => 3,
     }
 }
 

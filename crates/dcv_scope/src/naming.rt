@@ -108,13 +108,11 @@ impl<'a> Sight<'a> {
                 .at_proposition(name, arguments.len())
                 .or(self.arguments(arguments)),
             PropKind::Not(operand) => self.fault_in_prop(operand),
-            PropKind::And(operands) => self.prop_operands(operands),
-            PropKind::Or(operands) => self.prop_operands(operands),
+            PropKind::Joined(_, operands) => self.prop_operands(operands),
             PropKind::Implies(premise, conclusion) => self
                 .fault_in_prop(premise)
                 .or(self.fault_in_prop(conclusion)),
-            PropKind::Iff(operands) => self.prop_operands(operands),
-            PropKind::Prior(_, operand) | PropKind::Next(_, operand) => self.fault_in_prop(operand),
+            PropKind::Shifted(_, _, operand) => self.fault_in_prop(operand),
         }
     }
 
@@ -205,31 +203,21 @@ impl<'a> Sight<'a> {
             FormulaKind::Constant(_) => Ok(None),
             FormulaKind::Pt => Ok(None),
             FormulaKind::Ext => Ok(None),
-            FormulaKind::Point(prop) => Ok(self.fault_in_prop(prop)),
-            FormulaKind::Run(prop) => Ok(self.fault_in_prop(prop)),
-            FormulaKind::Every(prop) => Ok(self.fault_in_prop(prop)),
-            FormulaKind::Unit(prop) => Ok(self.fault_in_prop(prop)),
+            FormulaKind::Bracketed(_, prop) => Ok(self.fault_in_prop(prop)),
             FormulaKind::Slen(_, _) => Ok(None),
-            FormulaKind::Scount(prop, _, _) => Ok(self.fault_in_prop(prop)),
-            FormulaKind::Sdur(prop, _, _) => Ok(self.fault_in_prop(prop)),
+            FormulaKind::Counted(_, prop, _, _) => Ok(self.fault_in_prop(prop)),
             FormulaKind::Call(name, arguments) => Ok(
                 self.at_formula(name, arguments.len())
                     .or(self.arguments(arguments)),
             ),
-            FormulaKind::Not(body) => self.fault_in_formula(body),
-            FormulaKind::And(operands) => self.operands(operands),
-            FormulaKind::Or(operands) => self.operands(operands),
+            FormulaKind::Applied(_, body) => self.fault_in_formula(body),
+            FormulaKind::Joined(_, operands) => self.operands(operands),
             FormulaKind::Implies(premise, conclusion) => {
                 let first = self.fault_in_formula(premise)?;
                 Ok(first.or(self.fault_in_formula(conclusion)?))
             }
-            FormulaKind::Iff(operands) => self.operands(operands),
             FormulaKind::Chop(operands) => self.operands(operands),
-            FormulaKind::Star(body) => self.fault_in_formula(body),
-            FormulaKind::Somewhere(body) => self.fault_in_formula(body),
-            FormulaKind::Everywhere(body) => self.fault_in_formula(body),
-            FormulaKind::Exists(name, body) => self.quantified(name, body),
-            FormulaKind::ForAll(name, body) => self.quantified(name, body),
+            FormulaKind::Quantified(_, name, body) => self.quantified(name, body),
         }
     }
 

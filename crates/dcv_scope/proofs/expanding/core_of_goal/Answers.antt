@@ -1,5 +1,5 @@
 -- A goal within its slots whose shifts look at no quantified variable has a core.
-use Rattle.std.proofs.Common.{◌≤◌, length, map, sym, ap, subst, ◌∙◌, List, arith}
+use Rattle.std.proofs.Common.{ℕ, zero, suc, ◌≤◌, length, map, sym, ap, subst, ◌∙◌, List, [], ◌∷◌, arith}
 use Rattle.std.proofs.lemmas.List.{length-map}
 use Rattle.std.specs.List.{All}
 use Rattle.std.specs.Option.{option_map}
@@ -11,12 +11,11 @@ use Rattle.dcv_core.specs.Slots.{IsBelow, OpIsBelow}
 use Rattle.dcv_core.proofs.StepList.{steps_from-length}
 use Rattle.dcv_tracks.specs.Shifting.{bound_shift}
 use Rattle.dcv_tracks.specs.ShiftViews.{plain_shift}
-use Rattle.dcv_tracks.proofs.Unbound.{AreUnbound, shifts_unbound}
+use Rattle.dcv_tracks.proofs.Unbound.{AreUnbound, shifts_unbound, unbound_below}
 use Rattle.dcv_scope.specs.CoreOf.{expanded_file}
 use Rattle.dcv_scope.proofs.Faulting.{shift_fault, size_within, quantifiers_within}
-use Rattle.dcv_scope.proofs.GoalRoom.{steps_in_use, steps_over_few, operands_below}
-use Rattle.dcv_scope.proofs.Sizes.{file_fits, goal_slots_are_few}
-use Rattle.dcv_scope.proofs.Slots.{goal_steps_below}
+use Rattle.dcv_scope.proofs.Fits.{file_fits}
+use Rattle.dcv_scope.proofs.Sizes.{steps_all, goal_slots_are_few, goal_steps_below}
 use Rattle.dcv_scope.proofs.expanding.core_of_goal.Goals as goal
 
 pub returns-in-Some-clause-fault : goal.returns-in-Some-clause-fault
@@ -29,7 +28,13 @@ returns-in-Some-clause-fault c =
 pub core_of-requires-clause-in_use : goal.core_of-requires-clause-in_use
 core_of-requires-clause-in_use c =
     let file = plain_file c.args.file.now in
-    subst (λ (steps : List CoreStep). All (λ (step : CoreStep). OpIsBelow step.slots step.op) steps) (sym c.requires.steps) (steps_in_use _ (goal_steps_below file))
+    subst (λ (steps : List CoreStep). All (λ (step : CoreStep). OpIsBelow step.slots step.op) steps) (sym c.requires.steps)
+    (steps_all (λ (step : CoreStep). OpIsBelow step.slots step.op) _ (goal_steps_below file))
+
+operands_below : (k : ℕ) (shifts : List OwnShift) → AreUnbound k (map plain_shift shifts) → All (λ (shift : OwnShift). IsBelow k (plain_shift shift).operand) shifts
+operands_below k [] unbound place d within = absurd (omega (arith, within))
+operands_below k (shift ∷ shifts) unbound zero d within = unbound_below k (plain_shift shift).operand unbound.0
+operands_below k (shift ∷ shifts) unbound (suc place) d within = operands_below k shifts unbound.1 place d (omega (arith, within))
 
 pub core_of-requires-clause-operands : goal.core_of-requires-clause-operands
 core_of-requires-clause-operands c =
@@ -46,7 +51,7 @@ core_of-requires-clause-operands c =
 pub core_of-requires-clause-slots : goal.core_of-requires-clause-slots
 core_of-requires-clause-slots c =
     let file = plain_file c.args.file.now in
-    let few = steps_over_few 32 _ (goal_slots_are_few file 32 (quantifiers_within file c.requires.within)) in
+    let few = steps_all (λ (step : CoreStep). step.slots ≤ 32) _ (goal_slots_are_few file 32 (quantifiers_within file c.requires.within)) in
     let slots = subst (λ (steps : List CoreStep). All (λ (step : CoreStep). step.slots ≤ 32) steps) (sym c.requires.steps) few in
     let count = ap length c.deref.ensures.value ∙ sym (length-map c.in_ok-shifts.shifts.items plain_shift) ∙ ap length c.in_ok-shifts.ensures.shifts in
     let most = c.in_ok-shifts.ensures.slots in

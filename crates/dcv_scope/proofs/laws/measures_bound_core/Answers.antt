@@ -1,5 +1,4 @@
-use Rattle.dcv_scope.proofs.Sizes.{steps_are_few, slots_are_few}
-use Rattle.dcv_scope.proofs.Slots.{slots_are_in_use}
+use Rattle.dcv_scope.proofs.Sizes.{steps_are_few, slots_are_few, slots_are_in_use}
 use Rattle.dcv_scope.proofs.laws.measures_bound_core.Goals as goal
 
 pub returns-clause-steps : goal.returns-clause-steps

@@ -1,23 +1,23 @@
-use Rattle.std.proofs.Common.{◌≡◌, ◌+◌, ◌<◌, ℕ, List, [], ◌∷◌, length, drop, map, arith, refl, sym, ap, ◌∙◌}
+use Rattle.std.proofs.Common.{◌≡◌, ◌+◌, ◌<◌, ℕ, List, [], ◌∷◌, Some, None, length, drop, map, arith, refl, sym, ap, ◌∙◌}
 use Rattle.std.specs.Prelude.{slice_index_or}
 use Rattle.dcv_syntax.specs.declared.formulas.FormulaOperand.{FormulaOperand}
 use Rattle.dcv_syntax.specs.Spans.{covering}
 use Rattle.dcv_syntax.specs.declared.names.Span.{Span}
 use Rattle.dcv_syntax.specs.declared.formulas.FormulaKind.{FormulaKind}
+use Rattle.dcv_syntax.specs.declared.propositions.Connective.TheVariants.{Or}
 use Rattle.dcv_syntax.specs.Views.{plain_formula_kind}
 use Rattle.dcv_logic.specs.Environment.{found}
-use Rattle.dcv_scope.proofs.Measures.{work, list_work, work-And, work-Or, work-Iff, work-Chop, work_at, body_work, all_bodies, left_after_call}
-use Rattle.dcv_scope.specs.declared.expansion.Join.TheVariants as join
+use Rattle.dcv_scope.proofs.WorkLeft.{work, list_work, work-Joined, work-Chop, work_at, body_work, all_bodies, left_after_call}
 use Rattle.dcv_core.specs.Core.{CoreTree, CoreNot}
 use Rattle.dcv_scope.specs.CoreOf.{Sight, core_of, core_of_macro, joined, list_core}
 use Rattle.dcv_core.specs.TruthViews.{plain_truth}
 use Rattle.dcv_scope.specs.Expansions.{sight_of, truths_in, join_of, unit_of, operands_of}
 use Rattle.dcv_scope.proofs.Calls.{core_inside}
-use Rattle.dcv_core.proofs.MadeSteps.{then_ok, made_length, made_one, not_is_one, star_is_one, exists_is_one, made_two, or_is_two, made_round, room_same}
+use Rattle.dcv_core.proofs.MadeSteps.{then_ok, made_length, made_one, not_is_one, star_is_one, exists_is_one, made_two, joined_is_two, made_round, room_same}
 use Rattle.dcv_core.proofs.MadeSteps.{made_same}
 use Rattle.dcv_scope.proofs.ListSteps.{made_in, join_is_two, first_room, operand_room, join_room, pushed_as, drop_end}
 use Rattle.dcv_scope.proofs.NameRows.{drop-more}
-use Rattle.dcv_scope.proofs.TextRows.{listed, core-Call, core-And, core-Or, core-Iff, core-Chop}
+use Rattle.dcv_scope.proofs.TextRows.{listed, core-Call, core-Joined, core-Chop}
 use Rattle.dcv_scope.proofs.expansion.Sight.+cores.Goals as goal
 
 -- ---- calls
@@ -70,7 +70,7 @@ pub implies-push-requires : goal.implies-push-requires
 implies-push-requires t c = omega (arith, c.requires.room.enough_steps, made_length c.in_ok-first.ensures, made_length c.in_ok-second.ensures)
 
 pub implies-returns : goal.implies-returns
-implies-returns t c = then_ok c.push.result c.push.ensures.ok (λ last. made_two or_is_two c.in_ok-first.ensures c.in_ok-second.ensures)
+implies-returns t c = then_ok c.push.result c.push.ensures.ok (λ last. made_two (joined_is_two Or) c.in_ok-first.ensures c.in_ok-second.ensures)
 
 pub not-push-requires : goal.not-push-requires
 not-push-requires t c = omega (arith, c.requires.room.enough_steps, made_length c.in_ok-operand.ensures)
@@ -143,34 +143,23 @@ pub formula-list-requires : goal.formula-list-requires
 formula-list-requires t c =
     let sight = sight_of c.args.self.now in
     let span = c.args.formula.now.span in
-    let same = ap (λ (kind : FormulaKind). core_of sight (plain_formula_kind kind) span) c.in-And.is
-    ∙ core-And sight span c.in-And.operands
-    ∙ ap (listed sight span join.And) (sym c.deref-in-And.ensures.value) in
-    let left : work c.args.formula.now.kind ≡ list_work c.deref-in-And.result.now + 1 =
-    ap work c.in-And.is ∙ work-And c.in-And.operands ∙ ap (λ os. list_work os + 1) (sym c.deref-in-And.ensures.value) in
+    let connective = c.in-Joined.connective in
+    let same = ap (λ (kind : FormulaKind). core_of sight (plain_formula_kind kind) span) c.in-Joined.is
+    ∙ core-Joined sight span connective c.in-Joined.operands
+    ∙ ap (listed sight span (Some connective)) (sym c.deref-in-Joined.ensures.value) in
+    let left : work c.args.formula.now.kind ≡ list_work c.deref-in-Joined.result.now + 1 =
+    ap work c.in-Joined.is ∙ work-Joined connective c.in-Joined.operands ∙ ap (λ os. list_work os + 1) (sym c.deref-in-Joined.ensures.value) in
     (omega (arith, left), (c.requires.is_sight, room_same c.requires.room refl same))
 
-pub formula-list-requires-in-Or : goal.formula-list-requires-in-Or
-formula-list-requires-in-Or t c =
+pub formula-returns-in-Joined : goal.formula-returns-in-Joined
+formula-returns-in-Joined t c =
     let sight = sight_of c.args.self.now in
     let span = c.args.formula.now.span in
-    let same = ap (λ (kind : FormulaKind). core_of sight (plain_formula_kind kind) span) c.in-Or.is
-    ∙ core-Or sight span c.in-Or.operands
-    ∙ ap (listed sight span join.Or) (sym c.deref-in-Or.ensures.value) in
-    let left : work c.args.formula.now.kind ≡ list_work c.deref-in-Or.result.now + 1 =
-    ap work c.in-Or.is ∙ work-Or c.in-Or.operands ∙ ap (λ os. list_work os + 1) (sym c.deref-in-Or.ensures.value) in
-    (omega (arith, left), (c.requires.is_sight, room_same c.requires.room refl same))
-
-pub formula-list-requires-in-Iff : goal.formula-list-requires-in-Iff
-formula-list-requires-in-Iff t c =
-    let sight = sight_of c.args.self.now in
-    let span = c.args.formula.now.span in
-    let same = ap (λ (kind : FormulaKind). core_of sight (plain_formula_kind kind) span) c.in-Iff.is
-    ∙ core-Iff sight span c.in-Iff.operands
-    ∙ ap (listed sight span join.Iff) (sym c.deref-in-Iff.ensures.value) in
-    let left : work c.args.formula.now.kind ≡ list_work c.deref-in-Iff.result.now + 1 =
-    ap work c.in-Iff.is ∙ work-Iff c.in-Iff.operands ∙ ap (λ os. list_work os + 1) (sym c.deref-in-Iff.ensures.value) in
-    (omega (arith, left), (c.requires.is_sight, room_same c.requires.room refl same))
+    let connective = c.in-Joined.connective in
+    let same = ap (λ (kind : FormulaKind). core_of sight (plain_formula_kind kind) span) c.in-Joined.is
+    ∙ core-Joined sight span connective c.in-Joined.operands
+    ∙ ap (listed sight span (Some connective)) (sym c.deref-in-Joined.ensures.value) in
+    then_ok c.list.result c.list.ensures (λ last made. made_same made refl (sym same))
 
 pub formula-list-requires-in-Chop : goal.formula-list-requires-in-Chop
 formula-list-requires-in-Chop t c =
@@ -178,7 +167,7 @@ formula-list-requires-in-Chop t c =
     let span = c.args.formula.now.span in
     let same = ap (λ (kind : FormulaKind). core_of sight (plain_formula_kind kind) span) c.in-Chop.is
     ∙ core-Chop sight span c.in-Chop.operands
-    ∙ ap (listed sight span join.Chop) (sym c.deref-in-Chop.ensures.value) in
+    ∙ ap (listed sight span None) (sym c.deref-in-Chop.ensures.value) in
     let left : work c.args.formula.now.kind ≡ list_work c.deref-in-Chop.result.now + 1 =
     ap work c.in-Chop.is ∙ work-Chop c.in-Chop.operands ∙ ap (λ os. list_work os + 1) (sym c.deref-in-Chop.ensures.value) in
     (omega (arith, left), (c.requires.is_sight, room_same c.requires.room refl same))
@@ -192,7 +181,7 @@ list-formula-requires t c =
     let rest = c.in-Some.rest.now in
     let operands : c.args.operands.now ≡ first ∷ rest = c.in-Some.ensures.cases.0 in
     let work_is : list_work c.args.operands.now ≡ work first.formula.kind + 1 + list_work rest = ap list_work operands in
-    (omega (arith, work_is), (c.requires.is_sight, first_room (join_is_two c.args.join) (sight_of self) (unit_of c.args.join) c.args.span c.args.operands.now first rest operands c.requires.room))
+    (omega (arith, work_is), (c.requires.is_sight, first_room (join_is_two c.args.connective) (sight_of self) (unit_of c.args.connective) c.args.span c.args.operands.now first rest operands c.requires.room))
 
 pub list-loop-operand-init : goal.list-loop-operand-init
 list-loop-operand-init t c =
@@ -201,7 +190,7 @@ list-loop-operand-init t c =
     let operands : c.args.operands.now ≡ first ∷ c.in-Some.rest.now = c.in-Some.ensures.cases.0 in (
       core_of sight (plain_formula_kind first.formula.kind) first.formula.span,
       c.in_ok-last.ensures,
-      sym (ap (λ os. list_core sight (join_of c.args.join) (unit_of c.args.join) (operands_of os) c.args.span) operands),
+      sym (ap (λ os. list_core sight (join_of c.args.connective) (unit_of c.args.connective) (operands_of os) c.args.span) operands),
     )
 
 -- the operands to come begin with this one
@@ -226,11 +215,11 @@ list-formula-requires-in-loop-operand t c =
     let operands : c.args.operands.now ≡ first ∷ rest = c.in-Some.ensures.cases.0 in
     let work_is : list_work c.args.operands.now ≡ work first.formula.kind + 1 + list_work rest = ap list_work operands in
     let item_work : work item.formula.kind ≡ work (slice_index_or rest i item).formula.kind = ap (λ (o : FormulaOperand). work o.formula.kind) c.operand-item.is in
-    let all = goes_on sight (join_of c.args.join) first.span rest i item far.0 _ lt c.operand-item.is far.2 in (
+    let all = goes_on sight (join_of c.args.connective) first.span rest i item far.0 _ lt c.operand-item.is far.2 in (
       omega (arith, work_is, item_work, work_at rest i item lt),
       (
         c.requires.is_sight,
-        operand_room (join_is_two c.args.join) sight first.span c.requires.room far.1 (core_of sight (plain_formula_kind item.formula.kind) item.formula.span)
+        operand_room (join_is_two c.args.connective) sight first.span c.requires.room far.1 (core_of sight (plain_formula_kind item.formula.kind) item.formula.span)
             (covering first.span item.span) (operands_of (drop (i + 1) rest)) all,
       ),
     )
@@ -243,8 +232,8 @@ list-push-requires t c =
     let i = c.loop-operand.operand-index in
     let item = c.operand-item.result in
     let far = c.loop-operand.invariant in
-    let all = goes_on sight (join_of c.args.join) first.span rest i item far.0 _ c.loop-operand-test.true c.operand-item.is far.2 in
-    join_room (join_is_two c.args.join) sight first.span c.requires.room far.1 (core_of sight (plain_formula_kind item.formula.kind) item.formula.span)
+    let all = goes_on sight (join_of c.args.connective) first.span rest i item far.0 _ c.loop-operand-test.true c.operand-item.is far.2 in
+    join_room (join_is_two c.args.connective) sight first.span c.requires.room far.1 (core_of sight (plain_formula_kind item.formula.kind) item.formula.span)
     (covering first.span item.span) (operands_of (drop (i + 1) rest)) all c.in_ok-second.ensures
 
 pub list-loop-operand-preserved : goal.list-loop-operand-preserved
@@ -255,9 +244,9 @@ list-loop-operand-preserved t c =
     let item = c.operand-item.result in
     let far = c.loop-operand.invariant in
     let core = core_of sight (plain_formula_kind item.formula.kind) item.formula.span in
-    let all = goes_on sight (join_of c.args.join) first.span rest c.loop-operand.operand-index item far.0 _ c.loop-operand-test.true c.operand-item.is far.2 in (
-      join_of c.args.join far.0 core (covering first.span item.span),
-      made_two (join_is_two c.args.join) far.1 c.in_ok-second.ensures (pushed_as c.in_ok-last-2.ensures.ok c.operator.ensures c.reach-covered.ensures),
+    let all = goes_on sight (join_of c.args.connective) first.span rest c.loop-operand.operand-index item far.0 _ c.loop-operand-test.true c.operand-item.is far.2 in (
+      join_of c.args.connective far.0 core (covering first.span item.span),
+      made_two (join_is_two c.args.connective) far.1 c.in_ok-second.ensures (pushed_as c.in_ok-last-2.ensures.ok c.join.ensures c.reach-covered.ensures),
       all,
     )
 
@@ -267,4 +256,4 @@ list-returns t c =
     let rest = c.in-Some.rest.now in
     let far = c.loop-operand.invariant in
     let done : drop c.loop-operand.operand-index rest ≡ [] = drop_end rest c.loop-operand.operand-index (omega (arith, c.loop-operand-test.false)) in
-    made_same far.1 refl (ap (λ os. joined sight (join_of c.args.join) c.in-Some.first.now.span (operands_of os) far.0) (sym done) ∙ far.2)
+    made_same far.1 refl (ap (λ os. joined sight (join_of c.args.connective) c.in-Some.first.now.span (operands_of os) far.0) (sym done) ∙ far.2)

@@ -1,5 +1,5 @@
 use Rattle.std.proofs.Common.{◌≡◌, ◌+◌, ◌*◌, drop}
-use Rattle.dcv_scope.proofs.Measures.{work_left, work, list_work}
+use Rattle.dcv_scope.proofs.WorkLeft.{work_left, work, list_work}
 use Rattle.dcv_core.specs.Core.{CoreTree}
 use Rattle.dcv_scope.specs.CoreOf.{joined, list_core}
 use Rattle.dcv_core.specs.Steps.{Made}
@@ -11,8 +11,8 @@ abbrev pub invariant-list-loop-operand : goal.invariant-list-loop-operand
 invariant-list-loop-operand l =
     let sight = sight_of l.self in
     (so_far : CoreTree) × (Made l.fn.core l.self.slots so_far l.core l.last)
-    × (joined sight (join_of l.join) l.first.span (operands_of (drop l.operand-index l.rest)) so_far
-    ≡ list_core sight (join_of l.join) (unit_of l.join) (operands_of l.operands) l.fn.span)
+    × (joined sight (join_of l.connective) l.first.span (operands_of (drop l.operand-index l.rest)) so_far
+    ≡ list_core sight (join_of l.connective) (unit_of l.connective) (operands_of l.operands) l.fn.span)
 
 -- a call of a macro goes on with fewer macros, and every other call deeper into the formula
 abbrev pub decreases-formula : goal.decreases-formula

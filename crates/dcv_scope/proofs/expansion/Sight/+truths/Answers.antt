@@ -2,16 +2,15 @@ use Rattle.std.proofs.Common.{◌≡◌, List, map, arith, sym, ap, ◌∙◌}
 use Rattle.dcv_syntax.specs.declared.propositions.Prop.{Prop, size-Prop}
 use Rattle.dcv_syntax.specs.Views.{plain_prop_kind, plain_prop, plain_body}
 use Rattle.dcv_logic.specs.Environment.{found}
-use Rattle.dcv_scope.proofs.Measures.{prop_depth, all_bodies, left_after_call}
-use Rattle.dcv_core.specs.Core.{PlainTruth, TruthAnd, TruthOr, TruthIff}
+use Rattle.dcv_scope.proofs.WorkLeft.{prop_depth, all_bodies, left_after_call}
+use Rattle.dcv_core.specs.Core.{PlainTruth, TruthJoined}
 use Rattle.dcv_scope.specs.CoreOf.{bind_arguments, truth_of, truth_of_call}
 use Rattle.dcv_scope.specs.Names.{texts}
 use Rattle.dcv_core.specs.TruthViews.{plain_truth, truths_of}
 use Rattle.dcv_scope.specs.Expansions.{sight_of, top_sight_of, truths_in, used_from}
 use Rattle.dcv_scope.proofs.Calls.{prop_called}
 use Rattle.dcv_core.proofs.MadeSteps.{then_ok}
-use Rattle.dcv_core.proofs.TruthRows.{truth_and, truth_or, truth_iff}
-use Rattle.dcv_scope.proofs.TextRows.{operand_truth, truth-Call, truth-And, truth-Or, truth-Iff}
+use Rattle.dcv_scope.proofs.TextRows.{operand_truth, truth-Call, truth-Joined}
 use Rattle.dcv_scope.proofs.expansion.Sight.+truths.Goals as goal
 
 pub named-prop-requires : goal.named-prop-requires
@@ -53,26 +52,11 @@ form-returns-in-Call t c =
     ap of_list c.deref.ensures.value ∙ sym (truth-Call sight name c.in-Call.arguments) ∙ sym (ap (λ kind. truth_of sight (plain_prop_kind kind)) c.in-Call.is) in
     then_ok c.named.result c.named.ensures (λ truth e. e ∙ same)
 
-pub form-returns-in_ok-prop_operands-in-And : goal.form-returns-in_ok-prop_operands-in-And
-form-returns-in_ok-prop_operands-in-And t c =
+pub form-returns-in_ok-prop_operands-in-Joined : goal.form-returns-in_ok-prop_operands-in-Joined
+form-returns-in_ok-prop_operands-in-Joined t c =
     let sight = sight_of c.args.self.now in
-    truth_and c.in_ok-prop_operands-in-And.field-0
-    ∙ ap (λ truths. TruthAnd (truths_of truths)) (c.in_ok-prop_operands-in-And.ensures ∙ ap (map (operand_truth sight)) c.deref-in-And.ensures.value)
-    ∙ sym (truth-And sight c.in-And.operands)
-    ∙ sym (ap (λ kind. truth_of sight (plain_prop_kind kind)) c.in-And.is)
-
-pub form-returns-in_ok-prop_operands-in-Or : goal.form-returns-in_ok-prop_operands-in-Or
-form-returns-in_ok-prop_operands-in-Or t c =
-    let sight = sight_of c.args.self.now in
-    truth_or c.in_ok-prop_operands-in-Or.field-0
-    ∙ ap (λ truths. TruthOr (truths_of truths)) (c.in_ok-prop_operands-in-Or.ensures ∙ ap (map (operand_truth sight)) c.deref-in-Or.ensures.value)
-    ∙ sym (truth-Or sight c.in-Or.operands)
-    ∙ sym (ap (λ kind. truth_of sight (plain_prop_kind kind)) c.in-Or.is)
-
-pub form-returns-in_ok-prop_operands-in-Iff : goal.form-returns-in_ok-prop_operands-in-Iff
-form-returns-in_ok-prop_operands-in-Iff t c =
-    let sight = sight_of c.args.self.now in
-    truth_iff c.in_ok-prop_operands-in-Iff.field-0
-    ∙ ap (λ truths. TruthIff (truths_of truths)) (c.in_ok-prop_operands-in-Iff.ensures ∙ ap (map (operand_truth sight)) c.deref-in-Iff.ensures.value)
-    ∙ sym (truth-Iff sight c.in-Iff.operands)
-    ∙ sym (ap (λ kind. truth_of sight (plain_prop_kind kind)) c.in-Iff.is)
+    let connective = c.in-Joined.connective in
+    c.joined.ensures
+    ∙ ap (λ truths. TruthJoined connective (truths_of truths)) (c.in_ok-prop_operands-in-Joined.ensures ∙ ap (map (operand_truth sight)) c.deref-in-Joined.ensures.value)
+    ∙ sym (truth-Joined sight connective c.in-Joined.operands)
+    ∙ sym (ap (λ kind. truth_of sight (plain_prop_kind kind)) c.in-Joined.is)

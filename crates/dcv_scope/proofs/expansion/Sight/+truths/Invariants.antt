@@ -2,7 +2,7 @@ use Rattle.std.proofs.Common.{◌≡◌, ◌++◌, ◌+◌, ◌*◌, max, drop, 
 use Rattle.dcv_syntax.specs.declared.propositions.Prop.{size-Prop}
 use Rattle.dcv_syntax.specs.declared.propositions.PropOperand.{PropOperand}
 use Rattle.dcv_syntax.specs.Views.{plain_prop_kind}
-use Rattle.dcv_scope.proofs.Measures.{prop_depth, all_bodies}
+use Rattle.dcv_scope.proofs.WorkLeft.{prop_depth, all_bodies}
 use Rattle.dcv_scope.specs.CoreOf.{truth_of}
 use Rattle.dcv_core.specs.TruthViews.{plain_truth}
 use Rattle.dcv_scope.specs.Expansions.{sight_of, used_from, truths_in}

@@ -7,7 +7,7 @@ use Rattle.dcv_scope.specs.Measures.{nothing}
 use Rattle.dcv_scope.specs.Linear.{measure_with, capped_macro}
 use Rattle.dcv_scope.specs.Walk.{constant, linear_beside, linear_under, linear_of_macro, linear_of_formula, linear_in_sight, all_in_turn}
 use Rattle.dcv_scope.proofs.Capped.{in_turn_capped}
-use Rattle.dcv_scope.proofs.LinearRows.{formula-Call, formula-And, formula-Or, formula-Iff, formula-Chop, measured, measured_formula, is_capped}
+use Rattle.dcv_scope.proofs.LinearRows.{formula-Call, formula-Joined, formula-Chop, measured, measured_formula, is_capped}
 use Rattle.dcv_scope.proofs.LinearRows.{taken_in_turn}
 use Rattle.dcv_core.proofs.MadeSteps.{then_ok}
 use Rattle.dcv_scope.proofs.measures.Sight.+formulas.Goals as goal
@@ -22,29 +22,13 @@ formula-returns-in-Call t c =
     ∙ ap capped_macro (sym (formula-Call sight name c.in-Call.arguments))
     ∙ sym (ap (λ kind. capped_macro (linear_of_formula sight (plain_formula_kind kind))) c.in-Call.is))
 
-pub formula-returns-in_ok-operands-in-And : goal.formula-returns-in_ok-operands-in-And
-formula-returns-in_ok-operands-in-And t c =
+pub formula-returns-in_ok-operands-in-Joined : goal.formula-returns-in_ok-operands-in-Joined
+formula-returns-in_ok-operands-in-Joined t c =
     let sight = linear_in_sight c.args.self.now in
-    c.below-in-And.ensures
-    ∙ ap (λ all. capped_macro (linear_under 1 1 0 all)) (c.in_ok-operands-in-And.ensures ∙ ap (λ (os : List FormulaOperand). capped_macro (all_in_turn (measured_formula sight) (constant nothing) os)) c.deref-in-And.ensures.value)
-    ∙ sym (formula-And sight c.in-And.operands)
-    ∙ sym (ap (λ kind. capped_macro (linear_of_formula sight (plain_formula_kind kind))) c.in-And.is)
-
-pub formula-returns-in_ok-operands-in-Or : goal.formula-returns-in_ok-operands-in-Or
-formula-returns-in_ok-operands-in-Or t c =
-    let sight = linear_in_sight c.args.self.now in
-    c.below-in-Or.ensures
-    ∙ ap (λ all. capped_macro (linear_under 1 1 0 all)) (c.in_ok-operands-in-Or.ensures ∙ ap (λ (os : List FormulaOperand). capped_macro (all_in_turn (measured_formula sight) (constant nothing) os)) c.deref-in-Or.ensures.value)
-    ∙ sym (formula-Or sight c.in-Or.operands)
-    ∙ sym (ap (λ kind. capped_macro (linear_of_formula sight (plain_formula_kind kind))) c.in-Or.is)
-
-pub formula-returns-in_ok-operands-in-Iff : goal.formula-returns-in_ok-operands-in-Iff
-formula-returns-in_ok-operands-in-Iff t c =
-    let sight = linear_in_sight c.args.self.now in
-    c.below-in-Iff.ensures
-    ∙ ap (λ all. capped_macro (linear_under 1 1 0 all)) (c.in_ok-operands-in-Iff.ensures ∙ ap (λ (os : List FormulaOperand). capped_macro (all_in_turn (measured_formula sight) (constant nothing) os)) c.deref-in-Iff.ensures.value)
-    ∙ sym (formula-Iff sight c.in-Iff.operands)
-    ∙ sym (ap (λ kind. capped_macro (linear_of_formula sight (plain_formula_kind kind))) c.in-Iff.is)
+    c.below-in-Joined.ensures
+    ∙ ap (λ all. capped_macro (linear_under 1 1 0 all)) (c.in_ok-operands-in-Joined.ensures ∙ ap (λ (os : List FormulaOperand). capped_macro (all_in_turn (measured_formula sight) (constant nothing) os)) c.deref-in-Joined.ensures.value)
+    ∙ sym (formula-Joined sight c.in-Joined.field-0 c.in-Joined.operands)
+    ∙ sym (ap (λ kind. capped_macro (linear_of_formula sight (plain_formula_kind kind))) c.in-Joined.is)
 
 pub formula-returns-in_ok-operands-in-Chop : goal.formula-returns-in_ok-operands-in-Chop
 formula-returns-in_ok-operands-in-Chop t c =

@@ -8,7 +8,7 @@ use Rattle.dcv_scope.specs.Linear.{measure_with, capped_macro}
 use Rattle.dcv_scope.specs.Walk.{constant, linear_beside, linear_under, linear_within, linear_of_name, linear_of_prop, linear_in_sight}
 use Rattle.dcv_scope.specs.Walk.{linear_with_all, linear_with, first_linear, all_in_turn}
 use Rattle.dcv_scope.proofs.Capped.{beside_second, within_capped, in_turn_capped, with_all_first}
-use Rattle.dcv_scope.proofs.LinearRows.{linear-Call, linear-And, linear-Or, linear-Iff, measured, measured_operand, is_capped, called_at}
+use Rattle.dcv_scope.proofs.LinearRows.{linear-Call, linear-Joined, measured, measured_operand, is_capped, called_at}
 use Rattle.dcv_scope.proofs.LinearRows.{taken_in_turn, taken_with, first-drop}
 use Rattle.dcv_core.proofs.MadeSteps.{then_ok}
 use Rattle.dcv_scope.proofs.measures.Sight.+props.Goals as goal
@@ -22,29 +22,13 @@ prop-returns-in-Call t c =
     ∙ ap capped_macro (sym (linear-Call sight name c.in-Call.arguments))
     ∙ sym (ap (λ kind. capped_macro (linear_of_prop sight (plain_prop_kind kind))) c.in-Call.is))
 
-pub prop-returns-in_ok-prop_operands-in-And : goal.prop-returns-in_ok-prop_operands-in-And
-prop-returns-in_ok-prop_operands-in-And t c =
+pub prop-returns-in_ok-prop_operands-in-Joined : goal.prop-returns-in_ok-prop_operands-in-Joined
+prop-returns-in_ok-prop_operands-in-Joined t c =
     let sight = linear_in_sight c.args.self.now in
-    c.below-in-And.ensures
-    ∙ ap (λ all. capped_macro (linear_under 1 1 0 all)) (c.in_ok-prop_operands-in-And.ensures ∙ ap (λ (os : List PropOperand). capped_macro (all_in_turn (measured_operand sight) (constant nothing) os)) c.deref-in-And.ensures.value)
-    ∙ sym (linear-And sight c.in-And.operands)
-    ∙ sym (ap (λ kind. capped_macro (linear_of_prop sight (plain_prop_kind kind))) c.in-And.is)
-
-pub prop-returns-in_ok-prop_operands-in-Or : goal.prop-returns-in_ok-prop_operands-in-Or
-prop-returns-in_ok-prop_operands-in-Or t c =
-    let sight = linear_in_sight c.args.self.now in
-    c.below-in-Or.ensures
-    ∙ ap (λ all. capped_macro (linear_under 1 1 0 all)) (c.in_ok-prop_operands-in-Or.ensures ∙ ap (λ (os : List PropOperand). capped_macro (all_in_turn (measured_operand sight) (constant nothing) os)) c.deref-in-Or.ensures.value)
-    ∙ sym (linear-Or sight c.in-Or.operands)
-    ∙ sym (ap (λ kind. capped_macro (linear_of_prop sight (plain_prop_kind kind))) c.in-Or.is)
-
-pub prop-returns-in_ok-prop_operands-in-Iff : goal.prop-returns-in_ok-prop_operands-in-Iff
-prop-returns-in_ok-prop_operands-in-Iff t c =
-    let sight = linear_in_sight c.args.self.now in
-    c.below-in-Iff.ensures
-    ∙ ap (λ all. capped_macro (linear_under 1 1 0 all)) (c.in_ok-prop_operands-in-Iff.ensures ∙ ap (λ (os : List PropOperand). capped_macro (all_in_turn (measured_operand sight) (constant nothing) os)) c.deref-in-Iff.ensures.value)
-    ∙ sym (linear-Iff sight c.in-Iff.operands)
-    ∙ sym (ap (λ kind. capped_macro (linear_of_prop sight (plain_prop_kind kind))) c.in-Iff.is)
+    c.below-in-Joined.ensures
+    ∙ ap (λ all. capped_macro (linear_under 1 1 0 all)) (c.in_ok-prop_operands-in-Joined.ensures ∙ ap (λ (os : List PropOperand). capped_macro (all_in_turn (measured_operand sight) (constant nothing) os)) c.deref-in-Joined.ensures.value)
+    ∙ sym (linear-Joined sight c.in-Joined.field-0 c.in-Joined.operands)
+    ∙ sym (ap (λ kind. capped_macro (linear_of_prop sight (plain_prop_kind kind))) c.in-Joined.is)
 
 pub prop_operands-loop-operand-init : goal.prop_operands-loop-operand-init
 prop_operands-loop-operand-init t c =

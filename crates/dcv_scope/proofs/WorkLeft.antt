@@ -3,7 +3,7 @@
 use Rattle.std.proofs.Common.{◌≡◌, ℕ, zero, suc, ◌+◌, ◌<◌, ◌≤◌, List, [], ◌∷◌, ◌++◌, length, get_or, Vec, Global, refl, ap, ◌∙◌, arith}
 use Rattle.dcv_syntax.specs.declared.propositions.Prop.{size-Prop}
 use Rattle.dcv_syntax.specs.declared.formulas.FormulaOperand.{FormulaOperand}
-use Rattle.dcv_syntax.specs.declared.formulas.FormulaKind.{FormulaKind, Call, Applied', Joined, Joined', Implies', Chop, Chop', Quantified'}
+use Rattle.dcv_syntax.specs.declared.formulas.FormulaKind.{FormulaKind, Applied', Joined, Joined', Implies', Chop, Chop', Quantified'}
 use Rattle.dcv_syntax.specs.declared.propositions.Connective.{Connective}
 use Rattle.dcv_syntax.specs.declared.formulas.FormulaKind.TheBlock.{Row_of-FormulaOperand, end_of-FormulaOperand, more_of-FormulaOperand, items-the_row-FormulaOperand, items_hidden-the_row-FormulaOperand-0, hidden-the_row-FormulaOperand-0}
 use Rattle.dcv_syntax.specs.declared.files.Macro.{Macro}
