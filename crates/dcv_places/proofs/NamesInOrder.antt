@@ -3,13 +3,10 @@ use Rattle.std.proofs.Common.{◌≡◌, ℕ, zero, suc, ◌+◌, ◌<◌, List,
 use Rattle.std.specs.List.Sorted.{IsStrictlyIncreasing}
 use Rattle.std.proofs.lemmas.List.{map-append, append_assoc}
 use Rattle.dcv_syntax.specs.declared.names.Name.{Name}
-use Rattle.dcv_syntax.specs.Plain.{PlainPropKind, PropConstant, PropCall, PropNot, PropAnd, PropOr, PropImplies, PropIff, PropPrior, PropNext}
-use Rattle.dcv_syntax.specs.Plain.{PlainArguments, no_arguments}
+use Rattle.dcv_syntax.specs.Plain.{PlainPropKind, PropConstant, PropCall, PropNot, PropJoined, PropImplies, PropShifted, PlainArguments, no_arguments}
 use Rattle.dcv_syntax.specs.Plain.{argument, arguments_of, PlainPropOperands, no_prop_operands, prop_operand}
-use Rattle.dcv_syntax.specs.Plain.{PlainFormulaKind, FormulaConstant, FormulaPt, FormulaExt, FormulaPoint, FormulaRun, FormulaEvery, FormulaUnit}
-use Rattle.dcv_syntax.specs.Plain.{FormulaSlen, FormulaScount, FormulaSdur, FormulaCall, FormulaNot, FormulaAnd, FormulaOr, FormulaImplies}
-use Rattle.dcv_syntax.specs.Plain.{FormulaIff}
-use Rattle.dcv_syntax.specs.Plain.{FormulaChop, FormulaStar, FormulaSomewhere, FormulaEverywhere, FormulaExists, FormulaForAll}
+use Rattle.dcv_syntax.specs.Plain.{PlainFormulaKind, FormulaConstant, FormulaPt, FormulaExt, FormulaBracketed, FormulaSlen, FormulaCounted}
+use Rattle.dcv_syntax.specs.Plain.{FormulaCall, FormulaApplied, FormulaJoined, FormulaImplies, FormulaChop, FormulaQuantified}
 use Rattle.dcv_syntax.specs.Plain.{PlainFormulaOperands, no_formula_operands, formula_operand}
 use Rattle.dcv_syntax.specs.Plain.{PlainMacroBody, FormulaBody, PropBody, PlainMacro, PlainFile}
 use Rattle.dcv_scope.specs.Names.{InSight, Role, Declared, Parameter, Defined, Occurrence, occurs, in_sight_too, occurrences_in_prop}
@@ -34,13 +31,10 @@ mutual
   in_prop sight (PropConstant truth) = refl
   in_prop sight (PropCall name arguments) = ap (λ ns. name ∷ ns) (in_arguments sight arguments)
   in_prop sight (PropNot p span) = in_prop sight p
-  in_prop sight (PropAnd operands) = in_prop_operands sight operands
-  in_prop sight (PropOr operands) = in_prop_operands sight operands
+  in_prop sight (PropJoined connective operands) = in_prop_operands sight operands
   in_prop sight (PropImplies p p_span q q_span) =
       joined (occurrences_in_prop sight p) (occurrences_in_prop sight q) (prop_names p) (prop_names q) (in_prop sight p) (in_prop sight q)
-  in_prop sight (PropIff operands) = in_prop_operands sight operands
-  in_prop sight (PropPrior form p span) = in_prop sight p
-  in_prop sight (PropNext form p span) = in_prop sight p
+  in_prop sight (PropShifted direction form p span) = in_prop sight p
 
   in_arguments : (sight : InSight) (arguments : PlainArguments) → names (occurrences_in_arguments sight arguments) ≡ argument_names arguments
   in_arguments sight no_arguments = refl
@@ -60,27 +54,17 @@ mutual
   in_formula (FormulaConstant truth) sight = refl
   in_formula FormulaPt sight = refl
   in_formula FormulaExt sight = refl
-  in_formula (FormulaPoint p) sight = in_prop sight p.kind
-  in_formula (FormulaRun p) sight = in_prop sight p.kind
-  in_formula (FormulaEvery p) sight = in_prop sight p.kind
-  in_formula (FormulaUnit p) sight = in_prop sight p.kind
+  in_formula (FormulaBracketed bracket p) sight = in_prop sight p.kind
   in_formula (FormulaSlen relation n) sight = refl
-  in_formula (FormulaScount p relation n) sight = in_prop sight p.kind
-  in_formula (FormulaSdur p relation n) sight = in_prop sight p.kind
+  in_formula (FormulaCounted which p relation n) sight = in_prop sight p.kind
   in_formula (FormulaCall name arguments) sight = ap (λ ns. name ∷ ns) (in_arguments sight (arguments_of arguments))
-  in_formula (FormulaNot d span) sight = in_formula d sight
-  in_formula (FormulaAnd operands) sight = in_operands operands sight
-  in_formula (FormulaOr operands) sight = in_operands operands sight
+  in_formula (FormulaApplied unary d span) sight = in_formula d sight
+  in_formula (FormulaJoined connective operands) sight = in_operands operands sight
   in_formula (FormulaImplies c c_span d d_span) sight =
       joined (occurrences_in_formula sight c) (occurrences_in_formula sight d) (formula_names c) (formula_names d) (in_formula c sight)
       (in_formula d sight)
-  in_formula (FormulaIff operands) sight = in_operands operands sight
   in_formula (FormulaChop operands) sight = in_operands operands sight
-  in_formula (FormulaStar d span) sight = in_formula d sight
-  in_formula (FormulaSomewhere d span) sight = in_formula d sight
-  in_formula (FormulaEverywhere d span) sight = in_formula d sight
-  in_formula (FormulaExists name d span) sight = ap (λ ns. name ∷ ns) (in_formula d (in_sight_too sight name.text))
-  in_formula (FormulaForAll name d span) sight = ap (λ ns. name ∷ ns) (in_formula d (in_sight_too sight name.text))
+  in_formula (FormulaQuantified quantifier name d span) sight = ap (λ ns. name ∷ ns) (in_formula d (in_sight_too sight name.text))
 
   in_operands : (operands : PlainFormulaOperands) (sight : InSight) → names (occurrences_in_operands sight operands) ≡ operand_names operands
   in_operands no_formula_operands sight = refl

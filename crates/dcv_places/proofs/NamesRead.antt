@@ -1,22 +1,19 @@
 -- The names of a file that a text spells stand in the order of their offsets, as its tokens do.
 use Rattle.std.proofs.Common.{◌≡◌, ℕ, zero, suc, ◌+◌, ◌≤◌, Bool, true, false, length, List, [], ◌∷◌, ◌++◌, map, refl, sym, ap, ◌∙◌, subst}
 use Rattle.std.proofs.Common.{arith, inl, inr}
-use Rattle.std.specs.Prelude.{slice_index_or, ◌==◌, if◌then◌else◌}
+use Rattle.std.specs.Prelude.{drop, slice_index_or, ◌==◌, if◌then◌else◌}
 use Rattle.std.specs.List.{AllByRecursion}
 use Rattle.std.proofs.lemmas.Bool.{cases_Bool}
 use Rattle.std.proofs.lemmas.List.{map-append}
 use Rattle.dcv_syntax.specs.declared.names.Name.{Name}
 use Rattle.dcv_syntax.specs.declared.names.Span.{Span}
-use Rattle.dcv_syntax.specs.declared.formulas.Relation.{Relation}
-use Rattle.dcv_syntax.specs.declared.formulas.Number.{Number}
-use Rattle.dcv_syntax.specs.Plain.{PlainPropKind, PropConstant, PropCall, PropNot, PropAnd, PropOr, PropImplies, PropIff, PropPrior, PropNext}
-use Rattle.dcv_syntax.specs.Plain.{PlainArguments, no_arguments}
-use Rattle.dcv_syntax.specs.Plain.{argument, arguments_of, PlainPropOperands, no_prop_operands, prop_operand, prop_operands_of, PlainProp}
-use Rattle.dcv_syntax.specs.Plain.{PlainPropOperand}
-use Rattle.dcv_syntax.specs.Plain.{PlainFormulaKind, FormulaConstant, FormulaPt, FormulaExt, FormulaPoint, FormulaRun, FormulaEvery, FormulaUnit}
-use Rattle.dcv_syntax.specs.Plain.{FormulaSlen, FormulaScount, FormulaSdur, FormulaCall, FormulaNot, FormulaAnd, FormulaOr, FormulaImplies}
-use Rattle.dcv_syntax.specs.Plain.{FormulaIff}
-use Rattle.dcv_syntax.specs.Plain.{FormulaChop, FormulaStar, FormulaSomewhere, FormulaEverywhere, FormulaExists, FormulaForAll}
+use Rattle.dcv_syntax.specs.declared.propositions.Connective.{Connective}
+use Rattle.dcv_syntax.specs.declared.propositions.Connective.TheVariants.{And, Or, Iff}
+use Rattle.dcv_syntax.specs.declared.propositions.Direction.{Direction}
+use Rattle.dcv_syntax.specs.Plain.{PlainPropKind, PropConstant, PropCall, PropNot, PropJoined, PropImplies, PropShifted, PlainArguments, no_arguments}
+use Rattle.dcv_syntax.specs.Plain.{argument, arguments_of, PlainPropOperands, no_prop_operands, prop_operand, prop_operands_of, PlainProp, PlainPropOperand}
+use Rattle.dcv_syntax.specs.Plain.{PlainFormulaKind, FormulaConstant, FormulaPt, FormulaExt, FormulaBracketed, FormulaSlen, FormulaCounted}
+use Rattle.dcv_syntax.specs.Plain.{FormulaCall, FormulaApplied, FormulaJoined, FormulaImplies, FormulaChop, FormulaQuantified}
 use Rattle.dcv_syntax.specs.Plain.{PlainFormulaOperands, no_formula_operands, formula_operand, formula_operands_of, PlainFormulaOperand}
 use Rattle.dcv_syntax.specs.Plain.{PlainMacroBody, FormulaBody, PropBody, PlainMacro, PlainFile}
 use Rattle.dcv_syntax.specs.Spans.{covering}
@@ -24,13 +21,12 @@ use Rattle.dcv_grammar.specs.Trees.{Nodes, done, leaf, node, leaves}
 use Rattle.dcv_tokens.specs.Classes as classes
 use Rattle.dcv_tokens.specs.Tokens.{Token, span_of, is_blank, EachIsLongest, tokens_from}
 use Rattle.dcv_tokens.proofs.Cuts.{piece_has_bytes}
-use Rattle.dcv_reader.specs.Nodes.{token_class, name_of, number_of, prop_list, starred}
-use Rattle.dcv_reader.specs.Nodes.{starred_by, formula_list}
+use Rattle.dcv_reader.specs.Nodes.{token_class, name_of, direction_of, prop_list, starred, starred_by, formula_list}
 use Rattle.dcv_reader.specs.Actions.{Part, AToken, Names, Arguments, ARelation, AProp, AFormula, Props, Formulas, Stars, AMacro, Macros, AFile}
 use Rattle.dcv_reader.specs.Actions.{Nothing, actions, parts_of, file_part, names_part, more_names_part, macros_part, macro_part}
-use Rattle.dcv_reader.specs.Actions.{arguments_part, more_props_part, prop_iff_part, prop_implies_part, prop_or_part, prop_and_part}
-use Rattle.dcv_reader.specs.Actions.{prop_prefix_part, prop_atom_part, formula_part, more_formulas_part, formula_iff_part, formula_implies_part}
-use Rattle.dcv_reader.specs.Actions.{formula_or_part, formula_and_part, formula_chop_part, formula_prefix_part, formula_star_part, stars_part}
+use Rattle.dcv_reader.specs.Actions.{arguments_part, more_props_part, joined_props_part, prop_implies_part, prop_prefix_part}
+use Rattle.dcv_reader.specs.Actions.{prop_atom_part, formula_part, more_formulas_part, joined_formulas_part, formula_implies_part}
+use Rattle.dcv_reader.specs.Actions.{formula_chop_part, formula_prefix_part, formula_star_part, stars_part}
 use Rattle.dcv_reader.specs.Actions.{formula_atom_part, relation_part}
 use Rattle.dcv_reader.specs.Spelling.{Spells}
 
@@ -41,12 +37,9 @@ abbrev mutual
   prop_names (PropConstant truth) = []
   prop_names (PropCall name arguments) = name ∷ argument_names arguments
   prop_names (PropNot p span) = prop_names p
-  prop_names (PropAnd operands) = prop_operand_names operands
-  prop_names (PropOr operands) = prop_operand_names operands
+  prop_names (PropJoined connective operands) = prop_operand_names operands
   prop_names (PropImplies p p_span q q_span) = prop_names p ++ prop_names q
-  prop_names (PropIff operands) = prop_operand_names operands
-  prop_names (PropPrior form p span) = prop_names p
-  prop_names (PropNext form p span) = prop_names p
+  prop_names (PropShifted direction form p span) = prop_names p
 
   pub argument_names : PlainArguments → List Name
   argument_names no_arguments = []
@@ -61,25 +54,15 @@ abbrev mutual
   formula_names (FormulaConstant truth) = []
   formula_names FormulaPt = []
   formula_names FormulaExt = []
-  formula_names (FormulaPoint p) = prop_names p.kind
-  formula_names (FormulaRun p) = prop_names p.kind
-  formula_names (FormulaEvery p) = prop_names p.kind
-  formula_names (FormulaUnit p) = prop_names p.kind
+  formula_names (FormulaBracketed bracket p) = prop_names p.kind
   formula_names (FormulaSlen relation n) = []
-  formula_names (FormulaScount p relation n) = prop_names p.kind
-  formula_names (FormulaSdur p relation n) = prop_names p.kind
+  formula_names (FormulaCounted which p relation n) = prop_names p.kind
   formula_names (FormulaCall name arguments) = name ∷ argument_names (arguments_of arguments)
-  formula_names (FormulaNot d span) = formula_names d
-  formula_names (FormulaAnd operands) = operand_names operands
-  formula_names (FormulaOr operands) = operand_names operands
+  formula_names (FormulaApplied unary d span) = formula_names d
+  formula_names (FormulaJoined connective operands) = operand_names operands
   formula_names (FormulaImplies c c_span d d_span) = formula_names c ++ formula_names d
-  formula_names (FormulaIff operands) = operand_names operands
   formula_names (FormulaChop operands) = operand_names operands
-  formula_names (FormulaStar d span) = formula_names d
-  formula_names (FormulaSomewhere d span) = formula_names d
-  formula_names (FormulaEverywhere d span) = formula_names d
-  formula_names (FormulaExists name d span) = name ∷ formula_names d
-  formula_names (FormulaForAll name d span) = name ∷ formula_names d
+  formula_names (FormulaQuantified quantifier name d span) = name ∷ formula_names d
 
   pub operand_names : PlainFormulaOperands → List Name
   operand_names no_formula_operands = []
@@ -201,13 +184,11 @@ arguments_of_props : (ps : List PlainPropOperand) → arguments_names (map (λ o
 arguments_of_props [] = refl
 arguments_of_props (p ∷ ps) = ap (λ names. prop_names p.prop.kind ++ names) (arguments_of_props ps)
 
-prop_list_keeps : (kind : PlainPropOperands → PlainPropKind)
-    → ((operands : PlainPropOperands) → prop_names (kind operands) ≡ prop_operand_names operands)
-    → (low : ℕ) (p : PlainPropOperand) (middle : ℕ) (ps : List PlainPropOperand) (high : ℕ) → Within low (prop_names p.prop.kind) middle
-    → Within middle (props_names ps) high → Within low (prop_names (prop_list kind p ps).prop.kind) high
-prop_list_keeps kind same low p middle [] high h k = higher low (prop_names p.prop.kind) middle high k h
-prop_list_keeps kind same low p middle (q ∷ ps) high h k =
-    subst (λ (names : List Name). Within low names high) (sym (same (prop_operands_of (p ∷ q ∷ ps)) ∙ operands_of_props (p ∷ q ∷ ps)))
+prop_list_keeps : (connective : Connective) (low : ℕ) (p : PlainPropOperand) (middle : ℕ) (ps : List PlainPropOperand) (high : ℕ)
+    → Within low (prop_names p.prop.kind) middle → Within middle (props_names ps) high → Within low (prop_names (prop_list connective p ps).prop.kind) high
+prop_list_keeps connective low p middle [] high h k = higher low (prop_names p.prop.kind) middle high k h
+prop_list_keeps connective low p middle (q ∷ ps) high h k =
+    subst (λ (names : List Name). Within low names high) (sym (operands_of_props (p ∷ q ∷ ps)))
     (both low (prop_names p.prop.kind) (props_names (q ∷ ps)) middle high h k)
 
 formula_list_keeps : (kind : PlainFormulaOperands → PlainFormulaKind)
@@ -221,39 +202,15 @@ formula_list_keeps kind same low d middle (e ∷ ds) high h k =
 
 -- ---- nodes that a word picks
 
-choose_sign : (a b : Bool) (form : Span) (p : PlainPropKind) (span : Span)
-    → prop_names (if a then PropNot p span else if b then PropPrior form p span else PropNext form p span) ≡ prop_names p
-choose_sign true b form p span = refl
-choose_sign false true form p span = refl
-choose_sign false false form p span = refl
-
-choose_bracket : (a b c : Bool) (p : PlainProp)
-    → formula_names (if a then FormulaPoint p else if b then FormulaRun p else if c then FormulaEvery p else FormulaUnit p) ≡ prop_names p.kind
-choose_bracket true b c p = refl
-choose_bracket false true c p = refl
-choose_bracket false false true p = refl
-choose_bracket false false false p = refl
+choose_sign : (a : Bool) (direction : Direction) (form : Span) (p : PlainPropKind) (span : Span)
+    → prop_names (if a then PropNot p span else PropShifted direction form p span) ≡ prop_names p
+choose_sign true direction form p span = refl
+choose_sign false direction form p span = refl
 
 choose_word : (a b truth : Bool) → formula_names (if a then FormulaPt else if b then FormulaExt else FormulaConstant truth) ≡ []
 choose_word true b truth = refl
 choose_word false true truth = refl
 choose_word false false truth = refl
-
-choose_measure : (a : Bool) (p : PlainProp) (relation : Relation) (n : Number)
-    → formula_names (if a then FormulaScount p relation n else FormulaSdur p relation n) ≡ prop_names p.kind
-choose_measure true p relation n = refl
-choose_measure false p relation n = refl
-
-choose_prefix : (a b : Bool) (d : PlainFormulaKind) (span : Span)
-    → formula_names (if a then FormulaNot d span else if b then FormulaSomewhere d span else FormulaEverywhere d span) ≡ formula_names d
-choose_prefix true b d span = refl
-choose_prefix false true d span = refl
-choose_prefix false false d span = refl
-
-choose_quantifier : (a : Bool) (name : Name) (d : PlainFormulaKind) (span : Span)
-    → formula_names (if a then FormulaExists name d span else FormulaForAll name d span) ≡ name ∷ formula_names d
-choose_quantifier true name d span = refl
-choose_quantifier false name d span = refl
 
 stars_keep_names : (d : PlainFormulaOperand) (stars : List Span) → formula_names (starred_by d stars).formula.kind ≡ formula_names d.formula.kind
 stars_keep_names d [] = refl
@@ -317,10 +274,10 @@ more_props_keep low high (AToken arrow ∷ AProp p ∷ []) (a, (h, (b, (k, l))))
     apart low a (props_names (p ∷ [])) b high (omega (arith, h.0, h.1)) l (both a (prop_names p.prop.kind) [] b b k (omega arith))
 more_props_keep low high parts h = in_order_le low parts high h
 
-prop_iff_keeps : Keeps prop_iff_part
-prop_iff_keeps low high (AProp p ∷ Props ps ∷ []) (a, (h, (b, (k, l)))) =
-    prop_list_keeps PropIff (λ operands. refl) low p a ps high h (higher a (props_names ps) b high l k)
-prop_iff_keeps low high parts h = in_order_le low parts high h
+joined_props_keep : (connective : Connective) → Keeps (joined_props_part connective)
+joined_props_keep connective low high (AProp p ∷ Props ps ∷ []) (a, (h, (b, (k, l)))) =
+    prop_list_keeps connective low p a ps high h (higher a (props_names ps) b high l k)
+joined_props_keep connective low high parts h = in_order_le low parts high h
 
 prop_implies_keeps : Keeps prop_implies_part
 prop_implies_keeps low high (AProp p ∷ Props [] ∷ []) (a, (h, (b, (k, l)))) = higher low (prop_names p.prop.kind) a high (omega (arith, k, l)) h
@@ -330,21 +287,10 @@ prop_implies_keeps low high (AProp p ∷ Props (q ∷ []) ∷ []) (a, (h, (b, (k
     (higher a (prop_names q.prop.kind) cut_q.middle high (omega (arith, cut_q.behind, l)) cut_q.front)
 prop_implies_keeps low high parts h = in_order_le low parts high h
 
-prop_or_keeps : Keeps prop_or_part
-prop_or_keeps low high (AProp p ∷ Props ps ∷ []) (a, (h, (b, (k, l)))) =
-    prop_list_keeps PropOr (λ operands. refl) low p a ps high h (higher a (props_names ps) b high l k)
-prop_or_keeps low high parts h = in_order_le low parts high h
-
-prop_and_keeps : Keeps prop_and_part
-prop_and_keeps low high (AProp p ∷ Props ps ∷ []) (a, (h, (b, (k, l)))) =
-    prop_list_keeps PropAnd (λ operands. refl) low p a ps high h (higher a (props_names ps) b high l k)
-prop_and_keeps low high parts h = in_order_le low parts high h
-
 prop_prefix_keeps : Keeps prop_prefix_part
 prop_prefix_keeps low high (AToken sign ∷ AProp p ∷ []) (a, (h, (b, (k, l)))) =
     subst (λ (names : List Name). Within low names high)
-    (sym (choose_sign (token_class sign == classes.exclamation) (token_class sign == classes.minus) (covering (span_of sign) p.span) p.prop.kind
-    p.prop.span))
+    (sym (choose_sign (token_class sign == classes.exclamation) (direction_of sign) (covering (span_of sign) p.span) p.prop.kind p.prop.span))
     (apart low a (prop_names p.prop.kind) b high (omega (arith, h.0, h.1)) l k)
 prop_prefix_keeps low high (AProp p ∷ []) (a, (h, k)) = higher low (prop_names p.prop.kind) a high k h
 prop_prefix_keeps low high parts h = in_order_le low parts high h
@@ -360,10 +306,8 @@ prop_atom_keeps low high parts h = in_order_le low parts high h
 
 formula_keeps : Keeps formula_part
 formula_keeps low high (AToken word ∷ AToken name ∷ AToken dot ∷ AFormula d ∷ []) (a, (h, (b, (k, (c, (l, (e, (m, n)))))))) =
-    subst (λ (names : List Name). Within low names high)
-    (sym (choose_quantifier (token_class word == classes.word_ex) (name_of name) d.formula.kind d.formula.span))
-    (apart low a (name_of name ∷ formula_names d.formula.kind) e high (omega (arith, h.0, h.1)) n
-    (both a (name_of name ∷ []) (formula_names d.formula.kind) b e k (lower b c (formula_names d.formula.kind) e (omega (arith, l.0, l.1)) m)))
+    apart low a (name_of name ∷ formula_names d.formula.kind) e high (omega (arith, h.0, h.1)) n
+    (both a (name_of name ∷ []) (formula_names d.formula.kind) b e k (lower b c (formula_names d.formula.kind) e (omega (arith, l.0, l.1)) m))
 formula_keeps low high (AFormula d ∷ []) (a, (h, k)) = higher low (formula_names d.formula.kind) a high k h
 formula_keeps low high parts h = in_order_le low parts high h
 
@@ -375,10 +319,10 @@ more_formulas_keep low high (AToken arrow ∷ AFormula d ∷ []) (a, (h, (b, (k,
     apart low a (formulas_names (d ∷ [])) b high (omega (arith, h.0, h.1)) l (both a (formula_names d.formula.kind) [] b b k (omega arith))
 more_formulas_keep low high parts h = in_order_le low parts high h
 
-formula_iff_keeps : Keeps formula_iff_part
-formula_iff_keeps low high (AFormula d ∷ Formulas ds ∷ []) (a, (h, (b, (k, l)))) =
-    formula_list_keeps FormulaIff (λ operands. refl) low d a ds high h (higher a (formulas_names ds) b high l k)
-formula_iff_keeps low high parts h = in_order_le low parts high h
+joined_formulas_keep : (connective : Connective) → Keeps (joined_formulas_part connective)
+joined_formulas_keep connective low high (AFormula d ∷ Formulas ds ∷ []) (a, (h, (b, (k, l)))) =
+    formula_list_keeps (FormulaJoined connective) (λ operands. refl) low d a ds high h (higher a (formulas_names ds) b high l k)
+joined_formulas_keep connective low high parts h = in_order_le low parts high h
 
 formula_implies_keeps : Keeps formula_implies_part
 formula_implies_keeps low high (AFormula d ∷ Formulas [] ∷ []) (a, (h, (b, (k, l)))) =
@@ -389,16 +333,6 @@ formula_implies_keeps low high (AFormula d ∷ Formulas (e ∷ []) ∷ []) (a, (
     (higher a (formula_names e.formula.kind) cut_e.middle high (omega (arith, cut_e.behind, l)) cut_e.front)
 formula_implies_keeps low high parts h = in_order_le low parts high h
 
-formula_or_keeps : Keeps formula_or_part
-formula_or_keeps low high (AFormula d ∷ Formulas ds ∷ []) (a, (h, (b, (k, l)))) =
-    formula_list_keeps FormulaOr (λ operands. refl) low d a ds high h (higher a (formulas_names ds) b high l k)
-formula_or_keeps low high parts h = in_order_le low parts high h
-
-formula_and_keeps : Keeps formula_and_part
-formula_and_keeps low high (AFormula d ∷ Formulas ds ∷ []) (a, (h, (b, (k, l)))) =
-    formula_list_keeps FormulaAnd (λ operands. refl) low d a ds high h (higher a (formulas_names ds) b high l k)
-formula_and_keeps low high parts h = in_order_le low parts high h
-
 formula_chop_keeps : Keeps formula_chop_part
 formula_chop_keeps low high (AFormula d ∷ Formulas ds ∷ []) (a, (h, (b, (k, l)))) =
     formula_list_keeps FormulaChop (λ operands. refl) low d a ds high h (higher a (formulas_names ds) b high l k)
@@ -406,9 +340,7 @@ formula_chop_keeps low high parts h = in_order_le low parts high h
 
 formula_prefix_keeps : Keeps formula_prefix_part
 formula_prefix_keeps low high (AToken sign ∷ AFormula d ∷ []) (a, (h, (b, (k, l)))) =
-    subst (λ (names : List Name). Within low names high)
-    (sym (choose_prefix (token_class sign == classes.exclamation) (token_class sign == classes.diamond) d.formula.kind d.formula.span))
-    (apart low a (formula_names d.formula.kind) b high (omega (arith, h.0, h.1)) l k)
+    apart low a (formula_names d.formula.kind) b high (omega (arith, h.0, h.1)) l k
 formula_prefix_keeps low high (AFormula d ∷ []) (a, (h, k)) = higher low (formula_names d.formula.kind) a high k h
 formula_prefix_keeps low high parts h = in_order_le low parts high h
 
@@ -427,10 +359,7 @@ formula_atom_keeps : Keeps formula_atom_part
 formula_atom_keeps low high (AToken opening ∷ AFormula d ∷ AToken closing ∷ []) (a, (h, (b, (k, (c, (l, m)))))) =
     apart low a (formula_names d.formula.kind) b high (omega (arith, h.0, h.1)) (omega (arith, l.0, l.1, m)) k
 formula_atom_keeps low high (AToken opening ∷ AProp p ∷ AToken closing ∷ []) (a, (h, (b, (k, (c, (l, m)))))) =
-    subst (λ (names : List Name). Within low names high)
-    (sym (choose_bracket (token_class opening == classes.less) (token_class opening == classes.open_bracket)
-    (token_class opening == classes.open_brackets) p.prop))
-    (apart low a (prop_names p.prop.kind) b high (omega (arith, h.0, h.1)) (omega (arith, l.0, l.1, m)) k)
+    apart low a (prop_names p.prop.kind) b high (omega (arith, h.0, h.1)) (omega (arith, l.0, l.1, m)) k
 formula_atom_keeps low high (AToken word ∷ []) (a, (h, k)) =
     subst (λ (names : List Name). Within low names high)
     (sym (choose_word (token_class word == classes.word_pt) (token_class word == classes.word_ext) (token_class word == classes.word_true)))
@@ -438,9 +367,7 @@ formula_atom_keeps low high (AToken word ∷ []) (a, (h, k)) =
 formula_atom_keeps low high (AToken slen ∷ ARelation relation ∷ AToken number ∷ []) (a, (h, (b, (k, (c, (l, m)))))) =
     omega (arith, h.0, h.1, k, l.0, l.1, m)
 formula_atom_keeps low high (AToken word ∷ AProp p ∷ ARelation relation ∷ AToken number ∷ []) (a, (h, (b, (k, (c, (l, (d, (m, n)))))))) =
-    subst (λ (names : List Name). Within low names high)
-    (sym (choose_measure (token_class word == classes.word_scount) p.prop relation (number_of number)))
-    (apart low a (prop_names p.prop.kind) b high (omega (arith, h.0, h.1)) (omega (arith, l, m.0, m.1, n)) k)
+    apart low a (prop_names p.prop.kind) b high (omega (arith, h.0, h.1)) (omega (arith, l, m.0, m.1, n)) k
 formula_atom_keeps low high (AToken name ∷ Arguments arguments parentheses ∷ []) (a, (h, (b, (k, l)))) =
     subst (λ (names : List Name). Within low (name_of name ∷ names) high) (sym (arguments_of_list arguments))
     (higher low (name_of name ∷ arguments_names arguments) b high l (both low (name_of name ∷ []) (arguments_names arguments) a b h k))
@@ -450,89 +377,27 @@ relation_keeps : Keeps relation_part
 relation_keeps low high (AToken sign ∷ []) (a, (h, k)) = omega (arith, h.0, h.1, k)
 relation_keeps low high parts h = in_order_le low parts high h
 
+-- so does each rule from that of a number on
+prop_prefix_rules_keep : AllByRecursion Keeps (drop 32 actions)
+prop_prefix_rules_keep = (prop_prefix_keeps, (prop_atom_keeps, tt))
+
+prop_rules_keep : AllByRecursion Keeps (drop 24 actions)
+prop_rules_keep =
+    (joined_props_keep Iff, (more_props_keep, (prop_implies_keeps, (more_props_keep, (joined_props_keep Or, (more_props_keep, (joined_props_keep And, (more_props_keep, prop_prefix_rules_keep))))))))
+
+formula_prefix_rules_keep : AllByRecursion Keeps (drop 19 actions)
+formula_prefix_rules_keep = (formula_prefix_keeps, (formula_star_keeps, (stars_keep, (formula_atom_keeps, (relation_keeps, prop_rules_keep)))))
+
+formula_or_rules_keep : AllByRecursion Keeps (drop 13 actions)
+formula_or_rules_keep =
+    (joined_formulas_keep Or, (more_formulas_keep, (joined_formulas_keep And, (more_formulas_keep, (formula_chop_keeps, (more_formulas_keep, formula_prefix_rules_keep))))))
+
+formula_rules_keep : AllByRecursion Keeps (drop 8 actions)
+formula_rules_keep = (formula_keeps, (joined_formulas_keep Iff, (more_formulas_keep, (formula_implies_keeps, (more_formulas_keep, formula_or_rules_keep)))))
+
 all_keep : AllByRecursion Keeps actions
-all_keep = (
-  file_keeps,
-  (
-    names_keep,
-    (
-      more_names_keep,
-      (
-        macros_keep,
-        (
-          macro_keeps,
-          (
-            names_keep,
-            (
-              arguments_keep,
-              (
-                more_props_keep,
-                (
-                  formula_keeps,
-                  (
-                    formula_iff_keeps,
-                    (
-                      more_formulas_keep,
-                      (
-                        formula_implies_keeps,
-                        (
-                          more_formulas_keep,
-                          (
-                            formula_or_keeps,
-                            (
-                              more_formulas_keep,
-                              (
-                                formula_and_keeps,
-                                (
-                                  more_formulas_keep,
-                                  (
-                                    formula_chop_keeps,
-                                    (
-                                      more_formulas_keep,
-                                      (
-                                        formula_prefix_keeps,
-                                        (
-                                          formula_star_keeps,
-                                          (
-                                            stars_keep,
-                                            (
-                                              formula_atom_keeps,
-                                              (
-                                                relation_keeps,
-                                                (
-                                                  prop_iff_keeps,
-                                                  (
-                                                    more_props_keep,
-                                                    (
-                                                      prop_implies_keeps,
-                                                      (more_props_keep, (prop_or_keeps, (more_props_keep, (prop_and_keeps, (more_props_keep, (prop_prefix_keeps, (prop_atom_keeps, tt))))))),
-                                                    ),
-                                                  ),
-                                                ),
-                                              ),
-                                            ),
-                                          ),
-                                        ),
-                                      ),
-                                    ),
-                                  ),
-                                ),
-                              ),
-                            ),
-                          ),
-                        ),
-                      ),
-                    ),
-                  ),
-                ),
-              ),
-            ),
-          ),
-        ),
-      ),
-    ),
-  ),
-)
+all_keep =
+    (file_keeps, (names_keep, (more_names_keep, (macros_keep, (macro_keeps, (names_keep, (arguments_keep, (more_props_keep, formula_rules_keep))))))))
 
 keeps_at : (made : List (List Part → Part)) → AllByRecursion Keeps made → (rule : ℕ) → Keeps (slice_index_or made rule (λ parts. Nothing))
 keeps_at [] all rule low high parts h = in_order_le low parts high h

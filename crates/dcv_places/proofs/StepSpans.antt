@@ -1,28 +1,32 @@
 -- Each step of a file's core begins where some form of the file does, a formula or a prior or next proposition.
 use Rattle.std.proofs.Common.{◌≡◌, ℕ, zero, suc, ◌+◌, ◌<◌, Bool, true, false, List, [], ◌∷◌, ◌++◌, Option, None, Some, map, length, subst}
-use Rattle.std.specs.Prelude.{slice_get, if◌then◌else◌}
-use Rattle.std.specs.List.{zip, list_any}
+use Rattle.std.specs.Prelude.{⊤, slice_get, if◌then◌else◌}
+use Rattle.std.specs.List.{AllByRecursion, zip, list_any}
+use Rattle.std.specs.Option.{IfSome}
 use Rattle.std.specs.Str.{bytes_eq}
 use Rattle.dcv_logic.specs.Environment.{found}
+use Rattle.dcv_logic.specs.Connectives.{of_none}
 use Rattle.dcv_syntax.specs.declared.names.Name.{Name}
 use Rattle.dcv_syntax.specs.declared.names.Span.{Span}
 use Rattle.dcv_syntax.specs.Spans.{covering}
-use Rattle.dcv_syntax.specs.Plain.{PlainPropKind, PropConstant, PropCall, PropNot, PropAnd, PropOr, PropImplies, PropIff, PropPrior, PropNext}
+use Rattle.dcv_syntax.specs.declared.formulas.Bracket.TheVariants.{Point}
+use Rattle.dcv_syntax.specs.declared.formulas.Unary.{Unary}
+use Rattle.dcv_syntax.specs.declared.formulas.Unary.TheVariants.{Not, Star, Somewhere, Everywhere}
+use Rattle.dcv_syntax.specs.declared.formulas.Quantifier.{Quantifier}
+use Rattle.dcv_syntax.specs.declared.formulas.Quantifier.TheVariants.{Exists, ForAll}
+use Rattle.dcv_syntax.specs.Plain.{PlainPropKind, PropConstant, PropCall, PropNot, PropJoined, PropImplies, PropShifted}
 use Rattle.dcv_syntax.specs.Plain.{PlainArguments, no_arguments, argument, PlainPropOperands, no_prop_operands, prop_operand}
-use Rattle.dcv_syntax.specs.Plain.{PlainFormulaKind, FormulaConstant, FormulaPt, FormulaExt, FormulaPoint, FormulaRun, FormulaEvery, FormulaUnit}
-use Rattle.dcv_syntax.specs.Plain.{FormulaSlen, FormulaScount, FormulaSdur, FormulaCall, FormulaNot, FormulaAnd, FormulaOr, FormulaImplies, FormulaIff}
-use Rattle.dcv_syntax.specs.Plain.{FormulaChop, FormulaStar, FormulaSomewhere, FormulaEverywhere, FormulaExists, FormulaForAll, arguments_of}
+use Rattle.dcv_syntax.specs.Plain.{PlainFormulaKind, FormulaConstant, FormulaPt, FormulaExt, FormulaBracketed, FormulaSlen, FormulaCounted}
+use Rattle.dcv_syntax.specs.Plain.{FormulaCall, FormulaApplied, FormulaJoined, FormulaImplies, FormulaChop, FormulaQuantified, arguments_of}
 use Rattle.dcv_syntax.specs.Plain.{PlainFormulaOperands, no_formula_operands, formula_operand, PlainMacroBody, FormulaBody, PropBody, PlainMacro, PlainFile}
-use Rattle.dcv_core.specs.declared.truths.Direction.{Direction}
-use Rattle.dcv_core.specs.declared.truths.Direction.TheVariants.{Prior, Next}
-use Rattle.dcv_core.specs.Core.{PlainTruth, TruthConstant, TruthSlot, TruthNot, TruthAnd, TruthOr, TruthIff, TruthShift, PlainTruths, no_truths, truth_operand}
-use Rattle.dcv_core.specs.Core.{PlainBasic, BasicConstant, BasicPoint, BasicRun, BasicEvery, BasicUnit, BasicSlen, BasicScount, BasicSdur, BasicBack, BasicFore}
-use Rattle.dcv_core.specs.Core.{CoreTree, CoreAtom, CoreNot, CoreAnd, CoreOr, CoreIff, CoreChop, CoreStar, CoreExists}
+use Rattle.dcv_core.specs.Core.{PlainTruth, TruthConstant, TruthSlot, TruthNot, TruthJoined, TruthShift, PlainTruths, no_truths, truth_operand}
+use Rattle.dcv_core.specs.Core.{PlainBasic, BasicConstant, BasicBracketed, BasicSlen, BasicCounted, BasicTrack}
+use Rattle.dcv_core.specs.Core.{CoreTree, CoreAtom, CoreNot, CoreJoined, CoreChop, CoreStar, CoreExists}
 use Rattle.dcv_core.specs.Steps.{PlainStep, steps_before, steps_from, steps_of}
-use Rattle.dcv_tracks.specs.Shifting.{Shift, same_shift, with_shift, collected, all_collected, collected_of_basic, collected_of, shifts_in}
-use Rattle.dcv_tracks.specs.Shifting.{placed, all_placed, placed_basic, placed_core, shift_row, shift_basic, closed_from}
+use Rattle.dcv_tracks.specs.Shifting.{Shift, same_shift, with_shift, collected, all_collected, collected_by, collected_of, shifts_in, truth_in}
+use Rattle.dcv_tracks.specs.Shifting.{placed, all_placed, placed_basic, placed_core, closed_from}
 use Rattle.dcv_scope.specs.CoreOf.{Expansion, PropExpansion, FormulaExpansion, Sight, bind_slot, bind_arguments, truth_of_call, truth_of, argument_truths, operand_truths}
-use Rattle.dcv_scope.specs.CoreOf.{core_of_macro, somewhere_core, core_of, list_core, joined, body_expansion, expansion_of, with_expansions, declared_slots}
+use Rattle.dcv_scope.specs.CoreOf.{core_of_macro, somewhere_core, applied_core, quantified_core, core_of, list_core, joined, body_expansion, expansion_of, with_expansions, declared_slots}
 use Rattle.dcv_scope.specs.CoreOf.{goal_sight, expanded_file, core_of_file}
 use Rattle.dcv_places.specs.Laws.{StepsBeginInText}
 use Rattle.dcv_places.proofs.SpansRead.{file_begins, Begins, PropBegins, ArgumentsBegin, PropOperandsBegin, FormsBegin, OperandsBegin, BodyBegins, MacrosBegin, FileBegins}
@@ -32,41 +36,27 @@ use Rattle.dcv_places.proofs.SpansRead.{file_begins, Begins, PropBegins, Argumen
 abbrev mutual
   -- the shifts in a proposition do
   TruthBegins : ℕ → PlainTruth → Type 0
-  TruthBegins high (TruthConstant truth) = Unit {0}
-  TruthBegins high (TruthSlot slot) = Unit {0}
+  TruthBegins high (TruthConstant truth) = ⊤
+  TruthBegins high (TruthSlot slot) = ⊤
   TruthBegins high (TruthNot p) = TruthBegins high p
-  TruthBegins high (TruthAnd operands) = TruthsBegin high operands
-  TruthBegins high (TruthOr operands) = TruthsBegin high operands
-  TruthBegins high (TruthIff operands) = TruthsBegin high operands
+  TruthBegins high (TruthJoined connective operands) = TruthsBegin high operands
   TruthBegins high (TruthShift direction p span) = Begins high span × TruthBegins high p
 
   TruthsBegin : ℕ → PlainTruths → Type 0
-  TruthsBegin high no_truths = Unit {0}
+  TruthsBegin high no_truths = ⊤
   TruthsBegin high (truth_operand p operands) = TruthBegins high p × TruthsBegin high operands
 
 abbrev AllBegin : ℕ → List PlainTruth → Type 0
-AllBegin high [] = Unit {0}
-AllBegin high (p ∷ truths) = TruthBegins high p × AllBegin high truths
+AllBegin high = AllByRecursion (TruthBegins high)
 
 abbrev BasicBegins : ℕ → PlainBasic → Type 0
-BasicBegins high (BasicConstant truth) = Unit {0}
-BasicBegins high (BasicPoint p) = TruthBegins high p
-BasicBegins high (BasicRun p) = TruthBegins high p
-BasicBegins high (BasicEvery p) = TruthBegins high p
-BasicBegins high (BasicUnit p) = TruthBegins high p
-BasicBegins high (BasicSlen relation n) = Unit {0}
-BasicBegins high (BasicScount p relation n) = TruthBegins high p
-BasicBegins high (BasicSdur p relation n) = TruthBegins high p
-BasicBegins high (BasicBack p slot) = TruthBegins high p
-BasicBegins high (BasicFore p slot) = TruthBegins high p
+BasicBegins high basic = IfSome (truth_in basic) (TruthBegins high)
 
 -- each form does, and each shift in its propositions
 abbrev CoreBegins : ℕ → CoreTree → Type 0
 CoreBegins high (CoreAtom basic span) = Begins high span × BasicBegins high basic
 CoreBegins high (CoreNot d span) = Begins high span × CoreBegins high d
-CoreBegins high (CoreAnd c d span) = Begins high span × (CoreBegins high c × CoreBegins high d)
-CoreBegins high (CoreOr c d span) = Begins high span × (CoreBegins high c × CoreBegins high d)
-CoreBegins high (CoreIff c d span) = Begins high span × (CoreBegins high c × CoreBegins high d)
+CoreBegins high (CoreJoined connective c d span) = Begins high span × (CoreBegins high c × CoreBegins high d)
 CoreBegins high (CoreChop c d span) = Begins high span × (CoreBegins high c × CoreBegins high d)
 CoreBegins high (CoreStar d span) = Begins high span × CoreBegins high d
 CoreBegins high (CoreExists d span) = Begins high span × CoreBegins high d
@@ -74,44 +64,25 @@ CoreBegins high (CoreExists d span) = Begins high span × CoreBegins high d
 -- ---- what is in sight
 
 abbrev NamesBegin : ℕ → List (List ℕ × PlainTruth) → Type 0
-NamesBegin high [] = Unit {0}
-NamesBegin high (named ∷ truths) = TruthBegins high named.1 × NamesBegin high truths
-
-abbrev NameBegins : ℕ → Option PlainTruth → Type 0
-NameBegins high None = Unit {0}
-NameBegins high (Some p) = TruthBegins high p
+NamesBegin high = AllByRecursion (λ named. TruthBegins high named.1)
 
 -- what a macro stands for, wherever it is called with arguments that begin there
 abbrev ExpansionBegins : ℕ → Expansion → Type 0
 ExpansionBegins high (PropExpansion m) = (arguments : List PlainTruth) → AllBegin high arguments → TruthBegins high (m arguments)
 ExpansionBegins high (FormulaExpansion m) = (slots : ℕ) (arguments : List PlainTruth) → AllBegin high arguments → CoreBegins high (m slots arguments)
 
-abbrev ExpansionsBegin : ℕ → List (List ℕ × Expansion) → Type 0
-ExpansionsBegin high [] = Unit {0}
-ExpansionsBegin high (named ∷ macros) = ExpansionBegins high named.1 × ExpansionsBegin high macros
-
-abbrev FoundBegins : ℕ → Option Expansion → Type 0
-FoundBegins high None = Unit {0}
-FoundBegins high (Some m) = ExpansionBegins high m
-
 record SightBegins (high : ℕ) (sight : Sight) : Type 0 where
   names : NamesBegin high sight.truths
-  macros : ExpansionsBegin high sight.macros
+  macros : AllByRecursion (λ named. ExpansionBegins high named.1) sight.macros
 
-name_begins : (high : ℕ) (truths : List (List ℕ × PlainTruth)) (name : List ℕ) → NamesBegin high truths → NameBegins high (found truths name)
-name_begins high [] name h = tt
-name_begins high (entry ∷ truths) name h = by (bytes_eq entry.0 name) (name_begins high truths name h.1)
+-- what holds of each entry holds of what a name is found to stand for
+found_is : {X : Type 0} (P : X → Type 0) (entries : List (List ℕ × X)) (name : List ℕ) → AllByRecursion (λ entry. P entry.1) entries
+    → IfSome (found entries name) P
+found_is P [] name each = tt
+found_is P (entry ∷ entries) name each = by (bytes_eq entry.0 name) (found_is P entries name each.1)
   where
-    by : (same : Bool) → NameBegins high (found truths name) → NameBegins high (if same then Some entry.1 else found truths name)
-    by true later = h.0
-    by false later = later
-
-found_begins : (high : ℕ) (macros : List (List ℕ × Expansion)) (name : List ℕ) → ExpansionsBegin high macros → FoundBegins high (found macros name)
-found_begins high [] name h = tt
-found_begins high (entry ∷ macros) name h = by (bytes_eq entry.0 name) (found_begins high macros name h.1)
-  where
-    by : (same : Bool) → FoundBegins high (found macros name) → FoundBegins high (if same then Some entry.1 else found macros name)
-    by true later = h.0
+    by : (same : Bool) → IfSome (found entries name) P → IfSome (if same then Some entry.1 else found entries name) P
+    by true later = each.0
     by false later = later
 
 -- each parameter stands for an argument that begins there
@@ -130,8 +101,8 @@ slot_bound high sight name s = record { names = (tt, s.names); macros = s.macros
 
 -- ---- propositions
 
-call_begins : (high : ℕ) (truth : Option PlainTruth) (macro : Option Expansion) (arguments : List PlainTruth) → NameBegins high truth → FoundBegins high macro
-    → AllBegin high arguments → TruthBegins high (truth_of_call truth macro arguments)
+call_begins : (high : ℕ) (truth : Option PlainTruth) (macro : Option Expansion) (arguments : List PlainTruth) → IfSome truth (TruthBegins high)
+    → IfSome macro (ExpansionBegins high) → AllBegin high arguments → TruthBegins high (truth_of_call truth macro arguments)
 call_begins high (Some p) macro [] h m a = h
 call_begins high (Some p) macro (other ∷ arguments) h m a = tt
 call_begins high None None arguments h m a = tt
@@ -144,14 +115,11 @@ module _ (high : ℕ) (sight : Sight) (s : SightBegins high sight) where
     truth_begins (PropConstant truth) h = tt
     truth_begins (PropCall name arguments) h =
         call_begins high (found sight.truths name.text) (found sight.macros name.text) (argument_truths sight arguments)
-        (name_begins high sight.truths name.text s.names) (found_begins high sight.macros name.text s.macros) (arguments_begin arguments h)
+        (found_is (TruthBegins high) sight.truths name.text s.names) (found_is (ExpansionBegins high) sight.macros name.text s.macros) (arguments_begin arguments h)
     truth_begins (PropNot p span) h = truth_begins p h
-    truth_begins (PropAnd operands) h = truths_begin operands h
-    truth_begins (PropOr operands) h = truths_begin operands h
+    truth_begins (PropJoined connective operands) h = truths_begin operands h
     truth_begins (PropImplies p p_span q q_span) h = (truth_begins p h.0, (truth_begins q h.1, tt))
-    truth_begins (PropIff operands) h = truths_begin operands h
-    truth_begins (PropPrior form p span) h = (h.0, truth_begins p h.1)
-    truth_begins (PropNext form p span) h = (h.0, truth_begins p h.1)
+    truth_begins (PropShifted direction form p span) h = (h.0, truth_begins p h.1)
 
     arguments_begin : (arguments : PlainArguments) → ArgumentsBegin high arguments → AllBegin high (argument_truths sight arguments)
     arguments_begin no_arguments h = tt
@@ -166,7 +134,18 @@ module _ (high : ℕ) (sight : Sight) (s : SightBegins high sight) where
 somewhere_begins : (high : ℕ) (d : CoreTree) (span : Span) → Begins high span → CoreBegins high d → CoreBegins high (somewhere_core d span)
 somewhere_begins high d span h core = (h, ((h, ((h, tt), core)), (h, tt)))
 
-macro_begins : (high : ℕ) (macro : Option Expansion) (slots : ℕ) (arguments : List PlainTruth) (span : Span) → FoundBegins high macro → AllBegin high arguments
+applied_begins : (high : ℕ) (unary : Unary) (d : CoreTree) (span : Span) → Begins high span → CoreBegins high d → CoreBegins high (applied_core unary d span)
+applied_begins high Not d span h core = (h, core)
+applied_begins high Star d span h core = (h, core)
+applied_begins high Somewhere d span h core = somewhere_begins high d span h core
+applied_begins high Everywhere d span h core = (h, somewhere_begins high (CoreNot d span) span h (h, core))
+
+quantified_begins : (high : ℕ) (quantifier : Quantifier) (d : CoreTree) (span : Span) → Begins high span → CoreBegins high d
+    → CoreBegins high (quantified_core quantifier d span)
+quantified_begins high Exists d span h core = (h, core)
+quantified_begins high ForAll d span h core = (h, (h, (h, core)))
+
+macro_begins : (high : ℕ) (macro : Option Expansion) (slots : ℕ) (arguments : List PlainTruth) (span : Span) → IfSome macro (ExpansionBegins high) → AllBegin high arguments
     → Begins high span → CoreBegins high (core_of_macro macro slots arguments span)
 macro_begins high None slots arguments span m a h = (h, tt)
 macro_begins high (Some (PropExpansion macro)) slots arguments span m a h = (h, tt)
@@ -182,36 +161,23 @@ mutual
   core_begins (FormulaConstant truth) sight span high seen h forms = (h, tt)
   core_begins FormulaPt sight span high seen h forms = (h, tt)
   core_begins FormulaExt sight span high seen h forms = (h, tt)
-  core_begins (FormulaPoint p) sight span high seen h forms = (h, truth_begins high sight seen p.kind forms)
-  core_begins (FormulaRun p) sight span high seen h forms = (h, truth_begins high sight seen p.kind forms)
-  core_begins (FormulaEvery p) sight span high seen h forms = (h, truth_begins high sight seen p.kind forms)
-  core_begins (FormulaUnit p) sight span high seen h forms = (h, truth_begins high sight seen p.kind forms)
+  core_begins (FormulaBracketed bracket p) sight span high seen h forms = (h, truth_begins high sight seen p.kind forms)
   core_begins (FormulaSlen relation n) sight span high seen h forms = (h, tt)
-  core_begins (FormulaScount p relation n) sight span high seen h forms = (h, truth_begins high sight seen p.kind forms)
-  core_begins (FormulaSdur p relation n) sight span high seen h forms = (h, truth_begins high sight seen p.kind forms)
+  core_begins (FormulaCounted which p relation n) sight span high seen h forms = (h, truth_begins high sight seen p.kind forms)
   core_begins (FormulaCall name arguments) sight span high seen h forms =
       macro_begins high (found sight.macros name.text) sight.slots (argument_truths sight (arguments_of arguments)) span
-      (found_begins high sight.macros name.text seen.macros) (arguments_begin high sight seen (arguments_of arguments) forms) h
-  core_begins (FormulaNot d d_span) sight span high seen h forms = (h, core_begins d sight d_span high seen forms.0 forms.1)
-  core_begins (FormulaAnd operands) sight span high seen h forms =
-      list_begins operands sight CoreAnd (BasicConstant true) span high seen h tt (λ c d span h one other. (h, (one, other))) forms
-  core_begins (FormulaOr operands) sight span high seen h forms =
-      list_begins operands sight CoreOr (BasicConstant false) span high seen h tt (λ c d span h one other. (h, (one, other))) forms
+      (found_is (ExpansionBegins high) sight.macros name.text seen.macros) (arguments_begin high sight seen (arguments_of arguments) forms) h
+  core_begins (FormulaApplied unary d d_span) sight span high seen h forms =
+      applied_begins high unary (core_of sight d d_span) span h (core_begins d sight d_span high seen forms.0 forms.1)
+  core_begins (FormulaJoined connective operands) sight span high seen h forms =
+      list_begins operands sight (CoreJoined connective) (BasicConstant (of_none connective)) span high seen h tt (λ c d span h one other. (h, (one, other))) forms
   core_begins (FormulaImplies c c_span d d_span) sight span high seen h forms =
       (h, ((h, core_begins c sight c_span high seen forms.0.0 forms.0.1), core_begins d sight d_span high seen forms.1.0 forms.1.1))
-  core_begins (FormulaIff operands) sight span high seen h forms =
-      list_begins operands sight CoreIff (BasicConstant true) span high seen h tt (λ c d span h one other. (h, (one, other))) forms
   core_begins (FormulaChop operands) sight span high seen h forms =
-      list_begins operands sight CoreChop (BasicPoint (TruthConstant true)) span high seen h tt (λ c d span h one other. (h, (one, other))) forms
-  core_begins (FormulaStar d d_span) sight span high seen h forms = (h, core_begins d sight d_span high seen forms.0 forms.1)
-  core_begins (FormulaSomewhere d d_span) sight span high seen h forms =
-      somewhere_begins high (core_of sight d d_span) span h (core_begins d sight d_span high seen forms.0 forms.1)
-  core_begins (FormulaEverywhere d d_span) sight span high seen h forms =
-      (h, somewhere_begins high (CoreNot (core_of sight d d_span) span) span h (h, core_begins d sight d_span high seen forms.0 forms.1))
-  core_begins (FormulaExists name d d_span) sight span high seen h forms =
-      (h, core_begins d (bind_slot sight name.text) d_span high (slot_bound high sight name.text seen) forms.0 forms.1)
-  core_begins (FormulaForAll name d d_span) sight span high seen h forms =
-      (h, (h, (h, core_begins d (bind_slot sight name.text) d_span high (slot_bound high sight name.text seen) forms.0 forms.1)))
+      list_begins operands sight CoreChop (BasicBracketed Point (TruthConstant true)) span high seen h tt (λ c d span h one other. (h, (one, other))) forms
+  core_begins (FormulaQuantified quantifier name d d_span) sight span high seen h forms =
+      quantified_begins high quantifier (core_of (bind_slot sight name.text) d d_span) span h
+      (core_begins d (bind_slot sight name.text) d_span high (slot_bound high sight name.text seen) forms.0 forms.1)
 
   list_begins : (operands : PlainFormulaOperands) (sight : Sight) (join : CoreTree → CoreTree → Span → CoreTree) (unit : PlainBasic) (span : Span) (high : ℕ)
       → SightBegins high sight → Begins high span → BasicBegins high unit → Joins high join → OperandsBegin high operands → CoreBegins high (list_core sight join unit operands span)
@@ -258,28 +224,25 @@ goal_begins high file is =
 -- ---- shifts
 
 abbrev ShiftsBegin : ℕ → List Shift → Type 0
-ShiftsBegin high [] = Unit {0}
-ShiftsBegin high (shift ∷ shifts) = Begins high shift.span × ShiftsBegin high shifts
+ShiftsBegin high = AllByRecursion (λ shift. Begins high shift.span)
 
-one_more_begins : (high : ℕ) (seen : List Shift) (shift : Shift) → ShiftsBegin high seen → Begins high shift.span → ShiftsBegin high (seen ++ shift ∷ [])
-one_more_begins high [] shift h here = (here, tt)
-one_more_begins high (first ∷ seen) shift h here = (h.0, one_more_begins high seen shift h.1 here)
+all_append : {X : Type 0} (P : X → Type 0) (xs ys : List X) → AllByRecursion P xs → AllByRecursion P ys → AllByRecursion P (xs ++ ys)
+all_append P [] ys h k = k
+all_append P (x ∷ xs) ys h k = (h.0, all_append P xs ys h.1 k)
 
 added_begins : (high : ℕ) (seen : List Shift) (shift : Shift) → ShiftsBegin high seen → Begins high shift.span → ShiftsBegin high (with_shift seen shift)
 added_begins high seen shift h here = added (list_any (same_shift shift) seen)
   where
     added : (there : Bool) → ShiftsBegin high (if there then seen else seen ++ shift ∷ [])
     added true = h
-    added false = one_more_begins high seen shift h here
+    added false = all_append (λ one. Begins high one.span) seen (shift ∷ []) h (here, tt)
 
 mutual
   collected_begin : (p : PlainTruth) (high : ℕ) (seen : List Shift) → TruthBegins high p → ShiftsBegin high seen → ShiftsBegin high (collected seen p)
   collected_begin (TruthConstant truth) high seen h s = s
   collected_begin (TruthSlot slot) high seen h s = s
   collected_begin (TruthNot p) high seen h s = collected_begin p high seen h s
-  collected_begin (TruthAnd operands) high seen h s = all_collected_begin operands high seen h s
-  collected_begin (TruthOr operands) high seen h s = all_collected_begin operands high seen h s
-  collected_begin (TruthIff operands) high seen h s = all_collected_begin operands high seen h s
+  collected_begin (TruthJoined connective operands) high seen h s = all_collected_begin operands high seen h s
   collected_begin (TruthShift direction p span) high seen h s =
       added_begins high (collected seen p) (record { direction = direction; operand = p; span = span }) (collected_begin p high seen h.1 s) h.0
 
@@ -288,25 +251,15 @@ mutual
   all_collected_begin no_truths high seen h s = s
   all_collected_begin (truth_operand p operands) high seen h s = all_collected_begin operands high (collected seen p) h.1 (collected_begin p high seen h.0 s)
 
-basic_collected_begin : (basic : PlainBasic) (high : ℕ) (seen : List Shift) → BasicBegins high basic → ShiftsBegin high seen
-    → ShiftsBegin high (collected_of_basic seen basic)
-basic_collected_begin (BasicConstant truth) high seen h s = s
-basic_collected_begin (BasicPoint p) high seen h s = collected_begin p high seen h s
-basic_collected_begin (BasicRun p) high seen h s = collected_begin p high seen h s
-basic_collected_begin (BasicEvery p) high seen h s = collected_begin p high seen h s
-basic_collected_begin (BasicUnit p) high seen h s = collected_begin p high seen h s
-basic_collected_begin (BasicSlen relation n) high seen h s = s
-basic_collected_begin (BasicScount p relation n) high seen h s = collected_begin p high seen h s
-basic_collected_begin (BasicSdur p relation n) high seen h s = collected_begin p high seen h s
-basic_collected_begin (BasicBack p slot) high seen h s = collected_begin p high seen h s
-basic_collected_begin (BasicFore p slot) high seen h s = collected_begin p high seen h s
+collected_by_begin : (p : Option PlainTruth) (high : ℕ) (seen : List Shift) → IfSome p (TruthBegins high) → ShiftsBegin high seen
+    → ShiftsBegin high (collected_by seen p)
+collected_by_begin None high seen h s = s
+collected_by_begin (Some p) high seen h s = collected_begin p high seen h s
 
 shifts_begin : (core : CoreTree) (high : ℕ) (seen : List Shift) → CoreBegins high core → ShiftsBegin high seen → ShiftsBegin high (collected_of seen core)
-shifts_begin (CoreAtom basic span) high seen h s = basic_collected_begin basic high seen h.1 s
+shifts_begin (CoreAtom basic span) high seen h s = collected_by_begin (truth_in basic) high seen h.1 s
 shifts_begin (CoreNot d span) high seen h s = shifts_begin d high seen h.1 s
-shifts_begin (CoreAnd c d span) high seen h s = shifts_begin d high (collected_of seen c) h.1.1 (shifts_begin c high seen h.1.0 s)
-shifts_begin (CoreOr c d span) high seen h s = shifts_begin d high (collected_of seen c) h.1.1 (shifts_begin c high seen h.1.0 s)
-shifts_begin (CoreIff c d span) high seen h s = shifts_begin d high (collected_of seen c) h.1.1 (shifts_begin c high seen h.1.0 s)
+shifts_begin (CoreJoined connective c d span) high seen h s = shifts_begin d high (collected_of seen c) h.1.1 (shifts_begin c high seen h.1.0 s)
 shifts_begin (CoreChop c d span) high seen h s = shifts_begin d high (collected_of seen c) h.1.1 (shifts_begin c high seen h.1.0 s)
 shifts_begin (CoreStar d span) high seen h s = shifts_begin d high seen h.1 s
 shifts_begin (CoreExists d span) high seen h s = shifts_begin d high seen h.1 s
@@ -320,9 +273,7 @@ module _ (high k : ℕ) (all : List Shift) where
     placed_begins (TruthConstant truth) = tt
     placed_begins (TruthSlot slot) = tt
     placed_begins (TruthNot p) = placed_begins p
-    placed_begins (TruthAnd operands) = all_placed_begin operands
-    placed_begins (TruthOr operands) = all_placed_begin operands
-    placed_begins (TruthIff operands) = all_placed_begin operands
+    placed_begins (TruthJoined connective operands) = all_placed_begin operands
     placed_begins (TruthShift direction p span) = tt
 
     all_placed_begin : (operands : PlainTruths) → TruthsBegin high (all_placed k all operands)
@@ -331,37 +282,23 @@ module _ (high k : ℕ) (all : List Shift) where
 
   basic_placed_begins : (basic : PlainBasic) → BasicBegins high (placed_basic k all basic)
   basic_placed_begins (BasicConstant truth) = tt
-  basic_placed_begins (BasicPoint p) = placed_begins p
-  basic_placed_begins (BasicRun p) = placed_begins p
-  basic_placed_begins (BasicEvery p) = placed_begins p
-  basic_placed_begins (BasicUnit p) = placed_begins p
+  basic_placed_begins (BasicBracketed bracket p) = placed_begins p
   basic_placed_begins (BasicSlen relation n) = tt
-  basic_placed_begins (BasicScount p relation n) = placed_begins p
-  basic_placed_begins (BasicSdur p relation n) = placed_begins p
-  basic_placed_begins (BasicBack p slot) = placed_begins p
-  basic_placed_begins (BasicFore p slot) = placed_begins p
+  basic_placed_begins (BasicCounted which p relation n) = placed_begins p
+  basic_placed_begins (BasicTrack direction p slot) = placed_begins p
 
   placed_core_begins : (core : CoreTree) → CoreBegins high core → CoreBegins high (placed_core k all core)
   placed_core_begins (CoreAtom basic span) h = (h.0, basic_placed_begins basic)
   placed_core_begins (CoreNot d span) h = (h.0, placed_core_begins d h.1)
-  placed_core_begins (CoreAnd c d span) h = (h.0, (placed_core_begins c h.1.0, placed_core_begins d h.1.1))
-  placed_core_begins (CoreOr c d span) h = (h.0, (placed_core_begins c h.1.0, placed_core_begins d h.1.1))
-  placed_core_begins (CoreIff c d span) h = (h.0, (placed_core_begins c h.1.0, placed_core_begins d h.1.1))
+  placed_core_begins (CoreJoined connective c d span) h = (h.0, (placed_core_begins c h.1.0, placed_core_begins d h.1.1))
   placed_core_begins (CoreChop c d span) h = (h.0, (placed_core_begins c h.1.0, placed_core_begins d h.1.1))
   placed_core_begins (CoreStar d span) h = (h.0, placed_core_begins d h.1)
   placed_core_begins (CoreExists d span) h = (h.0, placed_core_begins d h.1)
 
-  row_begins : (shift : Shift) (slot : ℕ) → BasicBegins high (shift_basic k all shift slot)
-  row_begins shift slot = by_direction shift.direction
-    where
-      by_direction : (direction : Direction) → BasicBegins high (shift_row direction (placed k all shift.operand) slot)
-      by_direction Next = placed_begins shift.operand
-      by_direction Prior = placed_begins shift.operand
-
   closed_begins : (shifts : List Shift) (slot : ℕ) (core : CoreTree) → ShiftsBegin high shifts → CoreBegins high core
       → CoreBegins high (closed_from k all slot shifts core)
   closed_begins [] slot core s h = h
-  closed_begins (shift ∷ shifts) slot core s h = (s.0, (s.0, (closed_begins shifts (suc slot) core s.1 h, (s.0, row_begins shift slot))))
+  closed_begins (shift ∷ shifts) slot core s h = (s.0, (s.0, (closed_begins shifts (suc slot) core s.1 h, (s.0, placed_begins shift.operand))))
 
 core_of_file_begins : (high : ℕ) (file : PlainFile) → FileBegins high file → CoreBegins high (core_of_file file)
 core_of_file_begins high file is =
@@ -374,12 +311,10 @@ core_of_file_begins high file is =
 -- ---- steps
 
 abbrev StepsBegin : ℕ → List PlainStep → Type 0
-StepsBegin high [] = Unit {0}
-StepsBegin high (step ∷ steps) = Begins high step.span × StepsBegin high steps
+StepsBegin high = AllByRecursion (λ step. Begins high step.span)
 
 both_begin : (high : ℕ) (one two : List PlainStep) → StepsBegin high one → StepsBegin high two → StepsBegin high (one ++ two)
-both_begin high [] two h k = k
-both_begin high (step ∷ one) two h k = (h.0, both_begin high one two h.1 k)
+both_begin high one two h k = all_append (λ step. Begins high step.span) one two h k
 
 -- two cores, and the step that joins them
 pair_begins : (c d : CoreTree) (high n k : ℕ) (last : PlainStep) → Begins high last.span → StepsBegin high (steps_from n k c)
@@ -391,9 +326,7 @@ pair_begins c d high n k last h one other =
 steps_begin : (core : CoreTree) (high n k : ℕ) → CoreBegins high core → StepsBegin high (steps_from n k core)
 steps_begin (CoreAtom basic span) high n k h = (h.0, tt)
 steps_begin (CoreNot d span) high n k h = both_begin high (steps_from n k d) _ (steps_begin d high n k h.1) (h.0, tt)
-steps_begin (CoreAnd c d span) high n k h = pair_begins c d high n k _ h.0 (steps_begin c high n k h.1.0) (steps_begin d high _ k h.1.1)
-steps_begin (CoreOr c d span) high n k h = pair_begins c d high n k _ h.0 (steps_begin c high n k h.1.0) (steps_begin d high _ k h.1.1)
-steps_begin (CoreIff c d span) high n k h = pair_begins c d high n k _ h.0 (steps_begin c high n k h.1.0) (steps_begin d high _ k h.1.1)
+steps_begin (CoreJoined connective c d span) high n k h = pair_begins c d high n k _ h.0 (steps_begin c high n k h.1.0) (steps_begin d high _ k h.1.1)
 steps_begin (CoreChop c d span) high n k h = pair_begins c d high n k _ h.0 (steps_begin c high n k h.1.0) (steps_begin d high _ k h.1.1)
 steps_begin (CoreStar d span) high n k h = both_begin high (steps_from n k d) _ (steps_begin d high n k h.1) (h.0, tt)
 steps_begin (CoreExists d span) high n k h = both_begin high (steps_from n (k + 1) d) _ (steps_begin d high n (k + 1) h.1) (h.0, tt)

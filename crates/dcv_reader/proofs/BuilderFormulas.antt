@@ -7,6 +7,7 @@ use Rattle.dcv_syntax.specs.declared.formulas.FormulaOperand.{FormulaOperand}
 use Rattle.dcv_syntax.specs.declared.names.Span.{Span}
 use Rattle.dcv_syntax.specs.declared.formulas.Relation.{Relation}
 use Rattle.dcv_syntax.specs.declared.formulas.Number.{Number}
+use Rattle.dcv_syntax.specs.declared.propositions.Connective.TheVariants.{And, Or, Iff}
 use Rattle.dcv_syntax.specs.Plain.{FormulaSlen, PlainFormulaKind, PlainFormulaOperands, PlainFormulaOperand, formula_operands_of}
 use Rattle.dcv_syntax.specs.Views.{plain_formula_operand}
 use Rattle.dcv_grammar.specs.declared.grammar.Symbol.{Symbol}
@@ -25,8 +26,8 @@ use Rattle.dcv_reader.specs.Nodes.{token_class, number_of, relation_of, bare, fo
 use Rattle.dcv_reader.specs.Actions.{AToken, AFormula, Formulas, ARelation, Stars, action, parts_of}
 use Rattle.dcv_reader.specs.Building.{is_next, is_next_of, BeginWithRule, RuleReadAs}
 use Rattle.dcv_reader.specs.declared.builder.formulas.FormulaList.{FormulaList}
-use Rattle.dcv_reader.specs.declared.builder.formulas.FormulaList.TheVariants.{And, Or, Iff, Chop}
-use Rattle.dcv_reader.specs.FormulaLists.{formula_list_kind, formula_separator, formula_list_rule, formula_operand_rule}
+use Rattle.dcv_reader.specs.declared.builder.formulas.FormulaList.TheVariants.{Joined, Chop}
+use Rattle.dcv_reader.specs.Lists.{formula_list_kind, formula_separator, formula_list_rule, formula_operand_rule}
 use Rattle.dcv_sentence.proofs.Grammar.{predictive}
 use Rattle.dcv_reader.proofs.BuilderParts.{parts_of-join, next_is, token_next, reads_nothing, reads_token, reads_next, begins_first, begins_next, begins_token, no_longer, body_begins, rule_read}
 use Rattle.dcv_reader.proofs.BuilderForms.{Implication, always_picked, optional_picked, nothing_picked, word_read, one_of, none_of}
@@ -68,38 +69,38 @@ module _ (kind : PlainFormulaOperands → PlainFormulaKind) where
 
 -- the rule of what stands behind the first operand
 abbrev more_rule : FormulaList → ℕ
-more_rule And = rules.formula_and_more
-more_rule Or = rules.formula_or_more
-more_rule Iff = rules.formula_iff_more
+more_rule (Joined And) = rules.formula_and_more
+more_rule (Joined Or) = rules.formula_or_more
+more_rule (Joined Iff) = rules.formula_iff_more
 more_rule Chop = rules.formula_chop_more
 
 pub more_at : (list : FormulaList)
     → slice_get language.productions (more_rule list) ≡ Some (optional (formula_separator list) (Rule (formula_operand_rule list) ∷ Rule (more_rule list) ∷ []))
 unfolding language file_rules formula_rules prop_rules
-more_at And = refl
-more_at Or = refl
-more_at Iff = refl
+more_at (Joined And) = refl
+more_at (Joined Or) = refl
+more_at (Joined Iff) = refl
 more_at Chop = refl
 
 pub more_none : (list : FormulaList) → action (more_rule list) [] ≡ Formulas []
-more_none And = refl
-more_none Or = refl
-more_none Iff = refl
+more_none (Joined And) = refl
+more_none (Joined Or) = refl
+more_none (Joined Iff) = refl
 more_none Chop = refl
 
 pub more_one : (list : FormulaList) (token : Token) (d : PlainFormulaOperand) (ds : List PlainFormulaOperand)
     → action (more_rule list) (AToken token ∷ AFormula d ∷ Formulas ds ∷ []) ≡ Formulas (d ∷ ds)
-more_one And token d ds = refl
-more_one Or token d ds = refl
-more_one Iff token d ds = refl
+more_one (Joined And) token d ds = refl
+more_one (Joined Or) token d ds = refl
+more_one (Joined Iff) token d ds = refl
 more_one Chop token d ds = refl
 
 pub list_at : (list : FormulaList)
     → slice_get language.productions (formula_list_rule list) ≡ Some (always (Rule (formula_operand_rule list) ∷ Rule (more_rule list) ∷ []))
 unfolding language file_rules formula_rules prop_rules
-list_at And = refl
-list_at Or = refl
-list_at Iff = refl
+list_at (Joined And) = refl
+list_at (Joined Or) = refl
+list_at (Joined Iff) = refl
 list_at Chop = refl
 
 abbrev pub level : FormulaList → Level AFormula Formulas
@@ -120,17 +121,17 @@ level list =
 
 pub list_part : (list : FormulaList) (d : PlainFormulaOperand) (ds : List PlainFormulaOperand)
     → action (formula_list_rule list) (AFormula d ∷ Formulas ds ∷ []) ≡ AFormula (formula_list (formula_list_kind list) d ds)
-list_part And d ds = refl
-list_part Or d ds = refl
-list_part Iff d ds = refl
+list_part (Joined And) d ds = refl
+list_part (Joined Or) d ds = refl
+list_part (Joined Iff) d ds = refl
 list_part Chop d ds = refl
 
 -- in the measure of the recursion: the rank of what reads an operand, one below that of what reads the list
 abbrev pub rank : FormulaList → ℕ
 rank Chop = 4
-rank And = 6
-rank Or = 8
-rank Iff = 11
+rank (Joined And) = 6
+rank (Joined Or) = 8
+rank (Joined Iff) = 11
 
 -- ---- other rules
 
@@ -179,9 +180,6 @@ unfolding language file_rules formula_rules prop_rules
 relation_at = refl
 
 -- which body is picked
-abbrev quantifier_body : ℕ → List Symbol
-quantifier_body class = Class class ∷ Class classes.name ∷ Class classes.dot ∷ Rule rules.formula ∷ []
-
 pub picks_quantifier : (tokens : List Token) → is_next_of (classes.word_ex ∷ classes.word_all ∷ []) tokens ≡ true → (class : ℕ) × (body_for formula_rule (next_class token_class tokens) ≡ Class class ∷ Class classes.name ∷ Class classes.dot ∷ Rule rules.formula ∷ [])
 picks_quantifier tokens is =
     one_of classes.word_ex (classes.word_all ∷ []) tokens is (λ e. (classes.word_ex, ap (body_for formula_rule) (next_is classes.word_ex tokens e)))

@@ -1,7 +1,9 @@
 -- Nodes of propositions, as the builder makes them.
 use Rattle.std.proofs.Common.{◌≡◌, ℕ, zero, suc, ◌-◌, ◌<◌, List, [], ◌∷◌, length, get_or, map, refl, sym, ap, ◌∙◌, arith}
 use Rattle.dcv_syntax.specs.declared.propositions.PropOperand.{PropOperand}
-use Rattle.dcv_syntax.specs.Plain.{PlainPropKind, PlainPropOperands, PlainProp, PlainPropOperand, prop_operands_of}
+use Rattle.dcv_syntax.specs.declared.propositions.Connective.{Connective}
+use Rattle.dcv_syntax.specs.declared.propositions.Connective.TheVariants.{And, Or, Iff}
+use Rattle.dcv_syntax.specs.Plain.{PropJoined, PlainProp, PlainPropOperand, prop_operands_of}
 use Rattle.dcv_syntax.specs.Views.{plain_prop_operand}
 use Rattle.std.specs.Prelude.{Some, slice_get, Bool, true, false, ◌==◌, ◌||◌, IsTrue}
 use Rattle.dcv_grammar.specs.declared.grammar.Symbol.TheVariants.{Class, Rule}
@@ -18,9 +20,7 @@ use Rattle.dcv_grammar.proofs.Builders as builders
 use Rattle.dcv_grammar.specs.Picked.{body_for}
 use Rattle.dcv_grammar.specs.Reading.{next_class}
 use Rattle.dcv_reader.specs.Building.{is_next, is_next_of, BeginWithRule, RuleReadAs}
-use Rattle.dcv_reader.specs.declared.builder.props.PropList.{PropList}
-use Rattle.dcv_reader.specs.declared.builder.props.PropList.TheVariants.{And, Or, Iff}
-use Rattle.dcv_reader.specs.PropLists.{prop_list_kind, prop_separator, prop_list_rule, prop_operand_rule}
+use Rattle.dcv_reader.specs.Lists.{separator, prop_list_rule, prop_operand_rule}
 use Rattle.dcv_reader.proofs.BuilderForms.{Implication, word_read, one_of, none_of}
 use Rattle.std.proofs.lemmas.Bool.Decides.{nat_tests}
 use Rattle.dcv_syntax.specs.Spans.{covering}
@@ -34,16 +34,16 @@ last_is y [] (suc k) last long is = absurd (omega arith)
 last_is y (z ∷ operands) zero last long is = absurd (omega arith)
 last_is y (z ∷ operands) (suc k) last long is = last_is z operands k last (omega arith) is
 
-module _ (kind : PlainPropOperands → PlainPropKind) where
-  pub only_prop : (operands : List PropOperand) (count : ℕ) (only : PropOperand) → count ≡ length operands → count - 1 ≡ 0 → only ≡ get_or operands 0 only → (p : PlainPropOperand) (ps : List PlainPropOperand) → map plain_prop_operand operands ≡ p ∷ ps → plain_prop_operand only ≡ prop_list kind p ps
+module _ (connective : Connective) where
+  pub only_prop : (operands : List PropOperand) (count : ℕ) (only : PropOperand) → count ≡ length operands → count - 1 ≡ 0 → only ≡ get_or operands 0 only → (p : PlainPropOperand) (ps : List PlainPropOperand) → map plain_prop_operand operands ≡ p ∷ ps → plain_prop_operand only ≡ prop_list connective p ps
   only_prop [] count only long one is p ps e = absurd cc
   only_prop (y ∷ []) count only long one is p ps e =
       let none : ps ≡ [] = cc in
       let first : plain_prop_operand y ≡ p = cc in
-      ap plain_prop_operand is ∙ first ∙ sym (ap (prop_list kind p) none)
+      ap plain_prop_operand is ∙ first ∙ sym (ap (prop_list connective p) none)
   only_prop (y ∷ z ∷ operands) count only long one is p ps e = absurd (omega arith)
 
-  pub listed_props : (operands : List PropOperand) (count : ℕ) (first last : PropOperand) → count ≡ length operands → (count - 1 ≡ 0 → ⊥) → first ≡ get_or operands 0 first → last ≡ get_or operands (count - 1) last → (p : PlainPropOperand) (ps : List PlainPropOperand) → map plain_prop_operand operands ≡ p ∷ ps → bare_prop (kind (prop_operands_of (map plain_prop_operand operands))) (covering first.span last.span) ≡ prop_list kind p ps
+  pub listed_props : (operands : List PropOperand) (count : ℕ) (first last : PropOperand) → count ≡ length operands → (count - 1 ≡ 0 → ⊥) → first ≡ get_or operands 0 first → last ≡ get_or operands (count - 1) last → (p : PlainPropOperand) (ps : List PlainPropOperand) → map plain_prop_operand operands ≡ p ∷ ps → bare_prop (PropJoined connective (prop_operands_of (map plain_prop_operand operands))) (covering first.span last.span) ≡ prop_list connective p ps
   listed_props [] count first last long many is last_is' p ps e = absurd cc
   listed_props (y ∷ []) count first last long many is last_is' p ps e = absurd (many (omega arith))
   listed_props (y ∷ z ∷ operands) count first last long many is last_is' p ps e =
@@ -53,68 +53,68 @@ module _ (kind : PlainPropOperands → PlainPropKind) where
       let behind : last ≡ get_or (z ∷ operands) (length operands) last = last_is' ∙ ap (λ k. get_or (y ∷ z ∷ operands) k last) index in
       let span : last.span ≡ last_prop_span z.span (map plain_prop_operand operands) = last_is z operands (length operands) last (omega arith) behind in
       let begin : first.span ≡ y.span = ap (λ o. o.span) is in
-      let all = prop_operands_of (map plain_prop_operand (y ∷ z ∷ operands)) in
-      ap (λ s. bare_prop (kind all) (covering s last.span)) begin
-      ∙ ap (λ s. bare_prop (kind all) (covering y.span s)) span
-      ∙ sym (ap (λ q. prop_list kind q ps) starts ∙ ap (prop_list kind (plain_prop_operand y)) more)
+      let all = PropJoined connective (prop_operands_of (map plain_prop_operand (y ∷ z ∷ operands))) in
+      ap (λ s. bare_prop all (covering s last.span)) begin
+      ∙ ap (λ s. bare_prop all (covering y.span s)) span
+      ∙ sym (ap (λ q. prop_list connective q ps) starts ∙ ap (prop_list connective (plain_prop_operand y)) more)
 
 -- ---- levels
 
 -- the rule of what stands behind the first operand
-abbrev more_rule : PropList → ℕ
+abbrev more_rule : Connective → ℕ
 more_rule And = rules.prop_and_more
 more_rule Or = rules.prop_or_more
 more_rule Iff = rules.prop_iff_more
 
-pub more_at : (list : PropList)
-    → slice_get language.productions (more_rule list) ≡ Some (optional (prop_separator list) (Rule (prop_operand_rule list) ∷ Rule (more_rule list) ∷ []))
+pub more_at : (connective : Connective)
+    → slice_get language.productions (more_rule connective) ≡ Some (optional (separator connective) (Rule (prop_operand_rule connective) ∷ Rule (more_rule connective) ∷ []))
 unfolding language file_rules formula_rules prop_rules
 more_at And = refl
 more_at Or = refl
 more_at Iff = refl
 
-pub more_none : (list : PropList) → action (more_rule list) [] ≡ Props []
+pub more_none : (connective : Connective) → action (more_rule connective) [] ≡ Props []
 more_none And = refl
 more_none Or = refl
 more_none Iff = refl
 
-pub more_one : (list : PropList) (token : Token) (p : PlainPropOperand) (ps : List PlainPropOperand)
-    → action (more_rule list) (AToken token ∷ AProp p ∷ Props ps ∷ []) ≡ Props (p ∷ ps)
+pub more_one : (connective : Connective) (token : Token) (p : PlainPropOperand) (ps : List PlainPropOperand)
+    → action (more_rule connective) (AToken token ∷ AProp p ∷ Props ps ∷ []) ≡ Props (p ∷ ps)
 more_one And token p ps = refl
 more_one Or token p ps = refl
 more_one Iff token p ps = refl
 
-pub list_at : (list : PropList)
-    → slice_get language.productions (prop_list_rule list) ≡ Some (always (Rule (prop_operand_rule list) ∷ Rule (more_rule list) ∷ []))
+pub list_at : (connective : Connective)
+    → slice_get language.productions (prop_list_rule connective) ≡ Some (always (Rule (prop_operand_rule connective) ∷ Rule (more_rule connective) ∷ []))
 unfolding language file_rules formula_rules prop_rules
 list_at And = refl
 list_at Or = refl
 list_at Iff = refl
 
-abbrev pub level : PropList → Level AProp Props
-level list =
+abbrev pub level : Connective → Level AProp Props
+level connective =
     record {
       operands =
           record {
-            item = Rule (prop_operand_rule list);
-            more = more_rule list;
-            separator = prop_separator list;
-            more_at = more_at list;
-            none = more_none list;
-            one = more_one list;
+            item = Rule (prop_operand_rule connective);
+            more = more_rule connective;
+            separator = separator connective;
+            more_at = more_at connective;
+            none = more_none connective;
+            one = more_one connective;
           };
-      rule = prop_list_rule list;
-      at = list_at list;
+      rule = prop_list_rule connective;
+      at = list_at connective;
     }
 
-pub list_part : (list : PropList) (p : PlainPropOperand) (ps : List PlainPropOperand)
-    → action (prop_list_rule list) (AProp p ∷ Props ps ∷ []) ≡ AProp (prop_list (prop_list_kind list) p ps)
+pub list_part : (connective : Connective) (p : PlainPropOperand) (ps : List PlainPropOperand)
+    → action (prop_list_rule connective) (AProp p ∷ Props ps ∷ []) ≡ AProp (prop_list connective p ps)
 list_part And p ps = refl
 list_part Or p ps = refl
 list_part Iff p ps = refl
 
 -- in the measure of the recursion: the rank of what reads an operand, one below that of what reads the list
-abbrev pub rank : PropList → ℕ
+abbrev pub rank : Connective → ℕ
 rank And = 3
 rank Or = 5
 rank Iff = 8

@@ -7,8 +7,9 @@ use Rattle.std.specs.Prelude.{ℕ, List, [], ◌∷◌, map, Option, Some, None,
 use Rattle.dcv_syntax.specs.declared.names.Name.{Name}
 use Rattle.dcv_syntax.specs.declared.names.Span.{Span}
 use Rattle.dcv_syntax.specs.declared.formulas.Relation.{Relation}
-use Rattle.dcv_syntax.specs.Plain.{PropAnd, PropOr, PropIff, PlainProp, PlainPropOperand}
-use Rattle.dcv_syntax.specs.Plain.{FormulaSlen, FormulaAnd, FormulaOr, FormulaIff, FormulaChop, PlainFormulaOperand}
+use Rattle.dcv_syntax.specs.declared.propositions.Connective.{Connective}
+use Rattle.dcv_syntax.specs.declared.propositions.Connective.TheVariants.{And, Or, Iff}
+use Rattle.dcv_syntax.specs.Plain.{PlainProp, PlainPropOperand, FormulaSlen, FormulaJoined, FormulaChop, PlainFormulaOperand}
 use Rattle.dcv_syntax.specs.Plain.{FormulaBody, PropBody, PlainMacro, PlainFile}
 use Rattle.dcv_grammar.specs.Trees.{Nodes, done, leaf, node}
 use Rattle.dcv_tokens.specs.Tokens.{Token, span_of, span_over}
@@ -85,26 +86,16 @@ more_props_part (AToken separator ∷ AProp p ∷ Props ps ∷ []) = Props (p �
 more_props_part (AToken arrow ∷ AProp p ∷ []) = Props (p ∷ [])
 more_props_part _ = Nothing
 
--- prop = prop_implies prop_iff_more
-abbrev pub prop_iff_part : List Part → Part
-prop_iff_part (AProp p ∷ Props ps ∷ []) = AProp (prop_list PropIff p ps)
-prop_iff_part _ = Nothing
+-- prop = prop_implies prop_iff_more, prop_or = prop_and prop_or_more, prop_and = prop_prefix prop_and_more
+abbrev pub joined_props_part : Connective → List Part → Part
+joined_props_part connective (AProp p ∷ Props ps ∷ []) = AProp (prop_list connective p ps)
+joined_props_part connective _ = Nothing
 
 -- prop_implies = prop_or prop_implied
 abbrev pub prop_implies_part : List Part → Part
 prop_implies_part (AProp p ∷ Props [] ∷ []) = AProp p
 prop_implies_part (AProp p ∷ Props (q ∷ []) ∷ []) = AProp (prop_implication p q)
 prop_implies_part _ = Nothing
-
--- prop_or = prop_and prop_or_more
-abbrev pub prop_or_part : List Part → Part
-prop_or_part (AProp p ∷ Props ps ∷ []) = AProp (prop_list PropOr p ps)
-prop_or_part _ = Nothing
-
--- prop_and = prop_prefix prop_and_more
-abbrev pub prop_and_part : List Part → Part
-prop_and_part (AProp p ∷ Props ps ∷ []) = AProp (prop_list PropAnd p ps)
-prop_and_part _ = Nothing
 
 -- prop_prefix = ("!" | "-" | "+") prop_prefix | prop_atom
 abbrev pub prop_prefix_part : List Part → Part
@@ -134,26 +125,16 @@ more_formulas_part (AToken separator ∷ AFormula d ∷ Formulas ds ∷ []) = Fo
 more_formulas_part (AToken arrow ∷ AFormula d ∷ []) = Formulas (d ∷ [])
 more_formulas_part _ = Nothing
 
--- formula_iff = formula_implies formula_iff_more
-abbrev pub formula_iff_part : List Part → Part
-formula_iff_part (AFormula d ∷ Formulas ds ∷ []) = AFormula (formula_list FormulaIff d ds)
-formula_iff_part _ = Nothing
+-- formula_iff = formula_implies formula_iff_more, formula_or = formula_and formula_or_more, formula_and = formula_chop formula_and_more
+abbrev pub joined_formulas_part : Connective → List Part → Part
+joined_formulas_part connective (AFormula d ∷ Formulas ds ∷ []) = AFormula (formula_list (FormulaJoined connective) d ds)
+joined_formulas_part connective _ = Nothing
 
 -- formula_implies = formula_or formula_implied
 abbrev pub formula_implies_part : List Part → Part
 formula_implies_part (AFormula d ∷ Formulas [] ∷ []) = AFormula d
 formula_implies_part (AFormula d ∷ Formulas (e ∷ []) ∷ []) = AFormula (implication d e)
 formula_implies_part _ = Nothing
-
--- formula_or = formula_and formula_or_more
-abbrev pub formula_or_part : List Part → Part
-formula_or_part (AFormula d ∷ Formulas ds ∷ []) = AFormula (formula_list FormulaOr d ds)
-formula_or_part _ = Nothing
-
--- formula_and = formula_chop formula_and_more
-abbrev pub formula_and_part : List Part → Part
-formula_and_part (AFormula d ∷ Formulas ds ∷ []) = AFormula (formula_list FormulaAnd d ds)
-formula_and_part _ = Nothing
 
 -- formula_chop = formula_prefix formula_chop_more
 abbrev pub formula_chop_part : List Part → Part
@@ -200,11 +181,11 @@ relation_part _ = Nothing
 abbrev pub actions : List (List Part → Part)
 actions =
     file_part ∷ names_part ∷ more_names_part ∷ macros_part ∷ macro_part ∷ names_part ∷ arguments_part ∷ more_props_part
-    ∷ formula_part ∷ formula_iff_part ∷ more_formulas_part ∷ formula_implies_part ∷ more_formulas_part
-    ∷ formula_or_part ∷ more_formulas_part ∷ formula_and_part ∷ more_formulas_part ∷ formula_chop_part
+    ∷ formula_part ∷ joined_formulas_part Iff ∷ more_formulas_part ∷ formula_implies_part ∷ more_formulas_part
+    ∷ joined_formulas_part Or ∷ more_formulas_part ∷ joined_formulas_part And ∷ more_formulas_part ∷ formula_chop_part
     ∷ more_formulas_part ∷ formula_prefix_part ∷ formula_star_part ∷ stars_part ∷ formula_atom_part ∷ relation_part
-    ∷ prop_iff_part ∷ more_props_part ∷ prop_implies_part ∷ more_props_part ∷ prop_or_part ∷ more_props_part
-    ∷ prop_and_part ∷ more_props_part ∷ prop_prefix_part ∷ prop_atom_part ∷ []
+    ∷ joined_props_part Iff ∷ more_props_part ∷ prop_implies_part ∷ more_props_part ∷ joined_props_part Or ∷ more_props_part
+    ∷ joined_props_part And ∷ more_props_part ∷ prop_prefix_part ∷ prop_atom_part ∷ []
 
 -- what a rule stands for
 abbrev pub action : ℕ → List Part → Part

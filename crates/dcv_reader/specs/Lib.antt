@@ -6,6 +6,5 @@ pub mod Laws
 -- for proofs alone: what the builder of trees requires and ensures
 pub mod Building
 pub mod Left
-pub mod PropLists
-pub mod FormulaLists
+pub mod Lists
 pub mod BuildingFiles

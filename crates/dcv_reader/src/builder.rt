@@ -11,6 +11,7 @@ ghost use Rattle.std.specs.Prelude.{◌≡◌, ◌∷◌, ◌++◌, ◌<◌, [],
 ghost use Rattle.dcv_tokens.specs.Reading.{seen};
 ghost use Rattle.dcv_tokens.specs.Tokens.{Token as TextToken};
 ghost use Rattle.dcv_reader.specs.Building.{HasSmallNumbers};
+ghost use Rattle.dcv_reader.specs.Lists.{separator};
 ghost use Rattle.dcv_reader.specs.Nodes.{name_of, number_of};
 
 mod files;
@@ -18,9 +19,9 @@ mod formulas;
 mod props;
 
 use dcv_grammar::trees::{first_and_rest, next_class};
-use dcv_syntax::{Name, Number, Text};
+use dcv_syntax::{Connective, Name, Number, Text};
 use dcv_tokens::Token;
-use dcv_tokens::classes::NUMBER;
+use dcv_tokens::classes::{DOUBLE_AMPERSAND, DOUBLE_ARROW, DOUBLE_BAR, NUMBER};
 pub use files::build_file;
 use std::alloc::{AllocError, Global};
 
@@ -40,6 +41,17 @@ fn name_of(alloc: Global, token: &Token) -> Result<Name, AllocError>
         text: Text::copy_of(alloc, token.bytes)?,
         span: token.span(),
     })
+}
+
+// The class between two operands.
+fn separator(connective: Connective) -> u8
+    ensures { result ≡ separator connective }
+{
+    match connective {
+        Connective::And => DOUBLE_AMPERSAND,
+        Connective::Or => DOUBLE_BAR,
+        Connective::Iff => DOUBLE_ARROW,
+    }
 }
 
 // One operand more.

@@ -5,12 +5,15 @@ ghost use Rattle.dcv_syntax.specs.Plain.{PlainFormulaOperand, formula_operands_o
 ghost use Rattle.dcv_syntax.specs.Views.{plain_prop, plain_formula_kind, plain_formula_operand};
 ghost use Rattle.dcv_tokens.specs.Reading.{seen};
 ghost use Rattle.dcv_tokens.specs.Tokens.{Token as TextToken, span_of};
-ghost use Rattle.dcv_reader.specs.Nodes.{number_of, relation_of, bare, formula_list, implication, prefixed, starred, quantified};
-ghost use Rattle.dcv_reader.specs.Nodes.{bracketed, formula_word, measure, formula_call};
+ghost use Rattle.dcv_reader.specs.Nodes.{number_of, relation_of, bracket_of, count_of, unary_of, quantifier_of};
+ghost use Rattle.dcv_reader.specs.Nodes.{bare, formula_list, implication, prefixed, starred, quantified, bracketed, formula_word, measure, formula_call};
 
 use super::props::Arguments;
-use super::{Builder, add, name_of};
-use dcv_syntax::{Formula, FormulaKind, FormulaOperand, Number, Prop, Relation, Span};
+use super::{Builder, add, name_of, separator};
+use dcv_syntax::{
+    Bracket, Connective, Count, Formula, FormulaKind, FormulaOperand, Number, Prop, Quantifier,
+    Relation, Span, Unary,
+};
 use dcv_tokens::Token;
 use dcv_tokens::classes::*;
 use std::alloc::{AllocError, Global};
@@ -18,9 +21,7 @@ use std::alloc::{AllocError, Global};
 // The lists of operands.
 #[derive(Clone, Copy)]
 enum FormulaList {
-    And,
-    Or,
-    Iff,
+    Joined(Connective),
     Chop,
 }
 
@@ -42,16 +43,14 @@ fn boxed(alloc: Global, kind: FormulaKind, span: Span) -> Result<Box<FormulaOper
 }
 
 impl FormulaList {
-    ghost use Rattle.dcv_reader.specs.FormulaLists.{formula_list_kind, formula_separator};
+    ghost use Rattle.dcv_reader.specs.Lists.{formula_list_kind, formula_separator};
 
     // The class between two operands.
     fn separator(self) -> u8
         ensures { result ≡ formula_separator self }
     {
         match self {
-            FormulaList::And => DOUBLE_AMPERSAND,
-            FormulaList::Or => DOUBLE_BAR,
-            FormulaList::Iff => DOUBLE_ARROW,
+            FormulaList::Joined(connective) => separator(connective),
             FormulaList::Chop => CARET,
         }
     }
@@ -61,9 +60,7 @@ impl FormulaList {
         ensures { plain_formula_kind result ≡ formula_list_kind self (formula_operands_of (map plain_formula_operand operands.items)) }
     {
         match self {
-            FormulaList::And => FormulaKind::And(operands),
-            FormulaList::Or => FormulaKind::Or(operands),
-            FormulaList::Iff => FormulaKind::Iff(operands),
+            FormulaList::Joined(connective) => FormulaKind::Joined(connective, operands),
             FormulaList::Chop => FormulaKind::Chop(operands),
         }
     }
@@ -105,7 +102,7 @@ impl Builder<'_, '_> {
     ghost use Rattle.dcv_tokens.specs.Classes as classes;
     ghost use Rattle.dcv_reader.specs.Actions.{AFormula, ARelation};
     ghost use Rattle.dcv_reader.specs.Building.{BeginWithRule, RuleReadAs, is_next, is_next_of};
-    ghost use Rattle.dcv_reader.specs.FormulaLists.{formula_list_rule, formula_operand_rule};
+    ghost use Rattle.dcv_reader.specs.Lists.{formula_list_rule, formula_operand_rule};
     ghost use Rattle.dcv_reader.specs.Left.{left};
     ghost use Rattle.dcv_sentence.specs.RuleNumbers as rules;
 
@@ -116,7 +113,7 @@ impl Builder<'_, '_> {
         ensures { IfOk result (λ d. RuleReadAs rules.formula (left self.old) (AFormula (plain_formula_operand d.value)) (left self.new)) }
     {
         if !self.is_next_of(&[WORD_EX, WORD_ALL]) {
-            return self.formula_list(FormulaList::Iff);
+            return self.formula_list(FormulaList::Joined(Connective::Iff));
         }
         let word = self.take();
         let name = self.take();
@@ -156,9 +153,11 @@ impl Builder<'_, '_> {
         ensures { IfOk result (λ d. RuleReadAs (formula_operand_rule list) (left self.old) (AFormula (plain_formula_operand d.value)) (left self.new)) }
     {
         match list {
-            FormulaList::Iff => self.formula_implies(),
-            FormulaList::Or => self.formula_list(FormulaList::And),
-            FormulaList::And => self.formula_list(FormulaList::Chop),
+            FormulaList::Joined(Connective::Iff) => self.formula_implies(),
+            FormulaList::Joined(Connective::Or) => {
+                self.formula_list(FormulaList::Joined(Connective::And))
+            }
+            FormulaList::Joined(Connective::And) => self.formula_list(FormulaList::Chop),
             FormulaList::Chop => self.formula_prefix(),
         }
     }
@@ -169,7 +168,7 @@ impl Builder<'_, '_> {
         requires { BeginWithRule rules.formula_implies (left self.old) }
         ensures { IfOk result (λ d. RuleReadAs rules.formula_implies (left self.old) (AFormula (plain_formula_operand d.value)) (left self.new)) }
     {
-        let premise = self.formula_list(FormulaList::Or)?;
+        let premise = self.formula_list(FormulaList::Joined(Connective::Or))?;
         if !self.is_next(ARROW) {
             return Ok(premise);
         }
@@ -342,11 +341,18 @@ fn bracketed(opening: &Token, inside: Prop, closing: &Token) -> FormulaOperand
     ensures { plain_formula_operand result ≡ bracketed (seen opening.now) (plain_prop inside) (seen closing.now) }
 {
     let span = opening.span_to(closing);
+    bare(FormulaKind::Bracketed(bracket_of(opening), inside), span)
+}
+
+// `<`, `[`, `[[` or `{{`
+fn bracket_of(opening: &Token) -> Bracket
+    ensures { result ≡ bracket_of (seen opening.now) }
+{
     match opening.class {
-        LESS => bare(FormulaKind::Point(inside), span),
-        OPEN_BRACKET => bare(FormulaKind::Run(inside), span),
-        OPEN_BRACKETS => bare(FormulaKind::Every(inside), span),
-        _ => bare(FormulaKind::Unit(inside), span),
+        LESS => Bracket::Point,
+        OPEN_BRACKET => Bracket::Run,
+        OPEN_BRACKETS => Bracket::Every,
+        _ => Bracket::Unit,
     }
 }
 
@@ -355,10 +361,18 @@ fn measure(word: &Token, measured: Prop, relation: Relation, number: Number) -> 
         plain_formula_operand result ≡ measure (seen word.now) (plain_prop measured) relation digits }
 {
     let span = word.span().to(number.span);
-    if word.class == WORD_SCOUNT {
-        return bare(FormulaKind::Scount(measured, relation, number), span);
+    let counted = FormulaKind::Counted(count_of(word), measured, relation, number);
+    bare(counted, span)
+}
+
+// `scount` or `sdur`
+fn count_of(word: &Token) -> Count
+    ensures { result ≡ count_of (seen word.now) }
+{
+    match word.class {
+        WORD_SCOUNT => Count::Scount,
+        _ => Count::Sdur,
     }
-    bare(FormulaKind::Sdur(measured, relation, number), span)
 }
 
 // A call of what a name stands for.
@@ -384,7 +398,7 @@ fn starred(
 {
     let span = body.span.to(star);
     let body = Box::new(alloc, Box::into_inner(body).formula)?;
-    boxed(alloc, FormulaKind::Star(body), span)
+    boxed(alloc, FormulaKind::Applied(Unary::Star, body), span)
 }
 
 // `!D`, `<>D` or `[]D`
@@ -398,10 +412,17 @@ fn prefixed(
 {
     let span = sign.span().to(body.span);
     let body = Box::new(alloc, Box::into_inner(body).formula)?;
+    boxed(alloc, FormulaKind::Applied(unary_of(sign), body), span)
+}
+
+// `!`, `<>` or `[]`
+fn unary_of(sign: &Token) -> Unary
+    ensures { result ≡ unary_of (seen sign.now) }
+{
     match sign.class {
-        EXCLAMATION => boxed(alloc, FormulaKind::Not(body), span),
-        DIAMOND => boxed(alloc, FormulaKind::Somewhere(body), span),
-        _ => boxed(alloc, FormulaKind::Everywhere(body), span),
+        EXCLAMATION => Unary::Not,
+        DIAMOND => Unary::Somewhere,
+        _ => Unary::Everywhere,
     }
 }
 
@@ -418,10 +439,18 @@ fn quantified(
     let span = word.span().to(body.span);
     let body = Box::new(alloc, Box::into_inner(body).formula)?;
     let name = name_of(alloc, name)?;
-    if word.class == WORD_EX {
-        return boxed(alloc, FormulaKind::Exists(name, body), span);
+    let quantified = FormulaKind::Quantified(quantifier_of(word), name, body);
+    boxed(alloc, quantified, span)
+}
+
+// `ex` or `all`
+fn quantifier_of(word: &Token) -> Quantifier
+    ensures { result ≡ quantifier_of (seen word.now) }
+{
+    match word.class {
+        WORD_EX => Quantifier::Exists,
+        _ => Quantifier::ForAll,
     }
-    boxed(alloc, FormulaKind::ForAll(name, body), span)
 }
 
 #[inline(never)]

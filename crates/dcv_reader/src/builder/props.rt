@@ -1,25 +1,17 @@
 // Propositions, read with small frames as formulas are.
 ghost use Rattle.std.specs.Prelude.{◌≡◌, ◌∷◌, ◌++◌, ◌<◌, [], List, length, map};
-ghost use Rattle.dcv_syntax.specs.Plain.{PlainPropKind, PlainPropOperand, prop_operands_of};
+ghost use Rattle.dcv_syntax.specs.Plain.{PlainPropOperand};
 ghost use Rattle.dcv_syntax.specs.Views.{plain_prop_kind, plain_prop_operand};
 ghost use Rattle.std.specs.Prelude.{IfOk};
 ghost use Rattle.dcv_syntax.specs.Views.{plain_prop};
 ghost use Rattle.dcv_tokens.specs.Reading.{seen};
-ghost use Rattle.dcv_reader.specs.Nodes.{bare_prop, prop_list, prop_call, prop_prefixed, prop_implication};
+ghost use Rattle.dcv_reader.specs.Nodes.{bare_prop, prop_list, prop_call, prop_prefixed, prop_implication, direction_of};
 
-use super::{Builder, add, name_of};
-use dcv_syntax::{Prop, PropKind, PropOperand, Span};
+use super::{Builder, add, name_of, separator};
+use dcv_syntax::{Connective, Direction, Prop, PropKind, PropOperand, Span};
 use dcv_tokens::Token;
 use dcv_tokens::classes::*;
 use std::alloc::{AllocError, Global};
-
-// The lists of operands.
-#[derive(Clone, Copy)]
-enum PropList {
-    And,
-    Or,
-    Iff,
-}
 
 // A proposition without parentheses of its own.
 fn bare_prop(kind: PropKind, span: Span) -> PropOperand
@@ -47,57 +39,34 @@ fn add_argument(props: &mut Vec<Prop>, argument: Box<PropOperand>) -> Result<(),
     Ok(())
 }
 
-impl PropList {
-    ghost use Rattle.dcv_reader.specs.PropLists.{prop_list_kind, prop_separator};
+// What these operands come to.
+#[inline(never)]
+fn listed_prop(
+    alloc: Global,
+    connective: Connective,
+    operands: Vec<PropOperand>,
+) -> Result<Box<PropOperand>, AllocError>
+    requires { 0 < length operands.items }
+    ensures { IfOk result (λ whole. (p : PlainPropOperand) (ps : List PlainPropOperand) →
+        map plain_prop_operand operands.items ≡ p ∷ ps → plain_prop_operand whole.value ≡ prop_list connective p ps) }
+{
+    let whole = whole_prop(connective, operands);
+    Ok(Box::new(alloc, whole)?)
+}
 
-    // The class between two operands.
-    fn separator(self) -> u8
-        ensures { result ≡ prop_separator self }
-    {
-        match self {
-            PropList::And => DOUBLE_AMPERSAND,
-            PropList::Or => DOUBLE_BAR,
-            PropList::Iff => DOUBLE_ARROW,
-        }
+// One operand stands for itself, and more are a list.
+fn whole_prop(connective: Connective, operands: Vec<PropOperand>) -> PropOperand
+    requires { 0 < length operands.items }
+    ensures { (p : PlainPropOperand) (ps : List PlainPropOperand) → map plain_prop_operand operands.items ≡ p ∷ ps →
+        plain_prop_operand result ≡ prop_list connective p ps }
+{
+    let mut operands = operands;
+    let last = operands.len() - 1;
+    if last == 0 {
+        return operands.remove(0);
     }
-
-    // The form of a list of operands.
-    fn kind(self, operands: Vec<PropOperand>) -> PropKind
-        ensures { plain_prop_kind result ≡ prop_list_kind self (prop_operands_of (map plain_prop_operand operands.items)) }
-    {
-        match self {
-            PropList::And => PropKind::And(operands),
-            PropList::Or => PropKind::Or(operands),
-            PropList::Iff => PropKind::Iff(operands),
-        }
-    }
-
-    // What these operands come to.
-    #[inline(never)]
-    fn of(self, alloc: Global, operands: Vec<PropOperand>) -> Result<Box<PropOperand>, AllocError>
-        requires { 0 < length operands.items }
-        ensures { IfOk result (λ whole. (p : PlainPropOperand) (ps : List PlainPropOperand) →
-            map plain_prop_operand operands.items ≡ p ∷ ps →
-            plain_prop_operand whole.value ≡ prop_list (prop_list_kind self) p ps) }
-    {
-        let whole = self.whole(operands);
-        Ok(Box::new(alloc, whole)?)
-    }
-
-    // One operand stands for itself, and more are a list.
-    fn whole(self, operands: Vec<PropOperand>) -> PropOperand
-        requires { 0 < length operands.items }
-        ensures { (p : PlainPropOperand) (ps : List PlainPropOperand) → map plain_prop_operand operands.items ≡ p ∷ ps →
-            plain_prop_operand result ≡ prop_list (prop_list_kind self) p ps }
-    {
-        let mut operands = operands;
-        let last = operands.len() - 1;
-        if last == 0 {
-            return operands.remove(0);
-        }
-        let span = operands[0].span.to(operands[last].span);
-        bare_prop(self.kind(operands), span)
-    }
+    let span = operands[0].span.to(operands[last].span);
+    bare_prop(PropKind::Joined(connective, operands), span)
 }
 
 /// The arguments of a call, and the span of their parentheses, if these stand there.
@@ -113,7 +82,7 @@ impl Builder<'_, '_> {
     ghost use Rattle.dcv_reader.specs.Actions.{AProp, Arguments as ArgumentsPart};
     ghost use Rattle.dcv_reader.specs.Building.{BeginWithRule, RuleReadAs, is_next};
     ghost use Rattle.dcv_reader.specs.Left.{left};
-    ghost use Rattle.dcv_reader.specs.PropLists.{prop_list_rule, prop_operand_rule};
+    ghost use Rattle.dcv_reader.specs.Lists.{prop_list_rule, prop_operand_rule};
     ghost use Rattle.dcv_sentence.specs.RuleNumbers as rules;
 
     /// prop = prop_implies {"<=>" prop_implies}
@@ -122,19 +91,19 @@ impl Builder<'_, '_> {
         requires { BeginWithRule rules.prop (left self.old) }
         ensures { IfOk result (λ p. RuleReadAs rules.prop (left self.old) (AProp (plain_prop_operand p.value)) (left self.new)) }
     {
-        self.prop_list(PropList::Iff)
+        self.prop_list(Connective::Iff)
     }
 
     // prop = prop_implies {"<=>" prop_implies}
     // prop_or = prop_and {"||" prop_and}
     // prop_and = prop_prefix {"&&" prop_prefix}
     #[cycle(prop)]
-    fn prop_list(&mut self, list: PropList) -> Result<Box<PropOperand>, AllocError>
-        requires { BeginWithRule (prop_list_rule list) (left self.old) }
-        ensures { IfOk result (λ p. RuleReadAs (prop_list_rule list) (left self.old) (AProp (plain_prop_operand p.value)) (left self.new)) }
+    fn prop_list(&mut self, connective: Connective) -> Result<Box<PropOperand>, AllocError>
+        requires { BeginWithRule (prop_list_rule connective) (left self.old) }
+        ensures { IfOk result (λ p. RuleReadAs (prop_list_rule connective) (left self.old) (AProp (plain_prop_operand p.value)) (left self.new)) }
     {
-        let first = self.prop_operand(list)?;
-        let separator = list.separator();
+        let first = self.prop_operand(connective)?;
+        let separator = separator(connective);
         if !self.is_next(separator) {
             return Ok(first);
         }
@@ -142,22 +111,22 @@ impl Builder<'_, '_> {
         add(&mut operands, first)?;
         'more: while self.is_next(separator) {
             let _separator = self.take();
-            add(&mut operands, self.prop_operand(list)?)?;
+            add(&mut operands, self.prop_operand(connective)?)?;
         }
-        list.of(self.alloc, operands)
+        listed_prop(self.alloc, connective, operands)
     }
 
     // An operand of such a list, with no frame of its own.
     #[cycle(prop)]
     #[inline(always)]
-    fn prop_operand(&mut self, list: PropList) -> Result<Box<PropOperand>, AllocError>
-        requires { BeginWithRule (prop_operand_rule list) (left self.old) }
-        ensures { IfOk result (λ p. RuleReadAs (prop_operand_rule list) (left self.old) (AProp (plain_prop_operand p.value)) (left self.new)) }
+    fn prop_operand(&mut self, connective: Connective) -> Result<Box<PropOperand>, AllocError>
+        requires { BeginWithRule (prop_operand_rule connective) (left self.old) }
+        ensures { IfOk result (λ p. RuleReadAs (prop_operand_rule connective) (left self.old) (AProp (plain_prop_operand p.value)) (left self.new)) }
     {
-        match list {
-            PropList::Iff => self.prop_implies(),
-            PropList::Or => self.prop_list(PropList::And),
-            PropList::And => self.prop_prefix(),
+        match connective {
+            Connective::Iff => self.prop_implies(),
+            Connective::Or => self.prop_list(Connective::And),
+            Connective::And => self.prop_prefix(),
         }
     }
 
@@ -167,7 +136,7 @@ impl Builder<'_, '_> {
         requires { BeginWithRule rules.prop_implies (left self.old) }
         ensures { IfOk result (λ p. RuleReadAs rules.prop_implies (left self.old) (AProp (plain_prop_operand p.value)) (left self.new)) }
     {
-        let premise = self.prop_list(PropList::Or)?;
+        let premise = self.prop_list(Connective::Or)?;
         if !self.is_next(ARROW) {
             return Ok(premise);
         }
@@ -294,10 +263,23 @@ fn prop_prefixed(
 {
     let span = sign.span().to(operand.span);
     let operand = Box::new(alloc, Box::into_inner(operand).prop)?;
+    if sign.class == EXCLAMATION {
+        return boxed_prop(alloc, PropKind::Not(operand), span);
+    }
+    boxed_prop(
+        alloc,
+        PropKind::Shifted(direction_of(sign), span, operand),
+        span,
+    )
+}
+
+// `-` or `+`
+fn direction_of(sign: &Token) -> Direction
+    ensures { result ≡ direction_of (seen sign.now) }
+{
     match sign.class {
-        EXCLAMATION => boxed_prop(alloc, PropKind::Not(operand), span),
-        MINUS => boxed_prop(alloc, PropKind::Prior(span, operand), span),
-        _ => boxed_prop(alloc, PropKind::Next(span, operand), span),
+        MINUS => Direction::Prior,
+        _ => Direction::Next,
     }
 }
 

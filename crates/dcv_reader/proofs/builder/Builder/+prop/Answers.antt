@@ -18,21 +18,21 @@ use Rattle.dcv_reader.proofs.BuilderProps.{level, list_part, argument_operands, 
 use Rattle.dcv_reader.proofs.builder.Builder.+prop.Goals as goal
 
 pub prop_list-prop_operand-requires : goal.prop_list-prop_operand-requires
-prop_list-prop_operand-requires t c = (omega arith, level_first (level c.args.list) c.requires)
+prop_list-prop_operand-requires t c = (omega arith, level_first (level c.args.connective) c.requires)
 
 pub prop_list-returns-then-not-is_next : goal.prop_list-returns-then-not-is_next
 prop_list-returns-then-not-is_next t c =
     let none = next_by (left c.prop_operand.new.self) c.separator-separator.ensures c.is_next.ensures c.if-not-is_next.true in
-    level_alone (level c.args.list) c.requires c.in_ok-first.ensures none (list_part c.args.list _ [])
+    level_alone (level c.args.connective) c.requires c.in_ok-first.ensures none (list_part c.args.connective _ [])
 
 pub prop_list-more-init : goal.prop_list-more-init
 prop_list-more-init t c =
-    operands_begun plain_prop_operand (level c.args.list) c.new-operands.ensures.items c.in_ok-add.ensures c.requires c.in_ok-first.ensures
+    operands_begun plain_prop_operand (level c.args.connective) c.new-operands.ensures.items c.in_ok-add.ensures c.requires c.in_ok-first.ensures
 
 pub prop_list-prop_operand-requires-in-more : goal.prop_list-prop_operand-requires-in-more
 prop_list-prop_operand-requires-in-more t c =
     let is = next_by (left c.more.self) c.separator-separator.ensures c.is_next-in-more.ensures c.more-test.true in
-    let next = operand_next (level c.args.list).operands c.more.invariant is c.take-separator.ensures in
+    let next = operand_next (level c.args.connective).operands c.more.invariant is c.take-separator.ensures in
     let shorter = next.1 in
     (omega arith, next.0)
 
@@ -40,20 +40,20 @@ pub prop_list-more-smaller : goal.prop_list-more-smaller
 prop_list-more-smaller t c =
     let is = next_by (left c.more.self) c.separator-separator.ensures c.is_next-in-more.ensures c.more-test.true in
     let added = c.in_ok-add-2.ensures in
-    (operands_pushed plain_prop_operand (level c.args.list) c.more.operands.items added c.more.invariant is c.take-separator.ensures c.in_ok-prop_operand.ensures).1
+    (operands_pushed plain_prop_operand (level c.args.connective) c.more.operands.items added c.more.invariant is c.take-separator.ensures c.in_ok-prop_operand.ensures).1
 
 pub prop_list-more-preserved : goal.prop_list-more-preserved
 prop_list-more-preserved t c =
     let is = next_by (left c.more.self) c.separator-separator.ensures c.is_next-in-more.ensures c.more-test.true in
     let added = c.in_ok-add-2.ensures in
-    (operands_pushed plain_prop_operand (level c.args.list) c.more.operands.items added c.more.invariant is c.take-separator.ensures c.in_ok-prop_operand.ensures).0
+    (operands_pushed plain_prop_operand (level c.args.connective) c.more.operands.items added c.more.invariant is c.take-separator.ensures c.in_ok-prop_operand.ensures).0
 
 pub prop_list-returns : goal.prop_list-returns
 prop_list-returns t c =
     let none = next_by (left c.more.self) c.separator-separator.ensures c.is_next-in-more.ensures c.more-test.false in
-    if_ok c.of.result
-    (λ x is. level_read (level c.args.list) c.more.invariant none (λ y ys e. list_part c.args.list y ys ∙ ap AProp (sym (is y ys e))))
-    c.of.ensures
+    if_ok c.listed_prop.result
+    (λ x is. level_read (level c.args.connective) c.more.invariant none (λ y ys e. list_part c.args.connective y ys ∙ ap AProp (sym (is y ys e))))
+    c.listed_prop.ensures
 
 pub prop_implies-prop_list-requires : goal.prop_implies-prop_list-requires
 prop_implies-prop_list-requires t c = (omega arith, premise_begins implies c.requires)

@@ -13,10 +13,10 @@ abbrev pub decreases-prop_prefix : goal.decreases-prop_prefix
 decreases-prop_prefix l = 20 * length (left l.self.now) + 2
 
 abbrev pub decreases-prop_operand : goal.decreases-prop_operand
-decreases-prop_operand l = 20 * length (left l.self.now) + rank l.list
+decreases-prop_operand l = 20 * length (left l.self.now) + rank l.connective
 
 abbrev pub decreases-prop_list : goal.decreases-prop_list
-decreases-prop_list l = 20 * length (left l.self.now) + (1 + rank l.list)
+decreases-prop_list l = 20 * length (left l.self.now) + (1 + rank l.connective)
 
 abbrev pub decreases-prop_implies : goal.decreases-prop_implies
 decreases-prop_implies l = 20 * length (left l.self.now) + 7
@@ -29,7 +29,7 @@ decreases-arguments l = 20 * length (left l.self.now) + 11
 
 abbrev pub invariant-prop_list-more : goal.invariant-prop_list-more
 invariant-prop_list-more l =
-    LevelRead (level l.list) (left l.fn.self) (map plain_prop_operand l.operands.items) (left l.self)
+    LevelRead (level l.connective) (left l.fn.self) (map plain_prop_operand l.operands.items) (left l.self)
 
 abbrev pub decreases-prop_list-more : goal.decreases-prop_list-more
 decreases-prop_list-more l = length (left l.self)

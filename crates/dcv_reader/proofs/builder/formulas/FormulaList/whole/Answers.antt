@@ -1,6 +1,6 @@
 use Rattle.std.proofs.Common.{ap, ◌∙◌}
 use Rattle.dcv_reader.specs.Nodes.{bare}
-use Rattle.dcv_reader.specs.FormulaLists.{formula_list_kind}
+use Rattle.dcv_reader.specs.Lists.{formula_list_kind}
 use Rattle.dcv_reader.proofs.BuilderFormulas.{only_formula, listed_formulas}
 use Rattle.dcv_reader.proofs.builder.formulas.FormulaList.whole.Goals as goal
 
