@@ -10,8 +10,10 @@ use Rattle.dcv_language.specs.Operations.{intersection, union, agreement, chop, 
 use Rattle.dcv_language.specs.OperationMachines.{not_machine, and_machine, or_machine, iff_machine, chop_machine, star_machine, exists_machine}
 use Rattle.dcv_language.specs.Table.{Table, automaton_of}
 use Rattle.dcv_core.specs.Core.{CoreTree, PlainBasic}
-use Rattle.dcv_core.specs.Steps.{PlainOp, OpAtom, OpNot, OpAnd, OpOr, OpIff, OpChop, OpStar, OpExists, PlainStep, CoreStep, PlainCore, without_core, steps_before, steps_of}
-use Rattle.dcv_core.specs.StepWords.{TakesOne, TakesTwo, IsOperation}
+use Rattle.dcv_syntax.specs.declared.propositions.Connective.{Connective}
+use Rattle.dcv_syntax.specs.declared.propositions.Connective.TheVariants as connective
+use Rattle.dcv_core.specs.Steps.{PlainOp, OpAtom, OpNot, OpJoined, OpChop, OpStar, OpExists, PlainStep, CoreStep, PlainCore, without_core, steps_before, steps_of}
+use Rattle.dcv_core.specs.StepWords.{joined_words, TakesOne, TakesTwo, IsOperation}
 use Rattle.dcv_core.proofs.StepList.{steps_are_operations}
 use Rattle.dcv_atoms.specs.AtomRows.{atom_machine}
 use Rattle.dcv_atoms.specs.Laws.{MachineAcceptsStep as MachineAcceptsAtomStep}
@@ -176,9 +178,9 @@ module _ (k : ℕ) (tree : CoreTree) (limits : Limits) (n : ℕ) (shelf : List S
   -- by the operator
   takes : (asked : Asked) (c d : ℕ) → step.op ≡ op_like asked c d → AreThere shelf (numbers_of asked) → (built : Built (numbers_of asked))
       → Takes built.tables (AreOperands shelf asked) (TheseAre built.tables step.slots shelf asked c d)
-  takes (And a b) c d is all built = takes_two a b c d intersection (operation_is (OpAnd c d) is) (after_is (OpAnd c d) is) (all 0 0 (omega arith)) (all 1 0 (omega arith)) built
-  takes (Or a b) c d is all built = takes_two a b c d union (operation_is (OpOr c d) is) (after_is (OpOr c d) is) (all 0 0 (omega arith)) (all 1 0 (omega arith)) built
-  takes (Iff a b) c d is all built = takes_two a b c d agreement (operation_is (OpIff c d) is) (after_is (OpIff c d) is) (all 0 0 (omega arith)) (all 1 0 (omega arith)) built
+  takes (And a b) c d is all built = takes_two a b c d intersection (operation_is (OpJoined connective.And c d) is) (after_is (OpJoined connective.And c d) is) (all 0 0 (omega arith)) (all 1 0 (omega arith)) built
+  takes (Or a b) c d is all built = takes_two a b c d union (operation_is (OpJoined connective.Or c d) is) (after_is (OpJoined connective.Or c d) is) (all 0 0 (omega arith)) (all 1 0 (omega arith)) built
+  takes (Iff a b) c d is all built = takes_two a b c d agreement (operation_is (OpJoined connective.Iff c d) is) (after_is (OpJoined connective.Iff c d) is) (all 0 0 (omega arith)) (all 1 0 (omega arith)) built
   takes (Chop a b) c d is all built = takes_two a b c d chop (operation_is (OpChop c d) is) (after_is (OpChop c d) is) (all 0 0 (omega arith)) (all 1 0 (omega arith)) built
   takes (Star a) c d is all built = takes_star a d (operation_is (OpStar d) is) (after_is (OpStar d) is) (all 0 0 (omega arith)) built
   takes (Exists a) c d is all built = takes_wide a d (operation_is (OpExists d) is) (after_is (OpExists d) is) (all 0 0 (omega arith)) built
@@ -294,14 +296,9 @@ module _ (core : PlainCore) (limits : Limits) (n : ℕ) (counts : List Count) wh
   pub exists_waits : (d : ℕ) → IsCore core → Here core n (OpExists d) → (shelf : List ShelfTable) (waiting : List ℕ) → AreBuilt (tables_at shelf waiting) → 0 < length waiting
   exists_waits d = one_waits (OpExists d) d (λ step. suc step.slots) projection (λ tree step is. is)
 
-  pub and_waits : (c d : ℕ) → IsCore core → Here core n (OpAnd c d) → (shelf : List ShelfTable) (waiting : List ℕ) → AreBuilt (tables_at shelf waiting) → 1 < length waiting
-  and_waits c d = two_wait (OpAnd c d) c d intersection (λ tree step is. is)
-
-  pub or_waits : (c d : ℕ) → IsCore core → Here core n (OpOr c d) → (shelf : List ShelfTable) (waiting : List ℕ) → AreBuilt (tables_at shelf waiting) → 1 < length waiting
-  or_waits c d = two_wait (OpOr c d) c d union (λ tree step is. is)
-
-  pub iff_waits : (c d : ℕ) → IsCore core → Here core n (OpIff c d) → (shelf : List ShelfTable) (waiting : List ℕ) → AreBuilt (tables_at shelf waiting) → 1 < length waiting
-  iff_waits c d = two_wait (OpIff c d) c d agreement (λ tree step is. is)
+  pub joined_waits : (connective : Connective) (c d : ℕ) → IsCore core → Here core n (OpJoined connective c d) → (shelf : List ShelfTable) (waiting : List ℕ)
+      → AreBuilt (tables_at shelf waiting) → 1 < length waiting
+  joined_waits connective c d = two_wait (OpJoined connective c d) c d (joined_words connective) (λ tree step is. is)
 
   pub chop_waits : (c d : ℕ) → IsCore core → Here core n (OpChop c d) → (shelf : List ShelfTable) (waiting : List ℕ) → AreBuilt (tables_at shelf waiting) → 1 < length waiting
   chop_waits c d = two_wait (OpChop c d) c d chop (λ tree step is. is)

@@ -3,8 +3,8 @@
 use Rattle.std.proofs.Common.{◌≡◌, ℕ, suc, ◌+◌, ◌<◌, ◌≤◌, List, [], ◌∷◌, ◌++◌, Some, length, refl, sym, ap, subst, ◌∙◌, arith}
 use Rattle.std.specs.List.{slice_get}
 use Rattle.std.proofs.lemmas.Option.{slice_get_within}
-use Rattle.dcv_core.specs.Core.{CoreTree, CoreAtom, CoreNot, CoreAnd, CoreOr, CoreIff, CoreChop, CoreStar, CoreExists}
-use Rattle.dcv_core.specs.Steps.{PlainOp, OpAtom, OpNot, OpAnd, OpOr, OpIff, OpChop, OpStar, OpExists, PlainStep, steps_before, own_step, steps_from, steps_of}
+use Rattle.dcv_core.specs.Core.{CoreTree, CoreAtom, CoreNot, CoreJoined, CoreChop, CoreStar, CoreExists}
+use Rattle.dcv_core.specs.Steps.{PlainOp, OpAtom, OpNot, OpJoined, OpChop, OpStar, OpExists, PlainStep, steps_before, own_step, steps_from, steps_of}
 use Rattle.dcv_core.proofs.StepList.{steps_from-length, some_same, last_step, Has, has_left, has_one, last_of_one, last_of_two, first_of_two, second_of_two, by_place_of_one, by_place_of_two, has_itself}
 
 -- how many steps stand between where a step's operands begin and the step, by its operator
@@ -23,9 +23,7 @@ pub record IsAfterTwo (steps : List PlainStep) (first second before : ℕ) : Typ
 abbrev pub IsAfterOperands : List PlainStep → PlainOp → ℕ → Type 0
 IsAfterOperands steps (OpAtom basic) before = before ≡ 0
 IsAfterOperands steps (OpNot d) before = IsAfterOne steps d before
-IsAfterOperands steps (OpAnd c d) before = IsAfterTwo steps c d before
-IsAfterOperands steps (OpOr c d) before = IsAfterTwo steps c d before
-IsAfterOperands steps (OpIff c d) before = IsAfterTwo steps c d before
+IsAfterOperands steps (OpJoined connective c d) before = IsAfterTwo steps c d before
 IsAfterOperands steps (OpChop c d) before = IsAfterTwo steps c d before
 IsAfterOperands steps (OpStar d) before = IsAfterOne steps d before
 IsAfterOperands steps (OpExists d) before = IsAfterOne steps d before
@@ -75,9 +73,7 @@ each : (all : List PlainStep) (core : CoreTree) (n k : ℕ) → Has all n (steps
 each all (CoreAtom basic span) n k h = λ i le.
     says_own all (n + i) (own_step (OpAtom basic) span k (CoreAtom basic span)) (ap (slice_get all) (omega (arith, le)) ∙ has_one all n _ h) refl
 each all (CoreNot d span) n k h = each_of_one all d n k _ h (λ is. is) (each all d n k (has_left all n (steps_from n k d) _ h))
-each all (CoreAnd c d span) n k h = each_of_two all c d n k _ h (λ is. is) (each all c n k) (each all d (suc (n + steps_before c)) k)
-each all (CoreOr c d span) n k h = each_of_two all c d n k _ h (λ is. is) (each all c n k) (each all d (suc (n + steps_before c)) k)
-each all (CoreIff c d span) n k h = each_of_two all c d n k _ h (λ is. is) (each all c n k) (each all d (suc (n + steps_before c)) k)
+each all (CoreJoined connective c d span) n k h = each_of_two all c d n k _ h (λ is. is) (each all c n k) (each all d (suc (n + steps_before c)) k)
 each all (CoreChop c d span) n k h = each_of_two all c d n k _ h (λ is. is) (each all c n k) (each all d (suc (n + steps_before c)) k)
 each all (CoreStar d span) n k h = each_of_one all d n k _ h (λ is. is) (each all d n k (has_left all n (steps_from n k d) _ h))
 each all (CoreExists d span) n k h = each_of_one all d n (k + 1) _ h (λ is. is) (each all d n (k + 1) (has_left all n (steps_from n (k + 1) d) _ h))

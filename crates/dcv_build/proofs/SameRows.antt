@@ -1,8 +1,9 @@
 -- The row of a step reads the tables of its operands alone, which are earlier steps.
 use Rattle.std.proofs.Common.{◌≡◌, ℕ, suc, ◌+◌, ◌<◌, List, [], slice_index_or, subst, arith}
 use Rattle.dcv_language.specs.Table.{Table, automaton_of}
-use Rattle.dcv_language.specs.OperationMachines.{not_machine, and_machine, or_machine, iff_machine, chop_machine, star_machine, exists_machine}
-use Rattle.dcv_core.specs.Steps.{PlainOp, OpAtom, OpNot, OpAnd, OpOr, OpIff, OpChop, OpStar, OpExists, PlainStep, steps_before}
+use Rattle.dcv_language.specs.OperationMachines.{not_machine, pair_machine, chop_machine, star_machine, exists_machine}
+use Rattle.dcv_logic.specs.Connectives.{joins}
+use Rattle.dcv_core.specs.Steps.{PlainOp, OpAtom, OpNot, OpJoined, OpChop, OpStar, OpExists, PlainStep, steps_before}
 use Rattle.dcv_core.specs.StepWords.{IsOperation}
 use Rattle.dcv_explore.specs.Budget.{Row}
 use Rattle.dcv_build.specs.Rows.{number_row, pair_row, chop_row, star_row, set_row, row_of}
@@ -25,12 +26,8 @@ module _ (steps : List PlainStep) (n : ℕ) (step : PlainStep) (one other : List
   pub row_over : (op : PlainOp) → IsOperation steps n step op → P (row_of op step.slots one) → P (row_of op step.slots other)
   row_over (OpAtom basic) is here = here
   row_over (OpNot d) is here = by_one (λ table. number_row (not_machine step.slots (automaton_of table))) d is.is_before here
-  row_over (OpAnd c d) is here =
-      by_two (λ first second. pair_row (and_machine step.slots (automaton_of first) (automaton_of second))) c d (steps_before is.second_step.core) is.first_is_before is.second_is_before here
-  row_over (OpOr c d) is here =
-      by_two (λ first second. pair_row (or_machine step.slots (automaton_of first) (automaton_of second))) c d (steps_before is.second_step.core) is.first_is_before is.second_is_before here
-  row_over (OpIff c d) is here =
-      by_two (λ first second. pair_row (iff_machine step.slots (automaton_of first) (automaton_of second))) c d (steps_before is.second_step.core) is.first_is_before is.second_is_before here
+  row_over (OpJoined connective c d) is here =
+      by_two (λ first second. pair_row (pair_machine step.slots (joins connective) (automaton_of first) (automaton_of second))) c d (steps_before is.second_step.core) is.first_is_before is.second_is_before here
   row_over (OpChop c d) is here =
       by_two (λ first second. chop_row (chop_machine step.slots (automaton_of first) (automaton_of second))) c d (steps_before is.second_step.core) is.first_is_before is.second_is_before here
   row_over (OpStar d) is here = by_one (λ table. star_row (star_machine step.slots (automaton_of table))) d is.is_before here

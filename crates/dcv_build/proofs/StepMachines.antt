@@ -4,15 +4,18 @@ use Rattle.dcv_language.specs.Automaton.{Automaton, accepts}
 use Rattle.dcv_language.specs.Language.{Language, outside, HaveSameBehaviours}
 use Rattle.dcv_language.specs.MachineLaws.{JoinsSets}
 use Rattle.dcv_language.specs.Operations.{intersection, union, agreement, chop, star, projection}
-use Rattle.dcv_language.specs.OperationMachines.{not_machine, and_machine, or_machine, iff_machine, chop_machine, star_machine, exists_machine}
+use Rattle.dcv_language.specs.OperationMachines.{not_machine, pair_machine, and_machine, or_machine, iff_machine, chop_machine, star_machine, exists_machine}
 use Rattle.dcv_language.proofs.OperationRuns.{not_accepts, and_accepts, or_accepts, iff_accepts, chop_accepts, star_accepts, exists_accepts}
 use Rattle.dcv_language.proofs.OperationSets.{of_set}
 use Rattle.dcv_language.proofs.Sameness.{outside_same, intersection_same, union_same, agreement_same, chop_same, star_same, projection_same}
+use Rattle.dcv_syntax.specs.declared.propositions.Connective.{Connective}
+use Rattle.dcv_syntax.specs.declared.propositions.Connective.TheVariants.{And, Or, Iff}
+use Rattle.dcv_logic.specs.Connectives.{joins}
 use Rattle.dcv_core.specs.Core.{CoreTree}
 use Rattle.dcv_core.specs.Holds.{words_of}
 use Rattle.dcv_core.specs.Laws.{StepsAreOperations}
-use Rattle.dcv_core.specs.Steps.{PlainOp, OpAtom, OpNot, OpAnd, OpOr, OpIff, OpChop, OpStar, OpExists, PlainStep, steps_of}
-use Rattle.dcv_core.specs.StepWords.{TakesOne, TakesTwo, IsOperation}
+use Rattle.dcv_core.specs.Steps.{PlainOp, OpAtom, OpNot, OpJoined, OpChop, OpStar, OpExists, PlainStep, steps_of}
+use Rattle.dcv_core.specs.StepWords.{joined_words, TakesOne, TakesTwo, IsOperation}
 use Rattle.dcv_language.specs.Table.{Table}
 use Rattle.dcv_atoms.specs.Laws.{MachineAcceptsStep as MachineAcceptsAtomStep}
 use Rattle.dcv_build.specs.Rows.{row_of, operand_at}
@@ -20,18 +23,14 @@ use Rattle.dcv_build.specs.Laws.{AreCanonicalBefore, MachineAcceptsStep}
 
 -- ---- what the machines accept of operands that accept the behaviours of given sets
 
-and_sets : (slots : ℕ) → JoinsSets (and_machine slots) intersection
-and_sets slots k first second L M one two =
+joined_sets : (connective : Connective) (slots : ℕ) → JoinsSets (pair_machine slots (joins connective)) (joined_words connective)
+joined_sets And slots k first second L M one two =
     of_set (and_machine slots first second).automaton k (intersection (accepts first) (accepts second)) (intersection L M) (and_accepts slots first second)
     (intersection_same k (accepts first) L (accepts second) M one two)
-
-or_sets : (slots : ℕ) → JoinsSets (or_machine slots) union
-or_sets slots k first second L M one two =
+joined_sets Or slots k first second L M one two =
     of_set (or_machine slots first second).automaton k (union (accepts first) (accepts second)) (union L M) (or_accepts slots first second)
     (union_same k (accepts first) L (accepts second) M one two)
-
-iff_sets : (slots : ℕ) → JoinsSets (iff_machine slots) agreement
-iff_sets slots k first second L M one two =
+joined_sets Iff slots k first second L M one two =
     of_set (iff_machine slots first second).automaton k (agreement (accepts first) (accepts second)) (agreement L M) (iff_accepts slots first second)
     (agreement_same k (accepts first) L (accepts second) M one two)
 
@@ -86,9 +85,8 @@ module _ (k : ℕ) (core : CoreTree) (n : ℕ) (step : PlainStep) (tables : List
       → HaveSameBehaviours step.slots (accepts (row_of op step.slots tables).machine.automaton) (words_of step.core)
   by_operator atoms there (OpAtom basic) is words = atoms k core n step basic there is
   by_operator atoms there (OpNot d) is takes = one_accepts d step.slots outside _ takes (not_set step.slots (operand_at tables d))
-  by_operator atoms there (OpAnd c d) is takes = two_accept c d intersection _ takes (and_sets step.slots step.slots (operand_at tables c) (operand_at tables d))
-  by_operator atoms there (OpOr c d) is takes = two_accept c d union _ takes (or_sets step.slots step.slots (operand_at tables c) (operand_at tables d))
-  by_operator atoms there (OpIff c d) is takes = two_accept c d agreement _ takes (iff_sets step.slots step.slots (operand_at tables c) (operand_at tables d))
+  by_operator atoms there (OpJoined connective c d) is takes =
+      two_accept c d (joined_words connective) _ takes (joined_sets connective step.slots step.slots (operand_at tables c) (operand_at tables d))
   by_operator atoms there (OpChop c d) is takes = two_accept c d chop _ takes (chop_sets step.slots step.slots (operand_at tables c) (operand_at tables d))
   by_operator atoms there (OpStar d) is takes = one_accepts d step.slots star _ takes (star_set step.slots (operand_at tables d))
   by_operator atoms there (OpExists d) is takes = one_accepts d (suc step.slots) projection _ takes (exists_set step.slots (operand_at tables d))

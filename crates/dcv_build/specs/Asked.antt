@@ -11,7 +11,8 @@
 use Rattle.std.specs.Prelude.{◌≡◌, ℕ, ◌-◌, ◌<◌, List, [], length, map, Some, slice_get, slice_index_or, Result, Contains}
 use Rattle.std.specs.List.{All}
 use Rattle.dcv_language.specs.Table.{Table}
-use Rattle.dcv_core.specs.Steps.{PlainOp, OpAnd, OpOr, OpIff, OpChop, OpStar, OpExists}
+use Rattle.dcv_syntax.specs.declared.propositions.Connective.TheVariants as connective
+use Rattle.dcv_core.specs.Steps.{PlainOp, OpJoined, OpChop, OpStar, OpExists}
 use Rattle.dcv_explore.specs.declared.explorer.Limits.{Limits}
 use Rattle.dcv_explore.specs.Budget.{Row}
 use Rattle.dcv_shelf.specs.Shelf.{ShelfTable, table_of_auto, nodes_of_table, IsComplement}
@@ -40,9 +41,9 @@ AreThere shelf numbers = All (λ number. number < length shelf) numbers
 -- ---- operators
 
 abbrev pub op_of : Asked → PlainOp
-op_of (And c d) = OpAnd c d
-op_of (Or c d) = OpOr c d
-op_of (Iff c d) = OpIff c d
+op_of (And c d) = OpJoined connective.And c d
+op_of (Or c d) = OpJoined connective.Or c d
+op_of (Iff c d) = OpJoined connective.Iff c d
 op_of (Chop c d) = OpChop c d
 op_of (Star d) = OpStar d
 op_of (Exists d) = OpExists d

@@ -6,9 +6,10 @@ use Rattle.std.specs.Prelude.{◌≡◌, ℕ, true, false, List, [], slice_index
 use Rattle.std.proofs.Common.{sym, ◌∙◌}
 use Rattle.dcv_language.specs.Automaton.{Automaton, WorkingMachine}
 use Rattle.dcv_language.specs.Table.{Table, automaton_of}
-use Rattle.dcv_language.specs.OperationMachines.{not_machine, and_machine, or_machine, iff_machine, ChopState, chop_machine, StarState, star_machine, exists_machine}
+use Rattle.dcv_language.specs.OperationMachines.{not_machine, pair_machine, ChopState, chop_machine, StarState, star_machine, exists_machine}
 use Rattle.dcv_core.specs.Core.{PlainBasic}
-use Rattle.dcv_core.specs.Steps.{PlainOp, OpAtom, OpNot, OpAnd, OpOr, OpIff, OpChop, OpStar, OpExists}
+use Rattle.dcv_logic.specs.Connectives.{joins}
+use Rattle.dcv_core.specs.Steps.{PlainOp, OpAtom, OpNot, OpJoined, OpChop, OpStar, OpExists}
 use Rattle.dcv_explore.specs.Budget.{Row}
 use Rattle.dcv_atoms.specs.declared.states.AtomMacro.{AtomMacro}
 use Rattle.dcv_atoms.specs.declared.states.AtomMacro.TheVariants.{Start, First, Good, Last, Bad, Count, Lasted}
@@ -113,9 +114,7 @@ operand_at tables step = automaton_of (slice_index_or tables step [])
 abbrev pub row_of : PlainOp → ℕ → List Table → Row
 row_of (OpAtom basic) slots tables = atom_row slots basic
 row_of (OpNot d) slots tables = number_row (not_machine slots (operand_at tables d))
-row_of (OpAnd c d) slots tables = pair_row (and_machine slots (operand_at tables c) (operand_at tables d))
-row_of (OpOr c d) slots tables = pair_row (or_machine slots (operand_at tables c) (operand_at tables d))
-row_of (OpIff c d) slots tables = pair_row (iff_machine slots (operand_at tables c) (operand_at tables d))
+row_of (OpJoined connective c d) slots tables = pair_row (pair_machine slots (joins connective) (operand_at tables c) (operand_at tables d))
 row_of (OpChop c d) slots tables = chop_row (chop_machine slots (operand_at tables c) (operand_at tables d))
 row_of (OpStar d) slots tables = star_row (star_machine slots (operand_at tables d))
 -- its operand is over one slot more

@@ -9,8 +9,9 @@
 use Rattle.std.specs.Prelude.{◌≡◌, ℕ, ◌<◌, ◌≤◌, List, [], ◌∷◌, length, Some, slice_get}
 use Rattle.std.specs.Option.{option_map}
 use Rattle.dcv_count.specs.declared.Count.{Count}
+use Rattle.dcv_syntax.specs.declared.propositions.Connective.TheVariants as connective
 use Rattle.dcv_core.specs.Core.{PlainBasic}
-use Rattle.dcv_core.specs.Steps.{PlainOp, OpAtom, OpNot, OpAnd, OpOr, OpIff, OpChop, OpStar, OpExists, CoreStep, PlainCore}
+use Rattle.dcv_core.specs.Steps.{PlainOp, OpAtom, OpNot, OpJoined, OpChop, OpStar, OpExists, CoreStep, PlainCore}
 use Rattle.dcv_explore.specs.declared.explorer.Limits.{Limits}
 use Rattle.dcv_shelf.specs.Shelf.{ShelfTable}
 use Rattle.dcv_build.specs.declared.asked.Asked.{Asked}
@@ -24,9 +25,9 @@ abbrev pub Here : PlainCore → ℕ → PlainOp → Type 0
 Here core n op = option_map (λ (s : CoreStep). s.op) (slice_get core.steps n) ≡ Some op
 
 abbrev pub op_like : Asked → ℕ → ℕ → PlainOp
-op_like (And a b) c d = OpAnd c d
-op_like (Or a b) c d = OpOr c d
-op_like (Iff a b) c d = OpIff c d
+op_like (And a b) c d = OpJoined connective.And c d
+op_like (Or a b) c d = OpJoined connective.Or c d
+op_like (Iff a b) c d = OpJoined connective.Iff c d
 op_like (Chop a b) c d = OpChop c d
 op_like (Star a) c d = OpStar d
 op_like (Exists a) c d = OpExists d

@@ -1,9 +1,10 @@
 -- What is drawn, and the steps that it adds.
 use Rattle.std.proofs.Common.{◌≡◌, ℕ, zero, suc, ◌+◌, ◌-◌, ◌*◌, ◌≤◌, ◌==◌, Bool, true, false, Result, Ok, Err, IfOk, if◌then◌else◌, [], ◌++◌, length, map, refl, ap, subst, ◌∙◌, arith}
 use Rattle.dcv_syntax.specs.declared.names.Span.{Span}
+use Rattle.dcv_syntax.specs.declared.propositions.Connective.TheVariants as connective
 use Rattle.dcv_core.specs.Core.{CoreTree}
 use Rattle.dcv_core.specs.Steps.{PlainOp, steps_before, steps_from, steps_of, without_core, PlainCore, Pushed}
-use Rattle.dcv_core.proofs.MadeSteps.{made_length, IsOne, made_one, IsTwo, made_two, and_is_two, or_is_two, chop_is_two, iff_is_two}
+use Rattle.dcv_core.proofs.MadeSteps.{made_length, IsOne, made_one, IsTwo, made_two, joined_is_two, chop_is_two}
 use Rattle.dcv_draw.specs.declared.formulas.Join.{Join}
 use Rattle.dcv_draw.specs.declared.formulas.Join.TheVariants.{And, Or, Chop, Iff}
 use Rattle.dcv_draw.specs.Draw.{next_draw, drawn}
@@ -67,10 +68,10 @@ pub adds_one : {make : CoreTree → Span → CoreTree} {op : ℕ → PlainOp} {d
 adds_one is adds pushed = record { made = made_one is adds.made pushed; state_is = adds.state_is }
 
 join_is_two : (join : Join) → IsTwo (join_of join) (join_op join)
-join_is_two And = and_is_two
-join_is_two Or = or_is_two
+join_is_two And = joined_is_two connective.And
+join_is_two Or = joined_is_two connective.Or
 join_is_two Chop = chop_is_two
-join_is_two Iff = iff_is_two
+join_is_two Iff = joined_is_two connective.Iff
 
 pub adds_two : {E : Type 0} (r : Result ℕ E) (join : Join) (old one two new : PlainCore) (slots depth first second state middle after : ℕ) (op : PlainOp)
     → Adds old slots (drawn_core depth slots state) one middle first → Adds one slots (drawn_core depth slots middle) two after second

@@ -9,8 +9,11 @@
 use Rattle.std.specs.Prelude.{ℕ, zero, suc, ◌+◌, ◌==◌, if◌then◌else◌, List, [], ◌∷◌}
 use Rattle.dcv_syntax.specs.declared.names.Span.{Span}
 use Rattle.dcv_syntax.specs.declared.formulas.Relation.TheVariants.{Less, AtLeast}
-use Rattle.dcv_core.specs.Core.{PlainTruth, TruthSlot, TruthNot, PlainBasic, BasicPoint, BasicRun, BasicEvery, BasicUnit, BasicScount, BasicSdur}
-use Rattle.dcv_core.specs.Core.{CoreTree, CoreAtom, CoreNot, CoreAnd, CoreOr, CoreIff, CoreChop, CoreStar, CoreExists}
+use Rattle.dcv_syntax.specs.declared.propositions.Connective.TheVariants.{And, Or, Iff}
+use Rattle.dcv_syntax.specs.declared.formulas.Bracket.TheVariants.{Point, Run, Every, Unit as TwoInstants}
+use Rattle.dcv_syntax.specs.declared.formulas.Count.TheVariants.{Scount, Sdur}
+use Rattle.dcv_core.specs.Core.{PlainTruth, TruthSlot, TruthNot, PlainBasic, BasicBracketed, BasicCounted}
+use Rattle.dcv_core.specs.Core.{CoreTree, CoreAtom, CoreNot, CoreJoined, CoreChop, CoreStar, CoreExists}
 use Rattle.dcv_draw.specs.Draw.{next_draw, drawn}
 
 pub record Drawn (T : Type 0) : Type 0 where
@@ -40,12 +43,12 @@ counting_form form literal =
 
 abbrev pub form_of : ℕ → Drawn PlainTruth → Drawn PlainBasic
 form_of kind literal =
-    if kind == 0 then plain_form BasicPoint literal
-    else (if kind == 1 then plain_form BasicRun literal
-    else (if kind == 2 then plain_form BasicEvery literal
-    else (if kind == 3 then plain_form BasicUnit literal
-    else (if kind == 4 then counting_form (λ truth. BasicScount truth AtLeast) literal
-    else counting_form (λ truth. BasicSdur truth Less) literal))))
+    if kind == 0 then plain_form (BasicBracketed Point) literal
+    else (if kind == 1 then plain_form (BasicBracketed Run) literal
+    else (if kind == 2 then plain_form (BasicBracketed Every) literal
+    else (if kind == 3 then plain_form (BasicBracketed TwoInstants) literal
+    else (if kind == 4 then counting_form (λ truth. BasicCounted Scount truth AtLeast) literal
+    else counting_form (λ truth. BasicCounted Sdur truth Less) literal))))
 
 -- its kind is drawn first, and then its literal
 abbrev pub drawn_atom : ℕ → ℕ → Drawn PlainBasic
@@ -73,12 +76,12 @@ abbrev pub operation_of : ℕ → (ℕ → ℕ → Drawn CoreTree) → ℕ → �
 operation_of kind operand slots state =
     if kind == 0 then over_none (drawn_atom slots state)
     else (if kind == 1 then over_one CoreNot (operand slots state)
-    else (if kind == 2 then over_two CoreAnd (operand slots) state
-    else (if kind == 3 then over_two CoreOr (operand slots) state
+    else (if kind == 2 then over_two (CoreJoined And) (operand slots) state
+    else (if kind == 3 then over_two (CoreJoined Or) (operand slots) state
     else (if kind == 4 then over_two CoreChop (operand slots) state
     else (if kind == 5 then over_one CoreStar (operand slots state)
     else (if kind == 6 then over_one CoreExists (operand (slots + 1) state)
-    else over_two CoreIff (operand slots) state))))))
+    else over_two (CoreJoined Iff) (operand slots) state))))))
 
 abbrev pub drawn_core : ℕ → ℕ → ℕ → Drawn CoreTree
 drawn_core zero slots state = over_none (drawn_atom slots state)

@@ -1,6 +1,7 @@
 -- The laws that `src/laws.rt` proves: the numbers and the formula with which seed 0 begins.
 use Rattle.std.specs.Prelude.{◌≡◌, ℕ, zero, suc, ◌/◌, List, [], ◌∷◌}
-use Rattle.dcv_core.specs.Core.{TruthSlot, TruthNot, BasicPoint, CoreAtom}
+use Rattle.dcv_syntax.specs.declared.formulas.Bracket.TheVariants.{Point}
+use Rattle.dcv_core.specs.Core.{TruthSlot, TruthNot, BasicBracketed, CoreAtom}
 use Rattle.dcv_draw.specs.Draw.{next_draw}
 use Rattle.dcv_draw.specs.DrawnCores.{nowhere, drawn_formulas}
 
@@ -14,4 +15,4 @@ NumbersOfSeed0 = first_numbers 4 0 ≡ 0 ∷ 21468 ∷ 9988 ∷ 22117 ∷ []
 
 -- `<!y>`, where the variables are x, y and z
 abbrev pub FormulaOfSeed0 : Type 0
-FormulaOfSeed0 = (drawn_formulas 1 0).made ≡ CoreAtom (BasicPoint (TruthNot (TruthSlot 1))) nowhere ∷ []
+FormulaOfSeed0 = (drawn_formulas 1 0).made ≡ CoreAtom (BasicBracketed Point (TruthNot (TruthSlot 1))) nowhere ∷ []

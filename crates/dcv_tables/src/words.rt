@@ -1,11 +1,10 @@
-// Letters in order.
-ghost use Rattle.std.specs.Prelude.{◌≡◌, ◌==◌, [], ◌∷◌, length, map, if◌then◌else◌, IfOk};
+// Letters in order, and what stands between parts of a text.
+ghost use Rattle.std.specs.Prelude.{◌≡◌, ◌==◌, [], length, if◌then◌else◌, IfOk};
 ghost use Rattle.std.specs.List.{All};
-ghost use Rattle.std.specs.Str.{byte};
 ghost use Rattle.dcv_word.specs.Letter.{letters_of_width};
 
-use dcv_word::{Letter, Word};
-use std::alloc::{AllocError, Global};
+use dcv_word::Letter;
+use std::alloc::Global;
 use std::test::Fail;
 
 /// The letters of two slots at most, in order.

@@ -1,6 +1,7 @@
 use Rattle.std.proofs.Common.{◌≡◌, ◌+◌, ◌-◌, arith, sym, ap, ◌∙◌}
 use Rattle.dcv_core.proofs.MadeSteps.{then_ok, not_is_one, star_is_one, exists_is_one}
-use Rattle.dcv_core.specs.Core.{CoreIff}
+use Rattle.dcv_syntax.specs.declared.propositions.Connective.TheVariants.{Iff}
+use Rattle.dcv_core.specs.Core.{CoreJoined}
 use Rattle.dcv_draw.specs.DrawnCores.{over_two, operation_of, drawn_core}
 use Rattle.dcv_draw.proofs.Adding.{one_deeper, most_one_deeper, drawn_length, adds_one, adds_same}
 use Rattle.dcv_draw.proofs.formulas.+formulas.Goals as goal
@@ -52,5 +53,5 @@ operation-returns-in_ok-operand-in-6 t c =
 
 pub operation-returns-in_default : goal.operation-returns-in_default
 operation-returns-in_default t c =
-    let same : over_two CoreIff (drawn_core c.args.depth c.args.slots) c.args.draw.now ≡ operation_of c.args.kind (drawn_core c.args.depth) c.args.slots c.args.draw.now = grind arith in
+    let same : over_two (CoreJoined Iff) (drawn_core c.args.depth c.args.slots) c.args.draw.now ≡ operation_of c.args.kind (drawn_core c.args.depth) c.args.slots c.args.draw.now = grind arith in
     then_ok c.joined-in_default.result c.joined-in_default.ensures (λ last. adds_same same)
