@@ -20,10 +20,10 @@ use Rattle.dcv_syntax.specs.Plain.{PlainFormulaKind, FormulaConstant, FormulaPt,
 use Rattle.dcv_syntax.specs.Plain.{FormulaCall, FormulaApplied, FormulaJoined, FormulaImplies, FormulaChop, FormulaQuantified, arguments_of}
 use Rattle.dcv_syntax.specs.Plain.{PlainFormulaOperands, no_formula_operands, formula_operand, PlainMacroBody, FormulaBody, PropBody, PlainMacro, PlainFile}
 use Rattle.dcv_core.specs.Core.{PlainTruth, TruthConstant, TruthSlot, TruthNot, TruthJoined, TruthShift, PlainTruths, no_truths, truth_operand}
-use Rattle.dcv_core.specs.Core.{PlainBasic, BasicConstant, BasicBracketed, BasicSlen, BasicCounted, BasicTrack}
+use Rattle.dcv_core.specs.Core.{PlainBasic, BasicConstant, BasicBracketed, BasicSlen, BasicCounted, BasicTrack, truth_in}
 use Rattle.dcv_core.specs.Core.{CoreTree, CoreAtom, CoreNot, CoreJoined, CoreChop, CoreStar, CoreExists}
 use Rattle.dcv_core.specs.Steps.{PlainStep, steps_before, steps_from, steps_of}
-use Rattle.dcv_tracks.specs.Shifting.{Shift, same_shift, with_shift, collected, all_collected, collected_by, collected_of, shifts_in, truth_in}
+use Rattle.dcv_tracks.specs.Shifting.{Shift, same_shift, with_shift, collected, all_collected, collected_by, collected_of, shifts_in}
 use Rattle.dcv_tracks.specs.Shifting.{placed, all_placed, placed_basic, placed_core, closed_from}
 use Rattle.dcv_scope.specs.CoreOf.{Expansion, PropExpansion, FormulaExpansion, Sight, bind_slot, bind_arguments, truth_of_call, truth_of, argument_truths, operand_truths}
 use Rattle.dcv_scope.specs.CoreOf.{core_of_macro, somewhere_core, applied_core, quantified_core, core_of, list_core, joined, body_expansion, expansion_of, with_expansions, declared_slots}
