@@ -15,10 +15,6 @@ BeginsWithTokenIfAny [] = Unit {0}
 BeginsWithTokenIfAny (AToken token ∷ parts) = Unit {0}
 BeginsWithTokenIfAny _ = ⊥
 
-abbrev pub BeginsWithThreeTokens : List Part → Type 0
-BeginsWithThreeTokens (AToken first ∷ AToken second ∷ AToken third ∷ parts) = Unit {0}
-BeginsWithThreeTokens _ = ⊥
-
 abbrev pub BeginsWithTokens : List Part → Type 0
 BeginsWithTokens (Tokens tokens ∷ parts) = Unit {0}
 BeginsWithTokens _ = ⊥

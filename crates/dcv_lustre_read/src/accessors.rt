@@ -4,7 +4,7 @@ ghost use Rattle.dcv_observer.specs.Left.{seen};
 ghost use Rattle.dcv_lustre.specs.Actions.{AToken, Tokens, Locals, Equations, Tests};
 ghost use Rattle.dcv_lustre_read.specs.Seen.{seen_local, seen_equation, seen_test};
 ghost use Rattle.dcv_lustre_read.specs.Symbols.{seen_part};
-ghost use Rattle.dcv_lustre_read.specs.Translated.{BeginsWithToken, BeginsWithTokenIfAny, BeginsWithThreeTokens};
+ghost use Rattle.dcv_lustre_read.specs.Translated.{BeginsWithToken, BeginsWithTokenIfAny};
 ghost use Rattle.dcv_lustre_read.specs.Translated.{BeginsWithTokens, BeginsWithLocals, BeginsWithEquations, BeginsWithTests};
 
 use crate::parts::Part;
@@ -34,18 +34,6 @@ pub(crate) fn token_or_end<'a>(parts: &mut Body<Part<'a>>) -> Option<Item<'a>>
         Some(Part::Token(item)) => Some(item),
         _ => unreachable!(),
     }
-}
-
-// The next three parts, which are tokens.
-#[tactic(auto, using(crate::proofs::Bodies::first_of_three, crate::proofs::Bodies::second_of_three, crate::proofs::Bodies::third_of_three))]
-pub(crate) fn three_tokens<'a>(parts: &mut Body<Part<'a>>) -> (Item<'a>, Item<'a>, Item<'a>)
-    requires { BeginsWithThreeTokens (map seen_part parts.old) }
-    ensures { map seen_part parts.old ≡ AToken (seen result.0) ∷ AToken (seen result.1) ∷ AToken (seen result.2) ∷ map seen_part parts.new }
-{
-    let first = token(parts);
-    let second = token(parts);
-    let third = token(parts);
-    (first, second, third)
 }
 
 // The next part, which is tokens, from the last to the first.

@@ -14,7 +14,7 @@ use dcv_translation::Body;
 use std::alloc::{AllocError, Global};
 
 // choice = {"if" condition "then" item "else"} item
-#[tactic(auto, using(crate::proofs::Bodies::choice_first, crate::proofs::Bodies::choice_in_steps))]
+#[tactic(auto, using(crate::proofs::Bodies::choice_in_steps))]
 pub(crate) fn choice<'a>(alloc: Global, parts: &mut Body<Part<'a>>) -> Result<Part<'a>, AllocError>
     requires { IsMeant (choice_part (map seen_part parts.old)) }
     ensures { IfOk result (λ part. seen_part part ≡ choice_part (map seen_part parts.old)) }
@@ -31,7 +31,6 @@ pub(crate) fn choice<'a>(alloc: Global, parts: &mut Body<Part<'a>>) -> Result<Pa
 }
 
 // What stands behind a condition: the arms, from the last to the first, and the last item.
-#[tactic(auto, using(crate::proofs::Bodies::longer_choice_first))]
 fn longer_choice<'a>(
     name: Item<'a>,
     number: Option<Item<'a>>,
@@ -41,7 +40,9 @@ fn longer_choice<'a>(
     ensures { IfOk result (λ made. Choice (reverse (map seen_arm made.0.items)) (seen made.1)
         ≡ behind_condition (seen name.entry) (option_map seen number.entry) (map seen_part parts.old)) }
 {
-    let (_, item, _) = accessors::three_tokens(parts);
+    accessors::token(parts);
+    let item = accessors::token(parts);
+    accessors::token(parts);
     match parts.next() {
         Some(Part::Choice(arms, otherwise)) => {
             Ok((with_arm(PlacedArm { name, number, item }, arms)?, otherwise))
@@ -65,7 +66,7 @@ fn with_arm<'a>(
 }
 
 // right = literal delay | "if" condition "then" item "else" choice | test more_tests | name
-#[tactic(auto, using(crate::proofs::Bodies::right_second, crate::proofs::Bodies::forwards))]
+#[tactic(auto, using(crate::proofs::Bodies::forwards))]
 pub(crate) fn right<'a>(alloc: Global, parts: &mut Body<Part<'a>>) -> Result<Part<'a>, AllocError>
     requires { IsMeant (right_part (map seen_part parts.old)) }
     ensures { IfOk result (λ part. seen_part part ≡ right_part (map seen_part parts.old)) }

@@ -12,12 +12,14 @@ use dcv_translation::Body;
 use std::alloc::{AllocError, Global};
 
 // node = "node" name "(" input more_inputs ")" output variables "let" equations "tel"
-#[tactic(auto, using(crate::proofs::Bodies::node_first, crate::proofs::Bodies::node_input, crate::proofs::Bodies::node_inputs, crate::proofs::Bodies::node_closing, crate::proofs::Bodies::node_output, crate::proofs::Bodies::node_locals, crate::proofs::Bodies::node_let, crate::proofs::Bodies::node_equations, crate::proofs::Bodies::node_tel, crate::proofs::Bodies::forwards))]
+#[tactic(auto, using(crate::proofs::Bodies::forwards))]
 pub(crate) fn node<'a>(alloc: Global, parts: &mut Body<Part<'a>>) -> Result<Part<'a>, AllocError>
     requires { IsMeant (node_part (map seen_part parts.old)) }
     ensures { IfOk result (λ part. seen_part part ≡ node_part (map seen_part parts.old)) }
 {
-    let (_, name, _) = accessors::three_tokens(parts);
+    accessors::token(parts);
+    let name = accessors::token(parts);
+    accessors::token(parts);
     let mut inputs = with_input(accessors::token(parts), accessors::tokens(parts))?;
     accessors::token(parts);
     let output = accessors::token(parts);

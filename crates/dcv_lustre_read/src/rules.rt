@@ -12,7 +12,6 @@ use dcv_translation::Body;
 use std::alloc::{AllocError, Global};
 
 // more_inputs = {";" input}
-#[tactic(auto, using(crate::proofs::Bodies::more_inputs_first, crate::proofs::Bodies::more_inputs_second, crate::proofs::Bodies::more_inputs_third))]
 pub(crate) fn more_inputs<'a>(
     alloc: Global,
     parts: &mut Body<Part<'a>>,
@@ -32,7 +31,6 @@ pub(crate) fn more_inputs<'a>(
 }
 
 // input = name ":" "bool"
-#[tactic(auto, using(crate::proofs::Bodies::input_first))]
 pub(crate) fn input<'a>(parts: &mut Body<Part<'a>>) -> Part<'a>
     requires { IsMeant (input_part (map seen_part parts.old)) }
     ensures { seen_part result ≡ input_part (map seen_part parts.old) }
@@ -41,17 +39,16 @@ pub(crate) fn input<'a>(parts: &mut Body<Part<'a>>) -> Part<'a>
 }
 
 // output = "returns" "(" "ok" ":" "bool" ")" ";"
-#[tactic(auto, using(crate::proofs::Bodies::output_first))]
 pub(crate) fn output<'a>(parts: &mut Body<Part<'a>>) -> Part<'a>
     requires { IsMeant (output_part (map seen_part parts.old)) }
     ensures { seen_part result ≡ output_part (map seen_part parts.old) }
 {
-    let (_, _, ok) = accessors::three_tokens(parts);
-    Part::Token(ok)
+    accessors::token(parts);
+    accessors::token(parts);
+    Part::Token(accessors::token(parts))
 }
 
 // variables = ["var" local locals]
-#[tactic(auto, using(crate::proofs::Bodies::variables_first, crate::proofs::Bodies::variables_third))]
 pub(crate) fn variables<'a>(
     alloc: Global,
     parts: &mut Body<Part<'a>>,
@@ -73,7 +70,6 @@ pub(crate) fn variables<'a>(
 }
 
 // locals = {local}
-#[tactic(auto, using(crate::proofs::Bodies::locals_second))]
 pub(crate) fn locals<'a>(alloc: Global, parts: &mut Body<Part<'a>>) -> Result<Part<'a>, AllocError>
     requires { IsMeant (locals_part (map seen_part parts.old)) }
     ensures { IfOk result (λ part. seen_part part ≡ locals_part (map seen_part parts.old)) }
@@ -90,17 +86,17 @@ pub(crate) fn locals<'a>(alloc: Global, parts: &mut Body<Part<'a>>) -> Result<Pa
 }
 
 // local = name ":" kind ";"
-#[tactic(auto, using(crate::proofs::Bodies::local_first))]
 pub(crate) fn local<'a>(parts: &mut Body<Part<'a>>) -> Part<'a>
     requires { IsMeant (local_part (map seen_part parts.old)) }
     ensures { seen_part result ≡ local_part (map seen_part parts.old) }
 {
-    let (name, _, kind) = accessors::three_tokens(parts);
+    let name = accessors::token(parts);
+    accessors::token(parts);
+    let kind = accessors::token(parts);
     Part::Local(PlacedLocal { name, kind })
 }
 
 // A rule that is one token.
-#[tactic(auto, using(crate::proofs::Bodies::token_first))]
 pub(crate) fn token<'a>(parts: &mut Body<Part<'a>>) -> Part<'a>
     requires { IsMeant (token_part (map seen_part parts.old)) }
     ensures { seen_part result ≡ token_part (map seen_part parts.old) }
@@ -109,7 +105,6 @@ pub(crate) fn token<'a>(parts: &mut Body<Part<'a>>) -> Part<'a>
 }
 
 // equations = {equation}
-#[tactic(auto, using(crate::proofs::Bodies::equations_second))]
 pub(crate) fn equations<'a>(
     alloc: Global,
     parts: &mut Body<Part<'a>>,
@@ -129,7 +124,6 @@ pub(crate) fn equations<'a>(
 }
 
 // equation = name "=" right ";"
-#[tactic(auto, using(crate::proofs::Bodies::equation_first, crate::proofs::Bodies::equation_second))]
 pub(crate) fn equation<'a>(parts: &mut Body<Part<'a>>) -> Part<'a>
     requires { IsMeant (equation_part (map seen_part parts.old)) }
     ensures { seen_part result ≡ equation_part (map seen_part parts.old) }
@@ -143,7 +137,6 @@ pub(crate) fn equation<'a>(parts: &mut Body<Part<'a>>) -> Part<'a>
 }
 
 // delay = ["->" "pre" name]
-#[tactic(auto, using(crate::proofs::Bodies::delay_first, crate::proofs::Bodies::delay_second, crate::proofs::Bodies::delay_third))]
 pub(crate) fn delay<'a>(parts: &mut Body<Part<'a>>) -> Part<'a>
     requires { IsMeant (delay_part (map seen_part parts.old)) }
     ensures { seen_part result ≡ delay_part (map seen_part parts.old) }
@@ -158,7 +151,6 @@ pub(crate) fn delay<'a>(parts: &mut Body<Part<'a>>) -> Part<'a>
 }
 
 // condition = name compared
-#[tactic(auto, using(crate::proofs::Bodies::condition_first))]
 pub(crate) fn condition<'a>(parts: &mut Body<Part<'a>>) -> Part<'a>
     requires { IsMeant (condition_part (map seen_part parts.old)) }
     ensures { seen_part result ≡ condition_part (map seen_part parts.old) }
@@ -171,7 +163,6 @@ pub(crate) fn condition<'a>(parts: &mut Body<Part<'a>>) -> Part<'a>
 }
 
 // compared = ["=" number]
-#[tactic(auto, using(crate::proofs::Bodies::compared_first, crate::proofs::Bodies::compared_second))]
 pub(crate) fn compared<'a>(parts: &mut Body<Part<'a>>) -> Part<'a>
     requires { IsMeant (compared_part (map seen_part parts.old)) }
     ensures { seen_part result ≡ compared_part (map seen_part parts.old) }
@@ -183,18 +174,18 @@ pub(crate) fn compared<'a>(parts: &mut Body<Part<'a>>) -> Part<'a>
 }
 
 // test = "(" name "=" number ")"
-#[tactic(auto, using(crate::proofs::Bodies::test_first, crate::proofs::Bodies::test_fourth))]
 pub(crate) fn test<'a>(parts: &mut Body<Part<'a>>) -> Part<'a>
     requires { IsMeant (test_part (map seen_part parts.old)) }
     ensures { seen_part result ≡ test_part (map seen_part parts.old) }
 {
-    let (_, name, _) = accessors::three_tokens(parts);
+    accessors::token(parts);
+    let name = accessors::token(parts);
+    accessors::token(parts);
     let number = accessors::token(parts);
     Part::Test(PlacedTest { name, number })
 }
 
 // more_tests = {"or" test}
-#[tactic(auto, using(crate::proofs::Bodies::more_tests_first, crate::proofs::Bodies::more_tests_third))]
 pub(crate) fn more_tests<'a>(
     alloc: Global,
     parts: &mut Body<Part<'a>>,
