@@ -19,6 +19,7 @@ pub mod Outcomes
 pub mod Pieces
 pub mod Printed
 pub mod PrintedLengths
+pub mod Promises
 pub mod Replays
 pub mod SomeAnswers
 pub mod SomeBounds

@@ -20,6 +20,7 @@ pub mod Swept
 pub mod Right
 pub mod Headline
 pub mod Ending
+pub mod Promise
 pub mod Laws
 -- what clauses within the crate cite
 pub mod Performed

@@ -26,6 +26,7 @@ mod faults;
 mod judged;
 pub mod laws;
 mod performing;
+mod process;
 mod refusal;
 mod refused;
 mod replaying;
@@ -39,6 +40,7 @@ mod taking;
 mod telling;
 mod words;
 
+pub use process::program;
 pub use running::run;
 pub use status::Status;
 pub use words::Words;

@@ -1,21 +1,19 @@
 // The run of the program.
-ghost use Rattle.std.specs.Prelude.{◌≡◌, ℕ, List, [], true, IsTrue, IsFalse};
+ghost use Rattle.std.specs.Prelude.{◌≡◌, ℕ, List, [], IsFalse};
 ghost use Rattle.std.specs.Bool.{OnTrue};
 ghost use Rattle.dcv_io.specs.Asked.{AsksPrefix};
 ghost use Rattle.dcv_io.specs.Disk.{held_of};
 ghost use Rattle.dcv_io.specs.Faults.{has_risen, RisesIf};
 ghost use Rattle.dcv_io.specs.Written.{Appends};
-ghost use Rattle.dcv_cli.specs.Ending.{EndsBy, AddsFront, StopsWithin, LeavesOver, AsksFrontOf, HasInputCause, Tells, TellsCause};
-ghost use Rattle.dcv_command.specs.Request.{Request as RequestOfWords, IsTaken, IsInRange, files_of};
-ghost use Rattle.clap.specs.Words.{takes};
-ghost use Rattle.dcv_command.specs.Program.{program};
+ghost use Rattle.dcv_cli.specs.Ending.{EndsBy, AddsFront, StopsWithin, HasInputCause, Tells, TellsCause};
+ghost use Rattle.dcv_command.specs.Request.{IsInRange, files_of};
 ghost use Rattle.dcv_command.specs.Seen.{asked_by};
 ghost use Rattle.dcv_cli.specs.Refusal.{status_of, message_of};
-ghost use Rattle.dcv_cli.specs.Request.{AsksFor};
 ghost use Rattle.dcv_cli.specs.Outside.{outside};
+ghost use Rattle.dcv_cli.specs.Promise.{Promise, seen};
 ghost use Rattle.dcv_cli.specs.Performed.{LeavesFor};
-ghost use Rattle.dcv_cli.specs.Right.{FulfilsOver, IsRightOver};
-ghost use Rattle.dcv_cli.specs.Status.{is_answer, is_determined, is_input, is_of_request, is_output, is_silent, is_usage};
+ghost use Rattle.dcv_cli.specs.Right.{FulfilsOver};
+ghost use Rattle.dcv_cli.specs.Status.{is_answer, is_determined, is_input, is_output, is_silent, is_usage};
 
 use crate::performing::perform;
 use crate::refusal::Refusal;
@@ -48,37 +46,9 @@ pub fn run<F: Files, O: Sink, E: Sink>(
     out: &mut O,
     err: &mut E,
 ) -> Status
-    // Where the words and what is held determine the end, it is a right one: status, report and message.
-    ensures right { OnTrue (is_determined result) (EndsBy (IsRightOver words.now (F.told files.old)) result
-        (O.written out.old) (O.written out.new) (λ message. Tells message (E.written err.old) (E.written err.new) (E.faults err.old) (E.faults err.new))) }
-
-    // However the run ended, nothing but a front of a right report is on the output.
-    ensures report { AddsFront (IsRightOver words.now (F.told files.old)) (O.written out.old) (O.written out.new) }
-
-    // Words that are taken are never refused, and a run that does anything does what they ask for.
-    ensures usage { result ≡ Status.Usage → ¬ (IsTaken words.now) }
-    ensures takes { result ≡ Status.Usage → ¬ (takes program words.now ≡ true) }
-    ensures asked { IsTrue (is_of_request result) → (request : RequestOfWords) × AsksFor words.now request }
-
-    // Each other status has its cause, and no cause is passed over.
-    ensures files { AsksFrontOf words.now (F.asked files.old) (F.asked files.new) }
-    ensures input { HasInputCause result (F.open_faults files.old) (F.open_faults files.new) (F.read_faults files.old) (F.read_faults files.new) }
-    ensures output { RisesIf (is_output result) (O.faults out.old) (O.faults out.new) }
-
-    // The message names it.
-    ensures cause { TellsCause result (has_risen (F.open_faults files.old) (F.open_faults files.new))
-        (has_risen (F.read_faults files.old) (F.read_faults files.new)) (E.written err.old) (E.written err.new) (E.faults err.old) (E.faults err.new) }
-
-    // An answer says nothing on the messages, and a refusal before it nothing on the output. Where an input failed, a replay has answered
-    // the lines of the trace that were read.
-    ensures no_message { OnTrue (is_answer result) (Appends (E.written err.old) (E.written err.new) []) }
-    ensures no_report { OnTrue (is_silent result) (Appends (O.written out.old) (O.written out.new) []) }
-    ensures stops { OnTrue (is_output result) (StopsWithin (IsRightOver words.now (F.told files.old)) (O.written out.old) (O.written out.new)) }
-    ensures left { OnTrue (is_input result) (LeavesOver words.now
-        (outside (F.told files.old) (F.asked files.old) (F.open_faults files.old) (F.read_faults files.old) (O.written out.old) (O.faults out.old))
-        (outside (F.told files.new) (F.asked files.new) (F.open_faults files.new) (F.read_faults files.new) (O.written out.new) (O.faults out.new))) }
-
-    ensures held { held_of (F.told files.new) ≡ held_of (F.told files.old) }
+    ensures { Promise words.now result
+        (seen (F.told files.old) (F.asked files.old) (F.open_faults files.old) (F.read_faults files.old) (O.written out.old) (O.faults out.old) (E.written err.old) (E.faults err.old))
+        (seen (F.told files.new) (F.asked files.new) (F.open_faults files.new) (F.read_faults files.new) (O.written out.new) (O.faults out.new) (E.written err.new) (E.faults err.new)) }
 {
     match read_words(alloc, words.as_slice()) {
         Ok(request) => answer(alloc, request, files, out, err),
@@ -126,7 +96,7 @@ fn answer<F: Files, O: Sink, E: Sink>(
 }
 
 // Says why there is no report. A message that cannot be written changes nothing.
-fn refuse<E: Sink>(err: &mut E, refused: Refused) -> Status
+pub(crate) fn refuse<E: Sink>(err: &mut E, refused: Refused) -> Status
     ensures status { result ≡ status_of refused.refusal }
     ensures message { Tells (message_of refused) (E.written err.old) (E.written err.new) (E.faults err.old) (E.faults err.new) }
 {

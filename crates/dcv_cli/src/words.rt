@@ -1,5 +1,5 @@
 // The words of the command line.
-ghost use Rattle.std.specs.Prelude.{◌≡◌, [], ◌∷◌, ◌++◌, map, OnOk, OnErr};
+ghost use Rattle.std.specs.Prelude.{◌≡◌, [], ◌∷◌, ◌++◌, map, drop, IfOk, OnOk, OnErr};
 ghost use Rattle.std.specs.String.{string_bytes};
 
 use std::alloc::{AllocError, Global};
@@ -30,6 +30,18 @@ impl Words {
             alloc,
             words: Vec::new(alloc),
         }
+    }
+
+    // The arguments of a process after the first, which is the program's name.
+    pub(crate) fn of_arguments(alloc: Global, arguments: &[String]) -> Result<Words, AllocError>
+        ensures { IfOk result (λ words. words ≡ map string_bytes (drop 1 arguments.now)) }
+    {
+        let mut words = Words::new(alloc);
+        let rest = arguments.get(1..).unwrap_or_default();
+        for argument in rest {
+            words.push(argument)?;
+        }
+        Ok(words)
     }
 
     /// Adds a word at the end.

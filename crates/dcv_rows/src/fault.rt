@@ -13,5 +13,5 @@ pub(crate) enum Fault {
     #[error("out of memory")]
     Memory(#[from] AllocError),
     #[error("{0}")]
-    Output(#[from] io::Error),
+    System(#[from] io::Error),
 }

@@ -1,9 +1,10 @@
-//! Tests as data: rows of words, files and the expected outcome of a run, which are run over files and streams in memory. For each file of
-//! rows that is named it prints the rows that do not hold, and how many do. The head of `data/runs.rows` says how a row is written.
+//! Tests as data: rows of words, files and the expected outcome of a run, which are run over files and streams in memory,
+//! or on the system. For each file of rows that is named it prints the rows that do not hold, and how many do. The head of `data/runs.rows` says how a row is written.
 #![tactic(auto)]
 
 mod fault;
 mod judging;
+mod outcome;
 mod pattern;
 mod row;
 

@@ -2,15 +2,18 @@
 ghost use Rattle.std.specs.Prelude.{IsSome, OnOk};
 
 use crate::pattern::Pattern;
-use dcv_cli::Words;
 use std::alloc::{AllocError, Global};
+use std::mem::replace;
 
-/// A row: the words, the files, and the expected outcome of the run.
+/// A row: the arguments, the files, and the expected outcome of the run.
 #[derive(Drop)]
 pub(crate) struct Row {
     alloc: Global,
     pub(crate) title: String,
-    pub(crate) words: Option<Words>,
+    /// The program's name and the words.
+    pub(crate) arguments: Option<Vec<String>>,
+    /// Whether the run is over files of the system.
+    pub(crate) is_real: bool,
     pub(crate) first: Option<Pattern>,
     pub(crate) second: Option<Pattern>,
     pub(crate) numbers: Numbers,
@@ -52,7 +55,8 @@ impl Row {
         Ok(Row {
             alloc,
             title: String::from_str(alloc, title)?,
-            words: None,
+            arguments: None,
+            is_real: false,
             first: None,
             second: None,
             numbers: Numbers::default(),
@@ -67,6 +71,8 @@ impl Row {
     pub(crate) fn add_line(&mut self, line: &str) -> Result<(), AllocError> {
         let added = if let Some(words) = line.strip_prefix('$') {
             self.set_words(words)?
+        } else if line == "real" {
+            !replace(&mut self.is_real, true)
         } else if let Some((name, digits)) = line.rsplit_once(' ')
             && let Some(number) = self.numbers.of_name(name)
         {
@@ -91,13 +97,12 @@ impl Row {
 
     // Sets the words, if there are none yet.
     fn set_words(&mut self, line: &str) -> Result<bool, AllocError> {
-        let mut words = Words::new(self.alloc);
+        let mut arguments = Vec::new(self.alloc);
+        arguments.push(String::from_str(self.alloc, "dcvalid")?)?;
         for word in line.split_whitespace() {
-            words.push(word)?;
+            arguments.push(String::from_str(self.alloc, word)?)?;
         }
-        let added = self.words.is_none();
-        self.words = Some(words);
-        Ok(added)
+        Ok(self.arguments.replace(arguments).is_none())
     }
 
     // Begins a text. It may begin once.

@@ -1,0 +1,65 @@
+-- What a run promises.
+--     Seen               what is seen of the files and of both streams
+--     Promise words ..   how a run of these words ends, between what is seen before it and after it
+use Rattle.std.specs.Prelude.{◌≡◌, ◌⊎◌, ℕ, true, List, [], Option, IsTrue, IsFalse}
+use Rattle.std.specs.Bool.{OnTrue}
+use Rattle.dcv_io.specs.Disk.{Disk, held_of}
+use Rattle.dcv_io.specs.Faults.{has_risen, RisesIf}
+use Rattle.dcv_io.specs.Written.{Appends}
+use Rattle.clap.specs.Words.{takes}
+use Rattle.dcv_command.specs.Program.{program}
+use Rattle.dcv_command.specs.Request.{Request, IsTaken}
+use Rattle.dcv_cli.specs.declared.status.Status.{Status}
+use Rattle.dcv_cli.specs.declared.status.Status.TheVariants.{Usage, Memory}
+use Rattle.dcv_cli.specs.Ending.{EndsBy, AddsFront, StopsWithin, LeavesOver, AsksFrontOf, HasInputCause, Tells, TellsCause}
+use Rattle.dcv_cli.specs.Outside.{Outside, outside}
+use Rattle.dcv_cli.specs.Request.{AsksFor}
+use Rattle.dcv_cli.specs.Right.{IsRightOver}
+use Rattle.dcv_cli.specs.Status.{is_answer, is_determined, is_input, is_of_request, is_output, is_silent}
+
+-- the files and the output, and the messages: what was written there, and how many writes have failed
+pub record Seen : Type 0 where
+  pub outside : Outside
+  pub messages : Option (List ℕ)
+  pub message_faults : ℕ
+
+abbrev pub seen : Option Disk → Option (List (List ℕ)) → ℕ → ℕ → Option (List ℕ) → ℕ → Option (List ℕ) → ℕ → Seen
+seen told asked open_faults read_faults written faults messages message_faults =
+    record { outside = outside told asked open_faults read_faults written faults; messages = messages; message_faults = message_faults }
+
+-- this is the message, or a prefix of it where a write of it failed
+abbrev pub Says : Seen → Seen → List ℕ → Type 0
+Says before after message = Tells message before.messages after.messages before.message_faults after.message_faults
+
+-- no open, read or write has failed
+pub record NoFault (before after : Outside) : Type 0 where
+  pub opened : IsFalse (has_risen before.open_faults after.open_faults)
+  pub read : IsFalse (has_risen before.read_faults after.read_faults)
+  pub wrote : IsFalse (has_risen before.faults after.faults)
+
+pub record Promise (words : List (List ℕ)) (status : Status) (before after : Seen) : Type 0 where
+  -- Where the words and what is held determine the end, it is a right one: status, report and message.
+  pub right : OnTrue (is_determined status) (EndsBy (IsRightOver words before.outside.told) status before.outside.written after.outside.written (Says before after))
+  -- Words that are taken end in such a way, where no call of the outside failed and memory did not run out.
+  pub complete : IsTaken words → NoFault before.outside after.outside → IsTrue (is_determined status) ⊎ (status ≡ Memory)
+  -- However the run ended, nothing but a prefix of a right report is on the output.
+  pub report : AddsFront (IsRightOver words before.outside.told) before.outside.written after.outside.written
+  -- Words that are taken are never refused, and a run that does anything does what they ask for.
+  pub usage : status ≡ Usage → ¬ (IsTaken words)
+  pub takes : status ≡ Usage → ¬ (takes program words ≡ true)
+  pub asked : IsTrue (is_of_request status) → (request : Request) × AsksFor words request
+  -- Each other status has its cause, and no cause is passed over.
+  pub files : AsksFrontOf words before.outside.asked after.outside.asked
+  pub input : HasInputCause status before.outside.open_faults after.outside.open_faults before.outside.read_faults after.outside.read_faults
+  pub output : RisesIf (is_output status) before.outside.faults after.outside.faults
+  -- The message names it.
+  pub cause : TellsCause status (has_risen before.outside.open_faults after.outside.open_faults) (has_risen before.outside.read_faults after.outside.read_faults)
+      before.messages after.messages before.message_faults after.message_faults
+  -- An answer says nothing on the messages, and a refusal before it nothing on the output. Where an input failed, a replay has answered the lines
+  -- of the trace that were read.
+  pub no_message : OnTrue (is_answer status) (Appends before.messages after.messages [])
+  pub no_report : OnTrue (is_silent status) (Appends before.outside.written after.outside.written [])
+  pub stops : OnTrue (is_output status) (StopsWithin (IsRightOver words before.outside.told) before.outside.written after.outside.written)
+  pub left : OnTrue (is_input status) (LeavesOver words before.outside after.outside)
+  -- What the files hold stays.
+  pub held : held_of after.outside.told ≡ held_of before.outside.told
