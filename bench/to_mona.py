@@ -11,7 +11,7 @@ import sys
 
 sys.path.insert(0, os.path.join(os.path.dirname(os.path.abspath(__file__)), "..", "workbench"))
 from language import parse, read_text
-from writing import expand
+from language import expand
 
 OPERATORS = {"and": "&", "or": "|", "implies": "=>", "iff": "<=>"}
 

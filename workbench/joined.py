@@ -4,7 +4,7 @@ from dataclasses import dataclass, replace
 from typing import List
 
 from language import File, parse
-from writing import to_text
+from language import to_text
 
 MOST_NAMES = 16
 

@@ -6,7 +6,7 @@ import vacuity
 from language import Tree, read_text
 from questions import Requirement
 from waves import in_line, waves
-from writing import expand, to_text
+from language import expand, to_text
 
 MOST_WISHES = 14  # with more of them the limits of an example are lower
 

@@ -9,7 +9,7 @@ from collections import deque
 from joined import fresh_prefix, joined, names_of
 from language import Tree
 from program import Refusal
-from writing import expand, goal_text, to_text
+from language import expand, goal_text, to_text
 
 
 def looks_ahead(tree):

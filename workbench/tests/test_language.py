@@ -5,7 +5,7 @@ import unittest
 from language import Fault, Tree, parse, read_text, tokens
 from program import Program, Refusal
 from support import examples, needs_program
-from writing import expand, file_text, goal_text, to_text
+from language import expand, file_text, goal_text, to_text
 
 BINARY = ("and", "or", "chop", "iff")
 

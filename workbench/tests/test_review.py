@@ -4,7 +4,7 @@ import unittest
 from language import read_text
 from program import Program
 from support import PROGRAM, WithFolder, examples, needs_program, run
-from writing import expand
+from language import expand
 
 
 @needs_program
