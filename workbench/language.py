@@ -302,11 +302,12 @@ def check_names(text):
     return file
 
 
-def expand(file, goal: Optional[Tree] = None):
+def expand(file, goal: Optional[Tree] = None, bound=None):
     """A file's goal (or another formula over its macros) with each macro's body in the place of its call.
 
-    Quantified names are made different from the variables and from each other, so no argument is captured. The places of trees
-    stay where they were written, those of a macro's body in the macro.
+    Quantified names are made different from the variables and from each other, so no argument is captured; or `bound` names
+    them by the number of quantifiers around them. The places of trees stay where they were written, those of a macro's body
+    in the macro.
     """
     taken = {*file.variables, *file.macros}
 
@@ -318,21 +319,21 @@ def expand(file, goal: Optional[Tree] = None):
         taken.add(new)
         return new
 
-    def expanded(tree, scope):
+    def expanded(tree, scope, depth):
         if tree.kind in ("name", "call"):
             if tree.value in scope:
                 return scope[tree.value]
             macro = file.macros[tree.value]
-            arguments = [expanded(part, scope) for part in tree.parts]
-            return expanded(macro.body, {**declared, **dict(zip(macro.parameters, arguments))})
+            arguments = [expanded(part, scope, depth) for part in tree.parts]
+            return expanded(macro.body, {**declared, **dict(zip(macro.parameters, arguments))}, depth)
         value = tree.value
         if tree.kind in ("ex", "all"):
-            value = fresh(value)
-            scope = {**scope, tree.value: Tree("name", (), value)}
-        return replace(tree, parts=tuple(expanded(part, scope) for part in tree.parts), value=value) if tree.parts else tree
+            value = bound(depth) if bound else fresh(value)
+            scope, depth = {**scope, tree.value: Tree("name", (), value)}, depth + 1
+        return replace(tree, parts=tuple(expanded(part, scope, depth) for part in tree.parts), value=value) if tree.parts else tree
 
     declared = {name: Tree("name", (), name) for name in file.variables}
-    return expanded(file.goal if goal is None else goal, declared)
+    return expanded(file.goal if goal is None else goal, declared, 0)
 
 
 def uses(file) -> List[Macro]:

@@ -1,8 +1,9 @@
 """`verify`: the program's answers found again from the definitions, to be read in place of its proofs and its compiler.
 
-Each part of a formula is an automaton, made of those of its operands. The program prints an automaton of the part; a search over
-pairs of states compares both, and then what was printed stands for the part: so how it is asked for needs no trust. Of the other
-scripts only the parser is used. A letter is an instant; a word, of one letter or more, is a behaviour.
+Each part of a formula is an automaton, made of those of its operands. The program prints an automaton of the part; a
+search over pairs of states compares both, and then what was printed stands for the part: so how it is asked for needs no
+trust. All else that the program says is a function of the file's automaton, but for the suffixes, which are checked. Of
+the other scripts only the parser is used. A letter is an instant, and a word, of one letter or more, is a behaviour.
 """
 import operator
 import re
@@ -57,8 +58,9 @@ def merged(diagrams, pick=lambda *ends: ends, last=NEVER, memo=None):
     memo, first = {} if memo is None else memo, first_of(diagrams)
     if first < last and diagrams not in memo:
         asks = [type(it) is Choice and it.variable == first for it in diagrams]
-        sides = [tuple([getattr(it, side) if ask else it for it, ask in zip(diagrams, asks)]) for side in ("high", "low")]
-        memo[diagrams] = choice(first, *[merged(side, pick, last, memo) for side in sides])
+        high = tuple([it.high if ask else it for it, ask in zip(diagrams, asks)])
+        low = tuple([it.low if ask else it for it, ask in zip(diagrams, asks)])
+        memo[diagrams] = choice(first, merged(high, pick, last, memo), merged(low, pick, last, memo))
     return memo[diagrams] if first < last else pick(*diagrams)
 
 
@@ -69,9 +71,14 @@ def ends_of(diagram):
     return {**low, **{it: (diagram.variable, *letter) for it, letter in high.items() if it not in low}}
 
 
-@lru_cache(maxsize=200_000)
-def nodes_of(diagram):
-    return nodes_of(diagram.low) | nodes_of(diagram.high) | {diagram} if type(diagram) is Choice else frozenset()
+def numbered(diagrams, letter="n", found=None):
+    """Names for the nodes of diagrams: of each first what is low has one, then what is high, then the node itself."""
+    found = {} if found is None else found
+    for it in diagrams:
+        if type(it) is Choice and it not in found:
+            numbered((it.low, it.high), letter, found)
+            found[it] = f"{letter}{len(found)}"
+    return found
 
 
 def digits(letter, variables):
@@ -80,7 +87,7 @@ def digits(letter, variables):
 
 class Automaton:
     """The states that words lead to: whether they accept, the diagram of what comes next, and in `came`, in the order of the
-    least words that lead there, the state before and the last letter. A word that leads to a state that accepts is accepted."""
+    least words that lead there, the state before and the last letter. What leads to a state that accepts is accepted."""
 
     def __init__(self, start, row, accepts):
         self.start, self.rows, self.came, todo = start, {}, {}, [start]
@@ -112,72 +119,85 @@ def joined(values, *automata):
 # ---- what each form means
 
 RELATIONS = {"=": operator.eq, "<": operator.lt, "<=": operator.le, ">": operator.gt, ">=": operator.ge}
+BOOLEANS = {"not": operator.not_, "and": lambda x, y: x and y, "or": lambda x, y: x or y, "iff": operator.eq}
 PROPOSITIONS = {"p_true": lambda: 1, "p_false": lambda: 0, "p_not": operator.not_, "p_and": lambda *p: all(p),
                 "p_or": lambda *p: any(p), "p_iff": lambda *p: reduce(operator.eq, p)}
-BOOLEANS = {"not": operator.not_, "and": lambda x, y: x and y, "or": lambda x, y: x or y, "iff": operator.eq}
 SHORT = {  # forms that stand for others
     "pt": lambda to: to("point", to("p_true")), "ext": lambda to: to("run", to("p_true")),
     "p_implies": lambda to, p, q: to("p_or", to("p_not", p), q), "implies": lambda to, d, e: to("or", to("not", d), e),
     "diamond": lambda to, d: to("chop", to("true"), d, to("true")),
     "box": lambda to, d: to("not", to("diamond", to("not", d))), "all": lambda to, d: to("not", to("ex", to("not", d)))}
 ATOMS = {  # the states that accept; where a letter leads from each, with P false and with P true; from others to bad
-    "true": ("start", {"start": "start"}), "false": ("", {"start": "start"}),
-    "point": ("good", {"start": "bad good"}),
+    "true": ("start", {"start": "start"}), "false": ("", {"start": "start"}), "point": ("good", {"start": "bad good"}),
     "run": ("good last", {"start": "bad one", "one": "last good", "good": "last good"}),
     "every": ("good", {"start": "bad good", "good": "bad good"}),
     "unit": ("good", {"start": "bad one", "one": "good good"}),
     # A name says at each instant what -P is there, or what +P is: with both false, the name true, P true, both true
     "prior": ("zero one", {"start": "zero bad one bad", "zero": "zero bad one bad", "one": "bad zero bad one"}),
     "next": ("zero", {"start": "zero one zero one", "zero": "zero one bad bad", "one": "bad bad zero one"})}
-PLAIN = {"prior": "(<!{0}> ^ true) && !<>({{{{true}}}} && !((true ^ <{0}>) <=> {{{{{1}}}}}))",  # to ask for these two
+PLAIN = {"prior": "(<!{0}> ^ true) && !<>({{{{true}}}} && !((true ^ <{0}>) <=> {{{{{1}}}}}))",  # how these are asked for
          "next": "(true ^ <!{0}>) && !<>({{{{true}}}} && !({{{{{0}}}}} <=> true ^ <{1}>))"}
 
 
 def atom(looks, accepting, table):
-    return Automaton("start", lambda state: merged(looks, lambda *bits: table.get(state, 4 * "bad ").split()[
-        int("0" + "".join(map(str, bits)), 2)]), accepting.split().__contains__)
+    def step(state, *bits):
+        return table.get(state, 4 * "bad ").split()[int("0" + "".join(map(str, bits)), 2)]
+
+    return Automaton("start", lambda state: merged(looks, partial(step, state)), accepting.split().__contains__)
 
 
 def measure(looks, kind, relation, number):
-    """The state is what was counted, up to number + 1, and what this letter counts at the next: slen counts all letters after
-    the first, scount those with P, and sdur these but for the last letter."""
-    return Automaton((-1, 1), lambda state: merged(looks, lambda true=1: (
-        min(sum(state) + true * (kind == "scount"), number + 1), true * (kind != "scount"))),
-        lambda state: RELATIONS[relation](state[0], number))
+    """The state is what was counted, up to number + 1, and what this letter counts at the next: slen counts all letters
+    after the first, scount those with P, and sdur these but for the last letter."""
+    def step(state, true=1):
+        return min(sum(state) + true * (kind == "scount"), number + 1), true * (kind != "scount")
+
+    return Automaton((-1, 1), lambda state: merged(looks, partial(step, state)),
+                     lambda state: RELATIONS[relation](state[0], number))
 
 
 def chop(x, y):
     """The state of x, and those of y by the instants at which y may have begun: x accepts up to them, both have them."""
-    return Automaton((0, ()), lambda state: merged((x.rows[state[0]], y.rows[0], *[y.rows[it] for it in state[1]]), lambda first,
-                     fresh, *begun: (first, tuple(sorted({*begun, fresh} if x.accept[first] else {*begun})))),
+    def step(first, fresh, *begun):
+        return first, tuple(sorted({*begun, fresh} if x.accept[first] else {*begun}))
+
+    return Automaton((0, ()),
+                     lambda state: merged((x.rows[state[0]], y.rows[0], *[y.rows[it] for it in state[1]]), step),
                      lambda state: any(y.accept[it] for it in state[1]))
 
 
 def star(x):
-    """Whether one part may end here and another begin, and the states of x by the instants at which one may have begun: at the
-    first, and where x accepts from such an instant up to this one."""
+    """Whether one part may end here and another begin, and the states of x by the instants at which one may have begun:
+    at the first, and where x accepts from such an instant up to this one."""
     def step(fresh, *begun):
         cut = not begun or any(x.accept[it] for it in begun)
         return cut, tuple(sorted({*begun, fresh} if cut else {*begun}))
 
-    return Automaton((False, ()), lambda state: merged((x.rows[0], *[x.rows[it] for it in state[1]]), step), lambda state: state[0])
+    return Automaton((False, ()), lambda state: merged((x.rows[0], *[x.rows[it] for it in state[1]]), step),
+                     lambda state: state[0])
 
 
 def exists(x, variable):
     """The states that x may be in, by the values that its last variable may have had."""
-    return Automaton((0,), lambda state: merged(tuple([x.rows[it] for it in state]), lambda *ends: tuple(sorted(
-        {place for it in ends for place in ends_of(it)})), variable), lambda state: any(x.accept[it] for it in state))
+    def step(*ends):
+        return tuple(sorted({place for it in ends for place in ends_of(it)}))
+
+    return Automaton((0,), lambda state: merged(tuple([x.rows[it] for it in state]), step, variable),
+                     lambda state: any(x.accept[it] for it in state))
+
+
+OPERATORS = {"chop": chop, "star": star, "ex": exists, **{kind: partial(joined, it) for kind, it in BOOLEANS.items()}}
 
 
 class Formula:
-    """A file's goal in these forms: `steps` are its parts, operands first, each with the place where its text begins. Each -P and
-    +P is a name after the declared ones; at the end these are bound, the last one first."""
+    """A file's goal in these forms: `steps` are its parts, operands first, each with the place where its text begins. Each
+    -P and +P is a name after the declared ones; at the end these are bound, the last one first."""
 
     def __init__(self, text):
         self.file, self.steps, self.looks, self.says = check_names(text), [], {}, {}
         self.names = self.file.variables
         self.letter = next(it for it in "abcdefghijklmnopq" if not any(name.startswith(it) for name in self.names))
-        goal = self.form(expand(self.file), {}, 0)
+        goal = self.form(expand(self.file, bound=lambda depth: f"{self.letter}{QUANTIFIED + depth}"))
         for (kind, inner), (name, start) in reversed(list(self.looks.items())):
             asked = parse(f"infer {PLAIN[kind].format(name.value, to_text(inner))};").goal
             self.says[asked] = kind, (inner, name)
@@ -191,25 +211,20 @@ class Formula:
         self.steps.append((Tree(kind, parts, value), start))
         return self.steps[-1][0]
 
-    def form(self, tree, names, depth):
-        """A tree with these names in the place of quantified ones; its steps are listed."""
-        kind, value, bound = tree.kind, tree.value, f"{self.letter}{QUANTIFIED + depth}"
+    def form(self, tree):
+        kind, value = tree.kind, tree.value
         if kind in SHORT:
-            short = SHORT[kind](lambda kind, *parts: Tree(kind, parts, value, tree.start), *tree.parts)
-            return self.form(short, names, depth)
-        if kind == "ex":
-            inner = self.form(tree.parts[0], {**names, value: bound}, depth + 1)
-            return self.step(tree.start, kind, inner, value=bound)
-        forms = (self.form(part, names, depth) for part in tree.parts)
+            return self.form(SHORT[kind](lambda kind, *parts: Tree(kind, parts, value, tree.start), *tree.parts))
+        forms = map(self.form, tree.parts)
         if kind in ("prior", "next"):
             inner, name = next(forms), Tree("name", (), f"{self.letter}{len(self.names) + len(self.looks)}")
             insist(all(self.number(it) < QUANTIFIED for it in free_names(inner)), "it takes a - or + of a quantified name")
             return self.looks.setdefault((kind, inner), (name, tree.start))[0]
         if tree.is_proposition:
-            return Tree(kind, tuple(forms), names.get(value, value))
+            return Tree(kind, tuple(forms), value)
         if kind in LISTS:
             return reduce(partial(self.step, tree.start, kind), forms)
-        return self.step(tree.start, kind, *forms, value=value if kind in ("slen", "scount", "sdur") else None)
+        return self.step(tree.start, kind, *forms, value=value if kind in ("slen", "scount", "sdur", "ex") else None)
 
     def truth(self, tree):
         """The diagram of a proposition's value, 1 or 0."""
@@ -218,34 +233,30 @@ class Formula:
         return merged(tuple(map(self.truth, tree.parts)), lambda *values: int(PROPOSITIONS[tree.kind](*values)))
 
     def automaton(self, tree, known):
-        """What a part is by the automata of its operands; and its states and nodes, those of propositions added."""
+        """What a part is by the automata of its operands; and its states and nodes, those of a proposition's parts added."""
         kind, parts = self.says.get(tree, (tree.kind, tree.parts))
-        operands, looks = [known.get(it) for it in parts], tuple([self.truth(it) for it in parts if it.is_proposition])
-        if kind in BOOLEANS:
-            found = joined(BOOLEANS[kind], *operands)
-        elif kind in ("chop", "star", "ex"):
-            found = exists(*operands, self.number(tree.value)) if kind == "ex" else (chop if kind == "chop" else star)(*operands)
+        if kind in OPERATORS:
+            found = OPERATORS[kind](*[known[it] for it in parts], *[self.number(it) for it in [tree.value] if it])
         else:
+            looks = tuple(map(self.truth, parts))
             found = atom(looks, *ATOMS[kind]) if kind in ATOMS else measure(looks, kind, *tree.value)
         below = [self.truth(it) for part in parts if part.is_proposition for it in part.walk()]
-        nodes = [len(frozenset().union(*map(nodes_of, it))) for it in (found.rows.values(), below)]
-        return found, f"states {len(found.rows)} nodes {sum(nodes)}"
+        return found, f"states {len(found.rows)} nodes {len(numbered(found.rows.values())) + len(numbered(below))}"
 
     def question(self, tree):
         """A file that asks for a part, and the numbers of its names."""
         numbers = {name: self.number(name) for name in sorted(free_names(tree), key=self.number)}
         if len(numbers) > 16:
-            raise Cannot(f"a part has {len(numbers)} names, those of quantifiers and of - and + counted, and the program takes 16")
+            raise Cannot(f"a part has {len(numbers)} names, those of quantifiers and of - and + counted, "
+                         "and the program takes 16")
         return (f"var {', '.join(numbers)}; " if numbers else "") + f"infer {to_text(tree)};\n", numbers
 
 
-# ---- texts: what is read is written again where that can be, and has to be the same
-
-FORM = "its text is of another form"
+# ---- texts that an automaton determines
 
 
 class Printed:
-    """The text of an automaton, checked but for its lines of steps. `numbers` has the variables' names with their numbers."""
+    """The text of an automaton. Of it are read the rows, the suffixes and the lines of steps; then it is written again."""
 
     def __init__(self, what, text, numbers):
         self.what, self.numbers, self.suffixes, self.steps, accept, rows = what, numbers, [], [], [], []
@@ -261,26 +272,25 @@ class Printed:
                     (self.suffixes if head == "suffix" else self.steps).append(" ".join([head, *words]))
             self.automaton = Automaton(0, rows.__getitem__, accept.__getitem__)
         except (LookupError, TypeError, ValueError):
-            raise Wrong(f"{what}: {FORM}")
+            raise Wrong(f"{what}: its text is of another form")
         came = self.automaton.came
-        insist([it for it in came if it] == list(range(1, len(rows))), what, "its states are not in the order of their words")
+        insist([it for it in came if it] == list(range(1, len(rows))), what, "its states are not in the order of words")
         insist(0 in came or not accept[0], what, "its start accepts, though no word leads there")
-        insist(self.text(accept, rows) == text, what, FORM)
+        insist(self.text(accept, rows) == text, what, "its text is of another form")
 
     def text(self, accept, rows):
-        names, came, known = dict(zip(self.numbers.values(), self.numbers)), self.automaton.came, numbered(rows)
-        def word(it):
-            return known[it] if type(it) is Choice else f"t{it}"
-
-        nodes = [f"node {name} {names[it.variable]} ? {word(it.high)} : {word(it.low)}" for it, name in known.items()]
-        states = [f"state {it} {'accept' if accept[it] else 'reject'} {word(rows[it])}" for it in range(len(rows))]
-        access = [f"access {it} {before or 'start'} {digits(letter, names)}" for it, (before, letter) in sorted(came.items())]
-        return "\n".join(["automaton 2", f"variables {' '.join(self.numbers) or '-'}", f"states {len(rows)}", *nodes, *states,
-                          *["access 0 empty"] * (0 not in came), *access, *self.suffixes, *self.steps, "end", ""])
+        names, came, nodes = dict(zip(self.numbers.values(), self.numbers)), self.automaton.came, numbered(rows)
+        words = {**{state: f"t{state}" for state in range(len(rows))}, **nodes}
+        lines = ["automaton 2", f"variables {' '.join(self.numbers) or '-'}", f"states {len(rows)}"]
+        lines += [f"node {name} {names[it.variable]} ? {words[it.high]} : {words[it.low]}" for it, name in nodes.items()]
+        lines += [f"state {it} {'accept' if accept[it] else 'reject'} {words[rows[it]]}" for it in range(len(rows))]
+        lines += [] if 0 in came else ["access 0 empty"]
+        lines += [f"access {it} {came[it][0] or 'start'} {digits(came[it][1], names)}" for it in sorted(came)]
+        return "".join(line + "\n" for line in [*lines, *self.suffixes, *self.steps, "end"])
 
     def check_suffixes(self):
-        """Each suffix tells access words apart that none before does, and all are told apart. A word has one letter or more: so
-        a start to which none leads stands here twice, once as if it accepted."""
+        """Each suffix tells access words apart that none before does, and all are told apart. A word has one letter or
+        more: so a start to which none leads stands here twice, once as if it accepted."""
         accept, rows = ([field[it] for it in sorted(field)] for field in (self.automaton.accept, self.automaton.rows))
         if 0 not in self.automaton.came:
             accept, rows = accept + [True], rows + rows[:1]
@@ -288,7 +298,7 @@ class Printed:
         for number, line in enumerate(self.suffixes):
             form = rf"suffix {number} ([01]{{{len(self.numbers)}}}|-) (\d+)" if number else "suffix 0 (empty)()"
             match = re.fullmatch(form, line)
-            insist(match and int(match[2] or -1) < number, self.what, f"suffix {number} is not a letter before an earlier one")
+            insist(match and int(match[2] or -1) < number, self.what, f"suffix {number} is no letter before an earlier one")
             if number:
                 letter = {variable for variable, digit in zip(self.numbers.values(), match[1]) if digit == "1"}
                 goes[match[1]] = goes.get(match[1]) or [follow(row, letter) for row in rows]
@@ -297,8 +307,8 @@ class Printed:
             groups, before = [half for half in halves if len(half) > 1], left
             left = sum(map(len, groups)) - len(groups)
             insist(left < before, self.what, f"suffix {number} tells nothing apart")
-        pair = sorted(it % len(self.automaton.rows) for it in groups[0][:2]) if left else ""
-        insist(not left, self.what, "no suffix tells states {} and {} apart".format(*pair or "--"))
+        pair = sorted(it % len(self.automaton.rows) for it in groups[0][:2]) if left else "--"
+        insist(not left, self.what, f"no suffix tells states {pair[0]} and {pair[1]} apart")
 
 
 def follow(diagram, letter):
@@ -307,67 +317,30 @@ def follow(diagram, letter):
     return diagram
 
 
-def numbered(diagrams, letter="n"):
-    """Their nodes by names with numbers: of each first what is low, then what is high, then the node itself."""
-    found = {}
-
-    def visit(it):
-        if type(it) is Choice and it not in found:
-            visit(it.low)
-            visit(it.high)
-            found[it] = f"{letter}{len(found)}"
-
-    list(map(visit, diagrams))
-    return found
-
-
-C = re.compile(r"static int st;\n\nvoid (\w+)_reset\(void\)\n{\n  st = 0;\n}\n\nint \1_step\((.*)\)\n{\n"
-               r"((?:  int \w+;\n)+)\n((?:  (?:nx|y) = 0;\n)+)((?:  .*;\n)+)  st = nx;\n  return (.*);\n}\n")
-LUSTRE = re.compile(r"node (observer)\((.*)\) returns \(ok: bool\);\nvar\n  st: int;\n((?:  \w+: int;\n)+)let\n"
-                    r"  st = 0 -> pre nx;\n()((?:  .*;\n)*)  nx = (.*);\n  ok = (.*);\ntel\n")
-NODE, CASE = r"  ([no]\d+) = v_(\w+) \? (\w+) : (\w+);", r"  if \(st == (0|[1-9]\d*)\) (nx|y) = (\w+);"
+def unit_in_c(kind, names, returned, **rows):
+    """In the state st each name is set to what its row of st is for the letter. A node is a name of its own."""
+    parameters, declared, nodes, cases = ", ".join(f"int v_{name}" for name in names) or "void", [*rows], [], {}
+    for (name, those), letter in zip(rows.items(), "no"):
+        known = numbered(those.values(), letter)
+        declared += known.values()
+        nodes += [f"{node} = v_{names[it.variable]} ? {known.get(it.high, it.high)} : {known.get(it.low, it.low)};"
+                  for it, node in known.items()]
+        for state, row in those.items():
+            cases.setdefault(state, []).append(f"if (st == {state}) {name} = {known.get(row, row)};")
+    lines = [*[f"{name} = 0;" for name in rows], *nodes, *sum(cases.values(), []), "st = nx;", f"return {returned};"]
+    return (f"static int st;\n\nvoid {kind}_reset(void)\n{{\n  st = 0;\n}}\n\nint {kind}_step({parameters})\n{{\n  "
+            + "\n  ".join(f"int {name};" for name in declared) + "\n\n  " + "\n  ".join(lines) + "\n}\n")
 
 
-def unit(what, names, declared, outputs, lines):
-    """Of each number st the diagrams of nx and y that the statements store."""
-    nodes, stored = {}, {}
-
-    def item(word):
-        insist(word in nodes or re.fullmatch(r"0|[1-9]\d*", word), what, f"it reads {word}, which has no value")
-        return nodes[word] if word in nodes else int(word)
-
-    for line in lines:
-        node, case = re.fullmatch(NODE, line), re.fullmatch(CASE, line)
-        if node and not stored:
-            insist(node[2] in names and node[1] not in nodes, what, f"it sets {node[1]} twice, or by what is no input")
-            nodes[node[1]] = choice(names.index(node[2]), item(node[3]), item(node[4]))
-        else:
-            insist(case and case[2] in outputs and case[2] not in stored.setdefault(int(case[1]), {}), what, FORM)
-            stored[int(case[1])][case[2]] = item(case[3])
-    insist(all(list(values) == outputs for values in stored.values()), what, FORM)
-    right = {name: it for letter, output in zip("no", outputs) for it, name in numbered([values[output] for values in stored.values()], letter).items()}
-    insist(nodes == right and list(nodes) == list(right), what, "its nodes are not those of its states in their order")
-    insist(declared == [*outputs, *nodes], what, "its names are not those that are declared")
-    return stored
-
-
-def unit_in_c(what, text, names, kind="observer"):
-    """What a unit stores, and what it returns."""
-    match, outputs = C.fullmatch(text), ["nx", "y"][:1 + (kind == "controller")]
-    insist(match and match.group(1, 2) == (kind, ", ".join(f"int v_{name}" for name in names) or "void"), what, FORM)
-    insist(match[4] == "".join(f"  {name} = 0;\n" for name in outputs), what, FORM)
-    return unit(what, names, re.findall(r"int (\w+);", match[3]), outputs, match[5].splitlines()), match[6]
-
-
-def unit_in_lustre(what, text, names):
-    """The same of a unit in Lustre, by the statements of C that say what its equations do."""
-    match = LUSTRE.fullmatch(text)
-    insist(match and match[2] == ("; ".join(f"v_{name}: bool" for name in names) or "tick: bool"), what, FORM)
-    *cases, other = match[6].split(" else ")
-    lines = [re.sub(r"if (v_\w+) then (\w+) else (\w+)", r"\1 ? \2 : \3", line) for line in match[5].splitlines()]
-    lines += [re.sub(r"if st = (\w+) then (\w+)", r"  if (st == \1) nx = \2;", it) for it in cases] + [f"  if (st == {len(cases)}) nx = {other};"]
-    returned = re.sub(r"\(nx = (\d+)\)", r"nx == \1", match[7]).replace(" or ", " || ")
-    return unit(what, names, re.findall(r"(\w+): int;", match[3]), ["nx"], lines), "0" if returned == "false" else returned
+def unit_in_lustre(names, returned, rows):
+    known, inputs = numbered(rows.values()), "; ".join(f"v_{name}: bool" for name in names) or "tick: bool"
+    lines = [f"{node} = if v_{names[it.variable]} then {known.get(it.high, it.high)} else {known.get(it.low, it.low)};"
+             for it, node in known.items()]
+    *cases, last = [known.get(row, row) for row in rows.values()]
+    cases = "".join(f"if st = {state} then {case} else " for state, case in enumerate(cases))
+    lines = ["st = 0 -> pre nx;", *lines, f"nx = {cases}{last};", f"ok = {returned};"]
+    declared = "".join(f"  {name}: int;\n" for name in ["st", "nx", *known.values()])
+    return f"node observer({inputs}) returns (ok: bool);\nvar\n{declared}let\n  " + "\n  ".join(lines) + "\ntel\n"
 
 
 # ---- the program's answers about a file, of which `ask` asks the program
@@ -383,34 +356,37 @@ class Check:
         for number, (form, start) in enumerate(formula.steps):
             if form not in self.known:
                 exact, counts[form] = formula.automaton(form, self.known)
-                asked, what, numbers = output, "the automaton of the file", {name: place for place, name in enumerate(self.names)}
+                numbers, asked, what = dict(zip(self.names, count())), output, "the automaton of the file"
                 if number + 1 < len(formula.steps):
                     question, numbers = formula.question(form)
                     asked, line = ask("automaton", question, part=True)[1], text.count("\n", 0, start) + 1
                     what = f"the automaton of a part of line {line}, asked for by\n  {question.strip()}\n"
                 printed = Printed(what, asked, numbers)
-                self.known[form] = printed.automaton
                 self.compare(exact, printed)
                 printed.check_suffixes()
+                self.known[form] = printed.automaton
             lines.append(f"step {number} at {start} {counts[form]}")
-        self.automaton = printed.automaton
         for said, line in zip_longest(printed.steps, [f"steps {len(lines)}", *lines]):
             insist(said == line, f"the lines of steps: it is {line}, and the program's {said}")
+        self.automaton, self.accept = printed.automaton, printed.automaton.accept
+        self.rows = {state: self.automaton.rows[state] for state in sorted(self.accept)}
 
     def compare(self, exact, printed):
         both = joined(operator.ne, exact, printed.automaton)
         word, pair = both.least()
         self.pairs += len(both.rows)
         if word:
-            runs = [(letter, len(list(run))) for letter, run in groupby(digits(it, printed.numbers.values()) for it in word)]
+            letters = [digits(letter, printed.numbers.values()) for letter in word]
+            runs = [(letter, len(list(run))) for letter, run in groupby(letters)]
             line = " ".join(letter + (f" x{length}" if length > 1 else "") for letter, length in runs)
             accepts = "accepts" if printed.automaton.accept[pair[1]] else "rejects"
-            insist(False, printed.what, f"after {line} the automaton is in state {pair[1]} and {accepts}, and its form does not")
+            raise Wrong(f"{printed.what}: after {line} the automaton is in state {pair[1]} and {accepts}, "
+                        "and its form does not")
 
-    def answered(self, command, *texts, right, options=()):
+    def answered(self, command, status, text, *texts, options=()):
         found = self.ask(command, self.text, *texts, options=options)
-        insist(found == right, f"the answer to {command}: it is, with status {right[0]},\n{right[1]}and the program's, with status "
-                               f"{found[0]},\n{found[1]}")
+        insist(found == (status, text), f"the answer to {command}: it is, with status {status},\n{text}and the program's, "
+                                        f"with status {found[0]},\n{found[1]}")
 
     def report(self, heading, word):
         lines = [f"{heading} {len(word)}", *[digits(letter, range(len(self.names))) for letter in word]] if word else []
@@ -419,30 +395,26 @@ class Check:
     def verdict(self):
         bad, good = [joined(values, self.automaton).least()[0] for values in (operator.not_, bool)]
         text = f"{'not ' * bool(bad)}valid\n{'not ' * (not good)}satisfiable\n"
-        text += self.report("counterexample", bad) + self.report("example", good)
-        self.answered("check", right=(int(bool(bad)), text))
+        self.answered("check", int(bool(bad)), text + self.report("counterexample", bad) + self.report("example", good))
 
     def implies(self, other):
+        insist(self.names == other.names, "the answer to implies: the files have different variables")
         word, _ = joined(lambda x, y: x and not y, self.automaton, other.automaton).least()
         text = "does not imply\n" + self.report("counterexample", word) if word else "implies\n"
-        insist(self.names == other.names, "the answer to implies: the files have different variables")
-        self.answered("implies", other.text, right=(int(bool(word)), text))
+        self.answered("implies", int(bool(word)), text, other.text)
 
-    def observer(self, language):
-        """In each state st is the state, and for all letters it goes where the automaton goes."""
-        what, read = f"the observer in {language}", {"C": unit_in_c, "Lustre": unit_in_lustre}[language]
-        stored, returned = read(what, self.ask(language.lower(), self.text)[1], self.names)
-        right = " || ".join(f"nx == {state}" for state, accepts in sorted(self.automaton.accept.items()) if accepts) or "0"
-        insist(returned == right, what, f"it returns {returned}, and it is {right}")
-        insist(list(stored) == sorted(self.automaton.rows), what, "its states are not those of the automaton")
-        for state, values in stored.items():
-            insist(values["nx"] == self.automaton.rows[state], what, f"in state {state} it goes elsewhere than the automaton")
+    def observers(self):
+        status = int(not all(self.accept[it] for it in self.automaton.came))
+        returned = " || ".join(f"nx == {it}" for it in self.rows if self.accept[it]) or "0"
+        self.answered("c", status, unit_in_c("observer", self.names, returned, nx=self.rows))
+        returned = " or ".join(f"(nx = {it})" for it in self.rows if self.accept[it]) or "false"
+        self.answered("lustre", status, unit_in_lustre(self.names, returned, self.rows))
 
     def ranks(self, inputs):
-        """In how many letters the inputs can break it from each state, whatever the outputs are, and the least input for it."""
-        lost, found = {state for state, accepts in self.automaton.accept.items() if not accepts}, {}
+        """In how many letters the inputs break it from each state, whatever the outputs are; and the least input for it."""
+        lost, found = {state for state in self.rows if not self.accept[state]}, {}
         moves = {state: [(letter, {*ends_of(rest)}) for (rest,), letter in ends_of(merged((row,), last=inputs)).items()]
-                 for state, row in self.automaton.rows.items()}
+                 for state, row in self.rows.items()}
         for rank in count(1):
             new = {state: (rank, letter) for state, options in moves.items() if state not in found
                    for letter, places in reversed(options) if places <= lost}
@@ -452,29 +424,23 @@ class Check:
             lost |= new.keys()
 
     def synth(self, inputs):
-        ranks, what, accept, options = self.ranks(inputs), "the answer to synth", self.automaton.accept, ("--inputs", str(inputs))
+        """A strategy, by the ranks; or in each state without one the least output that leads to a state without one."""
+        ranks, options = self.ranks(inputs), ("--inputs", str(inputs))
+        kept = {state for state in self.rows if state not in ranks and self.accept[state]}
         if 0 in ranks:
             moves = [f"state {state} rank {rank} input {digits(letter, range(inputs))}\n"
-                     for state, (rank, letter) in sorted(ranks.items()) if state == 0 or accept[state]]
-            self.answered("synth", right=(1, f"unrealisable\nbound {ranks[0][0]}\n{''.join(moves)}end\n"), options=options)
+                     for state, (rank, letter) in sorted(ranks.items()) if state == 0 or self.accept[state]]
+            self.answered("synth", 1, f"unrealisable\nbound {ranks[0][0]}\n{''.join(moves)}end\n", options=options)
             return "strategy: the inputs beat each controller within its bound"
 
         def choose(rest):
-            """The least output after which it can be kept to for ever, as a number, and the state that it leads to."""
-            return next((int(digits(letter, range(inputs, len(self.names))).replace("-", "0"), 2), state)
-                        for state, letter in ends_of(rest).items() if accept[state] and state not in ranks)
+            state, letter = next(it for it in ends_of(rest).items() if it[0] in kept)
+            return state, int("0" + digits(letter, range(inputs, len(self.names))).strip("-"), 2)
 
-        status, output = self.ask("synth", self.text, options=options)
-        kind, _, text = output.partition("\n")
-        insist((status, kind) == (0, "realisable"), what, f"it has status {status} and begins with {kind}")
-        stored, returned = unit_in_c(what, text, self.names[:inputs], "controller")
-        insist(returned == "y", what, f"it returns {returned}")
-        insist(list(stored) == [it for it in sorted(accept) if it not in ranks and (accept[it] or it == 0)], what,
-               "its states are not those from which it can be kept to for ever")
-        for state, values in stored.items():
-            right = merged((self.automaton.rows[state],), choose, inputs)
-            insist(merged((values["y"], values["nx"])) == right, what, f"in state {state} it goes elsewhere, or its output is not the "
-                   "least by which it can be kept to for ever")
+        both = {state: merged((self.rows[state],), choose, inputs) for state in sorted(kept | {0})}
+        nx, y = [{state: merged((it,), operator.itemgetter(place)) for state, it in both.items()} for place in (0, 1)]
+        text = unit_in_c("controller", self.names[:inputs], "y", nx=nx, y=y)
+        self.answered("synth", 0, "realisable\n" + text, options=options)
         return "controller: it keeps to the requirement for all inputs"
 
 
@@ -497,7 +463,7 @@ def asked(program, command, *texts, options=(), part=False):
         paths = [Path(room, str(number)) for number in range(len(texts))]
         for path, text in zip(paths, texts):
             path.write_bytes(text.encode("latin-1"))
-        done = subprocess.run([program.command(), command, *paths, *options], stdout=subprocess.PIPE, stderr=subprocess.PIPE)
+        done = subprocess.run([program.command(), command, *paths, *options], capture_output=True)
     if done.returncode > 1:
         said = done.stderr.decode("latin-1").strip()
         if not part and done.returncode != 4:
@@ -508,8 +474,9 @@ def asked(program, command, *texts, options=(), part=False):
 
 def verified(ask, path, shown):
     check = Check(ask, read_text(path))
-    print(f"verified: the automaton of {shown}, {len(check.automaton.rows)} states, by {len(check.known)} parts and {check.pairs} "
-          "pairs of states\nverified: no automaton has fewer states\nverified: how its states are numbered, and the lines of steps")
+    print(f"verified: the automaton of {shown}, {len(check.rows)} states, by {len(check.known)} parts and {check.pairs} "
+          "pairs of states\nverified: no automaton has fewer states\n"
+          "verified: how its states are numbered, and the lines of steps")
     check.verdict()
     print("verified: the verdict, and that no behaviours are shorter or before those shown")
     return check
@@ -520,9 +487,10 @@ def verify(options, ask):
     if options.implies:
         check.implies(verified(ask, options.other, options.other))
         print("verified: the answer to implies")
-    for language in ("C", "Lustre") if options.observer else ():
-        check.observer(language)
-        print(f"verified: the observer in {language}, in all its states and for all letters")
+    if options.observer:
+        check.observers()
+        for language in ("C", "Lustre"):
+            print(f"verified: the observer in {language}, in all its states and for all letters")
     if options.inputs is not None:
         print("verified: the " + check.synth(options.inputs))
 
@@ -535,7 +503,7 @@ def run(options, program):
         verify(options, partial(asked, program))
         return 0
     except (Wrong, Fault) as wrong:
-        print(f"different: {'the program takes this text, and the parser does not: ' * isinstance(wrong, Fault)}{wrong}")
+        print("different:", *["the program takes this text, and the parser does not:"] * isinstance(wrong, Fault), wrong)
         return 1
     except Cannot as cannot:
         print(f"cannot be verified: {cannot}", file=sys.stderr)

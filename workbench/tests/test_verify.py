@@ -67,8 +67,7 @@ def checked(text, ask=real, inputs=None):
     """All that verify checks of one file."""
     check = verify.Check(ask, text)
     check.verdict()
-    check.observer("C")
-    check.observer("Lustre")
+    check.observers()
     if inputs is not None:
         check.synth(inputs)
     return check
@@ -80,6 +79,24 @@ def accepts(automaton, word):
     for letter in word:
         place = verify.follow(automaton.rows[place], {variable for variable, digit in enumerate(letter) if digit == "1"})
     return automaton.accept[place]
+
+
+def stepped(unit, state, letter):
+    """The next st of a flat unit in C or Lustre, and what it returns: a name, or whether nx is one of some numbers."""
+    values = {f"v_{name}": int(digit) for name, digit in letter.items()}
+
+    def item(word):
+        return int(word) if word.isdigit() else values[word]
+
+    lines = re.sub(r"if (v_\w+) then (\w+) else (\w+);", r"\1 ? \2 : \3;", unit)
+    lines = re.sub(r"  nx = (if st .*) else (\w+);", lambda match: f"  nx = {match[2]};\n" + "".join(
+        f"  if (st == {case[0]}) nx = {case[1]};\n" for case in re.findall(r"st = (\d+) then (\w+)", match[1])[::-1]), lines)
+    for line in lines.split("\n"):
+        match = re.fullmatch(r"  (?:if \(st == (\d+)\) )?(nx|y|[no]\d+) = (?:(\w+) \? (\w+) : )?(\w+);", line)
+        if match and int(match[1] or state) == state:
+            values[match[2]] = item(match[4] if match[3] and values[match[3]] else match[5])
+    returned = re.search(r"(?:return|ok =) (.*);", unit)[1]
+    return values["nx"], values["y"] if returned == "y" else values["nx"] in map(int, re.findall(r"nx ==? (\d+)", returned))
 
 
 def changes_of_rows(text):
@@ -192,6 +209,25 @@ class Right(WithFolder):
         for goal in ("[[+-+p]]", "<-(p => q)> ^ [[-(!p || q)]]", "(true ^ <---p>) ^ ext", "[[-p => +q]] && <>(<+q> || <--p>)", "ex r. [[r <=> -p]] ^ <+q>"):
             checked(f"var p, q; infer {goal};", inputs=1)
         checked("var p, q; prop g(a, b) as b && a; define F(a) as [[a => -a]]; infer F(g(-p, +q)) || <-q>;")
+
+    def test_units(self):
+        """What is written for an automaton, run by a plain reader of flat statements, goes where the automaton goes and answers what it says, in
+        all states for all letters; and a controller for all inputs, with outputs that keep to it."""
+        for goal in (*FORMS.values(), "[[p => q]]", "[[q <=> -p]]", "<>({{p}} ^ <q>) => [[q]]"):
+            check = checked(f"var p, q; infer {goal};")
+            units = output_of("c", check.text), output_of("lustre", check.text)
+            for (state, row), letter in itertools.product(check.rows.items(), ("00", "01", "10", "11")):
+                place = verify.follow(row, {variable for variable in (0, 1) if letter[variable] == "1"})
+                for unit in units:
+                    self.assertEqual(stepped(unit, state, {"p": letter[0], "q": letter[1]}), (place, check.accept[place]), unit)
+            kind, _, controller = output_of("synth", check.text, "--inputs", "1").partition("\n")
+            states = [0] * (kind == "realisable")
+            for state in states:  # which are found on the way
+                for p in "01":
+                    place, q = stepped(controller, state, {"p": p})
+                    self.assertEqual(verify.follow(check.rows[state], [0] * (p == "1") + [1] * q), place)
+                    self.assertTrue(check.accept[place])
+                    states += [place] * (place not in states)
 
     def test_the_command(self):
         status, out, err = run("ask", "verify", RESPONSE, "--observer", "--inputs", "1")
@@ -370,7 +406,7 @@ class Planted(unittest.TestCase):
             lines = output.splitlines(True)
             left_out = ["".join([*lines[:place], *[lines[place]] * times, *lines[place + 1:]]) for place in range(len(lines)) for times in (0, 2)]
             for changed in (*changes_of_numbers(output), *left_out):
-                self.assertIn("the observer in", self.told(text, Changed(command, text, changed)))
+                self.assertIn(f"the answer to {command}", self.told(text, Changed(command, text, changed)))
         output = output_of("c", text)
         for old, new in (("v_p ?", "v_q ?"), (" == ", " != "), ("int observer_step(int v_p, int v_q)", "int observer_step(int v_q, int v_p)"), ("st = nx;", "st = n9;"),
                          ("  nx = 0;\n", "  nx = 0;\n  st = 0;\n"), ("if (st == 1) nx", "if (st == 1) st"), ("if (st == 1)", "if (st == 01)"), ("  st = nx;\n", ""),
