@@ -294,17 +294,19 @@ class Printed:
         accept, rows = ([field[it] for it in sorted(field)] for field in (self.automaton.accept, self.automaton.rows))
         if 0 not in self.automaton.came:
             accept, rows = accept + [True], rows + rows[:1]
-        groups, ends, goes, left = [list(range(len(rows)))], [accept], {}, len(rows) - 1
+        groups, ends, goes, left = [range(len(rows))], [bytes(accept)], {}, len(rows) - 1
+        form = "suffix (\\d+) (%s) (\\d+)" % ("[01]" * len(self.numbers) or "-")
         for number, line in enumerate(self.suffixes):
-            form = rf"suffix {number} ([01]{{{len(self.numbers)}}}|-) (\d+)" if number else "suffix 0 (empty)()"
-            match = re.fullmatch(form, line)
-            insist(match and int(match[2] or -1) < number, self.what, f"suffix {number} is no letter before an earlier one")
+            match = re.fullmatch(form if number else "(suffix) 0 empty", line)
+            insist(match and (not number or match[1] == str(number) and int(match[3]) < number), self.what,
+                   f"suffix {number} is no letter before an earlier one")
             if number:
-                letter = {variable for variable, digit in zip(self.numbers.values(), match[1]) if digit == "1"}
-                goes[match[1]] = goes.get(match[1]) or [follow(row, letter) for row in rows]
-                ends.append([ends[int(match[2])][it] for it in goes[match[1]]])
-            halves = [[it for it in group if ends[number][it] == side] for group in groups for side in (True, False)]
-            groups, before = [half for half in halves if len(half) > 1], left
+                letter = {variable for variable, digit in zip(self.numbers.values(), match[2]) if digit == "1"}
+                goes[match[2]] = goes.get(match[2]) or [follow(row, letter) for row in rows]
+                ends.append(bytes(map(ends[int(match[3])].__getitem__, goes[match[2]])))
+            end, before = ends[number], left
+            halves = [half for them in groups for half in ([it for it in them if end[it]], [it for it in them if not end[it]])]
+            groups = [half for half in halves if len(half) > 1]
             left = sum(map(len, groups)) - len(groups)
             insist(left < before, self.what, f"suffix {number} tells nothing apart")
         pair = sorted(it % len(self.automaton.rows) for it in groups[0][:2]) if left else "--"
