@@ -7,7 +7,8 @@ import re
 import sys
 from dataclasses import dataclass, field, replace
 from functools import lru_cache
-from typing import Dict, List, Optional, Tuple
+from itertools import chain, count
+from typing import Dict, NamedTuple, Optional, Tuple
 
 sys.setrecursionlimit(100_000)
 
@@ -23,10 +24,6 @@ PREFIXES = {"not": "!", "diamond": "<>", "box": "[]", "p_not": "!", "prior": "-"
 BRACKETS = {"point": ("<", ">"), "run": ("[", "]"), "every": ("[[", "]]"), "unit": ("{{", "}}")}
 PROPOSITIONS = {"name", "p_true", "p_false", "p_not", "prior", "next", "p_and", "p_or", "p_implies", "p_iff"}
 
-# The operators between operands, those that hold them most loosely first.
-IN_FORMULAS = ("iff", "implies", "or", "and", "chop")
-IN_PROPOSITIONS = ("p_iff", "p_implies", "p_or", "p_and")
-
 
 class Fault(Exception):
     """The text is no formula file; `place` is where this reader stopped."""
@@ -36,8 +33,7 @@ class Fault(Exception):
         self.place = place
 
 
-@dataclass(frozen=True)
-class Token:
+class Token(NamedTuple):
     text: str
     start: int
     end: int
@@ -86,6 +82,7 @@ class File:
     variables: Tuple[str, ...]
     macros: Dict[str, Macro]  # in the order of the text
     goal: Tree
+    listed: Tuple[Macro, ...] = field(default=(), compare=False)  # the macros, also those whose name stands there again
 
 
 def read_text(path):
@@ -130,35 +127,32 @@ def parse_proposition(text):
 
 class _Parser:
     def __init__(self, text):
-        self.tokens, self.length, self.at = tokens(text), len(text), 0
+        self.tokens, self.at = tokens(text) + [Token(None, len(text), len(text))], 0
 
     def whole(self, rule):
         found = rule(self)
-        if self.peek() is not None:
-            raise Fault(self.place(), "a token after the end")
+        self.take(None)
         return found
 
     def peek(self):
-        return self.tokens[self.at].text if self.at < len(self.tokens) else None
-
-    def place(self):
-        return self.tokens[self.at].start if self.at < len(self.tokens) else self.length
+        return self.tokens[self.at].text
 
     def take(self, *wanted):
         token = self.peek()
-        if token is None or (wanted and token not in wanted):
-            raise Fault(self.place(), f"{token or 'the end'} in place of {' '.join(wanted) or 'a token'}")
+        if token not in wanted:
+            raise Fault(self.tokens[self.at].start, f"{token or 'the end'} in place of {wanted[0]}")
         self.at += 1
         return token
 
     def has(self, *wanted):
-        return self.take() if self.peek() in wanted else None
+        return self.take(*wanted) if self.peek() in wanted else None
+
+    def word(self, what, is_right):
+        """A token of a kind."""
+        return self.take(self.peek() if is_right(self.peek() or "") else what)
 
     def name(self):
-        word = self.peek()
-        if word is None or not word[0].isalpha() or word in RESERVED:
-            raise Fault(self.place(), "no name")
-        return self.take()
+        return self.word("a name", lambda word: word[:1].isalpha() and word not in RESERVED)
 
     def tree(self, first, kind, parts=(), value=None):
         """A tree whose text begins at the token with number `first` and ends before this one."""
@@ -170,25 +164,24 @@ class _Parser:
             found.append(part())
         return found
 
-    def within(self, part, closing):
-        """A part and the token behind it; what opens it has been taken."""
+    def before(self, part, closing):
+        """A part and the token behind it."""
         found = part()
         self.take(closing)
         return found
 
-    def names_in_parentheses(self, part):
-        return self.within(lambda: self.separated(part), ")") if self.has("(") else []
+    def in_parentheses(self, part):
+        return self.before(lambda: self.separated(part), ")") if self.has("(") else []
 
     def joined(self, kinds, operand):
         """Operands between which stand operators of these kinds."""
         if not kinds:
             return operand()
         first, kind = self.at, kinds[0]
-        if LISTS.get(kind):
-            parts = self.separated(lambda: self.joined(kinds[1:], operand), LISTS[kind])
-            return self.tree(first, kind, parts) if len(parts) > 1 else parts[0]
-        premise = self.joined(kinds[1:], operand)
-        return self.tree(first, kind, (premise, self.joined(kinds, operand))) if self.has("=>") else premise
+        parts = self.separated(lambda: self.joined(kinds[1:], operand), LISTS.get(kind, ""))
+        if kind not in LISTS and self.has("=>"):
+            parts.append(self.joined(kinds, operand))
+        return self.tree(first, kind, parts) if len(parts) > 1 else parts[0]
 
     def prefixed(self, kinds, operand):
         """An operand, before which signs of these kinds may stand."""
@@ -199,45 +192,44 @@ class _Parser:
     # ---- files
 
     def file(self):
-        variables = self.within(lambda: self.separated(self.name), ";") if self.has("var") else []
-        macros = {}
-        while self.peek() in ("define", "prop"):
-            macro = self.macro()
-            macros[macro.name] = macro
+        variables = self.before(lambda: self.separated(self.name), ";") if self.has("var") else []
+        macros = [self.macro() for _ in iter(lambda: self.peek() in ("define", "prop"), False)]
         self.take("infer")
-        return File(tuple(variables), macros, self.within(self.formula, ";"))
+        return File(tuple(variables), {macro.name: macro for macro in macros}, self.before(self.formula, ";"), tuple(macros))
 
     def macro(self):
-        start, kind, name, parameters = self.place(), self.take(), self.name(), self.names_in_parentheses(self.name)
-        self.take("as")
-        body = self.within(self.formula if kind == "define" else self.proposition, ";")
+        start, kind = self.tokens[self.at].start, self.take("define", "prop")
+        name, parameters, _ = self.name(), self.in_parentheses(self.name), self.take("as")
+        body = self.before(self.formula if kind == "define" else self.proposition, ";")
         return Macro(kind, name, tuple(parameters), body, start, self.tokens[self.at - 1].end)
 
     def named(self, kind):
         first, name = self.at, self.name()
-        return self.tree(first, kind, self.names_in_parentheses(self.proposition), name)
+        return self.tree(first, kind, self.in_parentheses(self.proposition), name)
 
     # ---- propositions and formulas
 
     def proposition(self):
-        return self.joined(IN_PROPOSITIONS, self.p_prefix)
+        return self.joined(("p_iff", "p_implies", "p_or", "p_and"), self.p_prefix)
 
     def p_prefix(self):
         return self.prefixed(("p_not", "prior", "next"), self.p_atom)
 
     def p_atom(self):
-        first = self.at
-        if self.has("("):
-            return self.within(self.proposition, ")")
-        word = self.has("true", "false")
+        first, word = self.at, self.has("(", "true", "false")
+        if word == "(":
+            return self.before(self.proposition, ")")
         return self.tree(first, "p_" + word) if word else self.named("name")
 
     def formula(self):
         first, word = self.at, self.has("ex", "all")
         if word is None:
-            return self.joined(IN_FORMULAS, lambda: self.prefixed(("not", "diamond", "box"), self.starred))
-        name = self.within(self.name, ".")
+            return self.joined(("iff", "implies", "or", "and", "chop"), self.f_prefix)
+        name = self.before(self.name, ".")
         return self.tree(first, word, (self.formula(),), name)
+
+    def f_prefix(self):
+        return self.prefixed(("not", "diamond", "box"), self.starred)
 
     def starred(self):
         first, inner = self.at, self.atom()
@@ -246,20 +238,17 @@ class _Parser:
         return inner
 
     def atom(self):
-        first, word = self.at, self.peek()
-        if self.has("("):
-            return self.within(self.formula, ")")
-        for kind, (opening, closing) in BRACKETS.items():
-            if self.has(opening):
-                return self.tree(first, kind, (self.within(self.proposition, closing),))
-        if self.has("pt", "ext", "true", "false"):
-            return self.tree(first, word)
-        if not self.has("slen", "scount", "sdur"):
-            return self.named("call")
-        parts, relation, number = () if word == "slen" else (self.p_prefix(),), self.take(*RELATIONS), self.take()
-        if not number.isdigit():
-            raise Fault(self.tokens[self.at - 1].start, "no number")
-        return self.tree(first, word, parts, (relation, int(number)))
+        first, word = self.at, self.has("(", "pt", "ext", "true", "false", "slen", "scount", "sdur")
+        if word == "(":
+            return self.before(self.formula, ")")
+        if word in ("slen", "scount", "sdur"):
+            parts = () if word == "slen" else (self.p_prefix(),)
+            value = self.take(*RELATIONS), int(self.word("a number", str.isdigit))
+            return self.tree(first, word, parts, value)
+        kind = next((kind for kind, (opening, _) in BRACKETS.items() if self.has(opening)), None)
+        if kind:
+            return self.tree(first, kind, (self.before(self.proposition, BRACKETS[kind][1]),))
+        return self.tree(first, word) if word else self.named("call")
 
 
 # ---- names
@@ -275,29 +264,27 @@ def free_names(tree):
 def check_names(text):
     """The file of a text, in which each name is declared before it is used, is new in its scope, and is used as what it is."""
     def fresh(names, most, others, place=0):
-        if len(set(names)) < len(names) or len(names) > most or set(names) & set(others) or any(len(it) > 24 for it in names):
+        if len({*names}) < len(names) or len(names) > most or {*names} & {*others} or any(len(it) > 24 for it in names):
             raise Fault(place, "a name that is taken, stands twice or is too long, or too many names")
 
     def look(tree, known):
         if tree.kind in ("name", "call") and known.get(tree.value) != (tree.kind, len(tree.parts)):
             raise Fault(tree.start, f"{tree.value} used for what it is not")
         if tree.kind in ("ex", "all"):
-            fresh([tree.value], 1, done, tree.start)
+            fresh([tree.value], 1, macros, tree.start)
             known = {**known, tree.value: ("name", 0)}
         for part in tree.parts:
             look(part, known)
 
-    file, done = parse(text), []
+    file, macros = parse(text), []
     known = dict.fromkeys(file.variables, ("name", 0))
     fresh(file.variables, 16, [])
-    fresh([it.text for it in tokens(text)][:0] + list(file.macros), 256, file.variables)
-    if len(file.macros) < sum(token.text in ("define", "prop") for token in tokens(text)):
-        raise Fault(0, "two macros of one name")
-    for name, macro in file.macros.items():
-        done.append(name)
-        fresh(macro.parameters, 8, done, macro.start)
+    for macro in file.listed:
+        macros.append(macro.name)
+        fresh(macros, 256, file.variables, macro.start)
+        fresh(macro.parameters, 8, macros, macro.start)
         look(macro.body, {**known, **dict.fromkeys(macro.parameters, ("name", 0))})
-        known[name] = "call" if macro.kind == "define" else "name", len(macro.parameters)
+        known[macro.name] = "call" if macro.kind == "define" else "name", len(macro.parameters)
     look(file.goal, known)
     return file
 
@@ -306,52 +293,36 @@ def expand(file, goal: Optional[Tree] = None, bound=None):
     """A file's goal (or another formula over its macros) with each macro's body in the place of its call.
 
     Quantified names are made different from the variables and from each other, so no argument is captured; or `bound` names
-    them by the number of quantifiers around them. The places of trees stay where they were written, those of a macro's body
-    in the macro.
+    them by the number of quantifiers around them. The places of trees stay where they were written.
     """
     taken = {*file.variables, *file.macros}
 
     def fresh(name):
-        new, number = name, 1
-        while new in taken:
-            number += 1
-            new = f"{name[:18]}_{number}"
-        taken.add(new)
+        names = chain([name], (f"{name[:18]}_{number}" for number in count(2)))
+        taken.add(new := next(new for new in names if new not in taken))
         return new
 
     def expanded(tree, scope, depth):
-        if tree.kind in ("name", "call"):
-            if tree.value in scope:
-                return scope[tree.value]
-            macro = file.macros[tree.value]
-            arguments = [expanded(part, scope, depth) for part in tree.parts]
-            return expanded(macro.body, {**declared, **dict(zip(macro.parameters, arguments))}, depth)
         value = tree.value
+        if tree.kind in ("name", "call"):
+            if value in scope:
+                return scope[value]
+            arguments = zip(file.macros[value].parameters, [expanded(part, scope, depth) for part in tree.parts])
+            return expanded(file.macros[value].body, {**declared, **dict(arguments)}, depth)
         if tree.kind in ("ex", "all"):
             value = bound(depth) if bound else fresh(value)
             scope, depth = {**scope, tree.value: Tree("name", (), value)}, depth + 1
-        return replace(tree, parts=tuple(expanded(part, scope, depth) for part in tree.parts), value=value) if tree.parts else tree
+        return replace(tree, parts=tuple(expanded(part, scope, depth) for part in tree.parts), value=value)
 
     declared = {name: Tree("name", (), name) for name in file.variables}
     return expanded(file.goal if goal is None else goal, declared, 0)
 
 
-def uses(file) -> List[Macro]:
-    """The macros that the goal reaches, in the order of the text."""
-    seen, todo = set(), [file.goal]
-    while todo:
-        for tree in todo.pop().walk():
-            if tree.kind in ("name", "call") and tree.value in file.macros and tree.value not in seen:
-                seen.add(tree.value)
-                todo.append(file.macros[tree.value].body)
-    return [macro for macro in file.macros.values() if macro.name in seen]
-
-
 # ---- writing
 
 # How tightly each kind holds its operands; what is not here stands without parentheses anywhere.
-LEVELS = {"ex": 0, "all": 0, "iff": 1, "p_iff": 1, "implies": 2, "p_implies": 2, "or": 3, "p_or": 3, "and": 4, "p_and": 4, "chop": 5,
-          **dict.fromkeys(PREFIXES, 6), "star": 7}
+LEVELS = {"ex": 0, "all": 0, "iff": 1, "p_iff": 1, "implies": 2, "p_implies": 2, "or": 3, "p_or": 3, "and": 4, "p_and": 4,
+          "chop": 5, **dict.fromkeys(PREFIXES, 6), "star": 7}
 
 
 def to_text(tree):
@@ -376,21 +347,11 @@ def to_text(tree):
     if kind in ("name", "call"):
         return value + (f"({', '.join(map(to_text, parts))})" if parts else "")
     if kind in ("slen", "scount", "sdur"):
-        counted = "".join(operand(part, 6) + " " for part in parts)
-        return f"{kind} {counted}{value[0]} {value[1]}"
-    return kind[2:] if kind.startswith("p_") else kind
+        return " ".join([kind, *(operand(part, 6) for part in parts), value[0], str(value[1])])
+    return kind.replace("p_", "")
 
 
 def goal_text(variables, goal):
     """The text of a file without macros; the goal is a tree or a text."""
     declared = f"var {', '.join(variables)};\n" if variables else ""
     return f"{declared}infer {goal if isinstance(goal, str) else to_text(goal)};\n"
-
-
-def file_text(file):
-    """The text of a whole file, a line for each macro."""
-    lines = [f"var {', '.join(file.variables)};"] if file.variables else []
-    for macro in file.macros.values():
-        parameters = f"({', '.join(macro.parameters)})" if macro.parameters else ""
-        lines.append(f"{macro.kind} {macro.name}{parameters} as {to_text(macro.body)};")
-    return "\n".join(lines + [f"infer {to_text(file.goal)};", ""])
