@@ -309,8 +309,8 @@ class Printed:
             groups = [half for half in halves if len(half) > 1]
             left = sum(map(len, groups)) - len(groups)
             insist(left < before, self.what, f"suffix {number} tells nothing apart")
-        pair = sorted(it % len(self.automaton.rows) for it in groups[0][:2]) if left else "--"
-        insist(not left, self.what, f"no suffix tells states {pair[0]} and {pair[1]} apart")
+        pair = sorted(it % len(self.automaton.rows) for it in groups[0][:2]) if left else []
+        insist(not left, self.what, f"no suffix tells states {' and '.join(map(str, pair))} apart")
 
 
 def follow(diagram, letter):
@@ -474,27 +474,25 @@ def asked(program, command, *texts, options=(), part=False):
     return done.returncode, done.stdout.decode("latin-1")
 
 
-def verified(ask, path, shown):
-    check = Check(ask, read_text(path))
-    print(f"verified: the automaton of {shown}, {len(check.rows)} states, by {len(check.known)} parts and {check.pairs} "
-          "pairs of states\nverified: no automaton has fewer states\n"
-          "verified: how its states are numbered, and the lines of steps")
-    check.verdict()
-    print("verified: the verdict, and that no behaviours are shorter or before those shown")
-    return check
-
-
-def verify(options, ask):
-    check = verified(ask, options.file, options.shown)
+def verified(options, ask):
+    """What is verified, each line when it is."""
+    checks = []
+    for path, shown in ((options.file, options.shown), (options.other, options.other))[:1 + options.implies]:
+        check = Check(ask, read_text(path))
+        checks.append(check)
+        yield f"the automaton of {shown}, {len(check.rows)} states, by {len(check.known)} parts and {check.pairs} pairs of states"
+        yield "no automaton has fewer states"
+        yield "how its states are numbered, and the lines of steps"
+        check.verdict()
+        yield "the verdict, and that no behaviours are shorter or before those shown"
     if options.implies:
-        check.implies(verified(ask, options.other, options.other))
-        print("verified: the answer to implies")
+        checks[0].implies(checks[1])
+        yield "the answer to implies"
     if options.observer:
-        check.observers()
-        for language in ("C", "Lustre"):
-            print(f"verified: the observer in {language}, in all its states and for all letters")
+        checks[0].observers()
+        yield from (f"the observer in {language}, in all its states and for all letters" for language in ("C", "Lustre"))
     if options.inputs is not None:
-        print("verified: the " + check.synth(options.inputs))
+        yield "the " + checks[0].synth(options.inputs)
 
 
 def run(options, program):
@@ -502,7 +500,8 @@ def run(options, program):
         print("ask verify: --implies takes two files, and nothing else does", file=sys.stderr)
         return 2
     try:
-        verify(options, partial(asked, program))
+        for line in verified(options, partial(asked, program)):
+            print("verified:", line)
         return 0
     except (Wrong, Fault) as wrong:
         print("different:", *["the program takes this text, and the parser does not:"] * isinstance(wrong, Fault), wrong)
