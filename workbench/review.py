@@ -3,10 +3,9 @@ import itertools
 from dataclasses import replace
 
 import vacuity
-from language import Tree, read_text
+from language import Tree, expand, read_text, to_text
 from questions import Requirement, differing
 from waves import in_line, waves
-from language import expand, to_text
 
 MOST_WISHES = 14  # with more of them the limits of an example are lower
 

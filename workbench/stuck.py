@@ -6,9 +6,8 @@ looks at past its end is false there, so each `+` (and each `-` of one) stands f
 """
 from automaton import shortest_way
 from joined import fresh_prefix, joined, names_of
-from language import Tree
+from language import Tree, expand, goal_text, to_text
 from program import Refusal
-from language import expand, goal_text, to_text
 
 
 def looks_ahead(tree):
