@@ -10,8 +10,7 @@ import os
 import sys
 
 sys.path.insert(0, os.path.join(os.path.dirname(os.path.abspath(__file__)), "..", "workbench"))
-from language import parse, read_text
-from writing import expand
+from language import expand, parse, read_text
 
 OPERATORS = {"and": "&", "or": "|", "implies": "=>", "iff": "<=>"}
 

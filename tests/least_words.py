@@ -12,8 +12,7 @@ import os
 import sys
 
 sys.path.insert(0, os.path.join(os.path.dirname(os.path.abspath(__file__)), "..", "workbench"))
-from language import parse, read_text  # only how a text is read; what it means is said here
-from writing import expand
+from language import expand, parse, read_text  # only how a text is read; what it means is said here
 
 RELATIONS = {"=": lambda a, b: a == b, "<": lambda a, b: a < b, "<=": lambda a, b: a <= b, ">": lambda a, b: a > b, ">=": lambda a, b: a >= b}
 

@@ -63,7 +63,7 @@ def is_safety(automaton):
     """Whether what is broken once is broken for ever."""
     reached, todo = set(), [0]
     while todo:
-        for target in automaton.targets(todo.pop()) - reached:
+        for target in automaton.targets(todo.pop()).keys() - reached:
             reached.add(target)
             todo.append(target)
     return not any(automaton.accept[target] for state in reached if not automaton.accept[state] for target in automaton.targets(state))

@@ -47,7 +47,7 @@ def _spoken(variables, cube):
 
 def is_final(automaton, state):
     """Whether no letter leads out of a state."""
-    return automaton.targets(state) == {state}
+    return set(automaton.targets(state)) == {state}
 
 
 def standing(automaton, state):

@@ -1,4 +1,5 @@
 """The command `explain`: runs dcvalid on the same words and says its answer as a person reads it. The exit status is the program's."""
+import argparse
 import os
 import re
 import subprocess
@@ -7,11 +8,11 @@ import tempfile
 
 import faults
 import hints
-import plays
+from automaton import read_automaton
 from commands import PROGRAM
 from language import read_text
 from program import SCRIPT, Program, Refusal, words_of
-from waves import heading, spoken_runs, table, waves
+from waves import heading, instants, spoken_runs, table, waves
 
 WITH_VALUES = ("--states", "--nodes", "--inputs", "--to")
 HELP = """usage: explain [--table] [--show] COMMAND ..
@@ -77,7 +78,7 @@ class Explainer:
         if command == "sweep":
             return counts(output)
         if command == "synth" and answer.status == 1:
-            return plays.told(self, output)
+            return self.played(output)
         if command == "synth":
             said = "realisable: the functions below keep to the requirement for ever, whatever the inputs are"
             return [said, *output.splitlines()[1:]]
@@ -105,6 +106,19 @@ class Explainer:
         if self.digits:
             return [f"  instant {instant}: {said[answer]}" for instant, answer in enumerate(answers)]
         return [f"  {spoken_runs(answers)}", "  (1: the behaviour so far is accepted, 0: it is not)"] if answers else []
+
+    def played(self, output):
+        """A strategy that beats every controller, played out: the inputs make its moves, and the outputs hold out as long as they can."""
+        bound = int(re.search(r"^bound (\d+)$", output, re.M)[1])
+        moves = re.findall(r"^state (\d+) rank (\d+) input (\S+)$", output, re.M)
+        moves = {int(state): (int(rank), move.strip("-")) for state, rank, move in moves}
+        options = argparse.ArgumentParser(add_help=False)
+        options.add_argument("--inputs")
+        _, words = options.parse_known_args(self.question.words)
+        automaton = read_automaton(self.program.run(["automaton" if word == "synth" else word for word in words]).output)
+        return [f"unrealisable: whatever a controller does, the requirement is broken within {instants(bound)}",
+                "", "A play in which the outputs hold out as long as they can:",
+                *self.drawn(self.question.variables(), play(automaton, moves)), "Each answer to that breaks the requirement."]
 
     def parts(self, output):
         """The parts of a requirement by what they took, the largest first."""
@@ -180,6 +194,19 @@ class Explainer:
             suits = "replay-c" if other == "an observer in C" else "replay-lustre"
             return [said[kind]] + ([f"  This is {other}, which {suits} runs."] if suits != command else [])
         return [said[kind], *faults.wrong_kind(text, *right)]
+
+
+def play(automaton, moves):
+    """The letters of the play; in the last one the outputs are question marks, since each of them breaks the requirement."""
+    word, state = [], 0
+    while True:
+        move = moves[state][1]
+        places = {letter: automaton.step(state, letter) for letter in automaton.letters() if letter.startswith(move)}
+        kept = [letter for letter, place in places.items() if automaton.accept[place]]
+        if not kept:
+            return word + [move + "?" * (len(automaton.variables) - len(move))]
+        word.append(max(kept, key=lambda letter: moves[places[letter]][0]))
+        state = places[word[-1]]
 
 
 SENTENCES = (

@@ -3,8 +3,7 @@ import os
 from dataclasses import dataclass, replace
 from typing import List
 
-from language import File, parse
-from writing import to_text
+from language import File, parse, to_text
 
 MOST_NAMES = 16
 

@@ -1,12 +1,14 @@
-"""The language of formula files for scripts: tokens and trees with their places. `writing` goes the other way.
+"""The language of formula files for scripts: texts read as trees with their places, trees written back, and macros put in place.
 
 It reads texts without faults. Which fault another text has is for the program to say; `parse` only ends on it.
 A place is an offset in bytes: texts are read with a character for each byte.
 """
 import re
 import sys
-from dataclasses import dataclass, field
-from typing import Dict, Tuple
+from dataclasses import dataclass, field, replace
+from functools import lru_cache
+from itertools import chain, count
+from typing import Dict, NamedTuple, Optional, Tuple
 
 sys.setrecursionlimit(100_000)
 
@@ -15,6 +17,12 @@ RELATIONS = ("=", "<", "<=", ">", ">=")
 TOKEN = re.compile(
     r"(?P<blank>[ \t\r\n]+|//[^\n]*)|[A-Za-z][A-Za-z0-9_]*|[0-9]+"
     r"|<=>|=>|\|\||&&|\[\[|\]\]|\{\{|\}\}|<=|>=|<>|\[\]|[()\[\],;.!^*=<>+-]")
+
+# The operators of lists, the signs before an operand, and the brackets of each kind.
+LISTS = {"iff": "<=>", "or": "||", "and": "&&", "chop": "^", "p_iff": "<=>", "p_or": "||", "p_and": "&&"}
+PREFIXES = {"not": "!", "diamond": "<>", "box": "[]", "p_not": "!", "prior": "-", "next": "+"}
+BRACKETS = {"point": ("<", ">"), "run": ("[", "]"), "every": ("[[", "]]"), "unit": ("{{", "}}")}
+PROPOSITIONS = {"name", "p_true", "p_false", "p_not", "prior", "next", "p_and", "p_or", "p_implies", "p_iff"}
 
 
 class Fault(Exception):
@@ -25,8 +33,7 @@ class Fault(Exception):
         self.place = place
 
 
-@dataclass(frozen=True)
-class Token:
+class Token(NamedTuple):
     text: str
     start: int
     end: int
@@ -37,8 +44,8 @@ class Tree:
     """A proposition or a formula. Trees are equal whatever their places are.
 
     Propositions: `name` (with arguments where it is a macro), `p_true p_false p_not prior next p_and p_or p_implies p_iff`.
-    Formulas: `call` (of a macro), `point <P>`, `run [P]`, `every [[P]]`, `unit {{P}}`, `pt ext true false`, `slen scount sdur` (the
-    value is relation and number), `not diamond box star and or implies iff chop`, `ex all` (the value is the quantified name).
+    Formulas: `call` (of a macro), `point <P>`, `run [P]`, `every [[P]]`, `unit {{P}}`, `pt ext true false`, `slen scount sdur`
+    (the value is relation and number), `not diamond box star and or implies iff chop`, `ex all` (the value is the name).
     """
 
     kind: str
@@ -75,19 +82,16 @@ class File:
     variables: Tuple[str, ...]
     macros: Dict[str, Macro]  # in the order of the text
     goal: Tree
-
-
-# The operators of lists, the signs before an operand, and the brackets of each kind.
-LISTS = {"iff": "<=>", "or": "||", "and": "&&", "chop": "^", "p_iff": "<=>", "p_or": "||", "p_and": "&&"}
-PREFIXES = {"not": "!", "diamond": "<>", "box": "[]", "p_not": "!", "prior": "-", "next": "+"}
-BRACKETS = {"point": ("<", ">"), "run": ("[", "]"), "every": ("[[", "]]"), "unit": ("{{", "}}")}
-PROPOSITIONS = {"name", "p_true", "p_false", "p_not", "prior", "next", "p_and", "p_or", "p_implies", "p_iff"}
+    listed: Tuple[Macro, ...] = field(default=(), compare=False)  # the macros, also those whose name stands there again
 
 
 def read_text(path):
     """The text of a file, a character for each byte: a line ends with a line feed alone, and a comment may have any bytes."""
     with open(path, encoding="latin-1", newline="") as file:
         return file.read()
+
+
+# ---- reading
 
 
 def tokens_before(text, place):
@@ -113,47 +117,42 @@ def tokens(text):
 
 def parse(text):
     """The file that a text holds. Names are looked up nowhere: a text with a fault of names is read too."""
-    return _Parser(text).file()
+    return _Parser(text).whole(_Parser.file)
 
 
 def parse_proposition(text):
     """The proposition that a text is, as an argument of a macro would be."""
-    parser = _Parser(text)
-    tree = parser.proposition()
-    if parser.peek() is not None:
-        raise Fault(parser.place(), "a token after the proposition")
-    return tree
+    return _Parser(text).whole(_Parser.proposition)
 
 
 class _Parser:
     def __init__(self, text):
-        self.tokens = tokens(text)
-        self.length = len(text)
-        self.at = 0
+        self.tokens, self.at = tokens(text) + [Token(None, len(text), len(text))], 0
+
+    def whole(self, rule):
+        found = rule(self)
+        self.take(None)
+        return found
 
     def peek(self):
-        return self.tokens[self.at].text if self.at < len(self.tokens) else None
-
-    def place(self):
-        return self.tokens[self.at].start if self.at < len(self.tokens) else self.length
+        return self.tokens[self.at].text
 
     def take(self, *wanted):
         token = self.peek()
-        if token is None or (wanted and token not in wanted):
-            raise Fault(self.place(), f"{token or 'the end'} in place of {' '.join(wanted) or 'a token'}")
+        if token not in wanted:
+            raise Fault(self.tokens[self.at].start, f"{token or 'the end'} in place of {wanted[0]}")
         self.at += 1
         return token
 
     def has(self, *wanted):
-        if self.peek() in wanted:
-            return self.take()
-        return None
+        return self.take(*wanted) if self.peek() in wanted else None
+
+    def word(self, what, is_right):
+        """A token of a kind."""
+        return self.take(self.peek() if is_right(self.peek() or "") else what)
 
     def name(self):
-        word = self.peek()
-        if word is None or not word[0].isalpha() or word in RESERVED:
-            raise Fault(self.place(), "no name")
-        return self.take()
+        return self.word("a name", lambda word: word[:1].isalpha() and word not in RESERVED)
 
     def tree(self, first, kind, parts=(), value=None):
         """A tree whose text begins at the token with number `first` and ends before this one."""
@@ -165,126 +164,194 @@ class _Parser:
             found.append(part())
         return found
 
-    def list_of(self, kind, part):
-        first = self.at
-        parts = self.separated(part, LISTS[kind])
-        return parts[0] if len(parts) == 1 else self.tree(first, kind, parts)
+    def before(self, part, closing):
+        """A part and the token behind it."""
+        found = part()
+        self.take(closing)
+        return found
 
-    def implication(self, kind, left, right):
+    def in_parentheses(self, part):
+        return self.before(lambda: self.separated(part), ")") if self.has("(") else []
+
+    def joined(self, kinds, operand):
+        """Operands between which stand operators of these kinds."""
+        if not kinds:
+            return operand()
+        first, kind = self.at, kinds[0]
+        parts = self.separated(lambda: self.joined(kinds[1:], operand), LISTS.get(kind, ""))
+        if kind not in LISTS and self.has("=>"):
+            parts.append(self.joined(kinds, operand))
+        return self.tree(first, kind, parts) if len(parts) > 1 else parts[0]
+
+    def prefixed(self, kinds, operand):
+        """An operand, before which signs of these kinds may stand."""
         first = self.at
-        premise = left()
-        if not self.has("=>"):
-            return premise
-        return self.tree(first, kind, (premise, right()))
+        kind = next((kind for kind in kinds if self.has(PREFIXES[kind])), None)
+        return self.tree(first, kind, (self.prefixed(kinds, operand),)) if kind else operand()
 
     # ---- files
 
     def file(self):
-        variables = []
-        if self.has("var"):
-            variables = self.separated(self.name)
-            self.take(";")
-        macros = {}
-        while self.peek() in ("define", "prop"):
-            macro = self.macro()
-            macros[macro.name] = macro
+        variables = self.before(lambda: self.separated(self.name), ";") if self.has("var") else []
+        macros = [self.macro() for _ in iter(lambda: self.peek() in ("define", "prop"), False)]
         self.take("infer")
-        goal = self.formula()
-        self.take(";")
-        if self.peek() is not None:
-            raise Fault(self.place(), "a token after the goal")
-        return File(tuple(variables), macros, goal)
+        return File(tuple(variables), {macro.name: macro for macro in macros}, self.before(self.formula, ";"), tuple(macros))
 
     def macro(self):
-        start = self.place()
-        kind, name, parameters = self.take(), self.name(), []
-        if self.has("("):
-            parameters = self.separated(self.name)
-            self.take(")")
-        self.take("as")
-        body = self.formula() if kind == "define" else self.proposition()
-        self.take(";")
+        start, kind = self.tokens[self.at].start, self.take("define", "prop")
+        name, parameters, _ = self.name(), self.in_parentheses(self.name), self.take("as")
+        body = self.before(self.formula if kind == "define" else self.proposition, ";")
         return Macro(kind, name, tuple(parameters), body, start, self.tokens[self.at - 1].end)
 
     def named(self, kind):
-        first, name, arguments = self.at, self.name(), []
-        if self.has("("):
-            arguments = self.separated(self.proposition)
-            self.take(")")
-        return self.tree(first, kind, arguments, name)
+        first, name = self.at, self.name()
+        return self.tree(first, kind, self.in_parentheses(self.proposition), name)
 
-    # ---- propositions
+    # ---- propositions and formulas
 
     def proposition(self):
-        return self.list_of("p_iff", self.p_implication)
-
-    def p_implication(self):
-        return self.implication("p_implies", lambda: self.list_of("p_or", self.p_conjunction), self.p_implication)
-
-    def p_conjunction(self):
-        return self.list_of("p_and", self.p_prefix)
+        return self.joined(("p_iff", "p_implies", "p_or", "p_and"), self.p_prefix)
 
     def p_prefix(self):
-        first = self.at
-        for sign, kind in (("!", "p_not"), ("-", "prior"), ("+", "next")):
-            if self.has(sign):
-                inner = self.p_prefix()
-                return self.tree(first, kind, (inner,))
-        if self.has("("):
-            inner = self.proposition()
-            self.take(")")
-            return inner
-        if self.peek() in ("true", "false"):
-            word = self.take()
-            return self.tree(first, "p_" + word)
-        return self.named("name")
+        return self.prefixed(("p_not", "prior", "next"), self.p_atom)
 
-    # ---- formulas
+    def p_atom(self):
+        first, word = self.at, self.has("(", "true", "false")
+        if word == "(":
+            return self.before(self.proposition, ")")
+        return self.tree(first, "p_" + word) if word else self.named("name")
 
     def formula(self):
-        first = self.at
-        word = self.has("ex", "all")
+        first, word = self.at, self.has("ex", "all")
         if word is None:
-            return self.list_of("iff", self.implied)
-        name = self.name()
-        self.take(".")
-        inner = self.formula()
-        return self.tree(first, word, (inner,), name)
+            return self.joined(("iff", "implies", "or", "and", "chop"), self.f_prefix)
+        name = self.before(self.name, ".")
+        return self.tree(first, word, (self.formula(),), name)
 
-    def implied(self):
-        return self.implication("implies", lambda: self.list_of("or", self.conjunction), self.implied)
+    def f_prefix(self):
+        return self.prefixed(("not", "diamond", "box"), self.starred)
 
-    def conjunction(self):
-        return self.list_of("and", lambda: self.list_of("chop", self.prefix))
-
-    def prefix(self):
-        first = self.at
-        for sign, kind in (("!", "not"), ("<>", "diamond"), ("[]", "box")):
-            if self.has(sign):
-                inner = self.prefix()
-                return self.tree(first, kind, (inner,))
-        inner = self.atom()
+    def starred(self):
+        first, inner = self.at, self.atom()
         while self.has("*"):
             inner = self.tree(first, "star", (inner,))
         return inner
 
     def atom(self):
-        first, word = self.at, self.peek()
-        if self.has("("):
-            inner = self.formula()
-            self.take(")")
-            return inner
-        for kind, (opening, closing) in BRACKETS.items():
-            if self.has(opening):
-                inner = self.proposition()
-                self.take(closing)
-                return self.tree(first, kind, (inner,))
-        if self.has("pt", "ext", "true", "false"):
-            return self.tree(first, word)
-        if self.has("slen", "scount", "sdur"):
+        first, word = self.at, self.has("(", "pt", "ext", "true", "false", "slen", "scount", "sdur")
+        if word == "(":
+            return self.before(self.formula, ")")
+        if word in ("slen", "scount", "sdur"):
             parts = () if word == "slen" else (self.p_prefix(),)
-            relation, number = self.take(*RELATIONS), self.take()
-            if not number.isdigit():
-                raise Fault(self.tokens[self.at - 1].start, "no number")
-            return self.tree(first, word, parts, (relation, int(number)))
-        return self.named("call")
+            value = self.take(*RELATIONS), int(self.word("a number", str.isdigit))
+            return self.tree(first, word, parts, value)
+        kind = next((kind for kind, (opening, _) in BRACKETS.items() if self.has(opening)), None)
+        if kind:
+            return self.tree(first, kind, (self.before(self.proposition, BRACKETS[kind][1]),))
+        return self.tree(first, word) if word else self.named("call")
+
+
+# ---- names
+
+
+@lru_cache(maxsize=None)
+def free_names(tree):
+    """The names of a tree that it does not quantify."""
+    found = frozenset().union(*map(free_names, tree.parts))
+    return found | {tree.value} if tree.kind == "name" else found - {tree.value} if tree.kind in ("ex", "all") else found
+
+
+def check_names(text):
+    """The file of a text, in which each name is declared before it is used, is new in its scope, and is used as what it is."""
+    def fresh(names, most, others, place=0):
+        if len({*names}) < len(names) or len(names) > most or {*names} & {*others} or any(len(it) > 24 for it in names):
+            raise Fault(place, "a name that is taken, stands twice or is too long, or too many names")
+
+    def look(tree, known):
+        if tree.kind in ("name", "call") and known.get(tree.value) != (tree.kind, len(tree.parts)):
+            raise Fault(tree.start, f"{tree.value} used for what it is not")
+        if tree.kind in ("ex", "all"):
+            fresh([tree.value], 1, macros, tree.start)
+            known = {**known, tree.value: ("name", 0)}
+        for part in tree.parts:
+            look(part, known)
+
+    file, macros = parse(text), []
+    known = dict.fromkeys(file.variables, ("name", 0))
+    fresh(file.variables, 16, [])
+    for macro in file.listed:
+        macros.append(macro.name)
+        fresh(macros, 256, file.variables, macro.start)
+        fresh(macro.parameters, 8, macros, macro.start)
+        look(macro.body, {**known, **dict.fromkeys(macro.parameters, ("name", 0))})
+        known[macro.name] = "call" if macro.kind == "define" else "name", len(macro.parameters)
+    look(file.goal, known)
+    return file
+
+
+def expand(file, goal: Optional[Tree] = None, bound=None):
+    """A file's goal (or another formula over its macros) with each macro's body in the place of its call.
+
+    Quantified names are made different from the variables and from each other, so no argument is captured; or `bound` names
+    them by the number of quantifiers around them. The places of trees stay where they were written.
+    """
+    taken = {*file.variables, *file.macros}
+
+    def fresh(name):
+        names = chain([name], (f"{name[:18]}_{number}" for number in count(2)))
+        taken.add(new := next(new for new in names if new not in taken))
+        return new
+
+    def expanded(tree, scope, depth):
+        value = tree.value
+        if tree.kind in ("name", "call"):
+            if value in scope:
+                return scope[value]
+            arguments = zip(file.macros[value].parameters, [expanded(part, scope, depth) for part in tree.parts])
+            return expanded(file.macros[value].body, {**declared, **dict(arguments)}, depth)
+        if tree.kind in ("ex", "all"):
+            value = bound(depth) if bound else fresh(value)
+            scope, depth = {**scope, tree.value: Tree("name", (), value)}, depth + 1
+        return replace(tree, parts=tuple(expanded(part, scope, depth) for part in tree.parts), value=value)
+
+    declared = {name: Tree("name", (), name) for name in file.variables}
+    return expanded(file.goal if goal is None else goal, declared, 0)
+
+
+# ---- writing
+
+# How tightly each kind holds its operands; what is not here stands without parentheses anywhere.
+LEVELS = {"ex": 0, "all": 0, "iff": 1, "p_iff": 1, "implies": 2, "p_implies": 2, "or": 3, "p_or": 3, "and": 4, "p_and": 4,
+          "chop": 5, **dict.fromkeys(PREFIXES, 6), "star": 7}
+
+
+def to_text(tree):
+    """A tree as text with few parentheses: what is read back is the same tree."""
+    def operand(part, least):
+        text = to_text(part)
+        return text if LEVELS.get(part.kind, 9) >= least else f"({text})"
+
+    kind, parts, value, level = tree.kind, tree.parts, tree.value, LEVELS.get(tree.kind)
+    if kind in LISTS:
+        return f" {LISTS[kind]} ".join(operand(part, level + 1) for part in parts)
+    if kind in ("implies", "p_implies"):
+        return f"{operand(parts[0], level + 1)} => {operand(parts[1], level)}"
+    if kind in PREFIXES:
+        return PREFIXES[kind] + operand(parts[0], level)
+    if kind in BRACKETS:
+        return to_text(parts[0]).join(BRACKETS[kind])
+    if kind == "star":
+        return operand(parts[0], level) + "*"
+    if kind in ("ex", "all"):
+        return f"{kind} {value}. {to_text(parts[0])}"
+    if kind in ("name", "call"):
+        return value + (f"({', '.join(map(to_text, parts))})" if parts else "")
+    if kind in ("slen", "scount", "sdur"):
+        return " ".join([kind, *(operand(part, 6) for part in parts), value[0], str(value[1])])
+    return kind.replace("p_", "")
+
+
+def goal_text(variables, goal):
+    """The text of a file without macros; the goal is a tree or a text."""
+    declared = f"var {', '.join(variables)};\n" if variables else ""
+    return f"{declared}infer {goal if isinstance(goal, str) else to_text(goal)};\n"

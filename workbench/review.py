@@ -3,10 +3,9 @@ import itertools
 from dataclasses import replace
 
 import vacuity
-from language import Tree, read_text
-from questions import Requirement
+from language import Tree, expand, read_text, to_text
+from questions import Requirement, differing
 from waves import in_line, waves
-from writing import expand, to_text
 
 MOST_WISHES = 14  # with more of them the limits of an example are lower
 
@@ -157,7 +156,7 @@ def near_miss(requirement, goal, variable, high):
     names, place = ", ".join((*requirement.variables, twin)), requirement.variables.index(variable)
     verdict = requirement.check(f"var {names};\ninfer {once} && ({to_text(goal)}) && !({to_text(twin_of(goal, variable, twin))});\n", wide=True)
     if verdict is None:
-        return confirmed(requirement, requirement.search().shortest(place, high))
+        return confirmed(requirement, differing(requirement.automaton_read(), place, high))
     word = verdict.example
     return word and ([letter[:-1] for letter in word], [letter[:place] + letter[-1] + letter[place + 1:-1] for letter in word])
 

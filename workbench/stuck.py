@@ -4,12 +4,10 @@ It is the example of one `check`: all instants but the last keep to them, and no
 alone satisfies them. The other behaviour is a quantified copy of each variable. A beginning is judged as a behaviour of its own: what `+`
 looks at past its end is false there, so each `+` (and each `-` of one) stands for a quantified name that is defined on the stretch.
 """
-from collections import deque
-
+from automaton import shortest_way
 from joined import fresh_prefix, joined, names_of
-from language import Tree
+from language import Tree, expand, goal_text, to_text
 from program import Refusal
-from writing import expand, goal_text, to_text
 
 
 def looks_ahead(tree):
@@ -58,44 +56,11 @@ def question(requirements):
 
 def searched(automaton):
     """The same from an automaton's text: a search over the states that keep to it."""
-    before, todo = {}, deque([0])
-    seen = set()
-    while todo:
-        state = todo.popleft()
-        parent = state if state in before else None
-        goes = least_letters(automaton, state)
-        kept = {target: letter for target, letter in goes.items() if automaton.accept[target]}
-        if not kept and parent is not None:
-            return word_to(before, state)
-        for target, letter in sorted(kept.items(), key=lambda it: it[1]):
-            if target not in seen:
-                seen.add(target)
-                before[target] = (parent, letter)
-                todo.append(target)
-    return None
+    def kept(state):
+        goes = automaton.targets(0 if state is None else state)
+        return [(target, letter) for target, letter in goes.items() if automaton.accept[target]]
 
-
-def least_letters(automaton, state):
-    """For each state that one letter leads to from here, the least such letter."""
-    width, found = len(automaton.variables), {}
-    todo, seen = [(automaton.rows[state], "0" * width)], set()
-    while todo:
-        diagram, letter = todo.pop()
-        if isinstance(diagram, int):
-            found.setdefault(diagram, letter or "-")
-        elif id(diagram) not in seen:
-            seen.add(id(diagram))
-            place = diagram.variable
-            todo += [(diagram.high, f"{letter[:place]}1{letter[place + 1:]}"), (diagram.low, letter)]
-    return found
-
-
-def word_to(before, state):
-    word = []
-    while state is not None:
-        state, letter = before[state]
-        word.append(letter)
-    return word[::-1]
+    return shortest_way(None, kept, lambda state: not kept(state))
 
 
 def stuck(program, requirements):

@@ -1,5 +1,5 @@
 """The last question of `review`: parts of a requirement that do not matter, variables that decide nothing, values that never happen."""
-from writing import expand, goal_text, to_text
+from language import expand, goal_text, to_text
 
 CONSTANTS = ("true", "false", "p_true", "p_false")
 

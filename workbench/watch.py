@@ -7,7 +7,7 @@ from collections import deque
 import observers
 from language import parse, read_text
 from logs import LogFault, rows_of
-from waves import Run, runs
+from waves import Run, instants, runs
 
 PIECE = 200_000  # rows that are replayed in one run: a trace has 1,000,000 instants at most
 BEFORE, BEHIND = 6, 2  # runs of equal rows that are shown before and behind the first violation
@@ -95,10 +95,6 @@ def pieces(rows, size):
 
 
 # ---- what is said
-
-
-def instants(count):
-    return f"{count} instant" + ("" if count == 1 else "s")
 
 
 def place_of(first, last):

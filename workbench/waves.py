@@ -135,6 +135,10 @@ def spoken_runs(answers):
     return ", ".join(parts)
 
 
+def instants(number):
+    return f"{number} instant" + "s" * (number != 1)
+
+
 def heading(what, word):
     """What stands above a behaviour: what it does, and how long it is."""
-    return f"{what}, {len(word)} {'instant' if len(word) == 1 else 'instants'}:"
+    return f"{what}, {instants(len(word))}:"

@@ -2,10 +2,9 @@
 import random
 import unittest
 
-from language import Fault, Tree, parse, read_text, tokens
+from language import Fault, Tree, expand, goal_text, parse, read_text, to_text, tokens
 from program import Program, Refusal
 from support import examples, needs_program
-from writing import expand, file_text, goal_text, to_text
 
 BINARY = ("and", "or", "chop", "iff")
 
@@ -32,6 +31,15 @@ def drawn_formula(draw, depth):
         return Tree(kind, (drawn_proposition(draw, 2),))
     count = draw.randint(2, 3) if kind in BINARY else 2 if kind == "implies" else 1
     return Tree(kind, tuple(drawn_formula(draw, depth - 1) for _ in range(count)), draw.choice("xyw") if kind in ("ex", "all") else None)
+
+
+def file_text(file):
+    """The text of a whole file, a line for each macro."""
+    lines = [f"var {', '.join(file.variables)};"] if file.variables else []
+    for macro in file.listed:
+        parameters = f"({', '.join(macro.parameters)})" if macro.parameters else ""
+        lines.append(f"{macro.kind} {macro.name}{parameters} as {to_text(macro.body)};")
+    return "\n".join(lines + [f"infer {to_text(file.goal)};", ""])
 
 
 class Trees(unittest.TestCase):

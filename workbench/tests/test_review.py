@@ -1,10 +1,9 @@
 """`review`: boundaries, near misses, examples and parts that do not matter, of requirements whose answers are reasoned out by hand."""
 import unittest
 
-from language import read_text
+from language import expand, read_text
 from program import Program
 from support import PROGRAM, WithFolder, examples, needs_program, run
-from writing import expand
 
 
 @needs_program
@@ -92,7 +91,7 @@ class Review(WithFolder):
     def test_near_misses_in_the_automaton_are_as_short(self):
         """The search in an automaton's text finds pairs of the same lengths as the program does, or none where it has none."""
         import review
-        from questions import Requirement
+        from questions import Requirement, differing
         found = 0
         for path in examples():
             if any(name in path for name in ("deadlines", "edge_count", "gas_burner", "separation")):
@@ -101,7 +100,7 @@ class Review(WithFolder):
             goal = expand(requirement.file)
             for place, variable in enumerate(requirement.variables):
                 for high in (True, False):
-                    asked, searched = review.near_miss(requirement, goal, variable, high), requirement.search().shortest(place, high)
+                    asked, searched = review.near_miss(requirement, goal, variable, high), differing(requirement.automaton_read(), place, high)
                     self.assertEqual(bool(asked), bool(searched))
                     if asked and "over" not in (asked, searched):
                         found += 1
