@@ -3,8 +3,8 @@
 
     DCVALID=PROGRAM tests/rows.py FILE ..
 
-The head of `runs.rows` says how a row is written. The gate runs them by `dcv_rows`, over files and streams in memory. Rows with failing calls or
-short reads and writes are skipped here.
+The head of `runs.rows` says how a row is written. The gate runs them by `dcv_rows`, over files and streams in memory or, where a row says so, of the
+system. Rows with failing calls or short reads and writes are skipped here.
 """
 import os
 import subprocess
@@ -12,6 +12,7 @@ import sys
 import tempfile
 
 PROGRAM = os.path.abspath(os.environ.get("DCVALID", "./dcvalid"))
+EXAMPLES = os.path.realpath(os.path.join(os.path.dirname(os.path.abspath(__file__)), "..", "examples"))
 TEXTS = ("f:", "g:", "out:", "err:")
 IN_MEMORY = ("reads ", "writes ", "failing ")
 
@@ -46,6 +47,8 @@ def read(lines):
     for line in lines:
         if line.startswith("$") and words is None:
             words = line[1:].split()
+        elif line == "real":
+            pass
         elif line.startswith("status ") and status is None:
             status = int(line[7:])
         elif line in TEXTS and line not in texts:
@@ -76,6 +79,7 @@ def holds(lines):
         for name in "fg":
             if name + ":" in texts:
                 open(f"{room}/{name}", "wb").write(texts[name + ":"][0])
+        os.symlink(EXAMPLES, os.path.join(room, "examples"))
         ran = subprocess.run([PROGRAM, *words], cwd=room, capture_output=True, stdin=subprocess.DEVNULL)
     held = ran.returncode == status and fits(texts.get("out:", [b""]), ran.stdout) and fits(texts.get("err:", [b""]), ran.stderr)
     return held, f"{ran.returncode} {ran.stdout} {ran.stderr}"
