@@ -6,7 +6,7 @@ work=$(mktemp -d) || exit 1
 [ -n "${KEEP-}" ] && echo "$work" || trap 'rm -rf "$work"' EXIT
 failed=0
 
-# The stub: a kit of its own, whose rt says of each crate that it is done, fails for the crate that the file `broken` names, and
+# The stub: a kit of its own, whose rt says of each crate that it is proved, fails for the crate that the file `broken` names, and
 # leaves a program where it is to run one. Without proofs it prints its words, and ends as a program with status 4.
 mkdir "$work/bin"
 echo 'kit 1' >"$work/KIT-ID"
@@ -16,15 +16,17 @@ echo "\$*" >>"$work/calls"
 case \$1 in
   doc) echo "$work/START-HERE.md" ;;
   version) cat "$work/KIT-ID" ;;
-  all)
-    echo "rt: chose what was asked"
+  ci)
+    find . -mindepth 1 -printf '%P\n' | sort >"$work/copied"
+    sed 's/[ :].*//' crates.txt | sort >"$work/names"
+    echo 'rt: dcv_grammar is kept: an earlier run proved the same'
     for name in dcv_io dcv_word dcvalid; do
       echo "== \$name"
       [ "\$(cat "$work/broken" 2>/dev/null)" != "\$name" ] || { echo "it is not proved"; exit 1; }
-    done ;;
-  run)
-    printf '#!/usr/bin/env bash\nprintf "<%%s>" "\$@"\nexit 3\n' >out/dcvalid
-    chmod +x out/dcvalid ;;
+    done
+    mkdir crates/dcvalid/out
+    printf '#!/usr/bin/env bash\nprintf "<%%s>" "\$@"\nexit 3\n' >crates/dcvalid/out/dcvalid
+    chmod +x crates/dcvalid/out/dcvalid ;;
   try)
     while [ "\$1" != -- ]; do [ "\$1" != --data ] || echo "\$2" >>"$work/data"; shift; done
     shift
@@ -44,8 +46,8 @@ mkdir "$work/clone" || exit 1
 clone=$work/clone
 touch "$work/f" "$work/a b.dc"
 
-# how often the program was built
-calls() { grep -c "^run " "$work/calls" 2>/dev/null || [ -e "$work/calls" ] || echo 0; }
+# how often a build of the program was begun
+calls() { grep -c "^ci" "$work/calls" 2>/dev/null || [ -e "$work/calls" ] || echo 0; }
 
 # run WANTED_STATUS WANTED_OUTPUT PROGRAM WORDS..: and what it did on standard error is in $work/err
 run() {
@@ -102,7 +104,10 @@ expect 'builds for tries' 0 "$(calls)"
 run 0 "$(printf 'dcvalid, revision of no repository\nkit 1\nnot built: the first call proves and builds it')" "$clone/dcvalid" --version
 run 3 '<check><a b.dc>' "$clone/dcvalid" check 'a b.dc'
 expect 'builds of the first call' 1 "$(calls)"
-contains 'progress' '1 of .* crates are proved, .* % of the work, some .* minutes left'
+contains 'progress' '4 of .* crates are proved, .* % of the work, some .* minutes left'
+expect 'the crates that are copied' "$(cat "$work/names")" "$(sed -n 's|^crates/\([^/]*\)$|\1|p' "$work/copied")"
+expect 'crates that are not of the program' 0 "$(grep -c '^crates/\(dcv_rows\|dcv_promises\|dcv_[a-z]*_tests\|.*/must-fail\|.*/plants\)' "$work/copied")"
+expect 'the lowest and the highest crate' 2 "$(grep -cx 'dcv_io\|dcvalid' "$work/names")"
 contains 'the log' 'out/build.log'
 contains 'a quicker way' '--try'
 run 3 '<check><missing>' "$clone/dcvalid" check missing
@@ -155,7 +160,7 @@ contains 'a failed build' 'it is not proved'
 run 0 "$(printf 'dcvalid, revision of no repository\nkit 2\nbuilt, but not known to be proved of these sources: the next call proves and builds it')" "$clone/dcvalid" --version
 rm "$work/broken"
 run 3 '<check><f>' "$clone/dcvalid" check f
-expect 'builds after a failed build' 7 "$(calls)"
+expect 'builds after a failed build' 8 "$(calls)"
 
 [ "$failed" -eq 0 ] && echo 'all passed'
 exit "$failed"
