@@ -10,7 +10,8 @@ import os
 import sys
 
 sys.path.insert(0, os.path.join(os.path.dirname(os.path.abspath(__file__)), "..", "workbench"))
-from language import expand, parse, read_text
+from language import parse, read_text
+from names import expand
 
 OPERATORS = {"and": "&", "or": "|", "implies": "=>", "iff": "<=>"}
 

@@ -12,7 +12,8 @@ import os
 import sys
 
 sys.path.insert(0, os.path.join(os.path.dirname(os.path.abspath(__file__)), "..", "workbench"))
-from language import expand, parse, read_text  # only how a text is read; what it means is said here
+from language import parse, read_text  # only how a text is read; what it means is said here
+from names import expand
 
 RELATIONS = {"=": lambda a, b: a == b, "<": lambda a, b: a < b, "<=": lambda a, b: a <= b, ">": lambda a, b: a > b, ">=": lambda a, b: a >= b}
 

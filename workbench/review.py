@@ -3,7 +3,8 @@ import itertools
 from dataclasses import replace
 
 import vacuity
-from language import Tree, expand, read_text, to_text
+from language import Tree, read_text, to_text
+from names import expand
 from questions import Requirement, differing
 from waves import in_line, waves
 

@@ -6,7 +6,8 @@ looks at past its end is false there, so each `+` (and each `-` of one) stands f
 """
 from automaton import shortest_way
 from joined import fresh_prefix, joined, names_of
-from language import Tree, expand, goal_text, to_text
+from language import Tree, goal_text, to_text
+from names import expand
 from program import Refusal
 
 

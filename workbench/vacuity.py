@@ -1,5 +1,6 @@
 """The last question of `review`: parts of a requirement that do not matter, variables that decide nothing, values that never happen."""
-from language import expand, goal_text, to_text
+from language import goal_text, to_text
+from names import expand
 
 CONSTANTS = ("true", "false", "p_true", "p_false")
 

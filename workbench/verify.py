@@ -14,7 +14,8 @@ from functools import lru_cache, partial, reduce
 from itertools import count, groupby, zip_longest
 from pathlib import Path
 
-from language import LISTS, Fault, Tree, check_names, expand, free_names, parse, read_text, to_text
+from language import LISTS, Fault, Tree, parse, read_text, to_text
+from names import check_names, expand, free_names
 
 QUANTIFIED, NEVER = 1_000, 1_000_000  # a quantifier in n others has the variable QUANTIFIED + n, and none has NEVER
 

@@ -2,7 +2,8 @@
 import random
 import unittest
 
-from language import Fault, Tree, expand, goal_text, parse, read_text, to_text, tokens
+from language import Fault, Tree, goal_text, parse, read_text, to_text, tokens
+from names import expand
 from program import Program, Refusal
 from support import examples, needs_program
 

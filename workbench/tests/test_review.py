@@ -1,7 +1,8 @@
 """`review`: boundaries, near misses, examples and parts that do not matter, of requirements whose answers are reasoned out by hand."""
 import unittest
 
-from language import expand, read_text
+from language import read_text
+from names import expand
 from program import Program
 from support import PROGRAM, WithFolder, examples, needs_program, run
 

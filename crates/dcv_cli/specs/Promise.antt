@@ -1,11 +1,13 @@
 -- What a run promises.
 --     Seen               what is seen of the files and of both streams
 --     Promise words ..   how a run of these words ends, between what is seen before it and after it
-use Rattle.std.specs.Prelude.{◌≡◌, ◌⊎◌, ℕ, true, List, [], Option, IsTrue, IsFalse}
+--     not_utf8           what is said where the arguments of the process are no text
+use Rattle.std.specs.Prelude.{◌≡◌, ◌⊎◌, ℕ, true, List, [], Option, IsTrue, IsFalse, codes}
 use Rattle.std.specs.Bool.{OnTrue}
 use Rattle.dcv_io.specs.Disk.{Disk, held_of}
 use Rattle.dcv_io.specs.Faults.{has_risen, RisesIf}
 use Rattle.dcv_io.specs.Written.{Appends}
+use Rattle.dcv_language.specs.VerdictText.{line}
 use Rattle.clap.specs.Words.{takes}
 use Rattle.dcv_command.specs.Program.{program}
 use Rattle.dcv_command.specs.Request.{Request, IsTaken}
@@ -63,3 +65,6 @@ pub record Promise (words : List (List ℕ)) (status : Status) (before after : S
   pub left : OnTrue (is_input status) (LeavesOver words before.outside after.outside)
   -- What the files hold stays.
   pub held : held_of after.outside.told ≡ held_of before.outside.told
+
+abbrev pub not_utf8 : List ℕ
+not_utf8 = line (codes "the arguments are not UTF-8 text")

@@ -1,17 +1,21 @@
 // The program: from the arguments of its process to the exit code.
-ghost use Rattle.std.specs.Prelude.{◌≡◌, ◌≢◌, [], map, drop, IfOk, OnErr, IfErr};
+ghost use Rattle.std.specs.Prelude.{◌≡◌, ◌≢◌, map, drop, IfOk, OnErr, IfErr};
 ghost use Rattle.std.specs.Process.{exit_status};
 ghost use Rattle.std.specs.String.{string_bytes};
-ghost use Rattle.dcv_io.specs.Written.{Appends};
-ghost use Rattle.dcv_cli.specs.Promise.{Promise, seen};
+ghost use Rattle.dcv_cli.specs.Ending.{Tells};
+ghost use Rattle.dcv_cli.specs.Outside.{outside};
+ghost use Rattle.dcv_cli.specs.Promise.{Promise, seen, not_utf8};
+ghost use Rattle.dcv_cli.specs.Refusal.{message_of, only};
 ghost use Rattle.dcv_cli.specs.Status.{code_of};
+ghost use Rattle.dcv_cli.specs.declared.refusal.Refusal.TheVariants.{Memory};
 
 use crate::refusal::Refusal;
 use crate::refused::Which;
 use crate::running::{refuse, run};
 use crate::status::Status;
+use crate::telling::write_pieces;
 use crate::words::Words;
-use dcv_io::{Files, Sink, write_all};
+use dcv_io::{Files, Sink};
 use std::alloc::Global;
 use std::io::ErrorKind;
 use std::process::ExitCode;
@@ -29,11 +33,16 @@ pub fn program<F: Files, O: Sink, E: Sink>(
         (seen (F.told files.old) (F.asked files.old) (F.open_faults files.old) (F.read_faults files.old) (O.written out.old) (O.faults out.old) (E.written err.old) (E.faults err.old))
         (seen (F.told files.new) (F.asked files.new) (F.open_faults files.new) (F.read_faults files.new) (O.written out.new) (O.faults out.new) (E.written err.new) (E.faults err.new))) }
 
-    // Without arguments no file is asked for and nothing is reported.
+    // Without arguments the messages have a line, and all else stays as it was.
     ensures memory { IfErr arguments.entry (λ kind. kind ≡ ErrorKind.OutOfMemory → exit_status result ≡ 7) }
+    ensures memory_message { IfErr arguments.entry (λ kind. kind ≡ ErrorKind.OutOfMemory →
+        Tells (message_of (only Memory)) (E.written err.old) (E.written err.new) (E.faults err.old) (E.faults err.new)) }
     ensures usage { IfErr arguments.entry (λ kind. kind ≢ ErrorKind.OutOfMemory → exit_status result ≡ 2) }
-    ensures files { OnErr arguments.entry (F.told files.new ≡ F.told files.old × F.asked files.new ≡ F.asked files.old) }
-    ensures out { OnErr arguments.entry (Appends (O.written out.old) (O.written out.new) []) }
+    ensures usage_message { IfErr arguments.entry (λ kind. kind ≢ ErrorKind.OutOfMemory →
+        Tells not_utf8 (E.written err.old) (E.written err.new) (E.faults err.old) (E.faults err.new)) }
+    ensures untouched { OnErr arguments.entry (
+        outside (F.told files.new) (F.asked files.new) (F.open_faults files.new) (F.read_faults files.new) (O.written out.new) (O.faults out.new)
+        ≡ outside (F.told files.old) (F.asked files.old) (F.open_faults files.old) (F.read_faults files.old) (O.written out.old) (O.faults out.old)) }
 {
     let status = match arguments {
         Ok(arguments) => run_arguments(alloc, arguments, files, out, err),
@@ -63,12 +72,21 @@ fn run_arguments<F: Files, O: Sink, E: Sink>(
 // Says why there are no arguments.
 fn refuse_all<E: Sink>(err: &mut E, kind: ErrorKind) -> Status
     ensures memory { kind ≡ ErrorKind.OutOfMemory → result ≡ Status.Memory }
+    ensures memory_message { kind ≡ ErrorKind.OutOfMemory →
+        Tells (message_of (only Memory)) (E.written err.old) (E.written err.new) (E.faults err.old) (E.faults err.new) }
     ensures usage { kind ≢ ErrorKind.OutOfMemory → result ≡ Status.Usage }
+    ensures usage_message { kind ≢ ErrorKind.OutOfMemory → Tells not_utf8 (E.written err.old) (E.written err.new) (E.faults err.old) (E.faults err.new) }
 {
     if kind == ErrorKind::OutOfMemory {
         return refuse(err, Refusal::Memory.of(Which::Only));
     }
-    // A message that cannot be written changes nothing.
-    let _ = write_all(err, b"the arguments are not UTF-8 text\n");
+    say_not_utf8(err);
     Status::Usage
+}
+
+// A message that cannot be written changes nothing.
+fn say_not_utf8<E: Sink>(err: &mut E)
+    ensures { Tells not_utf8 (E.written err.old) (E.written err.new) (E.faults err.old) (E.faults err.new) }
+{
+    let _ = write_pieces(err, &[b"the arguments are not UTF-8 text\n"]);
 }
