@@ -3,12 +3,11 @@ use Rattle.std.proofs.Common.{◌≡◌, ℕ, ◌<◌, ◌≤◌, Bool, List, []
 use Rattle.std.proofs.lemmas.Result.{IfOk-weaker}
 use Rattle.dcv_arena.specs.Arena.{ArenaValue, IsArena, IsRef, KeepsRefs, AddsOnlyNodesOfFunction, count_with}
 use Rattle.dcv_arena.specs.declared.nodes.Ref.{Ref}
-use Rattle.dcv_arena.proofs.Growth.{keeps_all}
 use Rattle.dcv_apply.specs.declared.faults.ApplyFault.{ApplyFault}
-use Rattle.dcv_apply.specs.declared.faults.ApplyFault.TheVariants.{Full, States, Memory}
+use Rattle.dcv_apply.specs.declared.faults.ApplyFault.TheVariants.{Full, States}
 use Rattle.dcv_arena.specs.Pointwise.{MeansMerged, AgreesBehind}
 use Rattle.dcv_apply.specs.Merged.{AgreesWithMerged, IsApplied}
-use Rattle.dcv_arena.proofs.Sides.{adds_nothing, adds_root}
+use Rattle.dcv_arena.proofs.Sides.{adds_root}
 
 module _ (gives : List ℕ → ℕ → Type 0) (numbers : List Bool → List ℕ) where
   pub from_start : (slots : ℕ) (function : List Bool → ℕ) → AgreesWithMerged gives numbers slots function → AgreesBehind gives numbers slots [] function
@@ -33,19 +32,5 @@ module _ (gives : List ℕ → ℕ → Type 0) (numbers : List Bool → List ℕ
     full = λ limit function e agrees. full limit [] function e (omega arith) (from_start old.slots function agrees);
     states = states;
     kept = kept;
-    arena = is;
-  }
-
-  -- where memory ran out before anything was done
-  pub applied_nothing : (arena : ArenaValue) (too_many : ℕ → Type 0) → IsArena arena → IsApplied gives too_many numbers arena arena (Err Memory)
-  applied_nothing arena too_many is = record {
-    is_ref = tt;
-    value = tt;
-    adds = tt;
-    stray = λ function agrees. adds_nothing arena function;
-    limit = λ limit e. cc;
-    full = λ limit function e agrees. cc;
-    states = λ limit e. cc;
-    kept = keeps_all arena;
     arena = is;
   }

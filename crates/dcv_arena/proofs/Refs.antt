@@ -18,9 +18,6 @@ no_node = record { slot = 0; lo = Leaf 0; hi = Leaf 0 }
 abbrev pub AgreeFrom : ℕ → List Bool → List Bool → Type 0
 AgreeFrom level first second = (slot : ℕ) → level ≤ slot → get_or first slot false ≡ get_or second slot false
 
-agree_later : (level later : ℕ) (first second : List Bool) → level ≤ later → AgreeFrom level first second → AgreeFrom later first second
-agree_later level later first second h same slot from = same slot (omega arith)
-
 -- changing a slot leaves the later ones
 agree_after_set : (letter : List Bool) (slot : ℕ) (value : Bool) → AgreeFrom (suc slot) (set letter slot value) letter
 agree_after_set letter slot value later from =

@@ -11,7 +11,7 @@ use Rattle.dcv_syntax.specs.declared.propositions.Connective.{Connective}
 use Rattle.dcv_logic.specs.Connectives.{joins}
 use Rattle.dcv_atoms.specs.Parts.{number_of_truth, parts, all_parts}
 use Rattle.dcv_renumber.specs.Renumbered.{renumbered}
-use Rattle.dcv_atoms.specs.Functions.{FunctionValue, Means, HasTruths, number_joined}
+use Rattle.dcv_atoms.specs.Functions.{FunctionValue, Means, number_joined}
 
 -- ---- truths as numbers
 
@@ -33,15 +33,6 @@ itself_listed (suc (suc number)) small = absurd (omega (arith, small))
 pub turned : (holds : Bool) → get_or (1 ∷ 0 ∷ []) (number_of_truth holds) 0 ≡ number_of_truth (not holds)
 turned true = refl
 turned false = refl
-
-pub turned_small : (number : ℕ) → get_or (1 ∷ 0 ∷ []) number 0 < 2
-turned_small zero = omega arith
-turned_small (suc zero) = omega arith
-turned_small (suc (suc number)) = omega arith
-
--- the numbers of a function that a test stands for
-pub means_truths : (arena : ArenaValue) (root : Ref) (P : List Bool → Bool) → Means arena root arena.slots P → HasTruths arena root
-means_truths arena root P means letter size = subst (λ number. number < 2) (sym (means.value letter size)) (is_small (P letter))
 
 -- functions that agree have as many nodes with an arena
 pub same_count_with : (arena : ArenaValue) (f g : List Bool → ℕ) → ((letter : List Bool) → length letter ≡ arena.slots → f letter ≡ g letter)

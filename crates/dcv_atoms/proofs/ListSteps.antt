@@ -12,11 +12,11 @@ use Rattle.dcv_core.specs.Holds.{truth_holds}
 use Rattle.dcv_core.specs.TruthViews.{plain_truth, truths_of}
 use Rattle.dcv_atoms.specs.declared.faults.AtomFault.{AtomFault}
 use Rattle.dcv_syntax.specs.declared.propositions.Connective.{Connective}
-use Rattle.dcv_logic.specs.Connectives.{joins, of_none}
+use Rattle.dcv_logic.specs.Connectives.{joins}
 use Rattle.dcv_atoms.specs.Parts.{parts, number_at}
 use Rattle.dcv_atoms.specs.Functions.{Means}
 use Rattle.dcv_atoms.specs.Built.{Builds, Exceeds, OnTheWay}
-use Rattle.dcv_atoms.proofs.Building.{builds_one, builds_in_turn, builds_nothing, exceeds_one, exceeds_more, exceeds_after, leads_itself, leads_on, leads_over}
+use Rattle.dcv_atoms.proofs.Building.{builds_one, builds_in_turn, builds_nothing, exceeds_one, exceeds_more, exceeds_after, leads_on, leads_over}
 use Rattle.dcv_atoms.proofs.Joining.{list_parts, means_alike}
 
 -- what a fact gives that holds where a call succeeds
@@ -54,16 +54,6 @@ pub operand_exceeds : (old : ArenaValue) (first : List PlainTruth) (whole : Plai
 operand_exceeds old first whole limit same more = subst (λ listed. Exceeds old listed limit) same (exceeds_more old first (whole ∷ []) limit more)
 
 -- ---- the operands of a list
-
-pub way_begins : (old : ArenaValue) (connective : Connective) (listed : List PlainTruth) (all : ArenaValue) (root : Ref) → IsArena old → Means all root old.slots (λ letter. of_none connective)
-    → OnTheWay old old connective listed listed all root
-way_begins old connective listed all root is means = record {
-  arena = is;
-  leads = leads_itself old (flat_map parts listed);
-  so_far = λ letter. of_none connective;
-  means = means;
-  rest = λ letter. refl;
-}
 
 pub way_goes_on : (old here there : ArenaValue) (connective : Connective) (listed left : List PlainTruth) (p : PlainTruth) (all next : ArenaValue) (root part after : Ref)
     → OnTheWay old here connective listed (p ∷ left) all root

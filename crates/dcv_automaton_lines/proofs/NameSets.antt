@@ -1,17 +1,13 @@
 -- The names of the line of variables: where a text is stuck in them, and how they are read one after another.
 use Rattle.std.proofs.Common.{◌≡◌, ℕ, zero, suc, ◌<◌, Bool, true, false, not, get_or, List, [], ◌∷◌, ◌++◌, ◌⊎◌, inl, inr, length, refl, sym, ap, ◌∙◌, subst, arith}
-use Rattle.std.specs.Prelude.{codes, if◌then◌else◌, Result, Ok, Err}
+use Rattle.std.specs.Prelude.{codes, if◌then◌else◌}
 use Rattle.std.specs.List.{All}
-use Rattle.std.specs.Result.{IsErrAnd}
 use Rattle.std.proofs.lemmas.List.{append_assoc, length-append}
 use Rattle.std.proofs.lemmas.List.Elements.{All-push}
 use Rattle.dcv_automaton_text.specs.Form.{is_visible, IsNameWord}
 use Rattle.dcv_automaton_lines.specs.Pieces.{AreVisible, IsNoFurther, IsStuckIn}
 use Rattle.dcv_automaton_lines.specs.Parts.{NameWord, Words, LastWord, NextWord, words_then}
-use Rattle.dcv_automaton_lines.specs.Stops.{IsEnd, IsStuckStop}
-use Rattle.dcv_automaton_lines.specs.declared.stop.Stuck.{Stuck}
-use Rattle.dcv_automaton_lines.specs.declared.stop.Stop.{Stop}
-use Rattle.dcv_automaton_lines.specs.declared.stop.Stop.TheVariants.{Syntax, Memory}
+use Rattle.dcv_automaton_lines.specs.Stops.{IsEnd}
 use Rattle.dcv_automaton_lines.proofs.Pieces.{cut_by, not_within, Leads, HasNoLonger, stuck_after}
 use Rattle.dcv_automaton_lines.proofs.WordSets.{name_words, name_is, end_is_invisible, AtFront}
 
@@ -202,9 +198,3 @@ the_words text (NextWord _ word more name words whole) =
     }
 
 -- ---- exits
-
-pub stuck_stops : {T : Type 0} (P : List ℕ → Type 0) (text : List ℕ) (result : Result T Stop) (stuck : Stuck) → IsErrAnd result (λ e. e ≡ Syntax stuck) → IsStuckIn P text stuck.left.now
-    → IsStuckStop P text result
-stuck_stops P text (Ok read) stuck is here = absurd is
-stuck_stops P text (Err (Syntax other)) stuck is here = subst (λ (e : Stuck). IsStuckIn P text e.left.now) (sym (let same : other ≡ stuck = cc in same)) here
-stuck_stops P text (Err Memory) stuck is here = tt

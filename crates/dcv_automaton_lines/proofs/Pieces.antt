@@ -231,13 +231,6 @@ module _ {P : List ℕ → Type 0} {Q : List ℕ → Type 0} where
         stuck = no_further_either _ _ stuck.front left (no_further_away away stuck.front left stuck.cut) stuck.stuck;
       }
 
-  pub away_either : {text : List ℕ} → IsAway P text → IsAway Q text → IsAway (Either P Q) text
-  away_either p q =
-      record {
-        differs = λ b rest more is same. elim is.which [ inl one ↦ p.differs b rest more one same | inr other ↦ q.differs b rest more other same ];
-        some = λ is. elim is.which [ inl one ↦ p.some one | inr other ↦ q.some other ];
-      }
-
   pub no_longer_either : HasNoLonger P → HasNoLonger Q → ((one other rest other_rest : List ℕ) → P one → Q other → one ++ rest ≡ other ++ other_rest → ⊥) → HasNoLonger (Either P Q)
   no_longer_either p q apart =
       record {

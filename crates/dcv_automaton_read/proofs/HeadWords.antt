@@ -69,8 +69,5 @@ module _ {Whole : Type 0} (file : AutomatonFile) (answer : Result Whole Stop) wh
 pub end_kept : (file : AutomatonFile) (first next : ℕ) (kept : Bool) → kept ≡ (has_all_access file && has_all_steps file.steps) → IsJudged (first_false first (kept ∷ [])) (first + 1) (Ok next) → first_word first (end_part file) ≡ None
 end_kept file first next kept same judged = subst (λ one. first_false first (one ∷ []) ≡ None) same judged.0
 
-pub judged_whole : {Whole : Type 0} (found : Option ℕ) (result : Result Whole Stop) (whole : Whole) → result ≡ Ok whole → IsJudgedWhole found result → found ≡ None
-judged_whole found result whole is judged = subst (IsJudgedWhole found) is judged
-
 pub judged_stop : {Whole : Type 0} (found : Option ℕ) (result : Result Whole Stop) (number : ℕ) → result ≡ Err (Word number) → IsJudgedWhole found result → found ≡ Some number
 judged_stop found result number is judged = subst (IsJudgedWhole found) is judged

@@ -24,7 +24,7 @@ use Rattle.dcv_build.specs.declared.asked.Answer.{Answer}
 use Rattle.dcv_build.specs.declared.asked.Asked.{Asked}
 use Rattle.dcv_build.specs.declared.asked.Asked.TheVariants.{And, Or, Iff, Chop, Star, Exists}
 use Rattle.dcv_build.specs.declared.faults.BuildFault.{BuildFault}
-use Rattle.dcv_build.specs.declared.faults.BuildFault.TheVariants.{States, Nodes, Memory}
+use Rattle.dcv_build.specs.declared.faults.BuildFault.TheVariants.{States, Nodes}
 use Rattle.dcv_build.specs.declared.settling.Made.{Made}
 use Rattle.dcv_build.specs.contracts.asked.AskedPartialEq.TheImpl.{eq-value as asked_eq}
 use Rattle.dcv_build.proofs.ShelfTables.{at_of, at_kept, within_kept}
@@ -32,12 +32,6 @@ use Rattle.dcv_build.proofs.ShelfTables.{at_of, at_kept, within_kept}
 -- ---- what a call answers
 
 module _ {S : Type 0} (machine : WorkingMachine S) (parts : ℕ) (limits : Limits) (step : ℕ) (shelf : List ShelfTable) where
-  pub answers_ok : (answer : Answer) → IsFor machine parts limits shelf answer → Answers machine parts limits step shelf (Ok answer)
-  answers_ok answer is = record { built = is; states = λ at limit same. absurd cc; nodes = λ at limit same. absurd cc }
-
-  pub answers_memory : Answers machine parts limits step shelf (Err Memory)
-  answers_memory = record { built = tt; states = λ at limit same. absurd cc; nodes = λ at limit same. absurd cc }
-
   fault_answers : (result : Result Made BuildFault) → Settles machine parts limits step result → (fault : BuildFault) → result ≡ Err fault → Answers machine parts limits step shelf (Err fault)
   fault_answers result settles fault is = record {
     built = tt;
@@ -50,9 +44,6 @@ module _ {S : Type 0} (machine : WorkingMachine S) (parts : ℕ) (limits : Limit
       → (answered : Result Answer BuildFault) → answered ≡ Err given → given ≡ own → Answers machine parts limits step shelf answered
   answers_fault result settles given own is answered handed same =
       subst (Answers machine parts limits step shelf) (sym (handed ∙ ap Err same)) (fault_answers result settles own is)
-
-  pub answers_no_memory : (given : BuildFault) (answered : Result Answer BuildFault) → answered ≡ Err given → given ≡ Memory → Answers machine parts limits step shelf answered
-  answers_no_memory given answered handed same = subst (Answers machine parts limits step shelf) (sym (handed ∙ ap Err same)) answers_memory
 
   pub answer_within : (result : Result Answer BuildFault) → Answers machine parts limits step shelf result → IfOk result (λ answer. answer.number < length shelf)
   answer_within (Ok answer) answers = slice_get_within shelf answer.number answers.built.one answers.built.there

@@ -1,5 +1,5 @@
 -- What the step of a core asks of the numbers that wait, and what its answer is to the budget, whatever tree the core has the steps of.
-use Rattle.std.proofs.Common.{◌≡◌, ℕ, suc, ◌+◌, ◌-◌, ◌<◌, List, [], ◌∷◌, ◌++◌, length, get_or, reverse, Some, slice_get, Result, Ok, Err, refl, sym, ap, subst, ◌∙◌, arith}
+use Rattle.std.proofs.Common.{◌≡◌, ℕ, suc, ◌+◌, ◌-◌, ◌<◌, List, [], ◌∷◌, ◌++◌, length, get_or, reverse, Some, slice_get, Result, Ok, refl, sym, ap, subst, ◌∙◌, arith}
 use Rattle.std.specs.Option.{option_map}
 use Rattle.std.proofs.lemmas.List.{length-map, map-append, append-nil}
 use Rattle.std.proofs.lemmas.Option.{slice_get-map}
@@ -26,7 +26,6 @@ use Rattle.dcv_build.specs.declared.asked.Answer.{Answer}
 use Rattle.dcv_build.specs.declared.asked.Asked.{Asked}
 use Rattle.dcv_build.specs.declared.asked.Asked.TheVariants.{And, Or, Iff, Chop, Star, Exists}
 use Rattle.dcv_build.specs.declared.faults.BuildFault.{BuildFault}
-use Rattle.dcv_build.specs.declared.faults.BuildFault.TheVariants.{Memory}
 use Rattle.dcv_build.specs.declared.settling.Made.{Made}
 use Rattle.dcv_build.specs.Asked.{at_number, tables_at, AreThere, plain_tables, asked_row, AreTwo, IsWide, AreOperands, SettlesAsked, AnswersAsked, IsTurned}
 use Rattle.dcv_build.specs.Building.{AreWaiting, HasBuilt, IsNext, Goes, Makes, ForTree}
@@ -248,10 +247,6 @@ module _ (k : ℕ) (tree : CoreTree) (limits : Limits) (n : ℕ) (shelf : List S
             states = λ at limit same. absurd cc;
             nodes = λ at limit same. absurd cc;
           })
-
-pub memory_goes : (steps : List PlainStep) (limits : Limits) (n : ℕ) (waiting : List ShelfTable) (counts : List Count) (shelf : List ShelfTable)
-    → Goes steps limits n waiting counts shelf (Err Memory)
-memory_goes steps limits n waiting counts shelf = record { built = tt; states = λ at limit same. absurd cc; nodes = λ at limit same. absurd cc }
 
 -- ---- at a step of a core
 

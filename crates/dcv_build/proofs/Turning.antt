@@ -59,9 +59,6 @@ more_turn core n d here behind number from within = pick (eq-or-lt_of_le from)
     pick (inl same) = (d, subst (λ place. Here core place (OpNot d)) same here)
     pick (inr more) = behind number (omega (arith, more)) within
 
-pub later_turn : (core : PlainCore) (n m : ℕ) → n ≤ m → TurnFrom core n → TurnFrom core m
-later_turn core n m before turn number from within = turn number (omega (arith, before, from)) within
-
 -- ---- its automaton
 
 pub made_goal : (core : PlainCore) (limits : Limits) (n : ℕ) (waiting : List ShelfTable) (counts new : List Count) (result : Result Made BuildFault) (made : Made) → result ≡ Ok made

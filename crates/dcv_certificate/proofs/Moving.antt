@@ -1,7 +1,6 @@
 -- Blocks after states were given new numbers.
-use Rattle.std.proofs.Common.{◌≡◌, ◌≢◌, ◌⊎◌, inl, inr, ◌↔◌, ℕ, zero, suc, ◌<◌, ◌≤◌, ◌+◌, ◌==◌, Bool, true, false, cond, nat_eq, List, [], ◌∷◌, ◌++◌, length, get_or, set, take, All, Option, Some, None, SomeIff, Result, Ok, Err, IfOk, slice_get, refl, ap, sym, subst, ◌∙◌, arith}
+use Rattle.std.proofs.Common.{◌≡◌, ◌≢◌, ◌⊎◌, inl, inr, ◌↔◌, ℕ, zero, suc, ◌<◌, ◌≤◌, ◌+◌, ◌==◌, Bool, true, false, cond, nat_eq, List, [], ◌∷◌, ◌++◌, length, get_or, set, take, All, Option, Some, None, SomeIff, slice_get, refl, ap, sym, subst, ◌∙◌, arith}
 use Rattle.std.specs.List.{list_any, AllByRecursion, IsDistinct}
-use Rattle.std.specs.Result.{result_ok}
 use Rattle.indexmap.specs.IndexSet.{insert_key}
 use Rattle.std.proofs.lemmas.Bool.{cases_lt, cases_eq, cases_Bool, true≢false, eqb-true, eq-eqb, ne_eqb}
 use Rattle.std.proofs.lemmas.List.{get_or-set_same, get_or-set_other, length-set, length-append, get_or_default}
@@ -76,11 +75,6 @@ moved_behind count block place number key old new below is distinct at same sum 
       stays = λ h. absurd (omega arith);
       grown = grown_by count block place number old new is (once_each new distinct) there sum;
     }
-
-pub if_ok_some : {E : Type 0} (result : Result ℕ E) (sum : Option ℕ) (C : Type 0) (value : ℕ) (P : ℕ → Type 0) → sum ≡ result_ok result → SomeIff sum C value → P value → IfOk result P
-if_ok_some (Err e) sum C value P same is p = tt
-if_ok_some (Ok x) None C value P same is p = absurd cc
-if_ok_some (Ok x) (Some y) C value P same is p = subst P (sym is.1 ∙ same_Some y x same) p
 
 pub some_is : (sum : Option ℕ) (C : Type 0) (value x : ℕ) → SomeIff sum C value → sum ≡ Some x → x ≡ value
 some_is None C value x is e = absurd cc

@@ -75,16 +75,6 @@ module _ (width : ℕ) (nodes : List Node) where
     child_value (State number) letter earlier = refl
     child_value (AtNode number) letter earlier = are.values number letter earlier
 
-  pub no_refs : (arena : ArenaValue) (refs : List Ref) → IsArena arena → arena.slots ≡ width → refs ≡ [] → AreRefsOf width nodes 0 arena refs
-  no_refs arena refs is slots none = record {
-    is_arena = is;
-    slots = slots;
-    size = ap length none;
-    refs_are = λ place before. absurd (omega (arith, before));
-    levels = λ place before. absurd (omega (arith, before));
-    values = λ place letter before. absurd (omega (arith, before));
-  }
-
   module _ (all : AreNodes width nodes) (count : ℕ) (old new : ArenaValue) (refs : List Ref) (made : Ref) (within : count < length nodes) (so_far : AreRefsOf width nodes count old refs)
       (kept : KeepsRefs old new) where
     abbrev node : Node

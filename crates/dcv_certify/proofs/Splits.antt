@@ -1,7 +1,7 @@
 -- Classes of entries, split by a column of bits.
 use Rattle.std.proofs.Common.{◌≡◌, ◌≢◌, ◌⊎◌, inl, inr, ⊎_elim, ℕ, ◌+◌, ◌<◌, ◌≤◌, Bool, true, false, List, [], ◌∷◌, ◌++◌, length, get_or, set, replicate, Option, None, Some, refl, ap, sym, ◌∙◌, subst, arith}
-use Rattle.std.proofs.lemmas.Bool.{cases_lt, cases_order}
-use Rattle.std.proofs.lemmas.List.{length-append, length-set, length-replicate, get_or_push, get_or_append_left, get_or_past, get_or-replicate, get_or-set_same, get_or-set_other}
+use Rattle.std.proofs.lemmas.Bool.{cases_lt}
+use Rattle.std.proofs.lemmas.List.{length-append, length-replicate, get_or_push, get_or_append_left, get_or_past, get_or-replicate, get_or-set_same, get_or-set_other}
 use Rattle.dcv_certify.specs.Split.{number_at, bit_at, AreOwn, IsLeastWith, IsSplit, IsFirstMoved, IsMoved, HasMoved}
 
 -- of three truths two are the same
@@ -46,33 +46,6 @@ module _ (old : List ℕ) (column : List Bool) (own : AreOwn old) where
   -- one entry more
   later : (place class first : ℕ) → IsFirstMoved old column place class first → IsFirstMoved old column (place + 1) class first
   later place class first moved = record { before = omega (arith, moved.before); of_class = moved.of_class; leaves = moved.leaves; none_before = moved.none_before }
-
-  -- where the entry at this place stays in its class, or some have left it already
-  pub kept_moved : (entry : ℕ) (moved : List (Option ℕ)) → HasMoved old column entry moved
-      → (get_or moved (number_at old entry) None ≡ None → bit_at column entry ≡ bit_at column (number_at old entry)) → HasMoved old column (entry + 1) moved
-  kept_moved entry moved has stays_there = record { count = has.count; each = λ class within. by class (get_or moved class None) refl (has.each class within) }
-    where
-      by : (class : ℕ) (one : Option ℕ) → get_or moved class None ≡ one → IsMoved old column entry class one → IsMoved old column (entry + 1) class one
-      by class (Some first) e is = later entry class first is
-      by class None e is = λ other before of_class. elim (cases_lt other entry) [
-        | inl less ↦ is other less of_class
-        | inr more ↦
-            let same : other ≡ entry = omega arith in
-            let here : number_at old entry ≡ class = ap (number_at old) (sym same) ∙ of_class in
-            ap (bit_at column) same ∙ stays_there (ap (λ c. get_or moved c None) here ∙ e) ∙ ap (bit_at column) here
-      ]
-
-  -- where it is the first that leaves
-  pub set_moved : (entry : ℕ) (moved : List (Option ℕ)) → entry < length old → HasMoved old column entry moved
-      → get_or moved (number_at old entry) None ≡ None → bit_at column entry ≢ bit_at column (number_at old entry)
-      → HasMoved old column (entry + 1) (set moved (number_at old entry) (Some entry))
-  set_moved entry moved inside has none leaves = record {
-    count = length-set moved (number_at old entry) (Some entry) ∙ has.count;
-    each = λ class within. by class within (cases_order class (number_at old entry));
-  }
-    where
-      mine_within : number_at old entry < length old
-      mine_within = omega (arith, own.no_later entry inside, inside)
 
       none_so_far : IsMoved old column entry (number_at old entry) None
       none_so_far = subst (IsMoved old column entry (number_at old entry)) none (has.each (number_at old entry) mine_within)

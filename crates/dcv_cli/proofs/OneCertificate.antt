@@ -6,13 +6,11 @@ use Rattle.dcv_automaton_text.specs.Laws.{OneFile}
 use Rattle.dcv_automaton_lines.proofs.OneFault.{one_place, no_fault_of_form}
 use Rattle.dcv_automaton_read.proofs.GoodTexts.{one_broken, broken_or_good}
 use Rattle.dcv_certify.specs.Laws.{OneAnswer}
-use Rattle.dcv_certify.specs.declared.answer.Answer.{Answer}
-use Rattle.dcv_certify.specs.declared.answer.Answer.TheVariants.{Minimal, Access, Pair}
 use Rattle.dcv_language.specs.VerdictText.{line}
 use Rattle.dcv_cli.specs.declared.refusal.Refusal.{Refusal}
 use Rattle.dcv_cli.specs.declared.refusal.Refusal.TheVariants.{Automaton}
 use Rattle.dcv_cli.specs.declared.faults.AutomatonFault.TheVariants.{Syntax, Table}
-use Rattle.dcv_cli.specs.declared.status.Status.TheVariants.{Budget as StatusBudget, Automaton as StatusAutomaton}
+use Rattle.dcv_cli.specs.declared.status.Status.TheVariants.{Automaton as StatusAutomaton}
 use Rattle.dcv_cli.specs.AutomatonFile.{IsRefusedAutomaton, TooLong, HasNoForm, BreaksARule, IsAutomatonText, OnAutomaton, Refused, Read}
 use Rattle.dcv_cli.specs.Certificate.{IsCertificate, answer_words, status_of_answer}
 use Rattle.dcv_cli.specs.Outcome.{Outcome, Agrees, refused}
@@ -80,21 +78,3 @@ refuses_as_automaton text refusal (HasNoForm short at fault e) = ap status_of e
 refuses_as_automaton text refusal (BreaksARule short file form at fault e) = ap status_of e
 
 -- ---- no step is over the limits
-
-answers_no_budget : (answer : Answer) → status_of_answer answer ≢ StatusBudget
-answers_no_budget Minimal e = cc
-answers_no_budget (Access state) e = cc
-answers_no_budget (Pair first second) e = cc
-
-refuses_no_budget : (text : List ℕ) (refusal : Refusal) → IsRefusedAutomaton text refusal → status_of refusal ≢ StatusBudget
-refuses_no_budget text refusal (TooLong long e) over = let wrong : StatusAutomaton ≡ StatusBudget = sym (ap status_of e) ∙ over in cc
-refuses_no_budget text refusal (HasNoForm short at fault e) over = let wrong : StatusAutomaton ≡ StatusBudget = sym (ap status_of e) ∙ over in cc
-refuses_no_budget text refusal (BreaksARule short file form at fault e) over = let wrong : StatusAutomaton ≡ StatusBudget = sym (ap status_of e) ∙ over in cc
-
-no_budget : (text : List ℕ) (outcome : Outcome) → OnAutomaton text IsCertificate outcome → outcome.status ≢ StatusBudget
-no_budget text outcome (Refused refusal is e) over = refuses_no_budget text refusal is (sym (ap (λ (o : Outcome). o.status) e) ∙ over)
-no_budget text outcome (Read file is says) over = answers_no_budget says.answer (sym says.status ∙ over)
-
-pub no_budget_held : (text : Option (List ℕ)) (outcome : Outcome) → IsSomeAnd text (λ bytes. OnAutomaton bytes IsCertificate outcome) → outcome.status ≢ StatusBudget
-no_budget_held None outcome p over = absurd p
-no_budget_held (Some text) outcome p over = no_budget text outcome p over

@@ -4,7 +4,7 @@ use Rattle.std.proofs.Common.{length-append, max}
 use Rattle.std.proofs.lemmas.List.{map-append, append_assoc, length-map}
 use Rattle.dcv_syntax.specs.declared.names.Span.{Span}
 use Rattle.dcv_syntax.specs.declared.propositions.Connective.{Connective}
-use Rattle.dcv_core.specs.Core.{PlainBasic, BasicConstant, CoreTree, CoreAtom, CoreNot, CoreJoined, CoreChop, CoreStar, CoreExists}
+use Rattle.dcv_core.specs.Core.{BasicConstant, CoreTree, CoreAtom, CoreNot, CoreJoined, CoreChop, CoreStar, CoreExists}
 use Rattle.dcv_core.specs.Steps.{PlainOp, OpAtom, OpNot, OpJoined, OpChop, OpStar, OpExists, steps_before, own_step, steps_from}
 use Rattle.dcv_core.specs.Steps.{CoreStep, without_core, PlainCore, Pushed, Made, HasRoom, IsChoppedRound, nesting}
 use Rattle.dcv_core.proofs.StepList.{steps_from-length}
@@ -31,9 +31,6 @@ pushed_length {old} {new} {op} {span} {k} pushed =
     let step : CoreStep = record { op = op; span = span; slots = k } in
     let of : length new.steps ≡ length (old.steps ++ step ∷ []) = ap (λ (c : PlainCore). length c.steps) pushed.added in
     omega (arith, of, length-append old.steps (step ∷ []))
-
-pub made_atom : {old new : PlainCore} {k last : ℕ} {basic : PlainBasic} {span : Span} → Pushed old (OpAtom basic) span k new last → Made old k (CoreAtom basic span) new last
-made_atom {old} pushed = record { added = pushed.added; place = omega (arith, pushed.place) }
 
 -- ---- operators of one operand
 

@@ -101,11 +101,6 @@ words_of_chop c d span (letter ∷ letters) some =
 
 -- ---- star
 
--- one letter is a star of anything
-star_one : (n : ℕ) (c : ℕ → ℕ → Bool) → star_of c n 0 0 ≡ true
-star_one zero c = refl
-star_one (suc n) c = refl
-
 star_words : (d : CoreTree) (n : ℕ) (word : Word) → 0 < length word → length word ≤ suc n → star_of (core_holds d word) n 0 (length word - 1) ≡ star_within n (words_of d) word
 star_words d n [] some le = absurd (omega (arith, some))
 star_words d zero (a ∷ []) some le = refl

@@ -82,21 +82,6 @@ module _ (hints : List Hint) where
       regroup true y z = refl
       regroup false y z = refl
 
-  pub first_of_left : (a b : List Symbol) (c : ℕ) → IsFirst hints a c → IsFirst hints (a ++ b) c
-  first_of_left [] b c h = absurd (not_first c h)
-  first_of_left (Class k ∷ a) b c h = subst (λ x. IsFirst hints (Class k ∷ (a ++ b)) x) (sym (first_class_is k a c h)) (first_class k (a ++ b))
-  first_of_left (Rule n ∷ a) b c h =
-      elim (first_cases n a c h) [
-        | inl f ↦ first_rule n (a ++ b) c f
-        | inr p ↦ first_later n (a ++ b) c p.0 (first_of_left a b c p.1)
-      ]
-
-  pub first_of_right : (a b : List Symbol) (c : ℕ) → is_empty hints a ≡ true → IsFirst hints b c → IsFirst hints (a ++ b) c
-  first_of_right [] b c e h = h
-  first_of_right (Class k ∷ a) b c e h = cc
-  first_of_right (Rule n ∷ a) b c e h =
-      first_later n (a ++ b) c (both_left (hint_at hints n).empty (is_empty hints a) e) (first_of_right a b c (both_right (hint_at hints n).empty (is_empty hints a) e) h)
-
   pub first_append : (a b : List Symbol) (c : ℕ) → IsFirst hints (a ++ b) c → IsFirst hints a c ⊎ ((is_empty hints a ≡ true) × IsFirst hints b c)
   first_append [] b c h = inr (refl, h)
   first_append (Class k ∷ a) b c h = inl (subst (λ x. IsFirst hints (Class k ∷ a) x) (sym (first_class_is k (a ++ b) c h)) (first_class k a))

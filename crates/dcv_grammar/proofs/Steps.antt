@@ -13,9 +13,6 @@ use Rattle.dcv_grammar.specs.Machine.{Follows, Wants, with_wanted}
 use Rattle.dcv_grammar.proofs.Facts.{facts, hints}
 use Rattle.dcv_grammar.proofs.Derivations.{body_in, from_rule, from_class, not_at_end, not_past_end, body_picked, weight_falls, known_rule, some_derived, reached_known, reached_guarded}
 
-contained_later : {A : Type 0} (x : A) (xs : List A) (y : A) → Contains xs y → Contains (x ∷ xs) y
-contained_later x xs y (k, lt, e) = (suc k, omega arith, e)
-
 -- the body that a class picks is a body
 picked_contained : (choices : List Alternative) (otherwise : List Symbol) (c : ℕ) → Contains (otherwise ∷ map (λ choice. choice.body) choices) (picked choices otherwise c)
 picked_contained [] otherwise c = (0, omega arith, refl)

@@ -1,5 +1,5 @@
 -- Laws of derivation trees.
-use Rattle.std.proofs.Common.{◌≡◌, ℕ, List, [], ◌∷◌, ◌++◌, map, Option, Some, refl, sym, ap, ◌∙◌, subst, append_assoc}
+use Rattle.std.proofs.Common.{◌≡◌, ℕ, List, [], ◌∷◌, ◌++◌, map, Some, refl, sym, ap, ◌∙◌, subst, append_assoc}
 use Rattle.std.specs.Prelude.{slice_get}
 use Rattle.std.proofs.lemmas.List.{map-append}
 use Rattle.dcv_grammar.specs.declared.grammar.Symbol.{Symbol}
@@ -142,10 +142,6 @@ module _ {T : Type 0} (g : ContextFree) (class_of : T → ℕ) where
   reached_behind (Rule n ∷ s) behind (leaf t a) h r = absurd h
   reached_behind (Rule n ∷ s) behind (node m i a) h r =
       reached_behind s behind a h.2 (reached_behind h.1.0 (s ++ behind) i h.1.2 (in_body h.1.0 h.1.1 r))
-
--- the first class
-first_class_of : {T : Type 0} (class_of : T → ℕ) (tokens : List T) → Option ℕ
-first_class_of class_of tokens = slice_get (map class_of tokens) 0
 
 module _ {T : Type 0} (g : ContextFree) (class_of : T → ℕ) (p : IsPredictive g) where
   -- The first of the tokens picks the body that is inside the first node.

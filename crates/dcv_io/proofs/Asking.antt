@@ -1,7 +1,7 @@
 -- Names that were asked for in turn.
 use Rattle.std.proofs.Common.{ℕ, ◌+◌, List, [], ◌++◌, length, take, Option, Some, None, ap, sym, ◌∙◌, subst, append_assoc}
 use Rattle.std.proofs.lemmas.List.{append-nil}
-use Rattle.std.proofs.Math.Seq.{take-append_seam, take-append-add}
+use Rattle.std.proofs.Math.Seq.{take-append-add}
 use Rattle.dcv_io.specs.Asked.{Asks, AsksPrefix}
 
 -- none
@@ -20,11 +20,6 @@ asks_in_turn (Some start) (Some middle) (Some after) first second before now =
 -- no name yet
 pub asks_no_prefix : (told : Option (List (List ℕ))) (names : List (List ℕ)) → AsksPrefix names told told
 asks_no_prefix told names = (0, asks_none told)
-
--- the first ones alone
-pub asks_prefix : (old new : Option (List (List ℕ))) (first second : List (List ℕ)) → Asks first old new → AsksPrefix (first ++ second) old new
-asks_prefix old new first second asks =
-    (length first, subst (λ (names : List (List ℕ)). Asks names old new) (sym (take-append_seam first second)) asks)
 
 -- the first ones, and then some of the second
 pub asks_further : (old mid new : Option (List (List ℕ))) (first second : List (List ℕ)) → Asks first old mid → AsksPrefix second mid new → AsksPrefix (first ++ second) old new

@@ -55,15 +55,6 @@ puts_held loans out count last true held more = record {
       record { whole = tt; front = appends_less written out text more holds.front; count = holds.count; once = holds.once; stops = holds.stops };
 }
 
--- what waits is dropped where a call has failed before
-pub puts_dropped : (loans : List GName) (out : Option (List ℕ)) (count : ℕ) (last : Bool) (held : List ℕ)
-    → Puts (standing_as loans out count last held true) (standing_as loans out count last [] true) []
-puts_dropped loans out count last held = record {
-  same = refl;
-  behind = λ written faults text holds.
-      record { whole = tt; front = appends_less written out text [] holds.front; count = holds.count; once = holds.once; stops = holds.stops };
-}
-
 -- what waits is written
 pub puts_written : (loans : List GName) (old new : Option (List ℕ)) (before after : ℕ) (last_before last_after : Bool) (held : List ℕ) (result : Result ⊤ Failed)
     → OnOk result (Appends old new held) → OnErr result (AppendsStrictPrefix old new held) → RisesIf (is_err result) before after

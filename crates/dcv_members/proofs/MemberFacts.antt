@@ -7,7 +7,7 @@ use Rattle.std.specs.Option.{option_map_or}
 use Rattle.std.proofs.lemmas.List.Elements.{All-contains, All-contains_itself, All-filter, filter_passes, Contains-append_right}
 use Rattle.dcv_members.specs.Lists.{AddsAt, list_at}
 use Rattle.dcv_members.specs.Members.{list_of, is_in, IsPut, IsMended, HaveTheirOwn}
-use Rattle.dcv_members.proofs.ListFacts.{list_there, list_else, list_within}
+use Rattle.dcv_members.proofs.ListFacts.{list_there, list_else}
 
 -- ---- what is seen of the lists
 
@@ -66,13 +66,6 @@ module _ {Z : Type 0} (blocks : List ℕ) (block : ℕ) (lists : List (Vec ℕ Z
           (λ both. subst (λ list. Contains list member) (sym there) (kept_all (is_in blocks block) (list_at lists block) member both.0 (in_block_is blocks block member both.1.0 both.1.1))),
         );
     others = λ other differs. list_else lists block 0 own within other differs;
-  }
-
-  -- there is no list
-  pub mended_none : length lists ≤ block → IsMended blocks block (list_at lists) (list_at lists)
-  mended_none behind = record {
-    own = λ member. ((λ c. let within = list_within lists block member c in absurd (omega (arith, within, behind))), (λ both. both.0));
-    others = λ other differs. refl;
   }
 
 pub put_grown : {Z : Type 0} (old grown new : List (Vec ℕ Z)) (block member : ℕ) → ((at : ℕ) → list_at grown at ≡ list_at old at) → block < length grown → AddsAt grown new block member

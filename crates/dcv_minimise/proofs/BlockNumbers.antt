@@ -1,9 +1,9 @@
 -- The numbers of blocks and of states, one after another.
-use Rattle.std.proofs.Common.{◌≡◌, ◌≢◌, ℕ, ◌+◌, ◌<◌, ◌≤◌, List, [], ◌∷◌, ◌++◌, length, get_or, set, replicate, AllPairs, ⊎_elim, ap, sym, ◌∙◌, subst, arith}
+use Rattle.std.proofs.Common.{◌≡◌, ◌≢◌, ℕ, ◌+◌, ◌<◌, ◌≤◌, List, [], ◌∷◌, ◌++◌, length, get_or, set, AllPairs, ⊎_elim, ap, sym, ◌∙◌, subst, arith}
 use Rattle.std.specs.List.{All}
 use Rattle.std.proofs.lemmas.Bool.{cases_eq}
-use Rattle.std.proofs.lemmas.List.{length-set, length-replicate, get_or-set_same, get_or-set_other, length_push, get_or_append_left, get_or_push}
-use Rattle.std.proofs.lemmas.List.Elements.{All-replicate, All-set, All-push}
+use Rattle.std.proofs.lemmas.List.{length-set, get_or-set_same, get_or-set_other}
+use Rattle.std.proofs.lemmas.List.Elements.{All-set}
 use Rattle.dcv_members.specs.Members.{block_of}
 use Rattle.dcv_minimise.specs.Classes.{block_at, AreBlockNumbers, AreNumbers}
 
@@ -14,13 +14,6 @@ pub record GiveNumbers (blocks kept : List ℕ) (count : ℕ) (numbers : List �
   pub each : (number : ℕ) → number < count → get_or numbers (block_at blocks kept number) 0 ≡ number
 
 module _ (blocks kept : List ℕ) where
-  pub none_given : (numbers : List ℕ) → numbers ≡ replicate (length blocks) 0 → 0 < length kept → GiveNumbers blocks kept 0 numbers
-  none_given numbers are some = subst (GiveNumbers blocks kept 0) (sym are) (record {
-    beside = length-replicate (length blocks) 0;
-    below = All-replicate (λ number. number < length kept) (length blocks) 0 some;
-    each = λ number inside. absurd (omega arith);
-  })
-
   pub one_given : AllPairs (λ first second. block_of blocks first ≢ block_of blocks second) kept → (count : ℕ) (numbers : List ℕ) → count < length kept
       → block_at blocks kept count < length blocks → GiveNumbers blocks kept count numbers → GiveNumbers blocks kept (count + 1) (set numbers (block_at blocks kept count) count)
   one_given apart count numbers within inside given =
@@ -36,13 +29,6 @@ module _ (blocks kept : List ℕ) where
             (cases_eq number count);
       }
 
-  pub all_given : (count : ℕ) (numbers : List ℕ) → length kept ≤ count → GiveNumbers blocks kept count numbers → AreBlockNumbers blocks kept numbers
-  all_given count numbers end given = record {
-    beside = given.beside;
-    below = given.below;
-    each = λ number within. given.each number (omega arith);
-  }
-
 -- ---- the numbers of states
 
 -- the numbers of the blocks of the first so many states
@@ -52,22 +38,6 @@ pub record HaveNumbers (blocks kept of_block : List ℕ) (count : ℕ) (numbers 
   pub each : (state : ℕ) → state < count → get_or numbers state 0 ≡ get_or of_block (block_of blocks state) 0
 
 module _ (blocks kept of_block : List ℕ) (of : AreBlockNumbers blocks kept of_block) where
-  pub one_numbered : (count number : ℕ) (numbers : List ℕ) → block_of blocks count < length blocks → number ≡ get_or of_block (block_of blocks count) 0
-      → HaveNumbers blocks kept of_block count numbers → HaveNumbers blocks kept of_block (count + 1) (numbers ++ number ∷ [])
-  one_numbered count number numbers inside is have =
-      let here : block_of blocks count < length of_block = omega (arith, of.beside) in
-      record {
-        beside = length_push numbers number ∙ ap (λ n. n + 1) have.beside;
-        below = All-push (λ n. n < length kept) numbers number have.below (subst (λ n. n < length kept) (sym is) (of.below (block_of blocks count) 0 here));
-        each = λ state less. ⊎_elim
-            (λ same. subst (λ s. get_or (numbers ++ number ∷ []) s 0 ≡ get_or of_block (block_of blocks s) 0) (sym same)
-            (get_or_push numbers number 0 count have.beside ∙ is))
-            (λ differ. let earlier : state < count = omega arith in
-            let before : state < length numbers = omega (arith, have.beside) in
-            get_or_append_left numbers (number ∷ []) 0 state before ∙ have.each state earlier)
-            (cases_eq state count);
-      }
-
   pub all_numbered : (count : ℕ) (numbers : List ℕ) → count ≡ length blocks → HaveNumbers blocks kept of_block count numbers → AreNumbers blocks kept numbers
   all_numbered count numbers end have = record {
     beside = have.beside ∙ end;

@@ -35,9 +35,6 @@ module _ (old new : List Alike) (blocks witness : List ℕ) (part : Alike) (plac
   chosen : (found : Bool) → list_any (alike_eq.it part) old ≡ found → new ≡ (if found then old else old ++ part ∷ [])
   chosen found e = inserted ∙ ap (λ found. if found then old else old ++ part ∷ []) e
 
-  pub put_there : list_any (alike_eq.it part) old ≡ true → IsPut Alike old new blocks (blocks ++ place ∷ []) witness witness part state
-  put_there found = record { number = place; block = refl; own = stands; grows = inl (chosen true found, refl) }
-
   pub put_new : list_any (alike_eq.it part) old ≡ false → IsPut Alike old new blocks (blocks ++ place ∷ []) witness (witness ++ state ∷ []) part state
   put_new none =
       let more : new ≡ old ++ part ∷ [] = chosen false none in
@@ -49,18 +46,6 @@ module _ (old new : List Alike) (blocks witness : List ℕ) (part : Alike) (plac
       record { number = place; block = refl; own = stands; grows = inr (absent, last, more, refl) }
 
 -- ---- all of them
-
--- no states are in no blocks
-pub none_divided : (X : Type 0) (part : ℕ → X) → AreDivided X part 0 [] [] []
-none_divided X part = record {
-  each = refl;
-  size = refl;
-  few = omega arith;
-  once = λ first second one at there. absurd (omega (arith, slice_get_within [] first one at));
-  own_parts = λ state within. absurd (omega arith);
-  states = λ block within. absurd (omega arith);
-  own = λ block within. absurd (omega arith);
-}
 
 -- what stands in a list stands there in a longer one
 kept_at : (X : Type 0) (xs : List X) (x : X) (place : ℕ) (y : X) → slice_get xs place ≡ Some y → slice_get (xs ++ x ∷ []) place ≡ Some y

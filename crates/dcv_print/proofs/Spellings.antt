@@ -46,43 +46,11 @@ joined_is_spaced word (next ∷ words) = ap (λ rest. word ++ 32 ∷ rest) (join
 pub line_is_spaced : (word : List ℕ) (words : List (List ℕ)) → spelled_line (word ∷ words) ≡ word ++ (spaced words ++ 10 ∷ [])
 line_is_spaced word words = ap (λ line. line ++ 10 ∷ []) (joined_is_spaced word words) ∙ append_assoc word (spaced words) (10 ∷ [])
 
--- written piece by piece
-pub line_written : (word : List ℕ) (words : List (List ℕ)) (old first second last : List ℕ) → first ≡ old ++ word → second ≡ first ++ spaced words
-    → last ≡ second ++ 10 ∷ [] → last ≡ old ++ spelled_line (word ∷ words)
-line_written word words old first second last a b c =
-    c
-    ∙ ap (λ text. text ++ 10 ∷ []) (b ∙ ap (λ text. text ++ spaced words) a ∙ append_assoc old word (spaced words))
-    ∙ append_assoc old (word ++ spaced words) (10 ∷ [])
-    ∙ ap (λ line. old ++ (line ++ 10 ∷ [])) (sym (joined_is_spaced word words))
-
--- the first three lines
-pub head_written : (start variables word number old first second third fourth last : List ℕ) → first ≡ old ++ start → second ≡ first ++ variables → third ≡ second ++ word
-    → fourth ≡ third ++ number → last ≡ fourth ++ 10 ∷ [] → last ≡ old ++ (start ++ (variables ++ ((word ++ number) ++ 10 ∷ [])))
-head_written start variables word number old first second third fourth last a b c d e =
-    e
-    ∙ ap (λ text. text ++ 10 ∷ []) (d ∙ ap (λ text. text ++ number) c ∙ append_assoc second word number)
-    ∙ append_assoc second (word ++ number) (10 ∷ [])
-    ∙ ap (λ text. text ++ ((word ++ number) ++ 10 ∷ [])) b
-    ∙ append_assoc first variables ((word ++ number) ++ 10 ∷ [])
-    ∙ ap (λ text. text ++ (variables ++ ((word ++ number) ++ 10 ∷ []))) a
-    ∙ append_assoc old start (variables ++ ((word ++ number) ++ 10 ∷ []))
-
 pub some_names : (names : List (List ℕ)) → 0 < length names → name_words names ≡ names
 some_names [] some = absurd (omega arith)
 some_names (name ∷ names) some = refl
 
 -- ---- steps
-
--- one line more is written
-pub written_more : {Line : Type 0} (words : ℕ × Line → List (List ℕ)) (xs : List Line) (n : ℕ) (d : Line) (old before after line : List ℕ) → n < length xs
-    → before ≡ old ++ spelled_lines words (take n xs) → after ≡ before ++ line → line ≡ spelled_line (words (n, get_or xs n d))
-    → after ≡ old ++ spelled_lines words (take (n + 1) xs)
-written_more words xs n d old before after line below so_far written same =
-    let last = spelled_line (words (n, get_or xs n d)) in
-    written
-    ∙ (λ i. so_far i ++ same i)
-    ∙ append_assoc old (spelled_lines words (take n xs)) last
-    ∙ ap (λ lines. old ++ lines) (sym (lines_more words xs n d below))
 
 -- ---- the whole text
 

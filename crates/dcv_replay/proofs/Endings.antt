@@ -133,25 +133,6 @@ replayed_end name told opened told' before after written written' written'' firs
   };
 }
 
-pub replayed_broken : {T : Type 0} (name : List ℕ) (told opened told' : Option Disk) (before after : ReplayValue) (written written' : Option (List ℕ)) (first left : List ℕ)
-    → WhereTold (Opens name) told opened → left ≢ [] → Ran (HasLines before.program.width) (λ read letters. Unit {0}) opened told' before written first after written' left → first ≡ []
-    → RunsOver {T = T} name told told' before written after written' (Err fault.Write)
-replayed_broken name told opened told' before after written written' first left opens some ran none_yet = record {
-  letters = ran.letters;
-  wide = ran.wide;
-  some = λ wrote. some;
-  left = left;
-  answered = subst (λ (front : List ℕ). Answered before written front ran.letters after written' left) none_yet ran.answered;
-  whole = λ no_write. absurd (false≢true (sym no_write));
-  unopened = λ failed. absurd (false≢true failed);
-  traced = λ was_opened. record {
-    trace = ran.read ++ ran.front.rest;
-    there = opened_held name (ran.read ++ ran.front.rest) told opened opens ran.front.whole;
-    verdict = ran.verdict;
-    cut = tt;
-  };
-}
-
 pub replayed_unopened : {T : Type 0} (name : List ℕ) (told told' : Option Disk) (replay : ReplayValue) (written : Option (List ℕ))
     → RunsOver {T = T} name told told' replay written replay written (Err fault.Open)
 replayed_unopened name told told' replay written = record {

@@ -59,10 +59,6 @@ module _ (replay : ReplayValue) (written : Option (List ℕ)) (block : List ℕ)
   abbrev width : ℕ
   width = replay.program.width
 
-  lines_so_far : {read : List ℕ} {now : Going} → (passes : Passes (start_of replay written block) read now) → (rest : List ℕ)
-      → AreLines replay.program.width passes.letters (read ++ rest) (now.lines.line ++ rest)
-  lines_so_far passes rest = come_lines passes.come rest
-
   pub ran_cut : {read : List ℕ} {now : Going} (told told' : Option Disk) → Passes (start_of replay written block) read now → IsLines now.lines → WhereTold (Gives read) told told'
       → Ran (λ text letters. IsEnding replay.program.width text letters (Some Read)) (IsCut replay.program.width (Some Read)) told told' replay written block now.replay now.written now.block
   ran_cut {read} {now} told told' passes is given = record {

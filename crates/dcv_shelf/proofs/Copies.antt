@@ -1,5 +1,5 @@
 -- What was copied stays a copy where the arena grows, and a node of copies is a copy of the node.
-use Rattle.std.proofs.Common.{◌≡◌, ℕ, zero, suc, ◌<◌, ◌≤◌, Bool, true, false, cond, List, [], ◌∷◌, ◌++◌, length, set, get_or, inl, inr, Result, Ok, Err, IfOk, refl, sym, ap, subst, ◌∙◌, arith}
+use Rattle.std.proofs.Common.{◌≡◌, ℕ, zero, suc, ◌<◌, ◌≤◌, Bool, true, false, cond, List, [], ◌∷◌, ◌++◌, length, set, get_or, inl, inr, Result, Ok, Err, IfOk, refl, sym, subst, ◌∙◌, arith}
 use Rattle.std.proofs.lemmas.Bool.{cases_order}
 use Rattle.std.proofs.lemmas.List.{length_push}
 use Rattle.dcv_arena.specs.Arena.{ArenaValue, IsReduced, IsRef, IsBefore, level_of, value_of, KeepsRefs}
@@ -39,9 +39,6 @@ push_before (first ∷ copies) new d (suc place) within = push_before copies new
 push_last : (copies : List Ref) (new d : Ref) → get_or (copies ++ new ∷ []) (length copies) d ≡ new
 push_last [] new d = refl
 push_last (first ∷ copies) new d = push_last copies new d
-
-pub no_copies : (from arena : ArenaValue) (copies : List Ref) → from.slots ≤ arena.slots → copies ≡ [] → HasCopies from arena copies
-no_copies from arena copies slots none = record { slots = slots; each = λ place within. absurd (omega (arith, ap length none)) }
 
 pub one_more_copy : (from arena : ArenaValue) (copies : List Ref) (new : Ref) → HasCopies from arena copies → IsCopy from arena (Place (length copies)) new
     → HasCopies from arena (copies ++ new ∷ [])

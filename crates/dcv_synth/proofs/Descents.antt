@@ -24,16 +24,6 @@ take-all [] (suc n) h = refl
 take-all (x ∷ input) zero h = absurd (omega arith)
 take-all (x ∷ input) (suc n) h = ap (λ l. x ∷ l) (take-all input n (omega arith))
 
-pub descent_starts : (n m : ℕ) (arena : ArenaValue) (lost : List Bool) (root : Ref) (input : List Bool) → length input ≡ n → IsRef arena root
-    → IsDescent n m arena lost root 0 input root
-descent_starts n m arena lost root input width is_ref = record {
-  width = width;
-  is_ref = is_ref;
-  level = omega arith;
-  value = λ values. refl;
-  least = λ rest all. let same : rest ≡ n = omega arith in sym (ap (λ count. least_track count (loses m arena lost root)) same);
-}
-
 pub descent_ends : (n m : ℕ) (arena : ArenaValue) (lost : List Bool) (root : Ref) (slot : ℕ) (input : List Bool) (current : Ref) → slot ≡ n
     → IsDescent n m arena lost root slot input current → input ≡ least_track n (loses m arena lost root)
 descent_ends n m arena lost root slot input current done down =

@@ -1,7 +1,6 @@
 -- What is forced from a node on is picked of what is forced from its children on.
 use Rattle.std.proofs.Common.{◌≡◌, ℕ, zero, suc, ◌+◌, ◌-◌, ◌<◌, ◌≤◌, ltb, Bool, true, false, ◌&&◌, ◌||◌, cond, List, [], ◌∷◌, ◌++◌, length, get_or, refl, ap, sym, ◌∙◌, subst, arith}
-use Rattle.std.proofs.lemmas.Bool.{ltb-true, ltb-false, lt-ltb, le-ltb}
-use Rattle.std.proofs.lemmas.List.{get_or_append_left, get_or_push}
+use Rattle.std.proofs.lemmas.Bool.{lt-ltb, le-ltb}
 use Rattle.dcv_language.specs.Operations.{some_track}
 use Rattle.dcv_arena.specs.Arena.{ArenaValue, IsBefore, IsReduced, level_of, value_of}
 use Rattle.dcv_arena.specs.declared.nodes.Ref.{Ref}
@@ -116,22 +115,6 @@ pub forced_ref : (n : ℕ) (arena : ArenaValue) (lost forced : List Bool) (count
     → IsForced n arena lost root (forced_at lost forced root)
 forced_ref n arena lost forced count (Leaf state) are before = forced_leaf n arena lost state
 forced_ref n arena lost forced count (Place place) are before = are place before
-
-pub forced_none : (n : ℕ) (arena : ArenaValue) (lost forced : List Bool) → AreForcedBefore 0 n arena lost forced
-forced_none n arena lost forced place within = absurd (omega (arith, within))
-
-pub forced_more : (n : ℕ) (arena : ArenaValue) (lost forced : List Bool) (place : ℕ) (is : Bool) → AreForcedBefore place n arena lost forced → length forced ≡ place
-    → IsForced n arena lost (Place place) is → AreForcedBefore (suc place) n arena lost (forced ++ is ∷ [])
-forced_more n arena lost forced place is are count here other within = by (ltb other place) refl
-  where
-    by : (b : Bool) → ltb other place ≡ b → IsForced n arena lost (Place other) (get_or (forced ++ is ∷ []) other false)
-    by true e =
-        let earlier = ltb-true other place e in
-        subst (IsForced n arena lost (Place other)) (sym (get_or_append_left forced (is ∷ []) false other (omega (arith, earlier, count)))) (are other earlier)
-    by false e =
-        let same : place ≡ other = omega (arith, within, ltb-false other place e) in
-        subst (λ truth. IsForced n arena lost (Place other) truth) (sym (get_or_push forced is false other (count ∙ same)))
-        (subst (λ at. IsForced n arena lost (Place at) is) same here)
 
 -- ---- rows
 

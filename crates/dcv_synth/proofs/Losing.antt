@@ -53,25 +53,6 @@ lost-set lost one state = by (nat_eq state one) refl
         here false t = get_or_past (set lost one true) one true (omega (arith, ltb-false one (length lost) t, length-set lost one true))
     by false e = get_or-set_other lost one state true true (λ same. false≢true (sym e ∙ (unsigned_Decides state one).1 same))
 
-pub one_lost : (old now new : List Bool) (states rest : List ℕ) (one : ℕ) → IsLosing old states now (one ∷ rest) → new ≡ set now one true → IsLosing old states new rest
-one_lost old now new states rest one is so =
-    subst (λ list. IsLosing old states list rest) (sym so) (record {
-      count = length-set now one true ∙ is.count;
-      each = λ state. ap (λ b. b || list_any (nat_eq state) rest) (lost-set now one state) ∙ turned (nat_eq state one) (lost_at now state) (list_any (nat_eq state) rest) ∙ is.each state;
-    })
-  where
-    turned : (a b c : Bool) → ((a || b) || c) ≡ (b || (a || c))
-    turned true true c = refl
-    turned true false c = refl
-    turned false true c = refl
-    turned false false c = refl
-
-pub nothing_lost : (old : List Bool) (states : List ℕ) → IsLosing old states old states
-nothing_lost old states = record { count = refl; each = λ state. refl }
-
-pub all_lost : (old now : List Bool) (states : List ℕ) → IsLosing old states now [] → HasLost old states now
-all_lost old now states is = record { count = is.count; each = λ state. sym (or_none (lost_at now state)) ∙ is.each state }
-
 -- ---- places
 
 -- where no letter leads to one of the states, what is forced stays as it is
@@ -140,6 +121,3 @@ pub known_before : (n : ℕ) (arena : ArenaValue) (lost forced : List Bool) (pla
     → get_or places i d < length arena.nodes → AreForcedBut (drop i places) n arena lost forced → AreForcedBefore (get_or places i d) n arena lost forced
 known_before n arena lost forced places i d sorted within below are place before =
     are.each place (omega (arith, before, below)) (before_the_rest places sorted i d place within before)
-
-pub all_forced : (n : ℕ) (arena : ArenaValue) (lost forced : List Bool) → AreForcedBut [] n arena lost forced → AreAllForced n arena lost forced
-all_forced n arena lost forced are = record { places = are.places; each = λ place within. are.each place within (λ there. omega (arith, there.1)) }

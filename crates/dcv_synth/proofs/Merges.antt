@@ -88,9 +88,6 @@ module _ (part : Part) (m : ℕ) (old : ArenaValue) (win : List Bool) where
   ref_merged new answers merged (Leaf state) slots are before = leaf_merged new (Leaf state) (answer_at win answers (Leaf state)) slots (omega (arith, slots)) (leaf_answer old win answers state)
   ref_merged new answers merged (Place place) slots are before = are place before
 
-  pub none_merged : (new : ArenaValue) (merged : List Ref) → merged ≡ [] → AreMerged part m old win new merged
-  none_merged new merged none place within = absurd (omega (arith, within, ap length none))
-
   pub merged_longer : (merged : List Ref) (ref : Ref) → length (merged ++ ref ∷ []) ≡ suc (length merged)
   merged_longer [] ref = refl
   merged_longer (x ∷ merged) ref = ap suc (merged_longer merged ref)

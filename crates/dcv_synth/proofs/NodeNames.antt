@@ -89,9 +89,6 @@ module _ (nexts outputs : ℕ) (few_nexts : nexts ≤ 1000000) (few_outputs : ou
     (none_of_both output_name (λ k small. refl) (λ k. refl), nodes_distinct),
   )
 
-  pub next_among : is_among (local_names nexts outputs) next_name ≡ true
-  next_among = refl
-
   pub output_among : is_among (local_names nexts outputs) output_name ≡ true
   output_among = refl
 

@@ -66,14 +66,6 @@ row_of_node one two new slot front back lo hi node within kept same is_ref low h
     ++ side two new slot back hi node true same high
     (λ letter at. value letter ∙ ap (λ side. cond side (value_of two hi letter) (value_of two lo letter)) at) prefix size i)
 
--- a number at a leaf is the row of no slot
-pub row_of_leaf : (arena : ArenaValue) (slot number : ℕ) (root : Ref) → slot ≡ arena.slots → ((letter : List Bool) → value_of arena root letter ≡ number)
-    → HasRow arena slot (number ∷ []) root
-row_of_leaf arena slot number root last value front size =
-    let none : arena.slots - slot ≡ 0 = omega (arith, last) in
-    (λ i. map (λ values. value_of arena root (front ++ values)) (letters_of_width (none i)))
-    ∙ ap (λ number. number ∷ []) (value (front ++ []))
-
 -- where no slot stands before, they are the numbers at all letters
 pub table_of_row : (arena : ArenaValue) (numbers : List ℕ) (root : Ref) → HasRow arena 0 numbers root → table_of arena root ≡ numbers
 unfolding table_of

@@ -148,9 +148,6 @@ module _ {tokens rest : List ℕ} {deepest : ℕ} (so_far : ItemsSoFar tokens de
   front_there : next_class itself rest ≡ Some 2 → Begins lists itself (Class 2 ∷ Rule 0 ∷ []) rest
   front_there comma = front_begins predictive more_at (picks_more comma) so_far.read
 
-  pub comma_there : next_class itself rest ≡ Some 2 → 0 < length rest
-  comma_there comma = class_there (front_there comma)
-
   pub item_after : {after : List ℕ} {token : ℕ} → next_class itself rest ≡ Some 2 → rest ≡ token ∷ after → BeginsRule lists itself 0 after
   item_after comma i = (begins_token (front_there comma) i).1
 
