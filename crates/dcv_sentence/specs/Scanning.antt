@@ -13,10 +13,6 @@ tokens_in scan = map seen scan.tokens.items
 abbrev pub IsScanned : Scan → Type 0
 IsScanned scan = IsTokenized scan.text.now (tokens_in scan) scan.rest.now
 
--- a fault of the scanned text
-abbrev pub StandsIn : Scan → ReadFault → Type 0
-StandsIn scan fault = StandsAmong scan.text.now (tokens_in scan) scan.rest.now fault
-
 -- the fault of this kind, if there is one of it
 abbrev pub IsNotedAmong : List ℕ → List Token → List ℕ → (ℕ → ReadFault) → Option ReadFault → Type 0
 IsNotedAmong text tokens rest kind (Some fault) = (at : ℕ) × (fault ≡ kind at) × StandsAmong text tokens rest (kind at)
