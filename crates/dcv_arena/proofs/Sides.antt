@@ -66,9 +66,6 @@ module _ {X : Type 0} {whole part : List Bool → X} {slot : ℕ} {value : Bool}
 
 -- ---- one addition after another
 
-pub adds_nothing : (arena : ArenaValue) (function : List Bool → ℕ) → AddsOnlyNodesOfFunction arena arena function
-adds_nothing arena function node c = inl c
-
 pub adds_in_turn : (old middle new : ArenaValue) (function : List Bool → ℕ) → new.slots ≡ middle.slots
     → AddsOnlyNodesOfFunction old middle function → AddsOnlyNodesOfFunction middle new function → AddsOnlyNodesOfFunction old new function
 adds_in_turn old middle new function same early late node c = elim (late node c) [

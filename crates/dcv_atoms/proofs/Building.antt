@@ -134,9 +134,6 @@ exceeds_after old middle first second limit built exceeds = record {
 
 -- ---- on the way through a list
 
-pub leads_itself : (arena : ArenaValue) (listed : List PlainTruth) → Leads arena arena listed listed
-leads_itself arena listed = record { kept = keeps_all arena; builds = λ new built. built; exceeds = λ limit more. more }
-
 pub leads_on : (old here there : ArenaValue) (first left listed : List PlainTruth) → Leads old here (first ++ left) listed → Builds here there first → Leads old there left listed
 leads_on old here there first left listed leads built = record {
   kept = kept_in_turn old here there leads.kept built.kept;

@@ -1,5 +1,5 @@
 -- The table of the complement, and that the complement of a canonical automaton is canonical.
-use Rattle.std.proofs.Common.{◌≡◌, ℕ, zero, suc, ◌<◌, Bool, true, false, not, cond, List, [], ◌∷◌, length, map, get_or, drop, take, ◌++◌, refl, ap, sym, ◌∙◌, subst, arith}
+use Rattle.std.proofs.Common.{◌≡◌, ℕ, zero, suc, ◌<◌, Bool, true, false, not, cond, List, [], ◌∷◌, length, get_or, ◌++◌, refl, ap, sym, ◌∙◌, subst, arith}
 use Rattle.std.proofs.lemmas.List.{length-map, get_or-map, same_lists}
 use Rattle.dcv_word.specs.Behaviour.{Word}
 use Rattle.dcv_language.specs.Language.{HaveSameBehaviours, outside}
@@ -27,12 +27,6 @@ flag-turned : (alone : Bool) (flags : List Bool) (state : ℕ) → state < lengt
 flag-turned alone [] state below = absurd (omega arith)
 flag-turned alone (start ∷ others) zero below = refl
 flag-turned alone (start ∷ others) (suc state) below = get_or-map not others state false false (omega arith)
-
--- flags that are written one after another, but for the first where the start stands alone
-pub turned-by_parts : (alone : Bool) (flags : List Bool) → 0 < length flags → take (cond alone 1 0) flags ++ map not (drop (cond alone 1 0) flags) ≡ turned alone flags
-turned-by_parts alone [] some = absurd (omega arith)
-turned-by_parts true (start ∷ others) some = refl
-turned-by_parts false (start ∷ others) some = refl
 
 -- ---- the table
 

@@ -1,5 +1,5 @@
 -- What stands in a list of lists where one of them is written.
-use Rattle.std.proofs.Common.{◌≡◌, ◌≢◌, ℕ, zero, suc, ◌<◌, List, [], ◌∷◌, length, set, Vec, Option, Some, slice_get, Contains, Result, Ok, Err, OnErr, inl, inr, refl, sym, ap, ◌∙◌, arith}
+use Rattle.std.proofs.Common.{◌≡◌, ◌≢◌, ℕ, zero, suc, ◌<◌, List, [], ◌∷◌, length, set, Vec, Option, Some, slice_get, Result, Ok, Err, OnErr, inl, inr, refl, sym, ap, ◌∙◌, arith}
 use Rattle.std.proofs.lemmas.Bool.{cases_eq}
 use Rattle.std.specs.Option.{option_map_or}
 use Rattle.dcv_members.specs.Lists.{list_at}
@@ -38,9 +38,3 @@ on_err_anyhow (Err e) P p = p
 pub on_err_weaker : {X E : Type 0} (result : Result X E) (P Q : Type 0) → (P → Q) → OnErr result P → OnErr result Q
 on_err_weaker (Ok x) P Q f p = tt
 on_err_weaker (Err e) P Q f p = f p
-
--- a list that has something is one of the lists
-pub list_within : {Z : Type 0} (vectors : List (Vec ℕ Z)) (at x : ℕ) → Contains (list_at vectors at) x → at < length vectors
-list_within [] at x c = absurd (omega (arith, c.1))
-list_within (v ∷ vs) zero x c = omega arith
-list_within (v ∷ vs) (suc at) x c = let within = list_within vs at x c in omega (arith, within)

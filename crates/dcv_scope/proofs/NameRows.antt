@@ -1,5 +1,5 @@
 -- Faults along the code's lists are those along the plain tree's operands.
-use Rattle.std.proofs.Common.{◌≡◌, ℕ, List, [], ◌∷◌, ◌++◌, Option, Some, None, Vec, Global, length, map, refl, sym, ap, ◌∙◌, ◌+◌, ◌<◌, zero, suc, take, drop, arith}
+use Rattle.std.proofs.Common.{◌≡◌, ℕ, List, [], ◌∷◌, ◌++◌, Option, Some, None, Vec, Global, length, map, refl, sym, ap, ◌∙◌, ◌+◌, ◌<◌, zero, suc, drop, arith}
 use Rattle.std.specs.Option.{option_or}
 use Rattle.std.proofs.lemmas.List.{length-map, map-append, append-nil, append_assoc}
 use Rattle.std.specs.Prelude.{slice_index_or}
@@ -16,7 +16,7 @@ use Rattle.dcv_syntax.specs.Plain.{PlainMacro, PlainFormulaKind, arguments_of, p
 use Rattle.dcv_syntax.specs.Views.{plain_prop_kind, plain_prop, plain_prop_operand, plain_formula_kind, plain_formula_operand, plain_macro, plain_file}
 use Rattle.dcv_syntax.proofs.PlainRows.{plain_call, plain_prop_joined, plain_joined, plain_chop}
 use Rattle.dcv_scope.specs.declared.faults.ScopeFault.{ScopeFault}
-use Rattle.dcv_scope.specs.Names.{InSight, Occurrence, Role, Declared, Parameter, Defined, texts, nothing_in_sight, macro_in_sight, behind_macro, occurrences_in_macro, occurrences_in_body, occurrences_from, fault_of_names, occurrences_in_list, AtFormula, AtProposition, occurs, fault_at, count_arguments, occurrences_in_prop, occurrences_in_arguments, occurrences_in_prop_operands, occurrences_in_formula, occurrences_in_operands, first_fault}
+use Rattle.dcv_scope.specs.Names.{InSight, Occurrence, Declared, Parameter, Defined, texts, nothing_in_sight, macro_in_sight, behind_macro, occurrences_in_macro, occurrences_in_body, occurrences_from, fault_of_names, occurrences_in_list, AtFormula, AtProposition, occurs, fault_at, count_arguments, occurrences_in_prop, occurrences_in_arguments, occurrences_in_prop_operands, occurrences_in_formula, occurrences_in_operands, first_fault}
 use Rattle.dcv_scope.specs.Sights.{first_of, top_sight, faults_of_macros}
 
 or-assoc : (a b c : Option ScopeFault) → option_or (option_or a b) c ≡ option_or a (option_or b c)
@@ -86,26 +86,12 @@ pub ruleset formula_rows = (formula-Call, formula-Joined, formula-Chop, first_fa
 
 -- ---- lists of names, one after another
 
-texts-more : (names : List Name) (i : ℕ) (d : Name) → i < length names → texts (take i names) ++ (slice_index_or names i d).text ∷ [] ≡ texts (take (i + 1) names)
-texts-more [] i d lt = absurd (omega (arith, lt))
-texts-more (n ∷ names) zero d lt = refl
-texts-more (n ∷ names) (suc i) d lt =
-    let next : suc (i + 1) ≡ suc i + 1 = omega arith in
-    ap (λ (rest : List (List ℕ)). n.text ∷ rest) (texts-more names i d (omega (arith, lt))) ∙ ap (λ k. texts (take k (n ∷ names))) next
-
 pub drop-more : {X : Type 0} (xs : List X) (i : ℕ) (d : X) → i < length xs → drop i xs ≡ slice_index_or xs i d ∷ drop (i + 1) xs
 drop-more [] i d lt = absurd (omega (arith, lt))
 drop-more (x ∷ xs) zero d lt = refl
 drop-more (x ∷ xs) (suc i) d lt =
     let next : suc (i + 1) ≡ suc i + 1 = omega arith in
     drop-more xs i d (omega (arith, lt)) ∙ ap (λ k. slice_index_or xs i d ∷ drop k (x ∷ xs)) next
-
-pub list-step : (role : List (List ℕ) → Role) (sight : InSight) (names : List Name) (i : ℕ) (d : Name) → i < length names
-    → first_fault (occurrences_in_list role sight (texts (take i names)) (drop i names))
-    ≡ option_or (fault_at (occurs (slice_index_or names i d) (role (texts (take i names))) sight)) (first_fault (occurrences_in_list role sight (texts (take (i + 1) names)) (drop (i + 1) names)))
-list-step role sight names i d lt =
-    ap (λ rest. first_fault (occurrences_in_list role sight (texts (take i names)) rest)) (drop-more names i d lt)
-    ∙ ap (λ before. option_or (fault_at (occurs (slice_index_or names i d) (role (texts (take i names))) sight)) (first_fault (occurrences_in_list role sight before (drop (i + 1) names)))) (texts-more names i d lt)
 
 -- ---- macros and files
 

@@ -40,19 +40,6 @@ pub record IsLosing (old : List Bool) (states : List ℕ) (now : List Bool) (res
   pub count : length now ≡ length old
   pub each : (state : ℕ) → (lost_at now state || list_any (nat_eq state) rest) ≡ (lost_at old state || list_any (nat_eq state) states)
 
-lost-set : (lost : List Bool) (one state : ℕ) → lost_at (set lost one true) state ≡ (nat_eq state one || lost_at lost state)
-lost-set lost one state = by (nat_eq state one) refl
-  where
-    by : (b : Bool) → nat_eq state one ≡ b → lost_at (set lost one true) state ≡ (b || lost_at lost state)
-    by true e =
-        let same : state ≡ one = (unsigned_Decides state one).0 e in
-        ap (λ at. lost_at (set lost one true) at) same ∙ here (ltb one (length lost)) refl
-      where
-        here : (b : Bool) → ltb one (length lost) ≡ b → lost_at (set lost one true) one ≡ true
-        here true t = get_or-set_same lost one true true (ltb-true one (length lost) t)
-        here false t = get_or_past (set lost one true) one true (omega (arith, ltb-false one (length lost) t, length-set lost one true))
-    by false e = get_or-set_other lost one state true true (λ same. false≢true (sym e ∙ (unsigned_Decides state one).1 same))
-
 -- ---- places
 
 -- where no letter leads to one of the states, what is forced stays as it is

@@ -212,14 +212,6 @@ number_upto-next line i d h within =
 
 -- ---- what reading answers, where variables are declared
 
-pub Width-reading : (width : ℕ) (line : List ℕ) → 0 < width → All IsDigit line → length line ≢ width → IsReading width line (Err Width)
-Width-reading zero line some digits other = absurd (omega arith)
-Width-reading (suc width) line some digits other = (digits, other)
-
-pub Character-reading : (width : ℕ) (line : List ℕ) (at : ℕ) → 0 < width → IsFirstNonDigit line at → IsReading width line (Err (Character at))
-Character-reading zero line at some first = absurd (omega arith)
-Character-reading (suc width) line at some first = first
-
 pub Letter-reading : (width : ℕ) (line : List ℕ) (letter : List Bool) → 0 < width → All IsDigit line → length line ≡ width → letter ≡ letter_of width (bits_of (map value_of line)) → IsReading width line (Ok letter)
 Letter-reading width line letter some digits long e =
     let values = map value_of line in
