@@ -18,7 +18,7 @@ use Rattle.dcv_automaton_lines.specs.declared.lines.Lines.{Lines}
 use Rattle.dcv_automaton_lines.specs.Seen.{file_of, target_of, node_line_of, state_line_of, access_line_of, suffix_line_of, step_line_of, step_part_of, access_of, suffix_of}
 use Rattle.dcv_automaton_read.specs.declared.nodes.Node.{Node}
 use Rattle.dcv_automaton_read.specs.declared.file.Row.{Row}
-use Rattle.dcv_count.specs.declared.Count.{Count}
+use Rattle.dcv_language.specs.declared.count.Count.{Count}
 use Rattle.dcv_language.specs.declared.certificate.Access.{Access as ReadAccess}
 use Rattle.dcv_language.specs.declared.certificate.Suffix.{Suffix as ReadSuffix}
 use Rattle.dcv_automaton_read.specs.File.{target_from, access_from, suffix_from, node_line, state_line, access_line, suffix_line, step_line, step_part, file_from, row_of, count_of, counts_of, IsNarrow, IsNarrowSuffix, IsRead, IsKept}

@@ -24,7 +24,7 @@ use Rattle.dcv_automaton_read.specs.declared.nodes.Child.{Child}
 use Rattle.dcv_automaton_read.specs.declared.nodes.Child.TheVariants.{State, Node as AtNode}
 use Rattle.dcv_automaton_read.specs.declared.nodes.Node.{Node}
 use Rattle.dcv_automaton_read.specs.declared.file.Row.{Row}
-use Rattle.dcv_count.specs.declared.Count.{Count}
+use Rattle.dcv_language.specs.declared.count.Count.{Count}
 use Rattle.dcv_language.specs.declared.certificate.Access.{Access as ReadAccess}
 use Rattle.dcv_language.specs.declared.certificate.Access.TheVariants.{Empty as NoLetter, Start, After}
 use Rattle.dcv_language.specs.declared.certificate.Suffix.{Suffix as ReadSuffix}

@@ -13,8 +13,7 @@ use crate::nodes::{Node, child_of};
 use dcv_automaton_lines::{
     AccessLine, AccessWord, Lines, StateLine, StepLine, SuffixLine, SuffixWord,
 };
-use dcv_count::Count;
-use dcv_language::{Access, Suffix};
+use dcv_language::{Access, Count, Suffix};
 use dcv_syntax::Text;
 use indexmap::IndexSet;
 use std::alloc::{AllocError, Global};

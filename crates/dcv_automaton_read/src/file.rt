@@ -11,8 +11,7 @@ ghost use Rattle.dcv_automaton_read.specs.File.{step_line, counts_in};
 
 use crate::nodes::{Child, Node};
 use crate::walk::leaf;
-use dcv_count::Count;
-use dcv_language::{Access, Suffix};
+use dcv_language::{Access, Count, Suffix};
 use dcv_syntax::Text;
 use dcv_word::Letter;
 use dcv_word::laws::letters_of_width_are_all;

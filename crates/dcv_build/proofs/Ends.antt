@@ -1,7 +1,7 @@
 -- A build from its first step to its last.
 use Rattle.std.proofs.Common.{◌≡◌, ℕ, ◌<◌, ◌≤◌, List, [], ◌∷◌, ◌++◌, length, refl, sym, subst}
 use Rattle.std.proofs.lemmas.List.Elements.{All-nil}
-use Rattle.dcv_count.specs.declared.Count.{Count}
+use Rattle.dcv_language.specs.declared.count.Count.{Count}
 use Rattle.dcv_core.specs.Core.{CoreTree}
 use Rattle.dcv_core.specs.Holds.{words_of}
 use Rattle.dcv_core.specs.Steps.{PlainCore, steps_of}

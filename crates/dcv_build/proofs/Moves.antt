@@ -4,7 +4,7 @@ use Rattle.std.proofs.lemmas.List.{map-append, take_more}
 use Rattle.std.proofs.lemmas.List.Elements.{All-push}
 use Rattle.std.specs.Option.{option_map}
 use Rattle.std.proofs.lemmas.Option.{slice_get_within, slice_get-map, same_Some}
-use Rattle.dcv_count.specs.declared.Count.{Count}
+use Rattle.dcv_language.specs.declared.count.Count.{Count}
 use Rattle.dcv_core.specs.Core.{CoreTree}
 use Rattle.dcv_core.specs.Steps.{PlainStep, CoreStep, PlainCore, without_core, steps_of}
 use Rattle.dcv_syntax.specs.declared.names.Span.{Span}

@@ -9,7 +9,7 @@ use Rattle.dcv_core.specs.Steps.{PlainOp, PlainStep, CoreStep, PlainCore, withou
 use Rattle.dcv_core.specs.StepWords.{TakesOne, TakesTwo}
 use Rattle.dcv_core.proofs.StepList.{some_same}
 use Rattle.dcv_explore.specs.declared.explorer.Limits.{Limits}
-use Rattle.dcv_count.specs.declared.Count.{Count}
+use Rattle.dcv_language.specs.declared.count.Count.{Count}
 use Rattle.dcv_shelf.specs.Shelf.{ShelfTable}
 use Rattle.dcv_build.specs.Building.{IsNewest, AreWaiting, HasBuilt}
 use Rattle.dcv_build.specs.Settled.{IsOwn}

@@ -3,7 +3,7 @@
 use Rattle.std.proofs.Common.{◌≡◌, ℕ, zero, suc, ◌+◌, ◌<◌, ◌≤◌, List, [], ◌∷◌, ◌++◌, length, reverse, Some, slice_get, Result, Ok, Err, IfOk, inl, inr, refl, sym, ap, subst, ◌∙◌, arith, length-append}
 use Rattle.std.proofs.lemmas.List.{reverse-append}
 use Rattle.std.proofs.lemmas.Option.{slice_get_within, slice_get-get_or}
-use Rattle.dcv_count.specs.declared.Count.{Count}
+use Rattle.dcv_language.specs.declared.count.Count.{Count}
 use Rattle.dcv_word.specs.Behaviour.{Word}
 use Rattle.dcv_language.specs.Automaton.{accepts}
 use Rattle.dcv_language.specs.Canonical.{IsCanonical}

@@ -10,7 +10,7 @@
 --     IsBuilding core n building        so it is with what waits as numbers on the shelf
 --     IsGoal core limits n auto counts  so it is with this automaton, on no shelf, as the newest
 use Rattle.std.specs.Prelude.{◌≡◌, ℕ, ◌+◌, suc, List, [], ◌∷◌, ◌++◌, length, reverse, Some, slice_get, Result, Err, IfOk}
-use Rattle.dcv_count.specs.declared.Count.{Count}
+use Rattle.dcv_language.specs.declared.count.Count.{Count}
 use Rattle.dcv_language.specs.Table.{Table}
 use Rattle.dcv_core.specs.Core.{CoreTree}
 use Rattle.dcv_core.specs.Steps.{PlainStep, PlainCore, steps_before, steps_of}

@@ -3,7 +3,7 @@
 --     IsCount tables step count                  these are the counts of the step's row, beside the start of its span
 --     AreCounts steps limits counts              all steps are within the limits, and these are their counts, one for each in order
 use Rattle.std.specs.Prelude.{◌≡◌, ℕ, ◌+◌, List, length, Some, slice_get}
-use Rattle.dcv_count.specs.declared.Count.{Count}
+use Rattle.dcv_language.specs.declared.count.Count.{Count}
 use Rattle.dcv_language.specs.Automaton.{WorkingMachine}
 use Rattle.dcv_language.specs.Table.{Table}
 use Rattle.dcv_core.specs.Steps.{PlainStep}

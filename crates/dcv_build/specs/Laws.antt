@@ -1,6 +1,6 @@
 -- The laws that `src/laws.rt` proves.
 use Rattle.std.specs.Prelude.{◌≡◌, ℕ, ◌<◌, List, [], Some, slice_get, slice_index_or}
-use Rattle.dcv_count.specs.declared.Count.{Count}
+use Rattle.dcv_language.specs.declared.count.Count.{Count}
 use Rattle.dcv_word.specs.Behaviour.{Word}
 use Rattle.dcv_language.specs.Automaton.{accepts}
 use Rattle.dcv_language.specs.Canonical.{IsCanonical}

@@ -13,9 +13,9 @@ ghost use Rattle.dcv_build.specs.Counts.{AreCounts};
 use crate::building::Building;
 use crate::faults::BuildFault;
 use dcv_core::Core;
-use dcv_count::Count;
 use dcv_dfa::Auto;
 use dcv_explore::Limits;
+use dcv_language::Count;
 use std::alloc::Global;
 use std::marker::Model;
 

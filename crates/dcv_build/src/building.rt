@@ -25,9 +25,9 @@ use crate::settling::Made;
 use crate::tasks::{Task, last_operator, task_of};
 use dcv_atoms::laws::machines_accept_steps as atoms_accept_steps;
 use dcv_core::Core;
-use dcv_count::Count;
 use dcv_dfa::Auto;
 use dcv_explore::Limits;
+use dcv_language::Count;
 use dcv_language::laws::one_canonical_table;
 use std::alloc::{AllocError, Global};
 

@@ -4,8 +4,8 @@ ghost use Rattle.dcv_print.specs.Counts.{ArePrintableCounts};
 
 use crate::goals::auto_of;
 use dcv_certificate::separate;
-use dcv_count::Count;
 use dcv_dfa::Auto;
+use dcv_language::Count;
 use dcv_print::{all_text, automaton_text, verdict, verdict_text};
 use dcv_tables::one_name;
 use std::alloc::{AllocError, Global};

@@ -10,7 +10,7 @@ use Rattle.dcv_dfa.specs.Raw.{RawValue, raw_accepts}
 use Rattle.dcv_build.specs.Budget.{IsAutomatonOf}
 use Rattle.dcv_print.specs.Automaton.{IsAutomatonOf as IsPrintedOf}
 use Rattle.dcv_print.specs.Laws.{IsPrintable, PrintedIsAutomaton, FileSaysNode, FileSaysUnit, AutomatonOfSameBehaviours}
-use Rattle.dcv_count.specs.declared.Count.{Count}
+use Rattle.dcv_language.specs.declared.count.Count.{Count}
 use Rattle.dcv_print.specs.Counts.{ArePrintableCounts}
 use Rattle.dcv_print.specs.Printed.{printed_file}
 use Rattle.dcv_print.specs.Report.{ReportValue, SpellsAutomaton, IsLustreObserver, IsCObserver, Says as SaysOf}

@@ -7,7 +7,7 @@ use Rattle.dcv_automaton_text.specs.Form.{HasForm}
 use Rattle.dcv_automaton_text.specs.Laws.{OneFile}
 use Rattle.dcv_automaton_text.specs.Meaning.{access_words_of, suffix_words_of, table_of}
 use Rattle.dcv_automaton_text.specs.Rules.{AreNames, most_steps}
-use Rattle.dcv_count.specs.declared.Count.{Count}
+use Rattle.dcv_language.specs.declared.count.Count.{Count}
 use Rattle.dcv_certify.specs.Certified.{IsCertified}
 use Rattle.dcv_certify.specs.Laws.{OneAnswer, PrintedIsCertified as GoodWordsAreCertified}
 use Rattle.dcv_certify.specs.declared.answer.Answer.TheVariants.{Minimal}

@@ -22,7 +22,7 @@ use Rattle.dcv_automaton_text.proofs.GoodTables.{table_has_the_files_states}
 use Rattle.dcv_automaton_text.specs.Meaning.{access_words_of, suffix_word_of, suffix_words_of}
 use Rattle.dcv_language.specs.Certificate.{GrowsInTurn, IsCertificate}
 use Rattle.dcv_language.specs.Language.{Language}
-use Rattle.dcv_count.specs.declared.Count.{Count}
+use Rattle.dcv_language.specs.declared.count.Count.{Count}
 use Rattle.dcv_print.specs.Automaton.{IsAutomatonOf}
 use Rattle.dcv_automaton_read.specs.File.{step_line, step_part as step_part_of}
 use Rattle.dcv_print.proofs.SuffixCounts.{suffixes_are_few}

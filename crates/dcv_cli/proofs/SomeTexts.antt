@@ -1,7 +1,7 @@
 -- An automaton that has a file has a right text of each kind: of the canonical automaton itself, of its observers, and of all.
 --     some_text      the text of a kind, for a set of behaviours that the automaton accepts
 use Rattle.std.proofs.Common.{◌≡◌, ℕ, List, [], refl, sym, subst}
-use Rattle.dcv_count.specs.declared.Count.{Count}
+use Rattle.dcv_language.specs.declared.count.Count.{Count}
 use Rattle.dcv_language.specs.Certificate.{IsCertificate}
 use Rattle.dcv_language.specs.Language.{Language, HaveSameBehaviours}
 use Rattle.dcv_language.specs.Verdict.{Verdict}

@@ -12,7 +12,7 @@ use Rattle.dcv_automaton_text.specs.Rules.{AreNames, most_states, most_nodes}
 use Rattle.dcv_dfa.specs.Auto.{count_of_nodes}
 use Rattle.dcv_build.specs.Budget.{IsAutomatonOf, IsWithinBudget}
 use Rattle.dcv_build.specs.Counts.{AreCounts}
-use Rattle.dcv_count.specs.declared.Count.{Count}
+use Rattle.dcv_language.specs.declared.count.Count.{Count}
 use Rattle.dcv_print.specs.Counts.{ArePrintableCounts}
 use Rattle.dcv_print.specs.Printed.{texts_of}
 use Rattle.dcv_print.specs.Report.{ReportValue}

@@ -8,7 +8,7 @@ use Rattle.dcv_logic.specs.Models.{models}
 use Rattle.dcv_language.specs.Language.{Language}
 use Rattle.dcv_language.specs.Verdict.{Verdict, IsVerdict}
 use Rattle.dcv_language.specs.VerdictText.{verdict_text}
-use Rattle.dcv_count.specs.declared.Count.{Count}
+use Rattle.dcv_language.specs.declared.count.Count.{Count}
 use Rattle.dcv_explore.specs.declared.explorer.Limits.{Limits}
 use Rattle.dcv_build.specs.Counts.{AreCounts}
 use Rattle.dcv_print.specs.Printed.{texts_of}

@@ -7,9 +7,9 @@ ghost use Rattle.dcv_build.specs.Budget.{IsAutomatonOf};
 ghost use Rattle.dcv_print.specs.Printed.{texts_of};
 ghost use Rattle.dcv_cli.specs.Judged.{CanBePrinted, Reports};
 
-use dcv_count::Count;
 use dcv_dfa::Auto;
 use dcv_dfa::laws::tables_accept_the_same;
+use dcv_language::Count;
 use dcv_language::laws::verdict_of_same_behaviours;
 use dcv_print::laws::{
     automaton_of_same_behaviours, printed_is_automaton, printed_observers_observe,

@@ -1,7 +1,7 @@
 -- What there is of lists of functions, and of cores.
 use Rattle.std.specs.Prelude.{◌≡◌, ◌⊎◌, ℕ, ◌^◌, ◌<◌, ◌≤◌, List, length, All}
 use Rattle.dcv_word.specs.Behaviour.{Word}
-use Rattle.dcv_count.specs.declared.Count.{Count}
+use Rattle.dcv_language.specs.declared.count.Count.{Count}
 use Rattle.dcv_language.specs.Canonical.{IsCanonical}
 use Rattle.dcv_language.specs.Table.{Table}
 use Rattle.dcv_arena.specs.Arena.{ArenaValue}

@@ -7,11 +7,14 @@
 //! and has the access word `1`. The empty suffix tells the two apart.
 //!
 //! The definitions stand in `specs/`; here are their laws, on sets and tables in [`laws`], on machines in [`machine_laws`], and how the
-//! words of a certificate are spelled ([`Access`], [`Suffix`]).
+//! words of a certificate are spelled ([`Access`], [`Suffix`]). What it took to find the table of one step of a formula is a [`Count`]: builders make
+//! counts and printers print them, and neither stands on the other.
 #![tactic(auto)]
 
 mod certificate;
+mod count;
 pub mod laws;
 pub mod machine_laws;
 
 pub use certificate::{Access, Suffix};
+pub use count::Count;

@@ -6,7 +6,7 @@ use Rattle.std.specs.List.{All, list_all, enumerate_from}
 use Rattle.std.proofs.lemmas.List.{length-map, get_or-map}
 use Rattle.std.proofs.lemmas.List.FromFn.{length-enumerate_from, get_or-enumerate_from}
 use Rattle.std.proofs.lemmas.Option.{slice_get-get_or}
-use Rattle.dcv_count.specs.declared.Count.{Count}
+use Rattle.dcv_language.specs.declared.count.Count.{Count}
 use Rattle.dcv_dfa.specs.declared.node_lines.Child.{Child}
 use Rattle.dcv_dfa.specs.declared.node_lines.Child.TheVariants.{State, Node}
 use Rattle.dcv_dfa.specs.declared.node_lines.NodeLine.{NodeLine}

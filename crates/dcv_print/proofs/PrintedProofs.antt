@@ -13,7 +13,7 @@ use Rattle.dcv_language.specs.Canonical.{access_word, IsStart, IsCanonical}
 use Rattle.dcv_language.specs.Certificate.{GrowsFrom, GrowsInTurn, IsCertificate}
 use Rattle.dcv_language.specs.Language.{Language}
 use Rattle.dcv_language.specs.Table.{Table}
-use Rattle.dcv_count.specs.declared.Count.{Count}
+use Rattle.dcv_language.specs.declared.count.Count.{Count}
 use Rattle.dcv_dfa.specs.Auto.{table_of_states}
 use Rattle.dcv_dfa.specs.NodeLines.{node_lines_of}
 use Rattle.dcv_dfa.specs.Raw.{RawValue, raw_accepts}

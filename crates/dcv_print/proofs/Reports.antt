@@ -9,7 +9,7 @@ use Rattle.dcv_c.specs.Observer.{observer_of as unit_of}
 use Rattle.dcv_lustre.specs.Layout as lustre
 use Rattle.dcv_lustre.specs.Observer.{observer_of as node_of}
 use Rattle.dcv_certificate.specs.Proof.{IsProof}
-use Rattle.dcv_count.specs.declared.Count.{Count}
+use Rattle.dcv_language.specs.declared.count.Count.{Count}
 use Rattle.dcv_dfa.specs.Raw.{RawValue}
 use Rattle.dcv_print.specs.Listed.{listed_file, lustre_text, c_text}
 use Rattle.dcv_print.specs.Printed.{texts_of, printed_file}

@@ -3,7 +3,7 @@
 --     ArePrintableCounts counts   these may be printed, one for each step in order
 use Rattle.std.specs.Prelude.{◌≤◌, List, length}
 use Rattle.std.specs.List.{All}
-use Rattle.dcv_count.specs.declared.Count.{Count}
+use Rattle.dcv_language.specs.declared.count.Count.{Count}
 use Rattle.dcv_automaton_text.specs.Rules.{most_steps, most_start, most_states, most_nodes}
 
 pub record IsPrintableCount (count : Count) : Type 0 where

@@ -15,7 +15,7 @@ use Rattle.dcv_automaton_text.specs.Meaning.{table_of, access_words_of, suffix_w
 use Rattle.dcv_automaton_text.specs.Rules.{IsGood}
 use Rattle.dcv_automaton_text.specs.Versions.{version_of, first_version, steps_of}
 use Rattle.dcv_automaton_read.specs.File.{step_line}
-use Rattle.dcv_count.specs.declared.Count.{Count}
+use Rattle.dcv_language.specs.declared.count.Count.{Count}
 use Rattle.dcv_dfa.specs.Auto.{table_of_states}
 use Rattle.dcv_dfa.specs.Raw.{RawValue, raw_accepts}
 use Rattle.dcv_language.specs.declared.certificate.Access.{Access}

@@ -3,7 +3,7 @@
 --     printed_file raw names access suffixes counts    the file, of version 2
 use Rattle.std.specs.Prelude.{ℕ, List, Some, map}
 use Rattle.std.specs.List.{enumerate_from}
-use Rattle.dcv_count.specs.declared.Count.{Count}
+use Rattle.dcv_language.specs.declared.count.Count.{Count}
 use Rattle.dcv_dfa.specs.Raw.{RawValue}
 use Rattle.dcv_language.specs.declared.certificate.Access.{Access as CodeAccess}
 use Rattle.dcv_language.specs.declared.certificate.Suffix.{Suffix as CodeSuffix}

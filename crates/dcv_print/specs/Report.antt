@@ -12,7 +12,7 @@ use Rattle.dcv_automaton_text.specs.File.{AccessLine, SuffixLine}
 use Rattle.dcv_automaton_text.specs.Spelled.{spelled}
 use Rattle.dcv_automaton_file.specs.File.{file_of}
 use Rattle.dcv_certificate.specs.Proof.{IsProof}
-use Rattle.dcv_count.specs.declared.Count.{Count}
+use Rattle.dcv_language.specs.declared.count.Count.{Count}
 use Rattle.dcv_dfa.specs.Raw.{RawValue, raw_accepts}
 use Rattle.dcv_c.specs.Layout as c
 use Rattle.dcv_c.specs.Observer.{observer_of as unit_of}

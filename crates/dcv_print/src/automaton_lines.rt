@@ -18,9 +18,9 @@ ghost use Rattle.dcv_print.specs.Pushed.{spaced, spelled_lines};
 
 use crate::verdict_lines::{put_heading, put_letter, put_number};
 use dcv_certificate::{Access, Proof, Suffix, separate};
-use dcv_count::Count;
 use dcv_dfa::{Auto, Child, NodeLine, NodeLines};
 use dcv_io::{Target, Text, put_pieces};
+use dcv_language::Count;
 use dcv_syntax::Name;
 use dcv_word::Letter;
 use itoa::Buffer;

@@ -3,7 +3,7 @@ use Rattle.std.proofs.Common.{List, subst, ◌∙◌}
 use Rattle.std.specs.Prelude.{IfOk}
 use Rattle.std.proofs.lemmas.List.{length-map}
 use Rattle.dcv_syntax.specs.declared.names.Name.{Name}
-use Rattle.dcv_count.specs.declared.Count.{Count}
+use Rattle.dcv_language.specs.declared.count.Count.{Count}
 use Rattle.dcv_print.specs.Printed.{texts_of}
 use Rattle.dcv_print.specs.Report.{Says}
 use Rattle.dcv_cli.proofs.Automata.{report_answers}

@@ -1,6 +1,6 @@
 use Rattle.std.proofs.Common.{◌++◌, ap, sym, append-nil, arith}
 use Rattle.std.proofs.lemmas.Grind.{common_steps}
-use Rattle.dcv_count.specs.declared.Count.{Count}
+use Rattle.dcv_language.specs.declared.count.Count.{Count}
 use Rattle.dcv_automaton_text.specs.Spelled.{step_words, steps_words, spelled_line}
 use Rattle.dcv_automaton_read.specs.File.{step_line, step_part}
 use Rattle.dcv_print.proofs.Spellings.{one_behind_more, all_lines}

@@ -1,6 +1,6 @@
 use Rattle.std.proofs.Common.{◌≡◌, ◌+◌, Err, List, ap, subst, ◌∙◌}
 use Rattle.std.proofs.lemmas.Result.{err_from_is_err_and}
-use Rattle.dcv_count.specs.declared.Count.{Count}
+use Rattle.dcv_language.specs.declared.count.Count.{Count}
 use Rattle.dcv_core.specs.Steps.{steps_of}
 use Rattle.dcv_explore.specs.declared.explorer.Limits.{Limits}
 use Rattle.dcv_explore.specs.Budget.{TooManyStates, TooManyNodes}

@@ -1,6 +1,4 @@
-//! What the building of one step took: how many states and nodes its exploration had, and where the step stands in the source. It is a
-//! crate of its own, since builders make counts and printers print them, and neither stands on the other.
-#![tactic(auto)]
+// What the building of one step of a formula took.
 
 /// What a step took.
 #[derive(Clone, Copy, Debug, PartialEq, Eq)]
