@@ -38,7 +38,7 @@ use Rattle.dcv_explore.specs.Budget.{Kind, TooManyStates, TooManyNodes, Exceeds}
 use Rattle.dcv_explore.specs.declared.explorer.Limits.{Limits}
 use Rattle.dcv_build.specs.Budget.{IsWithinBudget, IsOver}
 use Rattle.dcv_build.specs.Laws.{MachineAcceptsStep}
-use Rattle.dcv_draw.specs.DrawnCores.{drawn_formulas}
+use Rattle.dcv_sweep.specs.DrawnCores.{drawn_formulas}
 use Rattle.dcv_implies.specs.Comparison.{difference, IsIncluded, AreTablesOf, product}
 use Rattle.dcv_implies.specs.Laws.{NoneWhereIncluded}
 use Rattle.dcv_sweep.specs.Findings.{IsFinding, summary_of}

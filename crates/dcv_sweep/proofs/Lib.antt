@@ -1,3 +1,5 @@
+mod Adding
+mod Rows
 mod Judged
 mod OneSummary
 mod Swept

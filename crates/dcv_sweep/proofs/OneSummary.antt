@@ -8,7 +8,7 @@ use Rattle.dcv_core.specs.Core.{CoreTree}
 use Rattle.dcv_core.specs.Holds.{words_of}
 use Rattle.dcv_explore.specs.declared.explorer.Limits.{Limits}
 use Rattle.dcv_build.specs.Laws.{WithinExcludesOver}
-use Rattle.dcv_draw.specs.DrawnCores.{drawn_formulas}
+use Rattle.dcv_sweep.specs.DrawnCores.{drawn_formulas}
 use Rattle.dcv_sweep.specs.declared.findings.Finding.{Finding}
 use Rattle.dcv_sweep.specs.declared.findings.Finding.TheVariants.{Over, Within}
 use Rattle.dcv_sweep.specs.declared.findings.Judgement.{Judgement}

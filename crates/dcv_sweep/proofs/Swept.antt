@@ -5,7 +5,7 @@ use Rattle.std.specs.Prelude.{sum_by}
 use Rattle.std.proofs.lemmas.List.Sums.{sum_by-append, count_by-le-length}
 use Rattle.dcv_core.specs.Core.{CoreTree}
 use Rattle.dcv_explore.specs.declared.explorer.Limits.{Limits}
-use Rattle.dcv_draw.specs.DrawnCores.{Drawn, drawn_formula, drawn_formulas}
+use Rattle.dcv_sweep.specs.DrawnCores.{Drawn, drawn_formula, drawn_formulas}
 use Rattle.dcv_sweep.specs.declared.findings.Finding.{Finding}
 use Rattle.dcv_sweep.specs.declared.summary.Summary.{Summary}
 use Rattle.dcv_sweep.specs.Counting.{counted, HasRoom, IsOneMore, IsSweptUpTo}

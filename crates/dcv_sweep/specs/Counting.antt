@@ -6,7 +6,7 @@
 use Rattle.std.specs.Prelude.{◌≡◌, ℕ, ◌+◌, ◌*◌, ◌^◌, ◌≤◌, ◌<◌, cond, List}
 use Rattle.std.specs.List.{AllZip}
 use Rattle.dcv_explore.specs.declared.explorer.Limits.{Limits}
-use Rattle.dcv_draw.specs.DrawnCores.{drawn_formula, drawn_formulas}
+use Rattle.dcv_sweep.specs.DrawnCores.{drawn_formula, drawn_formulas}
 use Rattle.dcv_sweep.specs.declared.findings.Finding.{Finding}
 use Rattle.dcv_sweep.specs.declared.summary.Summary.{Summary}
 use Rattle.dcv_sweep.specs.Findings.{IsFinding, is_over, is_valid, is_satisfiable, states_of, summary_of}

@@ -18,7 +18,7 @@ use Rattle.dcv_core.specs.Steps.{steps_of}
 use Rattle.dcv_explore.specs.declared.explorer.Limits.{Limits}
 use Rattle.dcv_explore.specs.Budget.{Kind}
 use Rattle.dcv_build.specs.Budget.{IsWithinBudget, IsOver}
-use Rattle.dcv_draw.specs.DrawnCores.{drawn_formulas}
+use Rattle.dcv_sweep.specs.DrawnCores.{drawn_formulas}
 use Rattle.dcv_sweep.specs.declared.findings.Finding.{Finding}
 use Rattle.dcv_sweep.specs.declared.findings.Finding.TheVariants.{Over, Within}
 use Rattle.dcv_sweep.specs.declared.findings.Judgement.{Judgement}

@@ -6,13 +6,20 @@
 //! let summary = sweep(alloc, 0, 1, Limits { states: 30_000, nodes: 1_000_000 })?;
 //! summary.put(&mut target) // formulas 1, valid 0, satisfiable 1, over 0, states 3, a line for each
 //! ```
+//!
+//! Which number of the generator picks what in a formula is defined in `specs/DrawnCores`; `laws` has the numbers and the formula with which
+//! seed 0 begins.
 #![tactic(auto)]
 
 mod findings;
+mod formulas;
+mod generator;
 pub mod laws;
 mod summary;
 mod sweeping;
 
 pub use findings::{Finding, Judgement};
+pub use formulas::drawn_core;
+pub use generator::Draw;
 pub use summary::Summary;
 pub use sweeping::sweep;

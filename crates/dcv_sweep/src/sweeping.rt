@@ -4,8 +4,9 @@ ghost use Rattle.dcv_sweep.specs.Counting.{HasRoom, IsOneMore};
 ghost use Rattle.dcv_sweep.specs.Findings.{IsSummary};
 
 use crate::findings::find;
+use crate::formulas::drawn_core;
+use crate::generator::Draw;
 use crate::summary::Summary;
-use dcv_draw::{Draw, drawn_core};
 use dcv_explore::Limits;
 use std::alloc::{AllocError, Global};
 

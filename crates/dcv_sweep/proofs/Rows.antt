@@ -1,7 +1,7 @@
 -- The first numbers and the first formula of seed 0, by computing.
 use Rattle.std.proofs.Common.{refl}
-use Rattle.dcv_draw.specs.DrawnCores.{drawn_formula, drawn_formulas}
-use Rattle.dcv_draw.specs.Laws.{NumbersOfSeed0, FormulaOfSeed0}
+use Rattle.dcv_sweep.specs.DrawnCores.{drawn_formula, drawn_formulas}
+use Rattle.dcv_sweep.specs.Laws.{NumbersOfSeed0, FormulaOfSeed0}
 
 pub numbers_of_seed_0 : NumbersOfSeed0
 numbers_of_seed_0 = refl

@@ -5,11 +5,11 @@ use Rattle.dcv_syntax.specs.declared.propositions.Connective.TheVariants as conn
 use Rattle.dcv_core.specs.Core.{CoreTree}
 use Rattle.dcv_core.specs.Steps.{PlainOp, steps_before, steps_from, steps_of, without_core, PlainCore, Pushed}
 use Rattle.dcv_core.proofs.MadeSteps.{made_length, IsOne, made_one, IsTwo, made_two, joined_is_two, chop_is_two}
-use Rattle.dcv_draw.specs.declared.formulas.Join.{Join}
-use Rattle.dcv_draw.specs.declared.formulas.Join.TheVariants.{And, Or, Chop, Iff}
-use Rattle.dcv_draw.specs.Draw.{next_draw, drawn}
-use Rattle.dcv_draw.specs.DrawnCores.{Drawn, nowhere, over_one, over_two, operation_of, drawn_core, drawn_formula}
-use Rattle.dcv_draw.specs.Making.{join_of, join_op, Adds, most_steps}
+use Rattle.dcv_sweep.specs.declared.formulas.Join.{Join}
+use Rattle.dcv_sweep.specs.declared.formulas.Join.TheVariants.{And, Or, Chop, Iff}
+use Rattle.dcv_sweep.specs.Draw.{next_draw, drawn}
+use Rattle.dcv_sweep.specs.DrawnCores.{Drawn, nowhere, over_one, over_two, operation_of, drawn_core, drawn_formula}
+use Rattle.dcv_sweep.specs.Making.{join_of, join_op, Adds, most_steps}
 
 -- ---- how many steps there are at most
 

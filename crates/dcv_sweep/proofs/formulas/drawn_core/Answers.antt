@@ -1,5 +1,5 @@
-use Rattle.dcv_draw.proofs.Adding.{steps_of_formula}
-use Rattle.dcv_draw.proofs.formulas.drawn_core.Goals as goal
+use Rattle.dcv_sweep.proofs.Adding.{steps_of_formula}
+use Rattle.dcv_sweep.proofs.formulas.drawn_core.Goals as goal
 
 pub returns-clause-declared : goal.returns-clause-declared
 returns-clause-declared c = (steps_of_formula c.args.draw.now c.new-core.ensures c.in_ok-formula.ensures).0

@@ -1,5 +1,5 @@
 use Rattle.std.proofs.Common.{◌+◌, ◌*◌}
-use Rattle.dcv_draw.proofs.formulas.+formulas.Given as goal
+use Rattle.dcv_sweep.proofs.formulas.+formulas.Given as goal
 
 -- the operands of an operator are drawn one less deep
 abbrev pub decreases-formula : goal.decreases-formula

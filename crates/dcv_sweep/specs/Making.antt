@@ -7,9 +7,9 @@ use Rattle.dcv_syntax.specs.declared.names.Span.{Span}
 use Rattle.dcv_syntax.specs.declared.propositions.Connective.TheVariants as connective
 use Rattle.dcv_core.specs.Core.{CoreTree, CoreJoined, CoreChop}
 use Rattle.dcv_core.specs.Steps.{PlainOp, OpJoined, OpChop, PlainCore, Made}
-use Rattle.dcv_draw.specs.declared.formulas.Join.{Join}
-use Rattle.dcv_draw.specs.declared.formulas.Join.TheVariants.{And, Or, Chop, Iff}
-use Rattle.dcv_draw.specs.DrawnCores.{Drawn}
+use Rattle.dcv_sweep.specs.declared.formulas.Join.{Join}
+use Rattle.dcv_sweep.specs.declared.formulas.Join.TheVariants.{And, Or, Chop, Iff}
+use Rattle.dcv_sweep.specs.DrawnCores.{Drawn}
 
 abbrev pub join_of : Join → CoreTree → CoreTree → Span → CoreTree
 join_of And = CoreJoined connective.And

@@ -1,6 +1,6 @@
 // The generator of numbers.
 ghost use Rattle.std.specs.Prelude.{◌≡◌, ◌<◌, ◌≤◌, ◌^◌};
-ghost use Rattle.dcv_draw.specs.Draw.{next_draw, drawn};
+ghost use Rattle.dcv_sweep.specs.Draw.{next_draw, drawn};
 
 use std::marker::Model;
 

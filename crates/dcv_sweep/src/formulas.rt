@@ -3,8 +3,8 @@ ghost use Rattle.std.specs.Prelude.{◌≡◌, ◌<◌, ◌≤◌, ◌+◌, ◌*
 ghost use Rattle.dcv_core.specs.Steps.{without_core, steps_of};
 ghost use Rattle.dcv_core.specs.StepViews.{plain_operator};
 ghost use Rattle.dcv_core.specs.TruthViews.{plain_truth, plain_basic};
-ghost use Rattle.dcv_draw.specs.DrawnCores.{drawn_literal, drawn_atom, over_none, over_two, operation_of, drawn_core, drawn_formula};
-ghost use Rattle.dcv_draw.specs.Making.{join_of, join_op, Adds, most_steps};
+ghost use Rattle.dcv_sweep.specs.DrawnCores.{drawn_literal, drawn_atom, over_none, over_two, operation_of, drawn_core, drawn_formula};
+ghost use Rattle.dcv_sweep.specs.Making.{join_of, join_op, Adds, most_steps};
 
 use crate::generator::Draw;
 use dcv_core::{Basic, Core, Operator, Rel, Truth};

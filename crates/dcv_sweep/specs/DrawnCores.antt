@@ -14,7 +14,7 @@ use Rattle.dcv_syntax.specs.declared.formulas.Bracket.TheVariants.{Point, Run, E
 use Rattle.dcv_syntax.specs.declared.formulas.Count.TheVariants.{Scount, Sdur}
 use Rattle.dcv_core.specs.Core.{PlainTruth, TruthSlot, TruthNot, PlainBasic, BasicBracketed, BasicCounted}
 use Rattle.dcv_core.specs.Core.{CoreTree, CoreAtom, CoreNot, CoreJoined, CoreChop, CoreStar, CoreExists}
-use Rattle.dcv_draw.specs.Draw.{next_draw, drawn}
+use Rattle.dcv_sweep.specs.Draw.{next_draw, drawn}
 
 pub record Drawn (T : Type 0) : Type 0 where
   pub made : T

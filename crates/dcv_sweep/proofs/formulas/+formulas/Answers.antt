@@ -2,9 +2,9 @@ use Rattle.std.proofs.Common.{◌≡◌, ◌+◌, ◌-◌, arith, sym, ap, ◌�
 use Rattle.dcv_core.proofs.MadeSteps.{then_ok, not_is_one, star_is_one, exists_is_one}
 use Rattle.dcv_syntax.specs.declared.propositions.Connective.TheVariants.{Iff}
 use Rattle.dcv_core.specs.Core.{CoreJoined}
-use Rattle.dcv_draw.specs.DrawnCores.{over_two, operation_of, drawn_core}
-use Rattle.dcv_draw.proofs.Adding.{one_deeper, most_one_deeper, drawn_length, adds_one, adds_same}
-use Rattle.dcv_draw.proofs.formulas.+formulas.Goals as goal
+use Rattle.dcv_sweep.specs.DrawnCores.{over_two, operation_of, drawn_core}
+use Rattle.dcv_sweep.proofs.Adding.{one_deeper, most_one_deeper, drawn_length, adds_one, adds_same}
+use Rattle.dcv_sweep.proofs.formulas.+formulas.Goals as goal
 
 pub formula-operation-requires : goal.formula-operation-requires
 formula-operation-requires t c =

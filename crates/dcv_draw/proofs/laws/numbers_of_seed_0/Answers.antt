@@ -1,5 +1,0 @@
-use Rattle.dcv_draw.proofs.Rows.{numbers_of_seed_0}
-use Rattle.dcv_draw.proofs.laws.numbers_of_seed_0.Goals as goal
-
-pub returns : goal.returns
-returns c = numbers_of_seed_0
