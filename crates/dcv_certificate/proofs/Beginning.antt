@@ -5,7 +5,7 @@ use Rattle.std.proofs.lemmas.List.{length-map, get_or-map}
 use Rattle.dcv_dfa.specs.Raw.{RawValue, is_accepting}
 use Rattle.dcv_language.specs.declared.certificate.Suffix.{Suffix}
 use Rattle.dcv_language.specs.declared.certificate.Suffix.TheVariants.{Empty}
-use Rattle.dcv_members.specs.Members.{block_of}
+use Rattle.dcv_refinement.specs.Members.{block_of}
 use Rattle.dcv_certificate.specs.Proof.{suffix_words, GoOnFromEarlier}
 use Rattle.dcv_certificate.specs.Vertices.{HasFlagged}
 use Rattle.dcv_certificate.proofs.Counting.{one_if}

@@ -2,9 +2,9 @@
 use Rattle.std.proofs.Common.{◌≡◌, ◌⊎◌, inl, inr, ℕ, ◌<◌, ◌+◌, ◌/◌, true, false, List, ◌++◌, length, get_or, take, All, Contains, refl, sym, subst, ◌∙◌, arith}
 use Rattle.std.proofs.lemmas.Bool.{true≢false}
 use Rattle.std.proofs.lemmas.List.Elements.{All-more, All-weaker, All-contains, All-append, Contains-append_left, Contains-append_right}
-use Rattle.dcv_members.specs.Members.{IsMended, HaveTheirOwn, block_of}
-use Rattle.dcv_members.proofs.MemberFacts.{block_mended}
-use Rattle.dcv_index.proofs.MarkFacts.{all_from_contains}
+use Rattle.dcv_refinement.specs.Members.{IsMended, HaveTheirOwn, block_of}
+use Rattle.dcv_refinement.proofs.MemberFacts.{block_mended}
+use Rattle.dcv_refinement.proofs.MarkFacts.{all_from_contains}
 use Rattle.dcv_certificate.specs.declared.ones.Ones.{Ones}
 use Rattle.dcv_certificate.specs.Separation.{count_below}
 use Rattle.dcv_certificate.specs.Ones.{is_one, ones_in, AreCounted, are_few_in, AreCandidates}

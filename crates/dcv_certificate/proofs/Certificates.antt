@@ -22,7 +22,7 @@ use Rattle.dcv_language.proofs.Runs.{accepts_on, accepts_by_state}
 use Rattle.dcv_dfa.specs.Raw.{RawValue, IsRaw, LeadsBelow, row_of, is_accepting, next_in, automaton_of, raw_accepts}
 use Rattle.dcv_dfa.specs.Auto.{table_of_states, IsAutoWith}
 use Rattle.dcv_dfa.specs.Laws.{TableHasTheStates, TableHasTheFlags, TableLeadsAsTheStates}
-use Rattle.dcv_members.specs.Members.{block_of}
+use Rattle.dcv_refinement.specs.Members.{block_of}
 use Rattle.dcv_certificate.specs.Vertices.{rows_with, with_start}
 use Rattle.dcv_certificate.specs.Separation.{AreVertices, word_at, accepts_word, accepts_at, AreListed, IsSeparated}
 use Rattle.dcv_certificate.proofs.Counting.{last_or_before}

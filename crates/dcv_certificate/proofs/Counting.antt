@@ -1,7 +1,7 @@
 -- How many pairs of states are in one block: fewer where blocks were split.
 use Rattle.std.proofs.Common.{◌≡◌, ◌≢◌, ◌⊎◌, inl, inr, ℕ, zero, suc, ◌<◌, ◌≤◌, ◌+◌, ◌==◌, if◌then◌else◌, Bool, true, false, List, refl, sym, ap, arith}
 use Rattle.std.proofs.lemmas.Bool.{cases_lt, eqb-true, eq-eqb, ne_eqb, true≢false}
-use Rattle.dcv_members.specs.Members.{block_of}
+use Rattle.dcv_refinement.specs.Members.{block_of}
 use Rattle.dcv_certificate.specs.Separation.{count_below, sum_below, pairs_together}
 
 pub last_or_before : (place count : ℕ) → place < suc count → (place < count) ⊎ (place ≡ count)

@@ -5,12 +5,12 @@ use Rattle.std.specs.Cmp.{nat_eq_equiv}
 use Rattle.std.proofs.lemmas.List.Elements.{All-contains}
 use Rattle.std.proofs.lemmas.Map.Views.{list_any-from_Contains}
 use Rattle.std.proofs.lemmas.Option.{same_Some}
-use Rattle.dcv_members.specs.SparseSet.{has as is_among}
+use Rattle.dcv_refinement.specs.SparseSet.{has as is_among}
 use Rattle.dcv_arena.specs.Arena.{ArenaValue, IsRef, level_of, value_of, KeepsRefs}
 use Rattle.dcv_arena.specs.declared.nodes.Ref.{Ref}
 use Rattle.dcv_arena.specs.declared.nodes.Ref.TheVariants.{Leaf, Place}
-use Rattle.dcv_index.specs.Leads.{row_at, index_of, LeadsInto, IsRowInto}
-use Rattle.dcv_index.proofs.Fitted.{leads_at}
+use Rattle.dcv_refinement.specs.Leads.{row_at, index_of, LeadsInto, IsRowInto}
+use Rattle.dcv_refinement.proofs.Fitted.{leads_at}
 use Rattle.dcv_dfa.specs.Raw.{RawValue, next_in}
 use Rattle.dcv_certificate.specs.declared.indicators.Part.{Part}
 use Rattle.dcv_certificate.specs.Separation.{has, AreVertices}

@@ -4,7 +4,7 @@ use Rattle.std.specs.Bool.{beq}
 use Rattle.std.proofs.lemmas.Bool.{cases_Bool, true≢false, eqb-true, eq-eqb}
 use Rattle.std.proofs.lemmas.List.Elements.{All-contains}
 use Rattle.dcv_dfa.specs.Raw.{RawValue}
-use Rattle.dcv_members.specs.Members.{block_of}
+use Rattle.dcv_refinement.specs.Members.{block_of}
 use Rattle.dcv_certificate.specs.declared.ones.Ones.{Ones}
 use Rattle.dcv_certificate.specs.Separation.{TellAlike, AreTogether, has, count_below}
 use Rattle.dcv_certificate.specs.Marks.{SplitsSome, IsSplitOff}

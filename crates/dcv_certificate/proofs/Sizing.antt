@@ -1,6 +1,6 @@
 -- Counting the states of each block, one after another.
 use Rattle.std.proofs.Common.{◌≡◌, ℕ, zero, suc, ◌<◌, ◌≤◌, ◌==◌, Bool, List, length, get_or, arith}
-use Rattle.dcv_members.specs.Members.{block_of}
+use Rattle.dcv_refinement.specs.Members.{block_of}
 use Rattle.dcv_certificate.specs.Separation.{count_below}
 use Rattle.dcv_certificate.proofs.Counting.{one_if_le}
 

@@ -6,7 +6,7 @@ use Rattle.std.proofs.lemmas.List.Folds.{list_any-append}
 use Rattle.std.proofs.lemmas.Option.{same_Some}
 use Rattle.dcv_arena.specs.Arena.{ArenaValue, value_of}
 use Rattle.dcv_arena.specs.declared.nodes.Ref.{Ref}
-use Rattle.dcv_members.specs.Members.{block_of}
+use Rattle.dcv_refinement.specs.Members.{block_of}
 use Rattle.dcv_certificate.specs.Separation.{count_below}
 use Rattle.dcv_certificate.specs.Marks.{marked}
 use Rattle.dcv_certificate.specs.Tallies.{number_of, HasNoOther, has_mark, is_counted, IsTally, IsAdded, AreSizes, AreMarkedAlike}

@@ -7,11 +7,11 @@
 --     AreIndicators part rows looked scratch marks   the marks of the looked-at states are the indicators of their rows, and there are no others
 use Rattle.std.specs.Prelude.{◌≡◌, ℕ, ◌≤◌, ◌&&◌, nat_eq, Bool, true, if◌then◌else◌, List, Option, Some}
 use Rattle.indexmap.specs.IndexSet.{contains}
-use Rattle.dcv_members.specs.SparseSet.{has as is_among}
+use Rattle.dcv_refinement.specs.SparseSet.{has as is_among}
 use Rattle.dcv_arena.specs.Arena.{ArenaValue, IsRef, level_of, value_of}
 use Rattle.dcv_arena.specs.declared.nodes.Ref.{Ref}
 use Rattle.dcv_arena.specs.declared.nodes.Ref.TheVariants.{Place}
-use Rattle.dcv_index.specs.Leads.{row_at}
+use Rattle.dcv_refinement.specs.Leads.{row_at}
 use Rattle.dcv_certificate.specs.declared.indicators.Part.{Part}
 use Rattle.dcv_certificate.specs.Separation.{has}
 use Rattle.dcv_certificate.specs.Marks.{marked}

@@ -12,7 +12,7 @@ use Rattle.std.specs.Bool.{beq}
 use Rattle.std.specs.List.{All}
 use Rattle.indexmap.specs.IndexMap.{get}
 use Rattle.indexmap.specs.IndexSet.{contains}
-use Rattle.dcv_members.specs.Members.{block_of}
+use Rattle.dcv_refinement.specs.Members.{block_of}
 use Rattle.dcv_certificate.specs.declared.ones.Ones.{Ones}
 use Rattle.dcv_certificate.specs.Separation.{has, count_below}
 

@@ -13,7 +13,7 @@ use Rattle.dcv_certificate.specs.declared.partition.Partition.{Partition}
 use Rattle.dcv_certificate.specs.Proof.{suffix_words}
 use Rattle.dcv_certificate.specs.Vertices.{raw_of}
 use Rattle.dcv_certificate.specs.Tallies.{AreSizes}
-use Rattle.dcv_members.specs.Members.{list_of, HaveTheirOwn}
+use Rattle.dcv_refinement.specs.Members.{list_of, HaveTheirOwn}
 use Rattle.dcv_certificate.specs.Separation.{IsSeparation, AreFinished, Advances}
 
 abbrev pub raw_in : Partition → RawValue

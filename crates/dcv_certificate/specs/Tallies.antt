@@ -13,7 +13,7 @@ use Rattle.indexmap.specs.IndexMap.{get}
 use Rattle.indexmap.specs.IndexSet.{contains}
 use Rattle.dcv_arena.specs.Arena.{ArenaValue}
 use Rattle.dcv_arena.specs.declared.nodes.Ref.{Ref}
-use Rattle.dcv_members.specs.Members.{block_of}
+use Rattle.dcv_refinement.specs.Members.{block_of}
 use Rattle.dcv_certificate.specs.declared.tally.Tally.{Tally}
 use Rattle.dcv_certificate.specs.Separation.{count_below}
 use Rattle.dcv_certificate.specs.Marks.{marked}

@@ -15,9 +15,9 @@ use crate::proof::Proof;
 use crate::vertices::Vertices;
 use dcv_dfa::Auto;
 use dcv_dfa::laws::{tables_accept_the_same, tables_have_the_states};
-use dcv_index::{Above, Index};
 use dcv_language::Suffix;
 use dcv_language::laws::one_canonical_table;
+use dcv_refinement::{Above, Index};
 use std::alloc::{AllocError, Global};
 
 /// Suffixes that show that no automaton with fewer states accepts the same words, beside the words that lead to each state.

@@ -9,7 +9,7 @@ ghost use Rattle.dcv_certificate.specs.Marks.{IsMarkFrom};
 ghost use Rattle.dcv_certificate.specs.Indicators.{IsIndicator, Became, IsMarkedAbove, part_of, AreIndicators};
 
 use dcv_arena::{Arena, Ref};
-use dcv_members::SparseSet;
+use dcv_refinement::SparseSet;
 use indexmap::{IndexMap, IndexSet};
 use std::alloc::{AllocError, Global};
 

@@ -1,4 +1,4 @@
-// The states in blocks, which are split by one suffix after another. The lists of members are those of `dcv_members`, which `dcv_minimise`
+// The states in blocks, which are split by one suffix after another. The lists of members are those of `dcv_refinement`, which `dcv_minimise`
 // has too. The rest of a partition is not shared: here a block falls in two by a test, and the blocks' sizes say which part is the smaller;
 // there it falls into parts by the keys of its states, and a vote finds the part that stays.
 ghost use Rattle.std.specs.Prelude.{◌≡◌, ◌+◌, ◌<◌, ◌≤◌, ℕ, List, Bool, length, slice_set, IfOk, OnOk};
@@ -10,15 +10,14 @@ ghost use Rattle.dcv_certificate.specs.Separation.{AreVertices, IsSplit, has, pa
 ghost use Rattle.dcv_certificate.specs.Partition.{raw_in, parts_in, Separates, HasFinished, GoesOn, IsMovedTo};
 ghost use Rattle.dcv_certificate.specs.Marks.{marked, IsMarkFrom};
 ghost use Rattle.dcv_certificate.specs.Tallies.{AreSizes, count_up};
-ghost use Rattle.dcv_index.specs.Leads.{index_of};
-ghost use Rattle.dcv_members.specs.Members.{list_of, HaveTheirOwn};
+ghost use Rattle.dcv_refinement.specs.Leads.{index_of};
+ghost use Rattle.dcv_refinement.specs.Members.{list_of, HaveTheirOwn};
 
 use crate::indicators::Part;
 use crate::vertices::Vertices;
 use dcv_arena::{Arena, Ref};
-use dcv_index::{Above, Index};
 use dcv_language::Suffix;
-use dcv_members::{Members, number_of};
+use dcv_refinement::{Above, Index, Members, number_of};
 use dcv_word::Letter;
 use indexmap::IndexSet;
 use std::alloc::{AllocError, Global};

@@ -5,7 +5,7 @@ ghost use Rattle.std.specs.List.{All};
 ghost use Rattle.dcv_certificate.specs.Vertices.{raw_of, with_start, HasFlagged};
 
 use dcv_arena::{Arena, Ref};
-use dcv_members::number_of;
+use dcv_refinement::number_of;
 use std::alloc::{AllocError, Global};
 
 #[derive(Drop)]

@@ -7,7 +7,7 @@ ghost use Rattle.dcv_certificate.specs.Separation.{AreVertices, word_at};
 ghost use Rattle.dcv_certificate.specs.Partition.{raw_in, listed_in, Separates, GoesOn, IsButMended};
 ghost use Rattle.dcv_certificate.specs.Tallies.{number_of, tallied, AreSizes, AreMarkedAlike};
 ghost use Rattle.dcv_certificate.specs.Marks.{marked, IsMarkFrom, IsSideOf, AreTold, AreDone, IsSplitOff};
-ghost use Rattle.dcv_members.specs.Members.{list_of, HaveTheirOwn, block_of};
+ghost use Rattle.dcv_refinement.specs.Members.{list_of, HaveTheirOwn, block_of};
 ghost use Rattle.dcv_certificate.specs.Ones.{is_one, AreCounted, are_few_in, AreCandidates, AreRarer};
 
 use crate::ones::Ones;

@@ -6,7 +6,7 @@ use Rattle.std.proofs.lemmas.List.{length-map}
 use Rattle.std.proofs.lemmas.List.Elements.{All-contains, All-map}
 use Rattle.dcv_arena.proofs.Members.{Contains-map}
 use Rattle.dcv_dfa.specs.Raw.{RawValue}
-use Rattle.dcv_members.specs.Members.{block_of}
+use Rattle.dcv_refinement.specs.Members.{block_of}
 use Rattle.dcv_minimise.specs.Rounds.{IsState, HaveOneRow, AreAlike, IsRound, HaveStayed, IsWitnessed, witness_of}
 use Rattle.dcv_minimise.specs.Division.{move_to, IsMove, IsSettled, HasMoved, IsDivision}
 use Rattle.dcv_minimise.specs.declared.refine.division.Move.{Move}

@@ -6,7 +6,7 @@ use Rattle.std.proofs.lemmas.List.Elements.{All-nil, All-more, All-take}
 use Rattle.std.proofs.lemmas.Option.{none-some}
 use Rattle.dcv_arena.specs.Arena.{ArenaValue}
 use Rattle.dcv_dfa.specs.Raw.{RawValue}
-use Rattle.dcv_members.specs.Members.{block_of}
+use Rattle.dcv_refinement.specs.Members.{block_of}
 use Rattle.dcv_minimise.specs.Rounds.{IsState, IsWitnessed}
 use Rattle.dcv_minimise.specs.Division.{IsGrouped, IsMove, IsDividing, IsSettled}
 use Rattle.dcv_minimise.specs.declared.refine.division.Move.{Move}

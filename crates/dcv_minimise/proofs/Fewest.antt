@@ -28,7 +28,7 @@ use Rattle.dcv_language.proofs.Foldings.{folding_is_canonical}
 use Rattle.dcv_dfa.specs.Raw.{RawValue, IsRaw, LeadsBelow, row_of, is_accepting, next_in, automaton_of, raw_accepts}
 use Rattle.dcv_dfa.specs.Auto.{IsAuto, IsAutoWith, table_of_states, count_of_nodes}
 use Rattle.dcv_dfa.proofs.States.{table_accepts_as_the_states, leads_below}
-use Rattle.dcv_members.specs.Members.{block_of}
+use Rattle.dcv_refinement.specs.Members.{block_of}
 use Rattle.dcv_minimise.specs.Minimal.{IsMinimalOf}
 use Rattle.dcv_minimise.specs.Partition.{IsPartition}
 use Rattle.dcv_minimise.specs.Classes.{AreNumbers}

@@ -8,7 +8,7 @@ use Rattle.dcv_arena.specs.declared.nodes.Ref.TheVariants.{Leaf, Place}
 use Rattle.dcv_arena.proofs.Refs.{is_ref, same_ref, fixed_later}
 use Rattle.dcv_dfa.specs.NodeLines.{lo_of, hi_of}
 use Rattle.dcv_dfa.proofs.Visits.{has_children}
-use Rattle.dcv_members.specs.Members.{block_of}
+use Rattle.dcv_refinement.specs.Members.{block_of}
 use Rattle.dcv_minimise.specs.Hashes.{stirred, mixed, hash_at, hash_of_node, AreHashes}
 
 mixed_same : (slot lo hi : ℕ) → lo ≡ hi → mixed slot lo hi ≡ lo

@@ -9,7 +9,7 @@ use Rattle.std.proofs.lemmas.Map.Keys.{any_passes_from_place}
 use Rattle.indexmap.specs.IndexSet.{insert_key}
 use Rattle.std.proofs.lemmas.List.{get_or_append_left, get_or_push, length_push}
 use Rattle.std.proofs.lemmas.Option.{slice_get_within}
-use Rattle.dcv_members.specs.Members.{block_of}
+use Rattle.dcv_refinement.specs.Members.{block_of}
 use Rattle.dcv_minimise.specs.Hashes.{IsPut, AreDivided}
 use Rattle.dcv_minimise.specs.declared.refine.hashes.Alike.{Alike}
 use Rattle.dcv_minimise.specs.contracts.refine.hashes.AlikePartialEq.TheImpl.{eq-value as alike_eq}

@@ -5,7 +5,7 @@ use Rattle.std.proofs.lemmas.Option.{slice_get_within, same_Some}
 use Rattle.dcv_arena.specs.declared.nodes.Ref.TheVariants.{Leaf}
 use Rattle.dcv_language.specs.Folding.{AreApartFrom}
 use Rattle.dcv_dfa.specs.Raw.{RawValue, IsRaw, row_of, next_in, automaton_of}
-use Rattle.dcv_members.specs.Members.{block_of}
+use Rattle.dcv_refinement.specs.Members.{block_of}
 use Rattle.dcv_minimise.specs.Rounds.{IsState, AreAlike, IsWitnessed, IsTold}
 use Rattle.dcv_minimise.specs.Hashes.{AreHashes, alike_of, AreDivided, Splits}
 use Rattle.dcv_minimise.specs.declared.refine.hashes.Alike.{Alike}

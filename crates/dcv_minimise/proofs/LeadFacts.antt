@@ -2,7 +2,7 @@
 use Rattle.std.proofs.Common.{List, ℕ, Contains}
 use Rattle.dcv_arena.specs.declared.nodes.Ref.TheVariants.{Leaf}
 use Rattle.dcv_dfa.specs.Raw.{RawValue, IsRaw}
-use Rattle.dcv_index.specs.Leads.{index_of, IsRowInto}
+use Rattle.dcv_refinement.specs.Leads.{index_of, IsRowInto}
 use Rattle.dcv_minimise.specs.Rounds.{LeadTo}
 use Rattle.dcv_minimise.proofs.RoundFacts.{next_state}
 

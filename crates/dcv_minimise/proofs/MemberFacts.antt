@@ -5,7 +5,7 @@ use Rattle.std.specs.List.{list_any}
 use Rattle.std.proofs.lemmas.Bool.{cases_Bool, false≢true, eqb-true}
 use Rattle.std.proofs.lemmas.Map.Views.{Contains-from_any, list_any-from_Contains}
 use Rattle.dcv_dfa.specs.Raw.{RawValue, IsRaw}
-use Rattle.dcv_members.specs.Members.{block_of}
+use Rattle.dcv_refinement.specs.Members.{block_of}
 use Rattle.dcv_minimise.specs.Rounds.{IsState, HaveOneRow, IsWitnessed, IsStableBut, LeadTo, witness_of}
 use Rattle.dcv_minimise.specs.Listing.{IsListed, IsAlone, IsListing, IsChosen}
 use Rattle.dcv_minimise.proofs.WitnessFacts.{alike_itself}

@@ -3,11 +3,11 @@ use Rattle.std.proofs.Common.{◌≡◌, ◌↔◌, ℕ, ◌<◌, ◌≤◌, Lis
 use Rattle.std.specs.List.{All}
 use Rattle.std.proofs.lemmas.List.{get_or_default}
 use Rattle.std.proofs.lemmas.List.Elements.{All-contains, Contains-get_or, Contains-push_cases, Contains-append_left, Contains-append_right, Contains-append_cases}
-use Rattle.dcv_members.specs.SparseSet.{with_number}
-use Rattle.dcv_members.specs.Members.{block_of}
+use Rattle.dcv_refinement.specs.SparseSet.{with_number}
+use Rattle.dcv_refinement.specs.Members.{block_of}
 use Rattle.dcv_minimise.specs.Rounds.{witness_of}
 use Rattle.dcv_minimise.specs.Listing.{IsListed, IsAlone, IsSingle, IsListing, IsBlockAdded, IsBlockListed, LooksAt}
-use Rattle.dcv_index.proofs.MarkFacts.{inserted_only, all_from_contains}
+use Rattle.dcv_refinement.proofs.MarkFacts.{inserted_only, all_from_contains}
 
 pub block_added : (own : List ℕ) (block : ℕ) (states full new_states new_full : List ℕ) → new_states ≡ states ++ own → new_full ≡ with_number full block
     → IsBlockAdded own block states full new_states new_full

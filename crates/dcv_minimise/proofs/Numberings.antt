@@ -9,7 +9,7 @@ use Rattle.dcv_word.specs.Behaviour.{Word}
 use Rattle.dcv_language.specs.Least.{IsNoLater}
 use Rattle.dcv_language.proofs.Words.{Before, asymmetric}
 use Rattle.dcv_dfa.specs.Raw.{RawValue, IsRaw, automaton_of}
-use Rattle.dcv_members.specs.Members.{block_of}
+use Rattle.dcv_refinement.specs.Members.{block_of}
 use Rattle.dcv_minimise.specs.Partition.{IsPartition}
 use Rattle.dcv_minimise.specs.Classes.{block_at, AreFirsts, firsts_of, HaveSameRow, IsLikeAt, IsFirstLike, kept_of, AreKept}
 use Rattle.dcv_minimise.proofs.LeastWords.{word_laws, AreReachedBy, IsAt, before_at, no_later_at, listed_inside}

@@ -17,7 +17,7 @@ use Rattle.dcv_language.proofs.Words.{Before, no_later, no_later_chain}
 use Rattle.dcv_dfa.specs.Raw.{RawValue, IsRaw, is_accepting, next_in, automaton_of}
 use Rattle.dcv_dfa.specs.Auto.{table_of_states}
 use Rattle.dcv_dfa.proofs.States.{table_has_the_states, table_has_the_flags, table_has_the_steps, states_make_a_table, leads_below}
-use Rattle.dcv_members.specs.Members.{block_of}
+use Rattle.dcv_refinement.specs.Members.{block_of}
 use Rattle.dcv_minimise.specs.Partition.{IsPartition}
 use Rattle.dcv_minimise.specs.Classes.{block_at, HaveSameRow, AreNumbers}
 use Rattle.dcv_minimise.specs.Folded.{flags_of, IsFolded}

@@ -5,7 +5,7 @@ use Rattle.std.proofs.lemmas.List.Elements.{All-cons}
 use Rattle.dcv_arena.specs.declared.nodes.Ref.TheVariants.{Leaf}
 use Rattle.dcv_language.specs.Folding.{AreApartFrom}
 use Rattle.dcv_dfa.specs.Raw.{RawValue, IsRaw, next_in, automaton_of}
-use Rattle.dcv_members.specs.Members.{block_of}
+use Rattle.dcv_refinement.specs.Members.{block_of}
 use Rattle.dcv_minimise.specs.Partition.{IsPartition}
 use Rattle.dcv_minimise.specs.Rounds.{IsState, IsRound, HaveStayed, IsWitnessed, IsTold, IsStableBut, IsRefined}
 use Rattle.dcv_minimise.proofs.Letters.{differ_or_agree}

@@ -7,7 +7,7 @@ use Rattle.std.proofs.lemmas.List.Quantifiers.{all_pairs_push}
 use Rattle.std.proofs.lemmas.Option.{slice_get_within, slice_get-get_or}
 use Rattle.dcv_arena.specs.Arena.{ArenaValue, IsArena, KeepsRefs}
 use Rattle.dcv_dfa.specs.Raw.{RawValue}
-use Rattle.dcv_members.specs.Members.{block_of}
+use Rattle.dcv_refinement.specs.Members.{block_of}
 use Rattle.dcv_minimise.specs.Rounds.{IsState, HaveOneRow, AreAlike, witness_of}
 use Rattle.dcv_minimise.specs.Division.{move_to, IsGrouped, IsPart, IsMove, IsDividing, IsSettled, HasNumber}
 use Rattle.dcv_minimise.specs.declared.refine.division.Move.{Move}

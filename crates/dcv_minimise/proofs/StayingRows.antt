@@ -6,7 +6,7 @@ use Rattle.std.proofs.lemmas.List.FromFn.{get_or-range_with_len, length-range_wi
 use Rattle.dcv_arena.specs.Arena.{HasOnlyNodesOf}
 use Rattle.dcv_dfa.specs.Raw.{RawValue, IsRaw, next_in}
 use Rattle.dcv_dfa.proofs.States.{leads_below}
-use Rattle.dcv_members.specs.Members.{block_of}
+use Rattle.dcv_refinement.specs.Members.{block_of}
 use Rattle.dcv_minimise.specs.Partition.{IsPartition}
 use Rattle.dcv_minimise.specs.Classes.{IsKeptList, AreNumbers, block_at}
 use Rattle.dcv_minimise.specs.Folded.{HasKeptRows}

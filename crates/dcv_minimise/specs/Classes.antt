@@ -15,7 +15,7 @@
 use Rattle.std.specs.Prelude.{◌≡◌, ◌≢◌, ℕ, ◌^◌, ◌<◌, ◌≤◌, Bool, true, false, List, ◌∷◌, length, map, take, slice_index_or, Contains, Option, None, Some, is_none}
 use Rattle.std.specs.List.{All, AllPairs, remove}
 use Rattle.dcv_dfa.specs.Raw.{RawValue, next_in}
-use Rattle.dcv_members.specs.Members.{block_of}
+use Rattle.dcv_refinement.specs.Members.{block_of}
 
 abbrev pub block_at : List ℕ → List ℕ → ℕ → ℕ
 block_at blocks states place = block_of blocks (slice_index_or states place 0)

@@ -14,7 +14,7 @@ use Rattle.std.specs.Prelude.{◌≡◌, ◌≢◌, ℕ, ◌+◌, ◌<◌, ◌�
 use Rattle.std.specs.List.{All, AllPairs}
 use Rattle.dcv_arena.specs.Arena.{ArenaValue}
 use Rattle.dcv_dfa.specs.Raw.{RawValue}
-use Rattle.dcv_members.specs.Members.{block_of}
+use Rattle.dcv_refinement.specs.Members.{block_of}
 use Rattle.dcv_minimise.specs.Rounds.{IsState, HaveOneRow, AreAlike, witness_of}
 use Rattle.dcv_minimise.specs.Keys.{IsKeyOf}
 use Rattle.dcv_minimise.specs.Listing.{IsChosen}

@@ -16,7 +16,7 @@ use Rattle.dcv_arena.specs.declared.nodes.Ref.{Ref}
 use Rattle.dcv_arena.specs.declared.nodes.Ref.TheVariants.{Leaf, Place}
 use Rattle.dcv_dfa.specs.NodeLines.{lo_of, hi_of}
 use Rattle.dcv_dfa.specs.Raw.{RawValue, row_of}
-use Rattle.dcv_members.specs.Members.{block_of}
+use Rattle.dcv_refinement.specs.Members.{block_of}
 use Rattle.dcv_minimise.specs.Rounds.{IsState, AreAlike}
 use Rattle.dcv_minimise.specs.declared.refine.hashes.Alike.{Alike}
 

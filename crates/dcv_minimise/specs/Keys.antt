@@ -9,7 +9,7 @@ use Rattle.dcv_arena.specs.Arena.{ArenaValue, IsArena, IsRef, value_of}
 use Rattle.dcv_arena.specs.declared.nodes.Ref.{Ref}
 use Rattle.dcv_renumber.specs.Renumbered.{HoldsNew}
 use Rattle.dcv_dfa.specs.Raw.{RawValue, IsRaw, next_in}
-use Rattle.dcv_members.specs.Members.{block_of}
+use Rattle.dcv_refinement.specs.Members.{block_of}
 use Rattle.dcv_minimise.specs.Rounds.{IsState}
 use Rattle.dcv_minimise.specs.declared.refine.keys.Keyed.{Keyed}
 use Rattle.dcv_minimise.specs.declared.refine.keys.Keys.{Keys}

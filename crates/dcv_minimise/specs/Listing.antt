@@ -11,7 +11,7 @@
 --     IsChosen blocks full old new      a witness is what it was, or another state of a block that is listed in full
 use Rattle.std.specs.Prelude.{◌≡◌, ℕ, ◌<◌, ◌≤◌, List, length, slice_index_or, Contains, ◌⊎◌}
 use Rattle.std.specs.List.{All}
-use Rattle.dcv_members.specs.Members.{block_of}
+use Rattle.dcv_refinement.specs.Members.{block_of}
 use Rattle.dcv_minimise.specs.Rounds.{witness_of}
 
 abbrev pub IsListed : List ℕ → List ℕ → ℕ → Type 0

@@ -1,7 +1,7 @@
 -- The states of a raw automaton in blocks, by which words they go on to accept.
 --     IsPartition raw blocks     states in one block go on alike, and states in two blocks are apart
 use Rattle.std.specs.Prelude.{◌≡◌, ◌≢◌, ℕ, ◌<◌, Bool, List, length}
-use Rattle.dcv_members.specs.Members.{block_of}
+use Rattle.dcv_refinement.specs.Members.{block_of}
 use Rattle.dcv_language.specs.Folding.{AreApartFrom}
 use Rattle.dcv_dfa.specs.Raw.{RawValue, is_accepting, next_in, automaton_of}
 

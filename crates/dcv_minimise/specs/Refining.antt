@@ -4,7 +4,7 @@ use Rattle.std.specs.Prelude.{ℕ, List}
 use Rattle.std.specs.List.{All}
 use Rattle.dcv_dfa.specs.Raw.{RawValue, IsRaw}
 use Rattle.dcv_minimise.specs.Rounds.{IsState, IsRefined}
-use Rattle.dcv_members.specs.Members.{HaveTheirOwn}
+use Rattle.dcv_refinement.specs.Members.{HaveTheirOwn}
 
 pub record IsRefining (raw : RawValue) (blocks witness : List ℕ) (members : ℕ → List ℕ) (moved : List ℕ) : Type 0 where
   pub is_raw : IsRaw raw

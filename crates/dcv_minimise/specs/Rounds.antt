@@ -14,7 +14,7 @@
 use Rattle.std.specs.Prelude.{◌≡◌, ◌≢◌, ℕ, ◌<◌, Bool, true, false, List, length, slice_index_or, Contains}
 use Rattle.dcv_language.specs.Folding.{AreApartFrom}
 use Rattle.dcv_dfa.specs.Raw.{RawValue, is_accepting, next_in, automaton_of}
-use Rattle.dcv_members.specs.Members.{block_of}
+use Rattle.dcv_refinement.specs.Members.{block_of}
 
 abbrev pub IsState : RawValue → ℕ → Type 0
 IsState raw state = state < length raw.rows

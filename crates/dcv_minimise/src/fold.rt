@@ -5,7 +5,7 @@ ghost use Rattle.std.specs.Prelude.{◌≡◌, ◌≢◌, ◌<◌, ◌^◌, ◌=
 ghost use Rattle.std.specs.List.{All, AllPairs, enumerate_from, list_all, range_with_len};
 ghost use Rattle.dcv_dfa.specs.Raw.{IsRaw, automaton_of, next_in};
 ghost use Rattle.dcv_reach.specs.Reached.{IsReached, states_of};
-ghost use Rattle.dcv_members.specs.Members.{block_of};
+ghost use Rattle.dcv_refinement.specs.Members.{block_of};
 ghost use Rattle.dcv_minimise.specs.Minimal.{IsMinimalOf};
 ghost use Rattle.dcv_minimise.specs.Partition.{IsPartition};
 ghost use Rattle.dcv_minimise.specs.Classes.{HasFirsts, IsFirstLike, AreKept, IsKeptList, AreBlockNumbers, AreNumbers};

@@ -4,7 +4,7 @@ ghost use Rattle.std.specs.Prelude.{◌≡◌, ◌≤◌, ◌<◌, ◌⊎◌, �
 ghost use Rattle.std.specs.List.{All};
 ghost use Rattle.dcv_minimise.specs.Partition.{IsPartition};
 ghost use Rattle.dcv_minimise.specs.Rounds.{IsState, IsWitnessed, IsTold, LeadTo};
-ghost use Rattle.dcv_members.specs.Members.{list_of};
+ghost use Rattle.dcv_refinement.specs.Members.{list_of};
 ghost use Rattle.dcv_minimise.specs.Refining.{IsRefining};
 
 mod counts;
@@ -17,8 +17,7 @@ mod votes;
 
 use counts::Counts;
 use dcv_dfa::Raw;
-use dcv_index::{Above, Index};
-use dcv_members::Members;
+use dcv_refinement::{Above, Index, Members};
 use dcv_renumber::Places;
 use hashes::by_hashes;
 use listing::{Listed, follow};

@@ -14,8 +14,8 @@ use Rattle.dcv_arena.specs.Arena.{ArenaValue, IsArena, IsRef, value_of}
 use Rattle.dcv_arena.specs.declared.nodes.Ref.{Ref}
 use Rattle.dcv_arena.specs.declared.nodes.Ref.TheVariants.{Leaf, Place}
 use Rattle.dcv_dfa.specs.Raw.{RawValue, IsRaw, automaton_of, row_of}
-use Rattle.dcv_index.specs.Leads.{IndexedRows, index_of, LeadsInto, IsRowInto}
-use Rattle.dcv_index.proofs.Fitted.{leads_at}
+use Rattle.dcv_refinement.specs.Leads.{IndexedRows, index_of, LeadsInto, IsRowInto}
+use Rattle.dcv_refinement.proofs.Fitted.{leads_at}
 use Rattle.dcv_synth.specs.Tracks.{each_track}
 use Rattle.dcv_synth.specs.Winning.{is_lost, is_beaten, IsWin, is_held}
 use Rattle.dcv_synth.specs.Forced.{lost_at, HasLost, IsApart}

@@ -3,14 +3,14 @@
 ghost use Rattle.std.specs.Prelude.{◌≡◌, ◌≢◌, ◌↔◌, ◌-◌, ◌<◌, ◌≤◌, ℕ, suc, None, length, IfOk, OnOk, IsTrue, Contains};
 ghost use Rattle.std.specs.List.{All, range_with_len};
 ghost use Rattle.dcv_dfa.specs.Raw.{automaton_of, IsRaw};
-ghost use Rattle.dcv_index.specs.Leads.{index_of};
+ghost use Rattle.dcv_refinement.specs.Leads.{index_of};
 ghost use Rattle.dcv_synth.specs.Winning.{IsWin, is_held, is_beaten};
 ghost use Rattle.dcv_synth.specs.Ranked.{rank_at, AreRanked, win_by, IsRankedWithin, AreRankedWithin, lost_within, IsStanding, HasForced};
 ghost use Rattle.dcv_synth.specs.Ranked.{IsJustNew, AreNew, IsDecided, AreUnranked};
 
 use crate::forcing::Forcing;
 use dcv_dfa::Auto;
-use dcv_index::{Above, Index};
+use dcv_refinement::{Above, Index};
 use dcv_word::Letter;
 use std::alloc::{AllocError, Global};
 

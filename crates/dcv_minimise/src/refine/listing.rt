@@ -1,14 +1,14 @@
 // Which states a round compares with the witnesses of their blocks. A block is gone through in full where its witness is looked at, or more
-// than half of it. The lists of members are those of `dcv_members`, which `dcv_certificate` has too. The rest of a partition is not shared:
+// than half of it. The lists of members are those of `dcv_refinement`, which `dcv_certificate` has too. The rest of a partition is not shared:
 // here a block falls into parts by the keys of its states, and a vote finds the part that stays; there it falls in two by a test, and the
 // blocks' sizes say which part is the smaller.
 ghost use Rattle.std.specs.Prelude.{◌≡◌, ◌<◌, ◌⊎◌, ℕ, length, slice_index_or, IfOk, OnOk, Contains};
 ghost use Rattle.std.specs.List.{All};
-ghost use Rattle.dcv_members.specs.Members.{list_of, HaveTheirOwn, block_of};
+ghost use Rattle.dcv_refinement.specs.Members.{list_of, HaveTheirOwn, block_of};
 ghost use Rattle.dcv_minimise.specs.Listing.{IsListed, IsListing, IsBlockAdded, IsBlockListed, LooksAt};
 
 use super::counts::Counts;
-use dcv_members::{Members, SparseSet};
+use dcv_refinement::{Members, SparseSet};
 use std::alloc::{AllocError, Global};
 
 // The states that a round compares with the witnesses, and the blocks of which these are all. One is kept for all rounds.

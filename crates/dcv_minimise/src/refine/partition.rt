@@ -1,7 +1,7 @@
 // States in blocks, with a witness for each block.
 ghost use Rattle.std.specs.Prelude.{◌≡◌, ◌≢◌, ◌≤◌, ◌<◌, ◌^◌, ◌==◌, ◌⊎◌, ℕ, true, false, length, map, position, IfOk, OnOk, Contains};
 ghost use Rattle.std.specs.List.{All};
-ghost use Rattle.dcv_members.specs.Members.{block_of};
+ghost use Rattle.dcv_refinement.specs.Members.{block_of};
 ghost use Rattle.dcv_minimise.specs.Rounds.{IsState, HaveOneRow, IsRound, IsWitnessed, IsTold, HaveStayed, IsByFlag, IsByNumber, witness_of, flag_block};
 ghost use Rattle.dcv_minimise.specs.Division.{HasMoved};
 ghost use Rattle.dcv_minimise.specs.Listing.{IsListed};

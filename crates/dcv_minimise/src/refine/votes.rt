@@ -3,12 +3,12 @@
 // is no more than half of its block (J. Hopcroft, "An n log n Algorithm for Minimizing States in a Finite Automaton", 1971).
 ghost use Rattle.std.specs.Prelude.{◌<◌, ℕ, length, OnOk};
 ghost use Rattle.std.specs.List.{All};
-ghost use Rattle.dcv_members.specs.Members.{block_of};
+ghost use Rattle.dcv_refinement.specs.Members.{block_of};
 ghost use Rattle.dcv_minimise.specs.Listing.{IsChosen};
 
 use super::keys::Keyed;
 use dcv_arena::Ref;
-use dcv_members::SparseSet;
+use dcv_refinement::SparseSet;
 use std::alloc::{AllocError, Global};
 
 // What the votes of a block have come to: the key that leads, and by how many votes.

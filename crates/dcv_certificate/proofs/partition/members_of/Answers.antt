@@ -1,6 +1,6 @@
 use Rattle.std.proofs.Common.{ℕ, subst}
-use Rattle.dcv_members.specs.Members.{list_of, IsPut, block_of}
-use Rattle.dcv_members.proofs.MemberFacts.{own_more}
+use Rattle.dcv_refinement.specs.Members.{list_of, IsPut, block_of}
+use Rattle.dcv_refinement.proofs.MemberFacts.{own_more}
 use Rattle.dcv_certificate.proofs.partition.members_of.Goals as goal
 
 pub loop-state-preserved : goal.loop-state-preserved

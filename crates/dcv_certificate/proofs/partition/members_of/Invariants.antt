@@ -1,5 +1,5 @@
 use Rattle.std.proofs.Common.{ℕ, ◌<◌, Contains}
-use Rattle.dcv_members.specs.Members.{list_of, block_of}
+use Rattle.dcv_refinement.specs.Members.{list_of, block_of}
 use Rattle.dcv_certificate.proofs.partition.members_of.Given as goal
 
 abbrev pub invariant-loop-state : goal.invariant-loop-state

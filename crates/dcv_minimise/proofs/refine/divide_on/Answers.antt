@@ -1,7 +1,7 @@
 use Rattle.std.proofs.Common.{◌≡◌, ◌⊎◌, List, Contains, ◌∙◌, ◌<◌, ◌≤◌, inl, inr, ℕ, length, Vec, Global, sym, subst, arith}
 use Rattle.std.proofs.lemmas.List.{nil_from_length}
 use Rattle.std.specs.List.{All}
-use Rattle.dcv_index.specs.Leads.{IndexedRows, IsRowInto, index_of}
+use Rattle.dcv_refinement.specs.Leads.{IndexedRows, IsRowInto, index_of}
 use Rattle.dcv_minimise.proofs.LeadFacts.{leads}
 use Rattle.dcv_dfa.specs.Raw.{RawValue}
 use Rattle.dcv_minimise.specs.Partition.{IsPartition}

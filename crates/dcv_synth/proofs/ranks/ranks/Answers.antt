@@ -1,7 +1,7 @@
 use Rattle.std.proofs.Common.{◌≡◌, ◌-◌, ◌<◌, nat_eq, length, sym, subst, ap, ◌∙◌, arith}
 use Rattle.std.proofs.lemmas.List.FromFn.{length-map-range_with_len}
 use Rattle.dcv_dfa.specs.Raw.{RawValue, automaton_of}
-use Rattle.dcv_index.specs.Leads.{index_of}
+use Rattle.dcv_refinement.specs.Leads.{index_of}
 use Rattle.dcv_synth.specs.Winning.{is_lost, is_beaten}
 use Rattle.dcv_synth.specs.Ranked.{IsStanding}
 use Rattle.dcv_synth.proofs.Ranking.{count_kept, kept_within}

@@ -1,7 +1,7 @@
 use Rattle.std.proofs.Common.{◌<◌, ◌+◌, All, length, get_or, take, sym, subst, arith}
 use Rattle.std.proofs.lemmas.List.Elements.{All-push}
 use Rattle.dcv_arena.proofs.Roots.{kept_in_turn}
-use Rattle.dcv_index.specs.Leads.{row_at}
+use Rattle.dcv_refinement.specs.Leads.{row_at}
 use Rattle.dcv_certificate.specs.Marks.{IsMarkFrom}
 use Rattle.dcv_certificate.specs.Indicators.{IsIndicator, AreIndicators}
 use Rattle.dcv_certificate.proofs.Walking.{marks_kept}

@@ -1,5 +1,5 @@
 use Rattle.std.proofs.Common.{◌≤◌, All, take, get_or}
-use Rattle.dcv_members.specs.Members.{block_of}
+use Rattle.dcv_refinement.specs.Members.{block_of}
 use Rattle.dcv_certificate.specs.Tallies.{number_of, tallied}
 use Rattle.dcv_certificate.proofs.partition.Partition.are_full.Given as goal
 

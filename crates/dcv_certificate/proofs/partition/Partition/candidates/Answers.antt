@@ -2,8 +2,8 @@ use Rattle.std.proofs.Common.{◌≡◌, ◌<◌, ◌++◌, inl, inr, ℕ, List,
 use Rattle.std.proofs.lemmas.List.{take_all}
 use Rattle.dcv_certificate.specs.declared.partition.Partition.{Partition}
 use Rattle.dcv_certificate.specs.Partition.{IsButMended}
-use Rattle.dcv_members.specs.Members.{list_of, IsMended, HaveTheirOwn}
-use Rattle.dcv_members.proofs.MemberFacts.{own_mended}
+use Rattle.dcv_refinement.specs.Members.{list_of, IsMended, HaveTheirOwn}
+use Rattle.dcv_refinement.proofs.MemberFacts.{own_mended}
 use Rattle.dcv_certificate.specs.Ones.{are_few_in}
 use Rattle.dcv_certificate.proofs.Counted.{every_one, ones_below}
 use Rattle.dcv_certificate.proofs.Candidates.{IsListed, IsSettled, added_below, added_grows, added_listed, settled_more, listed_below, all_settled}

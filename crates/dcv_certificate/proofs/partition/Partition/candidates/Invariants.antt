@@ -1,6 +1,6 @@
 use Rattle.std.proofs.Common.{◌≡◌, true, ℕ, ◌<◌, All, length, take, Contains}
 use Rattle.dcv_certificate.specs.Partition.{IsButMended}
-use Rattle.dcv_members.specs.Members.{list_of, HaveTheirOwn}
+use Rattle.dcv_refinement.specs.Members.{list_of, HaveTheirOwn}
 use Rattle.dcv_certificate.specs.Ones.{is_one}
 use Rattle.dcv_certificate.proofs.Candidates.{IsSettled}
 use Rattle.dcv_certificate.proofs.partition.Partition.candidates.Given as goal

@@ -3,7 +3,7 @@ use Rattle.std.proofs.lemmas.Bool.{true≢false}
 use Rattle.std.proofs.lemmas.List.{take_more, take_all, get_or_default}
 use Rattle.dcv_arena.specs.declared.nodes.Ref.{Ref}
 use Rattle.dcv_arena.specs.declared.nodes.Ref.TheVariants.{Leaf}
-use Rattle.dcv_members.specs.Members.{block_of}
+use Rattle.dcv_refinement.specs.Members.{block_of}
 use Rattle.dcv_certificate.specs.Tallies.{IsTally, IsAdded, tallied, was_met}
 use Rattle.dcv_certificate.proofs.Tallying.{tally_more, alike_in_full}
 use Rattle.dcv_certificate.proofs.partition.Partition.is_mixed.Goals as goal

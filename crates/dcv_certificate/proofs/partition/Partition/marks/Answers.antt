@@ -3,7 +3,7 @@ use Rattle.std.proofs.lemmas.List.{get_or-map}
 use Rattle.std.proofs.lemmas.Result.{IfOk-weaker}
 use Rattle.dcv_arena.specs.declared.nodes.Ref.{Ref}
 use Rattle.dcv_arena.specs.declared.nodes.Ref.TheVariants.{Place}
-use Rattle.dcv_index.specs.Leads.{IndexedRows, index_of, LeadsInto, IsRowInto}
+use Rattle.dcv_refinement.specs.Leads.{IndexedRows, index_of, LeadsInto, IsRowInto}
 use Rattle.dcv_certificate.specs.Separation.{has, part_at}
 use Rattle.dcv_certificate.specs.Partition.{raw_in, parts_in}
 use Rattle.dcv_certificate.specs.Indicators.{part_of, AreIndicators}

@@ -3,8 +3,8 @@ use Rattle.std.proofs.lemmas.Bool.{eq-eqb, ne_eqb}
 use Rattle.std.proofs.lemmas.List.{get_or_default, length-set}
 use Rattle.dcv_certificate.specs.declared.partition.Partition.{Partition}
 use Rattle.dcv_certificate.specs.Tallies.{AreSizes, count_up}
-use Rattle.dcv_members.specs.Members.{list_of, HaveTheirOwn, block_of}
-use Rattle.dcv_members.proofs.MemberFacts.{own_put}
+use Rattle.dcv_refinement.specs.Members.{list_of, HaveTheirOwn, block_of}
+use Rattle.dcv_refinement.proofs.MemberFacts.{own_put}
 use Rattle.dcv_certificate.proofs.Shifting.{sizes_grown, size_some, fewer, shifted, size_fits, sizes_shifted}
 use Rattle.dcv_certificate.proofs.partition.Partition.move_to.Goals as goal
 use Rattle.dcv_certificate.proofs.partition.Partition.move_to.Goals.{Joined-block-len, then-block-len+in_ok-push, else-block-len}

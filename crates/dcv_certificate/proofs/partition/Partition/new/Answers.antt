@@ -4,7 +4,7 @@ use Rattle.dcv_language.specs.declared.certificate.Suffix.{Suffix}
 use Rattle.dcv_language.specs.declared.certificate.Suffix.TheVariants.{Empty}
 use Rattle.dcv_certificate.specs.Vertices.{raw_of}
 use Rattle.dcv_certificate.specs.Tallies.{AreSizes}
-use Rattle.dcv_members.specs.Members.{list_of, HaveTheirOwn}
+use Rattle.dcv_refinement.specs.Members.{list_of, HaveTheirOwn}
 use Rattle.dcv_certificate.proofs.Beginning.{begun, two_blocks}
 use Rattle.dcv_certificate.proofs.partition.Partition.new.Goals as goal
 

@@ -1,6 +1,6 @@
 use Rattle.std.proofs.Common.{◌≡◌, ◌<◌, ◌≤◌, ◌+◌, length, get_or, take, All, refl, sym, subst, ◌∙◌, arith}
 use Rattle.std.proofs.lemmas.List.{take_all, get_or_default}
-use Rattle.dcv_members.specs.Members.{block_of}
+use Rattle.dcv_refinement.specs.Members.{block_of}
 use Rattle.dcv_certificate.specs.Partition.{IsMovedTo}
 use Rattle.dcv_certificate.specs.Tallies.{AreSizes}
 use Rattle.dcv_certificate.proofs.Moving.{AreMoved, one_moved, is_split, new_numbers, number_fits, bound_then}

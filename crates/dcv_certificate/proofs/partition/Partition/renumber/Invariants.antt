@@ -1,7 +1,7 @@
 use Rattle.std.proofs.Common.{◌≡◌, ◌+◌, take, length}
 use Rattle.dcv_certificate.specs.Partition.{raw_in}
 use Rattle.dcv_certificate.specs.Tallies.{AreSizes}
-use Rattle.dcv_members.specs.Members.{list_of, HaveTheirOwn}
+use Rattle.dcv_refinement.specs.Members.{list_of, HaveTheirOwn}
 use Rattle.dcv_certificate.proofs.Moving.{AreMoved}
 use Rattle.dcv_certificate.proofs.partition.Partition.renumber.Given as goal
 

@@ -7,7 +7,7 @@ use Rattle.dcv_language.specs.declared.certificate.Suffix.TheVariants.{Then}
 use Rattle.dcv_certificate.specs.Proof.{suffix_words}
 use Rattle.dcv_certificate.specs.Separation.{word_at, accepts_word, TellAlike, AreTogether, has, IsSplit, IsSeparation, Advances}
 use Rattle.dcv_certificate.specs.Partition.{raw_in, parts_in}
-use Rattle.dcv_members.specs.Members.{list_of, HaveTheirOwn}
+use Rattle.dcv_refinement.specs.Members.{list_of, HaveTheirOwn}
 use Rattle.dcv_certificate.specs.Tallies.{AreSizes}
 use Rattle.dcv_certificate.specs.Marks.{marked, AreDone, SplitsSome}
 use Rattle.dcv_certificate.proofs.Separating.{separation_more, separation_advances}

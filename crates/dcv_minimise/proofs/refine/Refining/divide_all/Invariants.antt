@@ -1,5 +1,5 @@
 use Rattle.std.proofs.Common.{◌+◌, ◌-◌, min, length}
-use Rattle.dcv_members.specs.Members.{list_of}
+use Rattle.dcv_refinement.specs.Members.{list_of}
 use Rattle.dcv_minimise.specs.Refining.{IsRefining}
 use Rattle.dcv_minimise.proofs.refine.Refining.divide_all.Given as goal
 

@@ -1,6 +1,6 @@
 use Rattle.std.proofs.Common.{◌<◌, length, Contains, inl, sym, ap, subst, arith}
 use Rattle.std.specs.List.{All}
-use Rattle.dcv_members.specs.Members.{list_of, HaveTheirOwn}
+use Rattle.dcv_refinement.specs.Members.{list_of, HaveTheirOwn}
 use Rattle.dcv_minimise.proofs.RoundFacts.{stable_at_start}
 use Rattle.dcv_minimise.proofs.refine.Refining.new.Goals as goal
 

@@ -1,7 +1,7 @@
 use Rattle.std.proofs.Common.{◌≡◌, ◌<◌, length, Contains, inl, inr, sym, ap, subst, ◌∙◌, arith}
 use Rattle.indexmap.proofs.MapLemmas.{OnOk-map}
 use Rattle.dcv_minimise.specs.Listing.{IsListing}
-use Rattle.dcv_members.specs.Members.{list_of, HaveTheirOwn, block_of}
+use Rattle.dcv_refinement.specs.Members.{list_of, HaveTheirOwn, block_of}
 use Rattle.dcv_minimise.proofs.MemberFacts.{is_in, others_go}
 use Rattle.dcv_minimise.proofs.RoundFacts.{refined_on}
 use Rattle.dcv_minimise.proofs.refine.Refining.round.Goals as goal

@@ -2,7 +2,7 @@ use Rattle.std.proofs.Common.{◌≡◌, length, sym, ap, subst, ◌∙◌, arit
 use Rattle.std.proofs.lemmas.Option.{get_or_from_slice_get}
 use Rattle.dcv_arena.specs.declared.nodes.Ref.TheVariants.{Leaf}
 use Rattle.dcv_dfa.specs.Raw.{row_of}
-use Rattle.dcv_members.specs.Members.{block_of}
+use Rattle.dcv_refinement.specs.Members.{block_of}
 use Rattle.dcv_minimise.specs.Hashes.{hash_at, alike_of, IsPut, AreDivided, AreHashes}
 use Rattle.dcv_minimise.specs.declared.refine.hashes.Alike.{Alike}
 use Rattle.dcv_minimise.proofs.HashParts.{one_more_divided}

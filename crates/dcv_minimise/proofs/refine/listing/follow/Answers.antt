@@ -2,7 +2,7 @@ use Rattle.std.proofs.Common.{inl, inr, take, Contains, subst}
 use Rattle.std.specs.List.{All}
 use Rattle.std.proofs.lemmas.List.{take_all}
 use Rattle.std.proofs.lemmas.List.Elements.{All-contains, All-more, All-weaker}
-use Rattle.dcv_members.specs.Members.{list_of, block_of}
+use Rattle.dcv_refinement.specs.Members.{list_of, block_of}
 use Rattle.dcv_minimise.proofs.refine.listing.follow.Goals as goal
 
 pub loop-state-preserved : goal.loop-state-preserved

@@ -1,6 +1,6 @@
 use Rattle.std.proofs.Common.{ℕ, take, Contains}
 use Rattle.std.specs.List.{All}
-use Rattle.dcv_members.specs.Members.{list_of, block_of}
+use Rattle.dcv_refinement.specs.Members.{list_of, block_of}
 use Rattle.dcv_minimise.proofs.refine.listing.follow.Given as goal
 
 abbrev pub invariant-loop-state : goal.invariant-loop-state

@@ -1,6 +1,6 @@
 use Rattle.std.proofs.Common.{◌≡◌, ℕ, ◌<◌, length}
 use Rattle.dcv_dfa.specs.Raw.{is_accepting}
-use Rattle.dcv_members.specs.Members.{block_of}
+use Rattle.dcv_refinement.specs.Members.{block_of}
 use Rattle.dcv_minimise.specs.Rounds.{flag_block}
 use Rattle.dcv_minimise.proofs.refine.partition.blocks_by_flag.Given as goal
 

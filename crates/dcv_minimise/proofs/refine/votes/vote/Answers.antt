@@ -1,4 +1,4 @@
-use Rattle.dcv_members.specs.Members.{block_of}
+use Rattle.dcv_refinement.specs.Members.{block_of}
 use Rattle.dcv_minimise.proofs.ChoiceFacts.{chosen_one, found_among}
 use Rattle.dcv_minimise.proofs.refine.votes.vote.Goals as goal
 

@@ -4,7 +4,7 @@ use Rattle.std.proofs.lemmas.List.FromFn.{length-map-range_with_len}
 use Rattle.dcv_arena.specs.Arena.{ArenaValue, IsArena}
 use Rattle.dcv_arena.specs.declared.nodes.Ref.TheVariants.{Place}
 use Rattle.dcv_dfa.specs.Raw.{automaton_of}
-use Rattle.dcv_index.specs.Leads.{IndexedRows, index_of, LeadsInto, IsRowInto}
+use Rattle.dcv_refinement.specs.Leads.{IndexedRows, index_of, LeadsInto, IsRowInto}
 use Rattle.dcv_synth.specs.Winning.{is_lost, is_beaten}
 use Rattle.dcv_synth.specs.Forced.{HasLost, AreAllForced}
 use Rattle.dcv_synth.specs.Ranked.{AreRankedWithin, AreUnranked, HasForced, IsStanding}

@@ -2,7 +2,7 @@ use Rattle.std.proofs.Common.{◌≡◌, ◌<◌, [], ◌∷◌, ◌++◌, lengt
 use Rattle.std.proofs.lemmas.Bool.{false≢true}
 use Rattle.std.proofs.lemmas.List.{get_or_read}
 use Rattle.dcv_arena.proofs.Same.{same_refs}
-use Rattle.dcv_members.specs.Members.{block_of}
+use Rattle.dcv_refinement.specs.Members.{block_of}
 use Rattle.dcv_minimise.specs.Rounds.{HaveOneRow, witness_of}
 use Rattle.dcv_minimise.specs.Keys.{IsKeys, IsKeyOf}
 use Rattle.dcv_minimise.specs.Division.{move_to, IsPart, IsDividing}

@@ -1,6 +1,6 @@
 use Rattle.std.proofs.Common.{take}
 use Rattle.dcv_minimise.specs.Listing.{IsListing}
-use Rattle.dcv_members.specs.Members.{list_of, HaveTheirOwn}
+use Rattle.dcv_refinement.specs.Members.{list_of, HaveTheirOwn}
 use Rattle.dcv_minimise.proofs.refine.listing.Listed.fill.Given as goal
 
 abbrev pub invariant-loop-state : goal.invariant-loop-state

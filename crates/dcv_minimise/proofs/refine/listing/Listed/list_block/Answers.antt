@@ -1,7 +1,7 @@
 use Rattle.std.proofs.Common.{subst}
 use Rattle.indexmap.proofs.MapLemmas.{OnOk-map}
-use Rattle.dcv_members.proofs.MemberFacts.{own_mended, block_mended}
-use Rattle.dcv_members.specs.Members.{list_of}
+use Rattle.dcv_refinement.proofs.MemberFacts.{own_mended, block_mended}
+use Rattle.dcv_refinement.specs.Members.{list_of}
 use Rattle.dcv_minimise.specs.Listing.{IsBlockAdded}
 use Rattle.dcv_minimise.proofs.MemberSteps.{block_listed}
 use Rattle.dcv_minimise.proofs.refine.listing.Listed.list_block.Goals as goal

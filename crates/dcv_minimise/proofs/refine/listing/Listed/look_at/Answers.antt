@@ -1,6 +1,6 @@
 use Rattle.std.proofs.Common.{refl, sym, inl, ◌∙◌, eqb-true}
 use Rattle.std.proofs.lemmas.Map.Views.{Contains-from_any}
-use Rattle.dcv_members.specs.Members.{block_of}
+use Rattle.dcv_refinement.specs.Members.{block_of}
 use Rattle.dcv_minimise.proofs.refine.listing.Listed.look_at.Goals as goal
 
 pub returns-then-contains-clause-looks : goal.returns-then-contains-clause-looks

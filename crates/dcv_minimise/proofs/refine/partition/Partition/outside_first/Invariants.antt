@@ -1,6 +1,6 @@
 use Rattle.std.proofs.Common.{◌≢◌, ℕ, ◌<◌, length, Contains}
 use Rattle.std.specs.List.{All}
-use Rattle.dcv_members.specs.Members.{block_of}
+use Rattle.dcv_refinement.specs.Members.{block_of}
 use Rattle.dcv_minimise.proofs.refine.partition.Partition.outside_first.Given as goal
 
 abbrev pub invariant-loop-state : goal.invariant-loop-state

@@ -1,6 +1,0 @@
-pub mod Fitted
-pub mod MarkFacts
-mod IndexFacts
-mod WayFacts
-mod AddFacts
-mod ChainFacts

@@ -1,5 +1,0 @@
--- what public clauses cite: lists of numbers by leaf and place, and what leads to some leaves
-pub mod Lists
-pub mod Leads
--- for proofs alone: what stands directly above each leaf and node
-pub mod Index

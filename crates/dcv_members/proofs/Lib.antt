@@ -1,3 +1,0 @@
-pub mod ListFacts
-pub mod MemberFacts
-pub mod SetFacts
