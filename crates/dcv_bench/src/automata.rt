@@ -8,7 +8,7 @@ use dcv_arena::{Arena, Ref};
 use dcv_certificate::separate;
 use dcv_dfa::Raw;
 use dcv_minimise::minimise;
-use dcv_shortest::shortest;
+use dcv_reach::shortest;
 use dcv_tables::{function, parity};
 use dcv_word::Word;
 use std::alloc::Global;

@@ -9,7 +9,7 @@ ghost use Rattle.dcv_print.specs.Said.{SaysSomeVerdict, SaysEachVerdict};
 use crate::verdict_lines::Verdict;
 use dcv_dfa::Auto;
 use dcv_language::laws::one_verdict;
-use dcv_shortest::shortest;
+use dcv_reach::shortest;
 use dcv_word::Word;
 use std::alloc::{AllocError, Global};
 
