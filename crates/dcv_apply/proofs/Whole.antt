@@ -13,7 +13,7 @@ module _ (gives : List ℕ → ℕ → Type 0) (numbers : List Bool → List ℕ
   pub from_start : (slots : ℕ) (function : List Bool → ℕ) → AgreesWithMerged gives numbers slots function → AgreesBehind gives numbers slots [] function
   from_start slots function agrees values number size given = agrees values number (omega arith) given
 
-  -- what is known behind every front is known of the whole
+  -- what is known after every front is known of the whole
   pub applied : (old new : ArenaValue) (too_many : ℕ → Type 0) (result : Result Ref ApplyFault)
       → ((list : List ℕ) (first second : ℕ) → gives list first → gives list second → first ≡ second)
       → IfOk result (IsRef new) → IfOk result (MeansMerged gives numbers new)

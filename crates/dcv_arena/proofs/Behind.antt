@@ -1,4 +1,4 @@
--- The nodes of a function that a ref means behind a front.
+-- The nodes of a function that a ref means after a front.
 use Rattle.std.proofs.Common.{◌≡◌, ℕ, ◌-◌, ◌≤◌, Bool, List, ◌++◌, length, take, drop, Contains, inl, inr, sym, ap, ◌∙◌, arith}
 use Rattle.std.proofs.lemmas.Bool.{cases_lt}
 use Rattle.std.proofs.lemmas.List.{append_assoc, length-append, length-drop, length-take-le, take-append-drop}
@@ -10,7 +10,7 @@ use Rattle.dcv_arena.proofs.Refs.{ignores_earlier}
 use Rattle.dcv_arena.proofs.Blocks.{nodes_of-from, nodes_of-is}
 use Rattle.dcv_arena.proofs.Listed.{agree_behind, no_earlier, with_front}
 
--- each node of the ref stands behind a front that is no shorter than the given one, since no earlier slot splits the ref's function;
+-- each node of the ref stands after a front that is no shorter than the given one, since no earlier slot splits the ref's function;
 -- the ref ignores how that front begins, and where it begins with the given one the numbers are those of the function
 pub of_meant : (arena : ArenaValue) (is : IsReduced arena) (ref : Ref) (front : List Bool) (function : List Bool → ℕ) → IsRef arena ref
     → length front ≤ level_of arena ref → MeansBehind arena ref front function

@@ -13,20 +13,20 @@ use Rattle.dcv_arena.proofs.Tables.{same_table, same_values}
 use Rattle.dcv_arena.proofs.Refs.{AgreeFrom, rank, rank_before, is_ref, node_there, level_of-place, value_of-place, value_of-lo, value_of-hi, ignores_earlier, same_ref, SameFunction}
 use Rattle.dcv_arena.proofs.Blocks.{IsNodeOf, part_of, block-part, nodes_of-from, nodes_of-is}
 
--- fronts that are as long leave the slots behind them as they are
+-- fronts that are as long leave the slots after them as they are
 pub agree_behind : (front other back : List Bool) → length front ≡ length other → AgreeFrom (length front) (front ++ back) (other ++ back)
 agree_behind front other back same slot from =
     get_or-append_right front back (length front) slot false refl from
     ∙ sym (get_or-append_right other back (length front) slot false (sym same) from)
 
--- the value in the slot behind a front does not matter further on
+-- the value in the slot after a front does not matter further on
 agree_past : (front : List Bool) (a b : Bool) (back : List Bool) → AgreeFrom (suc (length front)) (front ++ a ∷ back) (front ++ b ∷ back)
 agree_past [] a b back zero from = absurd (omega arith)
 agree_past [] a b back (suc slot) from = refl
 agree_past (value ∷ front) a b back zero from = absurd (omega arith)
 agree_past (value ∷ front) a b back (suc slot) from = agree_past front a b back slot (omega arith)
 
--- a function with the same numbers behind a front that is as long has the node too
+-- a function with the same numbers after a front that is as long has the node too
 pub with_front : {slots : ℕ} (g f : List Bool → ℕ) (node : ℕ × List ℕ) (split : IsNodeOf slots g node) (front : List Bool) → length front ≡ length split.front
     → ((values : List Bool) → length split.front + length values ≡ slots → g (split.front ++ values) ≡ f (front ++ values))
     → IsNodeOf slots f node
@@ -54,7 +54,7 @@ bits_of-blank zero = refl
 bits_of-blank (suc level) = omega (arith, bits_of-blank level)
 
 module _ (arena : ArenaValue) (is : IsReduced arena) where
-  -- the block of a node's slot has the numbers of the letters behind any front
+  -- the block of a node's slot has the numbers of the letters after any front
   pub node_block : (place level : ℕ) → IsRef arena (Place place) → level_of arena (Place place) ≡ level → level ≤ arena.slots
       → (front : List Bool) → length front ≡ level
       → (node_at arena place).1 ≡ part_of (value_of arena (Place place)) front (arena.slots - level)
@@ -71,7 +71,7 @@ module _ (arena : ArenaValue) (is : IsReduced arena) where
 
   -- ---- a node of the arena is a node of its function
 
-  -- the child at a value of the node's slot is the function behind a front, where the slot has that value
+  -- the child at a value of the node's slot is the function after a front, where the slot has that value
   child_behind : (place : ℕ) (node : Node) → slice_get arena.nodes place ≡ Some node → (front : List Bool) → length front ≡ node.slot
       → (value : Bool) (letter : List Bool) → length letter ≡ arena.slots
       → value_of arena (Place place) (set letter node.slot value) ≡ value_of arena (Place place) (front ++ value ∷ drop (suc node.slot) letter)

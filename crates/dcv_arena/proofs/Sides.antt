@@ -33,7 +33,7 @@ module _ {X : Type 0} {whole part : List Bool → X} {slot : ℕ} {value : Bool}
   pub same_there : (letter : List Bool) → slot < length letter → get_or letter slot false ≡ value → part letter ≡ whole letter
   same_there letter inside at = fixes.at letter inside ∙ ap whole (ap (set letter slot) (sym at) ∙ set-get_or letter slot false)
 
-  -- what a function agrees with behind a front, it agrees with on each side
+  -- what a function agrees with after a front, it agrees with on each side
   agrees_deeper : (gives more : X → ℕ → Type 0) (slots : ℕ) (front : List Bool) (function : List Bool → ℕ) → slot < slots → length front ≤ slot
       → ((given : X) (number : ℕ) → gives given number → more given number)
       → AgreesBehind more whole slots front function → AgreesBehind gives part slots (deeper front slot value) function
@@ -85,7 +85,7 @@ merged_by_side gives given lo hi true on_lo on_hi = on_hi refl
 merged_by_side gives given lo hi false on_lo on_hi = on_lo refl
 
 module _ {X : Type 0} (gives : X → ℕ → Type 0) (whole : List Bool → X) (front : List Bool) (function : List Bool → ℕ) where
-  -- the nodes of what was merged are of each function that agrees with it behind a front
+  -- the nodes of what was merged are of each function that agrees with it after a front
   pub merged_adds : (old new : ArenaValue) (root : Ref) → IsArena new → IsRef new root → length front ≤ level_of new root → MeansMerged gives whole new root
       → AgreesBehind gives whole new.slots front function → AddsOnlyNodesOf old new root → AddsOnlyNodesOfFunction old new function
   merged_adds old new root is one below merged agrees adds node c = elim (adds node c) [

@@ -57,7 +57,7 @@ added_are_counted old new function was is kept adds =
     ]))
 
 -- the arena with the new node has one more, and each of its nodes is counted with the function: those of the arena, and
--- those of the new node's ref, which means the function behind the front
+-- those of the new node's ref, which means the function after the front
 pub new_is_one_more : NewNodeIsOneMore
 new_is_one_more arena slot lo hi front function is lo_ref hi_ref inner lo_later hi_later fresh before goes =
     let node = node_of slot lo hi in

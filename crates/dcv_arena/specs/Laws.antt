@@ -57,7 +57,7 @@ NodesAreApart = (arena : ArenaValue) → IsArena arena → AllPairs (λ a b. a �
 abbrev pub NodesAreCounted : Type 0
 NodesAreCounted = (arena : ArenaValue) → length (diagram_nodes arena) ≡ length arena.nodes
 
--- a node's block has the numbers of its function behind any front, since the slots before its own do not matter
+-- a node's block has the numbers of its function after any front, since the slots before its own do not matter
 abbrev pub NodesAreOfAnyFront : Type 0
 NodesAreOfAnyFront = (arena : ArenaValue) (place : ℕ) (front : List Bool) → IsArena arena → IsRef arena (Place place)
     → length front ≡ level_of arena (Place place)
@@ -95,7 +95,7 @@ PartsAreKept = (old middle new : ArenaValue) (part root : Ref) → KeepsRefs old
 
 -- ---- nodes of functions that no ref may mean yet
 
--- behind a front the ref has the function's numbers
+-- after a front the ref has the function's numbers
 abbrev pub MeansBehind : ArenaValue → Ref → List Bool → (List Bool → ℕ) → Type 0
 MeansBehind arena ref front function = (values : List Bool) → length front + length values ≡ arena.slots
     → value_of arena ref (front ++ values) ≡ function (front ++ values)
@@ -106,7 +106,7 @@ NodesAreBehindFronts = (arena : ArenaValue) (ref : Ref) (front : List Bool) (fun
     → length front ≤ level_of arena ref → MeansBehind arena ref front function
     → (node : ℕ × List ℕ) → Contains (nodes_of arena.slots (table_of arena ref)) node → Contains (nodes_of arena.slots (as_table arena.slots function)) node
 
--- a node that is new is one more than the arena has, and a node of each function that goes to its children behind a front
+-- a node that is new is one more than the arena has, and a node of each function that goes to its children after a front
 abbrev pub NewNodeIsOneMore : Type 0
 NewNodeIsOneMore = (arena : ArenaValue) (slot : ℕ) (lo hi : Ref) (front : List Bool) (function : List Bool → ℕ) → IsArena arena → IsRef arena lo → IsRef arena hi
     → slot < arena.slots → slot < level_of arena lo → slot < level_of arena hi → IsNew arena slot lo hi → length front ≤ slot

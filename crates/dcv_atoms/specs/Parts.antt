@@ -2,7 +2,7 @@
 -- a function from letters to numbers: 1 where it holds, and 0 where it does not.
 --     number_of_truth holds          1 or 0
 --     number_at p letter             1 where the proposition holds in the letter
---     parts p, all_parts operands    a proposition's parts, each behind those of its operands
+--     parts p, all_parts operands    a proposition's parts, each after those of its operands
 --     parts_by, proposition_parts    the parts of a form's proposition, and none where it has no proposition
 --     slot_parts basic               the slot of a shift, and none of another form
 --     basic_parts basic              all of these

@@ -54,7 +54,7 @@ impl<'a> Atom<'a> {
     /// The machine of a step that is an atom.
     ///
     /// Letters of more than 32 slots are none, and no state has a number for a count of 2 ^ 32: such a step, which no text has,
-    /// counts as want of memory.
+    /// counts as running out of memory.
     pub fn new(
         alloc: Global,
         core: &'a Core,

@@ -40,8 +40,8 @@ impl Rounds {
         Ok(Rounds { memo, next: 0 })
     }
 
-    // The function that has, at each letter, what the two operands' numbers there are joined to. Behind the round with the largest
-    // number there is none, which counts as want of memory.
+    // The function that has, at each letter, what the two operands' numbers there are joined to. After the round with the largest
+    // number there is none, which counts as running out of memory.
     pub(crate) fn join(
         &mut self,
         alloc: Global,

@@ -181,7 +181,7 @@ module _ (first : Kind) (file : AutomatonFile) (begun : IsOpen first file) (line
         states = refl;
       }
 
--- the text of a line behind those before it
+-- the text of a line after those before it
 pub line_more : (version : Version) (lines : List (List (List ℕ))) (line : PlainLine) (rest : List ℕ)
     → flat_map spelled_line lines ++ line_then version line rest ≡ flat_map spelled_line (lines ++ line_words line) ++ closed_by version (kind_of line) rest
 line_more version lines (OfNode line) rest = sym (one_line lines (node_words line) (omega arith) rest)

@@ -1,4 +1,4 @@
--- Lines of each kind: how their first words tell them apart, and what may follow behind one.
+-- Lines of each kind: how their first words tell them apart, and what may follow after one.
 use Rattle.std.proofs.Common.{◌≡◌, ℕ, ◌+◌, ◌<◌, ◌≤◌, false, List, [], ◌∷◌, ◌++◌, ◌⊎◌, inl, inr, length, refl, sym, ap, ◌∙◌, subst, arith}
 use Rattle.std.specs.Prelude.{nat_eq, slice_index_or, if◌then◌else◌}
 use Rattle.std.proofs.lemmas.Bool.{cases_lt}
@@ -186,7 +186,7 @@ module _ (version : Version) where
             );
       }
 
-  -- in a line behind its first word
+  -- in a line after its first word
   pub stuck_in_body : (first kind : Kind) {text body left : List ℕ} → rank first ≤ rank kind → text ≡ keyword version kind ++ behind version kind ∷ body → IsStuckIn (BodyOf kind) body left
       → IsStuckIn (AnyLine version first) text left
   stuck_in_body first kind {body = body} later whole stuck =
@@ -291,7 +291,7 @@ module _ (version : Version) where
   pub closing_line : LineOf version Closing (first_word version Closing)
   closing_line = record { body = []; body_is = record { is = refl }; whole = refl }
 
-  -- the closing word and some text behind it
+  -- the closing word and some text after it
   pub some_tail : (first : Kind) → Some (Tail version first)
   some_tail first =
       let closed = some_closed version in
@@ -300,7 +300,7 @@ module _ (version : Version) where
         is = Last first (first_word version Closing ++ closed.text) (first_word version Closing) closed.text closing_line closed.is refl;
       }
 
-  -- some text behind a line of a kind
+  -- some text after a line of a kind
   some_after : (kind : Kind) → Some (After version kind)
   some_after Node = some_tail Node
   some_after State = some_tail State

@@ -57,7 +57,7 @@ names_stuck text (b ∷ front) left cut seen over =
       stuck = no_name_more (b ∷ front) left seen over;
     }
 
--- ---- behind a name
+-- ---- after a name
 
 not_both_ends : (a b : ℕ) → a ≡ 10 → b ≡ 32 → a ≡ b → ⊥
 not_both_ends a b is_ten is_space same = omega arith
@@ -107,7 +107,7 @@ no_longer_names = record { same = names_same }
 
 -- ---- names one after another
 
--- names with a space behind each, and then a rest
+-- names with a space after each, and then a rest
 abbrev pub spaced : List (List ℕ) → List ℕ → List ℕ
 spaced [] rest = rest
 spaced (word ∷ words) rest = word ++ 32 ∷ spaced words rest

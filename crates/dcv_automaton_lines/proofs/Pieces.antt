@@ -1,4 +1,4 @@
--- Where a text of several words is stuck: in a word, behind it, in one of two sets.
+-- Where a text of several words is stuck: in a word, after it, in one of two sets.
 use Rattle.std.proofs.Common.{◌≡◌, ℕ, suc, ◌≤◌, Bool, true, false, ◌&&◌, List, [], ◌∷◌, ◌++◌, inl, inr, length, refl, sym, ap, ◌∙◌, subst, arith}
 use Rattle.std.specs.List.{list_all}
 use Rattle.std.proofs.lemmas.List.{append_assoc, length-append}
@@ -54,12 +54,12 @@ not_within test (b ∷ front) [] rest end h e same =
 not_within test (b ∷ front) (a ∷ word) rest end h e same =
     not_within test front word rest end (both (test b) (list_all test front) h).1 e (let behind : word ++ end ∷ rest ≡ front = cc in behind)
 
--- ---- sets behind words
+-- ---- sets after words
 
 pub record HasWords (P : List ℕ → Type 0) : Type 0 where
   pub visible : (word : List ℕ) → P word → AreVisible word
 
--- what is left of the texts of a set behind a front
+-- what is left of the texts of a set after a front
 pub record Leads (P : List ℕ → Type 0) (front : List ℕ) (Q : List ℕ → Type 0) : Type 0 where
   pub into : (rest : List ℕ) → Q rest → P (front ++ rest)
   pub from : (text more rest : List ℕ) → P text → text ++ more ≡ front ++ rest → (back : List ℕ) × (Q back × (text ≡ front ++ back))
@@ -243,7 +243,7 @@ module _ {P : List ℕ → Type 0} {Q : List ℕ → Type 0} where
 
 -- ---- the further of two
 
--- of two ways to cut a list, the one with less behind it has the longer front
+-- of two ways to cut a list, the one with less after it has the longer front
 pub longer_front : (front left further rest : List ℕ) → front ++ left ≡ further ++ rest → length rest ≤ length left
     → (more : List ℕ) × ((further ≡ front ++ more) × (left ≡ more ++ rest))
 longer_front [] left further rest same shorter = (further, (refl, same))

@@ -210,7 +210,7 @@ verdict_nothing (b ∷ text) =
       fault = λ other is. let wrong : b ∷ other ≡ [] = is.is in cc;
     })
 
--- ---- behind the sections
+-- ---- after the sections
 
 behind_is_shorter : (front word back rest text : List ℕ) (end : ℕ) → front ≡ word ++ end ∷ back → text ≡ front ++ rest → length rest < length text
 behind_is_shorter front word back rest text end is whole =
@@ -308,7 +308,7 @@ no_longer_closed First = no_longer_nothing
 no_longer_closed Second = no_longer_followed number_words 10 refl (record { same = steps_same })
 
 module _ (version : Version) where
-  -- what stands behind a line, where it is not the last
+  -- what stands after a line, where it is not the last
   tail_behind : (kind : Kind) → rank kind ≤ 3 → (text : List ℕ) → After version kind text → Tail version kind text
   tail_behind Node small text is = is
   tail_behind State small text is = is

@@ -23,7 +23,7 @@ pub data Reads (P : List ℕ → Type 0) (text : List ℕ) : Type 0 where
   Ended : (front back : List ℕ) → P front → text ≡ front ++ back → Reads P text
   StuckAt : (left : List ℕ) → IsStuckIn P text left → Reads P text
 
--- ---- one behind another, and one of two
+-- ---- one after another, and one of two
 
 pub reads_after : {P : List ℕ → Type 0} {Q : List ℕ → Type 0} {f text rest : List ℕ} → Leads P f Q → text ≡ f ++ rest → Reads Q rest → Reads P text
 reads_after {f = f} leads whole (Ended front back is same) =
@@ -168,7 +168,7 @@ reads_answer (b ∷ text) = elim (cases_eq b 97) [
 
 -- ---- names and letters
 
--- the front whose bytes pass a test, and what is left behind it
+-- the front whose bytes pass a test, and what is left after it
 record Split (test : ℕ → Bool) (text : List ℕ) : Type 0 where
   front : List ℕ
   left : List ℕ

@@ -86,7 +86,7 @@ module _ (version : Version) (is : version ≡ Second) (text : List ℕ) where
   fault_behind_count rest count small whole left fault =
       of_second left (fault_after (leads_followed number_words 10 refl (decimal count) (number_of count small)) (whole ∙ sym (append_assoc (decimal count) (10 ∷ []) rest)) fault)
 
--- the text behind the sections, from the word that closes them on
+-- the text after the sections, from the word that closes them on
 pub record ClosedBy (version : Version) (text : List ℕ) : Type 0 where
   pub back : List ℕ
   pub back_is : Closed version back
@@ -158,7 +158,7 @@ the_steps text (NextStep _ front back step tail whole) =
       whole = whole ∙ (λ i. (first.whole ∙ sym (alone (step_words first.line) (omega arith))) i ++ rest.whole i);
     }
 
--- the step part of what stands behind the sections
+-- the step part of what stands after the sections
 pub record TheClosed (version : Version) (back : List ℕ) : Type 0 where
   pub steps : Option StepPart
   pub is : IfSome steps IsStepPart

@@ -1,4 +1,4 @@
--- What stands behind the sections: the lines of steps, and where a text is stuck in them.
+-- What stands after the sections: the lines of steps, and where a text is stuck in them.
 use Rattle.std.proofs.Common.{◌≡◌, ℕ, List, [], ◌∷◌, ◌++◌, inl, inr, refl, sym, ap, ◌∙◌, subst, arith}
 use Rattle.std.specs.Prelude.{codes}
 use Rattle.std.specs.Fmt.{decimal}
@@ -23,7 +23,7 @@ some_closed First = some_nothing
 some_closed Second =
     record { text = decimal 0 ++ 10 ∷ codes "end\n"; is = record { word = decimal 0; back = codes "end\n"; word_is = number_of 0 (omega arith); back_is = end_tail; whole = refl } }
 
--- ---- behind a line
+-- ---- after a line
 
 module _ (front : List ℕ) (line : WholeStep front) where
   behind_step : (text more rest : List ℕ) → StepTail text → text ++ more ≡ front ++ rest → (back : List ℕ) × (StepTail back × (text ≡ front ++ back))

@@ -31,7 +31,7 @@ use Rattle.dcv_automaton_lines.proofs.Gathering.{stops, no_memory, words_spelled
 
 -- ---- how a file is spelled
 
--- what a file says behind its names, and then a rest
+-- what a file says after its names, and then a rest
 abbrev pub behind_names : AutomatonFile → List ℕ → List ℕ
 behind_names file rest = codes "states" ++ 32 ∷ (decimal file.states ++ 10 ∷ (flat_map spelled_line (section_words file) ++ rest))
 
@@ -536,7 +536,7 @@ module _ (version : Version) where
   pub fault_in_names : (text named left : List ℕ) → text ≡ title version ++ named → IsStuckIn Words named left → IsFaultAt Whole text left
   fault_in_names text named left is stuck = fault_after (leads_title version) is (stuck_is_fault (stuck_in_names named left stuck))
 
--- behind the names
+-- after the names
 module _ (version : Version) (text named stated : List ℕ) (names : List (List ℕ)) (is : text ≡ title version ++ named) (form : All IsNameWord names) (listed : named ≡ words_then (name_words names) stated) where
   pub fault_behind_names : (left : List ℕ) → IsFaultAt (Stated version) stated left → IsFaultAt Whole text left
   fault_behind_names left fault =
@@ -594,7 +594,7 @@ module _ (version : Version) (text named stated : List ℕ) (names : List (List 
             ∙ sym (spelled_is file);
       }
 
--- there is room for the word that closes the sections, whatever steps stand behind it
+-- there is room for the word that closes the sections, whatever steps stand after it
 abbrev pub some_steps : Version → Option StepPart
 some_steps First = None
 some_steps Second = SomePart (record { count = 0; lines = [] })

@@ -1,4 +1,4 @@
--- Words of each kind with the byte behind them: where a text is stuck in one.
+-- Words of each kind with the byte after them: where a text is stuck in one.
 use Rattle.std.proofs.Common.{◌≡◌, ℕ, zero, suc, ◌+◌, ◌*◌, ◌-◌, ◌/◌, ◌%◌, ◌^◌, ◌<◌, ◌≤◌, Bool, true, false, List, [], ◌∷◌, ◌++◌, ◌⊎◌, inl, inr, length, map, refl, sym, ap, ◌∙◌, subst, arith, get_or}
 use Rattle.std.specs.Prelude.{codes, nat_eq, nat_le, slice_index_or, take, drop, Result, Ok, Err}
 use Rattle.std.specs.Result.{IsErrAnd}

@@ -1,10 +1,10 @@
 -- Lines as they are gathered, one after another, in a file.
---     PlainLine                 a line behind the head as plain data
+--     PlainLine                 a line after the head as plain data
 --     kind_of                   its kind
---     line_then version line    its words, each with the byte behind it, and then the rest
+--     line_then version line    its words, each with the byte after it, and then the rest
 --     IsLine line               its words are of the form
 --     added file line           the file with one line more
---     section_words file        the lines behind the head, up to the word that closes them
+--     section_words file        the lines after the head, up to the word that closes them
 --     closed_by version kind    that word, where it has been read, and then the rest
 --     IsOpen first file         there are no lines of a kind after this one
 --     HasLines file             the words of the lines are of the form

@@ -1,20 +1,20 @@
--- The parts of an automaton's text as sets of texts: words, lines without their first word, and what may follow behind a line.
+-- The parts of an automaton's text as sets of texts: words, lines without their first word, and what may follow after a line.
 --     NumberWord, NodeWord, TargetWord, AnswerWord, NameWord, LetterWord    words of each kind
 --     NodeBody, StateBody, AccessBody, SuffixBody    lines without their first word
---     words_then words rest      the words of a line, each with the byte behind it, and then the rest
+--     words_then words rest      the words of a line, each with the byte after it, and then the rest
 --     version_at steps           version 2 where there is a step part, else version 1
 --     StepTail                   step lines up to the end
 --     closing_word version       the word that closes the sections: `end`, or the first one of the step part
---     closing_then version rest  that word with the byte behind it, and then the rest
---     Closed version             what stands behind the closing word
+--     closing_then version rest  that word with the byte after it, and then the rest
+--     Closed version             what stands after the closing word
 --     keyword version kind       the first word of a line of this kind, or the closing word
 --     rank kind                  the place of the lines of this kind among the sections
---     LineOf version kind        lines of this kind, or the closing word with the byte behind it
---     Keyword version first      first words with the byte behind them, from the lines of this kind on
+--     LineOf version kind        lines of this kind, or the closing word with the byte after it
+--     Keyword version first      first words with the byte after them, from the lines of this kind on
 --     AnyLine version first      a line of this kind or a later one
 --     Tail version first         what follows where the next line is of this kind or a later one
---     After version kind         what follows behind a line of this kind
---     Words                      one name or more, with a space between every two and a line feed behind the last
+--     After version kind         what follows after a line of this kind
+--     Words                      one name or more, with a space between every two and a line feed after the last
 --     Whole                      the whole text
 use Rattle.std.specs.Prelude.{◌≡◌, ℕ, ◌≤◌, Bool, List, [], ◌∷◌, ◌++◌, Option, None, Some, codes}
 use Rattle.std.specs.Fmt.{decimal}
@@ -133,13 +133,13 @@ StepAt = Followed (Exactly (codes "at")) 32 StepPlace
 abbrev pub StepBody : List ℕ → Type 0
 StepBody = Followed NumberWord 32 StepAt
 
--- words with a space between every two and a line feed behind the last, and then a rest
+-- words with a space between every two and a line feed after the last, and then a rest
 abbrev pub words_then : List (List ℕ) → List ℕ → List ℕ
 words_then [] rest = rest
 words_then (word ∷ []) rest = word ++ 10 ∷ rest
 words_then (word ∷ next ∷ words) rest = word ++ 32 ∷ words_then (next ∷ words) rest
 
--- ---- behind the sections
+-- ---- after the sections
 
 -- the version that a step part belongs to
 abbrev pub version_at : Option StepPart → Version
@@ -152,7 +152,7 @@ EndLine = Exactly (codes "end\n")
 abbrev pub WholeStep : List ℕ → Type 0
 WholeStep = Followed (Exactly (codes "step")) 32 StepBody
 
--- a line of a step, and then what may follow it; nothing behind the end
+-- a line of a step, and then what may follow it; nothing after the end
 pub data StepTail : List ℕ → Type 0 where
   NoStep : (text : List ℕ) → EndLine text → StepTail text
   NextStep : (text front back : List ℕ) → WholeStep front → StepTail back → text ≡ front ++ back → StepTail text
@@ -162,7 +162,7 @@ abbrev pub Closed : Version → List ℕ → Type 0
 Closed First = Nothing
 Closed Second = Followed NumberWord 10 StepTail
 
--- the word that closes the sections, and the byte behind it
+-- the word that closes the sections, and the byte after it
 abbrev pub closing_word : Version → List ℕ
 closing_word First = codes "end"
 closing_word Second = codes "steps"
@@ -183,7 +183,7 @@ keyword version Access = codes "access"
 keyword version Suffix = codes "suffix"
 keyword version Closing = closing_word version
 
--- the byte behind the first word
+-- the byte after the first word
 abbrev pub behind : Version → Kind → ℕ
 behind version Node = 32
 behind version State = 32
@@ -225,7 +225,7 @@ pub record AnyLine (version : Version) (first : Kind) (text : List ℕ) : Type 0
   pub later : rank first ≤ rank kind
   pub line_is : LineOf version kind text
 
--- a line, and then what may follow a line of its kind; behind the word that closes the sections what the version says
+-- a line, and then what may follow a line of its kind; after the word that closes the sections what the version says
 pub data Tail (version : Version) : Kind → List ℕ → Type 0 where
   Last : (first : Kind) (text front back : List ℕ) → LineOf version Closing front → Closed version back → text ≡ front ++ back → Tail version first text
   More : (first kind : Kind) (text front back : List ℕ) → rank first ≤ rank kind → rank kind ≤ 3 → LineOf version kind front → Tail version kind back

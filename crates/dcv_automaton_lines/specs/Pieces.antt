@@ -1,8 +1,8 @@
--- Sets of texts of which a longer text is made, word behind word, and where a text stops to be the beginning of one of them.
+-- Sets of texts of which a longer text is made, word after word, and where a text stops to be the beginning of one of them.
 --     AreVisible word            all its bytes are visible
 --     Exactly word               this word alone
 --     Nothing                    the empty text alone
---     Followed P end Q           a word of the first set, the byte behind it, and then a text of the second
+--     Followed P end Q           a word of the first set, the byte after it, and then a text of the second
 --     Either P Q                 a text of the one set or of the other
 --     Begins P text              the text is the beginning of a text of the set, or a whole one
 --     IsNoFurther P front left   no text of the set goes on from the front with the next byte of what is left; where nothing is

@@ -2,9 +2,9 @@
 --     IsEnd end                   a space or a line feed
 --     is_binary b                 the byte is a digit `0` or `1`
 --     IsStuckAt P text answer     where the answer is no part, the text is stuck there in the set
---     IsFaultBy P text stop       the stop is a fault of the text, or want of memory
+--     IsFaultBy P text stop       the stop is a fault of the text, or running out of memory
 --     IsStopAt P text answer      where the answer is a stop, it is that
---     IsStuckBy P text stop       the text is stuck at the stop, or it is want of memory
+--     IsStuckBy P text stop       the text is stuck at the stop, or memory ran out
 --     IsStuckStop P text answer   where the answer is a stop, it is that
 use Rattle.std.specs.Prelude.{◌≡◌, ℕ, Bool, ◌||◌, nat_eq, List, Result, Ok, Err, ◌⊎◌}
 use Rattle.dcv_automaton_lines.specs.Pieces.{IsStuckIn, IsFaultAt}

@@ -10,7 +10,7 @@ use crate::lines::{AccessLine, AccessWord, NodeLine, StateLine, SuffixLine, Suff
 use crate::stop::Stuck;
 use crate::words::{answer, begins_with, letter, literal, name, node_number, number, target};
 
-/// What a line says behind the word `node`, and the text behind the line.
+/// What a line says after the word `node`, and the text after the line.
 pub fn node_line<'a>(text: &'a [u8]) -> Result<(NodeLine<'a>, &'a [u8]), Stuck<'a>>
     ensures form { IfOk result (λ read. IsNodeLine (node_line_of read.0)) }
     ensures spelled { IfOk result (λ read. text.now ≡ words_then (drop 1 (node_words (node_line_of read.0))) read.1.now) }
@@ -31,7 +31,7 @@ pub fn node_line<'a>(text: &'a [u8]) -> Result<(NodeLine<'a>, &'a [u8]), Stuck<'
     Ok((line, rest))
 }
 
-/// What a line says behind the word `state`, and the text behind the line.
+/// What a line says after the word `state`, and the text after the line.
 pub fn state_line<'a>(text: &'a [u8]) -> Result<(StateLine, &'a [u8]), Stuck<'a>>
     ensures form { IfOk result (λ read. IsStateLine (state_line_of read.0)) }
     ensures spelled { IfOk result (λ read. text.now ≡ words_then (drop 1 (state_words (state_line_of read.0))) read.1.now) }
@@ -48,7 +48,7 @@ pub fn state_line<'a>(text: &'a [u8]) -> Result<(StateLine, &'a [u8]), Stuck<'a>
     Ok((line, rest))
 }
 
-// How an access word is spelled, and the text behind the line.
+// How an access word is spelled, and the text after the line.
 fn access_word<'a>(text: &'a [u8]) -> Result<(AccessWord<'a>, &'a [u8]), Stuck<'a>>
     ensures form { IfOk result (λ read. IsAccess (access_of read.0)) }
     ensures spelled { IfOk result (λ read. text.now ≡ words_then (how_access (access_of read.0)) read.1.now) }
@@ -68,7 +68,7 @@ fn access_word<'a>(text: &'a [u8]) -> Result<(AccessWord<'a>, &'a [u8]), Stuck<'
     Ok((AccessWord::After(state, last), rest))
 }
 
-/// What a line says behind the word `access`, and the text behind the line.
+/// What a line says after the word `access`, and the text after the line.
 pub fn access_line<'a>(text: &'a [u8]) -> Result<(AccessLine<'a>, &'a [u8]), Stuck<'a>>
     ensures form { IfOk result (λ read. IsAccessLine (access_line_of read.0)) }
     ensures spelled { IfOk result (λ read. text.now ≡ words_then (drop 1 (access_words (access_line_of read.0))) read.1.now) }
@@ -80,7 +80,7 @@ pub fn access_line<'a>(text: &'a [u8]) -> Result<(AccessLine<'a>, &'a [u8]), Stu
     Ok((line, rest))
 }
 
-// How a suffix is spelled, and the text behind the line.
+// How a suffix is spelled, and the text after the line.
 fn suffix_word<'a>(text: &'a [u8]) -> Result<(SuffixWord<'a>, &'a [u8]), Stuck<'a>>
     ensures form { IfOk result (λ read. IsSuffix (suffix_of read.0)) }
     ensures spelled { IfOk result (λ read. text.now ≡ words_then (how_suffix (suffix_of read.0)) read.1.now) }
@@ -95,7 +95,7 @@ fn suffix_word<'a>(text: &'a [u8]) -> Result<(SuffixWord<'a>, &'a [u8]), Stuck<'
     Ok((SuffixWord::Then(first, suffix), rest))
 }
 
-/// What a line says behind the word `suffix`, and the text behind the line.
+/// What a line says after the word `suffix`, and the text after the line.
 pub fn suffix_line<'a>(text: &'a [u8]) -> Result<(SuffixLine<'a>, &'a [u8]), Stuck<'a>>
     ensures form { IfOk result (λ read. IsSuffixLine (suffix_line_of read.0)) }
     ensures spelled { IfOk result (λ read. text.now ≡ words_then (drop 1 (suffix_words (suffix_line_of read.0))) read.1.now) }

@@ -23,7 +23,7 @@ fn is_end(byte: u8) -> bool
     byte == b' ' || byte == b'\n'
 }
 
-// The name that begins there, and the text behind its end.
+// The name that begins there, and the text after its end.
 fn next_name<'a>(text: &'a [u8]) -> Result<(Listed<'a>, &'a [u8]), Stuck<'a>>
     ensures form { IfOk result (λ read. IsNameWord read.0.word.now) }
     ensures spelled { IfOk result (λ read. text.now ≡ read.0.word.now ++ (if read.0.is_last then 10 else 32) ∷ read.1.now) }
@@ -62,7 +62,7 @@ fn named<'a>(alloc: Global, words: Vec<&'a [u8]>) -> Vec<&'a [u8]>
     words
 }
 
-/// The names of the line of variables, and the text behind the line.
+/// The names of the line of variables, and the text after the line.
 pub fn names<'a>(alloc: Global, text: &'a [u8]) -> Result<(Vec<&'a [u8]>, &'a [u8]), Stop<'a>>
     ensures form { IfOk result (λ read. All IsNameWord (map (λ name. name.now) read.0.items)) }
     ensures not_a_dash { IfOk result (λ read. map (λ name. name.now) read.0.items ≢ codes "-" ∷ []) }

@@ -1,4 +1,4 @@
-// The lines behind the head are read one after another: each is of the kind of the line before or of a later one.
+// The lines after the head are read one after another: each is of the kind of the line before or of a later one.
 ghost use Rattle.std.specs.Prelude.{◌≡◌, ℕ, ◌↔◌, IsTrue, map, ◌+◌, ◌≤◌, ◌++◌, ◌∷◌, List, [], length, IfOk, IfSome, IfNone};
 ghost use Rattle.std.specs.List.{flat_map};
 ghost use Rattle.dcv_automaton_text.specs.Spelled.{spelled_line};
@@ -16,7 +16,7 @@ use crate::version::Version;
 use crate::words::literal;
 use std::alloc::{AllocError, Global};
 
-/// The kinds of lines behind the head, in the order of their sections, and the word that closes them.
+/// The kinds of lines after the head, in the order of their sections, and the word that closes them.
 #[derive(Clone, Copy, Debug, PartialEq, Eq)]
 pub enum Kind {
     Node,
@@ -26,7 +26,7 @@ pub enum Kind {
     Closing,
 }
 
-/// A line behind the head, or the word that closes the sections.
+/// A line after the head, or the word that closes the sections.
 #[derive(Clone, Copy)]
 pub enum Line<'a> {
     Node(NodeLine<'a>),
@@ -37,7 +37,7 @@ pub enum Line<'a> {
 }
 
 impl Kind {
-    // The first word of a line of this kind, and the byte behind it.
+    // The first word of a line of this kind, and the byte after it.
     fn word(self, version: Version) -> &'static [u8]
         ensures { result.now ≡ keyword_of version self ++ behind version self ∷ [] }
     {
@@ -89,7 +89,7 @@ impl Line<'_> {
     }
 }
 
-// The kind of the line that begins there, from this kind on, and the text behind its first word.
+// The kind of the line that begins there, from this kind on, and the text after its first word.
 fn keyword<'a>(text: &'a [u8], version: Version, first: Kind) -> Result<(Kind, &'a [u8]), Stuck<'a>>
     ensures later { IfOk result (λ read. rank first ≤ rank read.0) }
     ensures spelled { IfOk result (λ read. text.now ≡ keyword_of version read.0 ++ behind version read.0 ∷ read.1.now) }
@@ -109,7 +109,7 @@ fn keyword<'a>(text: &'a [u8], version: Version, first: Kind) -> Result<(Kind, &
     }
 }
 
-// The line that begins there, of this kind or a later one, and the text behind it.
+// The line that begins there, of this kind or a later one, and the text after it.
 fn read_line<'a>(
     text: &'a [u8],
     version: Version,
@@ -157,7 +157,7 @@ impl<'a> Lines<'a> {
     }
 }
 
-/// The lines of the sections, with the names and the number of states, and the text behind the word that closes them. There is
+/// The lines of the sections, with the names and the number of states, and the text after the word that closes them. There is
 /// no step part yet, and no text in front.
 pub fn sections<'a>(
     alloc: Global,

@@ -1,4 +1,4 @@
-// What stands behind the sections: nothing in version 1, and the steps in version 2.
+// What stands after the sections: nothing in version 1, and the steps in version 2.
 ghost use Rattle.std.specs.Prelude.{◌≡◌, ◌++◌, [], drop, map, IfOk, IfSome};
 ghost use Rattle.std.specs.List.{All, flat_map};
 ghost use Rattle.std.specs.Option.{option_map};
@@ -15,7 +15,7 @@ use crate::version::Version;
 use crate::words::{begins_with, literal, number};
 use std::alloc::Global;
 
-// What a line says behind the word `step`, and the text behind the line.
+// What a line says after the word `step`, and the text after the line.
 fn step_line<'a>(text: &'a [u8]) -> Result<(StepLine, &'a [u8]), Stuck<'a>>
     ensures form { IfOk result (λ read. IsStepLine (step_line_of read.0)) }
     ensures spelled { IfOk result (λ read. text.now ≡ words_then (drop 1 (step_words (step_line_of read.0))) read.1.now) }
@@ -37,7 +37,7 @@ fn step_line<'a>(text: &'a [u8]) -> Result<(StepLine, &'a [u8]), Stuck<'a>>
     Ok((line, rest))
 }
 
-// Nothing stands behind the last line.
+// Nothing stands after the last line.
 fn nothing<'a>(text: &'a [u8]) -> Result<(), Stop<'a>>
     ensures ok { IfOk result (λ _. text.now ≡ []) }
     ensures fault { IsStopAt Nothing text.now result }
@@ -67,7 +67,7 @@ fn step_lines<'a>(alloc: Global, text: &'a [u8]) -> Result<Vec<StepLine>, Stop<'
     Ok(lines)
 }
 
-/// What stands behind the word that closes the sections: the step part of version 2, and the end.
+/// What stands after the word that closes the sections: the step part of version 2, and the end.
 pub fn step_part<'a>(
     alloc: Global,
     version: Version,

@@ -20,7 +20,7 @@ impl Version {
         }
     }
 
-    /// The word that closes the sections, and the byte behind it: the last line, or the first word of the step part.
+    /// The word that closes the sections, and the byte after it: the last line, or the first word of the step part.
     pub fn closing(self) -> &'static [u8]
         ensures { result.now ≡ closing_word self ++ closing_end self ∷ [] }
     {

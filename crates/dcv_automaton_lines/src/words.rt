@@ -1,4 +1,4 @@
-// Words are read from the front of a text, each together with the byte behind it.
+// Words are read from the front of a text, each together with the byte after it.
 ghost use Rattle.std.specs.Prelude.{◌≡◌, ◌≢◌, ◌⊎◌, ◌↔◌, IsTrue, ◌+◌, ◌<◌, ◌≤◌, ◌++◌, ◌∷◌, true, false, length, take, IfOk, slice_index, map};
 ghost use Rattle.std.specs.Fmt.{decimal};
 ghost use Rattle.std.specs.List.{list_all};
@@ -23,7 +23,7 @@ pub fn begins_with(text: &[u8], byte: u8) -> bool
     !text.is_empty() && text[0] == byte
 }
 
-/// The text behind a word at its front.
+/// The text after a word at its front.
 pub fn literal<'a>(text: &'a [u8], word: &[u8]) -> Result<&'a [u8], Stuck<'a>>
     ensures ok { IfOk result (λ rest. text.now ≡ word.now ++ rest.now) }
     ensures fault { IsStuckAt (Exactly word.now) text.now result }
@@ -45,7 +45,7 @@ fn takes_a_digit(place: usize, number: u32) -> bool
     place == 0 || (0 < number && number <= LARGEST_BEFORE_A_DIGIT)
 }
 
-/// A number, and the text behind its end.
+/// A number, and the text after its end.
 pub fn number<'a>(text: &'a [u8], end: u8) -> Result<(u32, &'a [u8]), Stuck<'a>>
     requires { IsEnd end }
     ensures small { IfOk result (λ read. IsNumber read.0) }
@@ -69,7 +69,7 @@ pub fn number<'a>(text: &'a [u8], end: u8) -> Result<(u32, &'a [u8]), Stuck<'a>>
     })
 }
 
-/// The number of a node in its name, and the text behind its end.
+/// The number of a node in its name, and the text after its end.
 pub fn node_number<'a>(text: &'a [u8], end: u8) -> Result<(u32, &'a [u8]), Stuck<'a>>
     requires { IsEnd end }
     ensures small { IfOk result (λ read. IsNumber read.0) }
@@ -82,7 +82,7 @@ pub fn node_number<'a>(text: &'a [u8], end: u8) -> Result<(u32, &'a [u8]), Stuck
     number(&text[1..], end)
 }
 
-/// What comes next in a row, and the text behind its end.
+/// What comes next in a row, and the text after its end.
 pub fn target<'a>(text: &'a [u8], end: u8) -> Result<(Target, &'a [u8]), Stuck<'a>>
     requires { IsEnd end }
     ensures small { IfOk result (λ read. IsTarget (target_of read.0)) }
@@ -100,7 +100,7 @@ pub fn target<'a>(text: &'a [u8], end: u8) -> Result<(Target, &'a [u8]), Stuck<'
     Err(Stuck { left: text })
 }
 
-/// Whether `accept` stands there or `reject`, and the text behind the space.
+/// Whether `accept` stands there or `reject`, and the text after the space.
 pub fn answer<'a>(text: &'a [u8]) -> Result<(bool, &'a [u8]), Stuck<'a>>
     ensures spelled { IfOk result (λ read. text.now ≡ answer_word read.0 ++ 32 ∷ read.1.now) }
     ensures fault { IsStuckAt (Followed AnswerWord 32 Nothing) text.now result }
@@ -127,7 +127,7 @@ pub fn visible_length(text: &[u8]) -> usize
     text.len()
 }
 
-/// A name, and the text behind its end.
+/// A name, and the text after its end.
 pub fn name<'a>(text: &'a [u8], end: u8) -> Result<(&'a [u8], &'a [u8]), Stuck<'a>>
     requires { IsEnd end }
     ensures form { IfOk result (λ read. IsNameWord read.0.now) }
@@ -157,7 +157,7 @@ fn binary_length(text: &[u8]) -> usize
     text.len()
 }
 
-// A dash, and the text behind its end.
+// A dash, and the text after its end.
 fn dash<'a>(text: &'a [u8], end: u8) -> Result<(&'a [u8], &'a [u8]), Stuck<'a>>
     requires end { IsEnd end }
     requires some { 0 < length text.now }
@@ -172,7 +172,7 @@ fn dash<'a>(text: &'a [u8], end: u8) -> Result<(&'a [u8], &'a [u8]), Stuck<'a>>
     Ok((&text[..1], &text[2..]))
 }
 
-// Digits `0` and `1`, and the text behind their end.
+// Digits `0` and `1`, and the text after their end.
 fn digits<'a>(text: &'a [u8], end: u8) -> Result<(&'a [u8], &'a [u8]), Stuck<'a>>
     requires end { IsEnd end }
     requires other { 0 < length text.now → slice_index text.now 0 ≢ 45 }
@@ -189,7 +189,7 @@ fn digits<'a>(text: &'a [u8], end: u8) -> Result<(&'a [u8], &'a [u8]), Stuck<'a>
     Ok((&text[..size], &text[size + 1..]))
 }
 
-/// A letter as it is spelled, and the text behind its end.
+/// A letter as it is spelled, and the text after its end.
 pub fn letter<'a>(text: &'a [u8], end: u8) -> Result<(&'a [u8], &'a [u8]), Stuck<'a>>
     requires { IsEnd end }
     ensures form { IfOk result (λ read. read.0.now ≡ trace_line (letter_of read.0.now)) }

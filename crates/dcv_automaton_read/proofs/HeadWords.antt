@@ -13,7 +13,7 @@ use Rattle.dcv_automaton_read.specs.Judged.{IsJudged, IsJudgedWhole, first_word,
 use Rattle.dcv_automaton_read.specs.Parts.{judged_names, judged_head, judged_nodes, judged_states, judged_access, judged_suffixes}
 use Rattle.dcv_automaton_read.proofs.Judging.{in_turn, stops, whole_in_turn, whole_stops}
 
--- the words behind the names
+-- the words after the names
 abbrev count_words : AutomatonFile → Bool → List (List ℕ × Bool)
 count_words file kept = (codes "states", true) ∷ (decimal file.states, kept) ∷ []
 

@@ -10,7 +10,7 @@ use Rattle.dcv_automaton_read.specs.declared.faults.Stop.TheVariants.{Word, OutO
 use Rattle.dcv_automaton_read.specs.Judged.{first_word, IsJudged, IsJudgedWhole}
 use Rattle.dcv_automaton_read.specs.Parts.{judged_lines}
 
--- ---- words behind others
+-- ---- words after others
 
 pub none_before : (a b : List (List ℕ × Bool)) (at : ℕ) → first_word at a ≡ None → first_word at (a ++ b) ≡ first_word (at + length a) b
 none_before [] b at none = let same : at ≡ at + 0 = omega arith in ap (λ n. first_word n b) same
@@ -64,7 +64,7 @@ module _ {Line : Type 0} (words : Line → List (List ℕ)) (keeps : ℕ → Lin
   pub at_start : IsLeft words keeps xs from 0 from
   at_start = record { same = refl; counted = refl }
 
-  -- the line at the place, and those behind it
+  -- the line at the place, and those after it
   abbrev this : Line → List (List ℕ × Bool)
   this x = zip (words x) (keeps place x)
 

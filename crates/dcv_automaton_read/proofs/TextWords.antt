@@ -1,4 +1,4 @@
--- The words of a text, each with one byte behind it, and where a word begins.
+-- The words of a text, each with one byte after it, and where a word begins.
 use Rattle.std.proofs.Common.{◌≡◌, ◌==◌, ℕ, suc, ◌+◌, ◌-◌, ◌≤◌, Bool, true, false, ◌&&◌, List, [], ◌∷◌, ◌++◌, length, map, Option, None, Some, refl, sym, ap, ◌∙◌, subst, arith}
 use Rattle.std.specs.Prelude.{nat_lt, nat_le, codes}
 use Rattle.std.specs.Fmt.{decimal}
@@ -25,7 +25,7 @@ pub record IsWordBefore (word text more : List ℕ) : Type 0 where
   pub visible : AreVisible word
   pub is : text ≡ word ++ end ∷ more
 
--- the text begins with these words, each with a byte behind it
+-- the text begins with these words, each with a byte after it
 abbrev pub AreIn : List (List ℕ × Bool) → List ℕ → List ℕ → Type 0
 AreIn [] text rest = text ≡ rest
 AreIn (word ∷ words) text rest = (more : List ℕ) × (IsWordBefore word.0 text more × AreIn words more rest)

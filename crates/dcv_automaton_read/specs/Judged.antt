@@ -1,7 +1,7 @@
 -- How words are judged in turn, by their numbers.
 --     first_false at keeps            the number of the first that is false, where the first has this number
 --     first_word at words             the number of the first word that breaks a rule
---     IsJudged found next answer      the answer is the word that was found, or the number of the word behind all of them
+--     IsJudged found next answer      the answer is the word that was found, or the number of the word after all of them
 --     IsJudgedWhole found answer      the answer is the word that was found, or there is none
 --     AreTrue keeps                   each is true
 use Rattle.std.specs.Prelude.{◌≡◌, ℕ, ◌+◌, Bool, true, if◌then◌else◌, List, [], ◌∷◌, Option, None, Some, Result, Ok, Err}

@@ -1,6 +1,6 @@
 -- What the reader answers.
 --     HasTableFault text at      the text has the form, and its file has this table fault
---     HasFault text fault        the text has this fault; want of memory is none
+--     HasFault text fault        the text has this fault; running out of memory is none
 --     IsFaultOf text answer      where the answer is a fault, it is that of the text
 use Rattle.std.specs.Prelude.{ℕ, List, Result, Ok, Err}
 use Rattle.dcv_automaton_text.specs.File.{AutomatonFile}

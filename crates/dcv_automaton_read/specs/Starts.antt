@@ -1,5 +1,5 @@
 -- Where words stand in a text.
---     is_separator b               a space or a line feed, of which one stands behind each word
+--     is_separator b               a space or a line feed, of which one stands after each word
 --     start_of_word text number    the offset at which the word with this number begins, counted from 0
 use Rattle.std.specs.Prelude.{ℕ, ◌+◌, ◌-◌, Bool, ◌||◌, ◌==◌, if◌then◌else◌, List, [], ◌∷◌}
 

@@ -98,7 +98,7 @@ impl AutoFile {
         self.rows.len() as u32
     }
 
-    /// The nodes of the rows, each behind its children.
+    /// The nodes of the rows, each after its children.
     pub fn nodes(&self) -> &[Node]
         ensures { IsRead self.now result.now }
     {

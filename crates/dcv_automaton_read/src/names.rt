@@ -76,7 +76,7 @@ fn is_name(bytes: &[u8]) -> bool
     class_of(bytes) == NAME
 }
 
-// Whether the name behind these earlier ones keeps the rules.
+// Whether the name after these earlier ones keeps the rules.
 fn keeps_name(earlier: &[&[u8]], name: &[u8]) -> bool
     ensures { (names : List (List ℕ)) → texts_of earlier.now ≡ take (length earlier.now) names → result ≡ keeps_name names (length earlier.now) name.now }
 {
@@ -86,7 +86,7 @@ fn keeps_name(earlier: &[&[u8]], name: &[u8]) -> bool
         && !is_listed(earlier, name)
 }
 
-// The words of the variables' line behind the first.
+// The words of the variables' line after the first.
 pub(crate) fn judge_names(names: &[&[u8]], first: u64) -> Result<u64, Stop>
     requires { first < 2 ^ 32 }
     ensures judged { let words = judged_names (texts_of names.now) in IsJudged (first_word first words) (first + length words) result }

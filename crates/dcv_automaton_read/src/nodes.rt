@@ -77,7 +77,7 @@ fn add_node(nodes: &mut IndexSet<Node>, node: Node) -> Result<bool, AllocFailed<
     Ok(few && is_new)
 }
 
-// The words of a node's line, behind those of the earlier nodes.
+// The words of a node's line, after those of the earlier nodes.
 fn judge_node(
     lines: &Lines,
     nodes: &mut IndexSet<Node>,

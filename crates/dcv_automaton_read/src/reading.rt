@@ -13,7 +13,7 @@ use crate::rules::good_nodes;
 use dcv_automaton_lines::{LinesFault, lines_of};
 use std::alloc::Global;
 
-/// What the text of an automaton says, or the one fault of it. Only want of memory is no fault of the text.
+/// What the text of an automaton says, or the one fault of it. Only running out of memory is no fault of the text.
 ///
 /// A fault of the form is told before any of the table rules.
 pub fn automaton_read(alloc: Global, bytes: &[u8]) -> Result<AutoFile, AutoFault>

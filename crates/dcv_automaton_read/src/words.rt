@@ -5,7 +5,7 @@ ghost use Rattle.dcv_automaton_read.specs.Starts.{start_of_word};
 
 use crate::faults::Stop;
 
-// The number of the word behind these, of which the first has this number, or the first that breaks a rule.
+// The number of the word after these, of which the first has this number, or the first that breaks a rule.
 pub(crate) fn judge(first: u64, keeps: &[bool]) -> Result<u64, Stop>
     requires { first + length keeps.now < 2 ^ 64 }
     ensures judged { IsJudged (first_false first keeps.now) (first + length keeps.now) result }
@@ -21,7 +21,7 @@ pub(crate) fn judge(first: u64, keeps: &[bool]) -> Result<u64, Stop>
     Ok(number)
 }
 
-// The offset at which the word with this number begins. One byte stands behind each word.
+// The offset at which the word with this number begins. One byte stands after each word.
 pub(crate) fn start_of_word(text: &[u8], number: u64) -> u32
     requires { length text.now < 2 ^ 32 }
     ensures { result ≡ start_of_word text.now number }

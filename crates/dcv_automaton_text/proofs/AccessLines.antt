@@ -51,7 +51,7 @@ module _ (words : List Word) (some : (state : ℕ) → 0 < state → state < len
         | inr (inr after) ↦ absurd (differ other one [] after within (sym same))
       ]
 
-  -- a word behind another has two letters or more
+  -- a word after another has two letters or more
   size_after : (before : ℕ) (letter : List Bool) (word : Word) → IsAfter words before letter word → 1 < length word
   size_after before letter word is = omega (arith, ap length is.word_is, length-longer (get_or words before []) letter, some before is.not_start is.is_state)
 
@@ -120,7 +120,7 @@ behind_first : (words : List Word) (k : ℕ) → get_or (drop 1 words) k [] ≡ 
 behind_first [] k = refl
 behind_first (word ∷ words) k = refl
 
--- a letter behind the same word
+-- a letter after the same word
 after_is : (words earlier : List Word) (word : Word) (before : ℕ) (letter : List Bool) → word ≡ get_or earlier before [] ++ letter ∷ [] → get_or earlier before [] ≡ get_or words before []
     → 0 < before → before < length words → IsAfter words before letter word
 after_is words earlier word before letter is same later within = record { word_is = is ∙ ap (λ word. word ++ letter ∷ []) same; not_start = later; is_state = within }
@@ -144,7 +144,7 @@ module _ (file : AutomatonFile) where
       let states = both (nat_lt 0 before) (nat_lt before file.states) parts.0 in
       record { not_start = ltb-true 0 before states.0; is_state = ltb-true before file.states states.1; in_order = is_earlier place before parts.1 }
 
-  -- of the states behind the start
+  -- of the states after the start
   later_word : (words found : List Word) (place : ℕ) (access : Access) → length words ≡ file.states → ((j : ℕ) → 0 < j → get_or words j [] ≡ get_or found j []) → 0 < place
       → AreKept (keeps_how_access file place access) → MadeAt found place access → IsWordOf words access (get_or words place [])
   later_word words found place EmptyAccess size same later kept made = absurd (let first = (unsigned_Decides place 0).0 kept.0 in omega arith)

@@ -106,7 +106,7 @@ cut (a ∷ word) (b ∷ other) rest other_rest end other_end w o e f same =
 not_both : (a b : ℕ) → a ≡ 10 → b ≡ 32 → a ≡ b → ⊥
 not_both a b is_ten is_space same = omega arith
 
--- the words of a line before its end, as bytes and what stands behind them
+-- the words of a line before its end, as bytes and what stands after them
 abbrev behind : List (List ℕ) → List ℕ → List ℕ
 behind words rest = join_with_byte 32 words ++ 10 ∷ rest
 

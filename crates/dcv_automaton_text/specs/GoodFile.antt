@@ -81,7 +81,7 @@ pub record GoesOnWith (file : AutomatonFile) (place : ℕ) (letter : List Bool) 
   pub width : HasWidth file letter
   pub earlier : suffix < place
 
--- the first suffix is empty, and no other: behind a letter stands an earlier one
+-- the first suffix is empty, and no other: after a letter stands an earlier one
 abbrev pub IsHowSuffix : AutomatonFile → ℕ → Suffix → Type 0
 IsHowSuffix file place EmptySuffix = place ≡ 0
 IsHowSuffix file place (ThenSuffix letter suffix) = GoesOnWith file place letter suffix

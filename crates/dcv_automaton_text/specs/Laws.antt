@@ -47,7 +47,7 @@ pub record VersionsStandForTheSame : Type 0 where
   pub first : (file : AutomatonFile) → IsSpellable file → IsGood file → IsOfOtherVersion file (first_version file)
   pub second : (file : AutomatonFile) → IsSpellable file → IsGood file → IsOfOtherVersion file (second_version file)
 
--- what a text says behind the version, up to the step part or to the last line
+-- what a text says after the version, up to the step part or to the last line
 abbrev pub said_in : List ℕ → AutomatonFile → List ℕ
 said_in text file = drop 11 (take (length (spelled_front file)) text)
 

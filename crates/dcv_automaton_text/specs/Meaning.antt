@@ -40,7 +40,7 @@ access_word_of words EmptyAccess = []
 access_word_of words (StartAccess letter) = letter ∷ []
 access_word_of words (AfterAccess state letter) = slice_index_or words state [] ++ letter ∷ []
 
--- the words of the states behind the start go on from earlier ones, and not from the start's; that of the start may go on from any of them
+-- the words of the states after the start go on from earlier ones, and not from the start's; that of the start may go on from any of them
 abbrev pub access_words_from : List Access → List Word
 access_words_from [] = []
 access_words_from (start ∷ others) =

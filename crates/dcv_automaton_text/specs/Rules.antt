@@ -189,7 +189,7 @@ judged_words file =
     -- `end`: there are enough states, access words and steps
     ++ flat_map (λ line. zip line ((has_all_access file && has_all_steps file.steps) ∷ [])) end_lines)))))
 
--- one byte stands behind each word, a space or a line feed
+-- one byte stands after each word, a space or a line feed
 abbrev pub first_broken : ℕ → List (List ℕ × Bool) → Option ℕ
 first_broken at [] = None
 first_broken at (word ∷ words) = if word.1 then first_broken (at + length word.0 + 1) words else Some at

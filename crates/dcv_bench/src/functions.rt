@@ -36,7 +36,7 @@ impl Function {
         if bits & 1 == 1 { 1 } else { 0 }
     }
 
-    // The diagram of the function behind the slots before `slot`, where the letter begins with these values.
+    // The diagram of the function after the slots before `slot`, where the letter begins with these values.
     pub(crate) fn build(self, arena: &mut Arena, slot: u8, front: u32) -> Result<Ref, ArenaFault>
         requires slot { slot ≤ arena.old.slots }
         requires arena { IsArena arena.old }

@@ -1,4 +1,4 @@
--- One step more is built: its table stands behind the others and waits behind those that it did not take, and its counts stand behind
+-- One step more is built: its table stands after the others and waits after those that it did not take, and its counts stand after
 -- the others.
 use Rattle.std.proofs.Common.{◌≡◌, ℕ, zero, suc, ◌+◌, ◌<◌, ◌≤◌, List, [], ◌∷◌, ◌++◌, length, reverse, Some, slice_get, Result, Ok, Err, IfOk, inl, inr, refl, sym, ap, subst, ◌∙◌, arith, length-append}
 use Rattle.std.proofs.lemmas.List.{reverse-append}
@@ -143,7 +143,7 @@ module _ (k : ℕ) (tree : CoreTree) (limits : Limits) (n : ℕ) (tables : List 
     ];
   }
 
-  -- the table waits behind those that the step did not take
+  -- the table waits after those that the step did not take
   module _ (rest : List ShelfTable) (counts : List Count) (one_each : length counts ≡ n)
       (each : (number : ℕ) (other : PlainStep) (count : Count) → slice_get (steps_of k tree) number ≡ Some other → slice_get counts number ≡ Some count → IsCount tables other count)
       (begin : ℕ) (begins : begin + steps_before step.core ≡ n) (waits : AreWaiting (steps_of k tree) limits tables begin (reverse rest)) where

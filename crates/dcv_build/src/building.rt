@@ -1,5 +1,5 @@
 // The steps of a core, built one after another. A step takes the automata of its operands from the end of those that wait, and its own
-// waits in their place. That of the last operator goes on no shelf: it is turned where it is by the `!` behind it, and handed out.
+// waits in their place. That of the last operator goes on no shelf: it is turned where it is by the `!` after it, and handed out.
 ghost use Rattle.std.specs.Prelude.{◌≡◌, ◌<◌, ◌≤◌, ◌+◌, [], ℕ, Err, length, IfOk, OnOk};
 ghost use Rattle.dcv_atoms.specs.AtomRows.{atom_machine};
 ghost use Rattle.dcv_atoms.specs.Parts.{atom_nodes};

@@ -97,7 +97,7 @@ pub(crate) fn chop(
     settle(alloc, &Chop::new(&first, &second), 0, limits, step)
 }
 
-// Words of the operand one behind the other.
+// Words of the operand one after the other.
 pub(crate) fn star(
     alloc: Global,
     operand: View<'_>,

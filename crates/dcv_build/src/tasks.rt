@@ -64,7 +64,7 @@ fn two_newest(waiting: &mut Vec<u32>) -> (u32, u32)
     (older, newer)
 }
 
-// The last step that is no `!`, since all steps behind it are.
+// The last step that is no `!`, since all steps after it are.
 pub(crate) fn last_operator(core: &Core) -> u32
     requires { IsCore core.now }
     ensures within { result < length core.now.steps }

@@ -4,7 +4,7 @@
 --     HasFinished raw partition count  the first suffixes were gone on from
 --     GoesOn raw old new               suffixes were added, and blocks were split
 --     IsButMended old new              nothing is other but the lists of members
---     IsMovedTo count old new block number    the new number of a block that is left: behind the count, at its place among the blocks that are left
+--     IsMovedTo count old new block number    the new number of a block that is left: after the count, at its place among the blocks that are left
 use Rattle.std.specs.Prelude.{◌≡◌, ◌⊎◌, ℕ, ◌+◌, ◌<◌, ◌≤◌, List, Some, length, map, slice_get}
 use Rattle.std.specs.List.{All}
 use Rattle.dcv_word.specs.Behaviour.{Word}
@@ -49,7 +49,7 @@ pub record IsButMended (old new : Partition) : Type 0 where
 abbrev pub OnceEach : List ℕ → Type 0
 OnceEach numbers = (first second number : ℕ) → slice_get numbers first ≡ Some number → slice_get numbers second ≡ Some number → first ≡ second
 
--- the number is as far behind the count as the block stands in the list
+-- the number is as far after the count as the block stands in the list
 pub record IsBehind (count : ℕ) (left : List ℕ) (block number : ℕ) : Type 0 where
   pub place : ℕ
   pub is : number ≡ count + place

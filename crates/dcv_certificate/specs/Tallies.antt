@@ -5,7 +5,7 @@
 --     IsTally states blocks at met marks    what is known of the marks that were added
 --     IsAdded at met state block mark ..    what one mark more changes
 --     AreMarkedAlike blocks marks    no letter tells states of one block apart by their marks
---     count_up count block           the count of blocks, with a block that may stand behind the last
+--     count_up count block           the count of blocks, with a block that may stand after the last
 --     AreSizes blocks count sizes    each of so many blocks has as many states as its size says
 use Rattle.std.specs.Prelude.{◌≡◌, ◌≢◌, ℕ, ◌+◌, ◌<◌, ◌≤◌, ◌==◌, ◌&&◌, nat_eq, Bool, true, if◌then◌else◌, List, Option, None, Some, length, slice_index_or}
 use Rattle.std.specs.List.{All, list_any}
@@ -58,7 +58,7 @@ pub record AreSizes (blocks : List ℕ) (count : ℕ) (sizes : List ℕ) : Type 
   pub each : length sizes ≡ count
   pub are : (block : ℕ) → block < count → count_below (length blocks) (λ state. block_of blocks state == block) ≡ slice_index_or sizes block 0
 
--- the count of blocks, with a block that may stand behind the last
+-- the count of blocks, with a block that may stand after the last
 abbrev pub count_up : ℕ → ℕ → ℕ
 count_up count block = if block == count then count + 1 else count
 

@@ -141,7 +141,7 @@ impl Partition<'_> {
         Ok(())
     }
 
-    // Moves a state to another block, which may be a new one behind the last.
+    // Moves a state to another block, which may be a new one after the last.
     fn move_to(&mut self, state: u32, block: u32) -> Result<(), AllocError>
         requires state { state < length self.old.blocks.items }
         requires numbers { All (λ block. block < length self.old.sizes.items) self.old.blocks.items }
@@ -179,7 +179,7 @@ impl Partition<'_> {
     }
 }
 
-// The number that is so far behind the count.
+// The number that is so far after the count.
 fn number_behind(count: usize, place: usize) -> Result<u32, AllocError>
     ensures { IfOk result (λ number. number ≡ count + place) }
 {

@@ -13,7 +13,7 @@ not_true : (b : Bool) → (b ≡ true → ⊥) → b ≡ false
 not_true true wrong = absurd (wrong refl)
 not_true false wrong = refl
 
--- of a state behind the start
+-- of a state after the start
 joined_later : (numbers : List ℕ) (states first second : ℕ) → 0 < first → joined numbers states first second ≡ true → number_at numbers first ≡ number_at numbers second
 joined_later numbers states first second later is = by (nat_eq (number_at numbers first) (number_at numbers second)) refl is
   where

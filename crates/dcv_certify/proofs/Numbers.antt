@@ -172,7 +172,7 @@ module _ (file : AutomatonFile) (good : IsGood file) where
   pub few_entries : entries_of file < 32002
   few_entries = let few = (good_file file good).few in omega (arith, entries_few file)
 
--- behind the last suffix
+-- after the last suffix
 pub all_numbers : {Z : Type 0} (file : AutomatonFile) (lasts : List ℕ) (place : ℕ) (columns : List (Vec Bool Z)) (numbers : List ℕ) → AlikeSoFar file lasts place columns numbers
     → length file.suffix_lines ≤ place → AreNumbersOf file numbers
 unfolding suffix_words_of

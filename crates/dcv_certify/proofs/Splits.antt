@@ -47,29 +47,6 @@ module _ (old : List ℕ) (column : List Bool) (own : AreOwn old) where
   later : (place class first : ℕ) → IsFirstMoved old column place class first → IsFirstMoved old column (place + 1) class first
   later place class first moved = record { before = omega (arith, moved.before); of_class = moved.of_class; leaves = moved.leaves; none_before = moved.none_before }
 
-      none_so_far : IsMoved old column entry (number_at old entry) None
-      none_so_far = subst (IsMoved old column entry (number_at old entry)) none (has.each (number_at old entry) mine_within)
-
-      first : IsFirstMoved old column (entry + 1) (number_at old entry) entry
-      first = record { before = omega arith; of_class = refl; leaves = leaves; none_before = none_so_far }
-
-      others : (class : ℕ) → class < length old → class ≢ number_at old entry → (one : Option ℕ) → get_or moved class None ≡ one → IsMoved old column (entry + 1) class one
-      others class within other (Some first) e = later entry class first (subst (IsMoved old column entry class) e (has.each class within))
-      others class within other None e = λ place before of_class. elim (cases_lt place entry) [
-        | inl less ↦ (subst (IsMoved old column entry class) e (has.each class within)) place less of_class
-        | inr more ↦ absurd (let same : place ≡ entry = omega arith in other (sym of_class ∙ ap (number_at old) same))
-      ]
-
-      by : (class : ℕ) → class < length old → (class ≡ number_at old entry) ⊎ ((class < number_at old entry) ⊎ (number_at old entry < class))
-          → IsMoved old column (entry + 1) class (get_or (set moved (number_at old entry) (Some entry)) class None)
-      by class within (inl same) =
-          subst (λ c. IsMoved old column (entry + 1) c (get_or (set moved (number_at old entry) (Some entry)) c None)) (sym same)
-          (subst (IsMoved old column (entry + 1) (number_at old entry)) (sym (get_or-set_same moved (number_at old entry) (Some entry) None (omega (arith, has.count, mine_within)))) first)
-      by class within (inr order) =
-          let apart : class ≢ number_at old entry = λ e. ⊎_elim (λ less. omega (arith, e, less)) (λ more. omega (arith, e, more)) order in
-          subst (IsMoved old column (entry + 1) class) (sym (get_or-set_other moved (number_at old entry) class (Some entry) None apart))
-          (others class within apart (get_or moved class None) refl)
-
 -- ---- all entries so far
 
 pub record SplitSoFar (old : List ℕ) (column : List Bool) (place : ℕ) (new : List ℕ) (moved : List (Option ℕ)) : Type 0 where

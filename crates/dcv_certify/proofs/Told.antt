@@ -241,7 +241,7 @@ module _ (file : AutomatonFile) (good : IsGood file) where
       longer_suffix : (state : ℕ) (suffix : Word) → 0 < length suffix → 0 < length (word_at file state ++ suffix)
       longer_suffix state suffix some = omega (arith, some, length-append (word_at file state) suffix)
 
-      -- the word of a state behind the start has a letter
+      -- the word of a state after the start has a letter
       some_letters : (state : ℕ) → 0 < state → state < file.states → 0 < length (word_at file state)
       some_letters state later within = by (access_at file state) (spelled_at file good state within) (kept_at file good state within)
         where

@@ -1,4 +1,4 @@
--- For the proofs: which states no suffix so far tells apart. An entry is a state, or, behind the last state, the start once more with the other
+-- For the proofs: which states no suffix so far tells apart. An entry is a state, or, after the last state, the start once more with the other
 -- flag, where its access word is empty: the empty suffix says nothing of it.
 --     bit table entry suffix           whether the suffix is accepted from the entry
 --     entries_of file                  how many entries there are

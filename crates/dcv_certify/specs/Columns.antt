@@ -2,7 +2,7 @@
 -- from its own.
 --     column_at columns place                  the column at a place
 --     IsColumn table word column               the bits of the entries, the start with its other flag the last
---     AreLasts suffixes lasts                  for each suffix, none behind the last that is said goes on from it
+--     AreLasts suffixes lasts                  for each suffix, none after the last that is said goes on from it
 --     HasColumns table lasts words count columns    the columns of those words from which a suffix at this place or later goes on
 --     GoesOnFromBefore count suffix            the suffix goes on from one of the first so many
 --     GoesOnBehind file columns suffix         the suffix goes on from one that has a column, by a letter of the file's width

@@ -1,6 +1,6 @@
 -- For the proofs: which states no suffix tells apart, by the numbers of their entries.
 --     joined numbers states first second          two states have one number, or the second has that of the start with its other flag
---     HasMate, HasNoMate ..                       the first state behind this one that is joined to it, and that there is none before a place
+--     HasMate, HasNoMate ..                       the first state after this one that is joined to it, and that there is none before a place
 --     IsFirstJoined, HasNoneJoined ..             the first two states that are joined, and that there are none
 --     AreAllOwn numbers                           each entry has its own number
 --     IsLeastOther numbers count found            of the first entries with the number of another the one whose number is least, and which is

@@ -1,4 +1,4 @@
-//! Whether each suffix is accepted from each state: a column of bits for each suffix, made of the column that its suffix goes on from. Behind
+//! Whether each suffix is accepted from each state: a column of bits for each suffix, made of the column that its suffix goes on from. After
 //! the last state the start stands once more, with its other flag, since the empty suffix says nothing of an empty word.
 ghost use Rattle.std.specs.Prelude.{◌≡◌, ◌<◌, ◌+◌, ◌∷◌, ◌++◌, [], suc, length, List, IfOk, OnOk};
 ghost use Rattle.dcv_word.specs.Behaviour.{Word as AnyWord};

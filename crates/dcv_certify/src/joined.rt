@@ -53,7 +53,7 @@ fn number_of(numbers: &[u32], entry: u32) -> u32
     numbers.get(entry as usize).copied().unwrap_or(0)
 }
 
-// Of the entries with the number of another the first that has the least number, behind that number.
+// Of the entries with the number of another the first that has the least number, after that number.
 fn least_other(numbers: &[u32]) -> Option<(u32, u32)>
     requires { length numbers.now < 2 ^ 32 }
     ensures { IsLeastOther numbers.now (length numbers.now) result }

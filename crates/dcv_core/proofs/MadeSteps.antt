@@ -131,7 +131,7 @@ chopped_round {old} {one} {two} {new} {before} {part} {first} {second} {last} {k
       place = omega (arith, again.place, made_length made, pushed_length pushed);
     }
 
--- what they make behind `true` and D
+-- what they make after `true` and D
 pub made_round : {old one two new : PlainCore} {k before part last : ℕ} {c d : CoreTree} {span : Span} → Made old k c one before → Made one k d two part
     → IsChoppedRound two before part span k new last → Made old k (CoreChop (CoreChop c d span) (CoreAtom (BasicConstant true) span) span) new last
 made_round {old} {one} {two} {new} {k} {before} {part} {last} {c} {d} {span} made_c made_d round =

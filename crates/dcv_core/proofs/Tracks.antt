@@ -52,6 +52,6 @@ further_by_track word track e = record {
 pub slot_further : (letter rest : List Bool) (slot : ℕ) → slot < length letter → truth_at (letter ++ rest) slot ≡ truth_at letter slot
 slot_further letter rest slot lt = get_or-append letter rest false slot lt
 
--- the slot behind a letter's own
+-- the slot after a letter's own
 pub slot_behind : (letter rest : List Bool) (truth : Bool) → truth_at (letter ++ truth ∷ rest) (length letter) ≡ truth
 slot_behind letter rest truth = get_or-append_seam letter truth rest false

@@ -221,7 +221,7 @@ module _ (p : PlainTruth) (letter : List Bool) (letters : Word) where
       ap (λ n. not (some_from 0 n (λ m. not (holds_at p word m)))) count
       ∙ all_follow (truth_holds p) (all_but_last word) 0 (holds_at p word) but_last_follows
 
--- what is told of each instant behind the first, of it and of the one before
+-- what is told of each instant after the first, of it and of the one before
 back_follows : (P T : List Bool → Bool) (before : List Bool) (word : Word) (i : ℕ) (q : ℕ → Bool)
     → ((m : ℕ) → m < length word → q (i + m) ≡ iff (T (letter_at word m)) (P (letter_at (before ∷ word) m)))
     → not (some_from i (length word) (λ m. not (q m))) ≡ goes_back P T before word

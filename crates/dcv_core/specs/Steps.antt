@@ -103,7 +103,7 @@ pub record HasRoom (old : PlainCore) (slots : ℕ) (core : CoreTree) : Type 0 wh
   pub enough_steps : suc (length old.steps + steps_before core) < 2 ^ 32
   pub enough_slots : slots + nesting core < 256
 
--- the new core has the last three steps of `true ^ D ^ true` more, behind `true` and D, which have these numbers
+-- the new core has the last three steps of `true ^ D ^ true` more, after `true` and D, which have these numbers
 pub record IsChoppedRound (old : PlainCore) (before part : ℕ) (span : Span) (slots : ℕ) (new : PlainCore) (last : ℕ) : Type 0 where
   pub added : new ≡ record old {
     steps = old.steps

@@ -1,5 +1,5 @@
 -- An encoding of propositions over slots as lists of numbers, and its inverse. The model of `Core` needs it, so that proofs can
--- tell its values apart. A proposition is written behind its operands, and is read by a machine with a stack of propositions and one of lists.
+-- tell its values apart. A proposition is written after its operands, and is read by a machine with a stack of propositions and one of lists.
 use Rattle.std.specs.Prelude.{◌≡◌, ℕ, zero, suc, Bool, true, false, List, [], ◌∷◌, ◌++◌, slice_index_or, refl}
 use Rattle.std.specs.Coded.{Coded, code_by, coded×, coded_list, coded_ℕ}
 use Rattle.std.proofs.Common.{ap, sym, ◌∙◌}

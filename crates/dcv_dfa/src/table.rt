@@ -11,7 +11,7 @@ use dcv_arena::{Arena, Ref};
 /// function from letters to the numbers of the states that come next.
 ///
 /// Nothing is asked of which states there are, so a table need not be canonical. The arena may have more slots than the table;
-/// rows are read at letters of the table's slots, and a slot behind these is false. No call takes memory.
+/// rows are read at letters of the table's slots, and a slot after these is false. No call takes memory.
 pub trait Table {
     /// What it stands for.
     ghost automaton: { Self → Automaton ℕ };

@@ -54,7 +54,7 @@ abbrev merged : ((List Bool → ℕ) → ℕ) → (List Bool → ℕ) → List B
 merged merge whole input = merge (λ output. whole (input ++ output))
 
 module _ (n m : ℕ) (merge : (List Bool → ℕ) → ℕ) (merges : Merges m merge) where
-  -- the node behind a front is made of the one behind the same front
+  -- the node after a front is made of the one after the same front
   abbrev image : Node → Node
   image node = (node.0, as_table (n - node.0) (merged merge (reading node.1)))
 

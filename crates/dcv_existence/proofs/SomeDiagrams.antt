@@ -1,4 +1,4 @@
--- Functions have decision diagrams: for each list of tables there is an arena with a ref for each of them, and no other nodes. A function behind
+-- Functions have decision diagrams: for each list of tables there is an arena with a ref for each of them, and no other nodes. A function after
 -- a front has a ref, by recursion on the slots that are left: the one of both sides where they are the same, or a node.
 --     reading table                     the function that a table is of
 --     some_diagrams                     there are diagrams of each list of tables
@@ -84,7 +84,7 @@ some_place old slot lo hi is right =
       }
     ]
 
--- ---- a function behind a front
+-- ---- a function after a front
 
 record Behind (old : ArenaValue) (front : List Bool) (function : List Bool → ℕ) : Type 0 where
   new : ArenaValue
@@ -102,7 +102,7 @@ on front value = front ++ value ∷ []
 length-on : (front : List Bool) (value : Bool) → length (on front value) ≡ length front + 1
 length-on front value = length-append front (value ∷ [])
 
--- behind a front that is one longer
+-- after a front that is one longer
 on-values : (front : List Bool) (value : Bool) (values : List Bool) → on front value ++ values ≡ front ++ value ∷ values
 on-values front value values = append_assoc front (value ∷ []) values
 
@@ -280,7 +280,7 @@ root_in_front arena roots root only node c =
     ])
     (subst (λ table. Contains (nodes_of arena.slots table) node) (sym by_ref.2) by_table.2)
 
--- a ref that means the function behind no front has its table
+-- a ref that means the function after no front has its table
 table_meant : (slots : ℕ) (table : List ℕ) (arena : ArenaValue) (ref : Ref) → length table ≡ 2 ^ slots → arena.slots ≡ slots → MeansBehind arena ref [] (reading table)
     → table_of arena ref ≡ table
 unfolding table_of

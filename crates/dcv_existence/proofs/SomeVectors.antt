@@ -1,5 +1,5 @@
 -- Each list that is short enough is the items of a vector.
---     vector_of xs few      the vector, behind no address
+--     vector_of xs few      the vector, after no address
 use denote.RawPtr.{null_ptr}
 use Rattle.std.proofs.Common.{◌<◌, ◌^◌, List, length, refl, arith}
 use Rattle.std.specs.Global.{Vec}

@@ -67,7 +67,7 @@ module _ (n m : ℕ) (automaton : Automaton ℕ) where
       by sooner (inl is) = sooner is
       by sooner (inr not) = (suc bound, record { beaten = e; least = λ other before. unbeaten-before n m automaton bound other state (omega arith) not })
 
-  -- ---- a bound behind which no more is beaten
+  -- ---- a bound after which no more is beaten
 
   abbrev kept : ℕ → ℕ → Bool
   kept = is_unbeaten n m automaton
@@ -92,7 +92,7 @@ module _ (n m : ℕ) (automaton : Automaton ℕ) where
       by false a b is e = absurd (true≢false (sym is))
 
   module _ (states : ℕ) (rejects : (state : ℕ) → states ≤ state → automaton.accepting state ≡ false) where
-    -- a bound behind which one letter more beats no further state that accepts
+    -- a bound after which one letter more beats no further state that accepts
     record HasEnd : Type 0 where
       bound : ℕ
       stays : BeatsNoMore n m automaton bound

@@ -2,7 +2,7 @@
 --
 -- A builder of a rule requires that the rule begins at its tokens, and ensures what it reads inside its node there. It
 -- goes over the body that the next class picks (class_next, begins_picked), takes each token (begins_token) and calls the builder
--- of each rule (begins_first), each time behind what it has read (begins_next). What it read is put together from the
+-- of each rule (begins_first), each time after what it has read (begins_next). What it read is put together from the
 -- last symbol back (reads_token, reads_next), and is then inside the rule's node (reads_picked).
 use Rattle.std.proofs.Common.{◌≡◌, ℕ, ◌<◌, ◌≤◌, List, [], ◌∷◌, ◌++◌, length, map, Some, sym, ap, ◌∙◌, subst, arith}
 use Rattle.std.specs.Prelude.{slice_get}
@@ -34,11 +34,11 @@ module _ {T : Type 0} {g : ContextFree} {class_of : T → ℕ} where
       let (t, more, e, _, _) = laws.begins_class g class_of c s tokens b in
       subst (λ (ts : List T). 0 < length ts) (sym e) (omega arith)
 
-  -- the token is of the class, and the other symbols begin behind it
+  -- the token is of the class, and the other symbols begin after it
   pub begins_token : {c : ℕ} {s : List Symbol} {tokens more : List T} {t : T} → Begins g class_of (Class c ∷ s) tokens → tokens ≡ t ∷ more → (class_of t ≡ c) × Begins g class_of s more
   begins_token {c} {s} {tokens} {more} {t} b e = laws.begins_token g class_of c s tokens t more b e
 
-  -- the first of some symbols begins where they do, and the others behind what is read of it
+  -- the first of some symbols begins where they do, and the others after what is read of it
   pub begins_first : {x : Symbol} {s : List Symbol} {tokens : List T} → Begins g class_of (x ∷ s) tokens → Begins g class_of (x ∷ []) tokens
   begins_first {x} {s} {tokens} b = laws.begins_first g class_of x s tokens b
 

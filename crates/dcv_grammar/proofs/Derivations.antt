@@ -180,7 +180,7 @@ module _ (g : ContextFree) (h : List Hint) (facts : Facts g h) where
   pub some_derived : (s : List Symbol) → IsKnown s → (w : List ℕ) × Derives g s w
   some_derived s known = some_of_each (height_above h s) (some_of_rule (height_above h s)) s known (omega arith)
 
-  -- Symbols that stand behind the beginning of a sentence are known, and guarded.
+  -- Symbols that stand after the beginning of a sentence are known, and guarded.
   pub reached_known : {s : List Symbol} → IsReached g s → IsKnown s
   reached_known at_start = known_start
   reached_known (in_body {number} {symbols} body b r) = known_body number body symbols b (reached_known r)

@@ -31,7 +31,7 @@ cond_empty false y m n k e h = cc
 pub IsFirst : List Hint → List Symbol → ℕ → Type 0
 IsFirst hints symbols c = IsIn (first_of hints symbols) c
 
--- the class may never stand behind the symbols
+-- the class may never stand after the symbols
 pub IsNeverBehind : List Hint → List Symbol → ℕ → Type 0
 IsNeverBehind hints symbols c = IsIn (never_behind hints symbols) c
 
@@ -94,7 +94,7 @@ module _ (hints : List Hint) where
         ]
       ]
 
-  -- what may never stand behind the last of the symbols, nor behind one that only such follow as may derive nothing
+  -- what may never stand after the last of the symbols, nor after one that only such follow as may derive nothing
   pub never_here : (n : ℕ) (s : List Symbol) (c : ℕ) → is_empty hints s ≡ true → IsIn (hint_at hints n).never c → IsNeverBehind hints (Rule n ∷ s) c
   unfolding IsNeverBehind
   never_here n s c e h =
@@ -108,7 +108,7 @@ module _ (hints : List Hint) where
   unfolding IsNeverBehind
   never_past k s c h = h
 
--- Each rule among the symbols is followed by nothing that may never stand behind it.
+-- Each rule among the symbols is followed by nothing that may never stand after it.
 pub IsGuarded : List Hint → List Symbol → Type 0
 IsGuarded hints [] = Unit {0}
 IsGuarded hints (Class k ∷ s) = IsGuarded hints s
@@ -137,7 +137,7 @@ module _ (hints : List Hint) where
         guarded_by_test s (both_right (is_apart (hint_at hints n).never (first_of hints s)) (is_guarded hints s) e),
       )
 
-  -- guarded symbols before guarded ones that begin with nothing that may never stand behind the first ones
+  -- guarded symbols before guarded ones that begin with nothing that may never stand after the first ones
   pub guarded_append : (a b : List Symbol) → IsGuarded hints a → IsGuarded hints b → ((c : ℕ) → IsNeverBehind hints a c → IsFirst hints b c → ⊥) → IsGuarded hints (a ++ b)
   unfolding IsGuarded
   guarded_append [] b ga gb h = gb

@@ -26,7 +26,7 @@ module _ {T : Type 0} (g : ContextFree) (class_of : T → ℕ) where
       let (tree, h, e) = trees_derived g class_of d tokens refl in
       record { behind = []; all = tree; reached = at_start; derived = h; whole = e }
 
-  -- where a class begins there is a token of it, and what is behind it begins behind that
+  -- where a class begins there is a token of it, and what is after it begins after that
   pub begins_class : (c : ℕ) (s : List Symbol) (tokens : List T) → Begins g class_of (Class c ∷ s) tokens → (t : T) × (more : List T) × (tokens ≡ t ∷ more) × (class_of t ≡ c) × Begins g class_of s more
   begins_class c s tokens b =
       let (t, next, e, k, h) = class_tree g class_of c (s ++ b.behind) b.all b.derived in
@@ -50,7 +50,7 @@ module _ {T : Type 0} (g : ContextFree) (class_of : T → ℕ) where
         whole = b.whole;
       }
 
-  -- and behind what was read of them the others begin
+  -- and after what was read of them the others begin
   pub begins_behind : (a s : List Symbol) (tokens : List T) (nodes : Nodes T) (rest : List T) → Begins g class_of (a ++ s) tokens → Reads g class_of a tokens nodes rest → Begins g class_of s rest
   begins_behind a s tokens nodes rest b reads =
       let reached = subst (IsReached g) (append_assoc a s b.behind) b.reached in
@@ -82,7 +82,7 @@ module _ {T : Type 0} (g : ContextFree) (class_of : T → ℕ) where
         record { more = next; joined = e ∙ ap (λ x. leaf x next) same; of_symbols = (k, tt); of_behind = h; of_rest = same_more };
   }
 
-  -- symbols, and those behind them
+  -- symbols, and those after them
   pub reads_append : (a s : List Symbol) (tokens middle rest : List T) (first more : Nodes T) → Reads g class_of a tokens first middle → Reads g class_of s middle more rest → Reads g class_of (a ++ s) tokens (join first more) rest
   reads_append a s tokens middle rest first more one two = record {
     splits = λ behind all reached derived whole.
@@ -217,7 +217,7 @@ module _ {T : Type 0} (g : ContextFree) (class_of : T → ℕ) (p : IsPredictive
   pub fronts_begin : (n : ℕ) (tokens : List T) → BeginsRule g class_of n tokens → ReadsFronts g class_of n tokens [] tokens
   fronts_begin n tokens b = record { again = b; then = λ last left reads. reads }
 
-  -- where the next class picks the front, the front begins there, and the rule again behind it
+  -- where the next class picks the front, the front begins there, and the rule again after it
   pub front_begins : (n : ℕ) (rule : Production) (front : List Symbol) (tokens : List T) (fronts : List (Nodes T)) (rest : List T) → slice_get g.productions n ≡ Some rule → body_for rule (next_class class_of rest) ≡ front ++ Rule n ∷ [] → ReadsFronts g class_of n tokens fronts rest → Begins g class_of (front ++ Rule n ∷ []) rest
   front_begins n rule front tokens fronts rest at picked reads = begins_picked n rule (front ++ Rule n ∷ []) rest at picked reads.again
 

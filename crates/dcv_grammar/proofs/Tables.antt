@@ -11,7 +11,7 @@ use Rattle.dcv_grammar.specs.Grammar.{Production, production_of}
 abbrev pub rules_in : List (Bor (List ProductionTable)) → List Production
 rules_in tables = flat_map (λ table. map production_of table.now) tables
 
--- the rule of the number stands this far behind in the tables from an index on
+-- the rule of the number stands this far after in the tables from an index on
 pub record IsLeft (tables : List (Bor (List ProductionTable))) (index behind number : ℕ) : Type 0 where
   pub within : behind < length (rules_in (drop index tables))
   pub same : slice_get (rules_in (drop index tables)) behind ≡ slice_get (rules_in tables) number

@@ -55,7 +55,7 @@ module _ {T : Type 0} (g : ContextFree) (class_of : T → ℕ) where
   trees_join (Rule n ∷ s) v (leaf t a) b h k = absurd h
   trees_join (Rule n ∷ s) v (node m i a) b h k = (h.0, h.1, trees_join s v a b h.2 k)
 
-  -- trees of symbols and of those behind them are trees of each
+  -- trees of symbols and of those after them are trees of each
   abbrev pub Parts : List Symbol → List Symbol → Nodes T → Type 0
   Parts s v all = (a : Nodes T) × (b : Nodes T) × (all ≡ join a b) × AreTrees g class_of s a × AreTrees g class_of v b
 
@@ -132,7 +132,7 @@ module _ {T : Type 0} (g : ContextFree) (class_of : T → ℕ) where
       let (inner, next, j, hi, hn) = trees_parts body symbols all h in
       (node number inner next, (refl, (body, b, hi), hn), sym (leaves_join inner next) ∙ ap leaves (sym j) ∙ i)
 
-  -- what stood behind symbols that trees were read of stands behind the beginning of a sentence, as they do
+  -- what stood after symbols that trees were read of stands after the beginning of a sentence, as they do
   pub reached_behind : (s behind : List Symbol) (a : Nodes T) → AreTrees g class_of s a → IsReached g (s ++ behind) → IsReached g behind
   reached_behind [] behind a h r = r
   reached_behind (Class c ∷ s) behind done h r = absurd h
@@ -155,7 +155,7 @@ module _ {T : Type 0} (g : ContextFree) (class_of : T → ℕ) (p : IsPredictive
       ∙ ap (map class_of) (sym (append_assoc (leaves inner) (leaves next) r) ∙ e) in
       body_picked g (hints g) (facts g p) n rule body (s ++ behind) (map class_of tokens) at (reached_guarded g (hints g) (facts g p) reached) b (subst (Derives g (body ++ (s ++ behind))) same derived)
 
-  -- Tokens that begin with symbols do so in one way, whatever stands behind them.
+  -- Tokens that begin with symbols do so in one way, whatever stands after them.
   pub one_reading : (s v1 v2 : List Symbol) (a b : Nodes T) (r q : List T) → IsReached g (s ++ v1) → IsReached g (s ++ v2) → AreTrees g class_of s a → AreTrees g class_of s b → leaves a ++ r ≡ leaves b ++ q → Derives g v1 (map class_of r) → Derives g v2 (map class_of q) → (a ≡ b) × (r ≡ q)
   one_reading [] v1 v2 done b r q r1 r2 ha hb e dr dq =
       let eb = no_trees g class_of b hb in

@@ -2,7 +2,7 @@
 --     bodies rule                         each body of a rule
 --     IsBody grammar number body          the rule of this number has this body
 --     Derives grammar symbols classes     the symbols derive the classes
---     IsReached grammar symbols           the symbols stand behind the beginning of a sentence
+--     IsReached grammar symbols           the symbols stand after the beginning of a sentence
 --     IsSentence grammar classes          the start derives the classes
 --     IsViable grammar classes            the classes are the beginning of a sentence, or a whole one
 --     IsFaultAt grammar classes place     the classes are viable up to the place, and no further
@@ -58,7 +58,7 @@ pub data Derives (grammar : ContextFree) : List Symbol → List ℕ → Type 0 w
   by_class : {class : ℕ} {symbols : List Symbol} {classes : List ℕ} → Derives grammar symbols classes → Derives grammar (Class class ∷ symbols) (class ∷ classes)
   by_body : {number : ℕ} {symbols : List Symbol} {classes : List ℕ} → (body : List Symbol) → IsBody grammar number body → Derives grammar (body ++ symbols) classes → Derives grammar (Rule number ∷ symbols) classes
 
--- The symbols stand behind the beginning of a sentence: the start behind none, a body where its rule stood, and what stood behind a class.
+-- The symbols stand after the beginning of a sentence: the start after none, a body where its rule stood, and what stood after a class.
 pub data IsReached (grammar : ContextFree) : List Symbol → Type 0 where
   at_start : IsReached grammar (Rule grammar.start ∷ [])
   in_body : {number : ℕ} {symbols : List Symbol} → (body : List Symbol) → IsBody grammar number body → IsReached grammar (Rule number ∷ symbols) → IsReached grammar (body ++ symbols)

@@ -9,7 +9,7 @@ abbrev pub with_wanted : Option ℕ → List Symbol → List Symbol
 with_wanted None stack = stack
 with_wanted (Some class) stack = Class class ∷ stack
 
--- A stack derives just what makes a sentence behind what was read.
+-- A stack derives just what makes a sentence after what was read.
 pub record Follows (grammar : ContextFree) (done : List ℕ) (stack : List Symbol) : Type 0 where
   pub reached : IsReached grammar stack
   pub same : (w : List ℕ) → IsSentence grammar (done ++ w) ↔ Derives grammar stack w

@@ -1,6 +1,6 @@
 -- The test that the next class alone decides which body is taken, without end and without a wrong turn: the conditions of
 -- LL(1) grammars, with a rule's other body taken at any class that picks none.
---     Hint                     what is noted of a rule: whether it may be empty, what comes first in it, and what never stands behind it
+--     Hint                     what is noted of a rule: whether it may be empty, what comes first in it, and what never stands after it
 --     agrees, picks            what is noted agrees with a body, and the bodies of a rule are told apart by the next class
 --     hints_of rules           the notes of all rules: taken again, from nothing, until nothing changes
 --     is_predictive grammar    the rules pass by their notes
@@ -16,7 +16,7 @@ use Rattle.dcv_grammar.specs.ClassSet.{ClassSet, none, only, union, is_within, i
 pub record Hint : Type 0 where
   pub empty : Bool  -- it may derive nothing
   pub first : ClassSet  -- what may come first in what it derives
-  pub never : ClassSet  -- what may never stand behind it
+  pub never : ClassSet  -- what may never stand after it
   pub weight : ℕ  -- falls when a body is taken in its place
   pub height : ℕ  -- falls when the other body is taken in its place
 
@@ -42,7 +42,7 @@ first_of hints (Class class ∷ symbols) = only class
 first_of hints (Rule number ∷ symbols) =
     let hint = hint_at hints number in union hint.first (kept_if hint.empty (first_of hints symbols))
 
--- what may never stand behind symbols
+-- what may never stand after symbols
 abbrev pub never_behind : List Hint → List Symbol → ClassSet
 never_behind hints [] = none
 never_behind hints (Class class ∷ symbols) = never_behind hints symbols
@@ -62,7 +62,7 @@ height_above hints [] = 0
 height_above hints (Class class ∷ symbols) = height_above hints symbols
 height_above hints (Rule number ∷ symbols) = max ((hint_at hints number).height + 1) (height_above hints symbols)
 
--- no symbol is followed by what may never stand behind it
+-- no symbol is followed by what may never stand after it
 abbrev pub is_guarded : List Hint → List Symbol → Bool
 is_guarded hints [] = true
 is_guarded hints (Class class ∷ symbols) = is_guarded hints symbols

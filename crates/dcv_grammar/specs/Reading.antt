@@ -10,7 +10,7 @@ abbrev pub next_class : {T : Type 0} → (T → ℕ) → List T → Option ℕ
 next_class class_of [] = None
 next_class class_of (token ∷ tokens) = Some (class_of token)
 
--- The tokens are all of the leaves of some trees of the symbols and of those that stand behind them in a sentence.
+-- The tokens are all of the leaves of some trees of the symbols and of those that stand after them in a sentence.
 pub record Begins {T : Type 0} (grammar : ContextFree) (class_of : T → ℕ) (symbols : List Symbol) (tokens : List T) : Type 0 where
   pub behind : List Symbol
   pub all : Nodes T
@@ -18,7 +18,7 @@ pub record Begins {T : Type 0} (grammar : ContextFree) (class_of : T → ℕ) (s
   pub derived : AreTrees grammar class_of (symbols ++ behind) all
   pub whole : leaves all ≡ tokens
 
--- all are the nodes, which are trees of the symbols, and more, which are trees of those behind them and have the rest
+-- all are the nodes, which are trees of the symbols, and more, which are trees of those after them and have the rest
 pub record Splits {T : Type 0} (grammar : ContextFree) (class_of : T → ℕ) (symbols behind : List Symbol) (all nodes : Nodes T) (rest : List T) : Type 0 where
   pub more : Nodes T
   pub joined : all ≡ join nodes more

@@ -16,7 +16,7 @@ leaves done = []
 leaves (leaf token next) = token ∷ leaves next
 leaves (node rule inner next) = leaves inner ++ leaves next
 
--- some trees, and others behind them
+-- some trees, and others after them
 abbrev pub join : {T : Type 0} → Nodes T → Nodes T → Nodes T
 join done others = others
 join (leaf token next) others = leaf token (join next others)

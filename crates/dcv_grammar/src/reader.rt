@@ -11,9 +11,9 @@ ghost use Rattle.dcv_grammar.specs.Machine.{Wants};
 use crate::grammar::{Classified, ContextFree, Symbol};
 use std::alloc::{AllocError, Global};
 
-/// What may still come behind the classes that were taken. It keeps a stack, and no list of tokens.
+/// What may still come after the classes that were taken. It keeps a stack, and no list of tokens.
 ///
-/// After a refusal, or want of memory, nothing more is known of it.
+/// After a refusal, or running out of memory, nothing more is known of it.
 #[derive(Drop)]
 pub struct Reading<'g> {
     grammar: ContextFree<'g>,

@@ -54,7 +54,7 @@ pub fn next_class<T: Classified>(tokens: &[T]) -> Option<u8>
     }
 }
 
-/// The first token, and those behind it.
+/// The first token, and those after it.
 pub fn first_and_rest<T>(tokens: &[T]) -> (&T, &[T])
     requires { 0 < length tokens.now }
     ensures { tokens.now ≡ result.0.now ∷ result.1.now }

@@ -105,7 +105,7 @@ puts_one_more f xs n d old mid new below first second =
 
 -- ---- the loop of a block
 
--- a part of what is left was put behind what had been
+-- a part of what is left was put after what had been
 pub puts_part : (loans : List GName) (old mid : Put) (out : Option (List ℕ)) (count : ℕ) (last failed : Bool) (held more_held : List ℕ) (done rest : List ℕ) (n : ℕ)
     → Puts old mid done → Puts mid (standing_as loans out count last held failed) [] → more_held ≡ held ++ take n rest
     → Puts old (standing_as loans out count last more_held failed) (done ++ take n rest)
@@ -155,7 +155,7 @@ all_is_out written faults text new holds none =
 
 -- ---- a text in memory
 
--- more is put behind what there is, or there is no memory for it
+-- more is put after what there is, or there is no memory for it
 pub puts_more : (old new more : List ℕ) (result : Result ⊤ AllocError) → 0 < length more → new ≡ (if is_ok result then old ++ more else old)
     → Puts (text_put old false) (text_put new (is_err result)) more
 puts_more old new more (Ok done) some is = record {

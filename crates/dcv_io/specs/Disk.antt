@@ -42,7 +42,7 @@ pub record GivesAtMost (most : ℕ) (old new : Option Disk) : Type 0 where
   pub fits : length bytes ≤ most
   pub given : WhereTold (Gives bytes) old new
 
--- what was given stands behind what there was
+-- what was given stands after what there was
 abbrev pub GivesAdded : List ℕ → List ℕ → Option Disk → Option Disk → Type 0
 GivesAdded before after old new = (bytes : List ℕ) × (after ≡ before ++ bytes) × WhereTold (Gives bytes) old new
 

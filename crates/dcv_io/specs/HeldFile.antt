@@ -16,7 +16,7 @@ pub record IsWithin (files : List HeldFile) (place : Place) : Type 0 where
   pub file : place.file < length files
   pub at : place.at ≤ length (bytes_at files place.file)
 
--- what is left behind the place, if there is one
+-- what is left after the place, if there is one
 abbrev pub unread_at : List HeldFile → Option Place → Option (List ℕ)
 unread_at files None = None
 unread_at files (Some place) = Some (drop place.at (bytes_at files place.file))

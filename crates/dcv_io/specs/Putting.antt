@@ -27,7 +27,7 @@ pub record Holds (written : Option (List ℕ)) (faults : ℕ) (text : List ℕ) 
   pub once : OnTrue put.failed (put.faults ≡ raised faults)
   pub stops : OnTrue put.failed (put.last_failed ≡ true)
 
--- Whatever had been put before, these bytes were put behind it.
+-- Whatever had been put before, these bytes were put after it.
 pub record Puts (old new : Put) (bytes : List ℕ) : Type 0 where
   pub same : new.loans ≡ old.loans
   pub behind : (written : Option (List ℕ)) (faults : ℕ) (text : List ℕ) → Holds written faults text old → Holds written faults (text ++ bytes) new

@@ -1,7 +1,7 @@
 -- What a sink has been given, where that is told.
 use Rattle.std.specs.Prelude.{◌≡◌, ℕ, ◌<◌, ◌≤◌, List, ◌++◌, length, take, Option, option_map}
 
--- these bytes behind those written before, where they are told
+-- these bytes after those written before, where they are told
 abbrev pub appended : Option (List ℕ) → List ℕ → Option (List ℕ)
 appended written bytes = option_map (λ before. before ++ bytes) written
 

@@ -174,7 +174,7 @@ fn position_of(files: &[HeldFile], name: &str) -> Option<usize>
     None
 }
 
-// What is left behind a place.
+// What is left after a place.
 fn unread(files: &[HeldFile], place: Place) -> &[u8]
     requires { IsWithin files.now place }
     ensures rest { result.now ≡ drop place.at (bytes_at files.now place.file) }

@@ -46,7 +46,7 @@ impl<F: Files> NotingFiles<F> {
         self.names.as_deref()
     }
 
-    // Puts a name behind the others, and lets all go where there is no memory for it.
+    // Puts a name after the others, and lets all go where there is no memory for it.
     fn note(&mut self, name: &str)
         ensures files { self.new.files ≡ self.old.files }
         ensures asked { Asks (name.now ∷ []) self.old.asked self.new.asked }

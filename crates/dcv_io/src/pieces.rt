@@ -5,7 +5,7 @@ ghost use Rattle.dcv_io.specs.Putting.{Puts};
 
 use crate::Target;
 
-/// Puts the pieces, one behind another.
+/// Puts the pieces, one after another.
 pub fn put_pieces<T: Target>(target: &mut T, pieces: &[&[u8]])
     ensures { Puts (T.standing target.old) (T.standing target.new) (flat_map (λ piece. piece.now) pieces.now) }
 {

@@ -9,7 +9,7 @@ pub trait Target {
     /// How it stands.
     ghost standing: { Self → Put };
 
-    /// Puts the bytes behind those put before, or nothing where it has failed.
+    /// Puts the bytes after those put before, or nothing where it has failed.
     fn put(&mut self, bytes: &[u8])
         ensures { Puts (standing self.old) (standing self.new) bytes.now };
 }

@@ -38,7 +38,7 @@ point_machine slots P = record {
 
 -- ---- more than one instant, and P at each but the last
 
--- after one letter with P, after more of them, after a first letter without P behind those, and after any more
+-- after one letter with P, after more of them, after a first letter without P after those, and after any more
 pub data RunState : Type 0 where
   RunStart : RunState
   RunFirst : RunState

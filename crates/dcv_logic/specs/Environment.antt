@@ -10,7 +10,7 @@ pub data Meaning : Type 0 where
   -- of a formula macro: its truth on an interval
   FormulaMeaning : (List Track → ℕ → ℕ → Bool) → Meaning
 
--- Each list has the newest first, so a name hides what stands behind it under the same name.
+-- Each list has the newest first, so a name hides what stands after it under the same name.
 pub record Environment : Type 0 where
   -- how many instants the behaviour has
   pub instants : ℕ

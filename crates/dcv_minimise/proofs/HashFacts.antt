@@ -60,7 +60,7 @@ module _ (arena : ArenaValue) (is : IsReduced arena) (blocks hashes : List ℕ) 
       ∙ ap (λ slot. block_of blocks (value_of arena (Place other) (set letter slot true))) level
       ∙ ap (block_of blocks) (sym ((has_children arena is other here).hi_value letter size))
 
-  -- ---- by how many slots there are behind both
+  -- ---- by how many slots there are after both
 
   abbrev behind : Ref → Ref → ℕ
   behind first second = (arena.slots - level_of arena first) + (arena.slots - level_of arena second)

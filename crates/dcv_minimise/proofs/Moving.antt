@@ -5,7 +5,7 @@ use Rattle.std.proofs.lemmas.Bool.{cases_lt, cases_order}
 use Rattle.std.proofs.lemmas.List.{get_or_default}
 use Rattle.std.proofs.lemmas.List.Edits.{length-remove, get_or-remove_below, get_or-remove_above}
 
--- behind the first element
+-- after the first element
 pub behind_first : {X : Type 0} (xs : List X) (place : ℕ) (d : X) → get_or (drop 1 xs) place d ≡ get_or xs (suc place) d
 behind_first [] place d = refl
 behind_first (x ∷ xs) place d = refl

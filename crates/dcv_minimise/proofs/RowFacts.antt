@@ -65,7 +65,7 @@ leads_inside raw is numbers given_numbers from state root is_numbers is_from is_
     let value : value_of from root letter ≡ value_of raw.arena (row_of raw state) letter = (λ i. value_of (is_from i) (sym is_root i) letter) in
     omega (arith, leads, value, many, ap length is_numbers)
 
--- ---- the states behind the start
+-- ---- the states after the start
 
 pub behind : (P : ℕ → Type 0) (states : List ℕ) → All P states → All P (drop 1 states)
 behind P [] all = all

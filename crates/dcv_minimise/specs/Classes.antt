@@ -3,7 +3,7 @@
 --     block_at blocks states place              the block of the state that is listed at this place
 --     AreFirsts blocks states count places      of each class of the first so many states, the place of the first that is in it
 --     firsts_of states places                   the states at these places
---     HasFirsts blocks states count start kept  the start, and behind it the first state of each class
+--     HasFirsts blocks states count start kept  the start, and after it the first state of each class
 --     AreMet blocks states count met            which blocks the first so many states are in
 --     HaveSameRow raw blocks first second       from both states each letter leads to one block
 --     IsFirstLike raw blocks state firsts place the place of the first of these states that has the row of this one, if one has

@@ -103,7 +103,7 @@ fn keep(alloc: Global, raw: &Raw, found: &[Found], blocks: &[u32]) -> Result<Kep
     }
 }
 
-// The start, and behind it the first of these states in each block.
+// The start, and after it the first of these states in each block.
 fn first_states(
     alloc: Global,
     start: u32,
@@ -127,7 +127,7 @@ fn first_states(
     Ok(states)
 }
 
-// The start alone, with room for so many states behind it.
+// The start alone, with room for so many states after it.
 fn alone_with_room(alloc: Global, start: u32, room: usize) -> Result<Vec<u32>, AllocError>
     ensures items { IfOk result (λ states. states.items ≡ start ∷ []) }
 {
@@ -136,7 +136,7 @@ fn alone_with_room(alloc: Global, start: u32, room: usize) -> Result<Vec<u32>, A
     Ok(alone)
 }
 
-// The place, behind the start, of the first of these states that has the start's row: whose letters lead to the same blocks. Most differ from
+// The place, after the start, of the first of these states that has the start's row: whose letters lead to the same blocks. Most differ from
 // the start at the letter that is false alone, and their rows are not gone through.
 fn like_start(
     alloc: Global,

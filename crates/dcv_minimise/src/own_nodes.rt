@@ -1,4 +1,4 @@
-// Whether an automaton's arena has only nodes of its rows, as an exploration leaves it. Nodes are marked from the rows on; a node stands behind its
+// Whether an automaton's arena has only nodes of its rows, as an exploration leaves it. Nodes are marked from the rows on; a node stands after its
 // children, so each has all its marks where the nodes are gone through from the last one.
 ghost use Rattle.std.specs.Prelude.{◌≡◌, ◌<◌, ◌⊎◌, ℕ, List, true, false, length, slice_index_or, IfOk, Contains};
 ghost use Rattle.std.specs.List.{All};

@@ -146,7 +146,7 @@ part_names (Macros macros) = macros_names macros
 part_names (AFile file) = file_names file
 part_names Nothing = []
 
--- one part behind another
+-- one part after another
 abbrev InOrder : ℕ → List Part → ℕ → Type 0
 InOrder low [] high = low ≤ high
 InOrder low (part ∷ parts) high = (middle : ℕ) × (Within low (part_names part) middle × InOrder middle parts high)
@@ -426,7 +426,7 @@ trees_in_order (node rule inner next) low high h =
 
 -- ---- texts
 
--- the tokens among pieces stand one behind another
+-- the tokens among pieces stand one after another
 tokens_in_order : (start : ℕ) (pieces : List (List ℕ)) (rest : List ℕ) → EachIsLongest pieces rest
     → (high : ℕ) × Within start (places (tokens_from start pieces)) high
 tokens_in_order start [] rest longest = (start, omega arith)

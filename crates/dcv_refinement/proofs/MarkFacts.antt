@@ -98,7 +98,7 @@ grows_in_turn a b c d e f one other = record {
 
 -- ---- marking the places of a list, from its last entry back
 
--- what is left of a list of entries begins at one of them, and what stands behind it is marked
+-- what is left of a list of entries begins at one of them, and what stands after it is marked
 pub record MarksBack (entries : List Entry) (last : ℕ) (old : List ℕ) (next : ℕ) (marked : List ℕ) : Type 0 where
   pub within : next ≤ length entries
   pub listed : (place : ℕ) → Contains (chain entries next) place → Contains (chain entries last) place

@@ -1,5 +1,5 @@
 -- Lists of numbers, each at a place.
---     list_at vectors place        the list that is kept at a place, and none behind the last
+--     list_at vectors place        the list that is kept at a place, and none after the last
 --     AddsAt old new place number  the list there, if there is one, has this number more, and no list has anything else more
 use Rattle.std.specs.Prelude.{◌≡◌, ℕ, ◌<◌, List, [], length, Vec, slice_get, Contains, ◌⊎◌}
 use Rattle.std.specs.Option.{option_map_or}

@@ -1,6 +1,6 @@
 -- A set of numbers, as the list of them in the order in which they came.
 --     has numbers number            whether a number is among them
---     with_number numbers number    the numbers, with this one behind them where it is not among them
+--     with_number numbers number    the numbers, with this one after them where it is not among them
 --     IsPlaceOf numbers number place    the place at which a number stands, or none where it is not among them
 --     is_at numbers place number    whether a number stands at a place
 --     StandAt numbers places        for each of the numbers, `places` has the place at which it stands

@@ -79,7 +79,7 @@ impl SparseSet {
         self.place_of(number).is_some()
     }
 
-    /// Puts a number behind the others where it is not among them, and answers its place.
+    /// Puts a number after the others where it is not among them, and answers its place.
     pub fn insert(&mut self, number: u32) -> Result<usize, AllocError>
         ensures place { IfOk result (λ place. slice_get self.new place ≡ Some number) }
         ensures numbers { OnOk result (self.new ≡ with_number self.old number) }
@@ -94,7 +94,7 @@ impl SparseSet {
         }
     }
 
-    // Puts a number that is not among them behind the others.
+    // Puts a number that is not among them after the others.
     fn add(&mut self, number: u32) -> Result<usize, AllocError>
         requires { has self.old number ≡ false }
         ensures place { IfOk result (λ place. slice_get self.new place ≡ Some number) }

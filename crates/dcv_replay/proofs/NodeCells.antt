@@ -144,7 +144,7 @@ module _ (names : List Name) (apart : IsApart names) where
   cells_set before (equation ∷ equations) order placed store room =
       by_right before equation equations order.0.left placed.0 store room (λ next fits. cells_set before equations order.1 placed.1 next fits) equation.right refl
 
-  -- what stands behind `pre` is a name
+  -- what stands after `pre` is a name
   abbrev IsSourcePlaced : Right → Type 0
   IsSourcePlaced (Delayed first source) = source < length names
   IsSourcePlaced (Chosen arms otherwise) = Unit {0}

@@ -100,7 +100,7 @@ one_bad_line width text u v line line' one first second =
     let both = stuck_once width u v text first.rest second.rest one first.lines second.lines first.bad second.bad in
     (both.0, first.number ∙ ap (λ (word : Word). length word + 1) both.0 ∙ sym second.number)
 
--- a word that ends no later than the lines that may come, with nothing behind it, is not too long
+-- a word that ends no later than the lines that may come, with nothing after it, is not too long
 pub too_long_once : (width : ℕ) (text : List ℕ) (u v : Word) (rest : List ℕ) → LineIsOfOneLetter → IsTooLong width text u
     → AreLines width v text rest → length v ≤ most_lines → BeginsWithNoLine width rest → (u ≡ v) × (long : (rest ≡ []) → ⊥) × (length v ≡ most_lines)
 too_long_once width text u v rest one long lines few none =

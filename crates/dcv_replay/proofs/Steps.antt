@@ -138,7 +138,7 @@ stops_here replay lines lines' written block bytes why (same, there) =
     subst (λ (after : LinesValue). StopsAt (going replay lines written block) bytes (going replay after written block) why) (sym same)
     (record { taken = []; back = bytes; parts = refl; passes = passes_nothing (going replay lines written block); fault_there = there })
 
--- ---- more behind
+-- ---- more after
 
 some_more : (back rest : List ℕ) → back ≢ [] → back ++ rest ≢ []
 some_more [] rest some none = some refl

@@ -55,7 +55,7 @@ module _ (one : LineIsOfOneLetter) where
 
   -- ---- lines at the front
 
-  -- behind which no line stands, or no line may
+  -- after which no line stands, or no line may
   front_of : (width : ℕ) (text : List ℕ) (letters whole : Word) (rest rest' : List ℕ) → AreLines width letters text rest → AreLines width whole text rest'
       → (length whole < length letters → BeginsWithNoLine width rest') → (more : Word) × (whole ≡ letters ++ more)
   front_of width text letters whole rest rest' lines all stuck = elim (cases_lt (length whole) (length letters)) [

@@ -78,7 +78,7 @@ no_name : IsName [] → ⊥
 no_name name = false≢true name
 
 module _ (names : List Name) (most : ℕ) (fits : length names ≤ most) where
-  -- behind the last name there is none
+  -- after the last name there is none
   placed : (place : ℕ) → IsName (get_or names place []) → place < most
   placed place name = elim (cases_lt place (length names)) [
     | inl below ↦ omega (arith, below, fits)

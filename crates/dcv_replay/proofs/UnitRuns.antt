@@ -35,7 +35,7 @@ truth_is_one : (truth : Bool) → (cond truth 1 0 == 1) ≡ truth
 truth_is_one true = refl
 truth_is_one false = refl
 
--- a store behind the constants, of which the first numbers are these
+-- a store after the constants, of which the first numbers are these
 pub first_numbers : (count : ℕ) (store numbers : List ℕ) → length numbers ≡ count → first_name + count ≤ length store
     → ((place : ℕ) → place < count → get_or store (slot_of place) 0 ≡ get_or numbers place 0) → take count (drop first_name store) ≡ numbers
 first_numbers count store numbers size long each =

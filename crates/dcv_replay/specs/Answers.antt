@@ -9,7 +9,7 @@ use Rattle.dcv_language.specs.Language.{Language}
 abbrev pub answer_line : Bool → List ℕ
 answer_line answer = digit_of answer ∷ line_feed ∷ []
 
--- what is in the set behind a letter
+-- what is in the set after a letter
 abbrev pub behind : Language → List Bool → Language
 behind L letter = λ word. L (letter ∷ word)
 

@@ -64,14 +64,14 @@ abbrev pub letters_of : Option (List Bool) → Word
 letters_of None = []
 letters_of (Some letter) = letter ∷ []
 
--- behind the lines so far this is at fault, whatever follows
+-- after the lines so far this is at fault, whatever follows
 abbrev pub IsAtFault : LinesValue → List ℕ → Stop → Type 0
 IsAtFault lines back Read = ⊥
 IsAtFault lines back (Line line) = (line ≡ lines.count + 1) × (lines.count < most_lines) × (back ≢ []) × IsBad lines.width (lines.line ++ back)
 IsAtFault lines back TooLong = (lines.count ≡ most_lines) × (back ≢ [])
 IsAtFault lines back Empty = ⊥
 
--- the line is the front, and maybe a carriage return behind it, of which none is left
+-- the line is the front, and maybe a carriage return after it, of which none is left
 abbrev pub IsWithoutReturn : List ℕ → List ℕ → Type 0
 IsWithoutReturn line front = (line ≡ front ++ carriage_return ∷ []) ⊎ ((line ≡ front) × ((other : List ℕ) → line ≢ other ++ carriage_return ∷ []))
 

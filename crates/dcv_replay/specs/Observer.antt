@@ -5,7 +5,7 @@
 --     KeepsTheRules observer            it keeps the rules of names
 --     HasStore observer word replay     what the replay keeps for the observer's names is what they have after the word
 --     Follows observer word replay      so it is, also after all letters that may come; and the replay's answers are the observer's
---     AreAnswers observer before ..     the lines of the answers to letters, behind a word
+--     AreAnswers observer before ..     the lines of the answers to letters, after a word
 use Rattle.std.specs.Prelude.{◌≡◌, ◌↔◌, ℕ, ◌+◌, Bool, IsTrue, if◌then◌else◌, List, [], ◌∷◌, ◌++◌, length, map, take, drop}
 use Rattle.dcv_word.specs.Behaviour.{Word, IsBehaviour}
 use Rattle.dcv_language.specs.Automaton.{state_after}

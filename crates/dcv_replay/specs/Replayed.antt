@@ -72,7 +72,7 @@ ReadCount (Err Read) before after = Rises before after
 ReadCount (Err Write) before after = before ≤ after
 ReadCount _ before after = after ≡ before
 
--- What a run over the file of a name did, that began behind a word. Where no write failed, all answers stand on the sink, and else a front of them.
+-- What a run over the file of a name did, that began after a word. Where no write failed, all answers stand on the sink, and else a front of them.
 pub record Replayed {T : Type 0} (observer : Observer) (before : Word) (name : List ℕ) (told told' : Option Disk) (written written' : Option (List ℕ))
     (after : ReplayValue) (result : Result T ReplayFault) : Type 0 where
   -- those of the lines that were answered

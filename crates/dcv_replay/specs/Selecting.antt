@@ -21,7 +21,7 @@ slot_of place = first_name + place
 abbrev pub test_select : ℕ → ℕ → ℕ → Select
 test_select target tested number = select target tested number 1 target
 
--- places below this have slots with another slot behind them
+-- places below this have slots with another slot after them
 abbrev pub most_names : ℕ
 most_names = 4294934525
 

@@ -4,7 +4,7 @@
 --     BeginsWithLine width text ..        the text begins with the line of the letter, and this follows it
 --     AreLines width letters text rest    the text is the lines of the letters, and then the rest
 --     IsTrace width text letters          the text is the trace of the word
---     HasBadLine, IsTooLong               behind the lines of the word stands one that is none, or more than may come
+--     HasBadLine, IsTooLong               after the lines of the word stands one that is none, or more than may come
 --     Verdict, HasVerdict                 what a text is as a trace, and the letters of its good lines
 use Rattle.std.specs.Prelude.{◌≡◌, ◌≢◌, ℕ, ◌+◌, ◌<◌, ◌≤◌, ◌⊎◌, Bool, List, [], ◌∷◌, ◌++◌, length}
 use Rattle.std.specs.List.{All}
@@ -49,7 +49,7 @@ pub record IsTrace (width : ℕ) (text : List ℕ) (letters : Word) : Type 0 whe
   pub few : length letters ≤ most_lines
   pub lines : AreLines width letters text []
 
--- the first line that is none has this number, counted from 1, and stands behind the lines of the word
+-- the first line that is none has this number, counted from 1, and stands after the lines of the word
 pub record HasBadLine (width : ℕ) (text : List ℕ) (letters : Word) (line : ℕ) : Type 0 where
   pub rest : List ℕ
   pub lines : AreLines width letters text rest

@@ -1,6 +1,6 @@
 //! An observer as selections over the numbers of a store.
 //!
-//! The first slots hold the numbers of their own places, so that a constant is read as a name is. Then stand the observer's names, and behind
+//! The first slots hold the numbers of their own places, so that a constant is read as a name is. Then stand the observer's names, and after
 //! them what it keeps beside its names.
 ghost use Rattle.std.specs.Prelude.{◌≡◌, ◌↔◌, ◌+◌, ◌≤◌, [], ◌∷◌, ◌++◌, length, fold, IsTrue};
 ghost use Rattle.std.specs.List.{All};

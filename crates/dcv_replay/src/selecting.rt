@@ -9,7 +9,7 @@ use std::alloc::{AllocError, Global};
 // How many slots stand before those of names. Each holds the number of its own place.
 const FIRST_NAME: u32 = 32_770;
 
-// Places below this have slots with another slot behind them.
+// Places below this have slots with another slot after them.
 pub(crate) const MOST_NAMES: usize = 4_294_934_525;
 
 // The slot of the name at this place.

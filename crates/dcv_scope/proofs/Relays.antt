@@ -1,4 +1,4 @@
--- A call of a relay stands for its argument, and so does what is left behind all of them.
+-- A call of a relay stands for its argument, and so does what is left after all of them.
 use Rattle.std.proofs.Common.{◌≡◌, ℕ, zero, suc, ◌+◌, ◌<◌, ◌≤◌, Bool, true, false, cond, List, [], ◌∷◌, ◌++◌, Option, Some, None, Vec, Global}
 use Rattle.std.proofs.Common.{length, map, get_or, refl, sym, ap, subst, ◌∙◌, arith, length-append, true≢false}
 use Rattle.std.proofs.Math.Seq.{get_or-append_seam}
@@ -65,7 +65,7 @@ alike_in_turn sight p q r first second = λ truths others. first truths others �
 
 -- ---- a macro
 
--- places behind place k are no less
+-- places after place k are no less
 at_least : (parameters : List Name) (k j : ℕ) (name : List ℕ) → found (places_from k parameters) name ≡ Some j → k ≤ j
 at_least [] k j name is = absurd (none_is_some is)
   where
@@ -129,7 +129,7 @@ no_others (p ∷ parameters) (x ∷ arguments) others =
     both true slot truth e behind = cc
     both false slot truth e behind = behind e
 
--- a macro behind whose relays a parameter is left
+-- a macro after whose relays a parameter is left
 pub is_relay : (top : Sight) (parameters : List Name) (p q : PlainPropKind) (j : ℕ)
     → StandAlike (record { slots = 0; truths = parameter_slots parameters ++ top.truths; macros = top.macros }) q p → IsParameter parameters q j
     → IsRelay j (PropExpansion (λ arguments. truth_of (bind_arguments top (texts parameters) arguments) p))

@@ -1,7 +1,7 @@
 -- The core of a file: an equation for each form, below the form as it is written in a file.
 --
 -- A call stands for the macro's body, a parameter for the core of its argument, and each other name for a slot: declared
--- variables for the first, in order, and a quantified name for the one behind those in use where it stands. The defaults
+-- variables for the first, in order, and a quantified name for the one after those in use where it stands. The defaults
 -- are those of satisfaction: a name without a meaning is false, and a list without operands is true, false or one instant.
 --     Sight, Expansion     what is in sight, and what a macro stands for
 --     truth_of             the core of a proposition
@@ -35,7 +35,7 @@ pub data Expansion : Type 0 where
   PropExpansion : (List PlainTruth → PlainTruth) → Expansion
   FormulaExpansion : (ℕ → List PlainTruth → CoreTree) → Expansion
 
--- what is in sight; each list has the newest first, so a name hides what stands behind it under the same name
+-- what is in sight; each list has the newest first, so a name hides what stands after it under the same name
 pub record Sight : Type 0 where
   -- how many slots are in use
   pub slots : ℕ

@@ -64,7 +64,7 @@ taken_names sight = sight.defining ++ map (λ (m : List ℕ × Signature). m.0) 
 -- ---- occurrences
 
 pub data Role : Type 0 where
-  -- in the list of variables, or in a macro's list of parameters, behind these
+  -- in the list of variables, or in a macro's list of parameters, after these
   Declared : (before : List (List ℕ)) → Role
   Parameter : (before : List (List ℕ)) → Role
   -- the name of a macro where it is defined, and of a quantifier
@@ -216,7 +216,7 @@ body_kind (PropBody p) = PropMacro
 abbrev pub macro_in_sight : PlainMacro → List ℕ × Signature
 macro_in_sight m = (m.name.text, record { kind = body_kind m.body; parameters = length m.parameters })
 
--- what is in sight behind a macro
+-- what is in sight after a macro
 abbrev pub behind_macro : InSight → PlainMacro → InSight
 behind_macro sight m = record sight { macros = sight.macros ++ macro_in_sight m ∷ [] }
 

@@ -36,7 +36,7 @@ first_of f (x ∷ xs) = option_or (f x) (first_of f xs)
 abbrev pub top_sight : List Name → List Macro → InSight
 top_sight variables macros = record { variables = texts variables; macros = signatures_of macros; defining = [] }
 
--- the first fault of the macros behind some others
+-- the first fault of the macros after some others
 abbrev pub faults_of_macros : List Name → List Macro → List Macro → Option ScopeFault
 faults_of_macros variables earlier [] = None
 faults_of_macros variables earlier (m ∷ macros) =

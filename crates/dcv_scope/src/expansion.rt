@@ -362,7 +362,7 @@ fn unit(connective: Option<Connective>) -> Basic
 }
 
 impl<'a> Sight<'a> {
-    // What is in sight behind a quantifier.
+    // What is in sight after a quantifier.
     fn bind(&self, name: &'a Name) -> Result<Sight<'a>, AllocError>
         requires slots { self.now.slots + 1 < 256 }
         requires is_sight { IsSight self.now }
@@ -393,7 +393,7 @@ impl<'a> Sight<'a> {
         core.push(Operator::Atom(basic), span, self.slots)
     }
 
-    // The end of `true ^ D ^ true`, behind `true` and D.
+    // The end of `true ^ D ^ true`, after `true` and D.
     fn chop_round(
         &self,
         before: u32,

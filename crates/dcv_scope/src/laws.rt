@@ -17,7 +17,7 @@ pub fn measures_bound_core()
     ensures in_use { SlotsAreInUse }
 {}
 
-/// No prior or next proposition is left in the core: each stands behind the slot that it has.
+/// No prior or next proposition is left in the core: each stands after the slot that it has.
 pub fn no_shift_is_left()
     ensures { NoShiftIsLeft }
 {}

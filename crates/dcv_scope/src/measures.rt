@@ -436,7 +436,7 @@ impl<'a> Sight<'a> {
 }
 
 impl<'a> Sight<'a> {
-    // What is in sight behind a quantifier.
+    // What is in sight after a quantifier.
     fn bind(&self, name: &'a Name) -> Result<Sight<'a>, AllocError>
         ensures sight { IfOk result (λ inner.
             linear_in_sight inner ≡ name_too (linear_in_sight self.now) name.now.text) }
@@ -512,7 +512,7 @@ impl<'a> Sight<'a> {
         Ok(all)
     }
 
-    // The formula behind a quantifier.
+    // The formula after a quantifier.
     #[cycle(formulas)]
     fn quantified(&self, name: &'a Name, body: &'a Formula) -> Result<Box<MacroMeasure>, AllocError>
         requires measured { IsMeasured self.now }

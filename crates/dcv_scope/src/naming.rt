@@ -146,7 +146,7 @@ impl<'a> Sight<'a> {
 }
 
 impl<'a> Sight<'a> {
-    // What is in sight behind a quantifier.
+    // What is in sight after a quantifier.
     fn bind(&self, name: &'a Name) -> Result<Sight<'a>, AllocError>
         ensures { IfOk result (λ inner.
             in_sight_of inner ≡ in_sight_too (in_sight_of self.now) name.now.text) }
@@ -159,7 +159,7 @@ impl<'a> Sight<'a> {
         Ok(Sight { variables, ..*self })
     }
 
-    // What is in sight in a macro of that name, behind these parameters.
+    // What is in sight in a macro of that name, after these parameters.
     fn defining(&self, name: &'a Name, parameters: &'a [Name]) -> Result<Sight<'a>, AllocError>
         ensures { IfOk result (λ inner. in_sight_of inner ≡ record (in_sight_of self.now) {
           defining = name.now.text ∷ [];
@@ -267,7 +267,7 @@ impl<'a> Sight<'a> {
         None
     }
 
-    // The fault of a parameter behind these.
+    // The fault of a parameter after these.
     fn fault_of_parameter(&self, name: &Name, before: &[Name]) -> Option<ScopeFault>
         ensures { result ≡ fault_at (occurs name.now (Parameter (texts before.now)) (in_sight_of self.now)) }
     {
@@ -328,7 +328,7 @@ fn fault_of_arity(called: &Macro, arguments: usize, at: u32) -> Option<ScopeFaul
     }
 }
 
-// The fault of a declared variable behind these.
+// The fault of a declared variable after these.
 fn fault_of_variable(name: &Name, before: &[Name]) -> Option<ScopeFault>
     ensures { result ≡ fault_at (occurs name.now (Declared (texts before.now)) nothing_in_sight) }
 {

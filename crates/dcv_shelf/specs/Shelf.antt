@@ -51,7 +51,7 @@ KeepsNumbers old new = (number : ℕ) (one : ShelfTable) → slice_get old numbe
 
 pub record HasNumber (old : List ShelfTable) (one : ShelfTable) (new : List ShelfTable) (number : ℕ) : Type 0 where
   pub there : slice_get new number ≡ Some one
-  -- the tables are those that there were, or this one has come behind them
+  -- the tables are those that there were, or this one has come after them
   pub no_other : (new ≡ old) ⊎ (new ≡ old ++ one ∷ [])
 
 -- ---- the complement

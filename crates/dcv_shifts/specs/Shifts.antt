@@ -5,7 +5,7 @@ use Rattle.std.specs.Prelude.{Bool, true, false, not, ◌&&◌, List, [], ◌∷
 use Rattle.dcv_language.specs.Language.{Language}
 use Rattle.dcv_language.specs.Operations.{iff}
 
--- behind a letter T is what P was at the letter before
+-- after a letter T is what P was at the letter before
 abbrev pub goes_back : (P T : List Bool → Bool) → List Bool → Language
 goes_back P T before [] = true
 goes_back P T before (letter ∷ letters) = iff (T letter) (P before) && goes_back P T letter letters

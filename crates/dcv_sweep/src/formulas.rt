@@ -1,4 +1,4 @@
-// A formula as it is drawn: its steps are made on the way, each behind those of its operands.
+// A formula as it is drawn: its steps are made on the way, each after those of its operands.
 ghost use Rattle.std.specs.Prelude.{◌≡◌, ◌<◌, ◌≤◌, ◌+◌, ◌*◌, ◌^◌, length, map, IfOk, OnOk};
 ghost use Rattle.dcv_core.specs.Steps.{without_core, steps_of};
 ghost use Rattle.dcv_core.specs.StepViews.{plain_operator};

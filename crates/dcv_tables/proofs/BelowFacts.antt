@@ -18,7 +18,7 @@ kept_below old new bound slot root kept before = record {
   below = λ letter. omega (arith, kept.values root letter before.is_ref, before.below letter);
 }
 
--- and one more such function stands behind those that there were
+-- and one more such function stands after those that there were
 pub one_row_more : (old new : ArenaValue) (bound : ℕ) (rows more : List Ref) (row : Ref) → KeepsRefs old new → All (IsBelow old bound 0) rows → IsBelow new bound 0 row
     → more ≡ rows ++ row ∷ [] → All (IsBelow new bound 0) more
 one_row_more old new bound rows more row kept each last e =

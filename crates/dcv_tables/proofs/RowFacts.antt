@@ -50,7 +50,7 @@ side arena new slot numbers root node value same row there front size =
     ∙ (λ i. map (λ values. value_of arena root (longer ++ values)) (letters_of_width (same i - (slot + 1))))
     ∙ row longer (omega (arith, length-append front (value ∷ []), size))
 
--- a node has the numbers of both sides, one behind the other
+-- a node has the numbers of both sides, one after the other
 pub row_of_node : (one two new : ArenaValue) (slot : ℕ) (front back : List ℕ) (lo hi node : Ref) → slot < new.slots → KeepsRefs one two → new.slots ≡ two.slots
     → IsRef one lo → HasRow one (slot + 1) front lo → HasRow two (slot + 1) back hi
     → ((letter : List Bool) → value_of new node letter ≡ cond (get_or letter slot false) (value_of two hi letter) (value_of two lo letter))

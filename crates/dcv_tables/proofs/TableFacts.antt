@@ -24,7 +24,7 @@ kept_tables old new bound (row ∷ rows) kept each =
     let others = kept_tables old new bound rows kept (All-tail (IsBelow old bound 0) row rows each) in
     λ i. first i ∷ others i
 
--- and one row more has its own behind them
+-- and one row more has its own after them
 pub one_table_more : (old new : ArenaValue) (bound : ℕ) (rows more : List Ref) (row : Ref) (tables : List (List ℕ)) (numbers : List ℕ) → KeepsRefs old new
     → All (IsBelow old bound 0) rows → map (table_of old) rows ≡ tables → table_of new row ≡ numbers → more ≡ rows ++ row ∷ []
     → map (table_of new) more ≡ tables ++ numbers ∷ []
@@ -33,7 +33,7 @@ one_table_more old new bound rows more row tables numbers kept each before last 
     ∙ map-append (table_of new) rows (row ∷ [])
     ∙ (λ i. (kept_tables old new bound rows kept each ∙ before) i ++ last i ∷ [])
 
--- what is true of each element before a place and of the one there, in order, is what is true up to behind it
+-- what is true of each element before a place and of the one there, in order, is what is true up to after it
 pub one_element_more : {X Y : Type 0} (f : X → Y) (xs : List X) (k : ℕ) (x : X) → k < length xs → x ≡ get_or xs k x → map f (take (k + 1) xs) ≡ map f (take k xs) ++ f x ∷ []
 one_element_more f xs k x within is =
     ap (map f) (take_more xs k x within ∙ ap (λ last. take k xs ++ last ∷ []) (sym is)) ∙ map-append f (take k xs) (x ∷ [])

@@ -47,7 +47,7 @@ fn is_row(slots: u8, numbers: &[u32], bound: u32) -> bool
     numbers.len() as u64 == 1u64 << slots && numbers.iter().all(|number| *number < bound)
 }
 
-// The function behind the slots before this one whose numbers these are.
+// The function after the slots before this one whose numbers these are.
 fn part(arena: &mut Arena, slot: u8, numbers: &[u32], bound: u32) -> Result<Ref, ArenaFault>
     requires slot { slot ≤ arena.old.slots }
     requires numbers { IsRow (arena.old.slots - slot) bound numbers.now }

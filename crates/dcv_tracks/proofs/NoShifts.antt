@@ -1,4 +1,4 @@
--- No shift is left in the core of a goal: each stands behind the slot that it has.
+-- No shift is left in the core of a goal: each stands after the slot that it has.
 use Rattle.std.proofs.Common.{◌≡◌, ℕ, zero, suc, ◌+◌, List, [], ◌∷◌, ◌++◌, Some, subst, arith}
 use Rattle.std.specs.List.{slice_get}
 use Rattle.std.proofs.lemmas.Option.{slice_get_within}

@@ -82,7 +82,7 @@ module _ (k : ℕ) (all : List Shift) where
     abbrev over : PlainOp → CoreStep
     over op = record { op = op; span = span; slots = s + length all }
 
-  -- two parts, one after another, and the step behind them
+  -- two parts, one after another, and the step after them
   two_placed : (one xs two ys : List PlainStep) (own goal : PlainStep) → ArePlaced one xs → ArePlaced two ys → without_core own ≡ placed_step k all (without_core goal)
       → ArePlaced ((one ++ two) ++ own ∷ []) ((xs ++ ys) ++ goal ∷ [])
   two_placed one xs two ys own goal first second same =

@@ -29,7 +29,7 @@ placed_step k all step = record { op = placed_op k all step.op; span = step.span
 
 -- ---- a track for each slot
 
--- behind these steps, the last of which is that of the whole: the track, both, and that there is one
+-- after these steps, the last of which is that of the whole: the track, both, and that there is one
 abbrev pub closed_step : ℕ → List Shift → ℕ → Shift → List CoreStep → List CoreStep
 closed_step k all slot shift steps =
     steps

@@ -93,7 +93,7 @@ most_shifts = 32
 
 -- ---- slots in their places
 
--- a declared slot stays, and one of a quantifier goes behind those of the shifts
+-- a declared slot stays, and one of a quantifier goes after those of the shifts
 abbrev pub placed_slot : ℕ → List Shift → ℕ → ℕ
 placed_slot k all slot = if nat_lt slot k then slot else slot + length all
 
@@ -150,7 +150,7 @@ shifted_core k core = closed k (shifts_in core) (placed_core k (shifts_in core) 
 -- ---- shifts that look at quantified variables
 
 abbrev mutual
-  -- a slot behind the declared ones stands in it
+  -- a slot after the declared ones stands in it
   pub names_bound : ℕ → PlainTruth → Bool
   names_bound k (TruthConstant truth) = false
   names_bound k (TruthSlot slot) = nat_le k slot

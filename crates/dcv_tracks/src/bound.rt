@@ -8,7 +8,7 @@ ghost use Rattle.dcv_tracks.specs.Shifting.{names_bound, some_names_bound, bound
 use crate::gathering::proposition;
 use dcv_core::{Core, Truth};
 
-// Whether a slot behind the declared ones stands in it.
+// Whether a slot after the declared ones stands in it.
 #[cycle(bound)]
 #[tactic(auto, using(crate::proofs::GoalSteps::list_rows))]
 fn has_bound(declared: u8, truth: &Truth) -> bool

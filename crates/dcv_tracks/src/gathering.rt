@@ -158,7 +158,7 @@ fn add<'a>(shift: Shift<'a>, shifts: &mut Vec<Shift<'a>>) -> Result<(), GatherFa
     Ok(())
 }
 
-// The shifts of a proposition behind those that are there, an inner one before the outer one.
+// The shifts of a proposition after those that are there, an inner one before the outer one.
 #[cycle(gather)]
 #[tactic(auto, using(crate::proofs::GoalSteps::list_rows))]
 fn gather<'a>(truth: &'a Truth, shifts: &mut Vec<Shift<'a>>) -> Result<(), GatherFault>

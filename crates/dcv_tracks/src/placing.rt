@@ -23,7 +23,7 @@ struct Placing<'a> {
 }
 
 impl Placing<'_> {
-    // A declared slot stays, and one of a quantifier goes behind those of the shifts.
+    // A declared slot stays, and one of a quantifier goes after those of the shifts.
     fn slot(&self, slot: u8) -> u8
         requires { slot < 256 - length self.now.shifts.now }
         ensures { result ≡ placed_slot self.now.declared (map plain_shift self.now.shifts.now) slot }

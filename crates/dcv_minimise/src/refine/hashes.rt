@@ -1,5 +1,5 @@
 // Blocks by hashes of rows: a first division that costs little, since no node is looked up. States that go on alike have one hash, so those
-// that hashes tell apart are apart. Two that are apart may have one hash, by chance, which the rounds behind find out.
+// that hashes tell apart are apart. Two that are apart may have one hash, by chance, which the rounds after find out.
 ghost use Rattle.std.specs.Prelude.{◌≡◌, ◌<◌, ◌^◌, length, IfOk, OnOk};
 ghost use Rattle.dcv_minimise.specs.Rounds.{IsWitnessed, IsTold};
 ghost use Rattle.dcv_minimise.specs.Hashes.{stirred, mixed, hash_at, hash_of_node, AreHashes, IsPut};

@@ -6,7 +6,7 @@ use Rattle.dcv_grammar.specs.Grammar.{production_of, alternative_of}
 use Rattle.dcv_grammar.specs.Picked.{body_for, picked}
 use Rattle.dcv_grammar.proofs.grammar.Production.body_for.Goals as goal
 
--- what the alternatives from a place on pick is decided by the one there, or left to those behind it
+-- what the alternatives from a place on pick is decided by the one there, or left to those after it
 picked_at : (alternatives : List AlternativeTable) (otherwise : List Symbol) (class i : ℕ) (d : AlternativeTable) → i < length alternatives → picked (map alternative_of (drop i alternatives)) otherwise class ≡ cond (list_any (λ k. k == class) (get_or alternatives i d).classes.now) (get_or alternatives i d).body.now (picked (map alternative_of (drop (i + 1) alternatives)) otherwise class)
 picked_at alternatives otherwise class i d lt =
     let e : drop i alternatives ≡ get_or alternatives i d ∷ drop (i + 1) alternatives = rw (add-one, drop-cons alternatives i d) in
