@@ -14,8 +14,8 @@ use Rattle.dcv_language.specs.declared.count.Count.{Count}
 use Rattle.dcv_print.specs.Counts.{ArePrintableCounts}
 use Rattle.dcv_print.specs.Printed.{printed_file}
 use Rattle.dcv_print.specs.Report.{ReportValue, SpellsAutomaton, IsLustreObserver, IsCObserver, Says as SaysOf}
-use Rattle.dcv_print.specs.declared.report.Kind.{Kind}
-use Rattle.dcv_print.specs.declared.report.Kind.TheVariants.{Check, Automaton, Lustre, C, All}
+use Rattle.dcv_language.specs.declared.kind.Kind.{Kind}
+use Rattle.dcv_language.specs.declared.kind.Kind.TheVariants.{Check, Automaton, Lustre, C, All}
 use Rattle.dcv_print.specs.Observers.{IsFileOf, SaysNode, SaysUnit}
 use Rattle.dcv_cli.specs.Automaton.{SaysAutomaton}
 use Rattle.dcv_cli.specs.Judged.{Reports}

@@ -7,7 +7,7 @@ use Rattle.dcv_language.specs.Laws.{OneVerdict, VerdictOfSameBehaviours}
 use Rattle.dcv_language.specs.Verdict.{IsVerdict}
 use Rattle.dcv_logic.specs.Models.{models}
 use Rattle.dcv_print.specs.Laws.{OneAutomaton, AutomatonOfSameBehaviours, OneFile, FileOfSameBehaviours, FileSaysNode, FileSaysUnit}
-use Rattle.dcv_print.specs.declared.report.Kind.{Kind}
+use Rattle.dcv_language.specs.declared.kind.Kind.{Kind}
 use Rattle.dcv_print.specs.Printed.{texts_of}
 use Rattle.dcv_reader.specs.Spelling.{SpellsOne}
 use Rattle.dcv_syntax.specs.declared.names.Name.{Name}

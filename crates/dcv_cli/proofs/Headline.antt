@@ -21,7 +21,7 @@ use Rattle.dcv_print.specs.Laws.{AutomatonHasFewestStates}
 use Rattle.dcv_print.specs.Observers.{IsFileOf}
 use Rattle.dcv_print.specs.Printed.{texts_of}
 use Rattle.dcv_print.specs.Sections.{all_text}
-use Rattle.dcv_print.specs.declared.report.Kind.TheVariants.{All}
+use Rattle.dcv_language.specs.declared.kind.Kind.TheVariants.{All}
 use Rattle.dcv_command.specs.Request.{Request, Report}
 use Rattle.dcv_cli.specs.declared.refused.Which.TheVariants.{Only}
 use Rattle.dcv_cli.specs.declared.status.Status.{Status}

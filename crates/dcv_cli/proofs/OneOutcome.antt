@@ -28,7 +28,7 @@ use Rattle.dcv_cli.specs.declared.refusal.Refusal.TheVariants.{Budget, Product}
 use Rattle.dcv_cli.specs.declared.status.Status.TheVariants.{Valid, NotValid, Usage, Formula, Budget as StatusBudget, Memory as OutOfMemory}
 use Rattle.dcv_cli.specs.Budget.{steps_of_file, kind_of, limit_of, IsFirstOver, IsBudgeted, OverBudget, WithinBudget}
 use Rattle.dcv_print.specs.Laws.{OneAutomaton, OneFile}
-use Rattle.dcv_print.specs.declared.report.Kind.{Kind as ReportKind}
+use Rattle.dcv_language.specs.declared.kind.Kind.{Kind as ReportKind}
 use Rattle.dcv_cli.specs.Report.{IsReport}
 use Rattle.dcv_cli.proofs.Texts.{one_text}
 use Rattle.dcv_cli.specs.FormulaFile.{IsRefused, TooLong, Faulty, HasNoCore, IsFormulaFile, OnText, Refused, Read}

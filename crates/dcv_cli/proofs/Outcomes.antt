@@ -38,7 +38,7 @@ use Rattle.dcv_cli.specs.declared.refused.Which.TheVariants.{Only}
 use Rattle.dcv_cli.specs.Request.{AsksFor}
 use Rattle.std.specs.Prelude.{String}
 use Rattle.std.specs.String.{string_bytes}
-use Rattle.dcv_print.specs.declared.report.Kind.{Kind as ReportKind}
+use Rattle.dcv_language.specs.declared.kind.Kind.{Kind as ReportKind}
 use Rattle.dcv_command.specs.Request.{Request, IsTaken, request_of}
 use Rattle.dcv_print.specs.Printed.{texts_of}
 use Rattle.dcv_cli.specs.Right.{Fulfilled, FulfilsOver, IsRightOver}

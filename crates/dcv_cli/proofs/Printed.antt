@@ -16,8 +16,8 @@ use Rattle.dcv_language.specs.Canonical.{IsCanonical}
 use Rattle.dcv_language.specs.Certificate.{IsCertificate as IsCertificateOf}
 use Rattle.dcv_logic.specs.Models.{models}
 use Rattle.dcv_print.specs.Printed.{texts_of}
-use Rattle.dcv_print.specs.declared.report.Kind.{Kind}
-use Rattle.dcv_print.specs.declared.report.Kind.TheVariants.{Automaton, All}
+use Rattle.dcv_language.specs.declared.kind.Kind.{Kind}
+use Rattle.dcv_language.specs.declared.kind.Kind.TheVariants.{Automaton, All}
 use Rattle.dcv_reader.specs.Laws.{NamesAreShort}
 use Rattle.dcv_scope.specs.Laws.{StepsAreFew}
 use Rattle.dcv_syntax.specs.Plain.{PlainFile}

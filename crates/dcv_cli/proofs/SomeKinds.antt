@@ -22,7 +22,7 @@ use Rattle.dcv_logic.specs.Models.{models}
 use Rattle.dcv_print.specs.Counts.{ArePrintableCounts}
 use Rattle.dcv_print.specs.Laws.{PrintedIsAutomaton, FileSaysNode, FileSaysUnit, AutomatonOfSameBehaviours}
 use Rattle.dcv_print.specs.Printed.{texts_of}
-use Rattle.dcv_print.specs.declared.report.Kind.{Kind}
+use Rattle.dcv_language.specs.declared.kind.Kind.{Kind}
 use Rattle.dcv_reader.specs.Laws.{NamesAreShort}
 use Rattle.dcv_scope.specs.CoreOf.{core_of_file}
 use Rattle.dcv_scope.specs.Laws.{WordsAreModels, StepsAreFew}

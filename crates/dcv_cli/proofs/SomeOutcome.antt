@@ -54,7 +54,7 @@ use Rattle.clap.specs.Words.{fault_of, subcommand_of, Kinds}
 use Rattle.dcv_command.specs.Laws.{TakenWordsAsk}
 use Rattle.dcv_command.specs.Program.{program}
 use Rattle.dcv_explore.specs.declared.explorer.Limits.{Limits}
-use Rattle.dcv_print.specs.declared.report.Kind.{Kind}
+use Rattle.dcv_language.specs.declared.kind.Kind.{Kind}
 use Rattle.std.specs.List.{All}
 use Rattle.dcv_command.specs.Request.{Request, Report, Certify, Convert, Implies, Synth, Replay, Sweep, AreInRange, AreInputsInRange, IsInRange, IsTaken, request_of, files_of}
 use Rattle.dcv_command.proofs.Ranges.{request_is_in_range}

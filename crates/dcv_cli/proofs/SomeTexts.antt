@@ -26,8 +26,8 @@ use Rattle.dcv_print.specs.Laws.{PrintedIsAutomaton, FileSaysNode, FileSaysUnit,
 use Rattle.dcv_print.specs.Observers.{IsFileOf, SaysNode, SaysUnit}
 use Rattle.dcv_print.specs.Printed.{printed_file}
 use Rattle.dcv_print.specs.Sections.{all_text}
-use Rattle.dcv_print.specs.declared.report.Kind.{Kind}
-use Rattle.dcv_print.specs.declared.report.Kind.TheVariants.{Check, Automaton, Lustre, C, All}
+use Rattle.dcv_language.specs.declared.kind.Kind.{Kind}
+use Rattle.dcv_language.specs.declared.kind.Kind.TheVariants.{Check, Automaton, Lustre, C, All}
 use Rattle.dcv_cli.specs.Automaton.{SaysAutomaton}
 use Rattle.dcv_cli.specs.Report.{SaysAll, Says}
 use Rattle.dcv_quotient.proofs.SomeCertificates.{some_certificate_of}

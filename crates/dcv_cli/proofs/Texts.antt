@@ -19,8 +19,8 @@ use Rattle.dcv_automaton_read.specs.File.{step_part as step_part_of}
 use Rattle.dcv_print.specs.Laws.{OneAutomaton, AutomatonOfSameBehaviours, OneFile, FileOfSameBehaviours, FileSaysNode, FileSaysUnit}
 use Rattle.dcv_print.specs.Observers.{SaysNode, SaysUnit}
 use Rattle.dcv_print.specs.Sections.{all_text}
-use Rattle.dcv_print.specs.declared.report.Kind.{Kind}
-use Rattle.dcv_print.specs.declared.report.Kind.TheVariants.{Check, Automaton, Lustre, C, All}
+use Rattle.dcv_language.specs.declared.kind.Kind.{Kind}
+use Rattle.dcv_language.specs.declared.kind.Kind.TheVariants.{Check, Automaton, Lustre, C, All}
 use Rattle.dcv_cli.specs.Automaton.{SaysAutomaton}
 use Rattle.dcv_cli.specs.Outcome.{has_automaton}
 use Rattle.dcv_cli.specs.Report.{Says, SaysAll}

@@ -26,7 +26,7 @@ use Rattle.dcv_explore.specs.declared.explorer.Limits.{Limits}
 use Rattle.dcv_build.specs.Budget.{IsWithinBudget}
 use Rattle.dcv_print.specs.Printed.{texts_of}
 use Rattle.dcv_print.specs.Sections.{all_text}
-use Rattle.dcv_print.specs.declared.report.Kind.TheVariants.{All}
+use Rattle.dcv_language.specs.declared.kind.Kind.TheVariants.{All}
 use Rattle.dcv_command.specs.Request.{Report}
 use Rattle.dcv_cli.specs.declared.budget_line.Over.{Over}
 use Rattle.dcv_cli.specs.declared.refusal.Refusal.{Refusal}

@@ -18,8 +18,8 @@ use Rattle.dcv_cli.specs.FormulaFile.{IsFormulaFile}
 use Rattle.dcv_cli.specs.Held.{Texts}
 use Rattle.dcv_cli.specs.Outcome.{Outcome, Agrees, AgreeInMeaning}
 use Rattle.dcv_print.specs.Sections.{all_text}
-use Rattle.dcv_print.specs.declared.report.Kind.{Kind}
-use Rattle.dcv_print.specs.declared.report.Kind.TheVariants.{Automaton, All as AllTexts}
+use Rattle.dcv_language.specs.declared.kind.Kind.{Kind}
+use Rattle.dcv_language.specs.declared.kind.Kind.TheVariants.{Automaton, All as AllTexts}
 use Rattle.dcv_command.specs.Request.{Request, Report, Certify, Convert, Implies, files_of}
 use Rattle.dcv_command.specs.declared.words.Version.{Version}
 use Rattle.dcv_command.specs.declared.words.Version.TheVariants.{One, Two}

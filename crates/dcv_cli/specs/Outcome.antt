@@ -18,8 +18,8 @@ use Rattle.dcv_cli.specs.declared.refusal.Refusal.TheVariants.{Budget, Product}
 use Rattle.dcv_cli.specs.declared.status.Status.{Status}
 use Rattle.dcv_cli.specs.declared.status.Status.TheVariants.{Usage}
 use Rattle.dcv_print.specs.Automaton.{DifferInSuffixes, AgreeUpToAccess}
-use Rattle.dcv_print.specs.declared.report.Kind.{Kind}
-use Rattle.dcv_print.specs.declared.report.Kind.TheVariants.{Automaton, All}
+use Rattle.dcv_language.specs.declared.kind.Kind.{Kind}
+use Rattle.dcv_language.specs.declared.kind.Kind.TheVariants.{Automaton, All}
 use Rattle.dcv_cli.specs.Refusal.{status_of, words_of, ended}
 use Rattle.dcv_cli.specs.declared.refused.Which.{Which}
 use Rattle.dcv_cli.specs.declared.refused.Which.TheVariants.{Only}

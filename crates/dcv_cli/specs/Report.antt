@@ -14,8 +14,8 @@ use Rattle.dcv_build.specs.Counts.{AreCounts}
 use Rattle.dcv_print.specs.Printed.{texts_of}
 use Rattle.dcv_print.specs.Observers.{SaysNode, SaysUnit}
 use Rattle.dcv_print.specs.Sections.{all_text}
-use Rattle.dcv_print.specs.declared.report.Kind.{Kind}
-use Rattle.dcv_print.specs.declared.report.Kind.TheVariants.{Check, Automaton, Lustre, C, All}
+use Rattle.dcv_language.specs.declared.kind.Kind.{Kind}
+use Rattle.dcv_language.specs.declared.kind.Kind.TheVariants.{Check, Automaton, Lustre, C, All}
 use Rattle.dcv_cli.specs.Automaton.{SaysAutomaton}
 use Rattle.dcv_cli.specs.Budget.{steps_of_file}
 use Rattle.dcv_cli.specs.Outcome.{Outcome}

@@ -4,7 +4,7 @@ use Rattle.clap.specs.Words.{is_simple, fault_of}
 use Rattle.clap.specs.declared.error.kind.ErrorKind.TheVariants.{MissingRequiredArgument}
 use Rattle.clap.proofs.OnLiterals.{clap_on_literals}
 use Rattle.dcv_command.specs.Program.{program}
-use Rattle.dcv_print.specs.declared.report.Kind.TheVariants.{Check, Automaton}
+use Rattle.dcv_language.specs.declared.kind.Kind.TheVariants.{Check, Automaton}
 use Rattle.dcv_command.specs.declared.words.Subset.TheVariants.{C as CText}
 use Rattle.dcv_command.specs.declared.words.Version.TheVariants.{One, Two}
 use Rattle.dcv_command.specs.Request.{Report, Certify, Convert, Implies, Synth, Replay, Sweep, request_of}

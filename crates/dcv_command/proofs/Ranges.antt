@@ -8,9 +8,9 @@ use Rattle.clap.specs.ValueTests.{is_unsigned_in}
 use Rattle.clap.specs.declared.builder.value_parser.ValueParser.TheVariants.{Unsigned}
 use Rattle.clap.proofs.ValueTestLemmas.{accepts-Accepts}
 use Rattle.dcv_explore.specs.declared.explorer.Limits.{Limits}
-use Rattle.dcv_print.specs.declared.report.Kind.{Kind}
+use Rattle.dcv_language.specs.declared.kind.Kind.{Kind}
 use Rattle.dcv_command.specs.Program.{most_states, most_nodes, most_version, most_inputs, most_seed, most_count}
-use Rattle.dcv_print.specs.declared.report.Kind.TheVariants.{Check, Automaton, Lustre, C, All}
+use Rattle.dcv_language.specs.declared.kind.Kind.TheVariants.{Check, Automaton, Lustre, C, All}
 use Rattle.dcv_command.specs.declared.words.Subset.{Subset}
 use Rattle.dcv_command.specs.declared.words.Subset.TheVariants.{Lustre as LustreText, C as CText}
 use Rattle.dcv_command.specs.Request.{AreInRange, IsInRange, Request, Report, Certify, Convert, Implies, Synth, Replay, Sweep, replay_in, sweep_in, convert_in, version_numbered, implies_in, synth_in, limits_among, limits_of, number_in, number_of, report_in, request_in, request_of_subcommand}

@@ -13,7 +13,7 @@ use Rattle.clap.specs.declared.builder.value_parser.Reading.TheVariants.{AsWritt
 use Rattle.clap.specs.declared.error.kind.ErrorKind.{ErrorKind}
 use Rattle.clap.specs.declared.parser.matches.ValueSource.{ValueSource}
 use Rattle.clap.specs.declared.parser.matches.ValueSource.TheVariants.{CommandLine}
-use Rattle.dcv_print.specs.declared.report.Kind.{Kind}
+use Rattle.dcv_language.specs.declared.kind.Kind.{Kind}
 use Rattle.dcv_command.specs.Program.{file_operand, inputs_option, limit_option, number_option, version_option, most_version, most_count, most_inputs, most_nodes, most_seed, most_states, nodes_option, over_a_formula, number_operand, over_a_game, over_a_seed, over_a_trace, over_an_automaton, over_a_version, over_two_formulas, states_option}
 use Rattle.dcv_command.specs.declared.words.Subset.{Subset}
 use Rattle.dcv_command.specs.Request.{Certify, Convert, Implies, Replay, Report, Sweep, Synth, certify_in, convert_in, version_numbered, implies_in, limits_among, number_in, replay_in, report_in, sweep_in, synth_in}

@@ -18,7 +18,7 @@ use Rattle.clap.specs.declared.error.kind.ErrorKind.TheVariants.{DisplayHelp, In
 use Rattle.clap.specs.Kinds.{Kinds, check_kinds}
 use Rattle.clap.specs.Faults.{check_fault, level_fault, entered_fault, settle_fault, defaults_fault, walk_fault, turn_fault, step_fault, word_fault, other_fault}
 use Rattle.clap.proofs.OnLiterals.{clap_on_literals}
-use Rattle.dcv_print.specs.declared.report.Kind.TheVariants.{Check, Automaton, Lustre, C, All}
+use Rattle.dcv_language.specs.declared.kind.Kind.TheVariants.{Check, Automaton, Lustre, C, All}
 use Rattle.dcv_command.specs.Program.{over_a_formula, over_a_game, over_a_seed, over_a_trace, over_an_automaton, over_a_version, over_two_formulas, program}
 use Rattle.dcv_command.specs.declared.words.Subset.TheVariants.{Lustre as LustreText, C as CText}
 use Rattle.dcv_command.specs.Request.{IsTaken, Request, request_in, request_of, request_of_subcommand}

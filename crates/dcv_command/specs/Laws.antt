@@ -2,7 +2,7 @@
 use Rattle.std.specs.Prelude.{ℕ, ◌≤◌, List, [], ◌∷◌, IsSome, codes}
 use Rattle.std.specs.Fmt.{decimal}
 use Rattle.clap.specs.Words.{Text}
-use Rattle.dcv_print.specs.declared.report.Kind.{Kind}
+use Rattle.dcv_language.specs.declared.kind.Kind.{Kind}
 use Rattle.dcv_command.specs.declared.words.Subset.{Subset}
 use Rattle.dcv_command.specs.declared.words.Version.{Version}
 use Rattle.dcv_command.specs.Listed.{Options, option_words, version_words, Place, with_inputs, limits_given, report_name, replay_name, AreAllowed, IsAllowed, IsFileName, AskFor}

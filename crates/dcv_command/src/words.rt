@@ -16,7 +16,7 @@ use crate::program::{
 use clap::ArgMatches;
 use clap::error::ErrorKind;
 use dcv_explore::Limits;
-use dcv_print::Kind;
+use dcv_language::Kind;
 use std::alloc::{AllocError, Global};
 use std::convert::AsStr;
 use std::fmt::Display;

@@ -8,13 +8,15 @@
 //!
 //! The definitions stand in `specs/`; here are their laws, on sets and tables in [`laws`], on machines in [`machine_laws`], and how the
 //! words of a certificate are spelled ([`Access`], [`Suffix`]). What it took to find the table of one step of a formula is a [`Count`]: builders make
-//! counts and printers print them, and neither stands on the other.
+//! counts and printers print them, and neither stands on the other. Which text is asked for is a [`Kind`].
 #![tactic(auto)]
 
 mod certificate;
 mod count;
+mod kind;
 pub mod laws;
 pub mod machine_laws;
 
 pub use certificate::{Access, Suffix};
 pub use count::Count;
+pub use kind::Kind;

@@ -23,8 +23,8 @@ use Rattle.dcv_print.specs.Printed.{printed_file}
 use Rattle.dcv_print.specs.Sections.{all_text}
 use Rattle.dcv_print.specs.Verdict.{seen_verdict}
 use Rattle.dcv_print.specs.declared.automaton_lines.Listed.{Listed}
-use Rattle.dcv_print.specs.declared.report.Kind.{Kind}
-use Rattle.dcv_print.specs.declared.report.Kind.TheVariants.{Check, Automaton, Lustre, C, All}
+use Rattle.dcv_language.specs.declared.kind.Kind.{Kind}
+use Rattle.dcv_language.specs.declared.kind.Kind.TheVariants.{Check, Automaton, Lustre, C, All}
 use Rattle.dcv_print.specs.declared.report.Content.{Content}
 use Rattle.dcv_print.specs.declared.report.Content.TheVariants.{Verdict as TheVerdict, Automaton as TheAutomaton, Lustre as TheNode, C as TheUnit, All as TheSections}
 use Rattle.dcv_print.specs.declared.verdict_lines.Verdict.{Verdict as CodeVerdict}

@@ -31,6 +31,7 @@ mod verdicts;
 
 pub use automaton_lines::automaton_text;
 pub use dcv_automaton_read::{AutoFault, AutoFile, automaton_read};
-pub use report::{Kind, Report, all_text};
+pub use dcv_language::Kind;
+pub use report::{Report, all_text};
 pub use verdict_lines::{Verdict, put_letter, put_word};
 pub use verdicts::{verdict, verdict_text};

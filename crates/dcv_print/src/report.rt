@@ -21,25 +21,10 @@ use crate::verdicts::verdict;
 use dcv_certificate::Proof;
 use dcv_dfa::Auto;
 use dcv_io::{Block, Failed, Sink, Target, Text};
-use dcv_language::Count;
+use dcv_language::{Count, Kind};
 use dcv_syntax::Name;
 use std::alloc::{AllocError, Global};
 use std::marker::Model;
-
-/// What is said of an automaton.
-#[derive(Clone, Copy, Debug, PartialEq, Eq)]
-pub enum Kind {
-    /// The verdict of the words that it accepts.
-    Check,
-    /// Its own text, with words that show that it has the fewest states.
-    Automaton,
-    /// An observer of it in a flat subset of Lustre.
-    Lustre,
-    /// An observer of it in a flat subset of C.
-    C,
-    /// All four, each behind a line that names it.
-    All,
-}
 
 // What is written beside a verdict, or in its place. An observer is put straight from the lines, so no tree of it is held.
 #[derive(Drop)]

@@ -5,8 +5,8 @@ use Rattle.std.specs.Option.{IsSomeAnd}
 use Rattle.dcv_io.specs.Disk.{Disk, held_of}
 use Rattle.dcv_syntax.specs.Plain.{PlainFile}
 use Rattle.dcv_explore.specs.declared.explorer.Limits.{Limits}
-use Rattle.dcv_print.specs.declared.report.Kind.{Kind}
-use Rattle.dcv_print.specs.declared.report.Kind.TheVariants.{All}
+use Rattle.dcv_language.specs.declared.kind.Kind.{Kind}
+use Rattle.dcv_language.specs.declared.kind.Kind.TheVariants.{All}
 use Rattle.dcv_replay.specs.Observer.{Observer}
 use Rattle.dcv_command.specs.Request.{Request, Report, Certify, Implies, Synth, Replay}
 use Rattle.dcv_command.specs.declared.words.Subset.{Subset}

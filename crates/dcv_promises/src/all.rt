@@ -1,7 +1,7 @@
 //! `all`, in the words of the logic alone.
 ghost use Rattle.std.specs.Prelude.{ℕ, List};
 ghost use Rattle.dcv_explore.specs.declared.explorer.Limits.{Limits};
-ghost use Rattle.dcv_print.specs.declared.report.Kind.TheVariants.{All};
+ghost use Rattle.dcv_language.specs.declared.kind.Kind.TheVariants.{All};
 ghost use Rattle.dcv_command.specs.Request.{Report};
 ghost use Rattle.dcv_cli.specs.Headline.{IsAnswered};
 ghost use Rattle.dcv_cli.specs.Request.{AsksFor};

@@ -1,7 +1,7 @@
 //! `check`, `automaton`, `lustre`, `c` and `all`: a report on a formula file.
 ghost use Rattle.std.specs.Prelude.{ℕ, List};
 ghost use Rattle.dcv_explore.specs.declared.explorer.Limits.{Limits};
-ghost use Rattle.dcv_print.specs.declared.report.Kind.{Kind};
+ghost use Rattle.dcv_language.specs.declared.kind.Kind.{Kind};
 ghost use Rattle.dcv_command.specs.Request.{Report};
 ghost use Rattle.dcv_cli.specs.Request.{AsksFor};
 ghost use Rattle.dcv_promises.specs.Promises.{Holds, Ends, seen, IsReported};
