@@ -3,7 +3,7 @@
 --     IsSwept seed count outcome    the outcome says the counts over so many formulas, drawn one after another from the seed
 use Rattle.std.specs.Prelude.{◌≡◌, ℕ, []}
 use Rattle.dcv_explore.specs.declared.explorer.Limits.{Limits}
-use Rattle.dcv_command.specs.Listed.{Neither, limits_given}
+use Rattle.dcv_command.specs.Listed.{limits_by_default}
 use Rattle.dcv_sweep.specs.Findings.{IsSummary}
 use Rattle.dcv_sweep.specs.SummaryText.{summary_text}
 use Rattle.dcv_sweep.specs.declared.summary.Summary.{Summary}
@@ -12,7 +12,7 @@ use Rattle.dcv_cli.specs.Outcome.{Outcome}
 
 -- those of a command without options
 abbrev pub default_limits : Limits
-default_limits = limits_given Neither
+default_limits = limits_by_default
 
 pub record IsSwept (seed count : ℕ) (outcome : Outcome) : Type 0 where
   pub summary : Summary

@@ -1,17 +1,29 @@
--- Words that begin with a subcommand's name: what `clap` finds in them is what it finds in the words behind the name, and they pass its
+-- Words that begin with a command's name: what `clap` finds in them is what it finds in the words behind the name, and they pass its
 -- test where these do.
-use Rattle.std.proofs.Common.{◌≡◌, refl, sym, ap, ◌∙◌, Bool, true, false, List, [], ◌∷◌, ◌++◌, Some, codes, is_some}
-use Rattle.std.specs.Prelude.{fold, ◌&&◌}
-use Rattle.std.specs.List.{list_all}
+use Rattle.std.proofs.Common.{◌≡◌, refl, sym, ap, ◌∙◌, Bool, true, false, List, [], ◌∷◌, ◌++◌, Option, Some, codes, is_some}
+use Rattle.std.specs.Prelude.{find, fold, map, not, option_map, ◌&&◌, ◌||◌, if◌then◌else◌}
+use Rattle.std.specs.List.{AllByRecursion, list_all, list_any}
+use Rattle.std.specs.Option.{option_map_or}
+use Rattle.std.specs.Str.{bytes_eq}
+use Rattle.std.proofs.Math.Bool.{or-true}
+use Rattle.std.proofs.lemmas.Bool.{false_from_ne_true}
 use Rattle.std.proofs.lemmas.List.{append-nil, append_assoc}
-use Rattle.clap.specs.Words.{Kinds, Rule, Shape, Text, built, fault_of, subcommand_of, takes}
+use Rattle.std.proofs.lemmas.Slice.Eq.{bytes_eq-Decides}
+use mathlib.Core.Bool.{true≢false}
+use Rattle.clap.specs.Words.{Kinds, Row, Rule, Shape, Text, built, fault_of, subcommand_of, takes}
 use Rattle.clap.specs.Kinds.{or_else}
-use Rattle.clap.specs.Walk.{Names, Walk, finished, nothing_held, rows_after, settled, walk, walk_from, walked}
-use Rattle.clap.specs.Simple.{built_leaf, entered, names_of}
-use Rattle.clap.specs.Faults.{check_fault, defaults_fault, entered_fault, level_fault, settle_fault, turn_fault, walk_fault}
-use Rattle.clap.specs.Takes.{default_passes, entered_passes, is_valid, level_passes, settle_passes, turn_passes, walk_passes}
+use Rattle.clap.specs.Walk.{Held, Names, Step, Walk, after_step, answers_to, finished, idle, nothing_held, rows_after, settled, subcommand_met, subcommand_or_other, walk, walk_from, walked}
+use Rattle.clap.specs.Simple.{built_leaf, entered, help_shape, label_of, names_of, rows_at}
+use Rattle.clap.specs.Faults.{check_fault, defaults_fault, entered_fault, level_fault, other_fault, settle_fault, step_fault, turn_fault, walk_fault}
+use Rattle.clap.specs.Takes.{default_passes, entered_passes, is_valid, level_passes, other_passes, settle_passes, step_passes, turn_passes, walk_passes}
+use Rattle.clap.specs.declared.error.kind.ErrorKind.TheVariants.{DisplayHelp, InvalidSubcommand}
 use Rattle.clap.proofs.OnLiterals.{clap_on_literals}
-use Rattle.dcv_command.specs.Program.{over_a_formula, over_a_game, over_a_seed, over_a_trace, over_an_automaton, over_a_version, over_two_formulas, program}
+use Rattle.clap.proofs.SimpleLemmas.{is_false}
+use Rattle.clap.proofs.WalkLemmas.{both, find-map}
+use Rattle.dcv_command.specs.Program.{program}
+use Rattle.dcv_command.specs.Request.{asked_of, request_among, request_in}
+use Rattle.dcv_command.specs.Table.{Argument, Command, commands}
+use Rattle.dcv_command.proofs.Arguments.{are_sound, built_shape}
 
 -- ---- behind the name
 
@@ -65,93 +77,169 @@ takes_by passes w =
     && (settle_passes top.rules top.args_override_self w.held
     && (list_all default_passes top.rules && is_valid top (finished top.rules w.held) (is_some (entered (built program) w.stopped)))))
 
--- a subcommand, as it is built
-abbrev pub leaf : Shape → Shape
-leaf shape = built_leaf (record shape { no_binary_name = true })
+-- ---- a command of the table
 
--- what is computed of a name: the walk stops at it, with no fault, and enters the subcommand
-pub record IsSubcommand (name : Text) (shape : Shape) : Type 0 where
-  pub met : walked top.rules names (walk_from nothing_held) name ≡ stopped_at name []
-  pub no_fault : turn_fault top names (walk_from nothing_held) name ≡ []
-  pub faults : (rest : List Text) → faults_by [] (stopped_at name rest) ≡ or_else (level_fault (leaf shape) [] nothing_held rest false []) []
-  pub passes : turn_passes top names (walk_from nothing_held) name ≡ true
-  pub takes : (rest : List Text) → takes_by true (stopped_at name rest) ≡ level_passes (leaf shape) [] nothing_held rest false && true
-  pub found : (rest : List Text) → entered (built program) (Some (name, rest)) ≡ Some (name, rows_after (leaf shape).rules [] rest)
+-- the subcommand of this name is found, and asks for no help
+pub record IsSubcommand (name : Text) (arguments : List Argument) : Type 0 where
+  pub found : find (λ shape. answers_to name (label_of shape)) (built program).subs ≡ Some (built_shape name arguments)
+  pub no_help : bytes_eq name (codes "help") ≡ false
 
-module _ (name : Text) (shape : Shape) (is : IsSubcommand name shape) (rest : List Text) where
-  is_met : walk top.rules names nothing_held (name ∷ rest) ≡ stopped_at name rest
-  is_met = ap (λ w. fold (walked top.rules names) w rest) is.met ∙ stays_stopped top.rules names name [] rest
+module _ (name : Text) (arguments : List Argument) (is : IsSubcommand name arguments) where
+  abbrev leaf : Shape
+  leaf = built_shape name arguments
 
-  none_above : walk_fault top names (walk_from nothing_held) (name ∷ rest) ≡ []
-  unfolding walk_fault
-  none_above =
-      ap (λ kinds. or_else kinds (walk_fault top names (walked top.rules names (walk_from nothing_held) name) rest)) is.no_fault
-      ∙ ap (λ w. walk_fault top names w rest) is.met ∙ no_more_faults top names name [] rest
+  met : subcommand_met names idle name ≡ Some name
+  met =
+      ap (option_map (λ label. label.0)) (sym (find-map (answers_to name) label_of (built program).subs))
+      ∙ ap (λ found. option_map (λ label. label.0) (option_map label_of found)) is.found
 
-  pub faults_below : fault_of program (name ∷ rest) ≡ level_fault (leaf shape) [] nothing_held rest false []
-  faults_below =
-      ap (λ kinds. faults_by kinds (walk top.rules names nothing_held (name ∷ rest))) none_above
-      ∙ ap (faults_by []) is_met ∙ is.faults rest ∙ nothing_else (level_fault (leaf shape) [] nothing_held rest false [])
+  abbrev step_from : Option Text → Held × Step
+  step_from found = subcommand_or_other top.rules found idle 1 name nothing_held
 
-  all_pass_above : walk_passes top names (walk_from nothing_held) (name ∷ rest) ≡ true
-  unfolding walk_passes
-  all_pass_above =
-      ap (λ passes. passes && walk_passes top names (walked top.rules names (walk_from nothing_held) name) rest) is.passes
-      ∙ ap (λ w. walk_passes top names w rest) is.met ∙ all_pass top names name [] rest
+  walked_to : walked top.rules names (walk_from nothing_held) name ≡ stopped_at name []
+  unfolding walked
+  walked_to = ap (λ found. after_step top.rules name (walk_from nothing_held) (step_from found).0 (step_from found).1) met
 
-  pub takes_below : takes program (name ∷ rest) ≡ level_passes (leaf shape) [] nothing_held rest false && true
-  unfolding clap_on_literals
-  takes_below =
-      ap (λ passes. takes_by passes (walk top.rules names nothing_held (name ∷ rest))) all_pass_above
-      ∙ ap (takes_by true) is_met ∙ is.takes rest
+  no_fault_at : turn_fault top names (walk_from nothing_held) name ≡ []
+  no_fault_at =
+      ap (λ found. or_else (other_fault top found name nothing_held) (step_fault top 1 (step_from found).0 (step_from found).1)) met
+      ∙ ap (λ help. or_else (if help && true then DisplayHelp ∷ InvalidSubcommand ∷ [] else []) []) is.no_help
 
-  pub found_below : subcommand_of program (name ∷ rest) ≡ Some (name, rows_after (leaf shape).rules [] rest)
-  found_below = ap (λ (w : Walk). entered (built program) w.stopped) is_met ∙ is.found rest
+  passes_at : turn_passes top names (walk_from nothing_held) name ≡ true
+  passes_at =
+      ap (λ found. other_passes top found name nothing_held && step_passes top 1 (step_from found).0 (step_from found).1) met
+      ∙ ap (λ help. (not help || false) && true) is.no_help
 
-pub check_is_one : IsSubcommand (codes "check") (over_a_formula (codes "check"))
-unfolding clap_on_literals
-check_is_one = record { met = refl; no_fault = refl; faults = λ rest. refl; passes = refl; takes = λ rest. refl; found = λ rest. refl }
+  module _ (rest : List Text) where
+    is_met : walk top.rules names nothing_held (name ∷ rest) ≡ stopped_at name rest
+    is_met = ap (λ w. fold (walked top.rules names) w rest) walked_to ∙ stays_stopped top.rules names name [] rest
 
-pub automaton_is_one : IsSubcommand (codes "automaton") (over_a_formula (codes "automaton"))
-unfolding clap_on_literals
-automaton_is_one = record { met = refl; no_fault = refl; faults = λ rest. refl; passes = refl; takes = λ rest. refl; found = λ rest. refl }
+    none_above : walk_fault top names (walk_from nothing_held) (name ∷ rest) ≡ []
+    unfolding walk_fault
+    none_above =
+        ap (λ kinds. or_else kinds (walk_fault top names (walked top.rules names (walk_from nothing_held) name) rest)) no_fault_at
+        ∙ ap (λ w. walk_fault top names w rest) walked_to ∙ no_more_faults top names name [] rest
 
-pub lustre_is_one : IsSubcommand (codes "lustre") (over_a_formula (codes "lustre"))
-unfolding clap_on_literals
-lustre_is_one = record { met = refl; no_fault = refl; faults = λ rest. refl; passes = refl; takes = λ rest. refl; found = λ rest. refl }
+    all_pass_above : walk_passes top names (walk_from nothing_held) (name ∷ rest) ≡ true
+    unfolding walk_passes
+    all_pass_above =
+        ap (λ passes. passes && walk_passes top names (walked top.rules names (walk_from nothing_held) name) rest) passes_at
+        ∙ ap (λ w. walk_passes top names w rest) walked_to ∙ all_pass top names name [] rest
 
-pub c_is_one : IsSubcommand (codes "c") (over_a_formula (codes "c"))
-unfolding clap_on_literals
-c_is_one = record { met = refl; no_fault = refl; faults = λ rest. refl; passes = refl; takes = λ rest. refl; found = λ rest. refl }
+    -- what is found where the walk stops at the name, by the subcommand that it enters
+    abbrev faults_in : Option Shape → Kinds
+    faults_in found =
+        or_else (option_map_or (λ shape. level_fault shape [] nothing_held rest false []) found [])
+        (check_fault top (finished top.rules nothing_held) (is_some (option_map (λ shape. rows_at shape rest) found)))
 
-pub all_is_one : IsSubcommand (codes "all") (over_a_formula (codes "all"))
-unfolding clap_on_literals
-all_is_one = record { met = refl; no_fault = refl; faults = λ rest. refl; passes = refl; takes = λ rest. refl; found = λ rest. refl }
+    abbrev takes_in : Option Shape → Bool
+    takes_in found =
+        option_map_or (λ shape. level_passes shape [] nothing_held rest false) found true
+        && (true && (true && (true && is_valid top (finished top.rules nothing_held) (is_some (option_map (λ shape. rows_at shape rest) found)))))
 
-pub certify_is_one : IsSubcommand (codes "certify") over_an_automaton
-unfolding clap_on_literals
-certify_is_one = record { met = refl; no_fault = refl; faults = λ rest. refl; passes = refl; takes = λ rest. refl; found = λ rest. refl }
+    faults_there : faults_by [] (stopped_at name rest) ≡ or_else (level_fault leaf [] nothing_held rest false []) []
+    unfolding defaults_fault
+    faults_there = ap faults_in is.found
 
-pub convert_is_one : IsSubcommand (codes "convert") over_a_version
-unfolding clap_on_literals
-convert_is_one = record { met = refl; no_fault = refl; faults = λ rest. refl; passes = refl; takes = λ rest. refl; found = λ rest. refl }
+    takes_there : takes_by true (stopped_at name rest) ≡ level_passes leaf [] nothing_held rest false && true
+    takes_there = ap takes_in is.found
 
-pub implies_is_one : IsSubcommand (codes "implies") over_two_formulas
-unfolding clap_on_literals
-implies_is_one = record { met = refl; no_fault = refl; faults = λ rest. refl; passes = refl; takes = λ rest. refl; found = λ rest. refl }
+    pub faults_below : fault_of program (name ∷ rest) ≡ level_fault leaf [] nothing_held rest false []
+    faults_below =
+        ap (λ kinds. faults_by kinds (walk top.rules names nothing_held (name ∷ rest))) none_above
+        ∙ ap (faults_by []) is_met ∙ faults_there ∙ nothing_else (level_fault leaf [] nothing_held rest false [])
 
-pub synth_is_one : IsSubcommand (codes "synth") over_a_game
-unfolding clap_on_literals
-synth_is_one = record { met = refl; no_fault = refl; faults = λ rest. refl; passes = refl; takes = λ rest. refl; found = λ rest. refl }
+    pub takes_below : takes program (name ∷ rest) ≡ level_passes leaf [] nothing_held rest false && true
+    unfolding clap_on_literals
+    takes_below =
+        ap (λ passes. takes_by passes (walk top.rules names nothing_held (name ∷ rest))) all_pass_above
+        ∙ ap (takes_by true) is_met ∙ takes_there
 
-pub replay_lustre_is_one : IsSubcommand (codes "replay-lustre") (over_a_trace (codes "replay-lustre"))
-unfolding clap_on_literals
-replay_lustre_is_one = record { met = refl; no_fault = refl; faults = λ rest. refl; passes = refl; takes = λ rest. refl; found = λ rest. refl }
+    pub found_below : subcommand_of program (name ∷ rest) ≡ Some (name, rows_after leaf.rules [] rest)
+    found_below = ap (λ (w : Walk). entered (built program) w.stopped) is_met ∙ ap (option_map (λ shape. rows_at shape rest)) is.found
 
-pub replay_c_is_one : IsSubcommand (codes "replay-c") (over_a_trace (codes "replay-c"))
-unfolding clap_on_literals
-replay_c_is_one = record { met = refl; no_fault = refl; faults = λ rest. refl; passes = refl; takes = λ rest. refl; found = λ rest. refl }
+-- ---- each command of the table
 
-pub sweep_is_one : IsSubcommand (codes "sweep") over_a_seed
-unfolding clap_on_literals
-sweep_is_one = record { met = refl; no_fault = refl; faults = λ rest. refl; passes = refl; takes = λ rest. refl; found = λ rest. refl }
+pub record IsCommand (command : Command) : Type 0 where
+  pub subcommand : IsSubcommand command.name command.arguments
+  pub request : (rows : List Row) → request_in command.name rows ≡ asked_of command rows
+  pub sound : are_sound command.arguments ≡ true
+
+-- with the help that is behind them
+abbrev pub leaves : List Command → List Shape
+leaves left = map (λ command. built_shape command.name command.arguments) left ++ built_leaf help_shape ∷ []
+
+abbrev is_called : Text → List Command → Bool
+is_called name left = list_any (λ command. bytes_eq command.name name) left
+
+abbrev can_be_told : List Command → Bool
+can_be_told [] = true
+can_be_told (command ∷ rest) =
+    (not (is_called command.name rest) && not (bytes_eq command.name (codes "help"))) && (are_sound command.arguments && can_be_told rest)
+
+-- what is found of the last of the commands is found among them alone
+record Reaches (left : List Command) : Type 0 where
+  shape : (name : Text) → is_called name left ≡ true
+      → find (λ shape. answers_to name (label_of shape)) (built program).subs ≡ find (λ shape. answers_to name (label_of shape)) (leaves left)
+  request : (name : Text) → is_called name left ≡ true → (rows : List Row) → request_in name rows ≡ request_among left name rows
+
+reaches_all : Reaches commands
+reaches_all = record { shape = λ name called. refl; request = λ name called rows. refl }
+
+turned : (one other : Text) (b : Bool) → bytes_eq one other ≡ b → bytes_eq other one ≡ b
+turned one other true same = (bytes_eq-Decides other one).1 (sym ((bytes_eq-Decides one other).0 same))
+turned one other false differs =
+    false_from_ne_true (bytes_eq other one)
+    (λ same. true≢false (sym ((bytes_eq-Decides one other).1 (sym ((bytes_eq-Decides other one).0 same))) ∙ differs))
+
+module _ (command : Command) (rest : List Command) (reaches : Reaches (command ∷ rest)) (apart : is_called command.name rest ≡ false) where
+  also : (name : Text) → is_called name rest ≡ true → is_called name (command ∷ rest) ≡ true
+  also name called = ap (λ others. bytes_eq command.name name || others) called ∙ or-true (bytes_eq command.name name)
+
+  differs : (name : Text) → is_called name rest ≡ true → bytes_eq command.name name ≡ false
+  differs name called =
+      false_from_ne_true (bytes_eq command.name name)
+      (λ same. true≢false (sym called ∙ ap (λ text. is_called text rest) (sym ((bytes_eq-Decides command.name name).0 same)) ∙ apart))
+
+  reaches_rest : Reaches rest
+  reaches_rest =
+      record {
+        shape = λ name called. reaches.shape name (also name called)
+            ∙ ap (λ same. if same || false then Some (built_shape command.name command.arguments) else find (λ shape. answers_to name (label_of shape)) (leaves rest))
+            (differs name called);
+        request = λ name called rows. reaches.request name (also name called) rows
+            ∙ ap (λ same. if same then asked_of command rows else request_among rest name rows) (turned command.name name false (differs name called));
+      }
+
+  same_name : bytes_eq command.name command.name ≡ true
+  same_name = (bytes_eq-Decides command.name command.name).1 refl
+
+  own : is_called command.name (command ∷ rest) ≡ true
+  own = ap (λ first. first || is_called command.name rest) same_name
+
+  is_command : bytes_eq command.name (codes "help") ≡ false → are_sound command.arguments ≡ true → IsCommand command
+  is_command no_help sound =
+      record {
+        subcommand = record {
+          found = reaches.shape command.name own
+              ∙ ap (λ same. if same || false then Some (built_shape command.name command.arguments) else find (λ shape. answers_to command.name (label_of shape)) (leaves rest))
+              same_name;
+          no_help = no_help;
+        };
+        request = λ rows. reaches.request command.name own rows
+            ∙ ap (λ same. if same then asked_of command rows else request_among rest command.name rows) same_name;
+        sound = sound;
+      }
+
+each_of : (left : List Command) → Reaches left → can_be_told left ≡ true → AllByRecursion IsCommand left
+each_of [] reaches told = tt
+each_of (command ∷ rest) reaches told =
+    let tests = both _ _ (both (not (is_called command.name rest) && not (bytes_eq command.name (codes "help"))) _ told).0 in
+    let others = both (are_sound command.arguments) _ (both (not (is_called command.name rest) && not (bytes_eq command.name (codes "help"))) _ told).1 in
+    let apart : is_called command.name rest ≡ false = is_false (is_called command.name rest) tests.0 in (
+      is_command command rest reaches apart (is_false (bytes_eq command.name (codes "help")) tests.1) others.0,
+      each_of rest (reaches_rest command rest reaches apart) others.1,
+    )
+
+pub each_command : AllByRecursion IsCommand commands
+each_command = each_of commands reaches_all refl

@@ -2,7 +2,7 @@
 -- required, and each that has a default, has a row that can be read.
 use Rattle.std.proofs.Common.{◌≡◌, refl, Bool, true, false, List, [], ◌∷◌}
 use Rattle.std.specs.Prelude.{◌&&◌, ◌||◌, not}
-use Rattle.std.specs.List.{list_any}
+use Rattle.std.specs.List.{AllByRecursion, list_any}
 use Rattle.clap.specs.Words.{Kinds, Row, Rule, Shape, Text}
 use Rattle.clap.specs.Kinds.{check_kinds, or_else}
 use Rattle.clap.specs.Faults.{check_fault, defaults_fault, level_fault, settle_fault, walk_fault}
@@ -29,9 +29,8 @@ neither_lacks true false rest is = cc
 neither_lacks false given rest is = (λ wrong. cc, is)
 
 -- each argument that is required has a row
-abbrev HasRequiredRows : List Rule → List Row → Type 0
-HasRequiredRows [] rows = Unit {0}
-HasRequiredRows (rule ∷ rules) rows = (rule.required ≡ true → has_row rule.id rows ≡ true) × HasRequiredRows rules rows
+abbrev pub HasRequiredRows : List Rule → List Row → Type 0
+HasRequiredRows rules rows = AllByRecursion (λ rule. rule.required ≡ true → has_row rule.id rows ≡ true) rules
 
 has_required_rows : (rules : List Rule) (rows : List Row) → list_any (λ rule. rule.required && not (is_given rule.id rows)) rules ≡ false → HasRequiredRows rules rows
 has_required_rows [] rows none = tt
@@ -45,50 +44,47 @@ checked_has_required shape rows none = has_required_rows shape.rules rows (not_n
 -- ---- what is found of each argument
 
 -- the argument's row, where it is required or has a default
-pub record IsFoundIfSure (rule : Rule) (rows : List Row) : Type 0 where
-  pub required : rule.required ≡ true → IsFound rule.id rows
-  pub default : HasDefault rule.defaults → IsFound rule.id rows
+pub record IsFoundIfSure (Says : Text → Text → Type 0) (rows : List Row) (rule : Rule) : Type 0 where
+  pub required : rule.required ≡ true → IsFound Says rule.id rows
+  pub default : HasDefault rule.defaults → IsFound Says rule.id rows
 
-abbrev pub AreFound : List Rule → List Row → Type 0
-AreFound [] rows = Unit {0}
-AreFound (rule ∷ rules) rows = IsFoundIfSure rule rows × AreFound rules rows
+module _ (Says : Text → Text → Type 0) where
+  pub are_found : (rules : List Rule) (rows : List Row) → AreReadable Says rows → HasRequiredRows rules rows → HasDefaultRows rules rows
+      → AllByRecursion (IsFoundIfSure Says rows) rules
+  are_found [] rows all required defaults = tt
+  are_found (rule ∷ rules) rows all (one, required) (other, defaults) = (
+    record { required = λ is. found_readable Says rule.id rows all (one is); default = λ is. found_readable Says rule.id rows all (other is) },
+    are_found rules rows all required defaults,
+  )
 
-are_found : (rules : List Rule) (rows : List Row) → AreReadable rows → HasRequiredRows rules rows → HasDefaultRows rules rows → AreFound rules rows
-are_found [] rows all required defaults = tt
-are_found (rule ∷ rules) rows all (one, required) (other, defaults) = (
-  record { required = λ is. found_readable rule.id rows all (one is); default = λ is. found_readable rule.id rows all (other is) },
-  are_found rules rows all required defaults,
-)
+  -- ---- behind the words
 
--- ---- behind the words
+  -- of a shape of which no use and no default leaves a row that can't be read
+  module _ (shape : Shape) (uses : EachKeeps shape.args_override_self (AreReadable Says) shape.rules)
+      (defaults : (rows : List Row) → HasReadableDefaults Says rows shape.rules) where
+    finished_found : (held : Held) → AreReadable Says (settled shape.rules held).rows → check_fault shape (finished shape.rules held) false ≡ []
+        → AllByRecursion (IsFoundIfSure Says (finished shape.rules held)) shape.rules
+    finished_found held all none =
+        let rows = (settled shape.rules held).rows in
+        are_found shape.rules (finished shape.rules held) (readable_with_defaults Says shape.rules rows rows (λ id has. has) (defaults rows) all)
+        (checked_has_required shape (finished shape.rules held) none) (has_default_rows shape.rules rows)
 
--- of a shape of which no use and no default leaves a row that can't be read
-pub record IsReadableShape (shape : Shape) : Type 0 where
-  pub uses : EachKeeps shape.args_override_self AreReadable shape.rules
-  pub defaults : HasReadableDefaults shape.rules
+    pub all_found : (words : List Text) → level_fault shape [] nothing_held words false [] ≡ []
+        → AllByRecursion (IsFoundIfSure Says (rows_after shape.rules [] words)) shape.rules
+    all_found words none =
+        finished_found end
+        (settled_keeps shape (AreReadable Says) uses end
+        (walk_keeps shape (AreReadable Says) uses [] words (walk_from nothing_held) tt (first_is_empty walk_faults _ none)) (first_is_empty settle_faults _ behind))
+        (last_is_empty (defaults_fault (settled shape.rules end).rows shape.rules) _ (last_is_empty settle_faults _ behind))
+      where
+        end : Held
+        end = (walk shape.rules [] nothing_held words).held
 
-module _ (shape : Shape) (readable : IsReadableShape shape) where
-  finished_found : (held : Held) → AreReadable (settled shape.rules held).rows → check_fault shape (finished shape.rules held) false ≡ []
-      → AreFound shape.rules (finished shape.rules held)
-  finished_found held all none =
-      are_found shape.rules (finished shape.rules held) (readable_with_defaults shape.rules (settled shape.rules held).rows readable.defaults all)
-      (checked_has_required shape (finished shape.rules held) none) (has_default_rows shape.rules (settled shape.rules held).rows)
+        walk_faults : Kinds
+        walk_faults = walk_fault shape [] (walk_from nothing_held) words
 
-  pub all_found : (words : List Text) → level_fault shape [] nothing_held words false [] ≡ [] → AreFound shape.rules (rows_after shape.rules [] words)
-  all_found words none =
-      finished_found end
-      (settled_keeps shape AreReadable readable.uses end
-      (walk_keeps shape AreReadable readable.uses [] words (walk_from nothing_held) tt (first_is_empty walk_faults _ none)) (first_is_empty settle_faults _ behind))
-      (last_is_empty (defaults_fault (settled shape.rules end).rows shape.rules) _ (last_is_empty settle_faults _ behind))
-    where
-      end : Held
-      end = (walk shape.rules [] nothing_held words).held
+        settle_faults : Kinds
+        settle_faults = settle_fault shape.rules shape.args_override_self end
 
-      walk_faults : Kinds
-      walk_faults = walk_fault shape [] (walk_from nothing_held) words
-
-      settle_faults : Kinds
-      settle_faults = settle_fault shape.rules shape.args_override_self end
-
-      behind : or_else settle_faults (or_else (defaults_fault (settled shape.rules end).rows shape.rules) (check_fault shape (finished shape.rules end) false)) ≡ []
-      behind = last_is_empty walk_faults _ none
+        behind : or_else settle_faults (or_else (defaults_fault (settled shape.rules end).rows shape.rules) (check_fault shape (finished shape.rules end) false)) ≡ []
+        behind = last_is_empty walk_faults _ none

@@ -3,7 +3,6 @@ pub mod Faults
 pub mod Commands
 pub mod Runs
 pub mod Listed
-pub mod ListedInputs
 pub mod NumberTexts
 pub mod Plain
 pub mod Numbers
@@ -11,6 +10,9 @@ pub mod Requests
 pub mod Steps
 pub mod Rows
 pub mod Leaves
-pub mod Shapes
+pub mod Built
+pub mod Arguments
+pub mod Uses
+pub mod Walks
 pub mod TakenWords
 pub mod Ranges

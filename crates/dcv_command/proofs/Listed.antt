@@ -1,241 +1,465 @@
--- The words behind a subcommand's name: files' names, numbers, and options with their numbers (`synth` has a file of its own).
-use Rattle.std.proofs.Common.{◌≡◌, refl, true, List, ℕ, ◌≤◌, [], ◌∷◌, ◌++◌, Option, codes, arith, zero-le}
-use Rattle.std.specs.Fmt.{decimal}
-use Rattle.clap.specs.Words.{Row, Shape, Text}
-use Rattle.clap.specs.ValueTests.{is_unsigned_in}
-use Rattle.clap.specs.Walk.{Held, Walk, idle, option, nothing_held, walk_from}
-use Rattle.clap.proofs.OnLiterals.{clap_on_literals}
-use Rattle.dcv_explore.specs.declared.explorer.Limits.{Limits}
-use Rattle.dcv_language.specs.declared.kind.Kind.{Kind}
-use Rattle.dcv_language.specs.declared.kind.Kind.TheVariants.{Check, Automaton, Lustre, C, All}
-use Rattle.dcv_command.specs.Program.{most_count, most_states, most_nodes, most_seed, over_a_formula, over_a_seed, over_a_trace, over_an_automaton, over_a_version, over_two_formulas}
-use Rattle.dcv_command.specs.declared.words.Subset.{Subset}
-use Rattle.dcv_command.specs.declared.words.Subset.TheVariants.{Lustre as LustreText, C as CText}
-use Rattle.dcv_command.specs.declared.words.Version.{Version}
-use Rattle.dcv_command.specs.declared.words.Version.TheVariants.{One, Two}
+-- Listed words are taken: the walk over a command's operands, each at its place, and then over its options, each by its name.
+use Rattle.std.proofs.Common.{◌≡◌, ◌<◌, refl, sym, ap, ◌∙◌, subst, Bool, true, false, ℕ, suc, zero, List, [], ◌∷◌, ◌++◌, Some, arith, length}
+use Rattle.std.specs.Prelude.{Contains, find, fold, not, slice_index_or, ◌==◌, ◌&&◌, ◌||◌, ◌+◌, if◌then◌else◌, option_and_then, codes}
+use Rattle.std.specs.List.{AllByRecursion, list_all, list_any}
+use Rattle.std.specs.Option.{option_map_or}
+use Rattle.std.specs.Str.{bytes_eq}
+use Rattle.std.proofs.Math.Bool.{or-true}
+use Rattle.std.proofs.lemmas.Bool.{eq-eqb, false_from_ne_true, ltb-true}
+use Rattle.std.proofs.lemmas.Slice.Eq.{bytes_eq-Decides}
+use mathlib.Core.Bool.{true≢false}
+use Rattle.clap.specs.Words.{Kinds, Row, Shape, Text, reading_of}
+use Rattle.clap.specs.Faults.{check_fault, defaults_fault}
+use Rattle.clap.specs.Kinds.{check_kinds, or_else, values_kinds}
+use Rattle.clap.specs.Takes.{default_passes, is_given, is_valid}
+use Rattle.clap.specs.ValueTests.{accepts}
+use Rattle.clap.specs.Values.{refused_kind}
+use Rattle.clap.specs.Walk.{Held, Walk, arg_by_index, finished, has_row, idle, is_empty, nothing_held, settled, walk_from, with_default}
+use Rattle.clap.proofs.SimpleLemmas.{is_false}
+use Rattle.clap.proofs.WalkLemmas.{both}
 use Rattle.dcv_command.specs.Laws.{ListedWordsAreTaken}
-use Rattle.dcv_command.specs.Listed.{AreAllowed, AskFor, IsAllowed, IsFileName, Options, Neither, States, Nodes, StatesThenNodes, NodesThenStates}
-use Rattle.dcv_command.specs.Listed.{limits_given, option_words, replay_name, report_name, version_words}
-use Rattle.dcv_command.specs.Request.{Certify, Convert, Implies, Replay, Report, Request, Sweep, implies_in, limits_of, replay_in, report_in, request_in}
-use Rattle.dcv_command.proofs.Commands.{IsSubcommand, leaf}
-use Rattle.dcv_command.proofs.Commands.{check_is_one, automaton_is_one, lustre_is_one, c_is_one, all_is_one, certify_is_one, convert_is_one, implies_is_one, replay_lustre_is_one, replay_c_is_one, sweep_is_one}
-use Rattle.dcv_command.proofs.ListedInputs.{each_game}
-use Rattle.dcv_command.proofs.NumberTexts.{IsNumberText, decimal_is_one, has_no_dash}
+use Rattle.dcv_command.specs.Listed.{AreGiven, AskFor, CanBeGiven, IsChosen, IsOption, OrElse, Values, are_distinct, asked_with, has_name, if_operand, operand_words, option_words, word_of}
+use Rattle.dcv_command.specs.Request.{asked_in}
+use Rattle.dcv_command.specs.Table.{Argument, Asks, Command, Form, Operand, Required, WithDefault, Of, Value, FileName, Number, commands, value_of}
+use Rattle.dcv_command.proofs.Arguments.{IsLookedUp, Reaches, all_looked_up, are_few, built_rule, built_rules, built_shape, default_fits, defaults_of, distinct, is_required, is_small, next_place, parser, placed, reaches_all, reaches_rest}
+use Rattle.dcv_command.proofs.Commands.{IsCommand, each_command}
+use Rattle.dcv_command.proofs.Leaves.{HasRequiredRows, are_found}
+use Rattle.dcv_command.proofs.NumberTexts.{decimal_is_one, has_no_dash}
 use Rattle.dcv_command.proofs.Plain.{HasNoDash, going}
-use Rattle.dcv_command.proofs.Runs.{EndsWell, Goes, Runs, at_end, more, ask_for, holding, plain_goes, row, waiting_for}
+use Rattle.dcv_command.proofs.Rows.{HasReadableDefaults, IsFound, IsReadableDefault, has_after_defaults, has_default_rows, readable_with_defaults, says_so, value_is_there}
+use Rattle.dcv_command.proofs.Runs.{EndsWell, Runs, at_end, ask_for, holding, more}
+use Rattle.dcv_command.proofs.Uses.{Says, as_written, found_each, own_says, says_own}
+use Rattle.dcv_command.proofs.Walks.{Holds, Means, flag_goes, given_with_defaults, holds_one, nothing_holds, operand_goes, rows_are_given, value_goes}
 
--- ---- with both limits
+-- ---- lists
 
--- what is computed of a subcommand with both limits: the walk over its operands, then over its options, each with a text that is its number
-record TakesLimits (shape : Shape) (asks : List Row → Option Request) (behind : List Text → List Text) (request : Limits → Request) : Type 0 where
-  place : ℕ
-  held : Held
-  rows : List Row
-  operands : (end : Walk) (words : List Text) → Runs shape end (going held idle place) words → Runs shape end (walk_from nothing_held) (behind words)
-  states_flag : Goes shape (going held idle place) (codes "--states") (going (waiting_for rows (codes "states")) (option (codes "states")) place)
-  nodes_flag : Goes shape (going held idle place) (codes "--nodes") (going (waiting_for rows (codes "nodes")) (option (codes "nodes")) place)
-  states_value : (before : List Row) (text : Text) → HasNoDash text
-      → Goes shape (going (waiting_for before (codes "states")) (option (codes "states")) place) text (going (holding before (codes "states") text) idle place)
-  nodes_value : (before : List Row) (text : Text) → HasNoDash text
-      → Goes shape (going (waiting_for before (codes "nodes")) (option (codes "nodes")) place) text (going (holding before (codes "nodes") text) idle place)
-  nodes_after_states : (text : Text) → is_unsigned_in 1 most_states text ≡ true
-      → Goes shape (going (holding rows (codes "states") text) idle place) (codes "--nodes")
-      (going (waiting_for (rows ++ row (codes "states") text ∷ []) (codes "nodes")) (option (codes "nodes")) place)
-  states_after_nodes : (text : Text) → is_unsigned_in 1 most_nodes text ≡ true
-      → Goes shape (going (holding rows (codes "nodes") text) idle place) (codes "--states")
-      (going (waiting_for (rows ++ row (codes "nodes") text ∷ []) (codes "states")) (option (codes "states")) place)
-  neither : EndsWell shape asks held (request (limits_of 30000 1000000))
-  states : (text : Text) (number : ℕ) → IsNumberText 1 most_states number text
-      → EndsWell shape asks (holding rows (codes "states") text) (request (limits_of number 1000000))
-  nodes : (text : Text) (number : ℕ) → IsNumberText 1 most_nodes number text
-      → EndsWell shape asks (holding rows (codes "nodes") text) (request (limits_of 30000 number))
-  nodes_last : (first last : Text) (some others : ℕ) → IsNumberText 1 most_states some first → IsNumberText 1 most_nodes others last
-      → EndsWell shape asks (holding (rows ++ row (codes "states") first ∷ []) (codes "nodes") last) (request (limits_of some others))
-  states_last : (first last : Text) (others some : ℕ) → IsNumberText 1 most_nodes others first → IsNumberText 1 most_states some last
-      → EndsWell shape asks (holding (rows ++ row (codes "nodes") first ∷ []) (codes "states") last) (request (limits_of some others))
+pub all_at : {X : Type 0} (P : X → Type 0) (xs : List X) (place : ℕ) (x : X) → AllByRecursion P xs → place < length xs → slice_index_or xs place x ≡ x → P x
+all_at P [] place x all within is = absurd (omega (arith, within))
+all_at P (first ∷ xs) zero x (one, others) within is = subst P is one
+all_at P (first ∷ xs) (suc place) x (one, others) within is = all_at P xs place x others (omega (arith, within)) is
 
--- then each list of options is taken
-module _ {name : Text} {shape : Shape} {asks : List Row → Option Request} {behind : List Text → List Text} {request : Limits → Request}
-    (is : IsSubcommand name shape) (named : (rows : List Row) → request_in name rows ≡ asks rows) (takes : TakesLimits (leaf shape) asks behind request) where
-  abbrev Asks : List Text → Limits → Type 0
-  Asks words limits = AskFor (name ∷ behind words) (request limits)
+-- ---- words that are given
 
-  states_alone : (text : Text) (number : ℕ) → IsNumberText 1 most_states number text → Asks (codes "--states" ∷ text ∷ []) (limits_of number 1000000)
-  states_alone text number is_one =
-      ask_for is named (takes.operands _ _ (more takes.states_flag (more (takes.states_value takes.rows text is_one.no_dash) at_end)))
-      (takes.states text number is_one)
+record IsWord (values : Values) (one : Argument) (text : Text) : Type 0 where
+  no_dash : HasNoDash text
+  means : Means values one text
 
-  nodes_alone : (text : Text) (number : ℕ) → IsNumberText 1 most_nodes number text → Asks (codes "--nodes" ∷ text ∷ []) (limits_of 30000 number)
-  nodes_alone text number is_one =
-      ask_for is named (takes.operands _ _ (more takes.nodes_flag (more (takes.nodes_value takes.rows text is_one.no_dash) at_end)))
-      (takes.nodes text number is_one)
+word_is : (value : Value) (given : Of value) → is_small value ≡ true → CanBeGiven value given
+    → HasNoDash (word_of value given) × ((accepts false (parser value) (word_of value given) ≡ true) × (value_of value (word_of value given) ≡ given))
+word_is FileName name small is = (has_no_dash name is, (refl, refl))
+word_is (Number least most) number small is =
+    let text = decimal_is_one least most number (omega (arith, ltb-true most 18446744073709551616 small)) is in (text.no_dash, (text.fits, text.value))
 
-  states_first : (first last : Text) (some others : ℕ) → IsNumberText 1 most_states some first → IsNumberText 1 most_nodes others last
-      → Asks (codes "--states" ∷ first ∷ codes "--nodes" ∷ last ∷ []) (limits_of some others)
-  states_first first last some others one other =
-      let last_runs = more (takes.nodes_value (takes.rows ++ row (codes "states") first ∷ []) last other.no_dash) at_end in
-      let runs = more (takes.states_value takes.rows first one.no_dash) (more (takes.nodes_after_states first one.fits) last_runs) in
-      ask_for is named (takes.operands _ _ (more takes.states_flag runs)) (takes.nodes_last first last some others one other)
+chosen_is : (form : Form) (value : Value) (given : Of value) (named : Bool) → named ≡ true → IsChosen form value given named → CanBeGiven value given
+chosen_is Operand value given named same is = is
+chosen_is Required value given named same is = is.1
+chosen_is (WithDefault text) value given true same is = is
+chosen_is (WithDefault text) value given false same is = absurd (true≢false (sym same))
 
-  nodes_first : (first last : Text) (others some : ℕ) → IsNumberText 1 most_nodes others first → IsNumberText 1 most_states some last
-      → Asks (codes "--nodes" ∷ first ∷ codes "--states" ∷ last ∷ []) (limits_of some others)
-  nodes_first first last others some one other =
-      let last_runs = more (takes.states_value (takes.rows ++ row (codes "nodes") first ∷ []) last other.no_dash) at_end in
-      let runs = more (takes.nodes_value takes.rows first one.no_dash) (more (takes.states_after_nodes first one.fits) last_runs) in
-      ask_for is named (takes.operands _ _ (more takes.nodes_flag runs)) (takes.states_last first last others some one other)
+-- ---- arguments that have been met
 
-  each_list : (options : Options) → AreAllowed options → Asks (option_words options) (limits_given options)
-  each_list Neither allowed = ask_for is named (takes.operands _ _ at_end) takes.neither
-  each_list (States states) allowed = states_alone (decimal states) states (decimal_is_one 1 most_states states (omega arith) allowed)
-  each_list (Nodes nodes) allowed = nodes_alone (decimal nodes) nodes (decimal_is_one 1 most_nodes nodes (omega arith) allowed)
-  each_list (StatesThenNodes states nodes) (some, others) =
-      states_first (decimal states) (decimal nodes) states nodes (decimal_is_one 1 most_states states (omega arith) some)
-      (decimal_is_one 1 most_nodes nodes (omega arith) others)
-  each_list (NodesThenStates nodes states) (some, others) =
-      nodes_first (decimal nodes) (decimal states) nodes states (decimal_is_one 1 most_nodes nodes (omega arith) some)
-      (decimal_is_one 1 most_states states (omega arith) others)
+-- none of those that are left is among those that have been met
+abbrev Fresh : List Argument → List Argument → Type 0
+Fresh done left = (id : Text) → has_name id left ≡ true → has_name id done ≡ false
 
--- ---- over a formula file
+first_is_fresh : (done rest : List Argument) (one : Argument) → Fresh done (one ∷ rest) → has_name one.id done ≡ false
+first_is_fresh done rest one fresh = fresh one.id (ap (λ same. same || has_name one.id rest) ((bytes_eq-Decides one.id one.id).1 refl))
 
-formula_takes_limits : (name file : Text) (kind : Kind) → HasNoDash file
-    → TakesLimits (leaf (over_a_formula name)) (report_in kind) (λ words. file ∷ words) (Report kind file)
-unfolding clap_on_literals
-formula_takes_limits name file kind none =
-    record {
-      place = 2;
-      held = holding [] (codes "file") file;
-      rows = row (codes "file") file ∷ [];
-      operands = λ end words runs. more (plain_goes (leaf (over_a_formula name)) nothing_held idle 1 file _ none refl refl refl) runs;
-      states_flag = record { no_fault = refl; passes = refl; goes = refl };
-      nodes_flag = record { no_fault = refl; passes = refl; goes = refl };
-      states_value = λ before text plain. plain_goes _ (waiting_for before (codes "states")) (option (codes "states")) 2 text _ plain refl refl refl;
-      nodes_value = λ before text plain. plain_goes _ (waiting_for before (codes "nodes")) (option (codes "nodes")) 2 text _ plain refl refl refl;
-      nodes_after_states = λ text fits. record { no_fault = rw fits refl; passes = rw fits refl; goes = refl };
-      states_after_nodes = λ text fits. record { no_fault = rw fits refl; passes = rw fits refl; goes = refl };
-      neither = record { no_fault = refl; passes = refl; asked = refl };
-      states = λ text number is. record { no_fault = rw is.fits refl; passes = rw is.fits refl; asked = rw (is.fits, is.value) refl };
-      nodes = λ text number is. record { no_fault = rw is.fits refl; passes = rw is.fits refl; asked = rw (is.fits, is.value) refl };
-      nodes_last = λ first last some others one other.
-          record { no_fault = rw other.fits refl; passes = rw other.fits refl; asked = rw (one.fits, one.value, other.fits, other.value) refl };
-      states_last = λ first last others some one other.
-          record { no_fault = rw other.fits refl; passes = rw other.fits refl; asked = rw (one.fits, one.value, other.fits, other.value) refl };
-    }
+rest_is_fresh : (done rest : List Argument) (one : Argument) → Fresh done (one ∷ rest) → Fresh done rest
+rest_is_fresh done rest one fresh id has = fresh id (ap (λ rest. bytes_eq one.id id || rest) has ∙ or-true (bytes_eq one.id id))
 
-each_report : (kind : Kind) (file : Text) (options : Options) → IsFileName file → AreAllowed options
-    → AskFor (report_name kind ∷ file ∷ option_words options) (Report kind file (limits_given options))
-each_report Check file options is allowed =
-    each_list check_is_one (λ rows. refl) (formula_takes_limits (codes "check") file Check (has_no_dash file is)) options allowed
-each_report Automaton file options is allowed =
-    each_list automaton_is_one (λ rows. refl) (formula_takes_limits (codes "automaton") file Automaton (has_no_dash file is)) options allowed
-each_report Lustre file options is allowed =
-    each_list lustre_is_one (λ rows. refl) (formula_takes_limits (codes "lustre") file Lustre (has_no_dash file is)) options allowed
-each_report C file options is allowed =
-    each_list c_is_one (λ rows. refl) (formula_takes_limits (codes "c") file C (has_no_dash file is)) options allowed
-each_report All file options is allowed =
-    each_list all_is_one (λ rows. refl) (formula_takes_limits (codes "all") file All (has_no_dash file is)) options allowed
+fresh_behind : (done rest : List Argument) (one : Argument) → has_name one.id rest ≡ false → Fresh done (one ∷ rest) → Fresh (one ∷ done) rest
+fresh_behind done rest one apart fresh id has =
+    ap (λ same. same || has_name id done)
+    (false_from_ne_true (bytes_eq one.id id)
+    (λ same. true≢false (sym has ∙ ap (λ text. has_name text rest) (sym ((bytes_eq-Decides one.id id).0 same)) ∙ apart)))
+    ∙ rest_is_fresh done rest one fresh id has
 
--- ---- over two formula files
+abbrev with_operand : Form → Argument → List Argument → List Argument
+with_operand Operand one done = one ∷ done
+with_operand Required one done = done
+with_operand (WithDefault text) one done = done
 
-formulas_take_limits : (first second : Text) → HasNoDash first → HasNoDash second
-    → TakesLimits (leaf over_two_formulas) implies_in (λ words. first ∷ second ∷ words) (Implies first second)
-unfolding clap_on_literals
-formulas_take_limits first second one_plain other_plain =
-    record {
-      place = 3;
-      held = holding (row (codes "first") first ∷ []) (codes "second") second;
-      rows = row (codes "first") first ∷ row (codes "second") second ∷ [];
-      operands = λ end words runs.
-          more (plain_goes (leaf over_two_formulas) nothing_held idle 1 first (going (holding [] (codes "first") first) idle 2) one_plain refl refl refl)
-          (more (plain_goes (leaf over_two_formulas) (holding [] (codes "first") first) idle 2 second _ other_plain refl refl refl) runs);
-      states_flag = record { no_fault = refl; passes = refl; goes = refl };
-      nodes_flag = record { no_fault = refl; passes = refl; goes = refl };
-      states_value = λ before text plain. plain_goes _ (waiting_for before (codes "states")) (option (codes "states")) 3 text _ plain refl refl refl;
-      nodes_value = λ before text plain. plain_goes _ (waiting_for before (codes "nodes")) (option (codes "nodes")) 3 text _ plain refl refl refl;
-      nodes_after_states = λ text fits. record { no_fault = rw fits refl; passes = rw fits refl; goes = refl };
-      states_after_nodes = λ text fits. record { no_fault = rw fits refl; passes = rw fits refl; goes = refl };
-      neither = record { no_fault = refl; passes = refl; asked = refl };
-      states = λ text number is. record { no_fault = rw is.fits refl; passes = rw is.fits refl; asked = rw (is.fits, is.value) refl };
-      nodes = λ text number is. record { no_fault = rw is.fits refl; passes = rw is.fits refl; asked = rw (is.fits, is.value) refl };
-      nodes_last = λ first last some others one other.
-          record { no_fault = rw other.fits refl; passes = rw other.fits refl; asked = rw (one.fits, one.value, other.fits, other.value) refl };
-      states_last = λ first last others some one other.
-          record { no_fault = rw other.fits refl; passes = rw other.fits refl; asked = rw (one.fits, one.value, other.fits, other.value) refl };
-    }
+abbrev with_operands : List Argument → List Argument → List Argument
+with_operands [] done = done
+with_operands (one ∷ rest) done = with_operands rest (with_operand one.form one done)
 
-each_comparison : (first second : Text) (options : Options) → IsFileName first → IsFileName second → AreAllowed options
-    → AskFor (codes "implies" ∷ first ∷ second ∷ option_words options) (Implies first second (limits_given options))
-each_comparison first second options is other allowed =
-    each_list implies_is_one (λ rows. refl) (formulas_take_limits first second (has_no_dash first is) (has_no_dash second other)) options allowed
+abbrev with_options : List Argument → List Argument → List Argument
+with_options [] done = done
+with_options (one ∷ rest) done = with_options rest (one ∷ done)
 
--- ---- over an automaton's text
+still_named : (given done : List Argument) (id : Text) → has_name id done ≡ true → has_name id (with_options given done) ≡ true
+still_named [] done id has = has
+still_named (one ∷ rest) done id has = still_named rest (one ∷ done) id (ap (λ done. bytes_eq one.id id || done) has ∙ or-true (bytes_eq one.id id))
 
-certify_alone : (name : Text) → IsFileName name → AskFor (codes "certify" ∷ name ∷ []) (Certify name)
-unfolding clap_on_literals
-certify_alone name is =
-    let runs = more (plain_goes (leaf over_an_automaton) nothing_held idle 1 name (going (holding [] (codes "automaton") name) idle 2) (has_no_dash name is) refl refl refl) at_end in
-    ask_for certify_is_one (λ rows. refl) runs (record { no_fault = refl; passes = refl; asked = refl })
-
--- ---- over an automaton's text and a version
-
-each_version : (name : Text) (to : Version) → IsFileName name → AskFor (codes "convert" ∷ name ∷ version_words to) (Convert name to)
-unfolding clap_on_literals
-each_version name to is = by to
+given_named : (given done : List Argument) (id : Text) → has_name id given ≡ true → has_name id (with_options given done) ≡ true
+given_named [] done id has = absurd (true≢false (sym has))
+given_named (one ∷ rest) done id has =
+    by (bytes_eq one.id id) has (λ same. still_named rest (one ∷ done) id (ap (λ same. same || has_name id done) same)) (given_named rest (one ∷ done) id) refl
   where
-    rows : List Row
-    rows = row (codes "automaton") name ∷ []
+    by : (same : Bool) → (same || has_name id rest) ≡ true → (bytes_eq one.id id ≡ true → has_name id (with_options rest (one ∷ done)) ≡ true)
+        → (has_name id rest ≡ true → has_name id (with_options rest (one ∷ done)) ≡ true) → bytes_eq one.id id ≡ same → has_name id (with_options rest (one ∷ done)) ≡ true
+    by true has here later is = here is
+    by false has here later is = later has
 
-    file_goes : Goes (leaf over_a_version) (walk_from nothing_held) name (going (holding [] (codes "automaton") name) idle 2)
-    file_goes = plain_goes (leaf over_a_version) nothing_held idle 1 name _ (has_no_dash name is) refl refl refl
+operands_still : (left done : List Argument) (id : Text) → has_name id done ≡ true → has_name id (with_operands left done) ≡ true
+operands_still [] done id has = has
+operands_still (one ∷ rest) done id has = operands_still rest (with_operand one.form one done) id (by one.form)
+  where
+    by : (form : Form) → has_name id (with_operand form one done) ≡ true
+    by Operand = ap (λ done. bytes_eq one.id id || done) has ∙ or-true (bytes_eq one.id id)
+    by Required = has
+    by (WithDefault text) = has
 
-    flag_goes : Goes (leaf over_a_version) (going (holding [] (codes "automaton") name) idle 2) (codes "--to") (going (waiting_for rows (codes "to")) (option (codes "to")) 2)
-    flag_goes = record { no_fault = refl; passes = refl; goes = refl }
+abbrev IsOperand : Form → Type 0
+IsOperand form = IsOption form → ⊥
 
-    value_goes : (text : Text) → HasNoDash text
-        → Goes (leaf over_a_version) (going (waiting_for rows (codes "to")) (option (codes "to")) 2) text (going (holding rows (codes "to") text) idle 2)
-    value_goes text plain = plain_goes _ (waiting_for rows (codes "to")) (option (codes "to")) 2 text _ plain refl refl refl
+operands_named : (left done : List Argument) → AllByRecursion (λ one. IsOperand one.form → has_name one.id (with_operands left done) ≡ true) left
+operands_named [] done = tt
+operands_named (one ∷ rest) done =
+    (λ operand. operands_still rest (with_operand one.form one done) one.id (by one.form operand), operands_named rest (with_operand one.form one done))
+  where
+    by : (form : Form) → IsOperand form → has_name one.id (with_operand form one done) ≡ true
+    by Operand operand = ap (λ same. same || has_name one.id done) ((bytes_eq-Decides one.id one.id).1 refl)
+    by Required operand = absurd (operand tt)
+    by (WithDefault text) operand = absurd (operand tt)
 
-    by : (to : Version) → AskFor (codes "convert" ∷ name ∷ version_words to) (Convert name to)
-    by One =
-        ask_for convert_is_one (λ rows. refl) (more file_goes (more flag_goes (more (value_goes (codes "1") refl) at_end)))
-        (record { no_fault = refl; passes = refl; asked = refl })
-    by Two =
-        ask_for convert_is_one (λ rows. refl) (more file_goes (more flag_goes (more (value_goes (codes "2") refl) at_end)))
-        (record { no_fault = refl; passes = refl; asked = refl })
+module _ (name : Text) (arguments : List Argument) (values : Values) where
+  abbrev shape : Shape
+  shape = built_shape name arguments
 
--- ---- over an observer's text and a trace
+  abbrev word : Argument → Text
+  word one = word_of one.value (values one)
 
-each_replay_of : {name : Text} (is : IsSubcommand name (over_a_trace name)) (subset : Subset) → ((rows : List Row) → request_in name rows ≡ replay_in subset rows)
-    → (observer trace : Text) → IsFileName observer → IsFileName trace → AskFor (name ∷ observer ∷ trace ∷ []) (Replay subset observer trace)
-unfolding clap_on_literals
-each_replay_of {name} is subset named observer trace one other =
-    let middle = going (holding [] (codes "observer") observer) idle 2 in
-    let end = going (holding (row (codes "observer") observer ∷ []) (codes "trace") trace) idle 3 in
-    let last = more (plain_goes (leaf (over_a_trace name)) (holding [] (codes "observer") observer) idle 2 trace end (has_no_dash trace other) refl refl refl) at_end in
-    let runs = more (plain_goes (leaf (over_a_trace name)) nothing_held idle 1 observer middle (has_no_dash observer one) refl refl refl) last in
-    ask_for is named runs (record { no_fault = refl; passes = refl; asked = refl })
+  -- ---- the operands
 
-each_replay : (subset : Subset) (observer trace : Text) → IsFileName observer → IsFileName trace
-    → AskFor (replay_name subset ∷ observer ∷ trace ∷ []) (Replay subset observer trace)
-each_replay LustreText = each_replay_of replay_lustre_is_one LustreText (λ rows. refl)
-each_replay CText = each_replay_of replay_c_is_one CText (λ rows. refl)
+  record Passed (from : Walk) (words : List Text) (done : List Argument) : Type 0 where
+    held : Held
+    place : ℕ
+    holds : Holds arguments values held done
+    runs : (end : Walk) (others : List Text) → Runs shape end (going held idle place) others → Runs shape end from (words ++ others)
 
--- ---- over a seed and a count
+  abbrev PassesFrom : List Argument → ℕ → Type 0
+  PassesFrom left place =
+      place + length left < 2000 → Reaches arguments left place → (held : Held) (done : List Argument) → Holds arguments values held done → Fresh done left
+      → Passed (going held idle place) (operand_words values left) (with_operands left done)
 
-sweep_of : (one other : Text) (seed count : ℕ) → IsNumberText 0 most_seed seed one → IsNumberText 1 most_count count other
-    → AskFor (codes "sweep" ∷ one ∷ other ∷ []) (Sweep seed count)
-unfolding clap_on_literals
-sweep_of one other seed count first second =
-    let middle = going (holding [] (codes "seed") one) idle 2 in
-    let end = going (holding (row (codes "seed") one ∷ []) (codes "count") other) idle 3 in
-    let last = more (plain_goes (leaf over_a_seed) (holding [] (codes "seed") one) idle 2 other end second.no_dash (rw first.fits refl) (rw first.fits refl) refl) at_end in
-    let runs = more (plain_goes (leaf over_a_seed) nothing_held idle 1 one middle first.no_dash refl refl refl) last in
-    ask_for sweep_is_one (λ rows. refl) runs
-    (record { no_fault = rw second.fits refl; passes = rw second.fits refl; asked = rw (first.fits, first.value, second.fits, second.value) refl })
+  module _ (one : Argument) (rest : List Argument) (place : ℕ) (is : IsLookedUp arguments one) (apart : has_name one.id rest ≡ false)
+      (few : place + suc (length rest) < 2000) (held : Held) (done : List Argument) (holds : Holds arguments values held done) (fresh : Fresh done (one ∷ rest)) where
+    one_passed : (form : Form) → (IsOperand form → CanBeGiven one.value (values one))
+        → (option_map_or (λ index. index == place) (placed form place) false ≡ true → arg_by_index (built_rules arguments 1) place ≡ Some (built_rule place one))
+        → Reaches arguments rest (next_place form place) → ((place : ℕ) → PassesFrom rest place)
+        → Passed (going held idle place) (if_operand form (word one) (operand_words values rest)) (with_operands rest (with_operand form one done))
+    one_passed Operand can here reaches later =
+        let text = word_is one.value (values one) is.small (can (λ option. option)) in
+        let unmet = first_is_fresh done rest one fresh in
+        let next = later (place + 1) (omega (arith, few)) reaches (holding holds.rows one.id (word one)) (one ∷ done)
+        (holds_one arguments values held done holds one is unmet (word one) text.1) (fresh_behind done rest one apart fresh) in
+        record {
+          held = next.held;
+          place = next.place;
+          holds = next.holds;
+          runs = λ end others runs.
+              more (operand_goes arguments values held done holds one is unmet (word one) name place text.0 (here (eq-eqb place place refl)) (omega (arith, few))) (next.runs end others runs);
+        }
+    one_passed Required can here reaches later = later place (omega (arith, few)) reaches held done holds (rest_is_fresh done rest one fresh)
+    one_passed (WithDefault text) can here reaches later = later place (omega (arith, few)) reaches held done holds (rest_is_fresh done rest one fresh)
 
-each_sweep : (seed count : ℕ) → seed ≤ most_seed → IsAllowed most_count count → AskFor (codes "sweep" ∷ decimal seed ∷ decimal count ∷ []) (Sweep seed count)
-each_sweep seed count small allowed =
-    sweep_of (decimal seed) (decimal count) seed count (decimal_is_one 0 most_seed seed (omega arith) (zero-le, small))
-    (decimal_is_one 1 most_count count (omega arith) allowed)
+  operands_passed : (left : List Argument) (place : ℕ) → AllByRecursion (IsLookedUp arguments) left → are_distinct left ≡ true
+      → AllByRecursion (λ one. IsOperand one.form → CanBeGiven one.value (values one)) left → PassesFrom left place
+  operands_passed [] place each apart can few reaches held done holds fresh =
+      record { held = held; place = place; holds = holds; runs = λ end others runs. runs }
+  operands_passed (one ∷ rest) place (is, each) apart (can, others) few reaches held done holds fresh =
+      let first : has_name one.id rest ≡ false = is_false (has_name one.id rest) (both (not (has_name one.id rest)) (are_distinct rest) apart).0 in
+      one_passed one rest place is first few held done holds fresh one.form can
+      (λ here. reaches.by_index place (omega arith)
+      ∙ ap (λ same. if same then Some (built_rule place one) else arg_by_index (built_rules rest (next_place one.form place)) place) here)
+      (reaches_rest arguments rest one place first reaches)
+      (λ place. operands_passed rest place each (both (not (has_name one.id rest)) (are_distinct rest) apart).1 others)
+
+  -- ---- the options
+
+  record IsGivenOption (one : Argument) : Type 0 where
+    looked_up : IsLookedUp arguments one
+    option : IsOption one.form
+    can : CanBeGiven one.value (values one)
+
+  record Ended (from : Walk) (words : List Text) (place : ℕ) (done : List Argument) : Type 0 where
+    held : Held
+    holds : Holds arguments values held done
+    runs : Runs shape (going held idle place) from words
+
+  options_ended : (left : List Argument) (place : ℕ) → AllByRecursion IsGivenOption left → are_distinct left ≡ true → (held : Held) (done : List Argument)
+      → Holds arguments values held done → Fresh done left → Ended (going held idle place) (option_words values left) place (with_options left done)
+  options_ended [] place each apart held done holds fresh = record { held = held; holds = holds; runs = at_end }
+  options_ended (one ∷ rest) place (is, each) apart held done holds fresh =
+      let first : has_name one.id rest ≡ false = is_false (has_name one.id rest) (both (not (has_name one.id rest)) (are_distinct rest) apart).0 in
+      let text = word_is one.value (values one) is.looked_up.small is.can in
+      let unmet = first_is_fresh done rest one fresh in
+      let next = options_ended rest place each (both (not (has_name one.id rest)) (are_distinct rest) apart).1 (holding holds.rows one.id (word one)) (one ∷ done)
+      (holds_one arguments values held done holds one is.looked_up unmet (word one) text.1) (fresh_behind done rest one first fresh) in
+      record {
+        held = next.held;
+        holds = next.holds;
+        runs = more (flag_goes arguments values held done holds one is.looked_up unmet (word one) name place text.0 is.option)
+            (more (value_goes arguments values held done holds one is.looked_up unmet (word one) name place text.0) next.runs);
+      }
+
+  -- ---- the end
+
+  -- what is known of each argument behind the words
+  record IsSettled (rows : List Row) (one : Argument) : Type 0 where
+    looked_up : IsLookedUp arguments one
+    required : is_required one.form ≡ true → has_row one.id rows ≡ true
+    default : has_row one.id rows ≡ false → IsReadableDefault (Says (Means values) arguments) one.id (reading_of (parser one.value)) (defaults_of one.form)
+
+  readable_defaults : (rows : List Row) (left : List Argument) (place : ℕ) → AllByRecursion (IsSettled rows) left
+      → HasReadableDefaults (Says (Means values) arguments) rows (built_rules left place)
+  readable_defaults rows [] place each = (λ none. tt, tt)
+  readable_defaults rows (one ∷ rest) place (is, each) = (is.default, readable_defaults rows rest (next_place one.form place) each)
+
+  has_required : (rows : List Row) (left : List Argument) (place : ℕ) → AllByRecursion (IsSettled rows) left
+      → HasRequiredRows (built_rules left place) (fold with_default rows (built_rules arguments 1))
+  has_required rows [] place each = (λ wrong. absurd (true≢false (sym wrong)), tt)
+  has_required rows (one ∷ rest) place (is, each) =
+      (λ required. has_after_defaults (built_rules arguments 1) one.id rows (is.required required), has_required rows rest (next_place one.form place) each)
+
+  always_none : (has : Bool) (kinds : Kinds) → (if has || true then [] else kinds) ≡ []
+  always_none true kinds = refl
+  always_none false kinds = refl
+
+  no_default_fault : (left : List Argument) (place : ℕ) (rows : List Row) → AllByRecursion (IsLookedUp arguments) left → defaults_fault rows (built_rules left place) ≡ []
+  unfolding defaults_fault
+  no_default_fault [] place rows each = ap (λ kinds. or_else kinds []) (always_none (has_row (codes "help") rows) _)
+  no_default_fault (one ∷ rest) place rows (is, each) =
+      ap (λ kinds. or_else kinds (defaults_fault (with_default rows (built_rule place one)) (built_rules rest (next_place one.form place))))
+      (by one.form (has_row one.id rows) is.default)
+      ∙ no_default_fault rest (next_place one.form place) (with_default rows (built_rule place one)) each
+    where
+      by : (form : Form) (has : Bool) → default_fits form one.value ≡ true
+          → (if has || is_empty (defaults_of form) then [] else values_kinds false (parser one.value) (defaults_of form)) ≡ []
+      by Operand has fits = always_none has []
+      by Required has fits = always_none has []
+      by (WithDefault text) true fits = refl
+      by (WithDefault text) false fits = ap (λ fits. or_else (if fits then [] else refused_kind (parser one.value) ∷ []) []) fits
+
+  defaults_pass : (left : List Argument) (place : ℕ) → AllByRecursion (IsLookedUp arguments) left → list_all default_passes (built_rules left place) ≡ true
+  defaults_pass [] place each = refl
+  defaults_pass (one ∷ rest) place (is, each) =
+      ap (λ first. first && list_all default_passes (built_rules rest (next_place one.form place))) (by one.form is.default)
+      ∙ defaults_pass rest (next_place one.form place) each
+    where
+      by : (form : Form) → default_fits form one.value ≡ true
+          → (is_empty (defaults_of form) || (true && list_all (λ text. accepts false (parser one.value) text) (defaults_of form))) ≡ true
+      by Operand fits = refl
+      by Required fits = refl
+      by (WithDefault text) fits = ap (λ fits. fits && true) fits
+
+  all_free : (left : List Argument) (place : ℕ) → list_all (λ rule. rule.is_free) (built_rules left place) ≡ true
+  all_free [] place = refl
+  all_free (one ∷ rest) place = all_free rest (next_place one.form place)
+
+  none_lacks : (rows : List Row) (left : List Argument) (place : ℕ) → AllByRecursion (λ one. is_required one.form ≡ true → is_given one.id rows ≡ true) left
+      → list_any (λ rule. rule.required && not (is_given rule.id rows)) (built_rules left place) ≡ false
+  none_lacks rows [] place each = refl
+  none_lacks rows (one ∷ rest) place (is, each) =
+      ap (λ lacks. lacks || list_any (λ rule. rule.required && not (is_given rule.id rows)) (built_rules rest (next_place one.form place)))
+      (by (is_required one.form) is) ∙ none_lacks rows rest (next_place one.form place) each
+    where
+      by : (required : Bool) → (required ≡ true → is_given one.id rows ≡ true) → (required && not (is_given one.id rows)) ≡ false
+      by true given = ap not (given refl)
+      by false given = refl
+
+  all_there : (rows : List Row) (left : List Argument) (place : ℕ) → AllByRecursion (λ one. is_required one.form ≡ true → is_given one.id rows ≡ true) left
+      → list_all (λ rule. not rule.required || is_given rule.id rows) (built_rules left place) ≡ true
+  all_there rows [] place each = refl
+  all_there rows (one ∷ rest) place (is, each) =
+      ap (λ there. there && list_all (λ rule. not rule.required || is_given rule.id rows) (built_rules rest (next_place one.form place)))
+      (by (is_required one.form) is) ∙ all_there rows rest (next_place one.form place) each
+    where
+      by : (required : Bool) → (required ≡ true → is_given one.id rows ≡ true) → (not required || is_given one.id rows) ≡ true
+      by true given = given refl
+      by false given = refl
+
+  values_asked : (left : List Argument) (asks : Asks left) (rows : List Row) → AllByRecursion (IsLookedUp arguments) left
+      → AllByRecursion (λ one. IsFound (Says (Means values) arguments) one.id rows) left → asked_in left asks rows ≡ Some (asked_with left asks values)
+  values_asked [] request rows each found = refl
+  values_asked (one ∷ rest) asks rows (is, each) (here, found) =
+      let means = says_own (Means values) arguments one here.readable.text is (says_so (Says (Means values) arguments) one.id rows here) in
+      ap (option_and_then (λ given. asked_in rest (asks given) rows))
+      (value_is_there (Says (Means values) arguments) one.id rows here one.value means.0 ∙ ap (λ given. Some given) means.1)
+      ∙ values_asked rest (asks (values one)) rows each found
+
+  module _ (held : Held) (done : List Argument) (holds : Holds arguments values held done) (each : AllByRecursion (IsSettled holds.rows) arguments) where
+    abbrev at_last : List Row
+    at_last = fold with_default holds.rows (built_rules arguments 1)
+
+    are_looked_up : (left : List Argument) → AllByRecursion (IsSettled holds.rows) left → AllByRecursion (IsLookedUp arguments) left
+    are_looked_up [] each = tt
+    are_looked_up (one ∷ rest) (is, each) = (is.looked_up, are_looked_up rest each)
+
+    are_given : (left : List Argument) → AllByRecursion (IsSettled holds.rows) left
+        → AllByRecursion (λ one. is_required one.form ≡ true → is_given one.id at_last ≡ true) left
+    are_given [] each = tt
+    are_given (one ∷ rest) (is, each) = (
+      λ required. given_with_defaults one.id (built_rules arguments 1) holds.rows (rows_are_given one.id holds.rows holds.given (is.required required)),
+      are_given rest each,
+    )
+
+    asked_at_last : (asks : Asks arguments) → asked_in arguments asks at_last ≡ Some (asked_with arguments asks values)
+    asked_at_last asks =
+        let found = are_found (Says (Means values) arguments) (built_rules arguments 1) at_last
+        (readable_with_defaults (Says (Means values) arguments) (built_rules arguments 1) holds.rows holds.rows (λ id has. has)
+        (readable_defaults holds.rows arguments 1 each) holds.readable)
+        (has_required holds.rows arguments 1 each) (has_default_rows (built_rules arguments 1) holds.rows) in
+        values_asked arguments asks at_last (are_looked_up arguments each) (found_each (Says (Means values) arguments) arguments 1 at_last found)
+
+    abbrev behind : Held → Kinds
+    behind held = or_else (defaults_fault held.rows shape.rules) (check_fault shape (fold with_default held.rows shape.rules) false)
+
+    ends_well : (asks : Asks arguments) → EndsWell shape (asked_in arguments asks) held (asked_with arguments asks values)
+    ends_well asks =
+        record {
+          no_fault = ap (λ kinds. or_else kinds (behind (settled (built_rules arguments 1) held))) holds.no_fault ∙ ap behind holds.settles
+              ∙ ap (λ kinds. or_else kinds (check_fault shape at_last false)) (no_default_fault arguments 1 holds.rows (are_looked_up arguments each))
+              ∙ ap (check_kinds false false) (none_lacks at_last arguments 1 (are_given arguments each));
+          passes = ap (λ passes. passes && (list_all default_passes shape.rules && is_valid shape (finished shape.rules held) false)) holds.passes
+              ∙ ap (λ passes. passes && is_valid shape (finished shape.rules held) false) (defaults_pass arguments 1 (are_looked_up arguments each))
+              ∙ ap (λ (held : Held). is_valid shape (fold with_default held.rows shape.rules) false) holds.settles
+              ∙ ap (λ free. free && list_all (λ rule. not rule.required || is_given rule.id at_last) shape.rules) (all_free arguments 1)
+              ∙ all_there at_last arguments 1 (are_given arguments each);
+          asked = ap (λ (held : Held). asked_in arguments asks (fold with_default held.rows shape.rules)) holds.settles ∙ asked_at_last asks;
+        }
+
+-- ---- a command of the table
+
+module _ (command : Command) (is : IsCommand command) (values : Values) (given : List Argument) (are : AreGiven values command.arguments given) where
+  abbrev arguments : List Argument
+  arguments = command.arguments
+
+  each : AllByRecursion (IsLookedUp arguments) arguments
+  each = all_looked_up arguments is.sound
+
+  -- each of those that are left, where it is of all
+  abbrev Chosen : Argument → Type 0
+  Chosen one = IsChosen one.form one.value (values one) (has_name one.id given)
+
+  operands_can : (left : List Argument) → AllByRecursion Chosen left → AllByRecursion (λ one. IsOperand one.form → CanBeGiven one.value (values one)) left
+  operands_can [] chosen = tt
+  operands_can (one ∷ rest) (first, others) = (by one.form first, operands_can rest others)
+    where
+      by : (form : Form) → IsChosen form one.value (values one) (has_name one.id given) → IsOperand form → CanBeGiven one.value (values one)
+      by Operand chosen operand = chosen
+      by Required chosen operand = absurd (operand tt)
+      by (WithDefault text) chosen operand = absurd (operand tt)
+
+  passed : Passed command.name arguments values (walk_from nothing_held) (operand_words values arguments) (with_operands arguments [])
+  passed =
+      operands_passed command.name arguments values arguments 1 each (distinct arguments is.sound) (operands_can arguments are.chosen)
+      (omega (arith, are_few arguments is.sound)) (reaches_all arguments) nothing_held [] (nothing_holds arguments values) (λ id has. refl)
+
+  -- ---- its options
+
+  options_given : (left : List Argument) → AllByRecursion (λ one. Contains arguments one × IsOption one.form) left
+      → ((id : Text) → has_name id left ≡ true → has_name id given ≡ true) → AllByRecursion (IsGivenOption command.name arguments values) left
+  options_given [] options named = tt
+  options_given (one ∷ rest) (option, others) named = (
+    record {
+      looked_up = all_at (IsLookedUp arguments) arguments option.0.0 one each option.0.1 option.0.2;
+      option = option.1;
+      can = chosen_is one.form one.value (values one) (has_name one.id given)
+          (named one.id (ap (λ same. same || has_name one.id rest) ((bytes_eq-Decides one.id one.id).1 refl)))
+          (all_at Chosen arguments option.0.0 one are.chosen option.0.1 option.0.2);
+    },
+    options_given rest others (λ id has. named id (ap (λ rest. bytes_eq one.id id || rest) has ∙ or-true (bytes_eq one.id id))),
+  )
+
+  abbrev IsMetOperand : Argument → Type 0
+  IsMetOperand one = IsLookedUp arguments one × IsOperand one.form
+
+  operands_only : (left done : List Argument) → AllByRecursion (IsLookedUp arguments) left → AllByRecursion IsMetOperand done
+      → AllByRecursion IsMetOperand (with_operands left done)
+  operands_only [] done looked_up met = met
+  operands_only (one ∷ rest) done (first, others) met = operands_only rest (with_operand one.form one done) others (by one.form (λ operand. (first, operand)))
+    where
+      by : (form : Form) → (IsOperand form → IsMetOperand one) → AllByRecursion IsMetOperand (with_operand form one done)
+      by Operand operand = (operand (λ option. option), met)
+      by Required operand = met
+      by (WithDefault text) operand = met
+
+  -- an option bears no operand's name
+  no_operand : (one : Argument) → IsLookedUp arguments one → IsOption one.form → (done : List Argument) → AllByRecursion IsMetOperand done → has_name one.id done ≡ false
+  no_operand one looked_up option [] met = refl
+  no_operand one looked_up option (other ∷ done) (first, others) = by (bytes_eq other.id one.id) refl (no_operand one looked_up option done others)
+    where
+      by : (same : Bool) → bytes_eq other.id one.id ≡ same → has_name one.id done ≡ false → (same || has_name one.id done) ≡ false
+      by false differs later = later
+      by true same later =
+          let found : Some other ≡ Some one =
+          sym first.0.argument ∙ ap (λ id. find (λ another. bytes_eq another.id id) arguments) ((bytes_eq-Decides other.id one.id).0 same) ∙ looked_up.argument in
+          let is_one : other ≡ one = cc in
+          absurd (first.1 (subst (λ (another : Argument). IsOption another.form) (sym is_one) option))
+
+  options_fresh : (left : List Argument) → AllByRecursion (IsGivenOption command.name arguments values) left → Fresh (with_operands arguments []) left
+  options_fresh [] options id has = absurd (true≢false (sym has))
+  options_fresh (one ∷ rest) (first, others) id has = by (bytes_eq one.id id) refl has (options_fresh rest others id)
+    where
+      by : (same : Bool) → bytes_eq one.id id ≡ same → (same || has_name id rest) ≡ true → (has_name id rest ≡ true → has_name id (with_operands arguments []) ≡ false)
+          → has_name id (with_operands arguments []) ≡ false
+      by true same has later =
+          subst (λ id. has_name id (with_operands arguments []) ≡ false) ((bytes_eq-Decides one.id id).0 same)
+          (no_operand one first.looked_up first.option (with_operands arguments []) (operands_only arguments [] each tt))
+      by false differs has later = later has
+
+  abbrev all_met : List Argument
+  all_met = with_options given (with_operands arguments [])
+
+  ended : Ended command.name arguments values (going passed.held idle passed.place) (option_words values given) passed.place all_met
+  ended =
+      let options = options_given given are.options (λ id has. has) in
+      options_ended command.name arguments values given passed.place options are.once passed.held (with_operands arguments []) passed.holds (options_fresh given options)
+
+  -- ---- behind all words
+
+  settled_each : (left : List Argument) → AllByRecursion (IsLookedUp arguments) left → AllByRecursion Chosen left
+      → AllByRecursion (λ one. IsOperand one.form → has_name one.id (with_operands arguments []) ≡ true) left
+      → AllByRecursion (IsSettled command.name arguments values ended.holds.rows) left
+  settled_each [] looked_up chosen named = tt
+  settled_each (one ∷ rest) (looked_up, others) (chosen, more_chosen) (named, more_named) =
+      (record { looked_up = looked_up; required = required one.form chosen named; default = default one.form chosen looked_up.default }, settled_each rest others more_chosen more_named)
+    where
+      required : (form : Form) → IsChosen form one.value (values one) (has_name one.id given)
+          → (IsOperand form → has_name one.id (with_operands arguments []) ≡ true) → is_required form ≡ true → has_row one.id ended.holds.rows ≡ true
+      required Operand chosen named is = ended.holds.has one.id ∙ still_named given (with_operands arguments []) one.id (named (λ option. option))
+      required Required chosen named is = ended.holds.has one.id ∙ given_named given (with_operands arguments []) one.id chosen.0
+      required (WithDefault text) chosen named is = absurd (true≢false (sym is))
+
+      left_out : (named : Bool) (can : Type 0) (text : Text) → has_name one.id given ≡ named → OrElse named can (values one ≡ value_of one.value text)
+          → has_row one.id ended.holds.rows ≡ false → values one ≡ value_of one.value text
+      left_out true can text named chosen none =
+          absurd (true≢false (sym (ended.holds.has one.id ∙ given_named given (with_operands arguments []) one.id named) ∙ none))
+      left_out false can text named chosen none = chosen
+
+      default : (form : Form) → IsChosen form one.value (values one) (has_name one.id given) → default_fits form one.value ≡ true
+          → has_row one.id ended.holds.rows ≡ false
+          → IsReadableDefault (Says (Means values) arguments) one.id (reading_of (parser one.value)) (defaults_of form)
+      default Operand chosen fits none = tt
+      default Required chosen fits none = tt
+      default (WithDefault text) chosen fits none =
+          record {
+            text = text;
+            first = refl;
+            as_written = as_written one.value;
+            says = own_says (Means values) arguments one text looked_up (fits, sym (left_out (has_name one.id given) (CanBeGiven one.value (values one)) text refl chosen none));
+          }
+
+  listed : AskFor (command.name ∷ operand_words values arguments ++ option_words values given) (asked_with arguments command.asks values)
+  listed =
+      let end = going ended.held idle passed.place in
+      ask_for command is (operand_words values arguments ++ option_words values given) end (asked_with arguments command.asks values)
+      (passed.runs end (option_words values given) ended.runs)
+      (ends_well command.name arguments values ended.held all_met ended.holds (settled_each arguments each are.chosen (operands_named arguments [])) command.asks)
 
 pub listed_words_are_taken : ListedWordsAreTaken
-listed_words_are_taken = record { report = each_report; certify = certify_alone; convert = each_version; implies = each_comparison; synth = each_game; replay = each_replay; sweep = each_sweep }
+listed_words_are_taken command values given among are =
+    listed command (all_at IsCommand commands among.0 command each_command among.1 among.2) values given are

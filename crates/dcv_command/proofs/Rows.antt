@@ -1,43 +1,36 @@
--- Rows that a request can be read from: each has a first value, and where the argument is a number, it is in its range.
-use Rattle.std.proofs.Common.{◌≡◌, refl, sym, ap, ◌∙◌, ℕ, Bool, true, false, List, [], ◌∷◌, ◌++◌, None, Some, codes}
-use Rattle.std.specs.Prelude.{find, fold, slice_get, ◌||◌, if◌then◌else◌, Option, option_and_then, option_map}
+-- Rows that a request can be read from: each has a first value, of which something is known by the name of its argument.
+use Rattle.std.proofs.Common.{◌≡◌, refl, sym, ap, ◌∙◌, subst, Bool, true, false, List, [], ◌∷◌, ◌++◌, None, Some}
+use Rattle.std.specs.Prelude.{find, fold, slice_get, ◌||◌, if◌then◌else◌, option_and_then, option_map}
+use Rattle.std.specs.List.{AllByRecursion}
 use Rattle.std.specs.Option.{option_map_or}
 use Rattle.std.specs.Str.{bytes_eq}
 use Rattle.std.specs.Str.Parse.{digits_value, without_leading_plus}
+use Rattle.std.proofs.lemmas.Bool.{false_from_ne_true}
 use Rattle.std.proofs.lemmas.Slice.Eq.{bytes_eq-Decides}
 use mathlib.Core.Bool.{true≢false}
-use Rattle.clap.specs.Words.{Row, Rule, Text, first_of, one_of}
+use Rattle.clap.specs.Words.{Row, Rule, Text}
 use Rattle.clap.specs.Facts.{explicit_source}
 use Rattle.clap.specs.Takes.{is_given}
-use Rattle.clap.specs.ValueTests.{is_unsigned_in}
+use Rattle.clap.specs.ValueTests.{accepts}
 use Rattle.clap.specs.Values.{read_as}
 use Rattle.clap.specs.Walk.{default_rows, has_row, reading_by, row_text, stronger, with_default, with_values, without}
 use Rattle.clap.specs.declared.builder.value_parser.Reading.{Reading}
 use Rattle.clap.specs.declared.builder.value_parser.Reading.TheVariants.{AsWritten}
 use Rattle.clap.specs.declared.parser.matches.ValueSource.{ValueSource}
 use Rattle.clap.specs.declared.parser.matches.ValueSource.TheVariants.{DefaultValue}
-use Rattle.dcv_command.specs.Program.{most_states, most_nodes, most_inputs, most_version, most_seed, most_count}
-use Rattle.dcv_command.specs.Request.{limits_among, limits_of, number_in, number_of}
+use Rattle.dcv_command.specs.Request.{number_of, value_in}
+use Rattle.dcv_command.specs.Table.{Value, FileName, Number, value_of}
+use Rattle.dcv_command.proofs.Arguments.{parser}
 
--- the range of the argument of this name, where it is a number
-abbrev pub range_of : Text → Option (ℕ × ℕ)
-range_of id =
-    if bytes_eq id (codes "states") then Some (1, most_states)
-    else (if bytes_eq id (codes "nodes") then Some (1, most_nodes)
-    else (if bytes_eq id (codes "to") then Some (1, most_version)
-    else (if bytes_eq id (codes "inputs") then Some (0, most_inputs)
-    else (if bytes_eq id (codes "seed") then Some (0, most_seed)
-    else (if bytes_eq id (codes "count") then Some (1, most_count) else None)))))
-
-pub record IsReadable (row : Row) : Type 0 where
+-- what is known of the first value of an argument, by its name
+pub record IsReadable (Says : Text → Text → Type 0) (row : Row) : Type 0 where
   pub text : Text
   pub first : slice_get row.values 0 ≡ Some text
   pub as_written : row.reading ≡ AsWritten
-  pub in_range : (least most : ℕ) → range_of row.id ≡ Some (least, most) → is_unsigned_in least most text ≡ true
+  pub says : Says row.id text
 
-abbrev pub AreReadable : List Row → Type 0
-AreReadable [] = Unit {0}
-AreReadable (row ∷ rows) = IsReadable row × AreReadable rows
+abbrev pub AreReadable : (Text → Text → Type 0) → List Row → Type 0
+AreReadable Says rows = AllByRecursion (IsReadable Says) rows
 
 -- the row of an argument that had none
 abbrev pub new_row : Text → Reading → ValueSource → List Text → Row
@@ -45,11 +38,11 @@ new_row id how source values = record { id = id; values = values; count = None; 
 
 -- ---- rows that change
 
-pub readable_without : (id : Text) (rows : List Row) → AreReadable rows → AreReadable (without id rows)
-readable_without id [] all = tt
-readable_without id (row ∷ rows) (one, others) = by (bytes_eq row.id id) (readable_without id rows others)
+pub readable_without : (Says : Text → Text → Type 0) (id : Text) (rows : List Row) → AreReadable Says rows → AreReadable Says (without id rows)
+readable_without Says id [] all = tt
+readable_without Says id (row ∷ rows) (one, others) = by (bytes_eq row.id id) (readable_without Says id rows others)
   where
-    by : (same : Bool) → AreReadable (without id rows) → AreReadable (if same then rows else row ∷ without id rows)
+    by : (same : Bool) → AreReadable Says (without id rows) → AreReadable Says (if same then rows else row ∷ without id rows)
     by true later = others
     by false later = (one, later)
 
@@ -60,18 +53,18 @@ first_stays (one ∷ front) back text e = e
 abbrev with_more : Row → ValueSource → List Text → Row
 with_more row source values = record row { values = row.values ++ values; source = Some (stronger row.source source) }
 
-readable_with_more : (row : Row) (source : ValueSource) (values : List Text) → IsReadable row → IsReadable (with_more row source values)
-readable_with_more row source values is =
-    record { text = is.text; first = first_stays row.values values is.text is.first; as_written = is.as_written; in_range = is.in_range }
+readable_with_more : (Says : Text → Text → Type 0) (row : Row) (source : ValueSource) (values : List Text) → IsReadable Says row → IsReadable Says (with_more row source values)
+readable_with_more Says row source values is =
+    record { text = is.text; first = first_stays row.values values is.text is.first; as_written = is.as_written; says = is.says }
 
-pub readable_with : (id : Text) (how : Reading) (source : ValueSource) (values : List Text) (rows : List Row) → IsReadable (new_row id how source values) → AreReadable rows
-    → AreReadable (with_values id how source values rows)
-readable_with id how source values [] new all = (new, tt)
-readable_with id how source values (row ∷ rows) new (one, others) = by (bytes_eq row.id id) (readable_with id how source values rows new others)
+pub readable_with : (Says : Text → Text → Type 0) (id : Text) (how : Reading) (source : ValueSource) (values : List Text) (rows : List Row)
+    → IsReadable Says (new_row id how source values) → AreReadable Says rows → AreReadable Says (with_values id how source values rows)
+readable_with Says id how source values [] new all = (new, tt)
+readable_with Says id how source values (row ∷ rows) new (one, others) = by (bytes_eq row.id id) (readable_with Says id how source values rows new others)
   where
-    by : (same : Bool) → AreReadable (with_values id how source values rows)
-        → AreReadable (if same then with_more row source values ∷ rows else row ∷ with_values id how source values rows)
-    by true later = (readable_with_more row source values one, others)
+    by : (same : Bool) → AreReadable Says (with_values id how source values rows)
+        → AreReadable Says (if same then with_more row source values ∷ rows else row ∷ with_values id how source values rows)
+    by true later = (readable_with_more Says row source values one, others)
     by false later = (one, later)
 
 -- ---- rows that are there
@@ -100,21 +93,22 @@ has_now id how source values (row ∷ rows) same = by (bytes_eq row.id id) refl 
 
 -- ---- defaults
 
-abbrev pub IsReadableDefault : Text → Reading → List Text → Type 0
-IsReadableDefault id how [] = Unit {0}
-IsReadableDefault id how (value ∷ values) = IsReadable (new_row id how DefaultValue (value ∷ values))
+abbrev pub IsReadableDefault : (Text → Text → Type 0) → Text → Reading → List Text → Type 0
+IsReadableDefault Says id how [] = Unit {0}
+IsReadableDefault Says id how (value ∷ values) = IsReadable Says (new_row id how DefaultValue (value ∷ values))
 
-default_rows_readable : (id : Text) (how : Reading) (values : List Text) (rows : List Row) → IsReadableDefault id how values → AreReadable rows
-    → AreReadable (default_rows id how values rows)
-default_rows_readable id how [] rows new all = all
-default_rows_readable id how (value ∷ values) rows new all = readable_with id how DefaultValue (value ∷ values) rows new all
+default_rows_readable : (Says : Text → Text → Type 0) (id : Text) (how : Reading) (values : List Text) (rows : List Row) → IsReadableDefault Says id how values
+    → AreReadable Says rows → AreReadable Says (default_rows id how values rows)
+default_rows_readable Says id how [] rows new all = all
+default_rows_readable Says id how (value ∷ values) rows new all = readable_with Says id how DefaultValue (value ∷ values) rows new all
 
-readable_with_default : (rule : Rule) (rows : List Row) → IsReadableDefault rule.id (reading_by rule) rule.defaults → AreReadable rows → AreReadable (with_default rows rule)
-readable_with_default rule rows new all = by (has_row rule.id rows)
+readable_with_default : (Says : Text → Text → Type 0) (rule : Rule) (rows : List Row)
+    → (has_row rule.id rows ≡ false → IsReadableDefault Says rule.id (reading_by rule) rule.defaults) → AreReadable Says rows → AreReadable Says (with_default rows rule)
+readable_with_default Says rule rows new all = by (has_row rule.id rows) refl
   where
-    by : (has : Bool) → AreReadable (if has then rows else default_rows rule.id (reading_by rule) rule.defaults rows)
-    by true = all
-    by false = default_rows_readable rule.id (reading_by rule) rule.defaults rows new all
+    by : (has : Bool) → has_row rule.id rows ≡ has → AreReadable Says (if has then rows else default_rows rule.id (reading_by rule) rule.defaults rows)
+    by true is = all
+    by false is = default_rows_readable Says rule.id (reading_by rule) rule.defaults rows (new is) all
 
 default_rows_have : (id other : Text) (how : Reading) (values : List Text) (rows : List Row) → has_row other rows ≡ true → has_row other (default_rows id how values rows) ≡ true
 default_rows_have id other how [] rows has = has
@@ -145,22 +139,27 @@ has_its_default rule rows some = by (has_row rule.id rows) refl
 
 -- ---- the defaults of all arguments
 
-abbrev pub HasReadableDefaults : List Rule → Type 0
-HasReadableDefaults [] = Unit {0}
-HasReadableDefaults (rule ∷ rules) = IsReadableDefault rule.id (reading_by rule) rule.defaults × HasReadableDefaults rules
+-- the default of each argument that has no row
+abbrev pub HasReadableDefaults : (Text → Text → Type 0) → List Row → List Rule → Type 0
+HasReadableDefaults Says rows rules =
+    AllByRecursion (λ rule. has_row rule.id rows ≡ false → IsReadableDefault Says rule.id (reading_by rule) rule.defaults) rules
 
-pub readable_with_defaults : (rules : List Rule) (rows : List Row) → HasReadableDefaults rules → AreReadable rows → AreReadable (fold with_default rows rules)
-readable_with_defaults [] rows new all = all
-readable_with_defaults (rule ∷ rules) rows (one, others) all = readable_with_defaults rules (with_default rows rule) others (readable_with_default rule rows one all)
+pub readable_with_defaults : (Says : Text → Text → Type 0) (rules : List Rule) (first rows : List Row)
+    → ((id : Text) → has_row id first ≡ true → has_row id rows ≡ true) → HasReadableDefaults Says first rules → AreReadable Says rows
+    → AreReadable Says (fold with_default rows rules)
+readable_with_defaults Says [] first rows has new all = all
+readable_with_defaults Says (rule ∷ rules) first rows has (one, others) all =
+    readable_with_defaults Says rules first (with_default rows rule) (λ id is. has_after_default rule id rows (has id is)) others
+    (readable_with_default Says rule rows
+    (λ none. one (false_from_ne_true (has_row rule.id first) (λ some. true≢false (sym (has rule.id some) ∙ none)))) all)
 
-has_after_defaults : (rules : List Rule) (other : Text) (rows : List Row) → has_row other rows ≡ true → has_row other (fold with_default rows rules) ≡ true
+pub has_after_defaults : (rules : List Rule) (other : Text) (rows : List Row) → has_row other rows ≡ true → has_row other (fold with_default rows rules) ≡ true
 has_after_defaults [] other rows has = has
 has_after_defaults (rule ∷ rules) other rows has = has_after_defaults rules other (with_default rows rule) (has_after_default rule other rows has)
 
 -- each argument with a default has a row
 abbrev pub HasDefaultRows : List Rule → List Row → Type 0
-HasDefaultRows [] rows = Unit {0}
-HasDefaultRows (rule ∷ rules) rows = (HasDefault rule.defaults → has_row rule.id rows ≡ true) × HasDefaultRows rules rows
+HasDefaultRows rules rows = AllByRecursion (λ rule. HasDefault rule.defaults → has_row rule.id rows ≡ true) rules
 
 pub has_default_rows : (rules : List Rule) (rows : List Row) → HasDefaultRows rules (fold with_default rows rules)
 has_default_rows [] rows = tt
@@ -169,17 +168,17 @@ has_default_rows (rule ∷ rules) rows =
 
 -- ---- what is read
 
-pub record IsFound (id : Text) (rows : List Row) : Type 0 where
+pub record IsFound (Says : Text → Text → Type 0) (id : Text) (rows : List Row) : Type 0 where
   pub row : Row
   pub found : find (λ one. bytes_eq one.id id) rows ≡ Some row
   pub named : bytes_eq row.id id ≡ true
-  pub readable : IsReadable row
+  pub readable : IsReadable Says row
 
-pub found_readable : (id : Text) (rows : List Row) → AreReadable rows → has_row id rows ≡ true → IsFound id rows
-found_readable id [] all has = absurd (true≢false (sym has))
-found_readable id (row ∷ rows) (one, others) has = by (bytes_eq row.id id) refl has (found_readable id rows others)
+pub found_readable : (Says : Text → Text → Type 0) (id : Text) (rows : List Row) → AreReadable Says rows → has_row id rows ≡ true → IsFound Says id rows
+found_readable Says id [] all has = absurd (true≢false (sym has))
+found_readable Says id (row ∷ rows) (one, others) has = by (bytes_eq row.id id) refl has (found_readable Says id rows others)
   where
-    by : (named : Bool) → bytes_eq row.id id ≡ named → (named || has_row id rows) ≡ true → (has_row id rows ≡ true → IsFound id rows) → IsFound id (row ∷ rows)
+    by : (named : Bool) → bytes_eq row.id id ≡ named → (named || has_row id rows) ≡ true → (has_row id rows ≡ true → IsFound Says id rows) → IsFound Says id (row ∷ rows)
     by true is has later = record { row = row; found = rw is refl; named = is; readable = one }
     by false is has later = let next = later has in record { row = next.row; found = rw is next.found; named = next.named; readable = next.readable }
 
@@ -192,28 +191,15 @@ given_is_there id (row ∷ rows) given = by (bytes_eq row.id id) given (given_is
     by true given later = refl
     by false given later = later given
 
-module _ (id : Text) (rows : List Row) (is : IsFound id rows) where
-  pub first_is_there : first_of id rows ≡ Some is.readable.text
-  first_is_there = ap (option_and_then (λ (row : Row). slice_get row.values 0)) is.found ∙ is.readable.first
+module _ (Says : Text → Text → Type 0) (id : Text) (rows : List Row) (is : IsFound Says id rows) where
+  pub says_so : Says id is.readable.text
+  says_so = subst (λ one. Says one is.readable.text) ((bytes_eq-Decides is.row.id id).0 is.named) is.readable.says
 
-  one_is_there : one_of id rows ≡ Some is.readable.text
-  one_is_there =
-      ap (option_and_then row_text) is.found ∙ ap (λ how. option_map (read_as how) (slice_get is.row.values 0)) is.readable.as_written
-      ∙ ap (option_map (read_as AsWritten)) is.readable.first
-
-  pub number_is_there : (least most : ℕ) → range_of id ≡ Some (least, most)
-      → number_in least most id rows ≡ Some (digits_value 10 (without_leading_plus is.readable.text))
-  number_is_there least most range =
-      let fits : is_unsigned_in least most is.readable.text ≡ true =
-      is.readable.in_range least most (ap range_of ((bytes_eq-Decides is.row.id id).0 is.named) ∙ range) in
-      ap (option_and_then (number_of least most)) one_is_there
-      ∙ ap (λ (kept : Bool). if kept then Some (digits_value 10 (without_leading_plus is.readable.text)) else None) fits
-
-module _ (rows : List Row) (states : IsFound (codes "states") rows) (nodes : IsFound (codes "nodes") rows) where
-  pub limits_are_there : limits_among rows
-      ≡ Some (limits_of (digits_value 10 (without_leading_plus states.readable.text)) (digits_value 10 (without_leading_plus nodes.readable.text)))
-  limits_are_there =
-      ap (option_and_then (λ some. option_map (limits_of some) (number_in 1 most_nodes (codes "nodes") rows)))
-      (number_is_there (codes "states") rows states 1 most_states refl)
-      ∙ ap (option_map (limits_of (digits_value 10 (without_leading_plus states.readable.text))))
-      (number_is_there (codes "nodes") rows nodes 1 most_nodes refl)
+  -- what stands for the argument, where its parser accepts the text
+  pub value_is_there : (value : Value) → accepts false (parser value) is.readable.text ≡ true → value_in value id rows ≡ Some (value_of value is.readable.text)
+  value_is_there FileName accepted = ap (option_and_then (λ (row : Row). slice_get row.values 0)) is.found ∙ is.readable.first
+  value_is_there (Number least most) accepted =
+      ap (λ row. option_and_then (number_of least most) (option_and_then row_text row)) is.found
+      ∙ ap (λ how. option_and_then (number_of least most) (option_map (read_as how) (slice_get is.row.values 0))) is.readable.as_written
+      ∙ ap (λ text. option_and_then (number_of least most) (option_map (read_as AsWritten) text)) is.readable.first
+      ∙ ap (λ (kept : Bool). if kept then Some (digits_value 10 (without_leading_plus is.readable.text)) else None) accepted

@@ -1,23 +1,20 @@
 -- Words behind a subcommand's name, word by word to the end of `clap`'s walk over them.
-use Rattle.std.proofs.Common.{◌≡◌, refl, ap, ◌∙◌, true, false, List, ℕ, [], ◌∷◌, None, Some}
+use Rattle.std.proofs.Common.{◌≡◌, refl, ap, ◌∙◌, true, false, List, ℕ, [], ◌∷◌, Some}
 use Rattle.std.specs.Prelude.{fold, ◌&&◌, Bool, Option}
 use Rattle.std.specs.List.{list_all}
 use Rattle.clap.specs.Words.{Kinds, Row, Shape, Text}
 use Rattle.clap.specs.Kinds.{or_else}
-use Rattle.clap.specs.Walk.{Held, Waiting, Walk, finished, nothing_held, plain_word, rows_after, settled, walk, walk_from, walked}
+use Rattle.clap.specs.Walk.{Held, Waiting, Walk, finished, nothing_held, plain_word, settled, walk, walk_from, walked}
 use Rattle.clap.specs.Faults.{check_fault, defaults_fault, level_fault, settle_fault, step_fault, turn_fault, walk_fault}
 use Rattle.clap.specs.Takes.{default_passes, is_valid, level_passes, settle_passes, step_passes, turn_passes, walk_passes}
-use Rattle.clap.specs.declared.builder.value_parser.Reading.TheVariants.{AsWritten}
-use Rattle.clap.specs.declared.parser.matches.ValueSource.TheVariants.{CommandLine}
 use Rattle.dcv_command.specs.Listed.{AskFor}
-use Rattle.dcv_command.specs.Request.{Request, request_in, request_of_subcommand}
-use Rattle.dcv_command.proofs.Commands.{IsSubcommand, faults_below, found_below, takes_below, leaf}
+use Rattle.dcv_command.specs.Request.{Request, asked_of, request_in, request_of_subcommand}
+use Rattle.dcv_command.specs.Table.{Command}
+use Rattle.dcv_command.proofs.Arguments.{built_shape}
+use Rattle.dcv_command.proofs.Commands.{IsCommand, faults_below, found_below, takes_below}
 use Rattle.dcv_command.proofs.Plain.{HasNoDash, after_plain, going, turn_plain, turn_plain_passes, walked_plain}
 
 -- ---- what is held on the way
-
-abbrev pub row : Text → Text → Row
-row id text = record { id = id; values = text ∷ []; count = None; source = Some CommandLine; reading = AsWritten }
 
 -- these rows, and an argument with its value
 abbrev pub holding : List Row → Text → Text → Held
@@ -88,33 +85,31 @@ pub record EndsWell (shape : Shape) (asks : List Row → Option Request) (held :
   pub passes : passes_at_end shape held ≡ true
   pub asked : asks (finished shape.rules held) ≡ Some request
 
-module _ {name : Text} {shape : Shape} {asks : List Row → Option Request} (is : IsSubcommand name shape) (named : (rows : List Row) → request_in name rows ≡ asks rows)
-    {words : List Text} {end : Walk} {request : Request} (runs : Runs (leaf shape) end (walk_from nothing_held) words)
-    (well : EndsWell (leaf shape) asks end.held request) where
-  ended : walk (leaf shape).rules [] nothing_held words ≡ end
-  ended = run_ends (leaf shape) end (walk_from nothing_held) words runs
+module _ (command : Command) (is : IsCommand command) (words : List Text) (end : Walk) (request : Request)
+    (runs : Runs (built_shape command.name command.arguments) end (walk_from nothing_held) words)
+    (well : EndsWell (built_shape command.name command.arguments) (asked_of command) end.held request) where
+  abbrev shape : Shape
+  shape = built_shape command.name command.arguments
 
-  run_has_no_fault : level_fault (leaf shape) [] nothing_held words false [] ≡ []
+  ended : walk shape.rules [] nothing_held words ≡ end
+  ended = run_ends shape end (walk_from nothing_held) words runs
+
+  run_has_no_fault : level_fault shape [] nothing_held words false [] ≡ []
   run_has_no_fault =
-      ap (λ kinds. or_else kinds (faults_at_end (leaf shape) (walk (leaf shape).rules [] nothing_held words).held))
-      (no_fault_on (leaf shape) end (walk_from nothing_held) words runs)
-      ∙ ap (λ (w : Walk). faults_at_end (leaf shape) w.held) ended ∙ well.no_fault
+      ap (λ kinds. or_else kinds (faults_at_end shape (walk shape.rules [] nothing_held words).held)) (no_fault_on shape end (walk_from nothing_held) words runs)
+      ∙ ap (λ (w : Walk). faults_at_end shape w.held) ended ∙ well.no_fault
 
-  run_passes : level_passes (leaf shape) [] nothing_held words false && true ≡ true
+  run_passes : level_passes shape [] nothing_held words false && true ≡ true
   run_passes =
-      ap (λ all. all && passes_at_end (leaf shape) (walk (leaf shape).rules [] nothing_held words).held && true)
-      (all_pass_on (leaf shape) end (walk_from nothing_held) words runs)
-      ∙ ap (λ (w : Walk). passes_at_end (leaf shape) w.held && true) ended ∙ ap (λ all. all && true) well.passes
-
-  run_has_rows : rows_after (leaf shape).rules [] words ≡ finished (leaf shape).rules end.held
-  run_has_rows = ap (λ (w : Walk). finished (leaf shape).rules w.held) ended
+      ap (λ all. all && passes_at_end shape (walk shape.rules [] nothing_held words).held && true) (all_pass_on shape end (walk_from nothing_held) words runs)
+      ∙ ap (λ (w : Walk). passes_at_end shape w.held && true) ended ∙ ap (λ all. all && true) well.passes
 
   -- a run that ends well asks for the request
-  pub ask_for : AskFor (name ∷ words) request
+  pub ask_for : AskFor (command.name ∷ words) request
   ask_for =
       record {
-        taken = faults_below name shape is words ∙ run_has_no_fault;
-        passes = takes_below name shape is words ∙ run_passes;
-        asked = ap request_of_subcommand (found_below name shape is words) ∙ ap (request_in name) run_has_rows
-            ∙ named (finished (leaf shape).rules end.held) ∙ well.asked;
+        taken = faults_below command.name command.arguments is.subcommand words ∙ run_has_no_fault;
+        passes = takes_below command.name command.arguments is.subcommand words ∙ run_passes;
+        asked = ap request_of_subcommand (found_below command.name command.arguments is.subcommand words)
+            ∙ ap (λ (w : Walk). request_in command.name (finished shape.rules w.held)) ended ∙ is.request (finished shape.rules end.held) ∙ well.asked;
       }

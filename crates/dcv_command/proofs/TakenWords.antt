@@ -3,7 +3,7 @@ use Rattle.std.proofs.Common.{◌≡◌, ℕ, Bool, true, false, List, [], ◌�
 use Rattle.std.specs.Prelude.{IsSome, is_some, find, ◌||◌, option_and_then, option_map, fold, not, ◌&&◌, if◌then◌else◌}
 use Rattle.std.specs.Option.{option_map_or}
 use Rattle.std.specs.Str.{bytes_eq}
-use Rattle.std.specs.List.{list_any}
+use Rattle.std.specs.List.{AllByRecursion, list_any}
 use Rattle.std.proofs.lemmas.Slice.Eq.{bytes_eq-Decides}
 use mathlib.Core.Bool.{true≢false}
 use Rattle.clap.specs.Words.{Text, Row, Rule, Shape, built}
@@ -17,15 +17,14 @@ use Rattle.clap.specs.Simple.{built_leaf, entered, help_shape, label_of, rows_at
 use Rattle.clap.specs.declared.error.kind.ErrorKind.TheVariants.{DisplayHelp, InvalidSubcommand}
 use Rattle.clap.specs.Kinds.{Kinds, check_kinds}
 use Rattle.clap.specs.Faults.{check_fault, level_fault, entered_fault, settle_fault, defaults_fault, walk_fault, turn_fault, step_fault, word_fault, other_fault}
-use Rattle.clap.proofs.OnLiterals.{clap_on_literals}
-use Rattle.dcv_language.specs.declared.kind.Kind.TheVariants.{Check, Automaton, Lustre, C, All}
-use Rattle.dcv_command.specs.Program.{over_a_formula, over_a_game, over_a_seed, over_a_trace, over_an_automaton, over_a_version, over_two_formulas, program}
-use Rattle.dcv_command.specs.declared.words.Subset.TheVariants.{Lustre as LustreText, C as CText}
+use Rattle.dcv_command.specs.Program.{program}
 use Rattle.dcv_command.specs.Request.{IsTaken, Request, request_in, request_of, request_of_subcommand}
+use Rattle.dcv_command.specs.Table.{Command, commands}
 use Rattle.dcv_command.specs.Laws.{TakenWordsAsk}
-use Rattle.dcv_command.proofs.Commands.{leaf}
-use Rattle.dcv_command.proofs.Shapes.{report_asks, certify_asks, convert_asks, implies_asks, synth_asks, replay_asks, sweep_asks}
+use Rattle.dcv_command.proofs.Arguments.{built_rules, built_shape}
+use Rattle.dcv_command.proofs.Commands.{IsCommand, each_command, leaves}
 use Rattle.dcv_command.proofs.Steps.{first_is_empty, going_has_none, last_is_empty}
+use Rattle.dcv_command.proofs.Uses.{words_ask}
 
 -- ---- where a subcommand is required, one is entered
 
@@ -132,111 +131,37 @@ module _ (shape : Shape) (names : Names) (enabled : shape.disable_help_subcomman
 
 -- ---- what the subcommand asks for
 
--- words in which the subcommand has no fault ask for something
-abbrev Asks : Shape → List Text → Type 0
-Asks shape words = level_fault shape [] nothing_held words false [] ≡ [] → IsSome (request_in shape.name (rows_after shape.rules [] words))
-
-check_does : (words : List Text) → Asks (leaf (over_a_formula (codes "check"))) words
-unfolding clap_on_literals
-check_does words = report_asks (codes "check") Check words
-
-automaton_does : (words : List Text) → Asks (leaf (over_a_formula (codes "automaton"))) words
-unfolding clap_on_literals
-automaton_does words = report_asks (codes "automaton") Automaton words
-
-lustre_does : (words : List Text) → Asks (leaf (over_a_formula (codes "lustre"))) words
-unfolding clap_on_literals
-lustre_does words = report_asks (codes "lustre") Lustre words
-
-c_does : (words : List Text) → Asks (leaf (over_a_formula (codes "c"))) words
-unfolding clap_on_literals
-c_does words = report_asks (codes "c") C words
-
-all_does : (words : List Text) → Asks (leaf (over_a_formula (codes "all"))) words
-unfolding clap_on_literals
-all_does words = report_asks (codes "all") All words
-
-certify_does : (words : List Text) → Asks (leaf over_an_automaton) words
-unfolding clap_on_literals
-certify_does words = certify_asks words
-
-convert_does : (words : List Text) → Asks (leaf over_a_version) words
-unfolding clap_on_literals
-convert_does words = convert_asks words
-
-implies_does : (words : List Text) → Asks (leaf over_two_formulas) words
-unfolding clap_on_literals
-implies_does words = implies_asks words
-
-synth_does : (words : List Text) → Asks (leaf over_a_game) words
-unfolding clap_on_literals
-synth_does words = synth_asks words
-
-replay_lustre_does : (words : List Text) → Asks (leaf (over_a_trace (codes "replay-lustre"))) words
-unfolding clap_on_literals
-replay_lustre_does words = replay_asks (codes "replay-lustre") LustreText words
-
-replay_c_does : (words : List Text) → Asks (leaf (over_a_trace (codes "replay-c"))) words
-unfolding clap_on_literals
-replay_c_does words = replay_asks (codes "replay-c") CText words
-
-sweep_does : (words : List Text) → Asks (leaf over_a_seed) words
-unfolding clap_on_literals
-sweep_does words = sweep_asks words
-
--- each of some subcommands that the name names asks for something
-abbrev EachAsks : Text → List Text → List Shape → Type 0
-EachAsks name rest [] = Unit {0}
-EachAsks name rest (shape ∷ shapes) = (answers_to name (label_of shape) ≡ true → Asks shape rest) × EachAsks name rest shapes
-
 -- the subcommand that is found, if there is one, asks for something where it has no fault
 abbrev AsksSomething : List Text → Option Shape → Type 0
 AsksSomething rest found =
     option_map_or (λ shape. level_fault shape [] nothing_held rest false []) found [] ≡ [] → IsSome (option_map (λ s. rows_at s rest) found)
     → IsSome (option_and_then (λ found. request_in found.0 found.1) (option_map (λ s. rows_at s rest) found))
 
-found_asks : (name : Text) (rest : List Text) (shapes : List Shape) → EachAsks name rest shapes → AsksSomething rest (find (λ s. answers_to name (label_of s)) shapes)
-found_asks name rest [] asks = λ no_fault e. e
-found_asks name rest (shape ∷ shapes) (one, others) = by (answers_to name (label_of shape)) refl (found_asks name rest shapes others)
-  where
-    by : (named : Bool) → answers_to name (label_of shape) ≡ named → AsksSomething rest (find (λ s. answers_to name (label_of s)) shapes)
-        → AsksSomething rest (if named then Some shape else find (λ s. answers_to name (label_of s)) shapes)
-    by true is others = λ no_fault e. one is no_fault
-    by false is others = others
-
 help_names_none : (name : Text) → IsNoHelp name → bytes_eq (codes "help") name ≡ false
 help_names_none name differs =
     false_from_ne_true (bytes_eq (codes "help") name)
     (λ same. true≢false (sym ((bytes_eq-Decides name (codes "help")).1 (sym ((bytes_eq-Decides (codes "help") name).0 same))) ∙ differs))
 
+found_asks : (name : Text) (rest : List Text) (left : List Command) → IsNoHelp name → AllByRecursion IsCommand left
+    → AsksSomething rest (find (λ s. answers_to name (label_of s)) (leaves left))
+found_asks name rest [] other each = by (bytes_eq (codes "help") name) (help_names_none name other)
+  where
+    by : (named : Bool) → named ≡ false → AsksSomething rest (if named || false then Some (built_leaf help_shape) else None)
+    by true is = absurd (true≢false is)
+    by false is = λ no_fault some. some
+found_asks name rest (command ∷ left) other (one, others) = by (bytes_eq command.name name) (found_asks name rest left other others)
+  where
+    by : (named : Bool) → AsksSomething rest (find (λ s. answers_to name (label_of s)) (leaves left))
+        → AsksSomething rest (if named || false then Some (built_shape command.name command.arguments) else find (λ s. answers_to name (label_of s)) (leaves left))
+    by true later = λ no_fault some.
+        subst IsSome (sym (one.request (rows_after (built_rules command.arguments 1) [] rest)))
+        (words_ask command.name command.arguments command.asks one.sound rest no_fault)
+    by false later = later
+
 stop_asks : (stop : Option (Text × List Text)) → StopsNotAtHelp stop → entered_fault (built program) stop ≡ [] → IsSome (entered (built program) stop)
     → IsSome (option_and_then (λ found. request_in found.0 found.1) (entered (built program) stop))
-unfolding clap_on_literals
 stop_asks None before no_fault e = e
-stop_asks (Some p) before no_fault e =
-    found_asks p.0 p.1 (built program).subs (
-      (λ _. check_does p.1),
-      (
-        (λ _. automaton_does p.1),
-        (
-          (λ _. lustre_does p.1),
-          (
-            (λ _. c_does p.1),
-            (
-              (λ _. all_does p.1),
-              (
-                (λ _. certify_does p.1),
-                ((λ _. convert_does p.1), ((λ _. implies_does p.1), ((λ _. synth_does p.1), ((λ _. replay_lustre_does p.1), ((λ _. replay_c_does p.1), ((λ _. sweep_does p.1), (no_help, tt))))))),
-              ),
-            ),
-          ),
-        ),
-      ),
-    )
-    no_fault e
-  where
-    no_help : answers_to p.0 (label_of (built_leaf help_shape)) ≡ true → Asks (built_leaf help_shape) p.1
-    no_help named = absurd (true≢false (sym named ∙ ap (λ (b : Bool). b || false) (help_names_none p.0 before)))
+stop_asks (Some p) before no_fault e = found_asks p.0 p.1 commands before each_command no_fault e
 
 pub taken_words_ask : TakenWordsAsk
 taken_words_ask words taken =

@@ -1,3 +1,4 @@
+pub mod Table
 pub mod Program
 pub mod Request
 pub mod Listed

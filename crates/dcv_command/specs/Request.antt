@@ -1,42 +1,24 @@
 -- What the words of the command line ask for, by `clap`'s matches of them.
---     Request                 a thing that the program does
 --     files_of request        the names of the files that it reads, in the order in which it asks for them
 --     IsInRange request       its numbers, if it has some, are within the ranges of the options and operands
 --     number_in least most id rows
 --                             the value of an option or an operand, a number from the least to the most
---     limits_among rows       the values of both options
---     version_numbered n      the version of this number, 1 or 2
+--     asked_in arguments asks rows
+--                             what is asked for, by the values of the arguments
+--     asked_of command rows   the same of a command
+--     request_in name rows    what the command of this name asks for
 --     request_of words        what the words ask for
 --     IsTaken words           `clap` finds no fault in the words
-use Rattle.std.specs.Prelude.{◌≡◌, ℕ, ◌≤◌, List, [], ◌∷◌, Option, None, Some, codes, if◌then◌else◌, ◌==◌, option_map, option_and_then}
+use Rattle.std.specs.Prelude.{◌≡◌, ℕ, ◌≤◌, List, [], ◌∷◌, Option, None, Some, if◌then◌else◌, option_and_then}
 use Rattle.std.specs.Str.{bytes_eq}
 use Rattle.std.specs.Str.Parse.{digits_value, without_leading_plus}
 use Rattle.clap.specs.Words.{Row, Text, first_of, one_of, subcommand_of, fault_of}
 use Rattle.clap.specs.ValueTests.{is_unsigned_in}
 use Rattle.dcv_explore.specs.declared.explorer.Limits.{Limits}
-use Rattle.dcv_language.specs.declared.kind.Kind.{Kind}
-use Rattle.dcv_language.specs.declared.kind.Kind.TheVariants.{Check, Automaton, Lustre, C, All}
-use Rattle.dcv_command.specs.declared.words.Subset.{Subset}
-use Rattle.dcv_command.specs.declared.words.Subset.TheVariants.{Lustre as LustreText, C as CText}
-use Rattle.dcv_command.specs.declared.words.Version.{Version}
-use Rattle.dcv_command.specs.declared.words.Version.TheVariants.{One, Two}
-use Rattle.dcv_command.specs.Program.{program, most_states, most_nodes, most_version, most_inputs, most_seed, most_count}
-
-pub data Request : Type 0 where
-  -- a report on the formula in the file with this name
-  Report : (kind : Kind) → (name : List ℕ) → (limits : Limits) → Request
-  -- whether the words of the automaton's text in the file with this name show that it is minimal
-  Certify : (name : List ℕ) → Request
-  -- the automaton's text in the file with this name, in this version
-  Convert : (name : List ℕ) → (to : Version) → Request
-  -- whether the formula in the first file implies that in the second
-  Implies : (first second : List ℕ) → (limits : Limits) → Request
-  -- a controller for the formula in the file, of which so many variables, the first, are inputs
-  Synth : (name : List ℕ) → (inputs : ℕ) → (limits : Limits) → Request
-  -- what the observer in the first file, a text of this subset, answers at each instant of the trace in the second
-  Replay : (subset : Subset) → (observer trace : List ℕ) → Request
-  -- a summary over so many formulas that are drawn from the seed
-  Sweep : (seed count : ℕ) → Request
+use Rattle.dcv_command.specs.Program.{program}
+use Rattle.dcv_command.specs.Table.{Argument, Asks, Command, Of, Value, FileName, Number, commands}
+use Rattle.dcv_command.specs.Table.{most_states, most_nodes, most_inputs, most_seed, most_count}
+pub use Rattle.dcv_command.specs.Table.{Request, Report, Certify, Convert, Implies, Synth, Replay, Sweep}
 
 abbrev pub files_of : Request → List (List ℕ)
 files_of (Report kind name limits) = name ∷ []
@@ -71,7 +53,7 @@ IsInRange (Synth name inputs limits) = AreInputsInRange inputs limits
 IsInRange (Replay subset observer trace) = Unit {0}
 IsInRange (Sweep seed count) = CanBeDrawn seed count
 
--- ---- the numbers among a subcommand's values
+-- ---- the values of a command's arguments
 
 abbrev pub number_of : ℕ → ℕ → Text → Option ℕ
 number_of least most text = if is_unsigned_in least most text then Some (digits_value 10 (without_leading_plus text)) else None
@@ -79,60 +61,26 @@ number_of least most text = if is_unsigned_in least most text then Some (digits_
 abbrev pub number_in : ℕ → ℕ → Text → List Row → Option ℕ
 number_in least most id rows = option_and_then (number_of least most) (one_of id rows)
 
-abbrev pub limits_of : ℕ → ℕ → Limits
-limits_of states nodes = record { states = states; nodes = nodes }
+abbrev pub value_in : (value : Value) → Text → List Row → Option (Of value)
+value_in FileName id rows = first_of id rows
+value_in (Number least most) id rows = number_in least most id rows
 
-abbrev pub limits_among : List Row → Option Limits
-limits_among rows =
-    option_and_then (λ states. option_map (limits_of states) (number_in 1 most_nodes (codes "nodes") rows)) (number_in 1 most_states (codes "states") rows)
+-- ---- what they ask for
 
--- ---- what each subcommand asks for, by its matches
+abbrev pub asked_in : (arguments : List Argument) → Asks arguments → List Row → Option Request
+asked_in [] request rows = Some request
+asked_in (argument ∷ rest) asks rows = option_and_then (λ value. asked_in rest (asks value) rows) (value_in argument.value argument.id rows)
 
-abbrev pub report_in : Kind → List Row → Option Request
-report_in kind rows = option_and_then (λ file. option_map (Report kind file) (limits_among rows)) (first_of (codes "file") rows)
+abbrev pub asked_of : Command → List Row → Option Request
+asked_of command = asked_in command.arguments command.asks
 
-abbrev pub certify_in : List Row → Option Request
-certify_in rows = option_map Certify (first_of (codes "automaton") rows)
-
-abbrev pub version_numbered : ℕ → Version
-version_numbered number = if number == 1 then One else Two
-
-abbrev pub convert_in : List Row → Option Request
-convert_in rows =
-    option_and_then (λ automaton. option_map (λ number. Convert automaton (version_numbered number)) (number_in 1 most_version (codes "to") rows))
-    (first_of (codes "automaton") rows)
-
-abbrev pub implies_in : List Row → Option Request
-implies_in rows =
-    option_and_then (λ first. option_and_then (λ second. option_map (Implies first second) (limits_among rows)) (first_of (codes "second") rows))
-    (first_of (codes "first") rows)
-
-abbrev pub synth_in : List Row → Option Request
-synth_in rows =
-    option_and_then (λ file. option_and_then (λ inputs. option_map (Synth file inputs) (limits_among rows)) (number_in 0 most_inputs (codes "inputs") rows))
-    (first_of (codes "file") rows)
-
-abbrev pub replay_in : Subset → List Row → Option Request
-replay_in subset rows = option_and_then (λ observer. option_map (Replay subset observer) (first_of (codes "trace") rows)) (first_of (codes "observer") rows)
-
-abbrev pub sweep_in : List Row → Option Request
-sweep_in rows =
-    option_and_then (λ seed. option_map (Sweep seed) (number_in 1 most_count (codes "count") rows)) (number_in 0 most_seed (codes "seed") rows)
+abbrev pub request_among : List Command → Text → List Row → Option Request
+request_among [] name rows = None
+request_among (command ∷ rest) name rows =
+    if bytes_eq name command.name then asked_of command rows else request_among rest name rows
 
 abbrev pub request_in : Text → List Row → Option Request
-request_in name rows =
-    if bytes_eq name (codes "check") then report_in Check rows
-    else (if bytes_eq name (codes "automaton") then report_in Automaton rows
-    else (if bytes_eq name (codes "lustre") then report_in Lustre rows
-    else (if bytes_eq name (codes "c") then report_in C rows
-    else (if bytes_eq name (codes "all") then report_in All rows
-    else (if bytes_eq name (codes "certify") then certify_in rows
-    else (if bytes_eq name (codes "convert") then convert_in rows
-    else (if bytes_eq name (codes "implies") then implies_in rows
-    else (if bytes_eq name (codes "synth") then synth_in rows
-    else (if bytes_eq name (codes "replay-lustre") then replay_in LustreText rows
-    else (if bytes_eq name (codes "replay-c") then replay_in CText rows
-    else (if bytes_eq name (codes "sweep") then sweep_in rows else None)))))))))))
+request_in = request_among commands
 
 -- of the subcommand that the words name, with its matches
 abbrev pub request_of_subcommand : Option (Text × List Row) → Option Request

@@ -1,12 +1,36 @@
--- How clauses see a request and a fault of the code.
+-- How clauses see the table of the code, a request and a fault.
+--     argument_seen, shape_seen   an argument of the table, and a command as `clap` is told it
 --     asked_by request            what the request asks for
 --     IsUsageOnlyWhere P fault    the words are refused as no command's only where P holds
-use Rattle.std.specs.Prelude.{}
+use Rattle.std.specs.Prelude.{map}
+use Rattle.clap.specs.Words.{Shape}
+use Rattle.dcv_command.specs.declared.program.Argument.{Argument as CodeArgument}
+use Rattle.dcv_command.specs.declared.program.Entry.{Entry}
+use Rattle.dcv_command.specs.declared.program.Form.{Form as CodeForm}
+use Rattle.dcv_command.specs.declared.program.Form.TheVariants.{Operand as CodeOperand, Required as CodeRequired, WithDefault as CodeWithDefault}
+use Rattle.dcv_command.specs.declared.program.Value.{Value as CodeValue}
+use Rattle.dcv_command.specs.declared.program.Value.TheVariants.{FileName as CodeFileName, Number as CodeNumber}
 use Rattle.dcv_command.specs.declared.words.Request.{Request as CodeRequest}
 use Rattle.dcv_command.specs.declared.words.Request.TheVariants.{Report as CodeReport, Certify as CodeCertify, Convert as CodeConvert, Implies as CodeImplies, Synth as CodeSynth, Replay as CodeReplay, Sweep as CodeSweep}
 use Rattle.dcv_command.specs.declared.words.WordsFault.{WordsFault}
 use Rattle.dcv_command.specs.declared.words.WordsFault.TheVariants.{Usage, Memory}
-use Rattle.dcv_command.specs.Request.{Request, Report, Certify, Convert, Implies, Synth, Replay, Sweep}
+use Rattle.dcv_command.specs.Program.{shape_of}
+use Rattle.dcv_command.specs.Table.{Argument, Form, Operand, Required, WithDefault, Value, FileName, Number, Request, Report, Certify, Convert, Implies, Synth, Replay, Sweep}
+
+abbrev pub form_seen : CodeForm → Form
+form_seen CodeOperand = Operand
+form_seen CodeRequired = Required
+form_seen (CodeWithDefault text) = WithDefault text.now
+
+abbrev pub value_seen : CodeValue → Value
+value_seen CodeFileName = FileName
+value_seen (CodeNumber least most) = Number least most
+
+abbrev pub argument_seen : CodeArgument → Argument
+argument_seen argument = record { id = argument.id.now; form = form_seen argument.form; value = value_seen argument.value }
+
+abbrev pub shape_seen : Entry → Shape
+shape_seen entry = shape_of entry.name.now (map argument_seen entry.arguments.now)
 
 abbrev pub asked_by : CodeRequest → Request
 asked_by (CodeReport kind file limits) = Report kind file.now limits

@@ -6,9 +6,9 @@ pub fn taken_words_ask()
     ensures { TakenWordsAsk }
 {}
 
-/// A subcommand's name, a file's name that is not empty and does not begin with a dash, and then each option at most once, with
-/// a number of its range in decimal, are always taken, and ask for what they say. So are `convert`, a file's name and `--to 1` or
-/// `--to 2`, and `sweep` and two numbers of their ranges in decimal.
+/// A command's name, its operands (names of files that are not empty and do not begin with a dash, and numbers), and then its options in
+/// any order, each at most once and those that must be there among them, with numbers of their ranges in decimal, are always taken, and
+/// ask for what they say.
 pub fn listed_words_are_taken()
     ensures { ListedWordsAreTaken }
 {}

@@ -1,12 +1,9 @@
-//! What `clap` is given: the subcommands with their operands and options, and the texts of their help.
-ghost use Rattle.std.specs.Prelude.{◌≡◌, [], false, codes, fold, IfOk};
-ghost use Rattle.clap.specs.Words.{rule_of, app_of, new_app, with_subcommand};
+//! The commands of the program in one table, with the texts of their help, and the `clap` command that is made of it.
+ghost use Rattle.std.specs.Prelude.{◌≡◌, [], false, codes, fold, map, IfOk};
+ghost use Rattle.clap.specs.Words.{rule_of as rule_seen, app_of, new_app, with_rule, with_subcommand};
 ghost use Rattle.clap.specs.declared.builder.Command.TheViews.{out-Command as fields_of};
-ghost use Rattle.dcv_command.specs.Program.{file_operand as file_rule, limit_option, states_option, nodes_option, program as the_program, bare_app};
-ghost use Rattle.dcv_command.specs.Program.{over_a_formula as formula_shape, over_an_automaton as automaton_shape, over_two_formulas as formulas_shape, over_a_trace as trace_shape};
-ghost use Rattle.dcv_command.specs.Program.{number_option as option_rule, over_a_version as version_shape};
-ghost use Rattle.dcv_command.specs.Program.{number_operand as number_rule, over_a_seed as seed_shape};
-ghost use Rattle.dcv_command.specs.Program.{inputs_option, over_a_game as game_shape, reports};
+ghost use Rattle.dcv_command.specs.Program.{bare_app, given_as, program as the_program, rule_of, with_parser};
+ghost use Rattle.dcv_command.specs.Seen.{argument_seen, form_seen, shape_seen, value_seen};
 
 use clap::builder::ValueParser;
 use clap::{Arg, Command};
@@ -67,65 +64,234 @@ pub(crate) const MOST_SEED: u32 = 2_147_483_647;
 /// The most formulas that may be drawn.
 pub(crate) const MOST_COUNT: u32 = 1_000;
 
+/// A command: its name, what its help says of it, and its arguments in order.
+pub(crate) struct Entry<'a> {
+    name: &'a str,
+    about: &'a str,
+    arguments: &'a [Argument<'a>],
+}
+
+/// An argument, whose name an option bears, and what help says of it.
+pub(crate) struct Argument<'a> {
+    id: &'a str,
+    form: Form<'a>,
+    value: Value,
+    value_name: &'a str,
+    help: &'a str,
+}
+
+/// How an argument is given: by its place, by an option that has to be there, or by one that has a default.
+#[derive(Clone, Copy)]
+pub(crate) enum Form<'a> {
+    Operand,
+    Required,
+    WithDefault { text: &'a str },
+}
+
+/// What is given for an argument.
+#[derive(Clone, Copy)]
+pub(crate) enum Value {
+    FileName,
+    Number { least: u32, most: u32 },
+}
+
+// An operand, the name of a file.
+macro_rules! file_operand {
+    ($id:expr, $value_name:expr, $help:expr) => {
+        Argument {
+            id: $id,
+            form: Form::Operand,
+            value: Value::FileName,
+            value_name: $value_name,
+            help: $help,
+        }
+    };
+}
+
+// The limit on the states of a step.
+const STATES: Argument<'static> = Argument {
+    id: "states",
+    form: Form::WithDefault { text: "30000" },
+    value: Value::Number {
+        least: 1,
+        most: MOST_STATES,
+    },
+    value_name: "N",
+    help: "The most states that a step may have, from 1 to 32000",
+};
+
+// The limit on the diagram nodes of a step.
+const NODES: Argument<'static> = Argument {
+    id: "nodes",
+    form: Form::WithDefault { text: "1000000" },
+    value: Value::Number {
+        least: 1,
+        most: MOST_NODES,
+    },
+    value_name: "N",
+    help: "The most diagram nodes that a step may have, from 1 to 1000000",
+};
+
+// Of a command over a formula file.
+const OVER_A_FORMULA: [Argument<'static>; 3] = [
+    file_operand!("file", "FILE", "The formula file"),
+    STATES,
+    NODES,
+];
+
+// Of a command over an observer's text and a trace.
+const OVER_A_TRACE: [Argument<'static>; 2] = [
+    file_operand!("observer", "OBS", "The file with the observer's text"),
+    file_operand!(
+        "trace",
+        "TRACE",
+        "The trace: a line for each instant, with a digit 0 or 1 for each variable, or - where there is none"
+    ),
+];
+
+static COMMANDS: [Entry<'static>; 12] = [
+    Entry {
+        name: "check",
+        about: "Writes the verdict, with a shortest counterexample and a shortest example",
+        arguments: &OVER_A_FORMULA,
+    },
+    Entry {
+        name: "automaton",
+        about: "Writes the minimal automaton, with words that show that it is minimal",
+        arguments: &OVER_A_FORMULA,
+    },
+    Entry {
+        name: "lustre",
+        about: "Writes an observer in a flat subset of Lustre, which tells at each instant whether the behaviour so far satisfies the formula",
+        arguments: &OVER_A_FORMULA,
+    },
+    Entry {
+        name: "c",
+        about: "Writes such an observer in a flat subset of C",
+        arguments: &OVER_A_FORMULA,
+    },
+    Entry {
+        name: "all",
+        about: "Writes the verdict, the automaton and both observers, each behind a line that names it",
+        arguments: &OVER_A_FORMULA,
+    },
+    Entry {
+        name: "certify",
+        about: "Tells whether the words in an automaton's text show that it is minimal, and if not, of which state or two states they do not",
+        arguments: &[file_operand!(
+            "automaton",
+            "AUTO",
+            "The file with the automaton's text, as the command automaton writes it"
+        )],
+    },
+    Entry {
+        name: "convert",
+        about: "Writes an automaton's text in the version that is asked for: version 2 says of each step of the formula how many states and \
+nodes it had, and version 1 does not",
+        arguments: &[
+            file_operand!(
+                "automaton",
+                "AUTO",
+                "The file with the automaton's text, in either version"
+            ),
+            Argument {
+                id: "to",
+                form: Form::Required,
+                value: Value::Number {
+                    least: 1,
+                    most: MOST_VERSION,
+                },
+                value_name: "N",
+                help: "The version, 1 or 2",
+            },
+        ],
+    },
+    Entry {
+        name: "implies",
+        about: "Tells whether each behaviour that satisfies the formula of A satisfies that of B too, with a shortest one that does not",
+        arguments: &[
+            file_operand!("first", "A", "The formula file that is to imply the other"),
+            file_operand!(
+                "second",
+                "B",
+                "The formula file that is to be implied, with the same variables in the same order"
+            ),
+            STATES,
+            NODES,
+        ],
+    },
+    Entry {
+        name: "synth",
+        about: "Writes a controller in a flat subset of C, whose outputs keep to the formula whatever its inputs are, or else moves of the \
+inputs that beat every controller",
+        arguments: &[
+            file_operand!("file", "FILE", "The formula file"),
+            Argument {
+                id: "inputs",
+                form: Form::Required,
+                value: Value::Number {
+                    least: 0,
+                    most: MOST_INPUTS,
+                },
+                value_name: "N",
+                help: "How many of the declared variables, from the first on, are inputs, from 0 to 16; the others, at most 8, are outputs",
+            },
+            STATES,
+            NODES,
+        ],
+    },
+    Entry {
+        name: "replay-lustre",
+        about: "Writes what an observer, as the command lustre writes it, answers at each instant of a trace",
+        arguments: &OVER_A_TRACE,
+    },
+    Entry {
+        name: "replay-c",
+        about: "Writes what an observer, as the command c writes it, answers at each instant of a trace",
+        arguments: &OVER_A_TRACE,
+    },
+    Entry {
+        name: "sweep",
+        about: "Draws formulas over x, y and z, and writes how many are valid, how many satisfiable, how many are over the limits of 30000 \
+states and 1000000 nodes, and how many states the minimal automata of the others have together",
+        arguments: &[
+            Argument {
+                id: "seed",
+                form: Form::Operand,
+                value: Value::Number {
+                    least: 0,
+                    most: MOST_SEED,
+                },
+                value_name: "SEED",
+                help: "The number that the drawing begins from, up to 2147483647",
+            },
+            Argument {
+                id: "count",
+                form: Form::Operand,
+                value: Value::Number {
+                    least: 1,
+                    most: MOST_COUNT,
+                },
+                value_name: "COUNT",
+                help: "How many formulas are drawn, from 1 to 1000",
+            },
+        ],
+    },
+];
+
+// The table.
+fn commands() -> &'static [Entry<'static>]
+    ensures { map shape_seen result.now ≡ the_program.subs }
+{
+    &COMMANDS
+}
+
 // The command of the program.
 pub(crate) fn program<'a>(alloc: Global) -> Result<Command<'a>, AllocError>
     ensures { IfOk result (λ command. app_of command ≡ the_program) }
 {
     let bare = bare_program(alloc)?;
-    let reports = with_reports(alloc, bare)?;
-    let certify = with_certify(alloc, reports)?;
-    let convert = with_convert(alloc, certify)?;
-    let implies = with_implies(alloc, convert)?;
-    let synth = with_synth(alloc, implies)?;
-    let replay_lustre = with_replay(
-        alloc,
-        synth,
-        "replay-lustre",
-        "Writes what an observer, as the command lustre writes it, answers at each instant of a trace",
-    )?;
-    let replay_c = with_replay(
-        alloc,
-        replay_lustre,
-        "replay-c",
-        "Writes what an observer, as the command c writes it, answers at each instant of a trace",
-    )?;
-    with_sweep(alloc, replay_c)
-}
-
-// The command with the subcommands that report on a formula file.
-fn with_reports<'a>(alloc: Global, command: Command<'a>) -> Result<Command<'a>, AllocError>
-    ensures { IfOk result (λ more. app_of more ≡ fold with_subcommand (app_of command.entry) reports) }
-{
-    let check = with_report(
-        alloc,
-        command,
-        "check",
-        "Writes the verdict, with a shortest counterexample and a shortest example",
-    )?;
-    let automaton = with_report(
-        alloc,
-        check,
-        "automaton",
-        "Writes the minimal automaton, with words that show that it is minimal",
-    )?;
-    let lustre = with_report(
-        alloc,
-        automaton,
-        "lustre",
-        "Writes an observer in a flat subset of Lustre, which tells at each instant whether the behaviour so far satisfies the formula",
-    )?;
-    let c = with_report(
-        alloc,
-        lustre,
-        "c",
-        "Writes such an observer in a flat subset of C",
-    )?;
-    with_report(
-        alloc,
-        c,
-        "all",
-        "Writes the verdict, the automaton and both observers, each behind a line that names it",
-    )
+    with_entries(alloc, bare, commands())
 }
 
 // The command without its subcommands, of which one is required.
@@ -141,65 +307,6 @@ fn bare_program<'a>(alloc: Global) -> Result<Command<'a>, AllocError>
     )
 }
 
-// The command with a subcommand more, which reports on a formula file.
-fn with_report<'a>(
-    alloc: Global,
-    command: Command<'a>,
-    name: &'a str,
-    about: &'a str,
-) -> Result<Command<'a>, AllocError>
-    ensures { IfOk result (λ more. app_of more ≡ with_subcommand (app_of command.entry) (formula_shape name.entry.now)) }
-{
-    command.subcommand(over_a_formula(alloc, name, about)?)
-}
-
-// The command with the subcommand that certifies an automaton's text.
-fn with_certify<'a>(alloc: Global, command: Command<'a>) -> Result<Command<'a>, AllocError>
-    ensures { IfOk result (λ more. app_of more ≡ with_subcommand (app_of command.entry) automaton_shape) }
-{
-    command.subcommand(over_an_automaton(alloc)?)
-}
-
-// The command with the subcommand that converts an automaton's text.
-fn with_convert<'a>(alloc: Global, command: Command<'a>) -> Result<Command<'a>, AllocError>
-    ensures { IfOk result (λ more. app_of more ≡ with_subcommand (app_of command.entry) version_shape) }
-{
-    command.subcommand(over_a_version(alloc)?)
-}
-
-// The command with the subcommand that compares two formulas.
-fn with_implies<'a>(alloc: Global, command: Command<'a>) -> Result<Command<'a>, AllocError>
-    ensures { IfOk result (λ more. app_of more ≡ with_subcommand (app_of command.entry) formulas_shape) }
-{
-    command.subcommand(over_two_formulas(alloc)?)
-}
-
-// The command with the subcommand that makes a controller.
-fn with_synth<'a>(alloc: Global, command: Command<'a>) -> Result<Command<'a>, AllocError>
-    ensures { IfOk result (λ more. app_of more ≡ with_subcommand (app_of command.entry) game_shape) }
-{
-    command.subcommand(over_a_game(alloc)?)
-}
-
-// The command with a subcommand more, which replays a trace through an observer.
-fn with_replay<'a>(
-    alloc: Global,
-    command: Command<'a>,
-    name: &'a str,
-    about: &'a str,
-) -> Result<Command<'a>, AllocError>
-    ensures { IfOk result (λ more. app_of more ≡ with_subcommand (app_of command.entry) (trace_shape name.entry.now)) }
-{
-    command.subcommand(over_a_trace(alloc, name, about)?)
-}
-
-// The command with the subcommand that counts over drawn formulas.
-fn with_sweep<'a>(alloc: Global, command: Command<'a>) -> Result<Command<'a>, AllocError>
-    ensures { IfOk result (λ more. app_of more ≡ with_subcommand (app_of command.entry) seed_shape) }
-{
-    command.subcommand(over_a_seed(alloc)?)
-}
-
 // A command with no words yet, which usage calls by its name.
 fn named<'a>(alloc: Global) -> Result<Command<'a>, AllocError>
     ensures app { IfOk result (λ command. app_of command ≡ new_app (codes "dcvalid")) }
@@ -208,242 +315,82 @@ fn named<'a>(alloc: Global) -> Result<Command<'a>, AllocError>
     Command::new(alloc, "dcvalid").bin_name("dcvalid")
 }
 
-// A subcommand over one formula file.
-fn over_a_formula<'a>(
+// The command with these subcommands more.
+fn with_entries<'a>(
     alloc: Global,
-    name: &'a str,
-    about: &'a str,
+    command: Command<'a>,
+    entries: &[Entry<'a>],
 ) -> Result<Command<'a>, AllocError>
-    ensures app { IfOk result (λ command. app_of command ≡ record { top = formula_shape name.entry.now; subs = [] }) }
-    ensures local { IfOk result (λ command. (fields_of command).has_globals ≡ false) }
+    ensures { IfOk result (λ more. app_of more ≡ fold (λ app entry. with_subcommand app (shape_seen entry)) (app_of command.entry) entries.now) }
 {
-    Command::new(alloc, name)
-        .about(about)
-        .arg(file_operand(alloc, "file", "FILE", "The formula file"))?
-        .arg(states_limit(alloc))?
-        .arg(nodes_limit(alloc))
+    let mut more = command;
+    for entry in entries {
+        more = more.subcommand(subcommand(alloc, entry)?)?;
+    }
+    Ok(more)
 }
 
-// The subcommand over an automaton's text.
-fn over_an_automaton<'a>(alloc: Global) -> Result<Command<'a>, AllocError>
-    ensures app { IfOk result (λ command. app_of command ≡ record { top = automaton_shape; subs = [] }) }
+// The subcommand of an entry.
+fn subcommand<'a>(alloc: Global, entry: &Entry<'a>) -> Result<Command<'a>, AllocError>
+    ensures app { IfOk result (λ command. app_of command ≡ record { top = shape_seen entry.now; subs = [] }) }
     ensures local { IfOk result (λ command. (fields_of command).has_globals ≡ false) }
 {
-    Command::new(alloc, "certify")
-        .about(
-            "Tells whether the words in an automaton's text show that it is minimal, and if not, of which state or two states they do not",
-        )
-        .arg(file_operand(
-            alloc,
-            "automaton",
-            "AUTO",
-            "The file with the automaton's text, as the command automaton writes it",
-        ))
+    let bare = Command::new(alloc, entry.name).about(entry.about);
+    with_arguments(alloc, bare, entry.arguments)
 }
 
-// The subcommand over an automaton's text and a version.
-fn over_a_version<'a>(alloc: Global) -> Result<Command<'a>, AllocError>
-    ensures app { IfOk result (λ command. app_of command ≡ record { top = version_shape; subs = [] }) }
-    ensures local { IfOk result (λ command. (fields_of command).has_globals ≡ false) }
-{
-    Command::new(alloc, "convert")
-        .about(
-            "Writes an automaton's text in the version that is asked for: version 2 says of each step of the formula how many states and \
-nodes it had, and version 1 does not",
-        )
-        .arg(file_operand(
-            alloc,
-            "automaton",
-            "AUTO",
-            "The file with the automaton's text, in either version",
-        ))?
-        .arg(number_option(alloc, "to", 1, MOST_VERSION, "The version, 1 or 2"))
-}
-
-// The subcommand over two formula files.
-fn over_two_formulas<'a>(alloc: Global) -> Result<Command<'a>, AllocError>
-    ensures app { IfOk result (λ command. app_of command ≡ record { top = formulas_shape; subs = [] }) }
-    ensures local { IfOk result (λ command. (fields_of command).has_globals ≡ false) }
-{
-    Command::new(alloc, "implies")
-        .about(
-            "Tells whether each behaviour that satisfies the formula of A satisfies that of B too, with a shortest one that does not",
-        )
-        .arg(file_operand(
-            alloc,
-            "first",
-            "A",
-            "The formula file that is to imply the other",
-        ))?
-        .arg(file_operand(
-            alloc,
-            "second",
-            "B",
-            "The formula file that is to be implied, with the same variables in the same order",
-        ))?
-        .arg(states_limit(alloc))?
-        .arg(nodes_limit(alloc))
-}
-
-// The subcommand over a formula file of which some variables are inputs.
-fn over_a_game<'a>(alloc: Global) -> Result<Command<'a>, AllocError>
-    ensures app { IfOk result (λ command. app_of command ≡ record { top = game_shape; subs = [] }) }
-    ensures local { IfOk result (λ command. (fields_of command).has_globals ≡ false) }
-{
-    Command::new(alloc, "synth")
-        .about(
-            "Writes a controller in a flat subset of C, whose outputs keep to the formula whatever its inputs are, or else moves of the \
-inputs that beat every controller",
-        )
-        .arg(file_operand(alloc, "file", "FILE", "The formula file"))?
-        .arg(inputs_count(alloc))?
-        .arg(states_limit(alloc))?
-        .arg(nodes_limit(alloc))
-}
-
-// A subcommand over an observer's text and a trace.
-fn over_a_trace<'a>(alloc: Global, name: &'a str, about: &'a str) -> Result<Command<'a>, AllocError>
-    ensures app { IfOk result (λ command. app_of command ≡ record { top = trace_shape name.entry.now; subs = [] }) }
-    ensures local { IfOk result (λ command. (fields_of command).has_globals ≡ false) }
-{
-    Command::new(alloc, name)
-        .about(about)
-        .arg(file_operand(
-            alloc,
-            "observer",
-            "OBS",
-            "The file with the observer's text",
-        ))?
-        .arg(file_operand(
-            alloc,
-            "trace",
-            "TRACE",
-            "The trace: a line for each instant, with a digit 0 or 1 for each variable, or - where there is none",
-        ))
-}
-
-// The subcommand over a seed and a count.
-fn over_a_seed<'a>(alloc: Global) -> Result<Command<'a>, AllocError>
-    ensures app { IfOk result (λ command. app_of command ≡ record { top = seed_shape; subs = [] }) }
-    ensures local { IfOk result (λ command. (fields_of command).has_globals ≡ false) }
-{
-    Command::new(alloc, "sweep")
-        .about(
-            "Draws formulas over x, y and z, and writes how many are valid, how many satisfiable, how many are over the limits of 30000 \
-states and 1000000 nodes, and how many states the minimal automata of the others have together",
-        )
-        .arg(number_operand(
-            alloc,
-            "seed",
-            0,
-            MOST_SEED,
-            "SEED",
-            "The number that the drawing begins from, up to 2147483647",
-        ))?
-        .arg(number_operand(
-            alloc,
-            "count",
-            1,
-            MOST_COUNT,
-            "COUNT",
-            "How many formulas are drawn, from 1 to 1000",
-        ))
-}
-
-// A whole number from the least to the most.
-fn number_operand<'a>(
+// The command with these arguments more.
+fn with_arguments<'a>(
     alloc: Global,
-    id: &'a str,
-    least: u32,
-    most: u32,
-    value_name: &'a str,
-    help: &'a str,
-) -> Arg<'a>
-    ensures rule { rule_of result ≡ number_rule id.entry.now least most }
-    ensures local { result.global ≡ false }
+    command: Command<'a>,
+    arguments: &[Argument<'a>],
+) -> Result<Command<'a>, AllocError>
+    ensures app { IfOk result (λ more. app_of more ≡ fold (λ app argument. with_rule app (rule_of (argument_seen argument))) (app_of command.entry) arguments.now) }
+    ensures local { IfOk result (λ more. (fields_of more).has_globals ≡ (fields_of command.entry).has_globals) }
 {
-    Arg::new(alloc, id)
-        .required(true)
-        .value_parser(ValueParser::unsigned(u64::from(least), u64::from(most)))
-        .value_name(value_name)
-        .help(help)
+    let mut more = command;
+    for argument in arguments {
+        more = more.arg(arg_of(alloc, argument))?;
+    }
+    Ok(more)
 }
 
-// The name of a file.
-fn file_operand<'a>(alloc: Global, id: &'a str, value_name: &'a str, help: &'a str) -> Arg<'a>
-    ensures rule { rule_of result ≡ file_rule id.entry.now }
+// The argument, as `clap` is told it.
+fn arg_of<'a>(alloc: Global, argument: &Argument<'a>) -> Arg<'a>
+    ensures rule { rule_seen result ≡ rule_of (argument_seen argument.now) }
     ensures local { result.global ≡ false }
 {
-    Arg::new(alloc, id)
-        .required(true)
-        .value_name(value_name)
-        .help(help)
-}
-
-// How many of the variables are inputs.
-fn inputs_count<'a>(alloc: Global) -> Arg<'a>
-    ensures rule { rule_of result ≡ inputs_option }
-    ensures local { result.global ≡ false }
-{
-    number_option(
-        alloc,
-        "inputs",
-        0,
-        MOST_INPUTS,
-        "How many of the declared variables, from the first on, are inputs, from 0 to 16; the others, at most 8, are outputs",
+    let plain = Arg::new(alloc, argument.id)
+        .value_name(argument.value_name)
+        .help(argument.help);
+    with_form(
+        with_value(plain, argument.value),
+        argument.id,
+        argument.form,
     )
 }
 
-// An option that has to be given, a number.
-fn number_option<'a>(alloc: Global, name: &'a str, least: u32, most: u32, help: &'a str) -> Arg<'a>
-    ensures rule { rule_of result ≡ option_rule name.entry.now least most }
-    ensures local { result.global ≡ false }
+// The argument, which has such a value.
+fn with_value<'a>(arg: Arg<'a>, value: Value) -> Arg<'a>
+    ensures rule { rule_seen result ≡ with_parser (value_seen value) (rule_seen arg.entry) }
+    ensures local { result.global ≡ arg.entry.global }
 {
-    Arg::new(alloc, name)
-        .long(name)
-        .required(true)
-        .value_parser(ValueParser::unsigned(u64::from(least), u64::from(most)))
-        .value_name("N")
-        .help(help)
+    match value {
+        Value::FileName => arg,
+        Value::Number { least, most } => {
+            arg.value_parser(ValueParser::unsigned(u64::from(least), u64::from(most)))
+        }
+    }
 }
 
-// The limit on the states of a step.
-fn states_limit<'a>(alloc: Global) -> Arg<'a>
-    ensures rule { rule_of result ≡ states_option }
-    ensures local { result.global ≡ false }
+// The argument, which is given in this form.
+fn with_form<'a>(arg: Arg<'a>, id: &'a str, form: Form<'a>) -> Arg<'a>
+    ensures rule { rule_seen result ≡ given_as (form_seen form.entry) id.entry.now (rule_seen arg.entry) }
+    ensures local { result.global ≡ arg.entry.global }
 {
-    limit(
-        alloc,
-        "states",
-        MOST_STATES,
-        "30000",
-        "The most states that a step may have, from 1 to 32000",
-    )
-}
-
-// The limit on the diagram nodes of a step.
-fn nodes_limit<'a>(alloc: Global) -> Arg<'a>
-    ensures rule { rule_of result ≡ nodes_option }
-    ensures local { result.global ≡ false }
-{
-    limit(
-        alloc,
-        "nodes",
-        MOST_NODES,
-        "1000000",
-        "The most diagram nodes that a step may have, from 1 to 1000000",
-    )
-}
-
-// A limit on the steps of a formula.
-fn limit<'a>(alloc: Global, name: &'a str, most: u32, default: &'a str, help: &'a str) -> Arg<'a>
-    ensures rule { rule_of result ≡ limit_option name.entry.now most default.entry.now }
-    ensures local { result.global ≡ false }
-{
-    Arg::new(alloc, name)
-        .long(name)
-        .value_parser(ValueParser::unsigned(1, u64::from(most)))
-        .default_value(default)
-        .value_name("N")
-        .help(help)
+    match form {
+        Form::Operand => arg.required(true),
+        Form::Required => arg.long(id).required(true),
+        Form::WithDefault { text } => arg.long(id).default_value(text),
+    }
 }

@@ -2,11 +2,9 @@
 ghost use Rattle.std.specs.Prelude.{◌≡◌, ◌≢◌, true, [], map, option_map, IfOk, IfErr, Some};
 ghost use Rattle.clap.specs.Words.{fault_of, first_of, found_of, rows_of, subcommand_of, subcommand_rows_of, takes};
 ghost use Rattle.dcv_command.specs.Program.{program as the_program};
-ghost use Rattle.dcv_command.specs.Request.{IsInRange, IsTaken, request_of, request_of_subcommand};
-ghost use Rattle.dcv_command.specs.Request.{report_in as report_among, certify_in as certify_among, convert_in as convert_among, implies_in as implies_among, synth_in as synth_among, request_in as request_among};
-ghost use Rattle.dcv_command.specs.Request.{version_numbered as the_version};
-ghost use Rattle.dcv_command.specs.Request.{replay_in as replay_among, sweep_in as sweep_among};
-ghost use Rattle.dcv_command.specs.Request.{limits_among as limits_among_rows, number_in as number_in_rows};
+ghost use Rattle.dcv_command.specs.Request.{IsInRange, IsTaken, request_of, request_of_subcommand, number_in as number_in_rows};
+ghost use Rattle.dcv_command.specs.Request.{asked_of, request_in as request_among};
+ghost use Rattle.dcv_command.specs.Table.{report, certify, convert, implies, synth, replay, sweep, version_numbered as the_version};
 ghost use Rattle.dcv_command.specs.declared.words.WordsFault.TheVariants.{Memory};
 ghost use Rattle.dcv_command.specs.Seen.{asked_by, IsUsageOnlyWhere};
 
@@ -156,16 +154,21 @@ fn request_named<'a>(name: &str, matches: &ArgMatches<'a>) -> Option<Request<'a>
 
 // The report that is asked for.
 fn report_in<'a>(matches: &ArgMatches<'a>, kind: Kind) -> Option<Request<'a>>
-    ensures { option_map asked_by result ≡ report_among kind (rows_of (found_of matches.now)) }
+    ensures { option_map asked_by result ≡ asked_of (report kind) (rows_of (found_of matches.now)) }
 {
     let file = operand_in(matches, "file")?;
-    let limits = limits_among(matches)?;
-    Some(Request::Report { kind, file, limits })
+    let states = number_in(matches, "states", 1, MOST_STATES)?;
+    let nodes = number_in(matches, "nodes", 1, MOST_NODES)?;
+    Some(Request::Report {
+        kind,
+        file,
+        limits: Limits { states, nodes },
+    })
 }
 
 // The automaton whose text is to be certified.
 fn certify_in<'a>(matches: &ArgMatches<'a>) -> Option<Request<'a>>
-    ensures { option_map asked_by result ≡ certify_among (rows_of (found_of matches.now)) }
+    ensures { option_map asked_by result ≡ asked_of certify (rows_of (found_of matches.now)) }
 {
     let automaton = operand_in(matches, "automaton")?;
     Some(Request::Certify { automaton })
@@ -173,7 +176,7 @@ fn certify_in<'a>(matches: &ArgMatches<'a>) -> Option<Request<'a>>
 
 // The automaton whose text is to be converted, and its new version.
 fn convert_in<'a>(matches: &ArgMatches<'a>) -> Option<Request<'a>>
-    ensures { option_map asked_by result ≡ convert_among (rows_of (found_of matches.now)) }
+    ensures { option_map asked_by result ≡ asked_of convert (rows_of (found_of matches.now)) }
 {
     let automaton = operand_in(matches, "automaton")?;
     let number = number_in(matches, "to", 1, MOST_VERSION)?;
@@ -194,35 +197,37 @@ fn version_numbered(number: u32) -> Version
 
 // The comparison that is asked for.
 fn implies_in<'a>(matches: &ArgMatches<'a>) -> Option<Request<'a>>
-    ensures { option_map asked_by result ≡ implies_among (rows_of (found_of matches.now)) }
+    ensures { option_map asked_by result ≡ asked_of implies (rows_of (found_of matches.now)) }
 {
     let first = operand_in(matches, "first")?;
     let second = operand_in(matches, "second")?;
-    let limits = limits_among(matches)?;
+    let states = number_in(matches, "states", 1, MOST_STATES)?;
+    let nodes = number_in(matches, "nodes", 1, MOST_NODES)?;
     Some(Request::Implies {
         first,
         second,
-        limits,
+        limits: Limits { states, nodes },
     })
 }
 
 // The controller that is asked for.
 fn synth_in<'a>(matches: &ArgMatches<'a>) -> Option<Request<'a>>
-    ensures { option_map asked_by result ≡ synth_among (rows_of (found_of matches.now)) }
+    ensures { option_map asked_by result ≡ asked_of synth (rows_of (found_of matches.now)) }
 {
     let file = operand_in(matches, "file")?;
     let inputs = number_in(matches, "inputs", 0, MOST_INPUTS)?;
-    let limits = limits_among(matches)?;
+    let states = number_in(matches, "states", 1, MOST_STATES)?;
+    let nodes = number_in(matches, "nodes", 1, MOST_NODES)?;
     Some(Request::Synth {
         file,
         inputs,
-        limits,
+        limits: Limits { states, nodes },
     })
 }
 
 // The replay that is asked for.
 fn replay_in<'a>(matches: &ArgMatches<'a>, subset: Subset) -> Option<Request<'a>>
-    ensures { option_map asked_by result ≡ replay_among subset (rows_of (found_of matches.now)) }
+    ensures { option_map asked_by result ≡ asked_of (replay subset) (rows_of (found_of matches.now)) }
 {
     let observer = operand_in(matches, "observer")?;
     let trace = operand_in(matches, "trace")?;
@@ -235,7 +240,7 @@ fn replay_in<'a>(matches: &ArgMatches<'a>, subset: Subset) -> Option<Request<'a>
 
 // The summary that is asked for.
 fn sweep_in<'a>(matches: &ArgMatches<'a>) -> Option<Request<'a>>
-    ensures { option_map asked_by result ≡ sweep_among (rows_of (found_of matches.now)) }
+    ensures { option_map asked_by result ≡ asked_of sweep (rows_of (found_of matches.now)) }
 {
     let seed = number_in(matches, "seed", 0, MOST_SEED)?;
     let count = number_in(matches, "count", 1, MOST_COUNT)?;
@@ -247,15 +252,6 @@ fn operand_in<'a>(matches: &ArgMatches<'a>, id: &str) -> Option<&'a str>
     ensures { option_map (λ operand. operand.now) result ≡ first_of id.now (rows_of (found_of matches.now)) }
 {
     matches.get_str(id)
-}
-
-// The limits that are asked for.
-fn limits_among(matches: &ArgMatches<'_>) -> Option<Limits>
-    ensures { result ≡ limits_among_rows (rows_of (found_of matches.now)) }
-{
-    let states = number_in(matches, "states", 1, MOST_STATES)?;
-    let nodes = number_in(matches, "nodes", 1, MOST_NODES)?;
-    Some(Limits { states, nodes })
 }
 
 // The value of an option or of an operand, a number from the least to the most.

@@ -1,0 +1,10 @@
+use Rattle.std.proofs.Common.{◌≡◌, drop, fold}
+use Rattle.clap.specs.Words.{app_of, with_subcommand}
+use Rattle.dcv_command.specs.Seen.{shape_seen}
+use Rattle.dcv_command.proofs.program.with_entries.Given as goal
+
+-- the subcommands that are left are added to those so far
+abbrev pub invariant-loop-entry : goal.invariant-loop-entry
+invariant-loop-entry l =
+    fold (λ app entry. with_subcommand app (shape_seen entry)) (app_of l.more) (drop l.entry-index l.entries)
+    ≡ fold (λ app entry. with_subcommand app (shape_seen entry)) (app_of l.fn.command) l.entries
