@@ -26,11 +26,13 @@
 mod automaton_lines;
 pub mod laws;
 mod report;
+mod stuck_lines;
 mod verdict_lines;
 mod verdicts;
 
 pub use automaton_lines::automaton_text;
 pub use dcv_automaton_read::{AutoFault, AutoFile, automaton_read};
 pub use report::{Kind, Report, all_text};
+pub use stuck_lines::put_stuck;
 pub use verdict_lines::{Verdict, put_letter, put_word};
 pub use verdicts::{verdict, verdict_text};
