@@ -1,4 +1,5 @@
 pub mod Verdict
+pub mod Stuck
 pub mod Said
 pub mod Counts
 pub mod Printed

@@ -26,6 +26,7 @@
 mod automaton_lines;
 pub mod laws;
 mod report;
+mod stuck_lines;
 mod verdict_lines;
 mod verdicts;
 
@@ -33,5 +34,6 @@ pub use automaton_lines::automaton_text;
 pub use dcv_automaton_read::{AutoFault, AutoFile, automaton_read};
 pub use dcv_language::Kind;
 pub use report::{Report, all_text};
+pub use stuck_lines::put_stuck;
 pub use verdict_lines::{Verdict, put_letter, put_word};
 pub use verdicts::{verdict, verdict_text};
