@@ -2,3 +2,4 @@ pub mod Tables
 pub mod ObservedFiles
 pub mod Rows
 pub mod Leading
+pub mod PutLines

@@ -1,4 +1,4 @@
--- The lines of an automaton, one more at a time: their numbers, those of states that accept, and those of nodes, which fit.
+-- The lines of an automaton, one more at a time: their numbers, those of states that accept, and those of nodes.
 use Rattle.std.proofs.Common.{◌≡◌, ℕ, zero, suc, ◌+◌, ◌<◌, ◌≤◌, Bool, true, false, cond, List, [], ◌∷◌, ◌++◌, length, map, take, get_or, refl, sym, ap, subst, ◌∙◌}
 use Rattle.std.proofs.Common.{arith}
 use Rattle.std.specs.List.{All, range_with_len, enumerate_from, filter}
@@ -6,12 +6,13 @@ use Rattle.std.proofs.lemmas.List.{take_more, length-take-le, map_push}
 use Rattle.std.proofs.lemmas.Option.{slice_get-get_or}
 use Rattle.dcv_dfa.specs.declared.node_lines.Child.{Child}
 use Rattle.dcv_dfa.specs.declared.node_lines.Child.TheVariants.{State, Node as NodeAt}
+use Rattle.dcv_dfa.specs.declared.node_lines.NodeLine.{NodeLine}
 use Rattle.dcv_dfa.specs.Auto.{IsAuto, count_of_nodes}
 use Rattle.dcv_dfa.specs.NodeLines.{NodeLinesValue, node_lines_of, numbered, IsBelow, AreReduced}
 use Rattle.dcv_dfa.specs.Raw.{RawValue, IsRaw}
 use Rattle.dcv_dfa.proofs.Reduced.{has_node_lines}
 use Rattle.dcv_automaton_text.specs.File.{StateLine}
-use Rattle.dcv_automaton_file.specs.File.{state_line, state_lines, Fits}
+use Rattle.dcv_automaton_file.specs.File.{state_line, state_lines}
 
 -- ---- numbers
 
@@ -71,38 +72,24 @@ pub below_more : (a b c d : ℕ) (child : Child) → a ≤ c → b ≤ d → IsB
 below_more a b c d (State state) first second below = omega (arith, below, first)
 below_more a b c d (NodeAt number) first second below = omega (arith, below, second)
 
-pub all_below_more : (a b c d : ℕ) (rows : List Child) → a ≤ c → b ≤ d → All (IsBelow a b) rows → All (IsBelow c d) rows
-all_below_more a b c d rows first second below = λ k e within. below_more a b c d (get_or rows k e) first second (below k e within)
-
--- each line of a reduced diagram fits
-pub lines_fit : (slots states : ℕ) (all : NodeLinesValue) → states ≤ 32000 → AreReduced slots states all → All (Fits slots (length all.lines)) all.lines
-lines_fit slots states all few is = λ k d within.
-    let line = get_or all.lines k d in
-    let one = is.lines k line (slice_get-get_or all.lines k d within) in
-    record {
-      slot = one.slot;
-      hi = below_more states k 32768 (length all.lines) line.hi (omega (arith, few)) (omega (arith, within)) one.hi_below;
-      lo = below_more states k 32768 (length all.lines) line.lo (omega (arith, few)) (omega (arith, within)) one.lo_below;
-    }
-
 -- ---- the lines that are put
 
 pub record AreLined (slots states : ℕ) (all : NodeLinesValue) : Type 0 where
   pub count : length all.lines ≤ 1000000
-  pub fit : All (Fits slots (length all.lines)) all.lines
+  pub slots_below : All (λ (line : NodeLine). line.slot < slots) all.lines
   pub row_count : length all.rows ≡ states
-  pub rows : All (IsBelow 32768 (length all.lines)) all.rows
 
--- those of an automaton with few states and few nodes
-pub are_lined : (raw : RawValue) (all : NodeLinesValue) → IsRaw raw → IsAuto raw → length raw.rows ≤ 32000 → count_of_nodes raw ≤ 1000000
-    → all ≡ node_lines_of raw → AreLined raw.arena.slots (length raw.rows) all
-are_lined raw all is auto few nodes same =
+-- those of an automaton with few nodes
+pub are_lined : (raw : RawValue) (all : NodeLinesValue) → IsRaw raw → IsAuto raw → count_of_nodes raw ≤ 1000000 → all ≡ node_lines_of raw
+    → AreLined raw.arena.slots (length raw.rows) all
+are_lined raw all is auto nodes same =
     let lines = node_lines_of raw in
     let known = has_node_lines raw is auto.nodes (numbered raw.arena raw.rows) refl in
     let reduced : AreReduced raw.arena.slots (length raw.rows) lines = known.reduced in
     subst (AreLined raw.arena.slots (length raw.rows)) (sym same) (record {
       count = omega (arith, known.count, nodes);
-      fit = lines_fit raw.arena.slots (length raw.rows) lines few reduced;
+      slots_below = λ k d within.
+          let one = reduced.lines k (get_or lines.lines k d) (slice_get-get_or lines.lines k d within) in
+          one.slot;
       row_count = reduced.count;
-      rows = all_below_more (length raw.rows) (length lines.lines) 32768 (length lines.lines) lines.rows (omega (arith, few)) (omega arith) reduced.rows;
     })

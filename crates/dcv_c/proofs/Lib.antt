@@ -16,7 +16,4 @@ pub mod ObserverForms
 pub mod ObserverRuns
 pub mod ObserverAccepts
 pub mod ObserverLaws
-pub mod Places
-pub mod Rows
-pub mod OfAuto
-pub mod PutLines
+pub mod ObserverText

@@ -45,16 +45,6 @@ pub fn put<T: Target>(unit: &CUnit, target: &mut T)
 }
 
 // The names of a unit, by their places.
-pub(crate) trait NamesByPlace {
-    // In order.
-    ghost names: { Self → List (List ℕ) };
-
-    // Puts the name at a place, and nothing behind the last.
-    fn put_at<T: Target>(&self, place: u32, target: &mut T)
-        ensures { Puts (T.standing target.old) (T.standing target.new) (name_at (names self.now) place) };
-}
-
-// The names that a unit has of its own.
 #[derive(Drop)]
 struct Names<'a> {
     statics: &'a [Text],
@@ -94,12 +84,11 @@ impl<'a> Names<'a> {
     }
 }
 
-impl<'a> NamesByPlace for Names<'a> {
-    ghost names = { λ names. names };
-
-    fn put_at<T: Target>(&self, place: u32, target: &mut T) {
-        target.put(self.at(place));
-    }
+// The name at a place.
+fn put_name<T: Target>(target: &mut T, names: &Names<'_>, place: u32)
+    ensures { Puts (T.standing target.old) (T.standing target.new) (name_at names.now place) }
+{
+    target.put(names.at(place));
 }
 
 // ---- declarations
@@ -112,7 +101,7 @@ fn put_statics<T: Target>(target: &mut T, statics: &[Text])
     }
 }
 
-pub(crate) fn put_static<T: Target>(target: &mut T, name: &[u8])
+fn put_static<T: Target>(target: &mut T, name: &[u8])
     ensures { Puts (T.standing target.old) (T.standing target.new) (static_line name.now) }
 {
     put_pieces(target, &[b"static int ", name, b";\n"]);
@@ -125,16 +114,10 @@ fn put_reset<T: Target>(target: &mut T, names: &Names<'_>, reset: &Reset)
 {
     put_reset_head(target, reset.name.as_bytes());
     put_assignments(target, names, &reset.assignments);
-    put_reset_end(target);
-}
-
-pub(crate) fn put_reset_end<T: Target>(target: &mut T)
-    ensures { Puts (T.standing target.old) (T.standing target.new) (codes "}\n") }
-{
     target.put(b"}\n");
 }
 
-pub(crate) fn put_reset_head<T: Target>(target: &mut T, name: &[u8])
+fn put_reset_head<T: Target>(target: &mut T, name: &[u8])
     ensures { Puts (T.standing target.old) (T.standing target.new) (codes "\nvoid " ++ (name.now ++ codes "(void)\n{\n")) }
 {
     put_pieces(target, &[b"\nvoid ", name, b"(void)\n{\n"]);
@@ -148,32 +131,21 @@ fn put_assignments<T: Target>(target: &mut T, names: &Names<'_>, assignments: &[
     }
 }
 
-pub(crate) fn put_assignment<T: Target, N: NamesByPlace>(
-    target: &mut T,
-    names: &N,
-    assignment: Assignment,
-)
-    ensures { Puts (T.standing target.old) (T.standing target.new) (assignment_line (seen_assignment (N.names names.now) assignment)) }
+fn put_assignment<T: Target>(target: &mut T, names: &Names<'_>, assignment: Assignment)
+    ensures { Puts (T.standing target.old) (T.standing target.new) (assignment_line (seen_assignment names.now assignment)) }
 {
     put_left(target, names, assignment.name);
     put_number(target, assignment.number);
-    put_end(target);
+    target.put(b";\n");
 }
 
 // A line up to its right side.
-fn put_left<T: Target, N: NamesByPlace>(target: &mut T, names: &N, left: u32)
-    ensures { Puts (T.standing target.old) (T.standing target.new) (codes "  " ++ (name_at (N.names names.now) left ++ codes " = ")) }
+fn put_left<T: Target>(target: &mut T, names: &Names<'_>, left: u32)
+    ensures { Puts (T.standing target.old) (T.standing target.new) (codes "  " ++ (name_at names.now left ++ codes " = ")) }
 {
     target.put(b"  ");
-    names.put_at(left, target);
+    put_name(target, names, left);
     target.put(b" = ");
-}
-
-// A line behind its right side.
-fn put_end<T: Target>(target: &mut T)
-    ensures { Puts (T.standing target.old) (T.standing target.new) (codes ";\n") }
-{
-    target.put(b";\n");
 }
 
 // The function that makes a step, behind an empty line.
@@ -185,22 +157,8 @@ fn put_step<T: Target>(target: &mut T, names: &Names<'_>, step: &Step)
     put_head(target, step.name.as_bytes(), &step.parameters);
     put_locals(target, &step.locals);
     put_statements(target, names, &step.statements);
-    put_return(target);
-    put_returned(target, names, &step.returned);
-    put_step_end(target);
-}
-
-// The last line but one, up to what is returned.
-pub(crate) fn put_return<T: Target>(target: &mut T)
-    ensures { Puts (T.standing target.old) (T.standing target.new) (codes "  return ") }
-{
     target.put(b"  return ");
-}
-
-// What stands behind that.
-pub(crate) fn put_step_end<T: Target>(target: &mut T)
-    ensures { Puts (T.standing target.old) (T.standing target.new) (codes ";\n}\n") }
-{
+    put_returned(target, names, &step.returned);
     target.put(b";\n}\n");
 }
 
@@ -210,21 +168,14 @@ fn put_head<T: Target>(target: &mut T, name: &[u8], parameters: &[Text])
 {
     put_opening(target, name);
     put_parameters(target, parameters);
-    put_body(target);
+    target.put(b")\n{\n");
 }
 
 // The empty line, and the next one up to the parameters.
-pub(crate) fn put_opening<T: Target>(target: &mut T, name: &[u8])
+fn put_opening<T: Target>(target: &mut T, name: &[u8])
     ensures { Puts (T.standing target.old) (T.standing target.new) (codes "\nint " ++ (name.now ++ codes "(")) }
 {
     put_pieces(target, &[b"\nint ", name, b"("]);
-}
-
-// What stands behind the parameters.
-pub(crate) fn put_body<T: Target>(target: &mut T)
-    ensures { Puts (T.standing target.old) (T.standing target.new) (codes ")\n{\n") }
-{
-    target.put(b")\n{\n");
 }
 
 // The parameters, with something between every two, or `void` where there are none.
@@ -232,30 +183,19 @@ fn put_parameters<T: Target>(target: &mut T, parameters: &[Text])
     ensures { Puts (T.standing target.old) (T.standing target.new) (parameters_text parameters.now) }
 {
     let Some((first, others)) = parameters.split_first() else {
-        return put_void(target);
+        return target.put(b"void");
     };
-    put_parameter(target, b"", b"", first.as_bytes());
+    put_parameter(target, b"", first.as_bytes());
     for parameter in others {
-        put_parameter(target, b", ", b"", parameter.as_bytes());
+        put_parameter(target, b", ", parameter.as_bytes());
     }
 }
 
-pub(crate) fn put_void<T: Target>(target: &mut T)
-    ensures { Puts (T.standing target.old) (T.standing target.new) (codes "void") }
+// A parameter, behind what stands between it and the one before.
+fn put_parameter<T: Target>(target: &mut T, between: &[u8], name: &[u8])
+    ensures { Puts (T.standing target.old) (T.standing target.new) (between.now ++ parameter_text name.now) }
 {
-    target.put(b"void");
-}
-
-// A parameter, behind what stands between it and the one before. Its name is in two parts, of which the first may be empty.
-pub(crate) fn put_parameter<T: Target>(
-    target: &mut T,
-    between: &[u8],
-    beginning: &[u8],
-    name: &[u8],
-)
-    ensures { Puts (T.standing target.old) (T.standing target.new) (between.now ++ (codes "int " ++ (beginning.now ++ name.now))) }
-{
-    put_pieces(target, &[between, b"int ", beginning, name]);
+    put_pieces(target, &[between, b"int ", name]);
 }
 
 // The lines of the locals and the empty line behind them, where there are any.
@@ -266,22 +206,15 @@ fn put_locals<T: Target>(target: &mut T, locals: &[Text])
         return;
     }
     for name in locals {
-        put_local(target, b"", name.as_bytes());
+        put_local(target, name.as_bytes());
     }
-    put_blank(target);
-}
-
-pub(crate) fn put_blank<T: Target>(target: &mut T)
-    ensures { Puts (T.standing target.old) (T.standing target.new) (codes "\n") }
-{
     target.put(b"\n");
 }
 
-// The line of a local, whose name is in two parts, of which the first may be empty.
-pub(crate) fn put_local<T: Target>(target: &mut T, beginning: &[u8], name: &[u8])
-    ensures { Puts (T.standing target.old) (T.standing target.new) (codes "  int " ++ (beginning.now ++ (name.now ++ codes ";\n"))) }
+fn put_local<T: Target>(target: &mut T, name: &[u8])
+    ensures { Puts (T.standing target.old) (T.standing target.new) (local_line name.now) }
 {
-    put_pieces(target, &[b"  int ", beginning, name, b";\n"]);
+    put_pieces(target, &[b"  int ", name, b";\n"]);
 }
 
 // ---- statements
@@ -294,12 +227,8 @@ fn put_statements<T: Target>(target: &mut T, names: &Names<'_>, statements: &[St
     }
 }
 
-pub(crate) fn put_statement<T: Target, N: NamesByPlace>(
-    target: &mut T,
-    names: &N,
-    statement: Statement,
-)
-    ensures { Puts (T.standing target.old) (T.standing target.new) (statement_line (seen_statement (N.names names.now) statement)) }
+fn put_statement<T: Target>(target: &mut T, names: &Names<'_>, statement: Statement)
+    ensures { Puts (T.standing target.old) (T.standing target.new) (statement_line (seen_statement names.now statement)) }
 {
     match statement {
         Statement::Assign(left, right) => put_assign(target, names, left, right),
@@ -308,36 +237,36 @@ pub(crate) fn put_statement<T: Target, N: NamesByPlace>(
 }
 
 // `left = right;`
-fn put_assign<T: Target, N: NamesByPlace>(target: &mut T, names: &N, left: u32, right: Right)
-    ensures { Puts (T.standing target.old) (T.standing target.new) (codes "  " ++ (name_at (N.names names.now) left ++ (codes " = " ++ (right_text (seen_right (N.names names.now) right) ++ codes ";\n")))) }
+fn put_assign<T: Target>(target: &mut T, names: &Names<'_>, left: u32, right: Right)
+    ensures { Puts (T.standing target.old) (T.standing target.new) (codes "  " ++ (name_at names.now left ++ (codes " = " ++ (right_text (seen_right names.now right) ++ codes ";\n")))) }
 {
     put_left(target, names, left);
     put_right(target, names, right);
-    put_end(target);
+    target.put(b";\n");
 }
 
 // `if (condition) left = item;`
-fn put_when<T: Target, N: NamesByPlace>(
+fn put_when<T: Target>(
     target: &mut T,
-    names: &N,
+    names: &Names<'_>,
     condition: Condition,
     left: u32,
     item: Item,
 )
-    ensures { Puts (T.standing target.old) (T.standing target.new) (codes "  if (" ++ (condition_text (seen_condition (N.names names.now) condition) ++ (codes ") " ++ (name_at (N.names names.now) left
-        ++ (codes " = " ++ (item_text (seen_item (N.names names.now) item) ++ codes ";\n")))))) }
+    ensures { Puts (T.standing target.old) (T.standing target.new) (codes "  if (" ++ (condition_text (seen_condition names.now condition) ++ (codes ") " ++ (name_at names.now left
+        ++ (codes " = " ++ (item_text (seen_item names.now item) ++ codes ";\n")))))) }
 {
     target.put(b"  if (");
     put_condition(target, names, condition);
     target.put(b") ");
-    names.put_at(left, target);
+    put_name(target, names, left);
     target.put(b" = ");
     put_item(target, names, item);
-    put_end(target);
+    target.put(b";\n");
 }
 
-fn put_right<T: Target, N: NamesByPlace>(target: &mut T, names: &N, right: Right)
-    ensures { Puts (T.standing target.old) (T.standing target.new) (right_text (seen_right (N.names names.now) right)) }
+fn put_right<T: Target>(target: &mut T, names: &Names<'_>, right: Right)
+    ensures { Puts (T.standing target.old) (T.standing target.new) (right_text (seen_right names.now right)) }
 {
     match right {
         Right::Plain(item) => put_item(target, names, item),
@@ -348,15 +277,15 @@ fn put_right<T: Target, N: NamesByPlace>(target: &mut T, names: &N, right: Right
 }
 
 // `condition ? item : otherwise`
-fn put_chosen<T: Target, N: NamesByPlace>(
+fn put_chosen<T: Target>(
     target: &mut T,
-    names: &N,
+    names: &Names<'_>,
     condition: Condition,
     item: Item,
     otherwise: Item,
 )
-    ensures { Puts (T.standing target.old) (T.standing target.new) (condition_text (seen_condition (N.names names.now) condition) ++ (codes " ? " ++ (item_text (seen_item (N.names names.now) item)
-        ++ (codes " : " ++ item_text (seen_item (N.names names.now) otherwise))))) }
+    ensures { Puts (T.standing target.old) (T.standing target.new) (condition_text (seen_condition names.now condition) ++ (codes " ? " ++ (item_text (seen_item names.now item)
+        ++ (codes " : " ++ item_text (seen_item names.now otherwise))))) }
 {
     put_condition(target, names, condition);
     target.put(b" ? ");
@@ -365,20 +294,20 @@ fn put_chosen<T: Target, N: NamesByPlace>(
     put_item(target, names, otherwise);
 }
 
-fn put_condition<T: Target, N: NamesByPlace>(target: &mut T, names: &N, condition: Condition)
-    ensures { Puts (T.standing target.old) (T.standing target.new) (condition_text (seen_condition (N.names names.now) condition)) }
+fn put_condition<T: Target>(target: &mut T, names: &Names<'_>, condition: Condition)
+    ensures { Puts (T.standing target.old) (T.standing target.new) (condition_text (seen_condition names.now condition)) }
 {
     match condition {
-        Condition::Holds(name) => names.put_at(name, target),
+        Condition::Holds(name) => put_name(target, names, name),
         Condition::Equals(name, number) => put_equal(target, names, name, number),
     }
 }
 
 // `name == number`
-fn put_equal<T: Target, N: NamesByPlace>(target: &mut T, names: &N, name: u32, number: u16)
-    ensures { Puts (T.standing target.old) (T.standing target.new) (name_at (N.names names.now) name ++ (codes " == " ++ decimal number)) }
+fn put_equal<T: Target>(target: &mut T, names: &Names<'_>, name: u32, number: u16)
+    ensures { Puts (T.standing target.old) (T.standing target.new) (name_at names.now name ++ (codes " == " ++ decimal number)) }
 {
-    names.put_at(name, target);
+    put_name(target, names, name);
     put_compared(target, number);
 }
 
@@ -414,24 +343,19 @@ fn put_tests<T: Target>(target: &mut T, names: &Names<'_>, tests: &[Test])
 }
 
 // `name == number`, behind what stands between it and the test before.
-pub(crate) fn put_test<T: Target, N: NamesByPlace>(
-    target: &mut T,
-    between: &[u8],
-    names: &N,
-    test: Test,
-)
-    ensures { Puts (T.standing target.old) (T.standing target.new) (between.now ++ test_text (seen_test (N.names names.now) test)) }
+fn put_test<T: Target>(target: &mut T, between: &[u8], names: &Names<'_>, test: Test)
+    ensures { Puts (T.standing target.old) (T.standing target.new) (between.now ++ test_text (seen_test names.now test)) }
 {
     target.put(between);
     put_equal(target, names, test.name, test.number);
 }
 
-pub(crate) fn put_item<T: Target, N: NamesByPlace>(target: &mut T, names: &N, item: Item)
-    ensures { Puts (T.standing target.old) (T.standing target.new) (item_text (seen_item (N.names names.now) item)) }
+fn put_item<T: Target>(target: &mut T, names: &Names<'_>, item: Item)
+    ensures { Puts (T.standing target.old) (T.standing target.new) (item_text (seen_item names.now item)) }
 {
     match item {
         Item::Constant(number) => put_number(target, number),
-        Item::Named(name) => names.put_at(name, target),
+        Item::Named(name) => put_name(target, names, name),
     }
 }
 

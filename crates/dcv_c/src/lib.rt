@@ -2,8 +2,8 @@
 //! a unit, whose step says whether the automaton accepts the word so far.
 //!
 //! ```text
-//! let unit = of_auto(alloc, &auto, &names)?;  // the observer, a tree
-//! text(alloc, &unit)?                         // its text
+//! put_observer(&mut target, &auto, &names, &auto.node_lines(alloc)?);  // the text of an automaton's observer
+//! text(alloc, &unit)?                                                  // that of any unit
 //! ```
 //!
 //! Of the behaviours over one variable that is true throughout, the text is
@@ -43,6 +43,6 @@ mod unit;
 
 pub use dcv_observer::{Condition, ObsFault, Test};
 pub use layout::{put, text};
-pub use observer::{of_auto, parameter_texts, reset_to_start};
+pub use observer::{parameter_texts, reset_to_start};
 pub use straight::put_observer;
 pub use unit::{Assignment, CUnit, Item, Reset, Returned, Right, Statement, Step};

@@ -14,6 +14,7 @@ mod choices;
 mod functions;
 mod names;
 mod numbers;
+mod observer;
 mod parts;
 mod placed;
 mod reading;
@@ -23,4 +24,5 @@ mod statements;
 mod tables;
 mod translation;
 
+pub use observer::of_auto;
 pub use reading::read;

@@ -14,12 +14,9 @@ pub mod NodePieces
 pub mod LaidOut
 pub mod Derived
 pub mod DerivedNodes
-pub mod Places
 pub mod TokenClasses
 pub mod EachTree
 pub mod JudgedWords
 pub mod Readings
 pub mod ObserverForms
-pub mod Rows
-pub mod OfAuto
-pub mod PutLines
+pub mod ObserverText

@@ -13,4 +13,3 @@ pub mod Laws
 pub mod Form
 pub mod Words
 pub mod Seen
-pub mod Building

@@ -30,8 +30,8 @@ pub fn text(alloc: Global, node: &Node) -> Result<Vec<u8>, AllocError>
     text.finish()
 }
 
-/// Puts the text of a node, piece by piece. It takes no memory but what the target does.
-pub fn put<T: Target>(node: &Node, target: &mut T)
+// Puts the text of a node, piece by piece.
+fn put<T: Target>(node: &Node, target: &mut T)
     ensures { Puts (T.standing target.old) (T.standing target.new) (text_of node.now) }
 {
     let names = Names {
@@ -40,36 +40,12 @@ pub fn put<T: Target>(node: &Node, target: &mut T)
     };
     put_head(target, node);
     put_locals(target, node.locals());
-    put_let(target);
-    put_equations(target, &names, node.equations());
-    put_tel(target);
-}
-
-// The line before the equations.
-pub(crate) fn put_let<T: Target>(target: &mut T)
-    ensures { Puts (T.standing target.old) (T.standing target.new) (codes "let\n") }
-{
     target.put(b"let\n");
-}
-
-// The last line.
-pub(crate) fn put_tel<T: Target>(target: &mut T)
-    ensures { Puts (T.standing target.old) (T.standing target.new) (codes "tel\n") }
-{
+    put_equations(target, &names, node.equations());
     target.put(b"tel\n");
 }
 
 // The names of a node, by their places.
-pub(crate) trait NamesByPlace {
-    // In order.
-    ghost names: { Self → List (List ℕ) };
-
-    // Puts the name at a place, and nothing behind the last.
-    fn put_at<T: Target>(&self, place: u32, target: &mut T)
-        ensures { Puts (T.standing target.old) (T.standing target.new) (name_at (names self.now) place) };
-}
-
-// The names that a node has of its own.
 #[derive(Drop)]
 struct Names<'a> {
     inputs: &'a [Text],
@@ -106,12 +82,11 @@ impl<'a> Names<'a> {
     }
 }
 
-impl<'a> NamesByPlace for Names<'a> {
-    ghost names = { λ names. names };
-
-    fn put_at<T: Target>(&self, place: u32, target: &mut T) {
-        target.put(self.at(place));
-    }
+// The name at a place.
+fn put_name<T: Target>(target: &mut T, names: &Names<'_>, place: u32)
+    ensures { Puts (T.standing target.old) (T.standing target.new) (name_at names.now place) }
+{
+    target.put(names.at(place));
 }
 
 // The line before those of the locals.
@@ -120,21 +95,14 @@ fn put_head<T: Target>(target: &mut T, node: &Node)
 {
     put_opening(target, node.name());
     put_inputs(target, node.inputs());
-    put_output(target);
+    target.put(b") returns (ok: bool);\n");
 }
 
 // The line up to its inputs.
-pub(crate) fn put_opening<T: Target>(target: &mut T, name: &[u8])
+fn put_opening<T: Target>(target: &mut T, name: &[u8])
     ensures { Puts (T.standing target.old) (T.standing target.new) (codes "node " ++ (name.now ++ codes "(")) }
 {
     put_pieces(target, &[b"node ", name, b"("]);
-}
-
-// The line behind its inputs.
-pub(crate) fn put_output<T: Target>(target: &mut T)
-    ensures { Puts (T.standing target.old) (T.standing target.new) (codes ") returns (ok: bool);\n") }
-{
-    target.put(b") returns (ok: bool);\n");
 }
 
 // The inputs, with something between every two.
@@ -144,17 +112,17 @@ fn put_inputs<T: Target>(target: &mut T, inputs: &[Text])
     let Some((first, others)) = inputs.split_first() else {
         return;
     };
-    put_input(target, b"", b"", first.as_bytes());
+    put_input(target, b"", first.as_bytes());
     for input in others {
-        put_input(target, b"; ", b"", input.as_bytes());
+        put_input(target, b"; ", input.as_bytes());
     }
 }
 
-// An input, behind what stands between it and the one before. Its name is in two parts, of which the first may be empty.
-pub(crate) fn put_input<T: Target>(target: &mut T, between: &[u8], beginning: &[u8], name: &[u8])
-    ensures { Puts (T.standing target.old) (T.standing target.new) (between.now ++ (beginning.now ++ input_text name.now)) }
+// An input, behind what stands between it and the one before.
+fn put_input<T: Target>(target: &mut T, between: &[u8], name: &[u8])
+    ensures { Puts (T.standing target.old) (T.standing target.new) (between.now ++ input_text name.now) }
 {
-    put_pieces(target, &[between, beginning, name, b": bool"]);
+    put_pieces(target, &[between, name, b": bool"]);
 }
 
 // The lines of the locals, where there are any.
@@ -164,37 +132,22 @@ fn put_locals<T: Target>(target: &mut T, locals: &[Local])
     if locals.is_empty() {
         return;
     }
-    put_var(target);
+    target.put(b"var\n");
     for local in locals {
         put_local(target, local);
     }
 }
 
-// The line before the locals.
-pub(crate) fn put_var<T: Target>(target: &mut T)
-    ensures { Puts (T.standing target.old) (T.standing target.new) (codes "var\n") }
-{
-    target.put(b"var\n");
-}
-
 fn put_local<T: Target>(target: &mut T, local: &Local)
     ensures { Puts (T.standing target.old) (T.standing target.new) (local_line (seen_local local.now)) }
 {
-    put_typed(target, b"", local.name.as_bytes(), local.kind);
+    put_words(target, local.name.as_bytes(), kind_word(local.kind));
 }
 
-// `name: kind;`, where the name is in two parts, of which the first may be empty.
-pub(crate) fn put_typed<T: Target>(target: &mut T, beginning: &[u8], name: &[u8], kind: Kind)
-    ensures { Puts (T.standing target.old) (T.standing target.new)
-        (codes "  " ++ (beginning.now ++ (name.now ++ (codes ": " ++ (kind_text (seen_kind kind) ++ codes ";\n"))))) }
+fn put_words<T: Target>(target: &mut T, name: &[u8], kind: &[u8])
+    ensures { Puts (T.standing target.old) (T.standing target.new) (codes "  " ++ (name.now ++ (codes ": " ++ (kind.now ++ codes ";\n")))) }
 {
-    put_words(target, beginning, name, kind_word(kind));
-}
-
-fn put_words<T: Target>(target: &mut T, beginning: &[u8], name: &[u8], kind: &[u8])
-    ensures { Puts (T.standing target.old) (T.standing target.new) (codes "  " ++ (beginning.now ++ (name.now ++ (codes ": " ++ (kind.now ++ codes ";\n"))))) }
-{
-    put_pieces(target, &[b"  ", beginning, name, b": ", kind, b";\n"]);
+    put_pieces(target, &[b"  ", name, b": ", kind, b";\n"]);
 }
 
 fn kind_word(kind: Kind) -> &'static [u8]
@@ -207,44 +160,33 @@ fn kind_word(kind: Kind) -> &'static [u8]
 }
 
 // The lines of the equations.
-fn put_equations<T: Target, N: NamesByPlace>(target: &mut T, names: &N, equations: &[Equation])
-    ensures { Puts (T.standing target.old) (T.standing target.new) (flat_map equation_line (map (seen_equation (N.names names.now)) equations.now)) }
+fn put_equations<T: Target>(target: &mut T, names: &Names<'_>, equations: &[Equation])
+    ensures { Puts (T.standing target.old) (T.standing target.new) (flat_map equation_line (map (seen_equation names.now) equations.now)) }
 {
     for equation in equations {
         put_equation(target, names, equation);
     }
 }
 
-pub(crate) fn put_equation<T: Target, N: NamesByPlace>(
-    target: &mut T,
-    names: &N,
-    equation: &Equation,
-)
-    ensures { Puts (T.standing target.old) (T.standing target.new) (equation_line (seen_equation (N.names names.now) equation.now)) }
+fn put_equation<T: Target>(target: &mut T, names: &Names<'_>, equation: &Equation)
+    ensures { Puts (T.standing target.old) (T.standing target.new) (equation_line (seen_equation names.now equation.now)) }
 {
     put_left(target, names, equation.left);
     put_right(target, names, &equation.right);
-    put_end(target);
-}
-
-// An equation up to its right side.
-pub(crate) fn put_left<T: Target, N: NamesByPlace>(target: &mut T, names: &N, left: u32)
-    ensures { Puts (T.standing target.old) (T.standing target.new) (codes "  " ++ (name_at (N.names names.now) left ++ codes " = ")) }
-{
-    target.put(b"  ");
-    names.put_at(left, target);
-    target.put(b" = ");
-}
-
-// An equation behind its right side.
-pub(crate) fn put_end<T: Target>(target: &mut T)
-    ensures { Puts (T.standing target.old) (T.standing target.new) (codes ";\n") }
-{
     target.put(b";\n");
 }
 
-fn put_right<T: Target, N: NamesByPlace>(target: &mut T, names: &N, right: &Right)
-    ensures { Puts (T.standing target.old) (T.standing target.new) (right_text (seen_right (N.names names.now) right.now)) }
+// An equation up to its right side.
+fn put_left<T: Target>(target: &mut T, names: &Names<'_>, left: u32)
+    ensures { Puts (T.standing target.old) (T.standing target.new) (codes "  " ++ (name_at names.now left ++ codes " = ")) }
+{
+    target.put(b"  ");
+    put_name(target, names, left);
+    target.put(b" = ");
+}
+
+fn put_right<T: Target>(target: &mut T, names: &Names<'_>, right: &Right)
+    ensures { Puts (T.standing target.old) (T.standing target.new) (right_text (seen_right names.now right.now)) }
 {
     match right {
         Right::Delayed(first, source) => put_delayed(target, names, *first, *source),
@@ -257,21 +199,16 @@ fn put_right<T: Target, N: NamesByPlace>(target: &mut T, names: &N, right: &Righ
 }
 
 // `first -> pre source`.
-pub(crate) fn put_delayed<T: Target, N: NamesByPlace>(
-    target: &mut T,
-    names: &N,
-    first: Value,
-    source: u32,
-)
-    ensures { Puts (T.standing target.old) (T.standing target.new) (value_text (seen_value first) ++ (codes " -> pre " ++ name_at (N.names names.now) source)) }
+fn put_delayed<T: Target>(target: &mut T, names: &Names<'_>, first: Value, source: u32)
+    ensures { Puts (T.standing target.old) (T.standing target.new) (value_text (seen_value first) ++ (codes " -> pre " ++ name_at names.now source)) }
 {
     put_value(target, first);
     target.put(b" -> pre ");
-    names.put_at(source, target);
+    put_name(target, names, source);
 }
 
-fn put_arms<T: Target, N: NamesByPlace>(target: &mut T, names: &N, arms: &[Arm])
-    ensures { Puts (T.standing target.old) (T.standing target.new) (flat_map arm_text (map (seen_arm (N.names names.now)) arms.now)) }
+fn put_arms<T: Target>(target: &mut T, names: &Names<'_>, arms: &[Arm])
+    ensures { Puts (T.standing target.old) (T.standing target.new) (flat_map arm_text (map (seen_arm names.now) arms.now)) }
 {
     for arm in arms {
         put_arm(target, names, *arm);
@@ -279,8 +216,8 @@ fn put_arms<T: Target, N: NamesByPlace>(target: &mut T, names: &N, arms: &[Arm])
 }
 
 // `if condition then item else`.
-pub(crate) fn put_arm<T: Target, N: NamesByPlace>(target: &mut T, names: &N, arm: Arm)
-    ensures { Puts (T.standing target.old) (T.standing target.new) (arm_text (seen_arm (N.names names.now) arm)) }
+fn put_arm<T: Target>(target: &mut T, names: &Names<'_>, arm: Arm)
+    ensures { Puts (T.standing target.old) (T.standing target.new) (arm_text (seen_arm names.now arm)) }
 {
     target.put(b"if ");
     put_condition(target, names, arm.condition);
@@ -289,20 +226,20 @@ pub(crate) fn put_arm<T: Target, N: NamesByPlace>(target: &mut T, names: &N, arm
     target.put(b" else ");
 }
 
-fn put_condition<T: Target, N: NamesByPlace>(target: &mut T, names: &N, condition: Condition)
-    ensures { Puts (T.standing target.old) (T.standing target.new) (condition_text (seen_condition (N.names names.now) condition)) }
+fn put_condition<T: Target>(target: &mut T, names: &Names<'_>, condition: Condition)
+    ensures { Puts (T.standing target.old) (T.standing target.new) (condition_text (seen_condition names.now condition)) }
 {
     match condition {
-        Condition::Holds(name) => names.put_at(name, target),
+        Condition::Holds(name) => put_name(target, names, name),
         Condition::Equals(name, number) => put_equal(target, names, name, number),
     }
 }
 
 // `name = number`.
-fn put_equal<T: Target, N: NamesByPlace>(target: &mut T, names: &N, name: u32, number: u16)
-    ensures { Puts (T.standing target.old) (T.standing target.new) (name_at (N.names names.now) name ++ (codes " = " ++ decimal number)) }
+fn put_equal<T: Target>(target: &mut T, names: &Names<'_>, name: u32, number: u16)
+    ensures { Puts (T.standing target.old) (T.standing target.new) (name_at names.now name ++ (codes " = " ++ decimal number)) }
 {
-    names.put_at(name, target);
+    put_name(target, names, name);
     put_compared(target, number);
 }
 
@@ -315,8 +252,8 @@ fn put_compared<T: Target>(target: &mut T, number: u16)
 }
 
 // The tests, with `or` between every two.
-fn put_tests<T: Target, N: NamesByPlace>(target: &mut T, names: &N, tests: &[Test])
-    ensures { Puts (T.standing target.old) (T.standing target.new) (join_by test_text (codes " or ") (map (seen_test (N.names names.now)) tests.now)) }
+fn put_tests<T: Target>(target: &mut T, names: &Names<'_>, tests: &[Test])
+    ensures { Puts (T.standing target.old) (T.standing target.new) (join_by test_text (codes " or ") (map (seen_test names.now) tests.now)) }
 {
     let Some((first, others)) = tests.split_first() else {
         return;
@@ -328,25 +265,20 @@ fn put_tests<T: Target, N: NamesByPlace>(target: &mut T, names: &N, tests: &[Tes
 }
 
 // `(name = number)`, behind what stands between it and the test before.
-pub(crate) fn put_test<T: Target, N: NamesByPlace>(
-    target: &mut T,
-    between: &[u8],
-    names: &N,
-    test: Test,
-)
-    ensures { Puts (T.standing target.old) (T.standing target.new) (between.now ++ test_text (seen_test (N.names names.now) test)) }
+fn put_test<T: Target>(target: &mut T, between: &[u8], names: &Names<'_>, test: Test)
+    ensures { Puts (T.standing target.old) (T.standing target.new) (between.now ++ test_text (seen_test names.now test)) }
 {
     put_pieces(target, &[between, b"("]);
     put_equal(target, names, test.name, test.number);
     target.put(b")");
 }
 
-pub(crate) fn put_item<T: Target, N: NamesByPlace>(target: &mut T, names: &N, item: Item)
-    ensures { Puts (T.standing target.old) (T.standing target.new) (item_text (seen_item (N.names names.now) item)) }
+fn put_item<T: Target>(target: &mut T, names: &Names<'_>, item: Item)
+    ensures { Puts (T.standing target.old) (T.standing target.new) (item_text (seen_item names.now item)) }
 {
     match item {
         Item::Constant(value) => put_value(target, value),
-        Item::Named(name) => names.put_at(name, target),
+        Item::Named(name) => put_name(target, names, name),
     }
 }
 

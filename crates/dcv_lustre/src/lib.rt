@@ -2,8 +2,8 @@
 //! automaton is such a node, whose output says at each instant whether the automaton accepts the word so far.
 //!
 //! ```text
-//! let node = of_auto(alloc, &auto, &names)?;  // the observer, a tree
-//! text(alloc, &node)?                         // its text
+//! put_observer(&mut target, &auto, &names, &auto.node_lines(alloc)?);  // the text of an automaton's observer
+//! text(alloc, &node)?                                                  // that of any node
 //! ```
 //!
 //! Of the behaviours over one variable that is true throughout, the text is
@@ -31,11 +31,9 @@
 pub mod laws;
 mod layout;
 mod node;
-mod observer;
 mod straight;
 
 pub use dcv_observer::{Condition, ObsFault, Test};
-pub use layout::{put, text};
+pub use layout::text;
 pub use node::{Arm, Equation, Item, Kind, Local, Node, Right, Value};
-pub use observer::of_auto;
 pub use straight::put_observer;

@@ -14,6 +14,7 @@ mod constants;
 mod equations;
 mod names;
 mod nodes;
+mod observer;
 mod parts;
 mod placed;
 mod reading;
@@ -23,4 +24,5 @@ mod scope;
 mod tables;
 mod translation;
 
+pub use observer::of_auto;
 pub use reading::read;

@@ -24,14 +24,14 @@ fn automaton(alloc: Global) -> Result<Auto, Fail>
 // The text of its observer in Lustre.
 fn text_of_node(alloc: Global) -> Result<Vec<u8>, Fail> {
     let names = one_name(alloc, b'p')?;
-    let node = dcv_lustre::of_auto(alloc, &automaton(alloc)?, &names)?;
+    let node = dcv_lustre_read::of_auto(alloc, &automaton(alloc)?, &names)?;
     Ok(dcv_lustre::text(alloc, &node)?)
 }
 
 // The text of its observer in C.
 fn text_of_unit(alloc: Global) -> Result<Vec<u8>, Fail> {
     let names = one_name(alloc, b'p')?;
-    let unit = dcv_c::of_auto(alloc, &automaton(alloc)?, &names)?;
+    let unit = dcv_c_read::of_auto(alloc, &automaton(alloc)?, &names)?;
     Ok(dcv_c::text(alloc, &unit)?)
 }
 

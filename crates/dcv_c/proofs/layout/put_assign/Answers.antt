@@ -4,4 +4,4 @@ use Rattle.dcv_c.proofs.layout.put_assign.Goals as goal
 
 pub returns : goal.returns
 returns g c =
-    puts_same _ _ _ _ (puts_both _ _ _ _ _ c.put_left.ensures (puts_both _ _ _ _ _ c.put_right.ensures c.put_end.ensures)) (simp append_assoc)
+    puts_same _ _ _ _ (puts_both _ _ _ _ _ c.put_left.ensures (puts_both _ _ _ _ _ c.put_right.ensures c.put.ensures)) (simp append_assoc)

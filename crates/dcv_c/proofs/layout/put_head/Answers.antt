@@ -4,4 +4,4 @@ use Rattle.dcv_c.proofs.layout.put_head.Goals as goal
 
 pub returns : goal.returns
 returns g c =
-    puts_same _ _ _ _ (puts_both _ _ _ _ _ c.put_opening.ensures (puts_both _ _ _ _ _ c.put_parameters.ensures c.put_body.ensures)) (simp append_assoc)
+    puts_same _ _ _ _ (puts_both _ _ _ _ _ c.put_opening.ensures (puts_both _ _ _ _ _ c.put_parameters.ensures c.put.ensures)) (simp append_assoc)

@@ -20,5 +20,5 @@ loop-name-preserved g c =
 
 pub returns : goal.returns
 returns g c =
-    puts_same _ _ _ _ (puts_both _ _ _ _ _ c.loop-name.invariant c.put_blank.ensures)
+    puts_same _ _ _ _ (puts_both _ _ _ _ _ c.loop-name.invariant c.put.ensures)
     (some_lines c.args.locals.now c.loop-name.name-index (λ none. let bad : false ≡ true = c.if-is_empty.ensures ∙ ap (λ n. n == 0) none in cc) c.loop-name-test.false)

@@ -14,6 +14,6 @@ in_turn name found lines others is same =
 
 pub returns : goal.returns
 returns g c =
-    puts_same _ _ _ _ (puts_both _ _ _ _ _ c.put_reset_head.ensures (puts_both _ _ _ _ _ c.put_assignments.ensures c.put_reset_end.ensures))
+    puts_same _ _ _ _ (puts_both _ _ _ _ _ c.put_reset_head.ensures (puts_both _ _ _ _ _ c.put_assignments.ensures c.put.ensures))
     (in_turn _ c.as_bytes.result.now _ _ c.as_bytes.ensures
     (ap (λ assignments. flat_map assignment_line (map (seen_assignment c.args.names.now) assignments)) c.deref.ensures.value))

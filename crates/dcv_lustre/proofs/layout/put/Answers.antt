@@ -19,6 +19,6 @@ returns g c =
     let names : all_names c.inputs.result.now c.locals.result.now ≡ names_of c.args.node.now =
     (λ i. c.inputs.ensures i ++ (ok ∷ map (λ (local : Local). local.name) (c.locals.ensures i))) in
     puts_same _ _ _ _
-    (puts_both _ _ _ _ _ c.put_head.ensures (puts_both _ _ _ _ _ c.put_locals.ensures (puts_both _ _ _ _ _ c.put_let.ensures (puts_both _ _ _ _ _ c.put_equations.ensures c.put_tel.ensures))))
+    (puts_both _ _ _ _ _ c.put_head.ensures (puts_both _ _ _ _ _ c.put_locals.ensures (puts_both _ _ _ _ _ c.put.ensures (puts_both _ _ _ _ _ c.put_equations.ensures c.put-2.ensures))))
     (in_turn c.args.node.now _ _ (ap local_lines c.locals-2.ensures)
     (ap (flat_map equation_line) (ap (λ names. map (seen_equation names) c.equations.result.now) names ∙ c.equations.ensures)))

@@ -12,7 +12,7 @@ loop-arm-init g c = puts_nothing _
 
 pub loop-arm-preserved : goal.loop-arm-preserved
 loop-arm-preserved g c =
-    puts_one_more (λ (arm : CodeArm). arm_text (seen_arm (g.N.NamesByPlace.names c.args.names.now) arm)) c.args.arms.now c.loop-arm.arm-index _ _ _ _ c.loop-arm-test.true c.loop-arm.invariant c.put_arm.ensures
+    puts_one_more (λ (arm : CodeArm). arm_text (seen_arm c.args.names.now arm)) c.args.arms.now c.loop-arm.arm-index _ _ _ _ c.loop-arm-test.true c.loop-arm.invariant c.put_arm.ensures
 
 pub returns : goal.returns
-returns g c = puts_same _ _ _ _ c.loop-arm.invariant (all_seen arm_text (seen_arm (g.N.NamesByPlace.names c.args.names.now)) c.args.arms.now c.loop-arm.arm-index (grind (arith, common_steps)))
+returns g c = puts_same _ _ _ _ c.loop-arm.invariant (all_seen arm_text (seen_arm c.args.names.now) c.args.arms.now c.loop-arm.arm-index (grind (arith, common_steps)))

@@ -7,4 +7,4 @@ use Rattle.dcv_lustre.proofs.layout.put_arms.Given as goal
 
 -- the arms so far are put
 abbrev pub invariant-loop-arm : goal.invariant-loop-arm
-invariant-loop-arm g l = Puts (g.T.Target.standing l.fn.target) (g.T.Target.standing l.target) (flat_map (λ arm. arm_text (seen_arm (g.N.NamesByPlace.names l.names) arm)) (take l.arm-index l.arms))
+invariant-loop-arm g l = Puts (g.T.Target.standing l.fn.target) (g.T.Target.standing l.target) (flat_map (λ arm. arm_text (seen_arm l.names arm)) (take l.arm-index l.arms))

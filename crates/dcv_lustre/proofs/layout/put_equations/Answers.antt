@@ -12,10 +12,10 @@ loop-equation-init g c = puts_nothing _
 
 pub loop-equation-preserved : goal.loop-equation-preserved
 loop-equation-preserved g c =
-    puts_one_more (λ (equation : CodeEquation). equation_line (seen_equation (g.N.NamesByPlace.names c.args.names.now) equation)) c.args.equations.now c.loop-equation.equation-index c.equation-item.result
+    puts_one_more (λ (equation : CodeEquation). equation_line (seen_equation c.args.names.now equation)) c.args.equations.now c.loop-equation.equation-index c.equation-item.result
     _ _ _ c.loop-equation-test.true c.loop-equation.invariant
-    (puts_same _ _ _ _ c.put_equation.ensures (ap (λ (equation : CodeEquation). equation_line (seen_equation (g.N.NamesByPlace.names c.args.names.now) equation)) c.equation-item.is))
+    (puts_same _ _ _ _ c.put_equation.ensures (ap (λ (equation : CodeEquation). equation_line (seen_equation c.args.names.now equation)) c.equation-item.is))
 
 pub returns : goal.returns
 returns g c =
-    puts_same _ _ _ _ c.loop-equation.invariant (all_seen equation_line (seen_equation (g.N.NamesByPlace.names c.args.names.now)) c.args.equations.now c.loop-equation.equation-index (grind (arith, common_steps)))
+    puts_same _ _ _ _ c.loop-equation.invariant (all_seen equation_line (seen_equation c.args.names.now) c.args.equations.now c.loop-equation.equation-index (grind (arith, common_steps)))

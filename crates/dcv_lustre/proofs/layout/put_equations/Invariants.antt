@@ -8,4 +8,4 @@ use Rattle.dcv_lustre.proofs.layout.put_equations.Given as goal
 -- the lines of the equations so far are put
 abbrev pub invariant-loop-equation : goal.invariant-loop-equation
 invariant-loop-equation g l =
-    Puts (g.T.Target.standing l.fn.target) (g.T.Target.standing l.target) (flat_map (λ equation. equation_line (seen_equation (g.N.NamesByPlace.names l.names) equation)) (take l.equation-index l.equations))
+    Puts (g.T.Target.standing l.fn.target) (g.T.Target.standing l.target) (flat_map (λ equation. equation_line (seen_equation l.names equation)) (take l.equation-index l.equations))

@@ -13,5 +13,5 @@ in_turn one other name found is same =
 
 pub returns : goal.returns
 returns g c =
-    puts_same _ _ _ _ (puts_both _ _ _ _ _ c.put_opening.ensures (puts_both _ _ _ _ _ c.put_inputs.ensures c.put_output.ensures))
+    puts_same _ _ _ _ (puts_both _ _ _ _ _ c.put_opening.ensures (puts_both _ _ _ _ _ c.put_inputs.ensures c.put.ensures))
     (in_turn _ _ _ c.name.result.now c.name.ensures (ap (join_by input_text (codes "; ")) c.inputs.ensures))

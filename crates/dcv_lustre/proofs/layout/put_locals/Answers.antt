@@ -25,5 +25,5 @@ loop-local-preserved g c =
 
 pub returns : goal.returns
 returns g c =
-    puts_same _ _ _ _ (puts_both _ _ _ _ _ c.put_var.ensures c.loop-local.invariant)
+    puts_same _ _ _ _ (puts_both _ _ _ _ _ c.put.ensures c.loop-local.invariant)
     (some_lines c.args.locals.now _ (λ none. let bad : false ≡ true = c.if-is_empty.ensures ∙ ap (λ n. n == 0) none in cc) (all_seen local_line seen_local c.args.locals.now c.loop-local.local-index (grind (arith, common_steps))))

@@ -8,7 +8,7 @@ use Rattle.dcv_lustre.proofs.layout.put_right.Goals as goal
 
 pub returns-in-Chosen : goal.returns-in-Chosen
 returns-in-Chosen g c =
-    let names = g.N.NamesByPlace.names c.args.names.now in
+    let names = c.args.names.now in
     puts_same _ _ _ _ (puts_both _ _ _ _ _ c.put_arms.ensures c.put_item.ensures)
     (ap (λ arms. flat_map arm_text (map (seen_arm names) arms) ++ item_text (seen_item names c.in-Chosen.otherwise)) c.deref.ensures.value
     ∙ ap (λ (right : CodeRight). right_text (seen_right names right)) (sym c.in-Chosen.is))

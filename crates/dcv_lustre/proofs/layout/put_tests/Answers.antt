@@ -10,11 +10,11 @@ use Rattle.dcv_lustre.proofs.layout.put_tests.Goals as goal
 
 pub loop-test-preserved : goal.loop-test-preserved
 loop-test-preserved g c =
-    puts_one_more (λ (test : CodeTest). codes " or " ++ test_text (seen_test (g.N.NamesByPlace.names c.args.names.now) test)) c.in-Some.others.now c.loop-test.test-index _ _ _ _ c.loop-test-test.true c.loop-test.invariant
+    puts_one_more (λ (test : CodeTest). codes " or " ++ test_text (seen_test c.args.names.now test)) c.in-Some.others.now c.loop-test.test-index _ _ _ _ c.loop-test-test.true c.loop-test.invariant
     c.put_test-in-loop-test.ensures
 
 pub returns : goal.returns
 returns g c =
     let split : c.args.tests.now ≡ c.in-Some.first.now ∷ c.in-Some.others.now = grind (arith, common_steps) in
     puts_same _ _ _ _ (puts_both _ _ _ _ _ c.put_test.ensures c.loop-test.invariant)
-    (joined_seen test_text (codes " or ") (seen_test (g.N.NamesByPlace.names c.args.names.now)) c.in-Some.first.now c.in-Some.others.now c.args.tests.now c.loop-test.test-index split c.loop-test-test.false)
+    (joined_seen test_text (codes " or ") (seen_test c.args.names.now) c.in-Some.first.now c.in-Some.others.now c.args.tests.now c.loop-test.test-index split c.loop-test-test.false)

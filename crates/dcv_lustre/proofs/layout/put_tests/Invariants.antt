@@ -8,4 +8,4 @@ use Rattle.dcv_lustre.proofs.layout.put_tests.Given as goal
 -- the tests so far are put, each but the first behind what stands between
 abbrev pub invariant-loop-test : goal.invariant-loop-test
 invariant-loop-test g l =
-    Puts (g.T.Target.standing l.initial.target) (g.T.Target.standing l.target) (flat_map (λ test. codes " or " ++ test_text (seen_test (g.N.NamesByPlace.names l.fn.names) test)) (take l.test-index l.others))
+    Puts (g.T.Target.standing l.initial.target) (g.T.Target.standing l.target) (flat_map (λ test. codes " or " ++ test_text (seen_test l.fn.names test)) (take l.test-index l.others))

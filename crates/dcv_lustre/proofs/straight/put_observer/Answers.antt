@@ -1,51 +1,49 @@
-use Rattle.std.proofs.Common.{length, sym, ap, subst, arith}
-use Rattle.std.specs.Prelude.{slice_index_or}
-use Rattle.dcv_dfa.specs.NodeLines.{IsBelow}
+use Rattle.std.proofs.Common.{◌<◌, ◌++◌, List, length, map, sym, ap, subst, refl, ◌∙◌, arith, codes}
+use Rattle.std.specs.Fmt.{decimal}
+use Rattle.std.specs.List.{All, enumerate_from}
+use Rattle.dcv_dfa.specs.declared.node_lines.NodeLine.{NodeLine}
+use Rattle.dcv_dfa.specs.NodeLines.{NodeLinesValue}
 use Rattle.dcv_io.proofs.Putting.{puts_both, puts_same}
-use Rattle.dcv_automaton_file.specs.File.{texts_of, Fits}
+use Rattle.dcv_automaton_file.specs.File.{texts_of, node_line, state_lines}
 use Rattle.dcv_automaton_file.proofs.Rows.{are_lined}
-use Rattle.dcv_lustre.proofs.PutLines.{text_is}
+use Rattle.dcv_automaton_file.proofs.PutLines.{lines_seen, numbers_seen}
+use Rattle.dcv_lustre.specs.Layout.{local_line, equation_line}
+use Rattle.dcv_lustre.specs.Observer.{node_local, node_equation}
+use Rattle.dcv_lustre.proofs.ObserverText.{inputs_text, node_is, tests_text, text_is}
 use Rattle.dcv_lustre.proofs.straight.put_observer.Goals as goal
 
-pub overflow_cast-all : goal.overflow_cast-all
-overflow_cast-all g c =
-    let is = are_lined c.args.auto.now c.args.nodes.now c.states-states.ensures.raw c.states-states.ensures.auto c.requires.states c.requires.nodes c.requires.lines in
-    omega (arith, ap length c.lines.ensures, is.count)
+pub overflow_cast-lines : goal.overflow_cast-lines
+overflow_cast-lines g c =
+    let is = are_lined c.args.auto.now c.args.nodes.now c.states-states.ensures.raw c.states-states.ensures.auto c.requires.nodes c.requires.lines in
+    omega (arith, ap length c.lines-lines.ensures, is.count)
 
-pub put_equations-requires-clause-nodes : goal.put_equations-requires-clause-nodes
-put_equations-requires-clause-nodes g c =
-    let is = are_lined c.args.auto.now c.args.nodes.now c.states-states.ensures.raw c.states-states.ensures.auto c.requires.states c.requires.nodes c.requires.lines in
-    omega (arith, ap length c.lines.ensures, is.count)
+pub put_nodes-requires : goal.put_nodes-requires
+put_nodes-requires g c = λ k d within.
+    let is = are_lined c.args.auto.now c.args.nodes.now c.states-states.ensures.raw c.states-states.ensures.auto c.requires.nodes c.requires.lines in
+    let slots = subst (λ (lines : List NodeLine). All (λ (line : NodeLine). line.slot < c.args.auto.now.arena.slots) lines) (sym c.lines-lines.ensures) is.slots_below in
+    omega (arith, slots k d within, c.requires.slots)
 
-pub put_equations-requires-clause-fit : goal.put_equations-requires-clause-fit
-put_equations-requires-clause-fit g c = λ k d within.
-    let is = are_lined c.args.auto.now c.args.nodes.now c.states-states.ensures.raw c.states-states.ensures.auto c.requires.states c.requires.nodes c.requires.lines in
-    let line = slice_index_or c.args.nodes.now.lines k d in
-    subst (λ slots. Fits slots (length c.lines.result.now) line) (sym c.requires.slots)
-    (subst (λ nodes. Fits c.args.auto.now.arena.slots nodes line) (sym (ap length c.lines.ensures)) (is.fit k d within))
-
-pub put_equations-requires-clause-rows : goal.put_equations-requires-clause-rows
-put_equations-requires-clause-rows g c = λ k d within.
-    let is = are_lined c.args.auto.now c.args.nodes.now c.states-states.ensures.raw c.states-states.ensures.auto c.requires.states c.requires.nodes c.requires.lines in
-    subst (λ nodes. IsBelow 32768 nodes (slice_index_or c.args.nodes.now.rows k d)) (sym (ap length c.lines.ensures)) (is.rows k d within)
-
-pub put_equations-requires-clause-some : goal.put_equations-requires-clause-some
-put_equations-requires-clause-some g c =
-    let is = are_lined c.args.auto.now c.args.nodes.now c.states-states.ensures.raw c.states-states.ensures.auto c.requires.states c.requires.nodes c.requires.lines in
-    omega (arith, is.row_count, c.states-states.ensures.states, c.states-states.ensures.some)
-
-pub put_equations-requires-clause-states : goal.put_equations-requires-clause-states
-put_equations-requires-clause-states g c =
-    let is = are_lined c.args.auto.now c.args.nodes.now c.states-states.ensures.raw c.states-states.ensures.auto c.requires.states c.requires.nodes c.requires.lines in
-    is.row_count
-
-pub put_equations-requires-clause-few : goal.put_equations-requires-clause-few
-put_equations-requires-clause-few g c =
-    let is = are_lined c.args.auto.now c.args.nodes.now c.states-states.ensures.raw c.states-states.ensures.auto c.requires.states c.requires.nodes c.requires.lines in
-    omega (arith, is.row_count, c.requires.states)
+pub put_choice-requires : goal.put_choice-requires
+put_choice-requires g c =
+    let is = are_lined c.args.auto.now c.args.nodes.now c.states-states.ensures.raw c.states-states.ensures.auto c.requires.nodes c.requires.lines in
+    omega (arith, ap length c.rows.ensures, is.row_count, c.states-states.ensures.states, c.states-states.ensures.some)
 
 pub returns : goal.returns
 returns g c = λ access suffixes.
+    let raw = c.args.auto.now in
+    let all = c.args.nodes.now in
+    let is = are_lined raw all c.states-states.ensures.raw c.states-states.ensures.auto c.requires.nodes c.requires.lines in
+    let names = texts_of c.args.names.now in
+    let lines = c.lines-lines.result.now in
+    let rows = c.rows.result.now in
+    let numbered = map (node_line names) (enumerate_from 0 lines) in
     puts_same _ _ _ _
-    (puts_both _ _ _ _ _ c.put_head.ensures (puts_both _ _ _ _ _ c.put_locals.ensures (puts_both _ _ _ _ _ c.put_let.ensures (puts_both _ _ _ _ _ c.put_equations.ensures c.put_tel.ensures))))
-    (text_is c.args.auto.now (texts_of c.args.names.now) c.args.nodes.now (length c.lines.result.now) access suffixes c.requires.lines (ap length c.lines.ensures))
+    (puts_both _ _ _ _ _ c.put.ensures (puts_both _ _ _ _ _ c.put_names.ensures (puts_both _ _ _ _ _ c.put-2.ensures (puts_both _ _ _ _ _ c.put_numbers.ensures
+    (puts_both _ _ _ _ _ c.put-3.ensures (puts_both _ _ _ _ _ c.put_nodes.ensures (puts_both _ _ _ _ _ c.put-4.ensures (puts_both _ _ _ _ _ (c.put_choice.ensures raw)
+    (puts_both _ _ _ _ _ c.put-5.ensures (puts_both _ _ _ _ _ (c.put_accepting.ensures rows (ap length c.rows.ensures ∙ is.row_count)) c.put-6.ensures))))))))))
+    (text_is raw names lines rows access suffixes
+    (c.lines-lines.ensures ∙ ap (λ (all : NodeLinesValue). all.lines) c.requires.lines) (c.rows.ensures ∙ ap (λ (all : NodeLinesValue). all.rows) c.requires.lines) _ _ _ _
+    (inputs_text names)
+    (numbers_seen (λ number. codes "  n" ++ (decimal number ++ codes ": int;\n")) names 0 lines ∙ lines_seen _ node_local local_line (λ line. refl) numbered)
+    (lines_seen _ node_equation equation_line node_is numbered)
+    (tests_text (state_lines raw rows)))

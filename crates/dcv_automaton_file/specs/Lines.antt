@@ -1,0 +1,43 @@
+-- Lines of an automaton's nodes and states, by the texts that stand around their parts.
+--     child_text target          a state as its number, and a node as `nJ`
+--     node_text layout line      the line of a node
+--     row_text layout line       the line of a state, by its row
+--     listed_by before behind between none texts    the texts, each between two, with something between every two or in place of none
+--     listed listing texts       the same by a listing
+--     accepting_numbers lines    the numbers of the states that accept
+use Rattle.std.specs.Prelude.{ℕ, List, [], ◌∷◌, ◌++◌, map}
+use Rattle.std.specs.Fmt.{decimal}
+use Rattle.std.specs.List.{filter, join_by}
+use Rattle.std.specs.Str.{byte}
+use Rattle.dcv_automaton_text.specs.File.{Target, ToState, ToNode, NodeLine, StateLine}
+use Rattle.dcv_automaton_file.specs.declared.lines.Listing.{Listing}
+use Rattle.dcv_automaton_file.specs.declared.lines.NodeLayout.{NodeLayout}
+use Rattle.dcv_automaton_file.specs.declared.lines.RowLayout.{RowLayout}
+
+abbrev pub child_text : Target → List ℕ
+child_text (ToState state) = decimal state
+child_text (ToNode number) = byte "n" ∷ decimal number
+
+abbrev pub node_text : NodeLayout → NodeLine → List ℕ
+node_text layout line =
+    layout.number.now
+    ++ (decimal line.number ++ (layout.variable.now ++ (line.name ++ (layout.hi.now ++ (child_text line.hi ++ (layout.lo.now ++ (child_text line.lo ++ layout.end.now)))))))
+
+abbrev pub row_text : RowLayout → StateLine → List ℕ
+row_text layout line = layout.number.now ++ (decimal line.number ++ (layout.row.now ++ (child_text line.row ++ layout.end.now)))
+
+abbrev pub listed_by : List ℕ → List ℕ → List ℕ → List ℕ → List (List ℕ) → List ℕ
+listed_by before behind between none [] = none
+listed_by before behind between none (text ∷ texts) = join_by (λ text. before ++ (text ++ behind)) between (text ∷ texts)
+
+abbrev pub one_listed : Listing → List ℕ → List ℕ
+one_listed listing text = listing.before.now ++ (text ++ listing.behind.now)
+
+abbrev pub listed : Listing → List (List ℕ) → List ℕ
+listed listing texts = listed_by listing.before.now listing.behind.now listing.between.now listing.none.now texts
+
+abbrev pub number_of : StateLine → List ℕ
+number_of line = decimal line.number
+
+abbrev pub accepting_numbers : List StateLine → List (List ℕ)
+accepting_numbers lines = map number_of (filter (λ (line : StateLine). line.accepting) lines)

@@ -1,0 +1,226 @@
+// Puts what is said of an automaton's variables, nodes and states, by the texts that stand around each part.
+ghost use Rattle.std.specs.Prelude.{◌≡◌, ◌<◌, ◌||◌, ◌++◌, [], List, if◌then◌else◌, length, map, decimal};
+ghost use Rattle.std.specs.List.{All, range_with_len, enumerate_from, flat_map};
+ghost use Rattle.dcv_io.specs.Putting.{Puts};
+ghost use Rattle.dcv_dfa.specs.Raw.{RawValue};
+ghost use Rattle.dcv_dfa.specs.declared.node_lines.Child.{Child as PlainChild};
+ghost use Rattle.dcv_automaton_file.specs.File.{texts_of, target_of, node_line, state_lines};
+ghost use Rattle.dcv_automaton_file.specs.Lines.{child_text, node_text, row_text, one_listed, listed, accepting_numbers};
+
+use dcv_dfa::{Auto, Child, NodeLine};
+use dcv_io::{Target, put_pieces};
+use dcv_syntax::Name;
+use itoa::Buffer;
+
+/// How a list is laid out: what stands before and behind each, between every two, and in place of none.
+#[derive(Clone, Copy)]
+pub struct Listing<'a> {
+    pub before: &'a [u8],
+    pub behind: &'a [u8],
+    pub between: &'a [u8],
+    pub none: &'a [u8],
+}
+
+/// How a node's line is laid out: what stands before its number, before the name of its variable, before its children, and at the end.
+#[derive(Clone, Copy)]
+pub struct NodeLayout<'a> {
+    pub number: &'a [u8],
+    pub variable: &'a [u8],
+    pub hi: &'a [u8],
+    pub lo: &'a [u8],
+    pub end: &'a [u8],
+}
+
+/// How a state's line is laid out: what stands before its number, before its row, and at the end.
+#[derive(Clone, Copy)]
+pub struct RowLayout<'a> {
+    pub number: &'a [u8],
+    pub row: &'a [u8],
+    pub end: &'a [u8],
+}
+
+// ---- variables
+
+/// Puts the names of variables.
+pub fn put_names<T: Target>(target: &mut T, listing: &Listing<'_>, names: &[Name])
+    ensures { Puts (T.standing target.old) (T.standing target.new) (listed listing.now (texts_of names.now)) }
+{
+    let Some((first, others)) = names.split_first() else {
+        return target.put(listing.none);
+    };
+    put_one(target, listing, b"", first.text.as_bytes());
+    for name in others {
+        put_one(target, listing, listing.between, name.text.as_bytes());
+    }
+}
+
+// One of a list, after what stands between it and the one before.
+fn put_one<T: Target>(target: &mut T, listing: &Listing<'_>, between: &[u8], text: &[u8])
+    ensures { Puts (T.standing target.old) (T.standing target.new) (between.now ++ one_listed listing.now text.now) }
+{
+    put_pieces(target, &[between, listing.before, text, listing.behind]);
+}
+
+// ---- nodes
+
+/// Puts the numbers below a count, each between two texts.
+pub fn put_numbers<T: Target>(target: &mut T, before: &[u8], behind: &[u8], count: u32)
+    ensures { Puts (T.standing target.old) (T.standing target.new) (flat_map (λ number. before.now ++ (decimal number ++ behind.now)) (range_with_len 0 count)) }
+{
+    for number in 0..count {
+        put_number(target, before, behind, number);
+    }
+}
+
+fn put_number<T: Target>(target: &mut T, before: &[u8], behind: &[u8], number: u32)
+    ensures { Puts (T.standing target.old) (T.standing target.new) (before.now ++ (decimal number ++ behind.now)) }
+{
+    let mut digits = Buffer::new();
+    put_pieces(target, &[before, digits.format(number).as_bytes(), behind]);
+}
+
+/// Puts a line for each node.
+pub fn put_nodes<T: Target>(
+    target: &mut T,
+    layout: &NodeLayout<'_>,
+    names: &[Name],
+    lines: &[NodeLine],
+)
+    requires { All (λ (line : NodeLine). line.slot < length names.now) lines.now }
+    ensures { Puts (T.standing target.old) (T.standing target.new)
+        (flat_map (node_text layout.now) (map (node_line (texts_of names.now)) (enumerate_from 0 lines.now))) }
+{
+    for (number, line) in lines.iter().enumerate() {
+        let name = names[usize::from(line.slot)].text.as_bytes();
+        put_node(target, layout, number, name, *line);
+    }
+}
+
+fn put_node<T: Target>(
+    target: &mut T,
+    layout: &NodeLayout<'_>,
+    number: usize,
+    name: &[u8],
+    line: NodeLine,
+)
+    ensures { Puts (T.standing target.old) (T.standing target.new)
+        (node_text layout.now (record { number = number; name = name.now; hi = target_of line.hi; lo = target_of line.lo })) }
+{
+    put_node_start(target, layout, number, name);
+    put_child(target, line.hi);
+    target.put(layout.lo);
+    put_child(target, line.lo);
+    target.put(layout.end);
+}
+
+// The line up to its first child.
+fn put_node_start<T: Target>(target: &mut T, layout: &NodeLayout<'_>, number: usize, name: &[u8])
+    ensures { Puts (T.standing target.old) (T.standing target.new)
+        (layout.now.number.now ++ (decimal number ++ (layout.now.variable.now ++ (name.now ++ layout.now.hi.now)))) }
+{
+    let mut digits = Buffer::new();
+    put_pieces(
+        target,
+        &[
+            layout.number,
+            digits.format(number).as_bytes(),
+            layout.variable,
+            name,
+            layout.hi,
+        ],
+    );
+}
+
+/// Puts a state as its number, and a node as `nJ`.
+pub fn put_child<T: Target>(target: &mut T, child: Child)
+    ensures { Puts (T.standing target.old) (T.standing target.new) (child_text (target_of child)) }
+{
+    let mut digits = Buffer::new();
+    match child {
+        Child::State(state) => target.put(digits.format(state).as_bytes()),
+        Child::Node(number) => put_pieces(target, &[b"n", digits.format(number).as_bytes()]),
+    }
+}
+
+// ---- states
+
+/// Puts a line for each state, by its row.
+pub fn put_rows<T: Target>(target: &mut T, layout: &RowLayout<'_>, rows: &[Child])
+    ensures { (raw : RawValue) → Puts (T.standing target.old) (T.standing target.new) (flat_map (row_text layout.now) (state_lines raw rows.now)) }
+{
+    for (number, row) in rows.iter().enumerate() {
+        put_row(target, layout, number, *row);
+    }
+}
+
+fn put_row<T: Target>(target: &mut T, layout: &RowLayout<'_>, number: usize, row: Child)
+    ensures { Puts (T.standing target.old) (T.standing target.new)
+        (layout.now.number.now ++ (decimal number ++ (layout.now.row.now ++ (child_text (target_of row) ++ layout.now.end.now)))) }
+{
+    put_row_start(target, layout, number);
+    put_child(target, row);
+    target.put(layout.end);
+}
+
+// The line up to its row.
+fn put_row_start<T: Target>(target: &mut T, layout: &RowLayout<'_>, number: usize)
+    ensures { Puts (T.standing target.old) (T.standing target.new) (layout.now.number.now ++ (decimal number ++ layout.now.row.now)) }
+{
+    let mut digits = Buffer::new();
+    put_pieces(
+        target,
+        &[layout.number, digits.format(number).as_bytes(), layout.row],
+    );
+}
+
+/// Puts the numbers of the states that accept.
+pub fn put_accepting<T: Target>(target: &mut T, listing: &Listing<'_>, auto: &Auto)
+    ensures { (rows : List PlainChild) → length rows ≡ length auto.now.rows
+        → Puts (T.standing target.old) (T.standing target.new) (listed listing.now (accepting_numbers (state_lines auto.now rows))) }
+{
+    let mut some = false;
+    for state in 0..auto.states() {
+        some = put_if_accepting(target, listing, some, state, auto.accepting(state));
+    }
+    put_unless(target, listing, some);
+}
+
+// The number of a state that accepts, after what stands between where some number stands before it. Says whether one stands now.
+fn put_if_accepting<T: Target>(
+    target: &mut T,
+    listing: &Listing<'_>,
+    some: bool,
+    state: u32,
+    accepting: bool,
+) -> bool
+    ensures some { result ≡ (accepting || some) }
+    ensures puts { Puts (T.standing target.old) (T.standing target.new)
+        (if accepting then (if some then listing.now.between.now else []) ++ one_listed listing.now (decimal state) else []) }
+{
+    if accepting {
+        let mut digits = Buffer::new();
+        put_one(
+            target,
+            listing,
+            between_if(listing, some),
+            digits.format(state).as_bytes(),
+        );
+        return true;
+    }
+    some
+}
+
+fn between_if<'a>(listing: &Listing<'a>, some: bool) -> &'a [u8]
+    ensures { result.now ≡ (if some then listing.now.between.now else []) }
+{
+    if some { listing.between } else { b"" }
+}
+
+// What stands in place of none, unless there is one.
+fn put_unless<T: Target>(target: &mut T, listing: &Listing<'_>, some: bool)
+    ensures { Puts (T.standing target.old) (T.standing target.new) (if some then [] else listing.now.none.now) }
+{
+    if !some {
+        target.put(listing.none);
+    }
+}
