@@ -2,8 +2,8 @@
 //! lexicon and read by a predictive grammar.
 //!
 //! Each byte of a text belongs to white space or to an item: a token, or the one byte with which no piece begins. A stray
-//! byte, a word of more than 32 bytes and a number above 32,767 have a class that stands in no sentence, so the syntax of a
-//! text is at fault where its items are. `syntax_fault` goes through a text once and keeps no items.
+//! byte, a word of more than 32 bytes, a number above 32,767 and one that begins with a 0 that its language does not allow
+//! have a class that stands in no sentence, so the syntax of a text is at fault where its items are. `syntax_fault` goes through a text once and keeps no items.
 #![tactic(auto)]
 
 mod conditions;
