@@ -9,12 +9,16 @@
 mod conditions;
 mod fault;
 mod items;
+mod judge;
 pub mod laws;
 mod names;
+mod numbers;
 mod syntax;
 
 pub use conditions::{Condition, Test};
 pub use fault::ObsFault;
 pub use items::{Item, Items, LARGEST_NUMBER, LONGEST_WORD, NAME, NUMBER, UNKNOWN};
+pub use judge::{broken, push};
 pub use names::Declared;
+pub use numbers::{is_number, number_at};
 pub use syntax::syntax_fault;
