@@ -67,4 +67,5 @@ lexicon =
       number = number;
       unknown = unknown;
       comments = false;
+      leading_zeros = false;
     }

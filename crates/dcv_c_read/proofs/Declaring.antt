@@ -1,25 +1,17 @@
 -- One more name is declared.
-use Rattle.std.proofs.Common.{◌≡◌, ℕ, ◌+◌, Bool, true, false, not, cond, ◌&&◌, ◌||◌, List, [], ◌∷◌, ◌++◌, length, map, refl, sym, ap, subst, ◌∙◌, arith, inl, inr}
+use Rattle.std.proofs.Common.{◌≡◌, ℕ, ◌+◌, Bool, true, false, not, ◌&&◌, ◌||◌, List, [], ◌∷◌, ◌++◌, length, refl, sym, ap, subst, ◌∙◌, arith, inl, inr}
 use Rattle.std.specs.Prelude.{bytes_eq}
-use Rattle.std.proofs.lemmas.List.{map_push}
-use Rattle.std.proofs.lemmas.Bool.{or_from, or_parts, or_left, or_right, or_cases, both_ways, false≢true, not-true, false_from_ne_true}
+use Rattle.std.proofs.Math.Bool.{or-false, or_assoc}
+use Rattle.std.proofs.lemmas.Bool.{or_from, or_left, or_right, or_cases, both_ways, false≢true, false_from_ne_true}
 use Rattle.dcv_observer.specs.Conditions.{Names}
-use Rattle.dcv_observer.specs.Naming.{is_among, AreDistinct}
-use Rattle.dcv_observer.proofs.Naming.{is_itself, differs, differs_back, among_append_left, among_append_right, distinct_push}
+use Rattle.dcv_observer.specs.Naming.{is_among}
+use Rattle.dcv_observer.proofs.Naming.{is_itself, differs, among_append_left, among_append_right, distinct_push}
 use Rattle.dcv_c.specs.Rules.{keeps_new}
 use Rattle.dcv_c_read.specs.declared.scope.Sort.{Sort}
 use Rattle.dcv_c_read.specs.declared.scope.Sort.TheVariants.{Variable, Parameter}
 use Rattle.dcv_c_read.specs.Scope.{Row, Frame, with_function, with_names, is_variable, IsRow, AreRows, KnowsNames}
 
 -- ---- one more name in a list
-
-or_false : (b : Bool) → (b || false) ≡ b
-or_false true = refl
-or_false false = refl
-
-or_assoc : (a b c : Bool) → ((a || b) || c) ≡ (a || (b || c))
-or_assoc true b c = refl
-or_assoc false b c = refl
 
 or_moved : (a b c : Bool) → ((a || b) || c) ≡ ((a || c) || b)
 or_moved true b c = refl
@@ -29,11 +21,8 @@ or_moved false false true = refl
 or_moved false false false = refl
 
 among_push : (names : Names) (last name : List ℕ) → is_among (names ++ last ∷ []) name ≡ (is_among names name || bytes_eq name last)
-among_push [] last name = or_false (bytes_eq name last)
+among_push [] last name = or-false (bytes_eq name last)
 among_push (n ∷ names) last name = ap (λ (b : Bool). bytes_eq name n || b) (among_push names last name) ∙ sym (or_assoc (bytes_eq name n) (is_among names name) (bytes_eq name last))
-
-not_among_push : (names : Names) (last name : List ℕ) → is_among names name ≡ false → bytes_eq name last ≡ false → is_among (names ++ last ∷ []) name ≡ false
-not_among_push names last name none other = among_push names last name ∙ or_from (is_among names name) (bytes_eq name last) none other
 
 -- ---- what the rules ask of it
 
@@ -82,11 +71,11 @@ module _ (frame : Frame) (functions declared : Names) (rows : List Row) (knows :
     grows names n = among_push names name n
 
     stays : (names : Names) → Grows names false names
-    stays names n = sym (or_false (is_among names n))
+    stays names n = sym (or-false (is_among names n))
 
     same_here : (names more : Names) (new : Bool) → Grows names new more → (n : List ℕ) → is_among frame.placed n ≡ true → is_among names n ≡ is_among more n
     same_here names more new grown n among =
-        sym (grown n ∙ ap (λ (b : Bool). is_among names n || (new && b)) (other_name n among) ∙ ap (λ (b : Bool). is_among names n || b) (never new) ∙ or_false (is_among names n))
+        sym (grown n ∙ ap (λ (b : Bool). is_among names n || (new && b)) (other_name n among) ∙ ap (λ (b : Bool). is_among names n || b) (never new) ∙ or-false (is_among names n))
       where
         never : (b : Bool) → (b && false) ≡ false
         never true = refl
@@ -168,19 +157,3 @@ module _ (frame : Frame) (functions declared : Names) (rows : List Row) (knows :
       subst (λ (ns : Names). KnowsNames (with_names sort (name ∷ []) frame) functions ns more_rows) (sym is)
       (subst (λ (rs : List Row). KnowsNames (with_names sort (name ∷ []) frame) functions (declared ++ name ∷ []) rs) (sym rows_are)
       (by_sort (subst (λ (names : Names). is_among names name ≡ false) knows.declared_are no_place) sort))
-
-pub pushed_map : {X Y : Type 0} (f : X → Y) (items more : List X) (x : X) → more ≡ items ++ x ∷ [] → map f more ≡ map f items ++ f x ∷ []
-pushed_map f items more x is = ap (map f) is ∙ map_push f items x
-
--- whether a name was new, and what is declared then
-pub was_new : (b : Bool) (names more : Names) (name : List ℕ) → b ≡ true → b ≡ not (is_among names name) → more ≡ cond b (names ++ name ∷ []) names
-    → (is_among names name ≡ false) × (more ≡ names ++ name ∷ [])
-was_new b names more name new is then =
-    (not-true (is_among names name) (sym is ∙ new), then ∙ ap (λ (d : Bool). cond d (names ++ name ∷ []) names) new)
-
-pub was_there : (b : Bool) (names : Names) (name : List ℕ) → b ≡ false → b ≡ not (is_among names name) → is_among names name ≡ true
-was_there b names name old is = among (is_among names name) (sym is ∙ old)
-  where
-    among : (there : Bool) → not there ≡ false → there ≡ true
-    among true h = refl
-    among false h = absurd (false≢true (sym h))

@@ -15,7 +15,7 @@ use Rattle.dcv_c_read.specs.declared.placed.PlacedWhen.{PlacedWhen}
 use Rattle.dcv_c_read.specs.declared.scope.Scope.{Scope}
 use Rattle.dcv_c_read.specs.Seen.{seen_when, seen_statement}
 use Rattle.dcv_c_read.specs.Scope.{Frame, with_known, Knows}
-use Rattle.dcv_c_read.specs.Judged.{IsLeft, Leads}
+use Rattle.dcv_observer.specs.Judged.{IsLeft, Leads}
 
 module _ (frame : Frame) (unit : CUnit) (whole : Option ℕ) (words : List Token) (keeps : List Bool) (scope : Scope) where
   -- what is told of a statement

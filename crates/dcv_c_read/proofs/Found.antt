@@ -1,48 +1,16 @@
 -- The row of a name is found by its place among the names.
-use Rattle.std.proofs.Common.{◌≡◌, ℕ, zero, suc, ◌+◌, ◌<◌, Bool, true, false, ◌⊎◌, cond, ltb, List}
-use Rattle.std.proofs.Common.{[], ◌∷◌, length, map, get_or, Option, Some, None, refl, sym, ap, subst, ◌∙◌, arith, inl, inr}
+use Rattle.std.proofs.Common.{◌≡◌, ℕ, zero, suc, ◌+◌, ◌<◌, true, false, List}
+use Rattle.std.proofs.Common.{[], ◌∷◌, length, map, get_or, Option, Some, None, refl, sym, ap, subst, ◌∙◌, arith}
 use Rattle.std.specs.Prelude.{bytes_eq, slice_get}
-use Rattle.std.specs.List.{position, position_or_len, list_any}
-use Rattle.std.specs.Option.{is_some}
+use Rattle.std.specs.List.{position}
 use Rattle.std.proofs.lemmas.List.Quantifiers.{position-Some}
-use Rattle.std.proofs.lemmas.Bool.{cases_Bool, or_left, or_right, or_cases, both_ways, false≢true, false_from_ne_true, lt-ltb}
+use Rattle.std.proofs.lemmas.Bool.{or_left, or_right}
 use Rattle.dcv_observer.specs.Conditions.{Names}
 use Rattle.dcv_observer.specs.Naming.{is_among}
+use Rattle.dcv_observer.proofs.Declaring.{not_there}
 use Rattle.dcv_observer.proofs.Naming.{one_name, is_itself}
 use Rattle.dcv_c_read.specs.declared.scope.Declaration.{Declaration}
 use Rattle.dcv_c_read.specs.Scope.{Frame, seen_row, AreRows, IsRow, KnowsNames, IsNamed, IsFound}
-
-place_within : (p : List ℕ → Bool) (xs : Names) → list_any p xs ≡ true → position_or_len p xs < length xs
-place_within p [] some = absurd (false≢true some)
-place_within p (x ∷ xs) some =
-    elim (cases_Bool (p x)) [
-      | inl here ↦ rw here (omega arith)
-      | inr other ↦ let later = place_within p xs (behind other (or_cases (p x) (list_any p xs) some)) in rw other (omega arith)
-    ]
-  where
-    behind : p x ≡ false → (p x ≡ true) ⊎ (list_any p xs ≡ true) → list_any p xs ≡ true
-    behind other (inl here) = absurd (both_ways (p x) other here)
-    behind other (inr more) = more
-
-pub not_there : (p : List ℕ → Bool) (xs : Names) → position p xs ≡ None → list_any p xs ≡ false
-not_there p xs none =
-    false_from_ne_true (list_any p xs) (λ some.
-    let place = position_or_len p xs in
-    let within : ltb place (length xs) ≡ true = lt-ltb place (length xs) (place_within p xs some) in
-    let never : Some place ≡ None = sym (ap (λ (b : Bool). cond b (Some place) None) within) ∙ none in
-    cc)
-
-any_at : (p : List ℕ → Bool) (xs : Names) (k : ℕ) → k < length xs → p (get_or xs k []) ≡ true → list_any p xs ≡ true
-any_at p [] k within is = absurd (omega arith)
-any_at p (x ∷ xs) zero within is = or_left _ _ is
-any_at p (x ∷ xs) (suc k) within is = or_right (p x) _ (any_at p xs k (omega arith) is)
-
-pub place_any : (p : List ℕ → Bool) (xs : Names) → is_some (position p xs) ≡ list_any p xs
-place_any p xs = by (position p xs) refl
-  where
-    by : (found : Option ℕ) → position p xs ≡ found → is_some found ≡ list_any p xs
-    by None none = sym (not_there p xs none)
-    by (Some k) is = let facts = position-Some p xs k [] is in sym (any_at p xs k facts.0 facts.1)
 
 -- a name that is there
 pub among_at : (names : Names) (k : ℕ) → k < length names → is_among names (get_or names k []) ≡ true

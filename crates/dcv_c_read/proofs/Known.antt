@@ -3,7 +3,7 @@ use Rattle.std.proofs.Common.{◌≡◌, ℕ, zero, suc, ◌+◌, ◌<◌, ◌�
 use Rattle.std.proofs.Common.{◌∷◌, length, map, get_or, refl, sym, ap, subst, ◌∙◌, arith, inl, inr}
 use Rattle.std.specs.Prelude.{bytes_eq, slice_set}
 use Rattle.std.specs.List.{list_all}
-use Rattle.std.proofs.lemmas.Bool.{or_parts, or_left, or_cases, and_from, both_ways, false≢true, false_from_ne_true}
+use Rattle.std.proofs.lemmas.Bool.{and_right, or_parts, or_left, or_cases, and_from, both_ways, false_from_ne_true}
 use Rattle.dcv_observer.specs.Conditions.{Names}
 use Rattle.dcv_observer.specs.Naming.{is_among, AreDistinct}
 use Rattle.dcv_observer.proofs.Naming.{is_itself, one_name, differs}
@@ -120,10 +120,6 @@ all_are_known frame functions declared items knows = rows_known frame.lefts fram
 
 -- ---- what the rules ask of a name, by its row
 
-not_both : (a b : Bool) → b ≡ false → (a && b) ≡ false
-not_both true b is = is
-not_both false b is = refl
-
 module _ (frame : Frame) (functions declared : Names) (rows : List Row) (knows : KnowsNames frame functions declared rows) (name : List ℕ) where
   pub no_left : is_among frame.placed name ≡ false → is_among frame.lefts name ≡ false
   no_left none = false_from_ne_true (is_among frame.lefts name) (λ some. both_ways (is_among frame.placed name) none (knows.lefts_among name some))
@@ -136,7 +132,7 @@ module _ (frame : Frame) (name : List ℕ) where
   no_left_unset is = ap (λ (b : Bool). b && keeps_new frame.known name) is
 
   pub known_unset : is_among frame.known name ≡ true → (is_among frame.lefts name && keeps_new frame.known name) ≡ false
-  known_unset is = not_both (is_among frame.lefts name) (keeps_new frame.known name) (ap not is)
+  known_unset is = and_right (is_among frame.lefts name) (keeps_new frame.known name) (ap not is)
 
   pub unset : is_among frame.lefts name ≡ true → is_among frame.known name ≡ false → (is_among frame.lefts name && keeps_new frame.known name) ≡ true
   unset left new = and_from (is_among frame.lefts name) (keeps_new frame.known name) left (ap not new)

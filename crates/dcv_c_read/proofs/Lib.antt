@@ -1,5 +1,3 @@
-pub mod Judging
-pub mod Bodies
 pub mod Translated
 pub mod Found
 pub mod Declaring

@@ -1,28 +1,17 @@
--- What is made of a list so far and what is left of it, one after another.
+-- Which names are declared so far and which are left, one after another.
 use Rattle.std.proofs.Common.{◌≡◌, ℕ, ◌+◌, Bool, true, false, ◌&&◌, List, [], ◌∷◌, ◌++◌, map, Option, refl, sym, ap, subst, ◌∙◌, append_assoc}
 use Rattle.std.specs.Prelude.{nat_lt}
-use Rattle.std.proofs.lemmas.List.{map_push, append-nil}
+use Rattle.std.proofs.lemmas.List.{append-nil}
 use Rattle.dcv_lexer.specs.Cuts.{Token}
 use Rattle.dcv_observer.specs.Conditions.{Names}
 use Rattle.dcv_observer.specs.Left.{seen}
+use Rattle.dcv_observer.proofs.SoFar.{text_more}
 use Rattle.dcv_observer.specs.declared.items.Item.{Item}
 use Rattle.dcv_c.specs.Placed.{bytes_of}
 use Rattle.dcv_c.specs.Rules.{keeps_new, keeps_apart, keeps_parameters}
 use Rattle.dcv_c_read.specs.declared.scope.Scope.{Scope}
 use Rattle.dcv_c_read.specs.Scope.{Frame, with_variables, with_parameters, Knows}
-use Rattle.dcv_c_read.specs.Judged.{IsLeft}
-
--- what is made so far and what is left make up the whole
-pub one_more : {X Y Z : Type 0} (f : X → Y) (g : Z → Y) (made more : List X) (x : X) (z : Z) (later : List Z) (all : List Y) → more ≡ made ++ x ∷ [] → f x ≡ g z
-    → map f made ++ map g (z ∷ later) ≡ all → map f more ++ map g later ≡ all
-one_more f g made more x z later all is same whole =
-    ap (λ xs. map f xs ++ map g later) is
-    ∙ ap (λ ys. ys ++ map g later) (map_push f made x)
-    ∙ append_assoc (map f made) (f x ∷ []) (map g later)
-    ∙ ap (λ y. map f made ++ y ∷ map g later) same
-    ∙ whole
-
--- ---- names
+use Rattle.dcv_observer.specs.Judged.{IsLeft}
 
 pub record AreDeclaredSoFar (frame : Frame) (whole : Option ℕ) (others : List Token) (keeps : List Bool) (all : List Item) (texts : Names) (later : List Item) (scope : Scope) : Type 0 where
   pub knows : Knows (with_variables texts frame) scope
@@ -33,13 +22,6 @@ pub record AreParametersSoFar (frame : Frame) (whole : Option ℕ) (others : Lis
   pub knows : Knows (with_parameters texts frame) scope
   pub texts_are : texts ++ bytes_of (map seen later) ≡ bytes_of (map seen all)
   pub left : IsLeft whole (map seen later ++ others) (keeps_parameters (frame.earlier ++ texts) place (bytes_of (map seen later)) ++ keeps)
-
-nothing_before : (names : Names) → names ++ [] ≡ names
-nothing_before names = append-nil names
-
-text_more : (all texts more : Names) (name text : List ℕ) (later : Names) → texts ++ (name ∷ later) ≡ all → text ≡ name → more ≡ texts ++ text ∷ [] → more ++ later ≡ all
-text_more all texts more name text later whole is pushed =
-    ap (λ (ts : Names). ts ++ later) pushed ∙ append_assoc texts (text ∷ []) later ∙ ap (λ (t : List ℕ). texts ++ t ∷ later) is ∙ whole
 
 pushed_name : (texts more : Names) (name text : List ℕ) → text ≡ name → more ≡ texts ++ text ∷ [] → texts ++ name ∷ [] ≡ more
 pushed_name texts more name text is pushed = ap (λ (t : List ℕ). texts ++ t ∷ []) (sym is) ∙ sym pushed

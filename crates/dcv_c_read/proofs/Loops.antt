@@ -1,5 +1,6 @@
 -- One more assignment, one more statement and one more test.
-use Rattle.std.proofs.Common.{◌≡◌, ℕ, zero, suc, ◌<◌, ◌≤◌, Bool, true, false, ◌||◌, List, [], ◌∷◌, ◌++◌, length, map, drop, Option, refl, sym, subst, ◌∙◌, arith, append_assoc}
+use Rattle.std.proofs.Common.{◌≡◌, ℕ, zero, suc, ◌<◌, ◌≤◌, Bool, true, ◌||◌, List, [], ◌∷◌, ◌++◌, length, map, drop, Option, refl, sym, subst, ◌∙◌, arith, append_assoc}
+use Rattle.std.proofs.Math.Bool.{or-false}
 use Rattle.std.specs.Prelude.{bytes_eq}
 use Rattle.std.proofs.lemmas.List.{at_drop_all, append-nil}
 use Rattle.dcv_lexer.specs.Cuts.{Token}
@@ -19,9 +20,11 @@ use Rattle.dcv_c_read.specs.declared.placed.PlacedTest.{PlacedTest}
 use Rattle.dcv_c_read.specs.declared.scope.Scope.{Scope}
 use Rattle.dcv_c_read.specs.Seen.{seen_assignment, seen_statement, seen_test}
 use Rattle.dcv_c_read.specs.Scope.{Frame, with_known, Knows, KnowsAssigned, KnowsMore, IsNamed}
-use Rattle.dcv_c_read.specs.Judged.{IsLeft, IsBroken, IsFaultOf, words_of_assignments, names_of_assignments, words_of_statements, words_of_tests, keeps_tests}
-use Rattle.dcv_c_read.proofs.Judging.{kept, first_fault}
-use Rattle.dcv_c_read.proofs.Lists.{one_more}
+use Rattle.dcv_observer.specs.Judged.{IsLeft, IsBroken, IsFaultOf}
+use Rattle.dcv_c_read.specs.Judged.{words_of_assignments, names_of_assignments, words_of_statements, words_of_tests, keeps_tests}
+use Rattle.dcv_observer.proofs.Declaring.{or_turned}
+use Rattle.dcv_observer.proofs.Judging.{kept, first_fault}
+use Rattle.dcv_observer.proofs.SoFar.{one_more}
 
 -- ---- assignments
 
@@ -34,16 +37,6 @@ name_append (n ∷ placed) more (suc place) within = name_append placed more pla
 pub named_with : (placed more : Names) (name : List ℕ) (place : ℕ) → IsNamed placed name place → name_at (placed ++ more) place ≡ name
 named_with placed more name place named = name_append placed more place named.within ∙ named.is
 
-or_turned : (e b l : Bool) → (e || (b || l)) ≡ ((b || e) || l)
-or_turned true true l = refl
-or_turned true false l = refl
-or_turned false true l = refl
-or_turned false false l = refl
-
-no_or : (b : Bool) → (b || false) ≡ b
-no_or true = refl
-no_or false = refl
-
 pub record AreAssignedSoFar (frame : Frame) (whole : Option ℕ) (words : List Token) (keeps : List Bool) (all : List PlacedAssignment)
     (made : List CodeAssignment) (later : List PlacedAssignment) (scope : Scope) : Type 0 where
   pub known : Names
@@ -54,11 +47,6 @@ pub record AreAssignedSoFar (frame : Frame) (whole : Option ℕ) (words : List T
   pub left : IsLeft whole (words_of_assignments (map seen_assignment later) ++ words) (keeps_assignments frame.lefts known (map assignment_of (map seen_assignment later)) ++ keeps)
 
 module _ (frame : Frame) (whole : Option ℕ) (words : List Token) (keeps : List Bool) (all : List PlacedAssignment) where
-  pub assignments_begin : (scope : Scope) → Knows (with_known [] frame) scope
-      → IsLeft whole (words_of_assignments (map seen_assignment all) ++ words) (keeps_assignments frame.lefts [] (map assignment_of (map seen_assignment all)) ++ keeps)
-      → AreAssignedSoFar frame whole words keeps all [] all scope
-  assignments_begin scope knows left = record { known = []; knows = knows; are_made = λ more. refl; are_assigned = λ name. refl; left = left }
-
   pub assignments_more : (made : List CodeAssignment) (assignment : PlacedAssignment) (later : List PlacedAssignment) (scope then : Scope)
       (sofar : AreAssignedSoFar frame whole words keeps all made (assignment ∷ later) scope) (more : List CodeAssignment) (x : CodeAssignment) → more ≡ made ++ x ∷ []
       → ((names : Names) → assignment_seen (frame.placed ++ names) x ≡ assignment_of (seen_assignment assignment))
@@ -85,7 +73,7 @@ module _ (frame : Frame) (whole : Option ℕ) (words : List Token) (keeps : List
       × KnowsAssigned frame (names_of_assignments (map assignment_of (map seen_assignment all))) scope × IsLeft whole words keeps
   assignments_end made scope sofar = (
     λ more. sym (append-nil (map (assignment_seen (frame.placed ++ more)) made)) ∙ sofar.are_made more,
-    record { known = sofar.known; knows = sofar.knows; are_assigned = λ name. sym (no_or (is_among sofar.known name)) ∙ sofar.are_assigned name },
+    record { known = sofar.known; knows = sofar.knows; are_assigned = λ name. sym (or-false (is_among sofar.known name)) ∙ sofar.are_assigned name },
     sofar.left,
   )
 
@@ -99,11 +87,6 @@ pub record AreStatementsSoFar (unit : CUnit) (frame : Frame) (whole : Option ℕ
   pub left : IsLeft whole (words_of_statements (map seen_statement later) ++ words) (keeps_statements unit known (map statement_of (map seen_statement later)))
 
 module _ (unit : CUnit) (frame : Frame) (whole : Option ℕ) (words : List Token) (all : List PlacedStatement) where
-  pub statements_begin : (scope : Scope) → Knows frame scope
-      → IsLeft whole (words_of_statements (map seen_statement all) ++ words) (keeps_statements unit frame.known (map statement_of (map seen_statement all)))
-      → AreStatementsSoFar unit frame whole words all [] all scope
-  statements_begin scope knows left = record { known = frame.known; knows = knows; are_made = refl; left = left }
-
   module _ (made : List CodeStatement) (statement : PlacedStatement) (later : List PlacedStatement) (scope : Scope)
       (sofar : AreStatementsSoFar unit frame whole words all made (statement ∷ later) scope) where
     -- the words of the next one, and those behind it

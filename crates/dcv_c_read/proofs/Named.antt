@@ -1,12 +1,9 @@
 -- The parts make up a unit that keeps the rules, and no other fault is told than that of the first broken word.
-use Rattle.std.proofs.Common.{◌≡◌, ℕ, true, false, List, [], ◌∷◌, ◌++◌, map, Result, Ok, Err, refl, sym, ap, subst, ◌∙◌, append_assoc, inl, inr, ◌&&◌}
-use Rattle.std.specs.Prelude.{IfErr, bytes_eq}
+use Rattle.std.proofs.Common.{◌≡◌, ℕ, true, false, List, [], ◌∷◌, ◌++◌, map, refl, sym, ap, subst, ◌∙◌, append_assoc, inl, inr, ◌&&◌}
+use Rattle.std.specs.Prelude.{bytes_eq}
 use Rattle.std.specs.List.{list_all}
-use Rattle.std.specs.Result.{IsErrAnd}
 use Rattle.std.proofs.lemmas.Bool.{cases_Bool, or_cases, and_parts, both_ways, false_from_ne_true}
 use Rattle.dcv_observer.specs.Conditions.{Names}
-use Rattle.dcv_observer.specs.declared.fault.ObsFault.{ObsFault}
-use Rattle.dcv_observer.specs.declared.fault.ObsFault.TheVariants.{Syntax, Names as Fault, Memory}
 use Rattle.dcv_observer.specs.Naming.{is_among}
 use Rattle.dcv_observer.proofs.Naming.{one_name}
 use Rattle.dcv_observer.proofs.Readings.{well_named_if_unbroken}
@@ -14,12 +11,13 @@ use Rattle.dcv_c.specs.declared.unit.Returned.{Returned as CodeReturned}
 use Rattle.dcv_c.specs.Tree.{Returned}
 use Rattle.dcv_c.specs.Seen.{seen_assignment, seen_statement, seen_returned, seen_unit, all_names, names_of, IsUnit}
 use Rattle.dcv_c.specs.Placed.{PlacedUnit, unit_of}
-use Rattle.dcv_c.specs.Rules.{IsNamesFault, IsWellNamed, words_of, judged, has_all_assignments, keeps_new, keeps_apart, keeps_assignments}
+use Rattle.dcv_c.specs.Rules.{IsWellNamed, words_of, judged, has_all_assignments, keeps_new, keeps_apart, keeps_assignments}
 use Rattle.dcv_c.specs.Form.{IsSpellable}
 use Rattle.dcv_c.specs.Words.{AreWords}
 use Rattle.dcv_c.proofs.Readings.{is_subset}
 use Rattle.dcv_c_read.specs.declared.names.Contents.{Contents}
-use Rattle.dcv_c_read.specs.Judged.{IsLeft, IsFaultOf, words_of_assignments}
+use Rattle.dcv_observer.specs.Judged.{IsLeft}
+use Rattle.dcv_c_read.specs.Judged.{words_of_assignments}
 use Rattle.dcv_c_read.specs.Contents.{first_fault_of, words_of_step, keeps_step, AreContentsOf}
 use Rattle.dcv_c_read.proofs.Spellable.{words_are_spellable}
 
@@ -97,10 +95,3 @@ module _ (placed : PlacedUnit) (contents : Contents) (are : AreContentsOf placed
         well_named = subst IsWellNamed (sym unit_is) (well_named_if_unbroken is_subset placed are.unbroken);
         spellable = subst IsSpellable (sym unit_is) (words_are_spellable placed words);
       }
-
-pub told_fault : {A : Type 0} (placed : PlacedUnit) (result : Result A ObsFault) (fault : ObsFault) → IsErrAnd result (λ e. e ≡ fault) → IsFaultOf (first_fault_of placed) fault
-    → IfErr result (λ fault. (fault ≡ Memory → ⊥) → (at : ℕ) × (fault ≡ Fault at) × IsNamesFault placed at)
-told_fault placed (Ok x) fault is told = absurd is
-told_fault placed (Err e) (Syntax place) is told = absurd told
-told_fault placed (Err e) (Fault place) is told = λ other. (place, is, told)
-told_fault placed (Err e) Memory is told = λ other. absurd (other is)

@@ -1,10 +1,9 @@
 -- A unit of such words is spellable.
-use Rattle.std.proofs.Common.{◌≡◌, ℕ, ◌≤◌, true, List, [], ◌∷◌, map, Option, Some, None, arith}
+use Rattle.std.proofs.Common.{List, [], ◌∷◌, map, Option, Some, None, arith}
 use Rattle.std.specs.Prelude.{nat_le}
 use Rattle.std.specs.List.{AllByRecursion}
 use Rattle.std.proofs.lemmas.List.{length-map}
-use Rattle.std.proofs.lemmas.Bool.{and_parts}
-use Rattle.std.proofs.lemmas.Bool.Decides.{nat_tests}
+use Rattle.std.proofs.lemmas.Bool.{and_parts, leb-true}
 use Rattle.dcv_lexer.specs.Cuts.{Token}
 use Rattle.dcv_lexer.specs.Lexicon.{is_number}
 use Rattle.dcv_lexer.specs.Decimal.{value_of}
@@ -17,10 +16,7 @@ use Rattle.dcv_c.specs.Words.{AreWordsOfStatement, AreWordsOfReturned, AreWords}
 
 number_is : (token : Token) → IsNumberWord token → IsNumber (value_of token.bytes)
 number_is token small =
-    at_most (value_of token.bytes) (and_parts (is_number token.bytes) (nat_le (value_of token.bytes) 32767) small).1
-  where
-    at_most : (value : ℕ) → nat_le value 32767 ≡ true → value ≤ 32767
-    at_most value test = grind (arith, nat_tests)
+    leb-true (value_of token.bytes) 32767 (and_parts (is_number token.bytes) (nat_le (value_of token.bytes) 32767) small).1
 
 condition_is : (name : Token) (number : Option Token) → IsNameWord name → IsNumberOrNone number → IsCondition (condition_of name.bytes number)
 condition_is name None is none = is

@@ -16,7 +16,8 @@ use Rattle.dcv_c_read.specs.declared.placed.PlacedStatement.{PlacedStatement}
 use Rattle.dcv_c_read.specs.declared.scope.Scope.{Scope}
 use Rattle.dcv_c_read.specs.Seen.{seen_unit, seen_assignment, seen_statement, seen_returned}
 use Rattle.dcv_c_read.specs.Scope.{Frame, with_known, of_statics, Knows, KnowsAssigned}
-use Rattle.dcv_c_read.specs.Judged.{IsLeft, words_of_assignments, names_of_assignments, words_of_statements}
+use Rattle.dcv_observer.specs.Judged.{IsLeft}
+use Rattle.dcv_c_read.specs.Judged.{words_of_assignments, names_of_assignments, words_of_statements}
 use Rattle.dcv_c_read.specs.Contents.{first_fault_of, words_of_step, keeps_step}
 use Rattle.dcv_c_read.proofs.Known.{known_as}
 use Rattle.dcv_c_read.proofs.Named.{unit_begins, all_assigned, all_as}

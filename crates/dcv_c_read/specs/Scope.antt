@@ -12,7 +12,7 @@ use Rattle.dcv_c_read.specs.declared.scope.Sort.{Sort}
 use Rattle.dcv_c_read.specs.declared.scope.Sort.TheVariants.{Variable, Parameter}
 use Rattle.dcv_c_read.specs.declared.scope.Declaration.{Declaration}
 use Rattle.dcv_c_read.specs.declared.scope.Scope.{Scope}
-use Rattle.dcv_c_read.specs.Judged.{IsLeft}
+use Rattle.dcv_observer.specs.Judged.{IsLeft}
 
 -- ---- the names so far
 
@@ -117,7 +117,7 @@ pub record KnowsNames (frame : Frame) (functions declared : Names) (rows : List 
   pub are_rows : AreRows frame.lefts frame.known 0 frame.placed rows
 
 abbrev pub Knows : Frame → Scope → Type 0
-Knows frame scope = KnowsNames frame (map (λ name. name.now) scope.functions.items) scope.declared (map seen_row scope.names.items)
+Knows frame scope = KnowsNames frame scope.functions scope.declared (map seen_row scope.names.items)
 
 -- ---- one name
 

@@ -11,13 +11,13 @@ ghost use Rattle.dcv_c.specs.Seen.{seen_assignment as assignment_seen};
 ghost use Rattle.dcv_c.specs.Rules.{keeps_new, keeps_assignments};
 ghost use Rattle.dcv_c_read.specs.Seen.{seen_assignment};
 ghost use Rattle.dcv_c_read.specs.Scope.{Frame, with_function, with_known, of_statics, Knows, KnowsAssigned, IsNamed};
-ghost use Rattle.dcv_c_read.specs.Judged.{Keeps, Leads, IsLeft, words_of_assignments, names_of_assignments};
+ghost use Rattle.dcv_observer.specs.Judged.{Keeps, Leads, IsLeft};
+ghost use Rattle.dcv_c_read.specs.Judged.{words_of_assignments, names_of_assignments};
 
-use crate::numbers::number_at;
 use crate::placed::{PlacedAssignment, PlacedReset};
-use crate::scope::{Scope, broken, push};
+use crate::scope::Scope;
 use dcv_c::{Assignment, ObsFault, Reset};
-use dcv_observer::Item as Word;
+use dcv_observer::{Item as Word, broken, number_at, push};
 use dcv_syntax::Text;
 use std::alloc::Global;
 

@@ -82,7 +82,7 @@ pub(crate) fn choice<'a>(alloc: Global, parts: &mut Body<Part<'a>>) -> Result<Pa
 }
 
 // returned = number | name tests
-#[tactic(auto, using(crate::proofs::Bodies::forwards))]
+#[tactic(auto, using(dcv_translation::proofs::Reversed::forwards))]
 pub(crate) fn returned<'a>(parts: &mut Body<Part<'a>>) -> Result<Part<'a>, AllocError>
     requires { IsMeant (returned_part (map seen_part parts.old)) }
     ensures { IfOk result (λ part. seen_part part ≡ returned_part (map seen_part parts.old)) }

@@ -12,7 +12,7 @@ use dcv_translation::Body;
 use std::alloc::{AllocError, Global};
 
 // unit = static more_statics reset step
-#[tactic(auto, using(crate::proofs::Bodies::forwards))]
+#[tactic(auto, using(dcv_translation::proofs::Reversed::forwards))]
 pub(crate) fn unit<'a>(alloc: Global, parts: &mut Body<Part<'a>>) -> Result<Part<'a>, AllocError>
     requires { IsMeant (unit_part (map seen_part parts.old)) }
     ensures { IfOk result (λ part. seen_part part ≡ unit_part (map seen_part parts.old)) }
@@ -39,7 +39,7 @@ fn with_static<'a>(first: Item<'a>, mut statics: Vec<Item<'a>>) -> Result<Vec<It
 }
 
 // reset = "void" name "(" "void" ")" "{" assignments "}"
-#[tactic(auto, using(crate::proofs::Bodies::forwards))]
+#[tactic(auto, using(dcv_translation::proofs::Reversed::forwards))]
 pub(crate) fn reset<'a>(parts: &mut Body<Part<'a>>) -> Part<'a>
     requires { IsMeant (reset_part (map seen_part parts.old)) }
     ensures { seen_part result ≡ reset_part (map seen_part parts.old) }
@@ -70,7 +70,7 @@ pub(crate) fn step<'a>(alloc: Global, parts: &mut Body<Part<'a>>) -> Result<Part
 }
 
 // The same, not on the heap yet.
-#[tactic(auto, using(crate::proofs::Bodies::forwards))]
+#[tactic(auto, using(dcv_translation::proofs::Reversed::forwards))]
 fn plain_step<'a>(parts: &mut Body<Part<'a>>) -> PlacedStep<'a>
     requires { IsMeant (step_part (map seen_part parts.old)) }
     ensures { seen_step result ≡ step_part (map seen_part parts.old) }

@@ -13,7 +13,6 @@ mod assignments;
 mod choices;
 mod functions;
 mod names;
-mod numbers;
 mod observer;
 mod parts;
 mod placed;

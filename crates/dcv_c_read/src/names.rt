@@ -1,7 +1,6 @@
 // The names of a unit that stands in a text: each is judged, in the order of the text, and becomes a place. So the unit becomes a tree.
-ghost use Rattle.std.specs.Prelude.{◌≡◌, ◌≢◌, ◌<◌, ◌∷◌, [], ◌++◌, ℕ, Bool, List, Option, map, IfOk, IfErr};
+ghost use Rattle.std.specs.Prelude.{◌≡◌, ◌≢◌, ◌<◌, [], ◌++◌, ℕ, Bool, List, Option, map, IfOk, IfErr};
 ghost use Rattle.dcv_lexer.specs.Cuts.{Token};
-ghost use Rattle.dcv_observer.specs.Conditions.{Names as PlainNames};
 ghost use Rattle.dcv_observer.specs.Left.{seen};
 ghost use Rattle.dcv_observer.specs.declared.fault.ObsFault.TheVariants.{Names, Memory};
 ghost use Rattle.dcv_c.specs.Placed.{bytes_of, unit_of};
@@ -9,12 +8,12 @@ ghost use Rattle.dcv_c.specs.Actions.{Spells};
 ghost use Rattle.dcv_c.specs.Words.{AreWords};
 ghost use Rattle.dcv_c.specs.Rules.{IsNamesFault, keeps_apart, keeps_parameters};
 ghost use Rattle.dcv_c_read.specs.Seen.{seen_unit};
-ghost use Rattle.dcv_c_read.specs.Judged.{Leads, IsLeft};
+ghost use Rattle.dcv_observer.specs.Judged.{Leads, IsLeft};
 
 use crate::placed::PlacedUnit;
-use crate::scope::{Scope, Sort, broken, push};
+use crate::scope::{Scope, Sort};
 use dcv_c::{CUnit, ObsFault, Reset, Step};
-use dcv_observer::Item;
+use dcv_observer::{Item, broken, push};
 use dcv_syntax::Text;
 use std::alloc::Global;
 

@@ -1,18 +1,16 @@
 // The names that are declared so far in a unit, and what is known of each.
-ghost use Rattle.std.specs.Prelude.{◌≡◌, ◌∷◌, [], ◌++◌, ◌||◌, Bool, ℕ, List, Option, map, true, not, slice_get, OnOk};
-ghost use Rattle.std.specs.List.{list_all, list_any};
-ghost use Rattle.std.specs.Prelude.{bytes_eq};
+ghost use Rattle.std.specs.Prelude.{◌≡◌, ◌∷◌, [], Bool, ℕ, List, Option, map, true, slice_get};
+ghost use Rattle.std.specs.List.{list_all};
 ghost use Rattle.dcv_lexer.specs.Cuts.{Token};
 ghost use Rattle.dcv_observer.specs.Left.{seen};
-ghost use Rattle.dcv_observer.specs.declared.fault.ObsFault.TheVariants.{Names};
 ghost use Rattle.dcv_observer.specs.Naming.{is_among};
 ghost use Rattle.dcv_c.specs.Rules.{keeps_new};
-ghost use Rattle.dcv_c_read.specs.Judged.{Leads, IsLeft};
+ghost use Rattle.dcv_observer.specs.Judged.{Leads, IsLeft};
 ghost use Rattle.dcv_c_read.specs.Scope.{is_variable, seen_row, marked};
 
 use dcv_c::ObsFault;
-use dcv_observer::{Declared, Item};
-use std::alloc::{AllocError, Global};
+use dcv_observer::{Declared, Item, broken, push};
+use std::alloc::Global;
 
 /// What a name with a place stands for.
 #[derive(Clone, Copy)]
@@ -62,38 +60,17 @@ impl Declaration {
 #[derive(Drop)]
 pub(crate) struct Scope<'a> {
     // those of functions, two at most
-    pub(crate) functions: Vec<&'a [u8]>,
+    pub(crate) functions: Declared<'a>,
     // and the others, by their places
     pub(crate) declared: Declared<'a>,
     // of each of these
     pub(crate) names: Vec<Declaration>,
 }
 
-// One more at the end.
-pub(crate) fn push<T: Drop>(items: &mut Vec<T>, item: T) -> Result<(), AllocError>
-    ensures { OnOk result (items.new.items ≡ items.old.items ++ item ∷ []) }
-{
-    items.push(item)?;
-    Ok(())
-}
-
-// The fault at a word that breaks its rule.
-pub(crate) fn broken(word: &Item<'_>) -> ObsFault
-    ensures { result ≡ Names word.now.start }
-{
-    ObsFault::Names { at: word.start }
-}
-
 fn declaration_at(names: &[Declaration], place: usize) -> Option<Declaration>
     ensures { result ≡ slice_get names.now place }
 {
     names.get(place).copied()
-}
-
-fn contains(names: &[&[u8]], name: &[u8]) -> bool
-    ensures { result ≡ list_any (λ other. bytes_eq name.now other.now) names.now }
-{
-    names.iter().any(|other| name == *other)
 }
 
 fn are_known(names: &[Declaration]) -> bool
@@ -110,16 +87,10 @@ impl<'a> Scope<'a> {
         ensures { Knows no_names result }
     {
         Scope {
-            functions: Vec::new(alloc),
+            functions: Declared::new(alloc),
             declared: Declared::new(alloc),
             names: Vec::new(alloc),
         }
-    }
-
-    fn has_place(&self, name: &[u8]) -> bool
-        ensures { result ≡ list_any (bytes_eq name.now) self.now.declared }
-    {
-        self.declared.place_of(name).is_some()
     }
 
     /// Adds the name of a function.
@@ -129,13 +100,12 @@ impl<'a> Scope<'a> {
             → IsLeft whole (seen word.now ∷ words) (keeps_new frame.earlier (seen word.now).bytes ∷ keeps)
             → Leads whole (λ _. Knows (with_function (seen word.now).bytes frame) self.new × IsLeft whole words keeps) result }
     {
-        if contains(&self.functions, word.bytes) {
+        if self.declared.contains(word.bytes) {
             return Err(broken(word));
         }
-        if self.has_place(word.bytes) {
+        if !self.functions.declare(word.bytes)? {
             return Err(broken(word));
         }
-        push(&mut self.functions, word.bytes)?;
         Ok(())
     }
 
@@ -150,7 +120,7 @@ impl<'a> Scope<'a> {
         if place > u32::MAX as usize {
             return Err(ObsFault::Memory);
         }
-        if contains(&self.functions, word.bytes) {
+        if self.functions.contains(word.bytes) {
             return Err(broken(word));
         }
         if !self.declared.declare(word.bytes)? {
@@ -177,7 +147,7 @@ impl<'a> Scope<'a> {
 
     /// From now on the name at a place is known.
     pub(crate) fn mark(&mut self, place: u32)
-        ensures functions { map (λ name. name.now) self.new.functions.items ≡ map (λ name. name.now) self.old.functions.items }
+        ensures functions { self.new.functions ≡ self.old.functions }
         ensures declared { self.new.declared ≡ self.old.declared }
         ensures names { map seen_row self.new.names.items ≡ marked place (map seen_row self.old.names.items) }
     {

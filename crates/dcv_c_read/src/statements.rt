@@ -13,13 +13,13 @@ ghost use Rattle.dcv_c.specs.Rules.{keeps_item, keeps_condition, keeps_right, ke
 ghost use Rattle.dcv_c.specs.Rules.{known_after, words_of_right, words_of_statement, words_of_returned};
 ghost use Rattle.dcv_c_read.specs.Seen.{seen_test, seen_right, seen_when, seen_statement, seen_returned};
 ghost use Rattle.dcv_c_read.specs.Scope.{Frame, with_known, Knows, KnowsMore, IsNamed};
-ghost use Rattle.dcv_c_read.specs.Judged.{Keeps, Leads, IsLeft, words_of_statements, words_of_tests, keeps_tests};
+ghost use Rattle.dcv_observer.specs.Judged.{Keeps, Leads, IsLeft};
+ghost use Rattle.dcv_c_read.specs.Judged.{words_of_statements, words_of_tests, keeps_tests};
 
-use crate::numbers::{is_number, number_at};
 use crate::placed::{PlacedReturned, PlacedRight, PlacedStatement, PlacedTest, PlacedWhen};
-use crate::scope::{Scope, broken, push};
+use crate::scope::Scope;
 use dcv_c::{Condition, Item, ObsFault, Returned, Right, Statement, Test};
-use dcv_observer::Item as Word;
+use dcv_observer::{Item as Word, broken, is_number, number_at, push};
 use std::alloc::Global;
 
 impl<'a> Scope<'a> {

@@ -73,6 +73,7 @@ static LEXICON: Lexicon<'static> = Lexicon {
     number: NUMBER,
     unknown: UNKNOWN,
     comments: false,
+    leading_zeros: false,
 };
 
 // What units are written with.

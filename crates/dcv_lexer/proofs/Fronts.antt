@@ -8,7 +8,7 @@ use Rattle.std.proofs.lemmas.Bool.{cases_Bool, false_from_ne_true, and_from, and
 use Rattle.std.proofs.lemmas.List.{take_at}
 use Rattle.dcv_lexer.specs.declared.pieces.Front.{Front}
 use Rattle.dcv_lexer.specs.Lexicon.{Lexicon, texts_of, is_white, is_white_space, is_in_line, is_comment, is_word_byte, is_word, is_number, is_blank}
-use Rattle.dcv_lexer.specs.Lexicon.{begins_as_symbol, word_class, symbol_class, class_of, is_orderly}
+use Rattle.dcv_lexer.specs.Lexicon.{begins_as_symbol, word_class, number_class, symbol_class, class_of, is_orderly}
 use Rattle.dcv_lexer.specs.Cuts.{IsLongest, BeginsWithNoPiece}
 use Rattle.dcv_lexer.specs.Fronts.{class_if_token, IsFront, first_fit, front_of}
 use Rattle.dcv_lexer.proofs.FirstBytes.{one_of_passes, each_begins, longer_first, white_below, letter_above, digit_within}
@@ -90,7 +90,7 @@ module _ (lexicon : Lexicon) where
   pub class_of_word : (piece : List ℕ) → is_word piece ≡ true → class_of lexicon piece ≡ word_class lexicon piece
   class_of_word piece is = rw is refl
 
-  pub class_of_number : (piece : List ℕ) → is_word piece ≡ false → is_number piece ≡ true → class_of lexicon piece ≡ lexicon.number
+  pub class_of_number : (piece : List ℕ) → is_word piece ≡ false → is_number piece ≡ true → class_of lexicon piece ≡ number_class lexicon piece
   class_of_number piece word is = rw (word, is) refl
 
   pub class_of_symbol : (piece : List ℕ) → is_word piece ≡ false → is_number piece ≡ false → class_of lexicon piece ≡ symbol_class lexicon piece
@@ -132,7 +132,7 @@ module _ (lexicon : Lexicon) (orderly : is_orderly lexicon ≡ true) where
       ∙ sym (token_class lexicon (take n text) (word_is_no_blank (take n text) first)))
 
   pub number_front : (text : List ℕ) (front : Front) → 1 ≤ length text → is_ascii_digit (get_or text 0 0) ≡ true
-      → front.length ≡ prefix_len is_ascii_digit text → front.class ≡ Some lexicon.number → IsFront lexicon text front
+      → front.length ≡ prefix_len is_ascii_digit text → front.class ≡ Some (number_class lexicon (take front.length text)) → IsFront lexicon text front
   number_front text front some digit is class =
       let (positive, number) = number_at_front text digit in
       let n = front.length in

@@ -2,15 +2,16 @@
 --     Lexicon                    the symbols and the reserved words, each with its class, and the classes of all else
 --     is_blank lexicon piece     white space or a comment
 --     is_token lexicon piece     a word, a number or a symbol
+--     has_leading_zero digits    a 0 stands before other digits
 --     class_of lexicon bytes     the class of a token
 --     is_orderly lexicon         the first byte tells a symbol from all else, and the first symbol that fits is the longest
-use Rattle.std.specs.Prelude.{ℕ, Bool, true, false, not, ◌&&◌, ◌||◌, ◌==◌, nat_le, List, [], ◌∷◌, Option, Some, None, length, map, bytes_eq, unwrap_or}
+use Rattle.std.specs.Prelude.{ℕ, Bool, true, false, not, ◌&&◌, ◌||◌, ◌==◌, nat_le, nat_lt, List, [], ◌∷◌, Option, Some, None, length, map, bytes_eq, slice_index_or, unwrap_or}
 use Rattle.std.specs.Prelude.{if◌then◌else◌}
 use Rattle.std.specs.List.{list_all, list_any}
 use Rattle.std.specs.Char.{is_ascii_alphabetic, is_ascii_digit}
 use Rattle.dcv_lexer.specs.declared.tables.Lexicon.{Lexicon as LexiconTables}
 
--- texts with their classes, and the classes of a word that is not reserved, of a number, and of what is no token
+-- texts with their classes, and the classes of a word that is not reserved, of a number, and of what is no token or may not stand
 pub record Lexicon : Type 0 where
   pub symbols : List (List ℕ × ℕ)
   pub words : List (List ℕ × ℕ)
@@ -18,6 +19,7 @@ pub record Lexicon : Type 0 where
   pub number : ℕ
   pub unknown : ℕ
   pub comments : Bool  -- whether `//` begins a comment
+  pub leading_zeros : Bool  -- whether a number of two digits or more may begin with 0
 
 -- what is written in the tables of the code
 abbrev pub lexicon_of : LexiconTables → Lexicon
@@ -28,6 +30,7 @@ lexicon_of tables = record {
   number = tables.number;
   unknown = tables.unknown;
   comments = tables.comments;
+  leading_zeros = tables.leading_zeros;
 }
 
 -- the texts of a table
@@ -80,6 +83,10 @@ abbrev pub is_number : List ℕ → Bool
 is_number [] = false
 is_number (b ∷ bytes) = is_ascii_digit b && list_all is_ascii_digit bytes
 
+-- a number of two digits or more that begins with `0`
+abbrev pub has_leading_zero : List ℕ → Bool
+has_leading_zero digits = nat_lt 1 (length digits) && slice_index_or digits 0 0 == 48
+
 -- one of the symbols, with a byte or more
 abbrev pub is_symbol : Lexicon → List ℕ → Bool
 is_symbol lexicon [] = false
@@ -102,6 +109,9 @@ class_in (entry ∷ entries) bytes = if bytes_eq bytes entry.0 then Some entry.1
 abbrev pub word_class : Lexicon → List ℕ → ℕ
 word_class lexicon bytes = unwrap_or (class_in lexicon.words bytes) lexicon.name
 
+abbrev pub number_class : Lexicon → List ℕ → ℕ
+number_class lexicon bytes = if lexicon.leading_zeros || not (has_leading_zero bytes) then lexicon.number else lexicon.unknown
+
 abbrev pub symbol_class : Lexicon → List ℕ → ℕ
 symbol_class lexicon bytes = unwrap_or (class_in lexicon.symbols bytes) lexicon.unknown
 
@@ -109,7 +119,7 @@ symbol_class lexicon bytes = unwrap_or (class_in lexicon.symbols bytes) lexicon.
 abbrev pub class_of : Lexicon → List ℕ → ℕ
 class_of lexicon bytes =
     if is_word bytes then word_class lexicon bytes
-    else (if is_number bytes then lexicon.number else symbol_class lexicon bytes)
+    else (if is_number bytes then number_class lexicon bytes else symbol_class lexicon bytes)
 
 -- ---- the order of symbols
 

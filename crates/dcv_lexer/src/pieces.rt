@@ -2,7 +2,7 @@
 ghost use Rattle.std.specs.Prelude.{◌≡◌, map, option_map, take, nat_eq, Some, IfNone, IfSome, IsTrue};
 ghost use Rattle.std.specs.List.{prefix_len, starts_with};
 ghost use Rattle.std.specs.Char.{is_ascii_digit};
-ghost use Rattle.dcv_lexer.specs.Lexicon.{lexicon_of, is_white, is_in_line, is_word_byte, word_class, is_orderly};
+ghost use Rattle.dcv_lexer.specs.Lexicon.{lexicon_of, is_white, is_in_line, is_word_byte, word_class, number_class, is_orderly};
 ghost use Rattle.dcv_lexer.specs.Cuts.{BeginsWithNoPiece};
 ghost use Rattle.dcv_lexer.specs.Fronts.{first_fit, front_of, IsFront};
 
@@ -87,6 +87,18 @@ fn word(lexicon: &Lexicon, text: &[u8]) -> Front
     }
 }
 
+// The digits at the front.
+fn number(lexicon: &Lexicon, text: &[u8]) -> Front
+    ensures length { result.length ≡ prefix_len is_ascii_digit text.now }
+    ensures class { result.class ≡ Some (number_class (lexicon_of lexicon.now) (take result.length text.now)) }
+{
+    let length = number_length(text);
+    Front {
+        length,
+        class: Some(lexicon.number_class(&text[..length])),
+    }
+}
+
 /// The longest piece with which the text begins.
 pub fn first_piece(lexicon: &Lexicon, text: &[u8]) -> Option<Front>
     requires { IsTrue (is_orderly (lexicon_of lexicon.now)) }
@@ -100,10 +112,7 @@ pub fn first_piece(lexicon: &Lexicon, text: &[u8]) -> Option<Front>
             class: None,
         }),
         [first, ..] if first.is_ascii_alphabetic() => Some(word(lexicon, text)),
-        [first, ..] if first.is_ascii_digit() => Some(Front {
-            length: number_length(text),
-            class: Some(lexicon.number),
-        }),
+        [first, ..] if first.is_ascii_digit() => Some(number(lexicon, text)),
         _ if lexicon.comments && text.starts_with(b"//") => Some(Front {
             length: line_length(text),
             class: None,

@@ -1,5 +1,5 @@
 -- The symbols and the reserved words of the subset, each with its class. `ok` has a class of its own, and is a name too.
-use Rattle.std.specs.Prelude.{ℕ, false, List, [], ◌∷◌, codes}
+use Rattle.std.specs.Prelude.{ℕ, true, false, List, [], ◌∷◌, codes}
 use Rattle.dcv_lexer.specs.Lexicon.{Lexicon}
 use Rattle.dcv_observer.specs.Classes.{name, number, unknown}
 
@@ -84,4 +84,5 @@ lexicon =
       number = number;
       unknown = unknown;
       comments = false;
+      leading_zeros = true;
     }

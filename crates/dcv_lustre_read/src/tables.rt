@@ -89,6 +89,7 @@ static LEXICON: Lexicon<'static> = Lexicon {
     number: NUMBER,
     unknown: UNKNOWN,
     comments: false,
+    leading_zeros: true,
 };
 
 // What nodes are written with.

@@ -13,3 +13,6 @@ pub mod Spelt
 pub mod PieceLists
 pub mod Sorts
 pub mod Readings
+pub mod Judging
+pub mod Declaring
+pub mod SoFar

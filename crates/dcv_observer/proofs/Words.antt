@@ -1,13 +1,13 @@
 -- Words and numbers: which they are, what they stand for, and where they end.
-use Rattle.std.proofs.Common.{◌≡◌, ℕ, ◌+◌, ◌*◌, ◌<◌, ◌≤◌, ◌^◌, Bool, true, false, not, cond, ◌||◌, nat_eq, List, [], ◌∷◌, length, fold, refl, ap, ◌∙◌, arith, decimal}
+use Rattle.std.proofs.Common.{◌≡◌, ℕ, zero, suc, ◌+◌, ◌*◌, ◌<◌, ◌≤◌, ◌^◌, Bool, true, false, not, cond, ◌||◌, ◌==◌, nat_eq, nat_lt, get_or, List, [], ◌∷◌, length, fold, refl, ap, ◌∙◌, arith, decimal}
 use Rattle.std.specs.List.{list_all}
 use Rattle.std.specs.Char.{is_ascii_alphabetic, is_ascii_digit, digit_value}
 use Rattle.std.specs.Str.Parse.{AllDigits, digits_value_after}
-use Rattle.std.proofs.lemmas.Bool.{and_parts, and_from, and_left, or_left, or_right, or_parts, not-true, not_from_false, false_from_ne_true, le-leb}
-use Rattle.std.proofs.lemmas.Fmt.{decimal_nonempty, decimal_is_IsNumeral}
+use Rattle.std.proofs.lemmas.Bool.{and_parts, and_from, and_left, and_right, or_left, or_right, or_parts, not-true, not_from_false, false_from_ne_true, le-leb, ne_eqb}
+use Rattle.std.proofs.lemmas.Fmt.{decimal_nonempty, decimal_digit, first_decimal, decimal_is_IsNumeral}
 use Rattle.std.proofs.lemmas.Str.{digit_value_digit}
 use Rattle.std.proofs.lemmas.Str.Parse.{digit_from_value}
-use Rattle.dcv_lexer.specs.Lexicon.{Lexicon, is_word_byte, is_word, is_number}
+use Rattle.dcv_lexer.specs.Lexicon.{Lexicon, is_word_byte, is_word, is_number, has_leading_zero}
 use Rattle.dcv_lexer.specs.Decimal.{with_digit, value_of}
 use Rattle.dcv_lexer.proofs.FirstBytes.{letter_above, digit_within}
 use Rattle.dcv_observer.specs.Classes.{largest_number, is_small_number, class_of}
@@ -52,6 +52,13 @@ value_is value (c ∷ digits) d =
 pub value_of_decimal : (n : ℕ) → n < 2 ^ 64 → value_of (decimal n) ≡ n
 value_of_decimal n small = let is = decimal_is_IsNumeral n small in value_is 0 (decimal n) is.0.1 ∙ is.1
 
+no_leading_zero : (n : ℕ) → n ≤ largest_number → has_leading_zero (decimal n) ≡ false
+no_leading_zero zero small = ap has_leading_zero (decimal_digit 0 (omega arith))
+no_leading_zero (suc n) small =
+    let digits = decimal (suc n) in
+    and_right (nat_lt 1 (length digits)) (get_or digits 0 0 == 48)
+    (ne_eqb (get_or digits 0 0) 48 (λ is. omega (arith, is, first_decimal (suc n) (omega arith) (omega (arith, small)))))
+
 -- a byte with which no word and no number goes on
 abbrev pub stops : ℕ → Bool
 stops next = not (is_word_byte next)
@@ -62,7 +69,7 @@ module _ (lexicon : Lexicon) where
       let kind = decimal_is n small in
       let within : is_small_number (decimal n) ≡ true =
       and_from (is_number (decimal n)) _ kind.1 (le-leb (value_of (decimal n)) 32767 (omega (arith, value_of_decimal n (omega arith), small))) in
-      small_number lexicon (decimal n) kind.0 within
+      small_number lexicon (decimal n) kind.0 within (no_leading_zero n small)
 
   -- ---- where they end
 

@@ -13,7 +13,7 @@ name = 0
 abbrev pub number : ℕ
 number = 1
 
--- what stands in no sentence: a byte with which no piece begins, and a token beyond the limits
+-- what stands in no sentence: a byte with which no piece begins, a token beyond the limits, and a leading zero where none may stand
 abbrev pub unknown : ℕ
 unknown = 2
 

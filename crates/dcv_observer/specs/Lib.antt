@@ -1,5 +1,6 @@
 -- what public clauses cite: the classes of tokens, the tokens of a text and where its syntax is at fault, texts in pieces,
--- what is asked of a name, names among others, what derivation trees stand for, and what an observer's text is
+-- what is asked of a name, names among others, what derivation trees stand for, what an observer's text is, and how its words
+-- are judged
 pub mod Classes
 pub mod Items
 pub mod Pieces
@@ -7,5 +8,6 @@ pub mod Conditions
 pub mod Naming
 pub mod Scheme
 pub mod Subsets
+pub mod Judged
 -- what the lexer has left
 pub mod Left

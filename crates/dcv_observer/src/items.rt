@@ -14,7 +14,8 @@ pub const NAME: u8 = 0;
 /// The class of a number.
 pub const NUMBER: u8 = 1;
 
-/// The class of a stray byte, of a word that is too long and of a number that is too large. It stands in no sentence.
+/// The class of a stray byte, of a word that is too long and of a number that is too large or begins with a 0 that may not
+/// stand there. It stands in no sentence.
 pub const UNKNOWN: u8 = 2;
 
 /// How many bytes a word may have.

@@ -40,6 +40,13 @@ impl<'a> Declared<'a> {
         self.names.get_index_of(name)
     }
 
+    /// Whether a name is declared.
+    pub fn contains(&self, name: &[u8]) -> bool
+        ensures { result ≡ list_any (bytes_eq name.now) self.now }
+    {
+        self.names.contains(name)
+    }
+
     /// Adds a name, unless it is there, and tells whether it was new.
     pub fn declare(&mut self, name: &'a [u8]) -> Result<bool, AllocError>
         ensures new { IfOk result (λ new. new ≡ not (list_any (bytes_eq name.now) self.old)) }

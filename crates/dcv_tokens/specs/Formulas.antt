@@ -19,4 +19,5 @@ formulas = record {
   number = number;
   unknown = unknown;
   comments = true;
+  leading_zeros = true;
 }

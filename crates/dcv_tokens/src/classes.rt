@@ -195,6 +195,7 @@ static FORMULAS: Lexicon<'static> = Lexicon {
     number: NUMBER,
     unknown: UNKNOWN,
     comments: true,
+    leading_zeros: true,
 };
 
 /// What formula files are written with.

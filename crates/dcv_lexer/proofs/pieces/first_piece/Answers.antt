@@ -18,8 +18,8 @@ returns-in-len1-up-2-clause-some c =
 
 pub returns-in-len1-up-3-clause-some : goal.returns-in-len1-up-3-clause-some
 returns-in-len1-up-3-clause-some c =
-    number_front (lexicon_of c.args.lexicon.now) c.requires c.args.text.now _ c.in-len1-up.len_at_least
-    (sym c.is_ascii_digit.ensures.value ∙ c.if-is_ascii_digit.true) c.number_length.ensures refl
+    number_front (lexicon_of c.args.lexicon.now) c.requires c.args.text.now c.number.result c.in-len1-up.len_at_least
+    (sym c.is_ascii_digit.ensures.value ∙ c.if-is_ascii_digit.true) c.number.ensures.length c.number.ensures.class
 
 pub returns-in_default-clause-some : goal.returns-in_default-clause-some
 returns-in_default-clause-some c =

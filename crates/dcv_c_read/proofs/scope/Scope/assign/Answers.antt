@@ -2,7 +2,7 @@ use Rattle.std.proofs.Common.{ℕ, List, Bool, Option}
 use Rattle.dcv_lexer.specs.Cuts.{Token}
 use Rattle.dcv_c.specs.Tree.{Assign}
 use Rattle.dcv_c_read.specs.Scope.{Frame}
-use Rattle.dcv_c_read.proofs.Judging.{kept, leads_on}
+use Rattle.dcv_observer.proofs.Judging.{kept, leads_on}
 use Rattle.dcv_c_read.proofs.Known.{marked_then}
 use Rattle.dcv_c_read.proofs.scope.Scope.assign.Goals as goal
 

@@ -3,7 +3,7 @@ use Rattle.dcv_lexer.specs.Cuts.{Token}
 use Rattle.dcv_observer.specs.Conditions.{Names}
 use Rattle.dcv_c_read.specs.Seen.{seen_assignment}
 use Rattle.dcv_c_read.specs.Scope.{Frame}
-use Rattle.dcv_c_read.proofs.Judging.{kept}
+use Rattle.dcv_observer.proofs.Judging.{kept}
 use Rattle.dcv_c_read.proofs.Known.{marked_then}
 use Rattle.dcv_c_read.proofs.Loops.{named_with}
 use Rattle.dcv_c_read.proofs.scope.Scope.assignment.Goals as goal

@@ -6,7 +6,7 @@ use Rattle.dcv_c.specs.Words.{AreWordsOfAssignment}
 use Rattle.dcv_c_read.specs.declared.placed.PlacedAssignment.{PlacedAssignment}
 use Rattle.dcv_c_read.specs.Seen.{seen_assignment}
 use Rattle.dcv_c_read.specs.Scope.{Frame, with_known}
-use Rattle.dcv_c_read.proofs.Judging.{leads_on}
+use Rattle.dcv_observer.proofs.Judging.{leads_on}
 use Rattle.dcv_c_read.proofs.Loops.{AreAssignedSoFar, assignments_more, assignments_end}
 use Rattle.dcv_c_read.proofs.scope.Scope.assignments.Goals as goal
 

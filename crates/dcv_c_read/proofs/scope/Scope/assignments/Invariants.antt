@@ -6,7 +6,8 @@ use Rattle.dcv_c.specs.Words.{AreWordsOfAssignment}
 use Rattle.dcv_c.specs.Rules.{keeps_assignments}
 use Rattle.dcv_c_read.specs.Seen.{seen_assignment}
 use Rattle.dcv_c_read.specs.Scope.{Frame, with_known, Knows}
-use Rattle.dcv_c_read.specs.Judged.{IsLeft, words_of_assignments}
+use Rattle.dcv_observer.specs.Judged.{IsLeft}
+use Rattle.dcv_c_read.specs.Judged.{words_of_assignments}
 use Rattle.dcv_c_read.proofs.Loops.{AreAssignedSoFar}
 use Rattle.dcv_c_read.proofs.scope.Scope.assignments.Given as goal
 

@@ -5,7 +5,7 @@ use Rattle.dcv_c.specs.Placed.{bytes_of}
 use Rattle.dcv_c_read.specs.Scope.{no_names}
 use Rattle.dcv_c_read.specs.Contents.{words_of_step, keeps_step}
 use Rattle.dcv_c_read.specs.Seen.{seen_unit}
-use Rattle.dcv_c_read.proofs.Judging.{leads_on}
+use Rattle.dcv_observer.proofs.Judging.{leads_on}
 use Rattle.dcv_c_read.proofs.Whole.{unit_at, whole_at, words_behind_statics, keeps_behind_statics, at_statics, knows_statics}
 use Rattle.dcv_c_read.proofs.scope.Scope.contents.Goals as goal
 

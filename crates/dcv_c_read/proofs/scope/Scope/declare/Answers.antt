@@ -1,20 +1,15 @@
 use Rattle.std.proofs.Common.{◌≡◌, ◌∷◌, [], ◌++◌, ℕ, Bool, List, Option, map, not, length, ap, ◌∙◌, sym, arith}
-use Rattle.std.specs.Prelude.{bytes_eq}
-use Rattle.std.specs.List.{list_any}
 use Rattle.std.proofs.lemmas.List.{map_push, length-map}
 use Rattle.dcv_lexer.specs.Cuts.{Token}
-use Rattle.dcv_observer.proofs.Keys.{any_seen}
 use Rattle.dcv_c_read.specs.Scope.{Frame, seen_row, is_variable}
-use Rattle.dcv_c_read.proofs.Judging.{kept, broken, fault_is}
-use Rattle.dcv_c_read.proofs.Declaring.{again_function, again_placed, is_new, name_declared, was_new, was_there}
+use Rattle.dcv_observer.proofs.Judging.{kept, broken, fault_is}
+use Rattle.dcv_observer.proofs.Declaring.{was_new, was_there}
+use Rattle.dcv_c_read.proofs.Declaring.{again_function, again_placed, is_new, name_declared}
 use Rattle.dcv_c_read.proofs.scope.Scope.declare.Goals as goal
 
 pub returns-then-contains : goal.returns-then-contains
 returns-then-contains c = λ (frame : Frame) knows (whole : Option ℕ) (words : List Token) (keeps : List Bool) left.
-    let name = c.args.word.now.bytes.now in
-    fault_is c.broken.ensures
-    (broken (again_function frame _ _ _ knows name
-    (sym (any_seen (bytes_eq name) (λ other. other.now) c.args.self.now.functions.items) ∙ ap (list_any (λ other. bytes_eq name other.now)) (sym c.deref.ensures.value) ∙ sym c.contains.ensures ∙ c.if-contains.true)) left)
+    fault_is c.broken.ensures (broken (again_function frame _ _ _ knows c.args.word.now.bytes.now (sym c.contains.ensures ∙ c.if-contains.true)) left)
 
 pub returns-then-not-branch : goal.returns-then-not-branch
 returns-then-not-branch c = λ (frame : Frame) knows (whole : Option ℕ) (words : List Token) (keeps : List Bool) left.
@@ -27,7 +22,7 @@ returns c = λ (frame : Frame) knows (whole : Option ℕ) (words : List Token) (
     let items = c.args.self.now.names.items in
     let name = c.args.word.now.bytes.now in
     let new = was_new c.in_ok-declare.field-0 c.args.self.now.declared c.declare.new.self name c.if-not-branch.false c.in_ok-declare.ensures.new c.in_ok-declare.ensures.names in
-    let no_function = sym (any_seen (bytes_eq name) (λ other. other.now) c.args.self.now.functions.items) ∙ ap (list_any (λ other. bytes_eq name other.now)) (sym c.deref.ensures.value) ∙ sym c.contains.ensures ∙ c.if-contains.false in (
+    let no_function = sym c.contains.ensures ∙ c.if-contains.false in (
       name_declared frame _ _ _ knows name c.args.sort new.0 new.1
           (ap (map seen_row) c.in_ok-push.ensures ∙ map_push seen_row items _
           ∙ ap (λ (b : Bool). map seen_row items ++ record { place = c.len-place.result; is_left = is_variable c.args.sort; is_known = not b } ∷ []) c.is_variable.ensures

@@ -1,7 +1,7 @@
 use Rattle.std.proofs.Common.{sym, ◌∙◌}
 use Rattle.dcv_c_read.specs.Scope.{Frame}
 use Rattle.dcv_c_read.proofs.Known.{no_left}
-use Rattle.dcv_c_read.proofs.Judging.{broken_word}
+use Rattle.dcv_observer.proofs.Judging.{broken_word}
 use Rattle.dcv_c_read.proofs.scope.Scope.left.Goals as goal
 
 pub returns-in_default : goal.returns-in_default

@@ -5,7 +5,7 @@ use Rattle.std.proofs.lemmas.Bool.Decides.{nat_tests}
 use Rattle.dcv_lexer.specs.Cuts.{Token}
 use Rattle.dcv_observer.specs.declared.items.Item.{Item}
 use Rattle.dcv_c_read.specs.Scope.{Frame}
-use Rattle.dcv_c_read.proofs.Judging.{broken, leads_on, fault_is}
+use Rattle.dcv_observer.proofs.Judging.{broken, leads_on, fault_is}
 use Rattle.dcv_c_read.proofs.Lists.{AreParametersSoFar, parameters_begin, parameters_more, parameters_end, parameter_left, beyond}
 use Rattle.dcv_c_read.proofs.scope.Scope.parameters.Goals as goal
 

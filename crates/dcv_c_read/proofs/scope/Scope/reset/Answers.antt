@@ -8,7 +8,7 @@ use Rattle.dcv_c.specs.Placed.{assignment_of}
 use Rattle.dcv_c_read.specs.declared.placed.PlacedAssignment.{PlacedAssignment}
 use Rattle.dcv_c_read.specs.Seen.{seen_assignment}
 use Rattle.dcv_c_read.specs.Scope.{Frame, with_function, of_statics}
-use Rattle.dcv_c_read.proofs.Judging.{kept, broken, leads_on, fault_is}
+use Rattle.dcv_observer.proofs.Judging.{kept, broken, leads_on, fault_is}
 use Rattle.dcv_c_read.proofs.Whole.{assigned, reset_left, reset_end, reset_knows}
 use Rattle.dcv_c_read.proofs.scope.Scope.reset.Goals as goal
 

@@ -7,7 +7,7 @@ use Rattle.dcv_c.specs.Words.{AreWordsOfStatement}
 use Rattle.dcv_c_read.specs.declared.placed.PlacedStatement.{PlacedStatement}
 use Rattle.dcv_c_read.specs.Seen.{seen_statement}
 use Rattle.dcv_c_read.specs.Scope.{Frame, with_known}
-use Rattle.dcv_c_read.proofs.Judging.{leads_on}
+use Rattle.dcv_observer.proofs.Judging.{leads_on}
 use Rattle.dcv_c_read.proofs.Loops.{AreStatementsSoFar, statement_left, statements_more, statements_end}
 use Rattle.dcv_c_read.proofs.scope.Scope.statements.Goals as goal
 

@@ -7,7 +7,8 @@ use Rattle.dcv_c.specs.Words.{AreWordsOfStatement}
 use Rattle.dcv_c.specs.Rules.{keeps_statements}
 use Rattle.dcv_c_read.specs.Seen.{seen_statement}
 use Rattle.dcv_c_read.specs.Scope.{Frame, Knows}
-use Rattle.dcv_c_read.specs.Judged.{IsLeft, words_of_statements}
+use Rattle.dcv_observer.specs.Judged.{IsLeft}
+use Rattle.dcv_c_read.specs.Judged.{words_of_statements}
 use Rattle.dcv_c_read.proofs.Loops.{AreStatementsSoFar}
 use Rattle.dcv_c_read.proofs.scope.Scope.statements.Given as goal
 

@@ -7,7 +7,7 @@ use Rattle.dcv_c.specs.Seen.{seen_statement as statement_seen}
 use Rattle.dcv_c_read.specs.declared.placed.PlacedStatement.{PlacedStatement}
 use Rattle.dcv_c_read.specs.Seen.{seen_statement}
 use Rattle.dcv_c_read.specs.Scope.{with_function, with_parameters, with_variables, with_known, behind_reset, behind_locals}
-use Rattle.dcv_c_read.proofs.Judging.{leads_on}
+use Rattle.dcv_observer.proofs.Judging.{leads_on}
 use Rattle.dcv_c_read.proofs.Named.{statements_at, returned_at}
 use Rattle.dcv_c_read.proofs.Whole.{unit_at, at_parameters, at_locals, at_statements, knows_with}
 use Rattle.dcv_c_read.proofs.scope.Scope.step.Goals as goal

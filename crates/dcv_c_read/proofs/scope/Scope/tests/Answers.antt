@@ -6,7 +6,7 @@ use Rattle.dcv_c.specs.Words.{AreWordsOfTest}
 use Rattle.dcv_c_read.specs.declared.placed.PlacedTest.{PlacedTest}
 use Rattle.dcv_c_read.specs.Seen.{seen_test}
 use Rattle.dcv_c_read.specs.Scope.{Frame}
-use Rattle.dcv_c_read.proofs.Judging.{leads_on}
+use Rattle.dcv_observer.proofs.Judging.{leads_on}
 use Rattle.dcv_c_read.proofs.Loops.{tests_more, tests_fault, tests_whole}
 use Rattle.dcv_c_read.proofs.scope.Scope.tests.Goals as goal
 

@@ -5,7 +5,8 @@ use Rattle.dcv_c.specs.Words.{AreWordsOfTest}
 use Rattle.dcv_observer.specs.Conditions.{seen_test as test_seen}
 use Rattle.dcv_c_read.specs.Seen.{seen_test}
 use Rattle.dcv_c_read.specs.Scope.{Frame, Knows}
-use Rattle.dcv_c_read.specs.Judged.{IsLeft, words_of_tests, keeps_tests}
+use Rattle.dcv_observer.specs.Judged.{IsLeft}
+use Rattle.dcv_c_read.specs.Judged.{words_of_tests, keeps_tests}
 use Rattle.dcv_c_read.proofs.scope.Scope.tests.Given as goal
 
 abbrev pub invariant-loop-test : goal.invariant-loop-test

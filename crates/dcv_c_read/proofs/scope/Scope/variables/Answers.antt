@@ -3,7 +3,7 @@ use Rattle.std.proofs.lemmas.List.{drop_more, at_drop_all}
 use Rattle.dcv_lexer.specs.Cuts.{Token}
 use Rattle.dcv_observer.specs.declared.items.Item.{Item}
 use Rattle.dcv_c_read.specs.Scope.{Frame}
-use Rattle.dcv_c_read.proofs.Judging.{leads_on}
+use Rattle.dcv_observer.proofs.Judging.{leads_on}
 use Rattle.dcv_c_read.proofs.Lists.{AreDeclaredSoFar, variables_begin, variables_more, variables_end}
 use Rattle.dcv_c_read.proofs.scope.Scope.variables.Goals as goal
 

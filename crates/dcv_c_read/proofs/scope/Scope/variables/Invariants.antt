@@ -4,7 +4,7 @@ use Rattle.dcv_observer.specs.Left.{seen}
 use Rattle.dcv_c.specs.Placed.{bytes_of}
 use Rattle.dcv_c.specs.Rules.{keeps_apart}
 use Rattle.dcv_c_read.specs.Scope.{Frame, Knows}
-use Rattle.dcv_c_read.specs.Judged.{IsLeft}
+use Rattle.dcv_observer.specs.Judged.{IsLeft}
 use Rattle.dcv_c_read.proofs.Lists.{AreDeclaredSoFar}
 use Rattle.dcv_c_read.proofs.scope.Scope.variables.Given as goal
 

@@ -24,4 +24,4 @@ pub returns-then-is_ascii_digit : goal.returns-then-is_ascii_digit
 returns-then-is_ascii_digit c =
     let no_word = word (goal.at.returns-then-is_ascii_digit c).After-is_ascii_alphabetic ∙ c.if-is_ascii_alphabetic.false in
     let is = number (goal.at.returns-then-is_ascii_digit c).After-is_ascii_digit ∙ c.if-is_ascii_digit.true in
-    sym (class_of_number (lexicon_of c.args.self.now) c.args.bytes.now no_word is)
+    c.number_class.ensures ∙ sym (class_of_number (lexicon_of c.args.self.now) c.args.bytes.now no_word is)

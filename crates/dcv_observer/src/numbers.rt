@@ -6,11 +6,11 @@ ghost use Rattle.dcv_lexer.specs.Lexicon.{is_number};
 ghost use Rattle.dcv_lexer.specs.Decimal.{value_of};
 ghost use Rattle.dcv_observer.specs.Classes.{is_small_number};
 
+use crate::items::{Item, LARGEST_NUMBER};
 use dcv_lexer::value_up_to;
-use dcv_observer::{Item, LARGEST_NUMBER};
 
 /// Whether an item is a number, and no name.
-pub(crate) fn is_number(bytes: &[u8]) -> bool
+pub fn is_number(bytes: &[u8]) -> bool
     ensures { result ≡ is_number bytes.now }
 {
     !bytes.is_empty() && are_digits(bytes)
@@ -23,7 +23,7 @@ fn are_digits(bytes: &[u8]) -> bool
 }
 
 /// What digits stand for.
-pub(crate) fn number_at(item: &Item<'_>) -> u16
+pub fn number_at(item: &Item<'_>) -> u16
     requires { IsTrue (is_small_number item.now.bytes.now) }
     ensures { result ≡ value_of item.now.bytes.now }
 {

@@ -1,10 +1,11 @@
 -- What is left to judge behind a word that keeps its rule, and the fault at one that does not.
 use Rattle.std.proofs.Common.{◌≡◌, ℕ, Bool, true, false, List, ◌∷◌, Option, Some, Result, Ok, Err, refl, sym, ap, subst, ◌∙◌}
+use Rattle.std.specs.Prelude.{IfErr}
 use Rattle.std.specs.Result.{IsErrAnd}
 use Rattle.dcv_lexer.specs.Cuts.{Token}
 use Rattle.dcv_observer.specs.declared.fault.ObsFault.{ObsFault}
 use Rattle.dcv_observer.specs.declared.fault.ObsFault.TheVariants.{Syntax, Names as Fault, Memory}
-use Rattle.dcv_c_read.specs.Judged.{IsLeft, IsBroken, IsFaultOf, Leads}
+use Rattle.dcv_observer.specs.Judged.{IsLeft, IsBroken, IsFaultOf, Leads}
 
 pub kept : {whole : Option ℕ} {word : Token} {words : List Token} {keep : Bool} {keeps : List Bool}
     → keep ≡ true → IsLeft whole (word ∷ words) (keep ∷ keeps) → IsLeft whole words keeps
@@ -20,7 +21,7 @@ broken {whole = whole} {word = word} {words = words} {keeps = keeps} is left =
 pub broken_word : {fault : ObsFault} {at : ℕ} {keeps : Bool} → fault ≡ Fault at → keeps ≡ false → IsBroken at keeps fault
 broken_word {at = at} {keeps = keeps} is not = subst (IsBroken at keeps) (sym is) (not, refl)
 
--- and of the whole unit
+-- and of the whole text
 pub first_fault : (fault : ObsFault) {whole : Option ℕ} {word : Token} {words : List Token} {keep : Bool} {keeps : List Bool}
     → IsBroken word.start keep fault → IsLeft whole (word ∷ words) (keep ∷ keeps) → IsFaultOf whole fault
 first_fault (Syntax place) is left = is
@@ -35,3 +36,11 @@ leads_on whole Next (Err e) fault is told = subst (IsFaultOf whole) (sym is) tol
 
 pub fault_is : {fault : ObsFault} {whole : Option ℕ} {at : ℕ} → fault ≡ Fault at → whole ≡ Some at → IsFaultOf whole fault
 fault_is {whole = whole} is told = subst (IsFaultOf whole) (sym is) told
+
+-- where it is told
+pub told_fault : {A : Type 0} (whole : Option ℕ) (result : Result A ObsFault) (fault : ObsFault) → IsErrAnd result (λ e. e ≡ fault) → IsFaultOf whole fault
+    → IfErr result (λ fault. (fault ≡ Memory → ⊥) → (at : ℕ) × (fault ≡ Fault at) × (whole ≡ Some at))
+told_fault whole (Ok x) fault is told = absurd is
+told_fault whole (Err e) (Syntax place) is told = absurd told
+told_fault whole (Err e) (Fault place) is told = λ other. (place, is, told)
+told_fault whole (Err e) Memory is told = λ other. absurd (other is)
