@@ -50,7 +50,7 @@ module _ (listing : Listing) where
   abbrev pub joined : List (List ℕ) → List ℕ
   joined texts = join_by (one_listed listing) listing.between.now texts
 
-  -- a text behind others
+  -- a text after others
   text_more : (texts : List (List ℕ)) (text : List ℕ)
       → joined (texts ++ text ∷ []) ≡ joined texts ++ ((if has_some texts then listing.between.now else []) ++ one_listed listing text)
   text_more [] text = append-nil (one_listed listing text)
@@ -60,7 +60,7 @@ module _ (listing : Listing) where
       (flat_map-append behind texts (text ∷ []) ∙ ap (λ last. flat_map behind texts ++ last) (append-nil (behind text)))
       ∙ sym (append_assoc (one_listed listing first) (flat_map behind texts) (behind text))
 
-  -- a text behind others, if it is there
+  -- a text after others, if it is there
   pub texts_further : (texts : List (List ℕ)) (more some : Bool) (text : List ℕ) → some ≡ has_some texts
       → joined (texts ++ cond more (text ∷ []) [])
       ≡ joined texts ++ (if more then (if some then listing.between.now else []) ++ one_listed listing text else [])

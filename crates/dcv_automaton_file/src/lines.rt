@@ -12,7 +12,7 @@ use dcv_io::{Target, put_pieces};
 use dcv_syntax::Name;
 use itoa::Buffer;
 
-/// How a list is laid out: what stands before and behind each, between every two, and in place of none.
+/// How a list is laid out: what stands before and after each, between every two, and in place of none.
 #[derive(Clone, Copy)]
 pub struct Listing<'a> {
     pub before: &'a [u8],

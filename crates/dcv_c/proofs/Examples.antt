@@ -62,7 +62,7 @@ throughout_rejects : unit_accepts (observer_of throughout_file) ((true ∷ []) �
 unfolding throughout_file observer_of digits
 throughout_rejects = refl
 
--- where the first state accepts, and another, behind two variables
+-- where the first state accepts, and another, after two variables
 two_text : text_of (observer_of (record {
   names = codes "p" ∷ codes "q" ∷ [];
   states = 3;
@@ -128,7 +128,7 @@ first_item = refl
 second_item : unit_accepts (unit_with (Assign (codes "x") (Chosen (Holds (codes "a")) (Constant 1) (Constant 0)) ∷ [])) ((false ∷ []) ∷ []) ≡ false
 second_item = refl
 
--- `x = 0; if (a) x = 2; if (a == 1) x = 1;`: the step goes on behind an `if` whose condition holds
+-- `x = 0; if (a) x = 2; if (a == 1) x = 1;`: the step goes on after an `if` whose condition holds
 goes_on : unit_accepts (unit_with (
     Assign (codes "x") (Plain (Constant 0)) ∷ When (Holds (codes "a")) (codes "x") (Constant 2) ∷ When (Equals (codes "a") 1) (codes "x") (Constant 1) ∷ []
     )) ((true ∷ []) ∷ []) ≡ true

@@ -17,12 +17,12 @@ pub data Part : Type 0 where
   Tokens : List Token → Part
   AnAssignment : PlacedAssignment → Part
   Assignments : List PlacedAssignment → Part
-  -- the function that sets the statics: its name, its assignments and the brace behind them
+  -- the function that sets the statics: its name, its assignments and the brace after them
   AReset : Token → List PlacedAssignment → Token → Part
   AStatement : PlacedStatement → Part
   Statements : List PlacedStatement → Part
   ARight : PlacedRight → Part
-  -- what may stand behind a name on a right side
+  -- what may stand after a name on a right side
   Choice : Option PlacedChoice → Part
   -- the number of a condition, which may not be there
   Maybe : Option Token → Part
@@ -31,7 +31,7 @@ pub data Part : Type 0 where
   AReturned : PlacedReturned → Part
   ATest : PlacedTest → Part
   Tests : List PlacedTest → Part
-  -- what may stand behind the first name of a result
+  -- what may stand after the first name of a result
   Behind : Option PlacedTests → Part
   -- the function that makes a step: its name, its parameters, its locals, its statements and what it returns
   AStep : Token → List Token → List Token → List PlacedStatement → PlacedReturned → Part

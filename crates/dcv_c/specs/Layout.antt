@@ -14,7 +14,7 @@
 --       if (st == 0) nx = 1;
 --       return nx == 0 || nx == 1;
 --     }
--- and where there are no parameters `void` stands for them, and where there are no locals the empty line behind them is not there.
+-- and where there are no parameters `void` stands for them, and where there are no locals the empty line after them is not there.
 --     right_text right       a right side
 --     statement_line         a line of a statement
 --     text_of unit           the bytes

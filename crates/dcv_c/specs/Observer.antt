@@ -1,5 +1,5 @@
 -- The observer of an automaton, by the automaton's file. Access words and suffixes do not matter to it. Its static `st` is the state between two
--- steps, its local `nx` the state behind the step, and `nJ` the state to which node J leads at the letter of the step.
+-- steps, its local `nx` the state after the step, and `nJ` the state to which node J leads at the letter of the step.
 --     observer_of file          the unit
 --     node_statement line       the statement of a node
 --     state_statement line      that of a state

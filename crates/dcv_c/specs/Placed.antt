@@ -12,7 +12,7 @@ pub record PlacedTest : Type 0 where
   pub name : Token
   pub number : Token
 
--- what stands behind the name of a condition: the number, where the condition compares, and the two items
+-- what stands after the name of a condition: the number, where the condition compares, and the two items
 pub record PlacedChoice : Type 0 where
   pub number : Option Token
   pub item : Token
@@ -26,7 +26,7 @@ pub data PlacedStatement : Type 0 where
   PlacedAssign : (left : Token) → (right : PlacedRight) → PlacedStatement
   PlacedWhen : (name : Token) → (number : Option Token) → (left : Token) → (item : Token) → PlacedStatement
 
--- what stands behind the name of the first test: the number, and the other tests
+-- what stands after the name of the first test: the number, and the other tests
 pub record PlacedTests : Type 0 where
   pub number : Token
   pub others : List PlacedTest
@@ -44,7 +44,7 @@ pub record PlacedUnit : Type 0 where
   pub statics : List Token
   pub reset : Token
   pub assignments : List PlacedAssignment
-  -- the brace behind the assignments
+  -- the brace after the assignments
   pub reset_end : Token
   pub step : Token
   pub parameters : List Token

@@ -1,5 +1,5 @@
 -- The rules of names, which each name of a unit keeps or breaks.
---     judged unit                whether each name keeps the rules, and the brace behind reset's assignments, in the order of the text; numbers,
+--     judged unit                whether each name keeps the rules, and the brace after reset's assignments, in the order of the text; numbers,
 --                                where a name may stand, keep them
 --     words_of placed            the tokens of these
 --     IsNamesFault placed at     the first that breaks a rule begins there

@@ -62,7 +62,7 @@ impl<'a> Model for Names<'a> {
 }
 
 impl<'a> Names<'a> {
-    // The name at a place, and none behind the last.
+    // The name at a place, and none after the last.
     fn at(&self, place: u32) -> &'a [u8]
         ensures { result.now ≡ name_at self.now place }
     {
@@ -107,7 +107,7 @@ fn put_static<T: Target>(target: &mut T, name: &[u8])
     put_pieces(target, &[b"static int ", name, b";\n"]);
 }
 
-// The function that sets the statics, behind an empty line.
+// The function that sets the statics, after an empty line.
 fn put_reset<T: Target>(target: &mut T, names: &Names<'_>, reset: &Reset)
     ensures { Puts (T.standing target.old) (T.standing target.new) (codes "\nvoid " ++ (reset.now.name ++ (codes "(void)\n{\n"
         ++ (flat_map assignment_line (map (seen_assignment names.now) reset.now.assignments.items) ++ codes "}\n")))) }
@@ -148,7 +148,7 @@ fn put_left<T: Target>(target: &mut T, names: &Names<'_>, left: u32)
     target.put(b" = ");
 }
 
-// The function that makes a step, behind an empty line.
+// The function that makes a step, after an empty line.
 fn put_step<T: Target>(target: &mut T, names: &Names<'_>, step: &Step)
     ensures { Puts (T.standing target.old) (T.standing target.new) ((codes "\nint " ++ (step.now.name ++ (codes "(" ++ (parameters_text step.now.parameters.items ++ codes ")\n{\n"))))
         ++ (local_lines step.now.locals.items ++ (flat_map statement_line (map (seen_statement names.now) step.now.statements.items)
@@ -191,14 +191,14 @@ fn put_parameters<T: Target>(target: &mut T, parameters: &[Text])
     }
 }
 
-// A parameter, behind what stands between it and the one before.
+// A parameter, after what stands between it and the one before.
 fn put_parameter<T: Target>(target: &mut T, between: &[u8], name: &[u8])
     ensures { Puts (T.standing target.old) (T.standing target.new) (between.now ++ parameter_text name.now) }
 {
     put_pieces(target, &[between, b"int ", name]);
 }
 
-// The lines of the locals and the empty line behind them, where there are any.
+// The lines of the locals and the empty line after them, where there are any.
 fn put_locals<T: Target>(target: &mut T, locals: &[Text])
     ensures { Puts (T.standing target.old) (T.standing target.new) (local_lines locals.now) }
 {
@@ -342,7 +342,7 @@ fn put_tests<T: Target>(target: &mut T, names: &Names<'_>, tests: &[Test])
     }
 }
 
-// `name == number`, behind what stands between it and the test before.
+// `name == number`, after what stands between it and the test before.
 fn put_test<T: Target>(target: &mut T, between: &[u8], names: &Names<'_>, test: Test)
     ensures { Puts (T.standing target.old) (T.standing target.new) (between.now ++ test_text (seen_test names.now test)) }
 {

@@ -29,7 +29,7 @@ module _ (frame : Frame) (unit : CUnit) (whole : Option ℕ) (words : List Token
   pub told_by_form : (result : Result Statement ObsFault) {statement form : PlacedStatement} → statement ≡ form → IsToldOf result form → IsToldOf result statement
   told_by_form result is told = subst (IsToldOf result) (sym is) told
 
-  -- what is told of an assignment behind `if`
+  -- what is told of an assignment after `if`
   abbrev pub IsToldOfWhen : Result Statement ObsFault → PlacedWhen → Type 0
   IsToldOfWhen result made =
       IsLeft whole (seen made.name ∷ seen made.left ∷ seen made.item ∷ words)

@@ -89,7 +89,7 @@ pub record AreStatementsSoFar (unit : CUnit) (frame : Frame) (whole : Option ℕ
 module _ (unit : CUnit) (frame : Frame) (whole : Option ℕ) (words : List Token) (all : List PlacedStatement) where
   module _ (made : List CodeStatement) (statement : PlacedStatement) (later : List PlacedStatement) (scope : Scope)
       (sofar : AreStatementsSoFar unit frame whole words all made (statement ∷ later) scope) where
-    -- the words of the next one, and those behind it
+    -- the words of the next one, and those after it
     pub statement_left : IsLeft whole (words_of_statement (seen_statement statement) ++ (words_of_statements (map seen_statement later) ++ words))
         (keeps_statement unit sofar.known (statement_of (seen_statement statement))
         ++ keeps_statements unit (known_after sofar.known (statement_of (seen_statement statement))) (map statement_of (map seen_statement later)))

@@ -31,7 +31,7 @@ pub unit_begins : (placed : PlacedUnit) → IsLeft (first_fault_of placed)
 unfolding words_of judged
 unit_begins placed = record { first = refl }
 
--- ---- behind reset
+-- ---- after reset
 
 -- where each static is assigned, and nothing else
 pub all_assigned : (statics known : Names) → ((name : List ℕ) → is_among known name ≡ true → is_among statics name ≡ true) → list_all (is_among known) statics ≡ true

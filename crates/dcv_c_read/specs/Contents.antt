@@ -17,7 +17,7 @@ use Rattle.dcv_c_read.specs.declared.names.Contents.{Contents}
 abbrev pub first_fault_of : PlacedUnit → Option ℕ
 first_fault_of placed = first_broken (words_of placed) (judged (unit_of placed))
 
--- ---- behind the function that sets the statics
+-- ---- after the function that sets the statics
 
 abbrev pub words_of_step : PlacedUnit → List Token
 words_of_step placed =

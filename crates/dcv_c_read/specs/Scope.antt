@@ -74,7 +74,7 @@ with_known known frame =
 abbrev pub of_statics : Names → Frame
 of_statics statics = with_variables statics no_names
 
--- behind the function that sets them
+-- after the function that sets them
 abbrev pub behind_reset : CUnit → Frame
 behind_reset unit = with_known unit.statics (with_function unit.reset (of_statics unit.statics))
 
@@ -140,13 +140,13 @@ marked place [] = []
 marked zero (row ∷ rows) = record { place = row.place; is_left = row.is_left; is_known = true } ∷ rows
 marked (suc place) (row ∷ rows) = row ∷ marked place rows
 
--- behind assignments of these names, where none was known before
+-- after assignments of these names, where none was known before
 pub record KnowsAssigned (frame : Frame) (assigned : Names) (scope : Scope) : Type 0 where
   pub known : Names
   pub knows : Knows (with_known known frame) scope
   pub are_assigned : (name : List ℕ) → is_among known name ≡ is_among assigned name
 
--- behind the statements of a step: some more names are known, and what it returns is left
+-- after the statements of a step: some more names are known, and what it returns is left
 pub record KnowsMore (unit : CUnit) (frame : Frame) (whole : Option ℕ) (words : List Token) (scope : Scope) : Type 0 where
   pub known : Names
   pub knows : Knows (with_known known frame) scope

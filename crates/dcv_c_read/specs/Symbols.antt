@@ -1,6 +1,6 @@
 -- How clauses see the parts of the code. Their lists stand from the last element to the first.
 --     seen_part part        the part
---     seen_tests tests      the tests of a result behind its first name
+--     seen_tests tests      the tests of a result after its first name
 --     seen_step step        the function that makes a step
 --     IsMeant part          it is a part of some body
 use Rattle.std.specs.Prelude.{map, reverse, option_map}

@@ -177,7 +177,7 @@ pub(crate) fn statement_or_end<'a>(parts: &mut Body<Part<'a>>) -> Option<PlacedS
     }
 }
 
-// The next part, which is what stands behind a name on a right side, or none at the end.
+// The next part, which is what stands after a name on a right side, or none at the end.
 pub(crate) fn choice_or_end<'a>(parts: &mut Body<Part<'a>>) -> Option<Option<Box<PlacedChoice<'a>>>>
     requires { EndsOrBeginsWithChoice (map seen_part parts.old) }
     ensures { Takes (λ choice. Choice (option_map (λ boxed. seen_choice boxed.value) choice)) result (map seen_part parts.old) (map seen_part parts.new) }
@@ -189,7 +189,7 @@ pub(crate) fn choice_or_end<'a>(parts: &mut Body<Part<'a>>) -> Option<Option<Box
     }
 }
 
-// The next part, which is what stands behind the first name of a result, or none at the end.
+// The next part, which is what stands after the first name of a result, or none at the end.
 pub(crate) fn behind_or_end<'a>(parts: &mut Body<Part<'a>>) -> Option<Option<PlacedTests<'a>>>
     requires { EndsOrBeginsWithBehind (map seen_part parts.old) }
     ensures { Takes (λ tests. Behind (option_map seen_tests tests)) result (map seen_part parts.old) (map seen_part parts.new) }

@@ -59,7 +59,7 @@ impl<'a> Scope<'a> {
         })
     }
 
-    // All assignments, where no static is assigned yet. Behind them other words are to be judged.
+    // All assignments, where no static is assigned yet. After them other words are to be judged.
     fn assignments(
         &mut self,
         alloc: Global,
@@ -82,7 +82,7 @@ impl<'a> Scope<'a> {
         Ok(all)
     }
 
-    /// The function that sets the statics, of which none is assigned yet. Behind it all are.
+    /// The function that sets the statics, of which none is assigned yet. After it all are.
     pub(crate) fn reset(
         &mut self,
         alloc: Global,

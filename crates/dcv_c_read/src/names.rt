@@ -68,7 +68,7 @@ impl<'a> Scope<'a> {
         Ok(texts)
     }
 
-    // The function that makes a step of a unit, whose statics are set. Behind it no word is to be judged.
+    // The function that makes a step of a unit, whose statics are set. After it no word is to be judged.
     fn step(&mut self, alloc: Global, placed: &PlacedUnit<'a>) -> Result<Step, ObsFault>
         requires words { AreWords (seen_unit placed.now) }
         ensures { Knows (behind_reset (unit_of (seen_unit placed.now))) self.old

@@ -16,7 +16,7 @@ pub(crate) enum Part<'a> {
     Statement(PlacedStatement<'a>),
     Statements(Vec<PlacedStatement<'a>>),
     Right(PlacedRight<'a>),
-    // What may stand behind a name on a right side.
+    // What may stand after a name on a right side.
     Choice(Option<Box<PlacedChoice<'a>>>),
     // The number of a condition, which may not be there.
     Maybe(Option<Item<'a>>),
@@ -25,7 +25,7 @@ pub(crate) enum Part<'a> {
     Returned(PlacedReturned<'a>),
     Test(PlacedTest<'a>),
     Tests(Vec<PlacedTest<'a>>),
-    // What may stand behind the first name of a result.
+    // What may stand after the first name of a result.
     Behind(Option<PlacedTests<'a>>),
     // What is large stands on the heap, since each part has the size of the largest.
     Step(Box<PlacedStep<'a>>),

@@ -8,7 +8,7 @@ pub struct PlacedTest<'a> {
     pub number: Item<'a>,
 }
 
-/// What stands behind the name of a condition on a right side: `? item : otherwise`, or `== number ? item : otherwise`.
+/// What stands after the name of a condition on a right side: `? item : otherwise`, or `== number ? item : otherwise`.
 #[derive(Clone, Copy)]
 pub struct PlacedChoice<'a> {
     /// Where the condition compares.
@@ -17,7 +17,7 @@ pub struct PlacedChoice<'a> {
     pub otherwise: Item<'a>,
 }
 
-/// What stands behind the `=` of an assignment.
+/// What stands after the `=` of an assignment.
 #[derive(Drop)]
 pub enum PlacedRight<'a> {
     Plain(Item<'a>),
@@ -35,7 +35,7 @@ pub enum PlacedStatement<'a> {
     When(Box<PlacedWhen<'a>>),
 }
 
-/// An assignment behind `if`.
+/// An assignment after `if`.
 #[derive(Clone, Copy)]
 pub struct PlacedWhen<'a> {
     pub name: Item<'a>,
@@ -45,7 +45,7 @@ pub struct PlacedWhen<'a> {
     pub item: Item<'a>,
 }
 
-/// What stands behind the name of the first test: `== number`, and `|| name == number` any number of times.
+/// What stands after the name of the first test: `== number`, and `|| name == number` any number of times.
 #[derive(Drop)]
 pub struct PlacedTests<'a> {
     pub number: Item<'a>,
@@ -53,7 +53,7 @@ pub struct PlacedTests<'a> {
     pub others: Vec<PlacedTest<'a>>,
 }
 
-/// What stands behind `return`.
+/// What stands after `return`.
 #[derive(Drop)]
 pub enum PlacedReturned<'a> {
     Fixed(Item<'a>),
@@ -75,7 +75,7 @@ pub struct PlacedAssignment<'a> {
 pub struct PlacedReset<'a> {
     pub name: Item<'a>,
     pub assignments: Vec<PlacedAssignment<'a>>,
-    /// The brace behind the assignments.
+    /// The brace after the assignments.
     pub end: Item<'a>,
 }
 

@@ -97,7 +97,7 @@ impl<'a> Scope<'a> {
         }
     }
 
-    // `left = right;`, behind which the left side is known.
+    // `left = right;`, after which the left side is known.
     fn assign(&mut self, left: &Word<'_>, right: &PlacedRight<'_>) -> Result<Statement, ObsFault>
         requires { AreWordsOfRight (seen_right right.now) }
         ensures { (frame : Frame) → Knows frame self.old
@@ -114,7 +114,7 @@ impl<'a> Scope<'a> {
         Ok(Statement::Assign(place, right))
     }
 
-    // `if (condition) left = item;`, behind which nothing else is known than before.
+    // `if (condition) left = item;`, after which nothing else is known than before.
     fn when(&self, made: &PlacedWhen<'_>) -> Result<Statement, ObsFault>
         requires { AreWordsOfStatement (seen_when made.now) }
         ensures { (frame : Frame) → Knows frame self.now
@@ -147,7 +147,7 @@ impl<'a> Scope<'a> {
         }
     }
 
-    /// The statements of a step. Behind them stands what it returns.
+    /// The statements of a step. After them stands what it returns.
     pub(crate) fn statements(
         &mut self,
         alloc: Global,
@@ -181,7 +181,7 @@ impl<'a> Scope<'a> {
         })
     }
 
-    // The tests of a result, behind which no word is to be judged.
+    // The tests of a result, after which no word is to be judged.
     fn tests(&self, alloc: Global, tests: &[PlacedTest<'_>]) -> Result<Vec<Test>, ObsFault>
         requires { AllByRecursion AreWordsOfTest (map seen_test tests.now) }
         ensures { (frame : Frame) → Knows frame self.now

@@ -201,7 +201,7 @@ marked_own which (Product excess limit) own = own
 marked_own which Write own = own
 marked_own which Memory own = own
 
--- what is right for the second file, behind the first, is right for both
+-- what is right for the second file, after the first, is right for both
 pub fulfils_both : (told told' : Option Disk) (first second text : List ℕ) (limits : Limits) (one : PlainFile) (outcome : Outcome) → held_of told' ≡ held_of told
     → IsHeldText told first text → IsFormulaFile text one → FulfilsSecond limits one second told' outcome → FulfilsOver (Implies first second limits) told outcome
 fulfils_both told told' first second text limits one outcome same there formula right =
@@ -213,7 +213,7 @@ fulfils_both told told' first second text limits one outcome same there formula 
     moves held late there same right =
         rw there (ReadFile one formula (subst (λ held. OnHeld held second (λ text. OnText text Second (IsCompared limits one)) outcome) (sym same) right))
 
--- nothing was written where the second file failed, behind a first without a fault
+-- nothing was written where the second file failed, after a first without a fault
 pub leaves_both : (first second text : List ℕ) (limits : Limits) (file : PlainFile) (before mid after : Outside) (bytes : List ℕ) → StepsTo first before mid
     → IsHeldText before.told first text → IsFormulaFile text file → LeavesSecond second (from before mid) after bytes → LeavesFor (Implies first second limits) before after bytes
 leaves_both first second text limits file before mid after bytes steps there is left = by before.told there where

@@ -23,7 +23,7 @@ use Rattle.dcv_cli.proofs.ThreeEnds.{fulfils_first}
 longer : (front rest whole : List ℕ) → whole ≡ front ++ rest → length front ≤ length whole
 longer front rest whole is = omega (arith, ap length is, length-append front rest)
 
--- it is behind the version
+-- it is after the version
 version_before : (file : AutomatonFile) (steps : Option StepPart) → 11 ≤ length (spelled_front (record file { steps = steps }))
 unfolding spelled_front front_lines
 version_before file None = longer (codes "automaton 1") _ (spelled_front (record file { steps = None })) refl

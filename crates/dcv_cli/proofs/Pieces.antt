@@ -1,4 +1,4 @@
--- A front of a later piece, behind whole earlier ones, is a front of all of them.
+-- A front of a later piece, after whole earlier ones, is a front of all of them.
 use Rattle.std.proofs.Common.{◌≡◌, ℕ, suc, ◌<◌, List, ◌++◌, codes, append_assoc, length, get_or, take, drop, Option, sym, ap, ◌∙◌, subst}
 use Rattle.std.specs.Borrow.{Bor}
 use Rattle.std.specs.Prelude.{OnOk, OnErr, ⊤}
@@ -27,7 +27,7 @@ joined_at pieces i d within =
     ∙ flat_map-append (λ piece. piece.now) (take i pieces) (drop i pieces)
     ∙ ap (λ rest. joined (take i pieces) ++ joined rest) (drop-cons pieces i d within)
 
--- what a failed write of a piece leaves, behind whole earlier pieces
+-- what a failed write of a piece leaves, after whole earlier pieces
 pub front_of_pieces : (old mid new : Option (List ℕ)) (pieces : List (Bor (List ℕ))) (i : ℕ) (d : Bor (List ℕ)) → i < length pieces
     → Appends old mid (joined (take i pieces)) → AppendsStrictPrefix mid new (get_or pieces i d).now → AppendsPrefix old new (joined pieces)
 front_of_pieces old mid new pieces i d within whole part =
@@ -37,7 +37,7 @@ front_of_pieces old mid new pieces i d within whole part =
 
 -- ---- the line of a step that is over the limits
 
--- pieces one behind another, and an end behind the last, however they are put together
+-- pieces one after another, and an end after the last, however they are put together
 pub in_any_order : (word limit at step end : List ℕ)
     → codes "budget " ++ (word ++ (codes " " ++ (limit ++ (codes " at " ++ (at ++ (codes " step " ++ (step ++ end)))))))
     ≡ (codes "budget " ++ word ++ codes " " ++ limit ++ codes " at " ++ at ++ codes " step " ++ step) ++ end

@@ -31,7 +31,7 @@ use Rattle.dcv_cli.specs.Refusal.{most_automaton_bytes}
 
 -- ---- words of a line
 
--- one byte stands behind each word
+-- one byte stands after each word
 abbrev room : List (List ℕ) → ℕ
 room [] = 0
 room (word ∷ words) = length word + 1 + room words
@@ -188,7 +188,7 @@ has_its_width file place (AfterAccess state letter) are = (unsigned_Decides (len
 abbrev spelt : List Word → SuffixLine → List Word
 spelt earlier line = earlier ++ suffix_word_of earlier line.suffix ∷ []
 
--- what more lines spell stands behind
+-- what more lines spell stands after
 record StandsBehind (lines : List SuffixLine) (earlier : List Word) : Type 0 where
   later : List Word
   behind : fold spelt earlier lines ≡ earlier ++ later

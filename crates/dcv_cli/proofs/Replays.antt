@@ -1,4 +1,4 @@
--- The observer of a replay, and what is right for the trace behind it.
+-- The observer of a replay, and what is right for the trace after it.
 use Rattle.std.proofs.Common.{◌≡◌, ◌≢◌, ◌≤◌, ℕ, List, [], ◌∷◌, length, Option, None, Some, Result, Ok, Err, refl, sym, subst, ◌∙◌}
 use Rattle.std.specs.Prelude.{IfErr}
 use Rattle.std.specs.Bool.{OnTrue}
@@ -60,7 +60,7 @@ module _ (subset : Subset) (told : Option Disk) (name trace : List ℕ) where
 
   module _ (told' : Option Disk) (text : List ℕ) (observer : Observer) (same : held_of told' ≡ held_of told) (there : IsHeldText told name text)
       (is : IsObserverText subset text observer) where
-    -- what is right for the trace, behind the observer, is right for both
+    -- what is right for the trace, after the observer, is right for both
     pub fulfils_replay : (outcome : Outcome) → FulfilsTrace observer trace told' outcome → FulfilsOver (Replay subset name trace) told outcome
     fulfils_replay outcome right =
         later_held told told' name text (λ held. OnHeld (held 0) trace (IsReplay observer) outcome) (λ held. Fulfils (Replay subset name trace) held outcome) same there moves right

@@ -43,7 +43,7 @@ told_by_or_not k L first second suffixes = elim (told_or_not k L first second su
 -- ---- the answer of a file
 
 module _ (file : AutomatonFile) where
-  -- all states behind this one are told apart from it
+  -- all states after this one are told apart from it
   abbrev ToldBehind : ℕ → Type 0
   ToldBehind first = (second : ℕ) → first < second → second < file.states → AreTold file first second
 

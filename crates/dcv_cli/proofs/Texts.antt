@@ -27,7 +27,7 @@ use Rattle.dcv_cli.specs.Report.{Says, SaysAll}
 
 -- ---- all in one
 
--- what stands before the automaton, and behind it
+-- what stands before the automaton, and after it
 abbrev before_automaton : List ℕ → List ℕ
 before_automaton verdict = codes "--- verdict\n" ++ (verdict ++ codes "--- automaton\n")
 

@@ -1,5 +1,5 @@
 -- How each command keeps to what all of them do: by a refusal before anything is written, a report that is written whole, or one whose writing
--- failed; and a replay by a fault of the trace, or of a read of it, behind what was written.
+-- failed; and a replay by a fault of the trace, or of a read of it, after what was written.
 use Rattle.std.proofs.Common.{◌≡◌, ℕ, Bool, true, false, List, [], Option, None, Some, Result, Ok, Err, length, refl, sym, inl, inr, arith}
 use Rattle.std.proofs.Math.Seq.{take-length}
 use Rattle.std.specs.Prelude.{IfSome, IsTrue}
@@ -210,7 +210,7 @@ module _ (Right : Outcome → Type 0) (Left : Outside → Outside → List ℕ �
     held = held;
   }
 
-  -- a read failed behind the front of a right report
+  -- a read failed after the front of a right report
   pub performs_cut : (outcome : Outcome) (text : List ℕ) → Right outcome → AppendsPrefix before.written after.written outcome.out → Left before after text
       → Appends before.written after.written text → after.faults ≡ before.faults → Reads names (Err (only Read)) before after
       → Performs Right Left names (Err (only Read)) before after
@@ -230,7 +230,7 @@ module _ (Right : Outcome → Type 0) (Left : Outside → Outside → List ℕ �
     held = reads.held;
   }
 
-  -- a fault of the trace, behind the whole of a right report
+  -- a fault of the trace, after the whole of a right report
   pub performs_at_fault : (fault : TraceFault) (text : List ℕ)
       → Right (record { status = status_of (Trace fault); out = text; err = message_of (only (Trace fault)) }) → Appends before.written after.written text
       → after.faults ≡ before.faults → Reads names (Err (only (Trace fault))) before after → Performs Right Left names (Err (only (Trace fault))) before after

@@ -1,4 +1,4 @@
--- Commands that read a second file: what is right for that, behind the first, is right for both.
+-- Commands that read a second file: what is right for that, after the first, is right for both.
 use Rattle.std.proofs.Common.{◌≡◌, ℕ, List, [], ◌∷◌, Option, None, Some, Result, refl, sym, ◌∙◌, subst, inl, inr}
 use Rattle.std.specs.Prelude.{nat_eq, if◌then◌else◌}
 use Rattle.dcv_io.specs.Asked.{Asks}
@@ -15,7 +15,7 @@ use Rattle.dcv_cli.specs.declared.refused.Refused.{Refused}
 use Rattle.dcv_cli.specs.declared.status.Status.{Status}
 use Rattle.dcv_cli.proofs.ThreeEnds.{on_true_weaker}
 
--- what is held as the second file is opened, behind a text that was held as the first was
+-- what is held as the second file is opened, after a text that was held as the first was
 abbrev later : List ℕ → Texts → Texts
 later text held time name = if nat_eq time 0 then Some text else held 0 name
 
@@ -53,7 +53,7 @@ pub record StepsTo (name : List ℕ) (before mid : Outside) : Type 0 where
   pub faults : mid.faults ≡ before.faults
   pub held : held_of mid.told ≡ held_of before.told
 
--- what is seen behind the first file, with the counts and the output as they were before it
+-- what is seen after the first file, with the counts and the output as they were before it
 abbrev pub from : Outside → Outside → Outside
 from before mid = outside mid.told mid.asked before.open_faults before.read_faults before.written before.faults
 

@@ -71,7 +71,7 @@ pub record HasFormula (formula_text : Option (List ℕ)) : Type 0 where
   pub file : PlainFile
   pub is : IsFormulaFile text file
 
--- Nothing was written. The second file is asked for behind a formula file without a fault alone.
+-- Nothing was written. The second file is asked for after a formula file without a fault alone.
 pub data LeavesComparison (first second : List ℕ) (held : Texts) (before after : Outside) (bytes : List ℕ) : Type 0 where
   OfFirst : Asks (first ∷ []) before.asked after.asked → bytes ≡ [] → LeavesComparison first second held before after bytes
   OfSecond : Asks (first ∷ second ∷ []) before.asked after.asked → HasFormula (held 0 first) → bytes ≡ []

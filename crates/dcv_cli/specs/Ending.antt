@@ -42,7 +42,7 @@ abbrev pub StopsWithin : (Outcome → Type 0) → Option (List ℕ) → Option (
 StopsWithin Right old new = (outcome : Outcome) × Right outcome × AppendsStrictPrefix old new outcome.out
 
 -- What a run of the request has written where an input failed: nothing, but of a replay the answers up to there. A second file is asked for
--- behind a first without a fault alone.
+-- after a first without a fault alone.
 abbrev pub Leaves : Request → Texts → Outside → Outside → List ℕ → Type 0
 Leaves (Replay subset observer trace) held before after bytes = LeavesAnswers subset observer trace held before after bytes
 Leaves (Implies first second limits) held before after bytes = LeavesComparison first second held before after bytes

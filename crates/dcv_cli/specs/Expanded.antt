@@ -1,4 +1,4 @@
--- What there is of a formula file that is not refused, before its automaton and behind it.
+-- What there is of a formula file that is not refused, before its automaton and after it.
 --     IsExpanded file expanded         the core and the names are the file's
 --     IsOfFile expanded                they are some file's
 --     IsExpandedText text expanded     the text is that of such a file

@@ -47,7 +47,7 @@ pub record AllIsSaid (file : PlainFile) (outcome : Outcome) : Type 0 where
   pub unit : CUnit
   pub node_text : List ℕ
   pub unit_text : List ℕ
-  -- the report is these four texts, each behind a line that names it
+  -- the report is these four texts, each after a line that names it
   pub report : outcome.out ≡ all_text (verdict_text verdict) (spelled automaton) node_text unit_text
   -- The automaton's text has the form and keeps the rules, and its table accepts exactly the behaviours that model the file. No table automaton
   -- for these has fewer states, as its own words show.

@@ -95,7 +95,7 @@ fault_words word = codes "fault " ++ word
 abbrev pub fault_words_at : List ℕ → ℕ → List ℕ
 fault_words_at word at = fault_words word ++ codes " at " ++ decimal at
 
--- A file that is too long is at fault behind the last byte that a file may have.
+-- A file that is too long is at fault after the last byte that a file may have.
 abbrev pub formula_words : FormulaFault → List ℕ
 formula_words FormulaLength = fault_words_at (codes "length") most_bytes
 formula_words (Text fault at) = fault_words_at (text_word_of fault) at
@@ -162,7 +162,7 @@ marked which Write = only Write
 marked which Memory = only Memory
 marked which refusal = record { refusal = refusal; which = which }
 
--- behind the words, to the end of the line
+-- after the words, to the end of the line
 abbrev pub end_of : Which → List ℕ
 end_of Only = codes "\n"
 end_of First = codes " in first\n"

@@ -1,6 +1,6 @@
 -- What is right where an observer is run over a trace.
 --     fault_of_trace verdict            what is wrong with a trace, if it is not good
---     IsReplay observer trace outcome   the observer's answers to the good lines of the trace, and what is wrong with it behind these
+--     IsReplay observer trace outcome   the observer's answers to the good lines of the trace, and what is wrong with it after these
 --     LeavesAnswers subset ..           what was written where an input failed
 use Rattle.std.specs.Prelude.{◌≡◌, ℕ, List, [], ◌∷◌, Option, None, Some}
 use Rattle.dcv_io.specs.Asked.{Asks}
@@ -36,7 +36,7 @@ abbrev pub message_of_trace : Option TraceFault → List ℕ
 message_of_trace None = []
 message_of_trace (Some fault) = message_of (only (Trace fault))
 
--- What is wrong with the trace is said behind the answers to the lines before it.
+-- What is wrong with the trace is said after the answers to the lines before it.
 pub record IsReplay (observer : Observer) (trace : List ℕ) (outcome : Outcome) : Type 0 where
   pub verdict : Verdict
   pub is_verdict : HasVerdict (width_of observer) trace verdict
@@ -69,7 +69,7 @@ pub record AnswersRead (subset : Subset) (observer_text trace_text : Option (Lis
   pub trace_there : trace_text ≡ Some trace
   pub short : IsCutShort observer trace told bytes
 
--- Nothing was written where the observer's file failed or the trace could not be opened. The trace is asked for behind an observer alone.
+-- Nothing was written where the observer's file failed or the trace could not be opened. The trace is asked for after an observer alone.
 pub data LeavesAnswers (subset : Subset) (observer trace : List ℕ) (held : Texts) (before after : Outside) (bytes : List ℕ) : Type 0 where
   OfObserver : Asks (observer ∷ []) before.asked after.asked → bytes ≡ [] → LeavesAnswers subset observer trace held before after bytes
   OfOpen : Asks (observer ∷ trace ∷ []) before.asked after.asked → Rises before.open_faults after.open_faults → HasObserver subset (held 0 observer) → bytes ≡ []

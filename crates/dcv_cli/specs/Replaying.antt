@@ -1,4 +1,4 @@
--- The two files of a replay, one behind the other.
+-- The two files of a replay, one after the other.
 --     IsReplayOf subset text replay         the replay stands where the observer of the text begins
 --     IsReplayIn subset told name replay    that text is held under the name
 --     IsRefusedIn subset told name refusal  what is held under the name is no observer's text
@@ -34,7 +34,7 @@ pub record IsRefusedIn (subset : Subset) (told : Option Disk) (name : List ℕ) 
   pub there : IsHeldText told name text
   pub refused : IsRefusedObserver subset text refusal
 
--- ---- behind the observer
+-- ---- after the observer
 
 abbrev pub FulfilsTrace : Observer → List ℕ → Option Disk → Outcome → Type 0
 FulfilsTrace observer name told outcome = ForHeld told (λ held. OnHeld (held 0) name (IsReplay observer) outcome)

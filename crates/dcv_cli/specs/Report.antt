@@ -21,7 +21,7 @@ use Rattle.dcv_cli.specs.Budget.{steps_of_file}
 use Rattle.dcv_cli.specs.Outcome.{Outcome}
 use Rattle.dcv_cli.specs.Status.{status_of_verdict}
 
--- all of them, each behind a line that names it
+-- all of them, each after a line that names it
 pub record SaysAll (k : ℕ) (L : Language) (names : List (List ℕ)) (counts : List Count) (verdict : Verdict) (text : List ℕ) : Type 0 where
   pub automaton : List ℕ
   pub node : List ℕ

@@ -65,7 +65,7 @@ pub record SaysController (n m : ℕ) (L : Language) (names : List (List ℕ)) (
   pub rows : IsControl control
   pub least : IsControlOf n m (automaton_of table) control
   pub says : text ≡ controller_text (text_of (unit_of names control))
-  -- What stands behind the line is a sentence of the subset of C, which keeps the rules of names. Its steps, asked with any inputs, return
+  -- What stands after the line is a sentence of the subset of C, which keeps the rules of names. Its steps, asked with any inputs, return
   -- outputs with which each behaviour that is made is in the set.
   pub read : IsReadAs (text_of (unit_of names control)) (unit_of names control)
   pub wins : Wins n m L (controller_in m (unit_of names control))

@@ -58,7 +58,7 @@ pub(crate) fn convert_file<F: Files, O: Sink>(
     Ok(Status::Done)
 }
 
-// The text in this version. No memory is taken behind the reader.
+// The text in this version. No memory is taken after the reader.
 fn convert<'a>(alloc: Global, text: &'a [u8], to: Version) -> Result<Conversion<'a>, Refusal>
     requires { length text.now ≤ most_automaton_bytes }
     ensures converted { IfOk result (λ found. IsConvertedText text.entry.now to (conversion_text found)) }

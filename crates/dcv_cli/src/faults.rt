@@ -163,7 +163,7 @@ impl ObserverFault {
     }
 }
 
-/// What is wrong with a trace, behind its good lines.
+/// What is wrong with a trace, after its good lines.
 #[derive(Clone, Copy, Debug, PartialEq, Eq)]
 pub enum TraceFault {
     /// The line with this number, counted from 1, is no line of the observer's inputs.

@@ -30,11 +30,11 @@ use std::alloc::Global;
 /// `check FILE` writes the verdict of the formula in the file: whether each behaviour satisfies it, whether some
 /// does, a shortest behaviour that does not, and a shortest that does. `automaton FILE` writes its minimal automaton,
 /// with words that show that none with fewer states accepts just the behaviours that satisfy it. `lustre FILE` and `c FILE`
-/// write that automaton as an observer, and `all FILE` all four, each behind a line that names it. `certify FILE` judges the words of an
+/// write that automaton as an observer, and `all FILE` all four, each after a line that names it. `certify FILE` judges the words of an
 /// automaton's text, and `convert FILE --to N` writes it in version N: version 2 says what each step of the formula took, and version 1 does
 /// not. `implies FILE FILE` says whether each behaviour that satisfies the first formula satisfies the second, or writes a shortest that does
 /// not.
-/// `synth FILE --inputs N` writes a controller whose outputs, the variables behind the first N, satisfy the formula at each instant whatever
+/// `synth FILE --inputs N` writes a controller whose outputs, the variables after the first N, satisfy the formula at each instant whatever
 /// its inputs, the first N, are; or else how the inputs are picked by which no controller does, and within how many instants.
 /// `replay-lustre OBSERVER TRACE` and `replay-c OBSERVER TRACE` write what an observer answers at each instant of a trace.
 /// `sweep SEED COUNT` writes how many of the formulas that are drawn from the seed are valid, and what else is counted over them.

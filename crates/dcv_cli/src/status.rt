@@ -29,7 +29,7 @@ pub enum Status {
     Output,
     /// Memory ran out.
     Memory,
-    /// The trace is not good: behind the lines that were answered stands a fault.
+    /// The trace is not good: after the lines that were answered stands a fault.
     Trace,
     /// The file holds no observer: its text has a fault.
     Observer,

@@ -64,7 +64,7 @@ next_place Operand place = place + 1
 next_place Required place = place
 next_place (WithDefault text) place = place
 
--- with `--help` behind them
+-- with `--help` after them
 abbrev pub built_rules : List Argument → ℕ → List Rule
 built_rules [] place = with_index 1 (filled help_rule) ∷ []
 built_rules (one ∷ rest) place = built_rule place one ∷ built_rules rest (next_place one.form place)

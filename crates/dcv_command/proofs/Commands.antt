@@ -1,4 +1,4 @@
--- Words that begin with a command's name: what `clap` finds in them is what it finds in the words behind the name, and they pass its
+-- Words that begin with a command's name: what `clap` finds in them is what it finds in the words after the name, and they pass its
 -- test where these do.
 use Rattle.std.proofs.Common.{◌≡◌, refl, sym, ap, ◌∙◌, Bool, true, false, List, [], ◌∷◌, ◌++◌, Option, Some, codes, is_some}
 use Rattle.std.specs.Prelude.{find, fold, map, not, option_map, ◌&&◌, ◌||◌, if◌then◌else◌}
@@ -25,9 +25,9 @@ use Rattle.dcv_command.specs.Request.{asked_of, request_among, request_in}
 use Rattle.dcv_command.specs.Table.{Argument, Command, commands}
 use Rattle.dcv_command.proofs.Arguments.{are_sound, built_shape}
 
--- ---- behind the name
+-- ---- after the name
 
--- a walk that has met a subcommand, and the words behind its name
+-- a walk that has met a subcommand, and the words after its name
 abbrev pub stopped_at : Text → List Text → Walk
 stopped_at name seen = record (walk_from nothing_held) { stopped = Some (name, seen) }
 
@@ -165,7 +165,7 @@ pub record IsCommand (command : Command) : Type 0 where
   pub request : (rows : List Row) → request_in command.name rows ≡ asked_of command rows
   pub sound : are_sound command.arguments ≡ true
 
--- with the help that is behind them
+-- with the help that is after them
 abbrev pub leaves : List Command → List Shape
 leaves left = map (λ command. built_shape command.name command.arguments) left ++ built_leaf help_shape ∷ []
 

@@ -1,4 +1,4 @@
--- What stands in the rows behind the words of a subcommand in which it has no fault: whatever its shape, each argument that is
+-- What stands in the rows after the words of a subcommand in which it has no fault: whatever its shape, each argument that is
 -- required, and each that has a default, has a row that can be read.
 use Rattle.std.proofs.Common.{◌≡◌, refl, Bool, true, false, List, [], ◌∷◌}
 use Rattle.std.specs.Prelude.{◌&&◌, ◌||◌, not}
@@ -57,7 +57,7 @@ module _ (Says : Text → Text → Type 0) where
     are_found rules rows all required defaults,
   )
 
-  -- ---- behind the words
+  -- ---- after the words
 
   -- of a shape of which no use and no default leaves a row that can't be read
   module _ (shape : Shape) (uses : EachKeeps shape.args_override_self (AreReadable Says) shape.rules)

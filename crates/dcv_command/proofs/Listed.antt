@@ -207,7 +207,7 @@ module _ (name : Text) (arguments : List Argument) (values : Values) where
 
   -- ---- the end
 
-  -- what is known of each argument behind the words
+  -- what is known of each argument after the words
   record IsSettled (rows : List Row) (one : Argument) : Type 0 where
     looked_up : IsLookedUp arguments one
     required : is_required one.form ≡ true → has_row one.id rows ≡ true
@@ -419,7 +419,7 @@ module _ (command : Command) (is : IsCommand command) (values : Values) (given :
       let options = options_given given are.options (λ id has. has) in
       options_ended command.name arguments values given passed.place options are.once passed.held (with_operands arguments []) passed.holds (options_fresh given options)
 
-  -- ---- behind all words
+  -- ---- after all words
 
   settled_each : (left : List Argument) → AllByRecursion (IsLookedUp arguments) left → AllByRecursion Chosen left
       → AllByRecursion (λ one. IsOperand one.form → has_name one.id (with_operands arguments []) ≡ true) left

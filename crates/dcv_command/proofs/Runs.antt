@@ -1,4 +1,4 @@
--- Words behind a subcommand's name, word by word to the end of `clap`'s walk over them.
+-- Words after a subcommand's name, word by word to the end of `clap`'s walk over them.
 use Rattle.std.proofs.Common.{◌≡◌, refl, ap, ◌∙◌, true, false, List, ℕ, [], ◌∷◌, Some}
 use Rattle.std.specs.Prelude.{fold, ◌&&◌, Bool, Option}
 use Rattle.std.specs.List.{list_all}
@@ -68,13 +68,13 @@ plain_goes shape held waiting position word next none no_fault passes taken =
 
 -- ---- what is asked for
 
--- the faults behind the walk
+-- the faults after the walk
 abbrev pub faults_at_end : Shape → Held → Kinds
 faults_at_end shape held =
     or_else (settle_fault shape.rules shape.args_override_self held)
     (or_else (defaults_fault (settled shape.rules held).rows shape.rules) (check_fault shape (finished shape.rules held) false))
 
--- what passes behind the walk
+-- what passes after the walk
 abbrev pub passes_at_end : Shape → Held → Bool
 passes_at_end shape held =
     settle_passes shape.rules shape.args_override_self held && (list_all default_passes shape.rules && is_valid shape (finished shape.rules held) false)

@@ -1,4 +1,4 @@
--- The walk of `clap` over a command's operands and options: what is held behind each, and what is found at the end.
+-- The walk of `clap` over a command's operands and options: what is held after each, and what is found at the end.
 use Rattle.std.proofs.Common.{◌≡◌, ◌<◌, refl, sym, ap, ap₂, ◌∙◌, subst, Bool, true, false, ℕ, List, [], ◌∷◌, ◌++◌, Option, None, Some, arith, min}
 use Rattle.std.specs.Prelude.{find, fold, not, ◌&&◌, ◌||◌, ◌+◌, if◌then◌else◌, nat_lt}
 use Rattle.std.specs.List.{AllByRecursion}
@@ -92,7 +92,7 @@ pub given_with_defaults : (id : Text) (rules : List Rule) (rows : List Row) → 
 given_with_defaults id [] rows given = given
 given_with_defaults id (rule ∷ rules) rows given = given_with_defaults id rules (with_default rows rule) (given_with_default id rule rows given)
 
--- ---- what is held behind some arguments
+-- ---- what is held after some arguments
 
 -- the text is one of the argument's, and stands for what is given for it
 abbrev pub Means : Values → Argument → Text → Type 0
@@ -171,7 +171,7 @@ module _ (arguments : List Argument) (values : Values) where
           ∙ ap (λ there. going (pushed one.id text there) idle (min (place + 1) usize_max)) before.settles
           ∙ ap (going (holding before.rows one.id text) idle) (min-eq_left (omega arith)))
 
-      -- the flag of its option, and the word behind that
+      -- the flag of its option, and the word after that
       pub flag_goes : IsOption one.form → Goes shape (going held idle place) (flag one.id) (going (waiting_for before.rows one.id) (option one.id) place)
       unfolding walked
       flag_goes is_option =

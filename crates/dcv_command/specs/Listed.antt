@@ -3,7 +3,7 @@
 --     word_of value given        what is given for an argument, as a word: a number in decimal
 --     operand_words values arguments
 --                                the words of the operands among the arguments, in order
---     option_words values given  the words of these options, each behind its name
+--     option_words values given  the words of these options, each after its name
 --     IsFileName name            the name is not empty, and does not begin with a dash
 --     AreGiven values arguments given
 --                                these options are of the arguments, each once, those that must be there among them; what is given is

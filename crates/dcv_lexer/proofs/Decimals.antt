@@ -8,7 +8,7 @@ pub no_less : (value : ℕ) (digits : List ℕ) → value ≤ fold with_digit va
 no_less value [] = omega arith
 no_less value (digit ∷ digits) = let h = no_less (with_digit value digit) digits in omega arith
 
--- the digits behind a value that was read
+-- the digits after a value that was read
 module _ (digits : List ℕ) (index value d : ℕ) (read : fold with_digit value (drop index digits) ≡ value_of digits) (lt : index < length digits) where
   behind : drop index digits ≡ get_or digits index d ∷ drop (index + 1) digits
   behind = rw (add-one, drop-cons digits index d)

@@ -5,17 +5,11 @@ use Rattle.std.proofs.lemmas.Bool.{or_cases, both_ways}
 use Rattle.dcv_lexer.specs.declared.reading.Lexer.{Lexer}
 use Rattle.dcv_lexer.specs.declared.reading.Lexeme.{Lexeme}
 use Rattle.dcv_lexer.specs.Lexicon.{Lexicon, is_blank, is_token, is_piece, class_of}
-use Rattle.dcv_lexer.specs.Cuts.{BeginsWithNoPiece, IsLongest, IsCut, Token, tokens_from}
-use Rattle.dcv_lexer.specs.Reading.{seen, lexicon_in, HasTokens, Reads, IsFurther, GivesOne, GivesNone}
+use Rattle.dcv_lexer.specs.Cuts.{IsLongest, IsCut, Token, tokens_from}
+use Rattle.dcv_lexer.specs.Reading.{seen, lexicon_in, HasTokens, Reads, IsFurther, GivesOne}
 use Rattle.dcv_lexer.specs.Fronts.{class_if_token}
-use Rattle.dcv_lexer.proofs.Cuts.{cut_exists, cut_is_unique, cut_with, cut_nothing}
+use Rattle.dcv_lexer.proofs.Cuts.{cut_exists, cut_with}
 use Rattle.dcv_lexer.proofs.Fronts.{class_told, class_untold}
-
-pub tokens_are_one : (lexer : Lexer) (tokens others : List Token) (rest other_rest : List ℕ) → HasTokens lexer tokens rest
-    → HasTokens lexer others other_rest → (tokens ≡ others) × (rest ≡ other_rest)
-tokens_are_one lexer tokens others rest other_rest h k =
-    let same = cut_is_unique (lexicon_in lexer) lexer.rest.now rest other_rest h.pieces k.pieces h.cut k.cut in
-    (h.among ∙ ap (tokens_from (lexicon_in lexer) lexer.start) same.0 ∙ sym k.among, same.1)
 
 pub tokens_exist : (lexer : Lexer) → (tokens : List Token) × (rest : List ℕ) × HasTokens lexer tokens rest
 tokens_exist lexer =
@@ -31,17 +25,9 @@ pub reads_then : (old mid new : Lexer) (first second : List Token) → Reads old
 reads_then old mid new first second r s tokens rest h =
     rw append_assoc (r (second ++ tokens) rest (s tokens rest h))
 
--- what old has is what was read and what new has
-pub after_reading : (old new : Lexer) (read tokens : List Token) (rest : List ℕ) → Reads old read new → HasTokens old tokens rest
-    → (more : List Token) × (tokens ≡ read ++ more) × HasTokens new more rest
-after_reading old new read tokens rest r h =
-    let left = tokens_exist new in
-    let same = tokens_are_one old tokens (read ++ left.0) rest left.1 h (r left.0 left.1 left.2) in
-    (left.0, same.0, subst (λ (end : List ℕ). HasTokens new left.0 end) (sym same.1) left.2)
-
 -- ---- one piece
 
--- new is old behind a piece
+-- new is old after a piece
 pub record IsBehind (old : Lexer) (piece : List ℕ) (new : Lexer) : Type 0 where
   pub lexicon : lexicon_in new ≡ lexicon_in old
   pub first : IsLongest (lexicon_in old) piece old.rest.now
@@ -55,7 +41,7 @@ module _ (old new : Lexer) (piece : List ℕ) (b : IsBehind old piece new) where
     ends = omega (arith, b.start, ap length b.parts ∙ length-append piece new.rest.now);
   }
 
-  -- the cut of what is behind the piece, in old's lexicon
+  -- the cut of what is after the piece, in old's lexicon
   behind : (pieces : List (List ℕ)) (rest : List ℕ) → IsCut (lexicon_in new) new.rest.now pieces rest
       → IsCut (lexicon_in old) old.rest.now (piece ∷ pieces) rest
   behind pieces rest cut =
@@ -116,9 +102,3 @@ gives_one old mid new given h b start told =
       reads = reads_then old mid new [] (seen given ∷ []) h.passed
           (subst (λ (n : ℕ). Reads mid (record { bytes = piece; start = n } ∷ []) new) (sym start) (reads_token mid new piece b token));
     }
-
-pub gives_none : (old mid : Lexer) → HasPassed old mid → BeginsWithNoPiece (lexicon_in mid) mid.rest.now → GivesNone old mid
-gives_none old mid h none = record {
-  further = h.further;
-  reads = h.passed [] mid.rest.now (record { pieces = []; cut = cut_nothing (lexicon_in mid) mid.rest.now none; among = refl });
-}

@@ -1,6 +1,6 @@
 -- The longest piece with which a text begins, by its first bytes.
 use Rattle.std.proofs.Common.{◌≡◌, ℕ, suc, ◌<◌, ◌≤◌, Bool, true, false, ◌&&◌, ◌||◌, ◌==◌, nat_le, nat_eq, List, [], ◌∷◌, ◌++◌, length, take, drop, get_or}
-use Rattle.std.proofs.Common.{IsTrue, Some, None, inl, inr, refl, sym, ap, subst, ◌∙◌, arith, length-append}
+use Rattle.std.proofs.Common.{IsTrue, Some, None, inl, inr, refl, sym, ap, subst, ◌∙◌, arith}
 use Rattle.std.specs.List.{list_all, prefix_len, starts_with}
 use Rattle.std.specs.Str.{bytes_eq}
 use Rattle.std.specs.Char.{is_ascii_alphabetic, is_ascii_digit}
@@ -157,9 +157,6 @@ module _ (lexicon : Lexicon) (orderly : is_orderly lexicon ≡ true) where
     };
     none = λ zero_is other is begins. absurd (omega (arith, longest other is begins, piece_has_bytes lexicon other is));
   }
-
-  pub empty_length : (text : List ℕ) → length text < 1 → IsPieceLength lexicon text 0
-  empty_length text short = of_longest text 0 (omega arith) (λ some. absurd (omega arith)) (λ other is begins. omega (arith, ap length begins.1 ∙ length-append other begins.0))
 
   -- ---- runs of bytes
 

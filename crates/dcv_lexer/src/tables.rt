@@ -15,7 +15,7 @@ pub struct Lexicon<'a> {
     pub number: u8,
     /// The class of what is no token, and of a number whose first digit is a 0 that may not stand there.
     pub unknown: u8,
-    /// Whether `//` and what stands behind it in its line is a comment. If not, it is nothing.
+    /// Whether `//` and what stands after it in its line is a comment. If not, it is nothing.
     pub comments: bool,
     /// Whether a number of two digits or more may begin with 0.
     pub leading_zeros: bool,

@@ -167,7 +167,7 @@ pub record ChoiceSpelt (start : ℕ) (arms : List Arm) (otherwise : Item) : Type
   pub last_is : item_at last ≡ otherwise
   pub spelt : Spelt (Rule rules.choice ∷ []) (tokens_at start (flat_map arm_pieces arms ++ Text (item_text otherwise) ∷ [])) (Choice placed last ∷ [])
 
--- the tokens of an arm and what is behind it
+-- the tokens of an arm and what is after it
 arm_first : (start : ℕ) (arm : Arm) (arms : List Arm) (last : List Piece)
     → tokens_at start (flat_map arm_pieces (arm ∷ arms) ++ last) ≡ tokens_at start (arm_pieces arm) ++ tokens_at (start + length (bytes_of (arm_pieces arm))) (flat_map arm_pieces arms ++ last)
 arm_first start arm arms last =

@@ -154,7 +154,7 @@ more_inputs_spelt (name ∷ names) start is =
 
 -- ---- nodes
 
--- the tokens behind the inputs
+-- the tokens after the inputs
 output_spelt : (start : ℕ)
     → (output : Token) × Spelt (Class close_parenthesis ∷ Rule rules.output ∷ []) (tokens_at start output_pieces) (AToken (at start (codes ")")) ∷ AToken output ∷ [])
 unfolding language lexicon

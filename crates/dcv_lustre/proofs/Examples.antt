@@ -59,7 +59,7 @@ throughout_text : text_of (observer_of throughout_file)
 unfolding throughout_file observer_of text_of digits
 throughout_text = refl
 
--- no state accepts, and three states behind two variables
+-- no state accepts, and three states after two variables
 never_text : text_of (observer_of (record {
   names = codes "p" ∷ codes "q" ∷ [];
   states = 3;

@@ -69,7 +69,7 @@ digits_are_word_bytes (d ∷ digits) h =
     let parts = and_parts (is_ascii_digit d) (list_all is_ascii_digit digits) h in
     and_from (is_word_byte d) _ (or_left (is_ascii_alphabetic d || is_ascii_digit d) _ (or_right (is_ascii_alphabetic d) _ parts.0)) (digits_are_word_bytes digits parts.1)
 
--- no decimal is what stands behind the `n` of `node`
+-- no decimal is what stands after the `n` of `node`
 no_ode : (n : ℕ) → n < 1000000 → bytes_eq (decimal n) (codes "ode") ≡ false
 no_ode n small =
     differs (decimal n) (codes "ode") (λ same.

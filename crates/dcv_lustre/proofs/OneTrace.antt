@@ -36,9 +36,6 @@ module _ (node : Node) (is : StandsInOrder node) (before : Option Values) (lette
   size : length truths ≡ length node.inputs
   size = length-map (inputs_at node letter) Truth ∙ width
 
-  pub the_valuation : Valuation
-  the_valuation = map end (names_of node)
-
   abbrev count : length (map end (names_of node)) ≡ length (names_of node)
   count = length-map (names_of node) end
 

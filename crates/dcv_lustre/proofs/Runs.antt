@@ -1,7 +1,7 @@
 -- Equations that are executed in order, each with what names have by then. Where they stand in order this makes each of them hold, and
 -- nothing else does.
 --     Reads P right          each name that a right side reads at the instant itself passes P
---     IsInOrder equations    each left side has one equation, and what an equation reads is on the left of none behind it, nor its own
+--     IsInOrder equations    each left side has one equation, and what an equation reads is on the left of none after it, nor its own
 --     run before now equations   what names have after the equations
 use Rattle.std.proofs.Common.{◌≡◌, false, cond, ◌||◌, List, [], ◌∷◌, Option, inl, inr, refl, sym, ap, subst, ◌∙◌}
 use Rattle.std.specs.Prelude.{bytes_eq}

@@ -1,5 +1,5 @@
 -- The observer of an automaton, by the automaton's file. Access words and suffixes do not matter to it. Its local `st` is the state before an
--- instant, `nx` the state behind it, and `nJ` the state to which node J leads at the letter of the instant.
+-- instant, `nx` the state after it, and `nJ` the state to which node J leads at the letter of the instant.
 --     observer_of file      the node
 --     node_equation line    what the equation of a node says
 --     next_equation lines   that of `nx`, by the lines of the states

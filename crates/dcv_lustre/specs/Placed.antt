@@ -34,7 +34,7 @@ pub record PlacedLocal : Type 0 where
 pub record PlacedNode : Type 0 where
   pub name : Token
   pub inputs : List Token
-  -- the word `ok` behind `returns`
+  -- the word `ok` after `returns`
   pub output : Token
   pub locals : List PlacedLocal
   pub equations : List PlacedEquation

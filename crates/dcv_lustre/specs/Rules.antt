@@ -86,7 +86,7 @@ abbrev pub keeps_left : Node → List (List ℕ) → Equation → Bool
 keeps_left node earlier equation =
     is_among (ok ∷ local_names node) equation.left && not (is_among earlier equation.left) && keeps_form node equation.left equation.right
 
--- read, but for what is behind `pre`, are inputs and what earlier equations have on their left
+-- read, but for what is after `pre`, are inputs and what earlier equations have on their left
 abbrev pub keeps_equation : Node → List (List ℕ) → Equation → List Bool
 keeps_equation node earlier equation =
     keeps_left node earlier equation ∷ keeps_right node (node.inputs ++ earlier) (kind_of node equation.left) equation.right

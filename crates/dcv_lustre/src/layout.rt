@@ -62,7 +62,7 @@ impl<'a> Model for Names<'a> {
 }
 
 impl<'a> Names<'a> {
-    // The name at a place, and none behind the last.
+    // The name at a place, and none after the last.
     fn at(&self, place: u32) -> &'a [u8]
         ensures { result.now ≡ name_at self.now place }
     {
@@ -118,7 +118,7 @@ fn put_inputs<T: Target>(target: &mut T, inputs: &[Text])
     }
 }
 
-// An input, behind what stands between it and the one before.
+// An input, after what stands between it and the one before.
 fn put_input<T: Target>(target: &mut T, between: &[u8], name: &[u8])
     ensures { Puts (T.standing target.old) (T.standing target.new) (between.now ++ input_text name.now) }
 {
@@ -264,7 +264,7 @@ fn put_tests<T: Target>(target: &mut T, names: &Names<'_>, tests: &[Test])
     }
 }
 
-// `(name = number)`, behind what stands between it and the test before.
+// `(name = number)`, after what stands between it and the test before.
 fn put_test<T: Target>(target: &mut T, between: &[u8], names: &Names<'_>, test: Test)
     ensures { Puts (T.standing target.old) (T.standing target.new) (between.now ++ test_text (seen_test names.now test)) }
 {

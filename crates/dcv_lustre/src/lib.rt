@@ -22,7 +22,7 @@
 //! tel
 //! ```
 //!
-//! Here `st` is the state before an instant, `nx` the state behind it, and `n0` the state to which the automaton's node 0 leads.
+//! Here `st` is the state before an instant, `nx` the state after it, and `n0` the state to which the automaton's node 0 leads.
 //! `0 -> pre nx` is 0 at the first instant, and at each later one what `nx` was at the instant before.
 //!
 //! The grammar, the rules of names, the meaning and the layout stand in `specs/`; what is true of them is in [`laws`].

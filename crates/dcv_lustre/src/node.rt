@@ -59,7 +59,7 @@ pub struct Local {
 }
 
 /// A node that keeps the rules of names: each local and the output have one equation, which reads inputs and what stands before it, but for
-/// what is behind `pre`; and each name is used for values of its own kind. So it has one trace over each word.
+/// what is after `pre`; and each name is used for values of its own kind. So it has one trace over each word.
 #[derive(Drop)]
 pub struct Node {
     name: Text,

@@ -1,4 +1,4 @@
--- The left side of an equation, and what is known behind the equation.
+-- The left side of an equation, and what is known after the equation.
 use Rattle.std.proofs.Common.{◌≡◌, ℕ, zero, suc, ◌+◌, ◌<◌, ◌≤◌, Bool, true, false, not, ◌&&◌, ◌||◌, List, []}
 use Rattle.std.proofs.Common.{◌∷◌, ◌++◌, length, map, get_or, Option, refl, sym, ap, subst, ◌∙◌, arith, inl, inr, append_assoc}
 use Rattle.std.specs.Prelude.{bytes_eq, slice_set}
@@ -169,14 +169,9 @@ pub record AreEquationsSoFar (node : Node) (whole : Option ℕ) (words : List To
   pub left : IsLeft whole (words_of_equations (map seen_equation later) ++ words) (keeps_equations node earlier (map equation_of (map seen_equation later)) ++ keeps)
 
 module _ (node : Node) (whole : Option ℕ) (words : List Token) (keeps : List Bool) (all : List PlacedEquation) where
-  pub equations_begin : (names : Names) (rows : List Row) → Knows node [] names rows
-      → IsLeft whole (words_of_equations (map seen_equation all) ++ words) (keeps_equations node [] (map equation_of (map seen_equation all)) ++ keeps)
-      → AreEquationsSoFar node whole words keeps all [] all names rows
-  equations_begin names rows knows left = record { earlier = []; knows = knows; are_made = refl; are_lefts = λ name. refl; left = left }
-
   module _ (made : List CodeEquation) (equation : PlacedEquation) (later : List PlacedEquation) (names : Names) (rows : List Row)
       (sofar : AreEquationsSoFar node whole words keeps all made (equation ∷ later) names rows) where
-    -- the words of the next one, and those behind it
+    -- the words of the next one, and those after it
     pub equation_left : IsLeft whole ((seen_equation equation).left ∷ (words_of_right (seen_equation equation).right ++ (words_of_equations (map seen_equation later) ++ words)))
         (keeps_equation node sofar.earlier (equation_of (seen_equation equation))
         ++ (keeps_equations node ((seen_equation equation).left.bytes ∷ sofar.earlier) (map equation_of (map seen_equation later)) ++ keeps))

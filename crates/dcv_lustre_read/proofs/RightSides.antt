@@ -70,7 +70,7 @@ module _ (node : Node) (known : List (List ℕ)) (kind : Kind) (whole : Option �
   abbrev pub AreArmsSoFar : List Arm → List CodeArm → List PlacedArm → Type 0
   AreArmsSoFar all made later = (map (arm_seen (names_of node)) made ++ map arm_of (map seen_arm later) ≡ all) × ArmsLeft later
 
-  -- the words of the first arm, and those behind it
+  -- the words of the first arm, and those after it
   pub arm_left : (here : List PlacedArm) (arm : PlacedArm) (later : List PlacedArm) → here ≡ arm ∷ later → ArmsLeft here
       → IsLeft whole ((seen_arm arm).name ∷ (seen_arm arm).item ∷ (words_of_arms (map seen_arm later) ++ words))
       (keeps_arm node known kind (arm_of (seen_arm arm)) ++ (flat_map (keeps_arm node known kind) (map arm_of (map seen_arm later)) ++ keeps))

@@ -47,7 +47,7 @@ keeps_from node place names = map (λ numbered. keeps_declared node numbered.0 n
 abbrev pub is_within : Node → ℕ → Bool
 is_within node place = nat_le place most_inputs || nat_lt (length node.inputs) place
 
--- what is declared, and what is to come: words of the node, their names, and what is told of them; and behind these other words
+-- what is declared, and what is to come: words of the node, their names, and what is told of them; and after these other words
 pub record IsDeclaring (node : Node) (whole : Option ℕ) (others : List Token) (others_keep : List Bool) (names : Names) (rows : List Row)
     (words : List Token) (later : Names) (told : List Told) : Type 0 where
   pub all : names ++ later ≡ declared node
@@ -98,7 +98,7 @@ marked place [] = []
 marked zero (row ∷ rows) = record { place = row.place; kind = row.kind; is_known = true } ∷ rows
 marked (suc place) (row ∷ rows) = row ∷ marked place rows
 
--- behind all equations
+-- after all equations
 pub record KnowsAll (node : Node) (equations : List Equation) (names : Names) (rows : List Row) : Type 0 where
   pub earlier : Names
   pub knows : Knows node earlier names rows

@@ -30,7 +30,7 @@ pub(crate) fn choice<'a>(alloc: Global, parts: &mut Body<Part<'a>>) -> Result<Pa
     }
 }
 
-// What stands behind a condition: the arms, from the last to the first, and the last item.
+// What stands after a condition: the arms, from the last to the first, and the last item.
 fn longer_choice<'a>(
     name: Item<'a>,
     number: Option<Item<'a>>,

@@ -1,4 +1,4 @@
-// The equations of a node, one after another. Behind each its left side is known.
+// The equations of a node, one after another. After each its left side is known.
 ghost use Rattle.std.specs.Prelude.{◌≡◌, ◌++◌, ◌∷◌, [], ℕ, Bool, List, Option, map};
 ghost use Rattle.std.specs.List.{list_all, AllByRecursion};
 ghost use Rattle.dcv_lexer.specs.Cuts.{Token};
@@ -85,7 +85,7 @@ impl<'a> Scope<'a> {
         })
     }
 
-    /// The equations of a node. Behind them other words are to be judged.
+    /// The equations of a node. After them other words are to be judged.
     pub(crate) fn equations(
         &mut self,
         alloc: Global,

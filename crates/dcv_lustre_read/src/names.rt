@@ -85,7 +85,7 @@ impl<'a> Scope<'a> {
         self.declare(b"ok", output.start, Kind::OfTruth, false)
     }
 
-    // Declares the locals, behind the inputs and the output.
+    // Declares the locals, after the inputs and the output.
     fn locals(&mut self, alloc: Global, locals: &[PlacedLocal<'a>]) -> Result<Vec<Local>, ObsFault>
         ensures { (node : PlainNode) (whole : Option ℕ) (others : List Token) (others_keep : List Bool)
             → IsDeclaring node whole others others_keep self.old.declared (map seen_row self.old.names.items)

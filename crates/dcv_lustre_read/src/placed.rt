@@ -17,12 +17,12 @@ pub struct PlacedTest<'a> {
     pub number: Item<'a>,
 }
 
-/// What stands behind the `=` of an equation.
+/// What stands after the `=` of an equation.
 #[derive(Drop)]
 pub enum PlacedRight<'a> {
     /// `first -> pre source`.
     Delayed(Item<'a>, Item<'a>),
-    /// The arms of a choice, and the item behind the last `else`. There may be no arm.
+    /// The arms of a choice, and the item after the last `else`. There may be no arm.
     Chosen(Vec<PlacedArm<'a>>, Item<'a>),
     /// One test or more.
     Tested(Vec<PlacedTest<'a>>),
@@ -47,7 +47,7 @@ pub struct PlacedLocal<'a> {
 pub struct PlacedNode<'a> {
     pub name: Item<'a>,
     pub inputs: Vec<Item<'a>>,
-    /// The word `ok` behind `returns`.
+    /// The word `ok` after `returns`.
     pub output: Item<'a>,
     pub locals: Vec<PlacedLocal<'a>>,
     pub equations: Vec<PlacedEquation<'a>>,

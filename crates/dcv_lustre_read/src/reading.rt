@@ -18,7 +18,7 @@ use dcv_lustre::{Node, ObsFault};
 use dcv_translation::translate;
 use std::alloc::Global;
 
-/// The node of a text, or the one fault of it. Only want of memory is no fault of the text.
+/// The node of a text, or the one fault of it. Only running out of memory is no fault of the text.
 pub fn read(alloc: Global, bytes: &[u8]) -> Result<Node, ObsFault>
     requires { length bytes.now < 2 ^ 32 }
     ensures read { IfOk result (IsReadAs bytes.now) }

@@ -39,7 +39,7 @@ impl<'a> Scope<'a> {
         Ok(name.place)
     }
 
-    // A name behind `pre`, which may have its equation later.
+    // A name after `pre`, which may have its equation later.
     fn delayed(&self, word: &Word<'_>, kind: Kind) -> Result<u32, ObsFault>
         ensures { (node : PlainNode) (earlier : PlainNames) → Knows node earlier self.now.declared (map seen_row self.now.names.items)
             → Keeps word.now.start (is_among (names_of_kind (seen_kind kind) node) (seen word.now).bytes)
@@ -112,7 +112,7 @@ impl<'a> Scope<'a> {
         })
     }
 
-    // The arms of a choice. Behind them other words are to be judged.
+    // The arms of a choice. After them other words are to be judged.
     fn arms(&self, alloc: Global, arms: &[PlacedArm<'_>], kind: Kind) -> Result<Vec<Arm>, ObsFault>
         requires { AllByRecursion AreWordsOfArm (map seen_arm arms.now) }
         ensures { (node : PlainNode) (earlier : PlainNames) → Knows node earlier self.now.declared (map seen_row self.now.names.items)

@@ -37,7 +37,7 @@ module _ (lexicon : Lexicon) (grammar : ContextFree) (text : List ℕ) where
   abbrev start_of : Option Token → ℕ
   start_of found = option_map_or (λ token. token.start) found (length text)
 
-  -- the item behind those with which a sentence may begin
+  -- the item after those with which a sentence may begin
   pub fault_at_item : (read : List Token) (item : Token) (more : List Token) → HasItems lexicon text (read ++ item ∷ more) → IsViable grammar (classes_of read)
       → ¬ IsViable grammar (classes_of read ++ token_class lexicon item ∷ []) → IsSyntaxFault lexicon grammar text item.start
   fault_at_item read item more has viable none =

@@ -1,4 +1,4 @@
--- What is left to judge behind a word that keeps its rule, and the fault at one that does not.
+-- What is left to judge after a word that keeps its rule, and the fault at one that does not.
 use Rattle.std.proofs.Common.{◌≡◌, ℕ, Bool, true, false, List, ◌∷◌, Option, Some, Result, Ok, Err, refl, sym, ap, subst, ◌∙◌}
 use Rattle.std.specs.Prelude.{IfErr}
 use Rattle.std.specs.Result.{IsErrAnd}

@@ -27,7 +27,7 @@ module _ (lexicon : Lexicon) (orderly : is_orderly lexicon ≡ true) where
       let parts = and_parts (p b) (list_all p (front ++ rest)) h in
       and_from (p b) (list_all p front) parts.0 (all_front p front rest parts.1)
 
-  -- what a longer piece would have behind this one
+  -- what a longer piece would have after this one
   all_behind : (p : ℕ → Bool) (front : List ℕ) (c : ℕ) (more : List ℕ) → list_all p (front ++ c ∷ more) ≡ true → p c ≡ true
   all_behind p [] c more h = (and_parts (p c) (list_all p more) h).0
   all_behind p (b ∷ front) c more h = all_behind p front c more (and_parts (p b) (list_all p (front ++ c ∷ more)) h).1
@@ -114,7 +114,7 @@ module _ (lexicon : Lexicon) (orderly : is_orderly lexicon ≡ true) where
 
   -- ---- the longest piece
 
-  -- what is longer than a front of one list goes on with what is behind it
+  -- what is longer than a front of one list goes on with what is after it
   goes_on : (front behind other rest : List ℕ) → front ++ behind ≡ other ++ rest → length front < length other
       → (c : ℕ) × (more : List ℕ) × (other ≡ front ++ c ∷ more) × (behind ≡ c ∷ (more ++ rest))
   goes_on [] behind [] rest same longer = absurd (omega arith)

@@ -1,4 +1,4 @@
--- What is left of a text's items behind one of them.
+-- What is left of a text's items after one of them.
 use Rattle.std.proofs.Common.{◌≡◌, ℕ, ◌+◌, ◌<◌, false, ◌||◌, List, [], ◌∷◌, ◌++◌, length, take, Option, Some, None, inl, inr, refl, sym, ap, subst, ◌∙◌}
 use Rattle.std.proofs.Common.{arith, length-append}
 use Rattle.std.specs.Prelude.{unwrap_or, IfSome}
@@ -24,7 +24,7 @@ use Rattle.dcv_observer.proofs.Cutting.{items_are}
 abbrev pub left_in : Lexer → List Token
 left_in lexer = items_from (lexicon_in lexer) lexer.start lexer.rest.now
 
--- where the rest behind the tokens begins
+-- where the rest after the tokens begins
 behind : (lexer : Lexer) (tokens : List Token) (rest : List ℕ) (h : HasTokens lexer tokens rest)
     → lexer.start + length (concat h.pieces) + length rest ≡ lexer.start + length lexer.rest.now
 behind lexer tokens rest h = omega (arith, ap length h.cut.whole ∙ length-append (concat h.pieces) rest)
@@ -89,7 +89,7 @@ stray_class lexicon b none =
     let symbol = no_symbol lexicon.symbols piece first.1 in
     rw (second.0, second.1) (ap (λ (o : Option ℕ). unwrap_or o lexicon.unknown) symbol)
 
--- the first byte that is left, where no piece begins, and what is left behind it
+-- the first byte that is left, where no piece begins, and what is left after it
 pub record IsStray (old : Lexer) (bytes : List ℕ) (new : Lexer) : Type 0 where
   pub item : left_in old ≡ record { bytes = bytes; start = old.start } ∷ left_in new
   pub class : class_of (lexicon_in old) bytes ≡ (lexicon_in old).unknown

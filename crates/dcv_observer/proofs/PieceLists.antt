@@ -1,4 +1,4 @@
--- Pieces behind one another, and lists that are laid out item by item.
+-- Pieces after one another, and lists that are laid out item by item.
 --     joined between pieces xs      with something between every two
 use Rattle.std.proofs.Common.{◌≡◌, ℕ, ◌+◌, true, List, [], ◌∷◌, ◌++◌, length, refl, sym, ap, subst, ◌∙◌, arith, append_assoc, length-append}
 use Rattle.std.specs.List.{AllByRecursion, flat_map, join_by}

@@ -22,7 +22,7 @@ pub record Spelt {Part : Type 0} (scheme : Scheme Part) (symbols : List Symbol) 
   pub whole : leaves nodes ≡ tokens
   pub is : parts_of scheme nodes ≡ parts
 
--- ---- trees behind one another
+-- ---- trees after one another
 
 join_trees : {Part : Type 0} (scheme : Scheme Part) (first others : List Symbol) (nodes more : Nodes Token) → Trees scheme first nodes → Trees scheme others more
     → Trees scheme (first ++ others) (join nodes more)
@@ -84,7 +84,7 @@ module _ {Part : Type 0} {scheme : Scheme Part} where
         is = join_parts scheme s.nodes t.nodes ∙ (λ i. s.is i ++ t.is i);
       }
 
-  -- the tokens of pieces behind one another
+  -- the tokens of pieces after one another
   pub in_turn : (xs ys : List Piece) (start : ℕ) {first others : List Symbol} {parts rest : List Part} → Spelt scheme first (tokens_at start xs) parts
       → Spelt scheme others (tokens_at (start + length (bytes_of xs)) ys) rest → Spelt scheme (first ++ others) (tokens_at start (xs ++ ys)) (parts ++ rest)
   in_turn xs ys start {first} {others} {parts} {rest} s t =

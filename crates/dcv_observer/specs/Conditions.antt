@@ -1,6 +1,6 @@
 -- What both subsets ask of a name: a condition, or a test of a result.
 --     Condition, Test                  as plain data, with the name itself
---     name_at names place              the name at a place, and none behind the last
+--     name_at names place              the name at a place, and none after the last
 --     seen_condition, seen_test        how clauses see what the code has, in which a name stands by its place
 use Rattle.std.specs.Prelude.{ℕ, List, [], slice_index_or}
 use Rattle.dcv_observer.specs.declared.conditions.Condition.{Condition as CodeCondition}

@@ -1,7 +1,7 @@
 -- Names among others, and those of an observer that is made of an automaton.
 --     is_among names name        the name is one of these
 --     AreDistinct names          each name stands once
---     state_name, next_name      what an observer calls the state before an instant, and the state behind it
+--     state_name, next_name      what an observer calls the state before an instant, and the state after it
 --     node_name number           the state to which a node leads
 --     variable_name name         the variable with this name
 use Rattle.std.specs.Prelude.{◌≡◌, ℕ, Bool, false, List, [], ◌∷◌, ◌++◌, bytes_eq, codes}

@@ -34,7 +34,7 @@ pub struct Item<'a> {
     pub class: u8,
 }
 
-/// The items of a text from some offset on. Behind a stray byte there are none.
+/// The items of a text from some offset on. After a stray byte there are none.
 #[derive(Drop)]
 pub struct Items<'a> {
     lexer: Lexer<'a>,

@@ -43,7 +43,7 @@ plain_access (one ∷ access) first = ap (λ rest. access_from one ∷ rest) (pl
 abbrev spelled : List Word → Access → List Word
 spelled words access = words ++ access_word_of words access ∷ []
 
--- the word of the state behind the first so many, given theirs
+-- the word of the state after the first so many, given theirs
 next_word : (start : Word) (words : List Word) (place : ℕ) (one : CodeAccess) → place < length words → IsSpelled (start ∷ words) (suc place) one
     → access_word_of ([] ∷ take place words) (access_from one) ≡ get_or words place []
 next_word start words place NoLetters within is = sym is

@@ -25,7 +25,7 @@ enumerate_push n (first ∷ xs) x =
     let place : (n + 1) + length xs ≡ n + suc (length xs) = omega arith in
     ap (λ rest. (n, first) ∷ rest) (enumerate_push (n + 1) xs x ∙ ap (λ at. enumerate_from (n + 1) xs ++ (at, x) ∷ []) place)
 
--- the line of the element at a place, behind those of the elements before it
+-- the line of the element at a place, after those of the elements before it
 pub lines_more : {Line : Type 0} (words : ℕ × Line → List (List ℕ)) (xs : List Line) (n : ℕ) (d : Line) → n < length xs
     → spelled_lines words (take (n + 1) xs) ≡ spelled_lines words (take n xs) ++ spelled_line (words (n, get_or xs n d))
 lines_more words xs n d below =
@@ -38,7 +38,7 @@ lines_more words xs n d below =
 
 -- ---- words
 
--- a line is its first word, each further word behind a space, and the line feed
+-- a line is its first word, each further word after a space, and the line feed
 pub joined_is_spaced : (word : List ℕ) (words : List (List ℕ)) → join_with_byte 32 (word ∷ words) ≡ word ++ spaced words
 joined_is_spaced word [] = sym (append-nil word)
 joined_is_spaced word (next ∷ words) = ap (λ rest. word ++ 32 ∷ rest) (joined_is_spaced next words)
@@ -119,7 +119,7 @@ pub one_line_more : {Line : Type 0} (words : ℕ × Line → List (List ℕ)) (x
     → spelled_lines words (take (n + 1) xs) ≡ spelled_lines words (take n xs) ++ line
 one_line_more words xs n d line below same = lines_more words xs n d below ∙ ap (λ l. spelled_lines words (take n xs) ++ l) (sym same)
 
--- the same behind a line that stands before them
+-- the same after a line that stands before them
 pub one_behind_more : {Line : Type 0} (head : List ℕ) (words : ℕ × Line → List (List ℕ)) (xs : List Line) (n : ℕ) (d : Line) → n < length xs
     → head ++ spelled_lines words (take (n + 1) xs) ≡ (head ++ spelled_lines words (take n xs)) ++ spelled_line (words (n, get_or xs n d))
 one_behind_more head words xs n d below =
@@ -129,7 +129,7 @@ one_behind_more head words xs n d below =
 pub all_lines : {Line : Type 0} (words : ℕ × Line → List (List ℕ)) (xs : List Line) (n : ℕ) → length xs ≤ n → spelled_lines words (take n xs) ≡ spelled_lines words xs
 all_lines words xs n past = ap (spelled_lines words) (take_all n xs past)
 
--- the names, each behind a space
+-- the names, each after a space
 pub names_spaced : (names : List Name) (n : ℕ) → length names ≤ n → 0 < length names
     → flat_map (λ (name : Name). 32 ∷ name.text) (take n names) ≡ spaced (name_words (texts_of names))
 names_spaced names n past some =
@@ -137,7 +137,7 @@ names_spaced names n past some =
     ∙ sym (flat_map-map (λ (word : List ℕ). 32 ∷ word) (λ (name : Name). name.text) names)
     ∙ ap spaced (sym (some_names (texts_of names) (omega (arith, length-map names (λ (name : Name). name.text), some))))
 
--- the parts one behind another
+-- the parts one after another
 pub text_joined : (raw : RawValue) (names : List (List ℕ)) (access : List CodeAccess) (suffixes : List CodeSuffix) (counts : List Count) (head nodes states words ends : List ℕ)
     → head ≡ head_text raw names access suffixes counts → nodes ≡ nodes_text raw names access suffixes counts → states ≡ states_text raw names access suffixes counts
     → words ≡ access_text raw names access suffixes counts → ends ≡ suffixes_text raw names access suffixes counts

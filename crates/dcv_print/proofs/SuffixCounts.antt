@@ -1,4 +1,4 @@
--- A certificate has no more suffixes than words. With each suffix behind the empty one another word differs from those that were told apart
+-- A certificate has no more suffixes than words. With each suffix after the empty one another word differs from those that were told apart
 -- before, so there are as many words as suffixes, no two alike.
 use Rattle.std.proofs.Common.{◌≡◌, ◌≢◌, ℕ, zero, suc, ◌+◌, ◌<◌, ◌≤◌, Bool, true, false, List, [], ◌∷◌, ◌++◌, length, map, get_or, ◌⊎◌, inl, inr, refl, sym, ap, ◌∙◌, subst, arith}
 use Rattle.std.specs.List.{All, AllPairs}
@@ -41,7 +41,7 @@ module _ (k : ℕ) (L : Language) (words : List Word) where
   abbrev word_at : ℕ → Word
   word_at place = get_or words place []
 
-  -- which suffixes are accepted behind a word
+  -- which suffixes are accepted after a word
   abbrev answers : List Word → ℕ → List Bool
   answers suffixes place = map (λ suffix. L (word_at place ++ suffix)) suffixes
 
@@ -121,7 +121,7 @@ module _ (k : ℕ) (L : Language) (words : List Word) where
 
   -- ---- a certificate's suffixes
 
-  -- suffixes behind the empty one, each of which is a behaviour
+  -- suffixes after the empty one, each of which is a behaviour
   abbrev AreBehind : List Word → Type 0
   AreBehind suffixes = All (IsBehaviour k) suffixes
 

@@ -2,7 +2,7 @@
 -- automaton for the set has fewer states.
 --     IsAutomatonOf k L names file       the file says the canonical automaton of the set over k variables, which have these names
 --     AreSameUpToAccess one other        two files have the same lines up to the last access line
---     AgreeUpToAccess one other          two texts are spelled by such files, with the same around them, so they differ behind that line alone
+--     AgreeUpToAccess one other          two texts are spelled by such files, with the same around them, so they differ after that line alone
 --     AreSameButForSuffixes one other    two files have the same lines, but for those of suffixes
 --     DifferInSuffixes one other         two texts are spelled by such files, with the same around them, so they differ in lines of suffixes alone
 use Rattle.std.specs.Prelude.{◌≡◌, ℕ, List, ◌++◌}

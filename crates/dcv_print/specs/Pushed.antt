@@ -1,5 +1,5 @@
 -- What the functions that write an automaton's text add to it.
---     spaced words              the words, each behind a space
+--     spaced words              the words, each after a space
 --     spelled_lines words ..    the lines of what is listed, each with its place as its number
 use Rattle.std.specs.Prelude.{ℕ, List, ◌∷◌}
 use Rattle.std.specs.List.{enumerate_from, flat_map}

@@ -49,7 +49,7 @@ abbrev pub IsCObserver : RawValue → List (List ℕ) → List ℕ → Type 0
 IsCObserver raw names text =
     (access : List AccessLine) (suffixes : List SuffixLine) → text ≡ c.text_of (unit_of (file_of raw names access suffixes))
 
--- the verdict, the automaton and both observers, each behind its line
+-- the verdict, the automaton and both observers, each after its line
 pub record SpellsAll (raw : RawValue) (names : List (List ℕ)) (counts : List Count) (verdict text : List ℕ) : Type 0 where
   pub automaton : List ℕ
   pub node : List ℕ

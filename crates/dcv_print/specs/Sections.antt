@@ -1,4 +1,4 @@
--- Four texts in one, each behind a line that names it.
+-- Four texts in one, each after a line that names it.
 --     all_text verdict automaton node unit      the text
 use Rattle.std.specs.Prelude.{ℕ, List, ◌++◌, codes}
 

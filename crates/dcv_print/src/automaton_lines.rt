@@ -164,7 +164,7 @@ fn put_variables<T: Target>(target: &mut T, names: &[Name])
     target.put(b"\n");
 }
 
-// The names, each behind a space.
+// The names, each after a space.
 fn put_names<T: Target>(target: &mut T, names: &[Name])
     ensures { Puts (T.standing target.old) (T.standing target.new) (spaced (name_words (texts_of names.now))) }
 {
@@ -267,12 +267,12 @@ fn answer(accepting: bool) -> &'static [u8]
     if accepting { b"accept" } else { b"reject" }
 }
 
-// What a line says behind its number.
+// What a line says after its number.
 trait Entry: Copy {
     // How it is spelled.
     ghost words: { Self → List (List ℕ) };
 
-    // Puts its words, each behind a space.
+    // Puts its words, each after a space.
     fn put<T: Target>(self, target: &mut T)
         ensures { Puts (T.standing target.old) (T.standing target.new) (spaced (words self)) };
 }
@@ -329,7 +329,7 @@ fn put_entries<T: Target, E: Entry>(target: &mut T, word: &[u8], entries: &[E])
     }
 }
 
-// What stands on such a line behind its first word.
+// What stands on such a line after its first word.
 fn put_entry<T: Target, E: Entry>(target: &mut T, number: usize, entry: E)
     ensures { Puts (T.standing target.old) (T.standing target.new) (spaced (decimal number ∷ E.words entry) ++ byte "\n" ∷ []) }
 {

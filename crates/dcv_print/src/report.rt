@@ -67,7 +67,7 @@ impl Listed<'_> {
 }
 
 /// All that is said of an automaton: its verdict, its own text with the words of this proof and what the steps took, and both
-/// observers, each behind a line that names it.
+/// observers, each after a line that names it.
 pub fn all_text(
     alloc: Global,
     auto: &Auto,
@@ -91,7 +91,7 @@ pub fn all_text(
     text.finish()
 }
 
-// Puts the verdict behind its line, and the line of the automaton.
+// Puts the verdict after its line, and the line of the automaton.
 fn put_verdict<T: Target>(target: &mut T, verdict: &Verdict)
     ensures { Puts (T.standing target.old) (T.standing target.new)
         (codes "--- verdict\n" ++ (verdict_text (seen_verdict verdict.now) ++ codes "--- automaton\n")) }
@@ -101,7 +101,7 @@ fn put_verdict<T: Target>(target: &mut T, verdict: &Verdict)
     target.put(b"--- automaton\n");
 }
 
-// Puts both observers, each behind its line.
+// Puts both observers, each after its line.
 fn put_observers<T: Target>(target: &mut T, lined: &Lined<'_>)
     requires { IsLined lined.now }
     ensures { Puts (T.standing target.old) (T.standing target.new)

@@ -111,7 +111,7 @@ pub parameters_at : slice_get language.productions rules.parameters ≡ Some par
 unfolding language file_rules formula_rules prop_rules
 parameters_at = refl
 
--- ---- names, each behind a comma but the first
+-- ---- names, each after a comma but the first
 
 abbrev name_operands : Separated AToken (λ names. Names (map name_of names))
 name_operands =

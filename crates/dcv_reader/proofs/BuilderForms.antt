@@ -1,4 +1,4 @@
--- The forms of bodies, each as the builder reads it: what begins behind a token, and what the rule stands for in the end.
+-- The forms of bodies, each as the builder reads it: what begins after a token, and what the rule stands for in the end.
 use Rattle.std.proofs.Common.{◌≡◌, ℕ, ◌<◌, Bool, true, false, List, [], ◌∷◌, length, Some, refl, sym, ap, ◌∙◌, arith}
 use Rattle.std.specs.Prelude.{slice_get, ◌||◌}
 use Rattle.std.proofs.lemmas.Bool.{eq-eqb}
@@ -107,7 +107,7 @@ module _ (n : ℕ) (rule : Production) (at : slice_get language.productions n �
 
 -- ---- implications
 
--- the rule of a premise and what may stand behind it, which is an arrow and the rule itself again
+-- the rule of a premise and what may stand after it, which is an arrow and the rule itself again
 pub record Implication {X : Type 0} (part : X → Part) (all : List X → Part) : Type 0 where
   pub whole : ℕ
   pub premise : ℕ

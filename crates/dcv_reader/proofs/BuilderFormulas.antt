@@ -67,7 +67,7 @@ module _ (kind : PlainFormulaOperands → PlainFormulaKind) where
 
 -- ---- levels
 
--- the rule of what stands behind the first operand
+-- the rule of what stands after the first operand
 abbrev more_rule : FormulaList → ℕ
 more_rule (Joined And) = rules.formula_and_more
 more_rule (Joined Or) = rules.formula_or_more

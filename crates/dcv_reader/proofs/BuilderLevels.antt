@@ -1,4 +1,4 @@
--- A rule that is an item and more such items, each behind a separator.
+-- A rule that is an item and more such items, each after a separator.
 use Rattle.std.proofs.Common.{◌≡◌, ℕ, ◌<◌, ◌≤◌, true, false, List, [], ◌∷◌, ◌++◌, length, map, Some, refl, sym, ap, ◌∙◌, subst, arith}
 use Rattle.std.specs.Prelude.{slice_get}
 use Rattle.std.proofs.lemmas.List.{map-append}
@@ -99,7 +99,7 @@ module _ {X : Type 0} {part : X → Part} {all : List X → Part} (level : Level
         → ReadAs (level.operands.item ∷ []) tokens (part x ∷ []) rest → LevelRead level tokens (x ∷ []) rest
     level_start x rest b reads = operands_start level.operands [] x rest (level_begins b) reads
 
-    -- one item and no separator behind it
+    -- one item and no separator after it
     pub level_alone : {x : X} {rest : List Token} {result : Part} → BeginWithRule level.rule tokens
         → ReadAs (level.operands.item ∷ []) tokens (part x ∷ []) rest → is_next level.operands.separator rest ≡ false
         → action level.rule (part x ∷ all [] ∷ []) ≡ result → RuleReadAs level.rule tokens result rest

@@ -28,7 +28,7 @@ are_more part [] (i ∷ items) front item separator are is = absurd are
 are_more part (f ∷ fronts) [] front item separator are is = absurd are
 are_more part (f ∷ fronts) (i ∷ items) front item separator are is = (are.0, are_more part fronts items front item separator are.1 is)
 
--- Behind the first item: these items were read, each behind a separator, and the rest is left.
+-- After the first item: these items were read, each after a separator, and the rest is left.
 pub record ItemsRead {X : Type 0} (part : X → Part) (more : ℕ) (tokens : List Token) (items : List X) (rest : List Token) : Type 0 where
   pub fronts : List (Nodes Token)
   pub are : AreItems part fronts items
@@ -53,7 +53,7 @@ module _ {X : Type 0} (part : X → Part) (all : List X → Part) (more separato
   picks_nothing (token ∷ rest) is = grind arith
 
   module _ (tokens rest : List Token) (items : List X) (read : ItemsRead part more tokens items rest) where
-    -- where a separator is next, an item begins behind it
+    -- where a separator is next, an item begins after it
     pub item_next : (token : Token) (after : List Token) → is_next separator rest ≡ true → rest ≡ token ∷ after → (token_class token ≡ separator) × BeginWith (item ∷ []) after
     item_next token after is e = begins_token (builders.front_begins predictive at (picks rest is) read.reads) e
 

@@ -60,7 +60,7 @@ module _ (connective : Connective) where
 
 -- ---- levels
 
--- the rule of what stands behind the first operand
+-- the rule of what stands after the first operand
 abbrev more_rule : Connective → ℕ
 more_rule And = rules.prop_and_more
 more_rule Or = rules.prop_or_more

@@ -26,7 +26,7 @@ pub data Part : Type 0 where
   -- a proposition or formula, with the span that has its own parentheses too
   AProp : PlainPropOperand → Part
   AFormula : PlainFormulaOperand → Part
-  -- what stands behind the first operand
+  -- what stands after the first operand
   Props : List PlainPropOperand → Part
   Formulas : List PlainFormulaOperand → Part
   Stars : List Span → Part

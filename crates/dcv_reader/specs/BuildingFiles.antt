@@ -32,7 +32,7 @@ IsBodyPart (AFormula d) body = body ≡ FormulaBody d.formula
 IsBodyPart (AProp p) body = body ≡ PropBody p.prop
 IsBodyPart _ body = ⊥
 
--- However the tokens begin with a body behind this class, it is this one, and the rest is left.
+-- However the tokens begin with a body after this class, it is this one, and the rest is left.
 pub record BodyReadAs (class : ℕ) (tokens : List Token) (body : PlainMacroBody) (rest : List Token) : Type 0 where
   pub part : Part
   pub is_body : IsBodyPart part body

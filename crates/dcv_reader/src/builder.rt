@@ -1,6 +1,6 @@
 // From the tokens of a sentence to the tree of a file, rule by rule of the grammar.
 //
-// A function for a rule is called where the rule begins, and has no error but want of memory: the reader of faults has
+// A function for a rule is called where the rule begins, and has no error but running out of memory: the reader of faults has
 // been there before.
 //
 // It is recursive descent, with a call for each level of operators. It nests no deeper than the 500 nesting tokens that one

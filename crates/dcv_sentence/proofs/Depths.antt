@@ -11,7 +11,7 @@ use Rattle.dcv_tokens.specs.Reading.{seen}
 use Rattle.dcv_tokens.specs.Limits.{nests, begins_part}
 use Rattle.dcv_sentence.specs.Faults.{depth, deepest, IsTooDeepAt}
 
--- nothing stands behind a last element that passes
+-- nothing stands after a last element that passes
 after_itself : {X : Type 0} (p : X → Bool) (xs : List X) (x : X) → p x ≡ true → after_last p (xs ++ x ∷ []) ≡ []
 after_itself p xs x passes =
     let all : List _ = xs ++ x ∷ [] in
@@ -19,7 +19,7 @@ after_itself p xs x passes =
     let end : length all - suffix_len (λ y. not (p y)) all ≡ length xs + 1 = omega (arith, none, length-append xs (x ∷ [])) in
     rw end (drop-append-add xs (x ∷ []) 1)
 
--- an element that does not pass stands behind the last one that does
+-- an element that does not pass stands after the last one that does
 after_another : {X : Type 0} (p : X → Bool) (xs : List X) (x : X) → p x ≡ false → after_last p (xs ++ x ∷ []) ≡ after_last p xs ++ x ∷ []
 after_another p xs x fails =
     let q : _ → Bool = λ y. not (p y) in

@@ -19,7 +19,7 @@ use Rattle.dcv_sentence.specs.Language.{language}
 abbrev pub deepest : ℕ
 deepest = 500
 
--- how many nesting tokens stand behind the last token that begins a definition or the goal
+-- how many nesting tokens stand after the last token that begins a definition or the goal
 abbrev pub depth : List Token → ℕ
 depth tokens = count_by nests (after_last begins_part tokens)
 
@@ -72,7 +72,7 @@ rank_of (Syntax at) = 3
 rank_of (Nest at) = 4
 rank_of Memory = 5
 
--- the fault is at an earlier offset than the other, or at the same one and not behind it in the order
+-- the fault is at an earlier offset than the other, or at the same one and not after it in the order
 abbrev pub IsNotAfter : ReadFault → ReadFault → Type 0
 IsNotAfter fault other =
     (offset_of fault < offset_of other) ⊎ ((offset_of fault ≡ offset_of other) × (rank_of fault ≤ rank_of other))

@@ -15,7 +15,7 @@ use Rattle.dcv_synth.specs.declared.answers.Answer.{Answer}
 use Rattle.dcv_synth.proofs.Tracks.{least-length}
 use Rattle.dcv_synth.proofs.Forced.{IsNode, length-push, push-append, value-at}
 
--- behind a front that goes on by a value, the root's rests are those of a ref that has its numbers there
+-- after a front that goes on by a value, the root's rests are those of a ref that has its numbers there
 pub record IsSide (arena : ArenaValue) (win : List Bool) (root side : Ref) (front : List Bool) (value : Bool) : Type 0 where
   pub same : (rest : List Bool) → value_of arena root (front ++ value ∷ rest) ≡ value_of arena side ((front ++ value ∷ []) ++ rest)
 

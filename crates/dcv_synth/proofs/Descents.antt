@@ -40,7 +40,7 @@ module _ (n m : ℕ) (arena : ArenaValue) (lost : List Bool) (root : Ref) (slot 
   front_size : length front ≡ slot
   front_size = omega (arith, down.width, more, length-take slot input)
 
-  -- the side of a value has the root's numbers behind the front that goes on by it
+  -- the side of a value has the root's numbers after the front that goes on by it
   side_value : (b : Bool) (values : List Bool) → value_of arena (cond b hi lo) (front ++ b ∷ values) ≡ value_of arena root (front ++ b ∷ values)
   side_value b values =
       by b ∙ sym (value (front ++ b ∷ values) ∙ ap (λ x. cond x (value_of arena hi (front ++ b ∷ values)) (value_of arena lo (front ++ b ∷ values))) here)

@@ -1,7 +1,7 @@
 -- The least values of the last slots that lead from a ref on into a set of states, for each place of an arena.
 --     won_at win state                 whether the state is in the set (a number that is no state is not)
---     leads_in arena win root front    the rests of a letter that lead into the set behind a front
---     IsAnswer arena win root answer   behind each front the least such rest, as a number, with the state to which it leads, or none
+--     leads_in arena win root front    the rests of a letter that lead into the set after a front
+--     IsAnswer arena win root answer   after each front the least such rest, as a number, with the state to which it leads, or none
 --     first_of lo hi weight            the answer where the slot is false, or else the one where it is true
 --     answer_at win answers root       the leaf's own answer, or what the list has of the place
 --     AreAnswers arena win answers     the list has the answer of each place that it has

@@ -4,13 +4,13 @@
 --     is_forced n slot count p          the values of so many slots, from this one on, are forced to have p
 --     lost_at lost state                whether the state is lost (a number that is no state is)
 --     forced_at lost forced root        whether the state is lost, or what the list has of the place
---     IsForced n arena lost root is     behind each front, the ref's number is forced to be that of a lost state
+--     IsForced n arena lost root is     after each front, the ref's number is forced to be that of a lost state
 --     AreForcedBefore count n arena lost forced    the list says so of each place before this one
 --     AreAllForced n arena lost forced  and of all places
 --     AreForcedBut places n arena lost forced      and of all but these
 --     HasLost old states new            these states are lost too
 --     IsApart arena count states place  no letter leads from the place to one of these states
---     loses m arena lost root input     each output behind these inputs has the number of a lost state
+--     loses m arena lost root input     each output after these inputs has the number of a lost state
 use Rattle.std.specs.Prelude.{◌≡◌, ℕ, zero, suc, ◌+◌, ◌<◌, ◌≤◌, nat_lt, nat_eq, Bool, true, false, ◌&&◌, ◌||◌, if◌then◌else◌, List, [], ◌∷◌, ◌++◌, length, slice_index_or, Contains}
 use Rattle.std.specs.List.{list_any}
 use Rattle.dcv_arena.specs.Arena.{ArenaValue, level_of, value_of}

@@ -1,7 +1,7 @@
 -- The moves of the first states, while they are listed.
 --     AreMovesBelow n m automaton states moves    the moves of the states below the number
 --     IsMoveAt n m automaton state found          the state's move, or none where it has none
---     with_move moves found                       the moves, and this one behind them
+--     with_move moves found                       the moves, and this one after them
 --     starts_or_wins start win state              whether the state is the start, or in the set
 use Rattle.std.specs.Prelude.{◌≡◌, ℕ, ◌<◌, ◌==◌, ◌||◌, Bool, List, [], ◌∷◌, ◌++◌, Option, Some, None, Contains}
 use Rattle.std.specs.List.{AllPairs}

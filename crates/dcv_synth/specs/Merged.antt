@@ -1,6 +1,6 @@
 -- A controller's diagrams over the inputs, while they are made of the automaton's rows.
 --     part_of part answer                             the answer's next state, or its output, and 0 where there is no answer
---     behind old root input                           the state to which a ref leads behind these inputs, for each rest of the letter
+--     behind old root input                           the state to which a ref leads after these inputs, for each rest of the letter
 --     told part m win go                              the state to which the least output leads, or its number, where outputs lead so
 --     IsMerged part m old win new root ref            the ref of the new arena has these, wherever some output leads into the set
 --     AreMerged part m old win new merged             the list has such a ref for each place that it has

@@ -1,4 +1,4 @@
--- A controller in the flat subset of C. Its static `st` is the state between two steps, its local `nx` the state behind the step and `y` what the
+-- A controller in the flat subset of C. Its static `st` is the state between two steps, its local `nx` the state after the step and `y` what the
 -- step returns; `nJ` is the state to which node J of the next-state rows leads at the inputs of the step, and `oJ` the number that node J of the
 -- output rows has there.
 --     ControlLines               the names of the inputs, the states, and the lines of both kinds of rows

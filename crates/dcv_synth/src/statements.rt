@@ -22,7 +22,7 @@ pub(crate) struct Places {
 }
 
 impl Places {
-    // Of the state behind the step.
+    // Of the state after the step.
     fn next(self) -> u32
         requires { AreFew self }
         ensures { result ≡ self.inputs + 1 }
@@ -99,7 +99,7 @@ fn last(next: u32) -> Statement
     Statement::Assign(0, Right::Plain(Item::Named(next)))
 }
 
-// The statements of nodes whose names begin at a place, behind the others.
+// The statements of nodes whose names begin at a place, after the others.
 fn push_choices(
     statements: &mut Vec<Statement>,
     first: u32,
@@ -154,7 +154,7 @@ struct StateRow {
     output: Child,
 }
 
-// The statements of the states, behind the others.
+// The statements of the states, after the others.
 fn push_rows(
     statements: &mut Vec<Statement>,
     places: Places,
@@ -195,7 +195,7 @@ fn row_at(states: &[u32], nexts: &[Child], outputs: &[Child], place: usize) -> S
     }
 }
 
-// Both statements of a state, behind the others.
+// Both statements of a state, after the others.
 fn push_row(
     statements: &mut Vec<Statement>,
     places: Places,

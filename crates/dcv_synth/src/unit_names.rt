@@ -19,7 +19,7 @@ pub(crate) fn locals(alloc: Global, nexts: u32, outputs: u32) -> Result<Vec<Text
     Ok(locals)
 }
 
-// The names of so many nodes, behind the others.
+// The names of so many nodes, after the others.
 fn push_nodes(
     alloc: Global,
     locals: &mut Vec<Text>,

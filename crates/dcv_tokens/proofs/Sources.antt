@@ -25,13 +25,6 @@ module _ (source : Tokens) (text : List ℕ) (start : source.lexer.start ≡ 0) 
   of_lexer : (tokens : List Token) (rest : List ℕ) → HasTokens source tokens rest → IsTokenized text tokens rest
   of_lexer tokens rest h = record { pieces = h.pieces; cut = here h.pieces rest h.cut; among = h.among ∙ same h.pieces }
 
-  to_lexer : (tokens : List Token) (rest : List ℕ) → IsTokenized text tokens rest → HasTokens source tokens rest
-  to_lexer tokens rest t = record { pieces = t.pieces; cut = back t.pieces rest t.cut; among = t.among ∙ sym (same t.pieces) }
-
-pub tokens_of_text : (source : Tokens) (text : List ℕ) (tokens : List Token) (rest : List ℕ) → source.lexer.start ≡ 0 → source.lexer.rest.now ≡ text
-    → HasTokens source tokens rest ↔ IsTokenized text tokens rest
-tokens_of_text source text tokens rest start whole = (of_lexer source text start whole tokens rest, to_lexer source text start whole tokens rest)
-
 pub tokenized : (source : Tokens) (text : List ℕ) (tokens : List Token) (rest : List ℕ) → source.lexer.start ≡ 0 → source.lexer.rest.now ≡ text
     → HasTokens source (tokens ++ []) rest → IsTokenized text tokens rest
 tokenized source text tokens rest start whole h =

@@ -97,7 +97,7 @@ module _ {Part : Type 0} (scheme : Scheme Part) where
   trees_run (Rule number ∷ steps) (node rule inner next) parts all runs = (runs.0, runs.1, trees_run steps next _ all runs.2)
   trees_run (Close rule first ∷ steps) trees parts all runs = trees_run steps trees _ all runs.2
 
-  -- the parts of trees are made of their symbols, before the steps behind them
+  -- the parts of trees are made of their symbols, before the steps after them
   runs_through : (symbols : List Symbol) (trees : Nodes Token) → AreTrees scheme.grammar class_of symbols trees
       → (steps : List Step) (next : Nodes Token) (parts all : List Part) → Runs scheme steps next (parts ++ parts_of scheme trees) all
       → Runs scheme (map step_of symbols ++ steps) (join trees next) parts all
@@ -122,7 +122,7 @@ module _ {Part : Type 0} (scheme : Scheme Part) where
             (subst (λ (l : List Part). Runs scheme steps next l all) (sym (append_assoc parts (part ∷ []) (parts_of scheme trees))) runs),
       )
 
-  -- whatever trees come for symbols, the steps behind them have the parts that they need
+  -- whatever trees come for symbols, the steps after them have the parts that they need
   fits_through : (symbols : List Symbol) (steps : List Step) (parts : List Part)
       → ((trees : Nodes Token) → AreTrees scheme.grammar class_of symbols trees → Fits scheme steps (parts ++ parts_of scheme trees))
       → Fits scheme (map step_of symbols ++ steps) parts
@@ -296,7 +296,7 @@ map-reverse f (x ∷ list) =
     ∙ ap (λ l. l ++ f x ∷ []) (map-reverse f list)
     ∙ sym (reverse-append (f x ∷ []) (map f list))
 
--- the steps of symbols behind one more step
+-- the steps of symbols after one more step
 pub steps_pushed : (old : List Step) (step : Step) (symbols : List Symbol)
     → reverse ((old ++ step ∷ []) ++ map step_of (reverse symbols)) ≡ map step_of symbols ++ step ∷ reverse old
 steps_pushed old step symbols =
@@ -382,7 +382,7 @@ module _ {Part : Type 0} (scheme : Scheme Part) (next : Option ℕ) (begun : Lis
         omega (arith, ap (steps_weight scheme.grammar) is, ap (steps_weight scheme.grammar) top),
       )
 
-    -- the machine stops at a class, or behind the last step
+    -- the machine stops at a class, or after the last step
     pub stops_at_class : (class : ℕ) → before ≡ Class class ∷ after → Advances scheme next begun begun_parts (Some class) after parts
     stops_at_class class top =
         let kept = subst (λ (l : List Step). Keeps scheme next begun begun_parts l parts) top keeps in

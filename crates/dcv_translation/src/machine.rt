@@ -105,7 +105,7 @@ impl<'a, 't, T: Translation<'a>> Machine<'a, 't, T> {
         Ok(true)
     }
 
-    // The part of the whole behind the last token, where it ends a sentence.
+    // The part of the whole after the last token, where it ends a sentence.
     fn finish(mut self) -> Result<Option<T::Part>, AllocError>
         requires grammar { grammar_of self.grammar ≡ T.scheme.grammar }
         requires predictive { IsPredictive T.scheme.grammar }

@@ -115,7 +115,7 @@ impl Builder<'_, '_> {
         })
     }
 
-    // A formula behind "define", and a proposition behind "prop".
+    // A formula after "define", and a proposition after "prop".
     fn macro_body(&mut self, class: u8) -> Result<MacroBody, AllocError>
         requires { BeginWithRule (body_rule class) (left self.old) }
         ensures { IfOk result (λ body. BodyReadAs class (left self.old) (plain_body body) (left self.new)) }

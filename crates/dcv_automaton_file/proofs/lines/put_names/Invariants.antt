@@ -5,7 +5,7 @@ use Rattle.dcv_syntax.specs.declared.names.Name.{Name}
 use Rattle.dcv_automaton_file.specs.Lines.{one_listed}
 use Rattle.dcv_automaton_file.proofs.lines.put_names.Given as goal
 
--- the names so far are put, each but the first behind what stands between
+-- the names so far are put, each but the first after what stands between
 abbrev pub invariant-loop-name : goal.invariant-loop-name
 invariant-loop-name g l =
     Puts (g.T.Target.standing l.initial.target) (g.T.Target.standing l.target)

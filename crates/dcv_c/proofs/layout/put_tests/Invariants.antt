@@ -5,7 +5,7 @@ use Rattle.std.specs.List.{flat_map}
 use Rattle.dcv_io.specs.Putting.{Puts}
 use Rattle.dcv_c.proofs.layout.put_tests.Given as goal
 
--- the tests so far are put, each but the first behind what stands between
+-- the tests so far are put, each but the first after what stands between
 abbrev pub invariant-loop-test : goal.invariant-loop-test
 invariant-loop-test g l =
     Puts (g.T.Target.standing l.initial.target) (g.T.Target.standing l.target) (flat_map (λ test. codes " || " ++ test_text (seen_test l.fn.names test)) (take l.test-index l.others))

@@ -1,4 +1,4 @@
--- What is right for the second file, behind the first, is right for both.
+-- What is right for the second file, after the first, is right for both.
 use Rattle.std.proofs.Common.{refl}
 use Rattle.dcv_cli.specs.Comparison.{IsCompared}
 use Rattle.dcv_cli.specs.FormulaFile.{OnText}

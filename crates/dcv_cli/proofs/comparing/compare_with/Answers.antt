@@ -1,4 +1,4 @@
--- What is right for the second file is right behind the first.
+-- What is right for the second file is right after the first.
 use Rattle.std.proofs.Common.{refl}
 use Rattle.std.proofs.lemmas.Result.{err_from_is_err_and}
 use Rattle.dcv_implies.specs.Comparison.{letters_of}

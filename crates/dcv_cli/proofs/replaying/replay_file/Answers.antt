@@ -1,4 +1,4 @@
--- What is right for the trace, behind the observer, is right for both.
+-- What is right for the trace, after the observer, is right for both.
 use Rattle.std.proofs.Common.{refl}
 use Rattle.std.proofs.lemmas.Result.{err_from_is_err_and}
 use Rattle.dcv_cli.specs.declared.refused.Which.TheVariants.{Only}

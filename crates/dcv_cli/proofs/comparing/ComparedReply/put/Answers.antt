@@ -1,4 +1,4 @@
--- Where there is a word, it stands behind the line that says so.
+-- Where there is a word, it stands after the line that says so.
 use Rattle.dcv_cli.proofs.Comparisons.{puts_difference}
 use Rattle.dcv_cli.proofs.comparing.ComparedReply.put.Goals as goal
 

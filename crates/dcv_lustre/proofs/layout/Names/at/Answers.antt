@@ -6,7 +6,7 @@ use Rattle.dcv_lustre.specs.Tree.{Local}
 use Rattle.dcv_lustre.specs.Seen.{Names, name_at, seen_local, all_names}
 use Rattle.dcv_lustre.proofs.layout.Names.at.Goals as goal
 
--- a local stands behind the inputs and the output
+-- a local stands after the inputs and the output
 local_at : (inputs : Names) (locals : List CodeLocal) (place : ℕ) (d : CodeLocal) → place < length locals
     → name_at (all_names inputs locals) (length inputs + suc place) ≡ (get_or locals place d).name
 local_at inputs locals place d within =
