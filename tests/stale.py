@@ -18,7 +18,7 @@ NAME = re.compile(r"[A-Za-z_][A-Za-z0-9_'≢≡≤-]*")
 ELSEWHERE = set("""
     lemma tidy plant allow-holes fix-imports incremental oantt by-rattle rattle-kept rattle-kit-13f Matches unusable-built-library axioms unsafe unfold
     RT_JOBS Weverything autogroup vmstat discover
-    my_grammar my_rule make_requirement supplied assumed logger trip retry test_01 pump_minimum door_reset door_step
+    my_grammar my_rule dcv_x make_requirement supplied assumed logger trip retry test_01 pump_minimum door_reset door_step
     items_hidden-the_row-T-k x-items x-index in_err-x in_ok-x in-Variant in-Some-CALL Joined-x f-requires size-T returns-then- returns-then-some-clause
     CALL GOAL MODULE FUNCTION WRONG Variant always_ _for_a_request
 """.split())
