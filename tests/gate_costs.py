@@ -6,7 +6,7 @@
 
 The table is tests/costs.txt, with a line for each crate: its name, and the seconds of its proof, of its tests' and of its edits. ./dcvalid reads
 it to tell how far a build is. Only checks that a gate makes from nothing are put into it: what is kept from earlier runs takes none. A proof's
-seconds behind a `~` are an estimate, until a gate that proves the crate is watched.
+seconds after a `~` are an estimate, until a gate that proves the crate is watched.
 """
 import os
 import sys
@@ -94,7 +94,7 @@ def watch(clone):
 # ---- what follows from the table
 
 def clock(costs, needs, processors):
-    """The seconds that a gate takes, where each processor takes the check that is ready and has the longest chain behind it."""
+    """The seconds that a gate takes, where each processor takes the check that is ready and has the longest chain after it."""
     tasks = {(name, "proof"): needs[name] for name in needs}
     for name in needs:
         for kind in ("tests", "edits"):

@@ -51,7 +51,7 @@ def run(*words, **more):
 
 
 def shown(verdict, heading):
-    """The behaviour behind a heading of the verdict, as its lines, and none where it is not there."""
+    """The behaviour after a heading of the verdict, as its lines, and none where it is not there."""
     lines = verdict.split("\n")
     for place, line in enumerate(lines):
         if line.startswith(heading + " "):

@@ -12,7 +12,7 @@ from program import Program, Refusal
 
 class Option(NamedTuple):
     name: str
-    value: str  # what stands behind it, or nothing
+    value: str  # what stands after it, or nothing
     summary: str
 
 
@@ -48,9 +48,9 @@ PROGRAM = (
     Command("automaton", "FILE", "the minimal automaton, with words that show that it is minimal", LIMITS),
     Command("lustre", "FILE", "an observer in a subset of Lustre", LIMITS),
     Command("c", "FILE", "an observer in a subset of C", LIMITS),
-    Command("all", "FILE", "the verdict, the automaton and both observers, each behind a line that names it", LIMITS),
+    Command("all", "FILE", "the verdict, the automaton and both observers, each after a line that names it", LIMITS),
     Command("implies", "FILE FILE", "whether the first formula implies the second, or a shortest behaviour that shows that it does not", LIMITS),
-    Command("synth", "FILE", "a controller of the variables behind the first N, or a strategy of these that beats each controller",
+    Command("synth", "FILE", "a controller of the variables after the first N, or a strategy of these that beats each controller",
             (Option("--inputs", "N", "how many of the variables, the first ones, are inputs (0 to 16)"),) + LIMITS),
     Command("certify", "FILE", "whether an automaton's words show that it is minimal"),
     Command("convert", "FILE", "an automaton's text in version 1 or 2", (Option("--to", "N", "the version, 1 or 2"),)),

@@ -9,7 +9,7 @@ from program import fault_of
 
 
 class Spot:
-    """A place of a text: its row and column, its line as it is shown, and what stands before and behind it."""
+    """A place of a text: its row and column, its line as it is shown, and what stands before and after it."""
 
     def __init__(self, text, place):
         self.text, self.size = text, len(text)

@@ -3,13 +3,13 @@ import re
 
 FORMULAS = ("slen", "scount", "sdur", "pt", "ext", "<", "[", "[[", "<>", "[]", "^")  # what begins or joins formulas alone
 
-# Hints at a syntax fault: each is asked in turn of the text behind (`rest`), the token there (`word`) and the text in front (`ahead`).
+# Hints at a syntax fault: each is asked in turn of the text after it (`rest`), the token there (`word`) and the text before it (`ahead`).
 SYNTAX = (
     (lambda rest, word, ahead: re.match(r'const\s+\w+\s*=|use\s+"', rest), "const and use are for ./ask expand, which writes a file of the language."),
     (lambda rest, word, ahead: rest.startswith("->"), 'Write => for "implies".'),
     (lambda rest, word, ahead: word in "+-" and not re.search(r"(^|\W)(infer|as)$|[(\]>})]$", ahead),
      "There is no arithmetic (./ask expand writes out sums), and no - in names: write _ there. In brackets -p is p one instant earlier and +p one later, as in [[-p]]."),
-    (lambda rest, word, ahead: re.search(r"infer(\W.*)?;$", ahead, re.A), "A file has one goal, and nothing behind it."),
+    (lambda rest, word, ahead: re.search(r"infer(\W.*)?;$", ahead, re.A), "A file has one goal, and nothing after it."),
     (lambda rest, word, ahead: word in ("=>", "=") and re.search(r"\b(slen|(scount|sdur)\s+\S+)$", ahead) and rest[:2] in ("=>", "=<"),
      'The relation "at least" is written >=, and "at most" <=.'),
     (lambda rest, word, ahead: word in ("=>",) and re.search(r"(scount|sdur)\s+[^<>=]*$|slen$", ahead), 'The relation "at least" is written >=.'),
@@ -32,7 +32,7 @@ SYNTAX = (
 BYTES = (
     ("&", 'Write && for "and".'), ("|", 'Write || for "or".'), ("{}", "Braces come in pairs: {{p}} is two instants with p at the first."),
     ("~", 'Write ! for "not".'), ("/", "A comment is // and the rest of the line; there is no /* */ and no division."),
-    ("#", "A comment begins with //."), ("_", "A name begins with a letter; behind that it may have letters, digits and _."),
+    ("#", "A comment begins with //."), ("_", "A name begins with a letter; after that it may have letters, digits and _."),
     ("'\"", "There are no quoted texts and no characters."),
 )
 

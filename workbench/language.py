@@ -163,7 +163,7 @@ class _Parser:
         return found
 
     def before(self, part, closing):
-        """A part and the token behind it."""
+        """A part and the token after it."""
         found = part()
         self.take(closing)
         return found

@@ -154,7 +154,7 @@ class Vcd:
             first = word[0]
             if first == "#":
                 if not word[1:].isdigit() or (self.now is not None and int(word[1:]) < self.now):
-                    raise self.fault(f"{word} is no time behind #{self.now or 0}")
+                    raise self.fault(f"{word} is no time after #{self.now or 0}")
                 if self.now is not None:
                     yield self.now, changes
                     changes = []

@@ -13,7 +13,7 @@ def asks_state(observer, state):
 
 
 def rearmed(observer, rejecting):
-    """Begins anew behind each instant at which the requirement is broken, that is at which the automaton is in one of these states."""
+    """Begins anew after each instant at which the requirement is broken, that is at which the automaton is in one of these states."""
     again = "".join(f"  if (nx == {state}) st = 0;\n" for state in rejecting)
     return observer.replace("  st = nx;\n", "  st = nx;\n" + again, 1)
 

@@ -1,7 +1,7 @@
 """What may stand where a fault is, and which one change leaves no fault in the file. Each answer is the program's.
 
 `fault syntax at N` names the first token that no file goes on with, so a token may stand at N exactly where the text before N with
-that token behind it has no fault there. A change is told only where the program finds no fault in the whole changed file.
+that token after it has no fault there. A change is told only where the program finds no fault in the whole changed file.
 """
 import difflib
 import re
@@ -153,7 +153,7 @@ def _token_changes(text, place, tokens):
     where = f"before {token}" if token.strip() else "at the end"
     fresh_line = bool(behind) and "\n" in text[behind[-1].end:place]
     if fresh_line or not token.strip():
-        likely += [(f"put ; {'behind ' + behind[-1].text if behind else where}", ";", _put(text, behind, ";"))]
+        likely += [(f"put ; {'after ' + behind[-1].text if behind else where}", ";", _put(text, behind, ";"))]
     others = []
     for new in usual:
         written = " 1 " if new == NUMBER else f" {new} "

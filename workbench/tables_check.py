@@ -16,7 +16,7 @@ FLAGS = ["-std=c89", "-O1", "-Wall", "-Wextra", "-Wconversion", "-pedantic", "-W
 DRAWN, WALKED = 1000, 1_000_000
 REPLAYED = 600_000_000  # instants times states: what a replay of an observer takes
 
-# Reads behaviours, a line of digits for each instant and an empty line behind each; or, with a word, takes each letter from each state.
+# Reads behaviours, a line of digits for each instant and an empty line after each; or, with a word, takes each letter from each state.
 HARNESS = """
 #include <stdio.h>
 #include "{name}_tables.h"

@@ -10,7 +10,7 @@ from logs import LogFault, rows_of
 from waves import Run, instants, runs
 
 PIECE = 200_000  # rows that are replayed in one run: a trace has 1,000,000 instants at most
-BEFORE, BEHIND = 6, 2  # runs of equal rows that are shown before and behind the first violation
+BEFORE, BEHIND = 6, 2  # runs of equal rows that are shown before and after the first violation
 
 
 class Unconfirmed(Exception):
@@ -30,7 +30,7 @@ class Watch:
         self.state = self.count = self.broken = 0
         self.last = None  # the last instant at which it is broken
         self.before = deque(maxlen=BEFORE)  # runs of rows up to now, until the first violation
-        self.behind = None  # behind it, the rows that follow
+        self.behind = None  # after it, the rows that follow
         self.violations = []  # instant, label and letter of the first ones
 
     def piece(self, rows, last):
@@ -68,7 +68,7 @@ class Watch:
                 self.before.append((Run(self.count + run.first, self.count + run.last, run.value), rows[run.first][0]))
 
     def go_on(self, word):
-        """The state behind a piece, by the automaton's text, confirmed by the program."""
+        """The state after a piece, by the automaton's text, confirmed by the program."""
         state, known = self.state, {}
         for letter in word:
             step = (state, letter)
@@ -78,7 +78,7 @@ class Watch:
             reached, state = known[step]
         asked = observers.asks_state(observers.from_state(self.observer, self.state), reached)
         if not self.program.replay(asked, word)[-1]:
-            raise Unconfirmed(f"the program does not confirm that the observer is in state {reached} behind instant {self.count + len(word) - 1}")
+            raise Unconfirmed(f"the program does not confirm that the observer is in state {reached} after instant {self.count + len(word) - 1}")
         self.state = state
 
 
@@ -128,7 +128,7 @@ def said(variables, watch):
     yield f"broken at instant {at}, row {label}{more}"
     yield from shown_rows(variables, watch)
     if watch.rearm:
-        yield f"{watch.broken} violation{'s' * (watch.broken > 1)} in {instants(watch.count)}; behind each the requirement begins anew:"
+        yield f"{watch.broken} violation{'s' * (watch.broken > 1)} in {instants(watch.count)}; after each the requirement begins anew:"
         for at, label, letter in watch.violations:
             yield f"  instant {at}, row {label}: " + " ".join(f"{name}={digit}" for name, digit in zip(variables, letter))
         if watch.broken > len(watch.violations):
@@ -154,7 +154,7 @@ def at_least_one(word):
 def add_arguments(parser):
     parser.add_argument("file", metavar="FILE")
     parser.add_argument("log", metavar="LOG", help="a CSV file with a header, or a VCD file (by its name's ending .vcd)")
-    parser.add_argument("--rearm", action="store_true", help="all violations: behind each one the requirement begins anew")
+    parser.add_argument("--rearm", action="store_true", help="all violations: after each one the requirement begins anew")
     parser.add_argument("--clock", metavar="NAME", help="VCD: an instant is a rise of this signal, with the values before it")
     parser.add_argument("--period", metavar="N", type=at_least_one, help="VCD: an instant is each Nth unit of time, from the first time on")
     parser.add_argument("--column", metavar="VARIABLE=NAME", type=column, action="append", default=[],

@@ -100,7 +100,7 @@ class Logs(unittest.TestCase):
         self.assertIn("at #5 door is x", self.fault(VCD.replace('1"', 'x"'), ["door"], "vcd"))
         self.assertIn("at #5 door is z", self.fault(VCD.replace('1"', 'z"'), ["door"], "vcd"))
         self.assertIn("at #0 door has no value yet", self.fault(VCD.replace('0"\n', ""), ["door"], "vcd"))
-        self.assertIn("#4 is no time behind #5", self.fault(VCD.replace("#10", "#4"), ["door"], "vcd"))
+        self.assertIn("#4 is no time after #5", self.fault(VCD.replace("#10", "#4"), ["door"], "vcd"))
         self.assertIn("this is no VCD file", self.fault("", ["door"], "vcd"))
         self.assertIn("are for VCD files", self.fault("p\n1\n", ["p"], period=2))
 

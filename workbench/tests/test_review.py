@@ -35,7 +35,7 @@ class Review(WithFolder):
         self.assertEqual(found["What does each variable decide"], ["p has to be true at instant 0:  good 1 x3   bad 0 1 1"])
 
     def test_an_example_in_which_things_happen(self):
-        """The least behaviour in which q follows each p has no p. For all of it, p with an instant behind it, two instants are needed."""
+        """The least behaviour in which q follows each p has no p. For all of it, p with an instant after it, two instants are needed."""
         found = self.review("var p, q; infer []({{p}} => {{true}} ^ <q>);")
         self.assertEqual(found["What does it look like when it holds"], ["instant   0  1", "p       ###___", "q       ___###"])
 

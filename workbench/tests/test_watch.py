@@ -9,7 +9,7 @@ RESPONSE = os.path.join(ROOT, "examples", "response.dc")
 
 
 def broken_by_hand(word, again):
-    """Instants of `10`-letters without a grant in themselves or in the three behind them, the deadline being the instant told: the
+    """Instants of `10`-letters without a grant in themselves or in the three after them, the deadline being the instant told: the
     requirement of response.dc, without the automaton. After the first, or where it begins `again`, nothing before is remembered."""
     found, waiting = [], None
     for instant, (request, grant) in enumerate(word):
