@@ -12,6 +12,7 @@ use Rattle.std.proofs.lemmas.List.{length-map}
 use Rattle.std.proofs.lemmas.List.Folds.{list_any_at}
 use Rattle.std.proofs.lemmas.List.FromFn.{length-enumerate_from}
 use Rattle.std.proofs.lemmas.Option.{slice_get-get_or}
+use Rattle.dcv_language.specs.Limits.{most_states, most_nodes}
 use Rattle.dcv_dfa.specs.declared.node_lines.Child.{Child}
 use Rattle.dcv_dfa.specs.declared.node_lines.Child.TheVariants.{State, Node as NodeAt}
 use Rattle.dcv_dfa.specs.declared.node_lines.NodeLine.{NodeLine as CodeNodeLine}
@@ -58,10 +59,10 @@ no_row = record { number = 0; accepting = false; row = ToState 0 }
 pub record IsObservable (file : AutomatonFile) : Type 0 where
   pub names : AreNames file.names
   pub lines : GoodLines file.names (length file.state_lines) 0 file.node_lines
-  pub few_lines : length file.node_lines ≤ 1000000
+  pub few_lines : length file.node_lines ≤ most_nodes
   pub rows : GoodRows (length file.state_lines) (length file.node_lines) 0 file.state_lines
   pub some_rows : 0 < length file.state_lines
-  pub few_rows : length file.state_lines ≤ 32000
+  pub few_rows : length file.state_lines ≤ most_states
 
 -- ---- files that keep the table rules
 

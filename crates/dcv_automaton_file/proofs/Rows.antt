@@ -4,6 +4,7 @@ use Rattle.std.proofs.Common.{arith}
 use Rattle.std.specs.List.{All, range_with_len, enumerate_from, filter}
 use Rattle.std.proofs.lemmas.List.{take_more, length-take-le, map_push}
 use Rattle.std.proofs.lemmas.Option.{slice_get-get_or}
+use Rattle.dcv_language.specs.Limits.{most_nodes}
 use Rattle.dcv_dfa.specs.declared.node_lines.Child.{Child}
 use Rattle.dcv_dfa.specs.declared.node_lines.Child.TheVariants.{State, Node as NodeAt}
 use Rattle.dcv_dfa.specs.declared.node_lines.NodeLine.{NodeLine}
@@ -75,12 +76,12 @@ below_more a b c d (NodeAt number) first second below = omega (arith, below, sec
 -- ---- the lines that are put
 
 pub record AreLined (slots states : ℕ) (all : NodeLinesValue) : Type 0 where
-  pub count : length all.lines ≤ 1000000
+  pub count : length all.lines ≤ most_nodes
   pub slots_below : All (λ (line : NodeLine). line.slot < slots) all.lines
   pub row_count : length all.rows ≡ states
 
 -- those of an automaton with few nodes
-pub are_lined : (raw : RawValue) (all : NodeLinesValue) → IsRaw raw → IsAuto raw → count_of_nodes raw ≤ 1000000 → all ≡ node_lines_of raw
+pub are_lined : (raw : RawValue) (all : NodeLinesValue) → IsRaw raw → IsAuto raw → count_of_nodes raw ≤ most_nodes → all ≡ node_lines_of raw
     → AreLined raw.arena.slots (length raw.rows) all
 are_lined raw all is auto nodes same =
     let lines = node_lines_of raw in

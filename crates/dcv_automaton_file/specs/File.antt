@@ -9,6 +9,7 @@
 use Rattle.std.specs.Prelude.{ℕ, ◌<◌, List, [], None, length, map, slice_index_or}
 use Rattle.std.specs.List.{enumerate_from}
 use Rattle.dcv_syntax.specs.declared.names.Name.{Name}
+use Rattle.dcv_language.specs.Limits.{number_bound}
 use Rattle.dcv_dfa.specs.declared.node_lines.Child.{Child}
 use Rattle.dcv_dfa.specs.declared.node_lines.Child.TheVariants.{State, Node}
 use Rattle.dcv_dfa.specs.declared.node_lines.NodeLine.{NodeLine as CodeNodeLine}
@@ -42,8 +43,8 @@ state_lines raw rows = map (state_line raw) (enumerate_from 0 rows)
 -- the variable of a node's line is one of so many, and its children are there
 pub record Fits (slots nodes : ℕ) (line : CodeNodeLine) : Type 0 where
   pub slot : line.slot < slots
-  pub hi : IsBelow 32768 nodes line.hi
-  pub lo : IsBelow 32768 nodes line.lo
+  pub hi : IsBelow number_bound nodes line.hi
+  pub lo : IsBelow number_bound nodes line.lo
 
 -- ---- the file
 

@@ -1,9 +1,10 @@
 -- The laws that `src/laws.rt` proves.
 --     HasFile raw names        this automaton has a file, with these names of its variables
 use Rattle.std.specs.Prelude.{◌≡◌, ℕ, ◌≤◌, List, length}
+use Rattle.dcv_language.specs.Limits.{most_states, most_nodes}
 use Rattle.dcv_automaton_text.specs.File.{AccessLine, SuffixLine}
 use Rattle.dcv_automaton_text.specs.Meaning.{table_of}
-use Rattle.dcv_automaton_text.specs.Rules.{AreNames, most_states, most_nodes}
+use Rattle.dcv_automaton_text.specs.Rules.{AreNames}
 use Rattle.dcv_dfa.specs.Auto.{IsAuto, count_of_nodes, table_of_states}
 use Rattle.dcv_dfa.specs.Raw.{RawValue, IsRaw}
 use Rattle.dcv_automaton_file.specs.File.{file_of}

@@ -4,8 +4,9 @@ use Rattle.std.specs.Prelude.{nat_lt, nat_le, codes}
 use Rattle.std.specs.Fmt.{decimal}
 use Rattle.std.specs.List.{flat_map, zip}
 use Rattle.std.specs.Result.{IsErrAnd}
+use Rattle.dcv_language.specs.Limits.{most_states}
 use Rattle.dcv_automaton_text.specs.File.{AutomatonFile}
-use Rattle.dcv_automaton_text.specs.Rules.{most_states, has_all_access, has_all_steps, judged_steps, judged_words}
+use Rattle.dcv_automaton_text.specs.Rules.{has_all_access, has_all_steps, judged_steps, judged_words}
 use Rattle.dcv_automaton_text.specs.Spelled.{end_lines}
 use Rattle.dcv_automaton_read.specs.declared.faults.Stop.{Stop}
 use Rattle.dcv_automaton_read.specs.declared.faults.Stop.TheVariants.{Word}

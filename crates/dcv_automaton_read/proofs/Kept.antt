@@ -4,8 +4,9 @@ use Rattle.std.specs.List.{enumerate_from, zip}
 use Rattle.std.specs.Prelude.{nat_lt, nat_le, codes}
 use Rattle.std.specs.Fmt.{decimal}
 use Rattle.std.proofs.lemmas.Bool.{and_parts, leb-true, ltb-true, cases_lt}
+use Rattle.dcv_language.specs.Limits.{most_states}
 use Rattle.dcv_automaton_text.specs.File.{ToState, StateLine, AutomatonFile}
-use Rattle.dcv_automaton_text.specs.Rules.{keeps_state, has_all_access, has_all_steps, most_states, judged_steps, judged_words, first_broken, IsGood}
+use Rattle.dcv_automaton_text.specs.Rules.{keeps_state, has_all_access, has_all_steps, judged_steps, judged_words, first_broken, IsGood}
 use Rattle.dcv_automaton_text.specs.Spelled.{state_words}
 use Rattle.dcv_automaton_read.specs.Parts.{judged_lines, judged_names, judged_head, judged_nodes, judged_states, judged_access, judged_suffixes}
 use Rattle.dcv_automaton_read.proofs.HeadWords.{end_part, from_steps, from_suffixes, from_access, from_states, from_nodes}
@@ -91,7 +92,7 @@ names_are_few (name ∷ names) kept =
     let flag = kept_at one_word (keeps_word all) all 0 last last [] lines (omega arith) (omega arith) in
     omega (arith, kept_are_few all last (get_or all last []) flag.0)
 
-pub states_are_few : (file : AutomatonFile) → Parts file → file.states ≤ 32000
+pub states_are_few : (file : AutomatonFile) → Parts file → file.states ≤ most_states
 states_are_few file parts = leb-true file.states most_states (and_parts (nat_lt 0 file.states) (nat_le file.states most_states) parts.count).1
 
 -- there are as many states as lines

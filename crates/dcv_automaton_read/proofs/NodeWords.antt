@@ -11,9 +11,10 @@ use Rattle.std.proofs.lemmas.List.Elements.{All-append}
 use Rattle.std.proofs.lemmas.List.Sums.{passes_at_first}
 use Rattle.std.proofs.lemmas.Option.{get_or_from_slice_get}
 use Rattle.std.proofs.lemmas.Slice.Eq.{bytes_eq-Decides}
+use Rattle.dcv_language.specs.Limits.{most_nodes}
 use Rattle.dcv_automaton_text.specs.File.{Target, ToState, ToNode, NodeLine, AutomatonFile}
 use Rattle.dcv_automaton_text.proofs.InWords.{listed_slot}
-use Rattle.dcv_automaton_text.specs.Rules.{slot_of, is_listed, slot_of_node, keeps_child, is_same_target, is_same_node, keeps_node, most_nodes}
+use Rattle.dcv_automaton_text.specs.Rules.{slot_of, is_listed, slot_of_node, keeps_child, is_same_target, is_same_node, keeps_node}
 use Rattle.dcv_automaton_text.specs.Spelled.{node_words}
 use Rattle.dcv_automaton_read.specs.declared.faults.Stop.{Stop}
 use Rattle.dcv_automaton_read.specs.declared.nodes.Child.{Child}

@@ -6,9 +6,10 @@ use Rattle.std.specs.List.{enumerate_from, list_all, flat_map, join_with_byte, z
 use Rattle.std.proofs.lemmas.Bool.{and_parts, leb-true, ne_eqb, or_from}
 use Rattle.std.proofs.lemmas.List.{append_assoc, length-map}
 use Rattle.std.proofs.lemmas.List.FromFn.{length-enumerate_from}
+use Rattle.dcv_language.specs.Limits.{most_states}
 use Rattle.dcv_automaton_text.specs.File.{Access, EmptyAccess, StartAccess, AfterAccess, Suffix, EmptySuffix, ThenSuffix, StepPart, AutomatonFile}
 use Rattle.dcv_automaton_text.specs.Form.{is_visible, IsSpellable}
-use Rattle.dcv_automaton_text.specs.Rules.{keeps_names, keeps_name, keeps_node, keeps_state, keeps_how_access, keeps_access, keeps_how_suffix, keeps_suffix, keeps_steps, keeps_step, has_all_access, has_all_steps, most_states, judged_steps, judged_words, first_broken}
+use Rattle.dcv_automaton_text.specs.Rules.{keeps_names, keeps_name, keeps_node, keeps_state, keeps_how_access, keeps_access, keeps_how_suffix, keeps_suffix, keeps_steps, keeps_step, has_all_access, has_all_steps, judged_steps, judged_words, first_broken}
 use Rattle.dcv_automaton_text.specs.Spelled.{name_words, how_access, how_suffix, version_word, head_lines, node_words, state_words, access_words, suffix_words}
 use Rattle.dcv_automaton_text.specs.Spelled.{step_words, steps_words, step_part, end_lines, lines_of, spelled_line, spelled}
 use Rattle.dcv_automaton_text.proofs.Words.{AreVisible, AreWords, IsLine, AreLines}

@@ -10,8 +10,9 @@
 use Rattle.std.specs.Prelude.{◌≡◌, ℕ, Bool, true, false, not, ◌&&◌, nat_eq, nat_lt, List, [], ◌∷◌, ◌++◌, length, map, take, slice_index_or, Result, Ok, Err}
 use Rattle.std.specs.List.{All, list_any}
 use Rattle.std.specs.Borrow.{Bor}
+use Rattle.dcv_language.specs.Limits.{most_nodes}
 use Rattle.dcv_automaton_text.specs.File.{Target, ToState, ToNode, NodeLine, AutomatonFile}
-use Rattle.dcv_automaton_text.specs.Rules.{slot_of, is_listed, most_nodes, IsTableFault, IsGood}
+use Rattle.dcv_automaton_text.specs.Rules.{slot_of, is_listed, IsTableFault, IsGood}
 use Rattle.dcv_automaton_read.specs.declared.nodes.Child.{Child}
 use Rattle.dcv_automaton_read.specs.declared.nodes.Child.TheVariants.{State, Node as AtNode}
 use Rattle.dcv_automaton_read.specs.declared.nodes.Node.{Node}

@@ -2,18 +2,17 @@
 ghost use Rattle.std.specs.Prelude.{◌≡◌, ℕ, ◌+◌, ◌^◌, ◌<◌, ◌≤◌, List, length, take, IfOk, OnOk};
 ghost use Rattle.std.specs.List.{list_all};
 ghost use Rattle.dcv_tokens.specs.Tokens.{is_word_byte, is_word, is_name};
-ghost use Rattle.dcv_automaton_text.specs.Rules.{slot_of, is_listed, keeps_name, most_names};
+ghost use Rattle.dcv_language.specs.Limits.{most_variables};
+ghost use Rattle.dcv_automaton_text.specs.Rules.{slot_of, is_listed, keeps_name};
 ghost use Rattle.dcv_automaton_read.specs.Judged.{IsJudged, first_word};
 ghost use Rattle.dcv_automaton_read.specs.Seen.{texts_of};
 ghost use Rattle.dcv_automaton_read.specs.Parts.{judged_names};
 
 use crate::faults::Stop;
 use crate::words::judge;
+use dcv_language::MOST_VARIABLES;
 use dcv_tokens::classes::{NAME, class_of};
 use dcv_tokens::laws::one_class;
-
-// How many variables there may be.
-const MOST_NAMES: usize = 16;
 
 // How many bytes a name may have.
 const LONGEST_NAME: usize = 24;
@@ -80,7 +79,7 @@ fn is_name(bytes: &[u8]) -> bool
 fn keeps_name(earlier: &[&[u8]], name: &[u8]) -> bool
     ensures { (names : List (List ℕ)) → texts_of earlier.now ≡ take (length earlier.now) names → result ≡ keeps_name names (length earlier.now) name.now }
 {
-    earlier.len() < MOST_NAMES
+    earlier.len() < MOST_VARIABLES
         && is_name(name)
         && name.len() <= LONGEST_NAME
         && !is_listed(earlier, name)
@@ -90,8 +89,8 @@ fn keeps_name(earlier: &[&[u8]], name: &[u8]) -> bool
 pub(crate) fn judge_names(names: &[&[u8]], first: u64) -> Result<u64, Stop>
     requires { first < 2 ^ 32 }
     ensures judged { let words = judged_names (texts_of names.now) in IsJudged (first_word first words) (first + length words) result }
-    ensures few { OnOk result (length names.now ≤ most_names) }
-    ensures bound { IfOk result (λ number. number ≤ first + most_names) }
+    ensures few { OnOk result (length names.now ≤ most_variables) }
+    ensures bound { IfOk result (λ number. number ≤ first + most_variables) }
 {
     if names.is_empty() {
         return Ok(first + 1);

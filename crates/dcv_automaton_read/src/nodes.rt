@@ -1,7 +1,8 @@
 // The nodes of the rows, each once. An earlier node is found by its hash.
 ghost use Rattle.std.specs.Prelude.{◌≡◌, ◌+◌, ◌*◌, ◌^◌, ◌<◌, ◌≤◌, not, ◌&&◌, length, [], slice_get, Some, IfOk, OnOk};
 ghost use Rattle.std.specs.List.{zip};
-ghost use Rattle.dcv_automaton_text.specs.Rules.{keeps_node, most_nodes};
+ghost use Rattle.dcv_language.specs.Limits.{most_nodes};
+ghost use Rattle.dcv_automaton_text.specs.Rules.{keeps_node};
 ghost use Rattle.dcv_automaton_text.specs.Spelled.{node_words};
 ghost use Rattle.dcv_automaton_lines.specs.Seen.{file_of, target_of, node_line_of};
 ghost use Rattle.dcv_automaton_read.specs.Judged.{IsJudged, first_word};
@@ -12,11 +13,9 @@ use crate::faults::Stop;
 use crate::names::slot_of;
 use crate::words::judge;
 use dcv_automaton_lines::{Lines, NodeLine, Target};
+use dcv_language::MOST_NODES;
 use indexmap::IndexSet;
 use std::alloc::AllocFailed;
-
-/// How many nodes a text may have.
-pub const MOST_NODES: u32 = 1_000_000;
 
 /// What comes next in a row.
 #[derive(Clone, Copy, Debug, PartialEq, Eq, Hash)]

@@ -1,9 +1,10 @@
 // The table rules, section by section.
 ghost use Rattle.std.specs.Prelude.{◌≡◌, ◌+◌, ◌*◌, ◌^◌, ◌<◌, ◌≤◌, ◌&&◌, nat_lt, nat_le, length, Some, IfOk, OnOk};
 ghost use Rattle.std.specs.List.{zip};
+ghost use Rattle.dcv_language.specs.Limits.{most_states};
 ghost use Rattle.dcv_automaton_text.specs.Form.{HasForm};
 ghost use Rattle.dcv_automaton_text.specs.Rules.{keeps_state, keeps_access, keeps_suffix, keeps_step, keeps_row, has_width, goes_before};
-ghost use Rattle.dcv_automaton_text.specs.Rules.{has_all_states, has_all_access, has_all_steps, judged_steps, judged_words, most_states};
+ghost use Rattle.dcv_automaton_text.specs.Rules.{has_all_states, has_all_access, has_all_steps, judged_steps, judged_words};
 ghost use Rattle.dcv_automaton_text.specs.Spelled.{state_words, access_words, suffix_words, step_words};
 ghost use Rattle.dcv_automaton_lines.specs.Seen.{file_of, target_of, letter_of, state_line_of, access_line_of, suffix_line_of};
 ghost use Rattle.dcv_automaton_lines.specs.Seen.{step_line_of, step_part_of};
@@ -13,16 +14,14 @@ ghost use Rattle.dcv_automaton_read.specs.Parts.{judged_head, judged_states, jud
 
 use crate::faults::{AutoFault, Stop};
 use crate::names::judge_names;
-use crate::nodes::{MOST_NODES, Node, judge_nodes};
+use crate::nodes::{Node, judge_nodes};
 use crate::words::{judge, start_of_word};
 use dcv_automaton_lines::{
     AccessLine, AccessWord, Lines, StateLine, StepLine, StepPart, SuffixLine, SuffixWord, Target,
 };
+use dcv_language::{MOST_NODES, MOST_STATES};
 use indexmap::IndexSet;
 use std::alloc::Global;
-
-// How many states there may be.
-const MOST_STATES: u32 = 32_000;
 
 // How many steps there may be.
 const MOST_STEPS: u32 = 131_168;

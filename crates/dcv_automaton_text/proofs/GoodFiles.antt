@@ -10,10 +10,11 @@ use Rattle.std.proofs.lemmas.Bool.{cases_lt, ltb-true, leb-true, false≢true}
 use Rattle.std.proofs.lemmas.List.{length-map}
 use Rattle.std.proofs.lemmas.List.Folds.{list_all-append}
 use Rattle.std.proofs.lemmas.List.FromFn.{length-enumerate_from}
+use Rattle.dcv_language.specs.Limits.{most_variables, most_states, most_nodes}
 use Rattle.dcv_automaton_text.specs.File.{Target, ToState, ToNode, NodeLine, StateLine, AutomatonFile}
 use Rattle.dcv_automaton_text.specs.File.{Access, EmptyAccess, StartAccess, AfterAccess, AccessLine}
 use Rattle.dcv_automaton_text.specs.Spelled.{name_words, node_words, state_words, how_access, access_words, suffix_words, version_word, head_lines}
-use Rattle.dcv_automaton_text.specs.Rules.{most_names, most_states, most_nodes, is_listed, keeps_name, keeps_child}
+use Rattle.dcv_automaton_text.specs.Rules.{is_listed, keeps_name, keeps_child}
 use Rattle.dcv_automaton_text.specs.Rules.{is_same_target, is_same_node, keeps_node, keeps_row, keeps_state}
 use Rattle.dcv_automaton_text.specs.Rules.{keeps_how_access, has_all_states, keeps_access, has_all_access, keeps_suffix, has_all_steps, judged_steps}
 use Rattle.dcv_automaton_text.specs.Rules.{judged, keeps_names, keeps_head, judged_words, first_broken, IsGood}
@@ -76,7 +77,7 @@ each_name names (name ∷ rest) first are (suc k) within =
     subst (λ at. keeps_name names at (get_or rest k []) ≡ true) (let next : first + 1 + k ≡ first + suc k = omega arith in next)
     (each_name names rest (first + 1) are.1 k (omega arith))
 
-pub few_names : (names : List (List ℕ)) → AreKept (keeps_names names) → length names ≤ most_names
+pub few_names : (names : List (List ℕ)) → AreKept (keeps_names names) → length names ≤ most_variables
 few_names [] are = omega arith
 few_names (name ∷ names) are =
     elim (cases_lt 16 (length (name ∷ names))) [
@@ -143,7 +144,7 @@ no_more count states each =
     ]
 
 pub record IsGoodFile (file : AutomatonFile) : Type 0 where
-  pub names : length file.names ≤ most_names
+  pub names : length file.names ≤ most_variables
   pub some : 0 < file.states
   pub few : file.states ≤ most_states
   pub node : (k : ℕ) (d : NodeLine) → k < length file.node_lines → IsGoodNode file k (get_or file.node_lines k d)

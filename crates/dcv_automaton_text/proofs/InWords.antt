@@ -12,12 +12,13 @@ use Rattle.std.proofs.lemmas.List.Folds.{list_any_at, list_any_none}
 use Rattle.std.proofs.lemmas.Slice.Eq.{bytes_eq-Decides}
 use Rattle.dcv_tokens.specs.Tokens.{is_name}
 use Rattle.dcv_tokens.specs.Limits.{longest_word}
+use Rattle.dcv_language.specs.Limits.{most_variables, most_states, most_nodes}
 use Rattle.dcv_automaton_text.specs.File.{Target, ToState, ToNode, NodeLine, StateLine, Access, EmptyAccess, StartAccess, AfterAccess, AccessLine}
 use Rattle.dcv_automaton_text.specs.File.{Suffix, EmptySuffix, ThenSuffix, StepLine, StepPart, AutomatonFile}
 use Rattle.dcv_automaton_text.specs.GoodFile.{AtEachPlace, IsChild, IsGoodNodeLine, AreSameNode, IsRow, IsGoodStateLine, HasWidth, IsHowAccess, IsGoodAccessLine}
 use Rattle.dcv_automaton_text.specs.GoodFile.{IsHowSuffix, IsGoodSuffixLine, IsGoodStepLine, IsGoodStepPart, IsGoodFile}
 use Rattle.dcv_automaton_text.specs.Laws.{GoodFilesInWords}
-use Rattle.dcv_automaton_text.specs.Rules.{most_names, most_states, most_nodes, most_steps, most_start, IsPlainName, AreNames, slot_of, slot_of_node, is_listed, keeps_name, keeps_names}
+use Rattle.dcv_automaton_text.specs.Rules.{most_steps, most_start, IsPlainName, AreNames, slot_of, slot_of_node, is_listed, keeps_name, keeps_names}
 use Rattle.dcv_automaton_text.specs.Rules.{keeps_child, is_same_target, is_same_node, keeps_node, keeps_row, keeps_state, has_width, keeps_how_access, has_all_states, keeps_access}
 use Rattle.dcv_automaton_text.specs.Rules.{has_all_access, keeps_how_suffix, keeps_suffix, keeps_steps, keeps_step, has_all_steps, judged, judged_steps, IsGood}
 use Rattle.dcv_automaton_text.specs.Spelled.{name_words, node_words, state_words, access_words, how_suffix, suffix_words, step_words, steps_words}
@@ -60,11 +61,11 @@ name_kept : (names : List (List ℕ)) (k : ℕ) → AreNames names → k < lengt
 name_kept names k are within =
     let name = get_or names k [] in
     let is = are.each k [] within in
-    let few = lt-ltb k most_names (let count = are.count in omega arith) in
+    let few = lt-ltb k most_variables (let count = are.count in omega arith) in
     let short = le-leb (length name) longest_word is.short in
     let new = none_before (bytes_eq name) names k within (λ earlier d before.
     other_name name (get_or names earlier d) (λ same. are.differ earlier k d before within (sym same ∙ get_or_default names k [] d within))) in
-    both_true _ (not (is_listed (take k names) name)) (both_true _ (nat_le (length name) longest_word) (both_true (nat_lt k most_names) _ few is.form) short) (ap not new)
+    both_true _ (not (is_listed (take k names) name)) (both_true _ (nat_le (length name) longest_word) (both_true (nat_lt k most_variables) _ few is.form) short) (ap not new)
 
 each_kept : (names rest : List (List ℕ)) (first : ℕ) → ((k : ℕ) → k < length rest → keeps_name names (first + k) (get_or rest k []) ≡ true)
     → AreKept (map (λ numbered. keeps_name names numbered.0 numbered.1) (enumerate_from first rest))
@@ -87,9 +88,9 @@ record IsKeptName (names : List (List ℕ)) (k : ℕ) (name : List ℕ) : Type 0
 
 kept_name : (names : List (List ℕ)) (k : ℕ) (name : List ℕ) → keeps_name names k name ≡ true → IsKeptName names k name
 kept_name names k name kept =
-    let last = both (nat_lt k most_names && is_name name && nat_le (length name) longest_word) (not (is_listed (take k names) name)) kept in
-    let short = both (nat_lt k most_names && is_name name) (nat_le (length name) longest_word) last.0 in
-    let form = both (nat_lt k most_names) (is_name name) short.0 in
+    let last = both (nat_lt k most_variables && is_name name && nat_le (length name) longest_word) (not (is_listed (take k names) name)) kept in
+    let short = both (nat_lt k most_variables && is_name name) (nat_le (length name) longest_word) last.0 in
+    let form = both (nat_lt k most_variables) (is_name name) short.0 in
     record { plain = record { form = form.1; short = leb-true (length name) longest_word short.1 }; is_new = turned (is_listed (take k names) name) last.1 }
 
 module _ (names : List (List ℕ)) (each : (k : ℕ) → k < length names → keeps_name names k (get_or names k []) ≡ true) where
@@ -101,7 +102,7 @@ module _ (names : List (List ℕ)) (each : (k : ℕ) → k < length names → ke
       (bytes_eq-Decides (get_or names j []) (get_or names i d)).1 (get_or_default names j [] d within ∙ sym same) in
       false≢true (sym other ∙ equal)
 
-  names_are : length names ≤ most_names → AreNames names
+  names_are : length names ≤ most_variables → AreNames names
   names_are few = record {
     count = few;
     each = λ k d within. subst IsPlainName (get_or_default names k [] d within) (kept_name names k (get_or names k []) (each k within)).plain;

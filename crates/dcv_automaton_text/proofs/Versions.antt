@@ -6,11 +6,12 @@ use Rattle.std.specs.List.{flat_map, zip}
 use Rattle.std.proofs.lemmas.Grind.{flat_map-append}
 use Rattle.std.proofs.lemmas.List.{append_assoc}
 use Rattle.std.proofs.Math.Seq.{take-append_seam}
+use Rattle.dcv_language.specs.Limits.{most_states}
 use Rattle.dcv_automaton_text.specs.File.{StepPart, AutomatonFile}
 use Rattle.dcv_automaton_text.specs.Form.{IsSpellable, IsStepPart}
 use Rattle.dcv_automaton_text.specs.Laws.{VersionsStandForTheSame, said_in, IsOfVersions, TextsOfVersions, SecondAndBackIsTheText}
 use Rattle.dcv_automaton_text.specs.Meaning.{table_of, access_words_of, suffix_words_of}
-use Rattle.dcv_automaton_text.specs.Rules.{has_all_access, has_all_steps, keeps_names, most_states, most_steps}
+use Rattle.dcv_automaton_text.specs.Rules.{has_all_access, has_all_steps, keeps_names, most_steps}
 use Rattle.dcv_automaton_text.specs.Rules.{judged, keeps_node, keeps_state, keeps_access, keeps_suffix, judged_steps, judged_words, IsGood}
 use Rattle.dcv_automaton_text.specs.Spelled.{name_words, node_words, state_words, access_words, suffix_words, version_word}
 use Rattle.dcv_automaton_text.specs.Spelled.{head_lines, front_lines, step_part, end_lines, lines_of, spelled_line, spelled, spelled_front}

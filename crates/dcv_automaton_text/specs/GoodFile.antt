@@ -7,9 +7,10 @@
 --     IsGoodFile file                 a file keeps them all
 use Rattle.std.specs.Prelude.{◌≡◌, ◌≢◌, ℕ, ◌<◌, ◌≤◌, Bool, List, IfSome, length, slice_index_or}
 use Rattle.std.specs.List.{AllPairs}
+use Rattle.dcv_language.specs.Limits.{most_states, most_nodes}
 use Rattle.dcv_automaton_text.specs.File.{Target, ToState, ToNode, NodeLine, StateLine, Access, EmptyAccess, StartAccess, AfterAccess, AccessLine}
 use Rattle.dcv_automaton_text.specs.File.{Suffix, EmptySuffix, ThenSuffix, SuffixLine, StepLine, StepPart, AutomatonFile}
-use Rattle.dcv_automaton_text.specs.Rules.{most_states, most_nodes, most_steps, most_start, AreNames, slot_of, slot_of_node}
+use Rattle.dcv_automaton_text.specs.Rules.{most_steps, most_start, AreNames, slot_of, slot_of_node}
 
 -- of the line at each place
 abbrev pub AtEachPlace : {Line : Type 0} → (ℕ → Line → Type 0) → List Line → Type 0

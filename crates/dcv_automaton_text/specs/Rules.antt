@@ -1,6 +1,5 @@
 -- The table rules, by which a file of the form stands for an automaton. Each word of the text keeps them or breaks one of them. What they
 -- ask of the automaton stands in `GoodFile`, and `good_files_in_words` proves that it is the same.
---     most_names, most_states, most_nodes    how many there may be
 --     most_steps, most_start                 how many steps there may be, and where the last of them may start
 --     AreNames names                         these may be the names of the variables
 --     keeps_name file place name ..          whether each word of a line at this place keeps the rules, in the order of its words
@@ -13,18 +12,10 @@ use Rattle.std.specs.Prelude.{List, [], ◌∷◌, ◌++◌, Option, Some, None,
 use Rattle.std.specs.List.{All, AllPairs, flat_map, list_any, position_or_len, enumerate_from, zip}
 use Rattle.dcv_tokens.specs.Tokens.{is_name}
 use Rattle.dcv_tokens.specs.Limits.{longest_word}
+use Rattle.dcv_language.specs.Limits.{most_variables, most_states, most_nodes}
 use Rattle.dcv_automaton_text.specs.File.{Target, ToState, ToNode, NodeLine, StateLine, Access, EmptyAccess, StartAccess, AfterAccess, AccessLine}
 use Rattle.dcv_automaton_text.specs.File.{Suffix, EmptySuffix, ThenSuffix, SuffixLine, StepLine, StepPart, AutomatonFile}
 use Rattle.dcv_automaton_text.specs.Spelled.{node_words, state_words, access_words, suffix_words, step_words, steps_words, head_lines, end_lines}
-
-abbrev pub most_names : ℕ
-most_names = 16
-
-abbrev pub most_states : ℕ
-most_states = 32000
-
-abbrev pub most_nodes : ℕ
-most_nodes = 1000000
 
 -- as many as a requirement of the greatest size has, and a place in a source of 262,144 bytes
 abbrev pub most_steps : ℕ
@@ -44,7 +35,7 @@ is_listed names name = list_any (bytes_eq name) names
 
 -- a name that is not too long, not too many, and not one of the names before it
 abbrev pub keeps_name : List (List ℕ) → ℕ → List ℕ → Bool
-keeps_name names place name = nat_lt place most_names && is_name name && nat_le (length name) longest_word && not (is_listed (take place names) name)
+keeps_name names place name = nat_lt place most_variables && is_name name && nat_le (length name) longest_word && not (is_listed (take place names) name)
 
 pub record IsPlainName (name : List ℕ) : Type 0 where
   pub form : IsTrue (is_name name)
@@ -52,7 +43,7 @@ pub record IsPlainName (name : List ℕ) : Type 0 where
 
 -- names that keep the rules
 pub record AreNames (names : List (List ℕ)) : Type 0 where
-  pub count : length names ≤ most_names
+  pub count : length names ≤ most_variables
   pub each : All IsPlainName names
   pub differ : AllPairs ◌≢◌ names
 

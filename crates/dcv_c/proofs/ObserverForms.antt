@@ -11,6 +11,7 @@ use Rattle.dcv_automaton_text.specs.File.{Target, ToState, ToNode, NodeLine, Sta
 use Rattle.dcv_automaton_text.specs.Rules.{IsPlainName}
 use Rattle.dcv_automaton_text.proofs.Words.{digits_are}
 use Rattle.dcv_lexer.specs.Lexicon.{is_word, is_word_byte, word_class}
+use Rattle.dcv_language.specs.Limits.{most_states, most_nodes}
 use Rattle.dcv_observer.specs.Classes.{name as plain_name, is_short_word, class_of}
 use Rattle.dcv_observer.proofs.Limits.{short_word}
 use Rattle.dcv_observer.specs.Naming.{is_among}
@@ -61,7 +62,7 @@ digits_are_word_bytes (d ∷ digits) h =
     let parts = and_parts (is_ascii_digit d) (list_all is_ascii_digit digits) h in
     and_from (is_word_byte d) _ (or_left (is_ascii_alphabetic d || is_ascii_digit d) _ (or_right (is_ascii_alphabetic d) _ parts.0)) (digits_are_word_bytes digits parts.1)
 
-pub node_is : (n : ℕ) → n < 1000000 → IsName (node_name n)
+pub node_is : (n : ℕ) → n < most_nodes → IsName (node_name n)
 unfolding lexicon
 node_is n small =
     plain_word (node_name n) (digits_are_word_bytes (decimal n) (digits_are n (omega arith)))
@@ -82,12 +83,12 @@ listed_is (n ∷ names) name are among =
 
 -- ---- statements
 
-module _ (most : ℕ) (few : most ≤ 32000) where
-  item_is : (nodes : ℕ) (target : Target) → nodes ≤ 1000000 → IsBelow most nodes target → IsItem (item_of target)
+module _ (most : ℕ) (few : most ≤ most_states) where
+  item_is : (nodes : ℕ) (target : Target) → nodes ≤ most_nodes → IsBelow most nodes target → IsItem (item_of target)
   item_is nodes (ToState state) small below = omega (arith, below)
   item_is nodes (ToNode number) small below = node_is number (omega (arith, below))
 
-  rows_are : (nodes : ℕ) → nodes ≤ 1000000 → (state : ℕ) (rows : List StateLine) → GoodRows most nodes state rows → state + length rows ≤ 32000
+  rows_are : (nodes : ℕ) → nodes ≤ most_nodes → (state : ℕ) (rows : List StateLine) → GoodRows most nodes state rows → state + length rows ≤ most_states
       → AllByRecursion IsStatement (map state_statement rows)
   rows_are nodes small state [] good within = tt
   rows_are nodes small state (row ∷ rows) good within = (
@@ -95,7 +96,7 @@ module _ (most : ℕ) (few : most ≤ 32000) where
     rows_are nodes small (state + 1) rows good.1 (omega (arith, within)),
   )
 
-  tests_are : (nodes state : ℕ) (lines : List StateLine) → GoodRows most nodes state lines → state + length lines ≤ 32000
+  tests_are : (nodes state : ℕ) (lines : List StateLine) → GoodRows most nodes state lines → state + length lines ≤ most_states
       → AllByRecursion IsTest (accepting_tests lines)
   tests_are nodes state [] good within = tt
   tests_are nodes state (line ∷ lines) good within =
@@ -111,11 +112,11 @@ module _ (most : ℕ) (few : most ≤ 32000) where
   returned_is (test ∷ tests) are = (omega arith, are)
 
   module _ (names : List (List ℕ)) (are : AllByRecursion IsPlainName names) where
-    lines_are : (number : ℕ) (lines : List NodeLine) → number + length lines ≤ 1000000 → GoodLines names most number lines
+    lines_are : (number : ℕ) (lines : List NodeLine) → number + length lines ≤ most_nodes → GoodLines names most number lines
         → AllByRecursion IsStatement (map node_statement lines)
     lines_are number [] small good = tt
     lines_are number (line ∷ lines) small good =
-        let below : number ≤ 1000000 = omega (arith, small) in (
+        let below : number ≤ most_nodes = omega (arith, small) in (
           (
             node_is line.number (omega (arith, small, good.0.number_is)),
             (listed_is names line.name are good.0.listed, item_is number line.hi below good.0.hi, item_is number line.lo below good.0.lo),
@@ -123,7 +124,7 @@ module _ (most : ℕ) (few : most ≤ 32000) where
           lines_are (number + 1) lines (omega (arith, small)) good.1,
         )
 
-    locals_are : (number : ℕ) (lines : List NodeLine) → number + length lines ≤ 1000000 → GoodLines names most number lines
+    locals_are : (number : ℕ) (lines : List NodeLine) → number + length lines ≤ most_nodes → GoodLines names most number lines
         → AllByRecursion IsName (map node_local lines)
     locals_are number [] small good = tt
     locals_are number (line ∷ lines) small good =

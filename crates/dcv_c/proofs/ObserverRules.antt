@@ -6,6 +6,7 @@ use Rattle.std.specs.Prelude.{bytes_eq, nat_lt}
 use Rattle.std.specs.List.{filter}
 use Rattle.std.proofs.lemmas.Bool.{cases_lt, or_cases, and_from, false_from_ne_true, false≢true, both_ways, lt-ltb}
 use Rattle.std.proofs.lemmas.List.{length-map}
+use Rattle.dcv_language.specs.Limits.{most_nodes}
 use Rattle.dcv_automaton_text.specs.File.{Target, ToState, ToNode, NodeLine, StateLine, AutomatonFile}
 use Rattle.dcv_observer.specs.Naming.{is_among, AreDistinct}
 use Rattle.dcv_observer.proofs.Naming.{Name, one_name, among_here, among_later, among_append_cases}
@@ -181,7 +182,7 @@ module _ (file : AutomatonFile) (good : IsObservable file) where
             each_node (λ name. is_among (first ++ parameters) name ≡ false) (λ k. not_before (node_name k) refl (λ other. refl)) 0 file.node_lines name node
       ]
 
-  few_nodes : length file.node_lines ≤ 1000000
+  few_nodes : length file.node_lines ≤ most_nodes
   few_nodes = good.few_lines
 
   locals_distinct : AreDistinct (next_name ∷ node_names 0 file.node_lines)

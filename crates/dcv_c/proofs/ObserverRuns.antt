@@ -6,6 +6,7 @@ use Rattle.std.specs.Prelude.{bytes_eq}
 use Rattle.std.specs.List.{list_any}
 use Rattle.std.proofs.lemmas.Bool.{cases_lt}
 use Rattle.std.proofs.lemmas.List.{length_push, get_or_append_left, get_or_push}
+use Rattle.dcv_language.specs.Limits.{most_nodes}
 use Rattle.dcv_automaton_text.specs.File.{Target, ToState, ToNode, NodeLine, StateLine}
 use Rattle.dcv_automaton_text.specs.Meaning.{state_at}
 use Rattle.dcv_automaton_text.specs.Rules.{slot_of}
@@ -33,7 +34,7 @@ module _ (names : List Name) (letter : List Bool) (state : ℕ) where
     pub parameters : (name : Name) → is_among names name ≡ true → now (parameter_name name) ≡ truth_number (get_or letter (slot_of names name) false)
     pub nodes : (k : ℕ) → k < length states → now (node_name k) ≡ get_or states k 0
 
-  pub stands_with_next : (now : Numbers) (states : List ℕ) (number : ℕ) → length states ≤ 1000000 → Stands now states → Stands (assigned now next_name number) states
+  pub stands_with_next : (now : Numbers) (states : List ℕ) (number : ℕ) → length states ≤ most_nodes → Stands now states → Stands (assigned now next_name number) states
   stands_with_next now states number few stands =
       record {
         state_is = stands.state_is;
@@ -41,7 +42,7 @@ module _ (names : List Name) (letter : List Bool) (state : ℕ) where
         nodes = λ k within. assigned_elsewhere now next_name number (node_name k) (node_is_not_next k (omega (arith, within, few))) ∙ stands.nodes k within;
       }
 
-  stands_with_node : (now : Numbers) (states : List ℕ) (number : ℕ) → length states ≤ 1000000 → Stands now states
+  stands_with_node : (now : Numbers) (states : List ℕ) (number : ℕ) → length states ≤ most_nodes → Stands now states
       → Stands (assigned now (node_name (length states)) number) (states ++ number ∷ [])
   stands_with_node now states number few stands =
       record {
@@ -81,7 +82,7 @@ module _ (names : List Name) (letter : List Bool) (state : ℕ) where
   choice_stands now states most false hi lo stands hi_below lo_below = item_stands now states most lo stands lo_below
 
   pub nodes_stand : (most : ℕ) (lines : List NodeLine) (states : List ℕ) (number : ℕ) (now : Numbers) → number ≡ length states
-      → number + length lines ≤ 1000000 → GoodLines names most number lines → Stands now states
+      → number + length lines ≤ most_nodes → GoodLines names most number lines → Stands now states
       → Stands (fold executed now (map node_statement lines)) (fold step states lines)
   nodes_stand most [] states number now at few good stands = stands
   nodes_stand most (line ∷ lines) states number now at few good stands =
@@ -121,7 +122,7 @@ module _ (names : List Name) (letter : List Bool) (state : ℕ) where
       let one = row_passed now row is (λ same. omega (arith, same, number, before)) in
       ap (λ after. fold executed after (map state_statement rows)) one ∙ rows_passed most nodes rows (first + 1) good.1 (omega (arith, before)) now is
 
-  pub rows_lead : (states : List ℕ) (most : ℕ) (rows : List StateLine) (first place : ℕ) → length states ≤ 1000000 → GoodRows most (length states) first rows
+  pub rows_lead : (states : List ℕ) (most : ℕ) (rows : List StateLine) (first place : ℕ) → length states ≤ most_nodes → GoodRows most (length states) first rows
       → place < length rows → state ≡ first + place → (now : Numbers) → Stands now states
       → LeadsTo (fold executed now (map state_statement rows)) states (state_at states (get_or rows place no_row).row)
   rows_lead states most [] first place few good within at now stands = absurd (omega (arith, within))

@@ -7,6 +7,7 @@
 use Rattle.std.specs.Prelude.{◌≡◌, ℕ, ◌+◌, Bool, true, not, ◌&&◌, nat_lt, IsTrue, List, [], ◌∷◌, ◌++◌, Some, map}
 use Rattle.std.specs.List.{list_all, flat_map}
 use Rattle.dcv_lexer.specs.Cuts.{Token}
+use Rattle.dcv_language.specs.Limits.{most_variables}
 use Rattle.dcv_observer.specs.Naming.{is_among}
 use Rattle.dcv_observer.specs.Subsets.{first_broken}
 use Rattle.dcv_c.specs.Tree.{Item, Constant, Named, Condition, Holds, Equals, Test, Right, Plain, Chosen, Statement, Assign, When}
@@ -15,7 +16,7 @@ use Rattle.dcv_c.specs.Placed.{PlacedUnit, PlacedAssignment, PlacedStatement, Pl
 use Rattle.dcv_c.specs.Placed.{PlacedReturned, PlacedFixed, PlacedRead, PlacedTested, PlacedTest, unit_of}
 
 abbrev pub most_parameters : ℕ
-most_parameters = 16
+most_parameters = most_variables
 
 -- ---- names that are declared
 

@@ -1,9 +1,10 @@
 // The text of an automaton's observer, put from the automaton's lines. No tree of it is made.
 ghost use Rattle.std.specs.Prelude.{◌≡◌, ◌≤◌, List, length};
 ghost use Rattle.dcv_io.specs.Putting.{Puts};
+ghost use Rattle.dcv_language.specs.Limits.{most_states, most_nodes};
 ghost use Rattle.dcv_dfa.specs.NodeLines.{node_lines_of};
 ghost use Rattle.dcv_dfa.specs.Auto.{count_of_nodes};
-ghost use Rattle.dcv_automaton_text.specs.Rules.{AreNames, most_states, most_nodes};
+ghost use Rattle.dcv_automaton_text.specs.Rules.{AreNames};
 ghost use Rattle.dcv_automaton_text.specs.File.{AccessLine, SuffixLine};
 ghost use Rattle.dcv_automaton_file.specs.File.{texts_of, file_of};
 ghost use Rattle.dcv_c.specs.Layout.{text_of};

@@ -27,6 +27,7 @@ use Rattle.dcv_print.specs.Automaton.{IsAutomatonOf}
 use Rattle.dcv_automaton_read.specs.File.{step_line, step_part as step_part_of}
 use Rattle.dcv_print.proofs.SuffixCounts.{suffixes_are_few}
 use Rattle.dcv_word.specs.Behaviour.{Word}
+use Rattle.dcv_language.specs.Limits.{most_states}
 use Rattle.dcv_cli.specs.Refusal.{most_automaton_bytes}
 
 -- ---- words of a line
@@ -231,7 +232,7 @@ module _ (k : ℕ) (L : Language) (names : List (List ℕ)) (file : AutomatonFil
   are : AreNames file.names
   are = subst AreNames (sym is.variables) are_names
 
-  few_suffixes : length file.suffix_lines ≤ 32000
+  few_suffixes : length file.suffix_lines ≤ most_states
   unfolding suffix_words_of
   few_suffixes =
       let words = access_words_of file in

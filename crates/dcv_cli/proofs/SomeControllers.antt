@@ -18,6 +18,7 @@ use Rattle.dcv_language.specs.Canonical.{IsCanonical}
 use Rattle.dcv_language.specs.Language.{Language}
 use Rattle.dcv_language.specs.Table.{Table, table_accepts, automaton_of}
 use Rattle.std.specs.List.{All}
+use Rattle.dcv_language.specs.Limits.{most_states, most_nodes}
 use Rattle.dcv_synth.specs.Control.{ControlValue, controller_by}
 use Rattle.dcv_synth.specs.Game.{Wins}
 use Rattle.dcv_synth.specs.Laws.{HeldStatesAreNotBeaten, UnbeatenStatesAreWin, UnbeatenStatesAreHeld, ControlsWin, StrategiesBeat, WinsOverSameBehaviours, BeatsOverSameBehaviours, HasUnit, UnitsKeepTheRules, UnitsWin}
@@ -75,7 +76,7 @@ module _ (laws : GameLaws) (n m : ℕ) (L : Language) (table : Table) (access : 
   -- ---- a controller
 
   module _ (names : List (List ℕ)) (are : AreNames names) (inputs : length names ≡ n) where
-    has_unit : (control : ControlValue) → IsControlFor n m table control → node_count (n + m) (rows_of table) ≤ 1000000 → HasUnit names control
+    has_unit : (control : ControlValue) → IsControlFor n m table control → node_count (n + m) (rows_of table) ≤ most_nodes → HasUnit names control
     has_unit control is few = record {
       is_control = is.is;
       are_names = are;
@@ -114,7 +115,7 @@ module _ (laws : GameLaws) (n m : ℕ) (L : Language) (table : Table) (access : 
 
     -- ---- one of the two
 
-    pub some_synthesis_of : m ≤ 8 → length table ≤ 32000 → node_count (n + m) (rows_of table) ≤ 1000000
+    pub some_synthesis_of : m ≤ 8 → length table ≤ most_states → node_count (n + m) (rows_of table) ≤ most_nodes
         → (outcome : Outcome) × IsSynthesis n m L names outcome
     some_synthesis_of outputs states nodes = elim (some_synthesis laws.not_beaten laws.win laws.held n m table canonical.states.nonempty (omega arith)) [
       | inl realisable ↦

@@ -15,6 +15,7 @@ use Rattle.dcv_scope.specs.Faults.{fault_of_file}
 use Rattle.dcv_scope.specs.Laws.{WordsAreModels}
 use Rattle.dcv_syntax.specs.Plain.{PlainFile}
 use Rattle.dcv_syntax.specs.declared.names.Name.{Name}
+use Rattle.dcv_language.specs.Limits.{most_states, most_nodes}
 use Rattle.dcv_cli.specs.declared.refusal.Refusal.TheVariants.{Formula}
 use Rattle.dcv_cli.specs.declared.faults.FormulaFault.TheVariants.{Outputs}
 use Rattle.dcv_cli.specs.declared.refused.Which.TheVariants.{Only}
@@ -34,7 +35,7 @@ inputs_named n names within =
     omega (arith, length-take n (texts_of names))
 
 module _ (laws : WordLaws) (accept : MachineAcceptsStep) (models_are : WordsAreModels) (game : GameLaws) where
-  module _ (inputs : ℕ) (limits : Limits) (file : PlainFile) (few_states : limits.states ≤ 32000) (few_nodes : limits.nodes ≤ 1000000)
+  module _ (inputs : ℕ) (limits : Limits) (file : PlainFile) (few_states : limits.states ≤ most_states) (few_nodes : limits.nodes ≤ most_nodes)
       (named : AreNames (texts_of file.variables)) (none : fault_of_file file ≡ None) where
     abbrev k : ℕ
     k = length file.variables

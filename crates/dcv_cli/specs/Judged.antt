@@ -8,7 +8,7 @@ use Rattle.dcv_logic.specs.Models.{models}
 use Rattle.dcv_language.specs.Language.{Language}
 use Rattle.dcv_language.specs.Verdict.{IsVerdict}
 use Rattle.dcv_explore.specs.declared.explorer.Limits.{Limits}
-use Rattle.dcv_automaton_text.specs.Rules.{AreNames, most_states, most_nodes}
+use Rattle.dcv_automaton_text.specs.Rules.{AreNames}
 use Rattle.dcv_dfa.specs.Auto.{count_of_nodes}
 use Rattle.dcv_build.specs.Budget.{IsAutomatonOf, IsWithinBudget}
 use Rattle.dcv_build.specs.Counts.{AreCounts}
@@ -17,6 +17,7 @@ use Rattle.dcv_print.specs.Counts.{ArePrintableCounts}
 use Rattle.dcv_print.specs.Printed.{texts_of}
 use Rattle.dcv_print.specs.Report.{ReportValue}
 use Rattle.dcv_language.specs.declared.kind.Kind.{Kind}
+use Rattle.dcv_language.specs.Limits.{most_states, most_nodes}
 use Rattle.dcv_cli.specs.Budget.{steps_of_file}
 use Rattle.dcv_cli.specs.FormulaFile.{IsFormulaFile}
 use Rattle.dcv_cli.specs.Report.{Says}

@@ -1,7 +1,8 @@
 // What there is of a formula file that is not refused, and the report on it.
 ghost use Rattle.std.specs.Prelude.{◌≡◌, ◌≤◌, ℕ, length, IfOk};
 ghost use Rattle.dcv_language.specs.Language.{Language};
-ghost use Rattle.dcv_automaton_text.specs.Rules.{AreNames, most_states, most_nodes};
+ghost use Rattle.dcv_language.specs.Limits.{most_states, most_nodes};
+ghost use Rattle.dcv_automaton_text.specs.Rules.{AreNames};
 ghost use Rattle.dcv_dfa.specs.Auto.{count_of_nodes};
 ghost use Rattle.dcv_build.specs.Budget.{IsAutomatonOf};
 ghost use Rattle.dcv_print.specs.Printed.{texts_of};

@@ -10,13 +10,14 @@ use crate::replying::{Reply, send};
 use crate::status::Status;
 use dcv_explore::Limits;
 use dcv_io::{Sink, Target};
+use dcv_language::MOST_NODES;
 use dcv_sweep::{Summary, sweep};
 use std::alloc::Global;
 
 // Each formula is built within these.
 const LIMITS: Limits = Limits {
     states: 30_000,
-    nodes: 1_000_000,
+    nodes: MOST_NODES,
 };
 
 /// Writes the counts over so many formulas that are drawn from the seed. The files stay as they are.

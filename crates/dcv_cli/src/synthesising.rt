@@ -3,7 +3,7 @@ ghost use Rattle.std.specs.Prelude.{◌≡◌, ◌≤◌, ◌<◌, ◌-◌, ◌�
 ghost use Rattle.std.specs.List.{flat_map};
 ghost use Rattle.dcv_io.specs.Putting.{Puts};
 ghost use Rattle.dcv_language.specs.Language.{Language};
-ghost use Rattle.dcv_automaton_text.specs.Rules.{most_nodes};
+ghost use Rattle.dcv_language.specs.Limits.{most_nodes};
 ghost use Rattle.dcv_dfa.specs.Raw.{automaton_of};
 ghost use Rattle.dcv_build.specs.Budget.{IsAutomatonOf};
 ghost use Rattle.dcv_automaton_file.specs.File.{texts_of};

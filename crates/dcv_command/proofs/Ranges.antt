@@ -10,8 +10,9 @@ use Rattle.clap.specs.declared.builder.value_parser.ValueParser.TheVariants.{Uns
 use Rattle.clap.proofs.ValueTestLemmas.{accepts-Accepts}
 use Rattle.dcv_language.specs.declared.kind.Kind.{Kind}
 use Rattle.dcv_language.specs.declared.kind.Kind.TheVariants.{Check, Automaton, Lustre, C, All}
+use Rattle.dcv_language.specs.Limits.{most_states, most_nodes}
 use Rattle.dcv_command.specs.Request.{AreInRange, IsInRange, asked_in, asked_of, number_of, request_among, request_of_subcommand, value_in}
-use Rattle.dcv_command.specs.Table.{Argument, Asks, Command, Of, Request, Value, FileName, Number, commands, limits_of, most_states, most_nodes, report}
+use Rattle.dcv_command.specs.Table.{Argument, Asks, Command, Of, Request, Value, FileName, Number, commands, limits_of, report}
 
 number_is_in_range : (least most : ℕ) (text : Option Text) (number : ℕ) → option_and_then (number_of least most) text ≡ Some number
     → (least ≤ number) × (number ≤ most)

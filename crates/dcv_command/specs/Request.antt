@@ -17,7 +17,8 @@ use Rattle.clap.specs.ValueTests.{is_unsigned_in}
 use Rattle.dcv_explore.specs.declared.explorer.Limits.{Limits}
 use Rattle.dcv_command.specs.Program.{program}
 use Rattle.dcv_command.specs.Table.{Argument, Asks, Command, Of, Value, FileName, Number, commands}
-use Rattle.dcv_command.specs.Table.{most_states, most_nodes, most_inputs, most_seed, most_count}
+use Rattle.dcv_language.specs.Limits.{most_states, most_nodes}
+use Rattle.dcv_command.specs.Table.{most_inputs, most_seed, most_count}
 pub use Rattle.dcv_command.specs.Table.{Request, Report, Certify, Convert, Implies, Synth, Replay, Sweep}
 
 abbrev pub files_of : Request → List (List ℕ)

@@ -1,6 +1,6 @@
 -- The commands of the program in one table: what each is called, its arguments, and what their values ask for.
 --     Request             a thing that the program does
---     most_states         the greatest numbers that may be given: states and diagram nodes of a step, the version of a text, inputs,
+--     most_version        the greatest numbers that may be given, beside those of states and nodes: the version of a text, inputs,
 --                         the seed and the count of formulas that are drawn
 --     Value               what is given for an argument: the name of a file, which is any text, or a whole number from the least to the most
 --     Form                how it is given: by its place, by an option that has to be there, or by one that has a default
@@ -13,6 +13,8 @@
 use Rattle.std.specs.Prelude.{ℕ, List, [], ◌∷◌, if◌then◌else◌, ◌==◌, codes}
 use Rattle.std.specs.Str.Parse.{digits_value, without_leading_plus}
 use Rattle.clap.specs.Words.{Text}
+use Rattle.dcv_language.specs.Limits.{most_states, most_nodes}
+use Rattle.dcv_command.specs.declared.program.TheConstants.{MOST_VERSION, MOST_INPUTS, MOST_SEED, MOST_COUNT}
 use Rattle.dcv_explore.specs.declared.explorer.Limits.{Limits}
 use Rattle.dcv_language.specs.declared.kind.Kind.{Kind}
 use Rattle.dcv_language.specs.declared.kind.Kind.TheVariants.{Check, Automaton, Lustre, C, All}
@@ -37,23 +39,17 @@ pub data Request : Type 0 where
   -- a summary over so many formulas that are drawn from the seed
   Sweep : (seed count : ℕ) → Request
 
-abbrev pub most_states : ℕ
-most_states = 32000
-
-abbrev pub most_nodes : ℕ
-most_nodes = 1000000
-
 abbrev pub most_version : ℕ
-most_version = 2
+most_version = MOST_VERSION
 
 abbrev pub most_inputs : ℕ
-most_inputs = 16
+most_inputs = MOST_INPUTS
 
 abbrev pub most_seed : ℕ
-most_seed = 2147483647
+most_seed = MOST_SEED
 
 abbrev pub most_count : ℕ
-most_count = 1000
+most_count = MOST_COUNT
 
 -- ---- arguments
 

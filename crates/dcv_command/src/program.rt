@@ -7,6 +7,7 @@ ghost use Rattle.dcv_command.specs.Seen.{argument_seen, form_seen, shape_seen, v
 
 use clap::builder::ValueParser;
 use clap::{Arg, Command};
+use dcv_language::{MOST_NODES, MOST_STATES, MOST_VARIABLES};
 use std::alloc::{AllocError, Global};
 
 const ABOUT: &str =
@@ -46,17 +47,11 @@ Status:
   9  the file holds no observer's text, for the fault that is named
  10  the file holds no automaton's text, for the fault that is named";
 
-/// The most states of a step that may be asked for.
-pub(crate) const MOST_STATES: u32 = 32_000;
-
-/// The most diagram nodes of a step that may be asked for.
-pub(crate) const MOST_NODES: u32 = 1_000_000;
-
 /// The greatest version of an automaton's text.
 pub(crate) const MOST_VERSION: u32 = 2;
 
 /// The most inputs that may be asked for.
-pub(crate) const MOST_INPUTS: u32 = 16;
+pub(crate) const MOST_INPUTS: u32 = MOST_VARIABLES as u32;
 
 /// The greatest seed that formulas may be drawn from.
 pub(crate) const MOST_SEED: u32 = 2_147_483_647;

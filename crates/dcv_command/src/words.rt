@@ -8,13 +8,11 @@ ghost use Rattle.dcv_command.specs.Table.{report, certify, convert, implies, syn
 ghost use Rattle.dcv_command.specs.declared.words.WordsFault.TheVariants.{Memory};
 ghost use Rattle.dcv_command.specs.Seen.{asked_by, IsUsageOnlyWhere};
 
-use crate::program::{
-    MOST_COUNT, MOST_INPUTS, MOST_NODES, MOST_SEED, MOST_STATES, MOST_VERSION, program,
-};
+use crate::program::{MOST_COUNT, MOST_INPUTS, MOST_SEED, MOST_VERSION, program};
 use clap::ArgMatches;
 use clap::error::ErrorKind;
 use dcv_explore::Limits;
-use dcv_language::Kind;
+use dcv_language::{Kind, MOST_NODES, MOST_STATES};
 use std::alloc::{AllocError, Global};
 use std::convert::AsStr;
 use std::fmt::Display;

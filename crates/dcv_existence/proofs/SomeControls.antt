@@ -16,6 +16,7 @@ use Rattle.dcv_arena.specs.Diagram.{node_count}
 use Rattle.dcv_arena.proofs.Members.{Contains-filter, Contains-filter_cases, Contains-range, Contains-range_cases}
 use Rattle.dcv_language.proofs.Behaviours.{some_track-same}
 use Rattle.dcv_language.specs.Table.{TableState, Table, IsTable, no_state, automaton_of, next_in}
+use Rattle.dcv_language.specs.Limits.{number_bound}
 use Rattle.dcv_synth.specs.Tracks.{least_track}
 use Rattle.dcv_synth.specs.Realisable.{IsRealisable}
 use Rattle.dcv_synth.specs.Play.{answer_of, IsStartOr}
@@ -147,18 +148,18 @@ module _ (n m : ℕ) (table : Table) (is : IsTable (n + m) table) (can : IsReali
   output_nodes : node_count n (tables_for n chosen output) ≤ node_count (n + m) (rows_of table)
   output_nodes = merged_rows_no_more n m (output_of m win) (output_merges m win) table is chosen chosen_below
 
-  pub some_control : n ≤ 32 → m ≤ 8 → length table ≤ 32768 → node_count (n + m) (rows_of table) < 2 ^ 32
+  pub some_control : n ≤ 32 → m ≤ 8 → length table ≤ number_bound → node_count (n + m) (rows_of table) < 2 ^ 32
       → (control : ControlValue) × IsControlFor n m table control
   some_control narrow few small fits =
-      let below : (state : ℕ) → state < length table → StaysBelow n 32768 next state = λ state inside input size. omega (arith, next_below state inside input size) in
-      let all_below = All-weaker (λ state. state < length table) (StaysBelow n 32768 next) below chosen chosen_below in
-      let (nexts, nexts_are) = some_rows n 32768 chosen next narrow all_below (omega (arith, next_nodes)) in
+      let below : (state : ℕ) → state < length table → StaysBelow n number_bound next state = λ state inside input size. omega (arith, next_below state inside input size) in
+      let all_below = All-weaker (λ state. state < length table) (StaysBelow n number_bound next) below chosen chosen_below in
+      let (nexts, nexts_are) = some_rows n number_bound chosen next narrow all_below (omega (arith, next_nodes)) in
       let (outputs, outputs_are) = some_rows n 256 chosen output narrow (λ place d within. output_below few (get_or chosen place d)) (omega (arith, output_nodes)) in (
         record { states = chosen; next = nexts; output = outputs },
         record {
           is = record {
             in_order = AllPairs-filter (λ (one other : ℕ). one < other) is_chosen (range_with_len 0 (length table)) (range_in_order (length table));
-            below = All-weaker (λ state. state < length table) (λ state. state < 32768) (λ state inside. omega arith) chosen chosen_below;
+            below = All-weaker (λ state. state < length table) (λ state. state < number_bound) (λ state inside. omega arith) chosen chosen_below;
             next = nexts_are.below;
             output = outputs_are.below;
             inputs = outputs_are.rows_of.slots ∙ sym nexts_are.rows_of.slots;

@@ -10,6 +10,8 @@ pub mod Apart
 pub mod Canonical
 pub mod Complement
 pub mod Certificate
+-- How large an automaton may be.
+pub mod Limits
 -- Operations on sets, and the rows of the machines that accept them: clauses of the machines and of the budget cite these.
 pub mod Atoms
 pub mod Operations

@@ -12,11 +12,15 @@
 #![tactic(auto)]
 
 mod certificate;
+mod child;
 mod count;
 mod kind;
 pub mod laws;
+mod limits;
 pub mod machine_laws;
 
 pub use certificate::{Access, Suffix};
+pub use child::Child;
 pub use count::Count;
 pub use kind::Kind;
+pub use limits::{MOST_NODES, MOST_STATES, MOST_VARIABLES};

@@ -14,6 +14,7 @@ use Rattle.dcv_automaton_text.specs.File.{Target, ToState, ToNode, NodeLine, Sta
 use Rattle.dcv_automaton_text.specs.Rules.{IsPlainName}
 use Rattle.dcv_automaton_text.proofs.Words.{digits_are}
 use Rattle.dcv_lexer.specs.Lexicon.{is_word, is_word_byte, word_class}
+use Rattle.dcv_language.specs.Limits.{most_states, most_nodes}
 use Rattle.dcv_observer.specs.Classes.{name as plain_name, is_short_word, class_of}
 use Rattle.dcv_observer.proofs.Limits.{short_word}
 use Rattle.dcv_observer.specs.Naming.{is_among}
@@ -70,12 +71,12 @@ digits_are_word_bytes (d ∷ digits) h =
     and_from (is_word_byte d) _ (or_left (is_ascii_alphabetic d || is_ascii_digit d) _ (or_right (is_ascii_alphabetic d) _ parts.0)) (digits_are_word_bytes digits parts.1)
 
 -- no decimal is what stands after the `n` of `node`
-no_ode : (n : ℕ) → n < 1000000 → bytes_eq (decimal n) (codes "ode") ≡ false
+no_ode : (n : ℕ) → n < most_nodes → bytes_eq (decimal n) (codes "ode") ≡ false
 no_ode n small =
     differs (decimal n) (codes "ode") (λ same.
     omega (arith, digit_from_value 111 (subst (AllDigits 10) same (decimal_is_IsNumeral n (omega arith)).0.1).0))
 
-node_is : (n : ℕ) → n < 1000000 → IsName (node_name n)
+node_is : (n : ℕ) → n < most_nodes → IsName (node_name n)
 unfolding lexicon
 node_is n small =
     plain_word (node_name n) (digits_are_word_bytes (decimal n) (digits_are n (omega arith)))
@@ -92,12 +93,12 @@ inputs_are (name ∷ names) are = each (name ∷ names) are
 
 -- ---- equations
 
-module _ (most : ℕ) (few : most ≤ 32000) where
-  item_is : (nodes : ℕ) (target : Target) → nodes ≤ 1000000 → IsBelow most nodes target → IsItem (item_of target)
+module _ (most : ℕ) (few : most ≤ most_states) where
+  item_is : (nodes : ℕ) (target : Target) → nodes ≤ most_nodes → IsBelow most nodes target → IsItem (item_of target)
   item_is nodes (ToState state) small below = omega (arith, below)
   item_is nodes (ToNode number) small below = node_is number (omega (arith, below))
 
-  arms_are : (nodes : ℕ) → nodes ≤ 1000000 → (state : ℕ) (rows : List StateLine) → GoodRows most nodes state rows → state + length rows ≤ 32000
+  arms_are : (nodes : ℕ) → nodes ≤ most_nodes → (state : ℕ) (rows : List StateLine) → GoodRows most nodes state rows → state + length rows ≤ most_states
       → AllByRecursion IsArm (row_arms rows)
   arms_are nodes small state [] good within = tt
   arms_are nodes small state (row ∷ []) good within = tt
@@ -106,12 +107,12 @@ module _ (most : ℕ) (few : most ≤ 32000) where
     arms_are nodes small (state + 1) (next ∷ rows) good.1 (omega (arith, within)),
   )
 
-  last_is : (nodes : ℕ) → nodes ≤ 1000000 → (state : ℕ) (rows : List StateLine) → GoodRows most nodes state rows → IsItem (item_of (last_row rows))
+  last_is : (nodes : ℕ) → nodes ≤ most_nodes → (state : ℕ) (rows : List StateLine) → GoodRows most nodes state rows → IsItem (item_of (last_row rows))
   last_is nodes small state [] good = omega arith
   last_is nodes small state (row ∷ []) good = item_is nodes row.row small good.0.row
   last_is nodes small state (row ∷ next ∷ rows) good = last_is nodes small (state + 1) (next ∷ rows) good.1
 
-  tests_are : (nodes state : ℕ) (lines : List StateLine) → GoodRows most nodes state lines → state + length lines ≤ 32000
+  tests_are : (nodes state : ℕ) (lines : List StateLine) → GoodRows most nodes state lines → state + length lines ≤ most_states
       → AllByRecursion IsTest (accepting_tests lines)
   tests_are nodes state [] good within = tt
   tests_are nodes state (line ∷ lines) good within =
@@ -135,11 +136,11 @@ module _ (most : ℕ) (few : most ≤ 32000) where
           | inr later ↦ listed_is names name are.1 later
         ]
 
-    lines_are : (number : ℕ) (lines : List NodeLine) → number + length lines ≤ 1000000 → GoodLines names most number lines
+    lines_are : (number : ℕ) (lines : List NodeLine) → number + length lines ≤ most_nodes → GoodLines names most number lines
         → AllByRecursion IsEquation (map node_equation lines)
     lines_are number [] small good = tt
     lines_are number (line ∷ lines) small good =
-        let below : number ≤ 1000000 = omega (arith, small) in (
+        let below : number ≤ most_nodes = omega (arith, small) in (
           record {
             left = node_is line.number (omega (arith, small, good.0.number_is));
             right = (
@@ -150,7 +151,7 @@ module _ (most : ℕ) (few : most ≤ 32000) where
           lines_are (number + 1) lines (omega (arith, small)) good.1,
         )
 
-    locals_are : (number : ℕ) (lines : List NodeLine) → number + length lines ≤ 1000000 → GoodLines names most number lines
+    locals_are : (number : ℕ) (lines : List NodeLine) → number + length lines ≤ most_nodes → GoodLines names most number lines
         → AllByRecursion (λ (local : Local). IsName local.name) (map node_local lines)
     locals_are number [] small good = tt
     locals_are number (line ∷ lines) small good =

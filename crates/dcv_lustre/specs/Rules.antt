@@ -7,6 +7,7 @@ use Rattle.std.specs.Prelude.{◌≡◌, ℕ, Bool, true, false, not, ◌&&◌, 
 use Rattle.std.specs.Prelude.{Some, length, map, take}
 use Rattle.std.specs.List.{list_all, flat_map, filter, enumerate_from}
 use Rattle.dcv_lexer.specs.Cuts.{Token}
+use Rattle.dcv_language.specs.Limits.{most_variables}
 use Rattle.dcv_observer.specs.Naming.{is_among}
 use Rattle.dcv_observer.specs.Subsets.{first_broken}
 use Rattle.dcv_lustre.specs.Tree.{Value, Truth, Number, Kind, OfTruth, OfNumber, Item, Constant, Named, Condition, Holds, Equals, Arm, Test, Right}
@@ -16,7 +17,7 @@ use Rattle.dcv_lustre.specs.Placed.{PlacedLocal, node_of}
 use Rattle.dcv_lustre.specs.Meaning.{ok, local_names, names_of}
 
 abbrev pub most_inputs : ℕ
-most_inputs = 16
+most_inputs = most_variables
 
 -- ---- kinds
 

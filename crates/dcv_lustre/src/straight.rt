@@ -2,10 +2,11 @@
 ghost use Rattle.std.specs.Prelude.{◌≡◌, ◌<◌, ◌≤◌, ◌++◌, List, length};
 ghost use Rattle.std.specs.List.{flat_map};
 ghost use Rattle.dcv_io.specs.Putting.{Puts};
+ghost use Rattle.dcv_language.specs.Limits.{most_states, most_nodes};
 ghost use Rattle.dcv_dfa.specs.NodeLines.{node_lines_of};
 ghost use Rattle.dcv_dfa.specs.Auto.{count_of_nodes};
 ghost use Rattle.dcv_dfa.specs.Raw.{RawValue};
-ghost use Rattle.dcv_automaton_text.specs.Rules.{AreNames, most_states, most_nodes};
+ghost use Rattle.dcv_automaton_text.specs.Rules.{AreNames};
 ghost use Rattle.dcv_automaton_text.specs.File.{AccessLine, SuffixLine};
 ghost use Rattle.dcv_automaton_file.specs.File.{texts_of, file_of, state_lines};
 ghost use Rattle.dcv_lustre.specs.Layout.{arm_text, item_text, text_of};

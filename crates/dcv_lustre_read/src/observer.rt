@@ -1,8 +1,9 @@
 // The observer of an automaton as a tree: its text, read back.
 ghost use Rattle.std.specs.Prelude.{◌≡◌, ◌≤◌, List, length, IfOk};
+ghost use Rattle.dcv_language.specs.Limits.{most_states, most_nodes};
 ghost use Rattle.dcv_automaton_file.specs.File.{texts_of, file_of};
 ghost use Rattle.dcv_automaton_text.specs.File.{AccessLine, SuffixLine};
-ghost use Rattle.dcv_automaton_text.specs.Rules.{AreNames, most_states, most_nodes};
+ghost use Rattle.dcv_automaton_text.specs.Rules.{AreNames};
 ghost use Rattle.dcv_dfa.specs.Auto.{count_of_nodes};
 ghost use Rattle.dcv_dfa.specs.Raw.{raw_accepts};
 ghost use Rattle.dcv_lustre.specs.Faults.{IsReadAs};

@@ -11,6 +11,7 @@ use Rattle.std.proofs.lemmas.List.Sums.{passes_at_first}
 use Rattle.std.proofs.lemmas.Option.{slice_get_within, get_or_from_slice_get}
 use Rattle.std.proofs.lemmas.Slice.Eq.{bytes_eq-Decides}
 use Rattle.dcv_word.specs.Letter.{letters_of_width}
+use Rattle.dcv_language.specs.Limits.{most_nodes}
 use Rattle.dcv_arena.specs.Arena.{ArenaValue, IsBefore, IsNodeAt, IsReduced, IsRef, function_at, function_of}
 use Rattle.dcv_arena.specs.Arena.{functions_of, level_of, value_of, node_of, table_of as arena_table}
 use Rattle.dcv_arena.specs.declared.nodes.Ref.{Ref}
@@ -20,7 +21,7 @@ use Rattle.dcv_dfa.specs.Raw.{RawValue, raw_value, IsRaw}
 use Rattle.dcv_dfa.proofs.States.{table_has_the_states, state-at as raw_state-at}
 use Rattle.dcv_automaton_text.specs.File.{Target, ToState, ToNode, NodeLine, StateLine, AutomatonFile}
 use Rattle.dcv_automaton_text.specs.Meaning.{state_at, states_at, state_of, table_of}
-use Rattle.dcv_automaton_text.specs.Rules.{most_nodes, slot_of, slot_of_node, is_listed, keeps_child, keeps_row, is_same_target, is_same_node}
+use Rattle.dcv_automaton_text.specs.Rules.{slot_of, slot_of_node, is_listed, keeps_child, keeps_row, is_same_target, is_same_node}
 use Rattle.dcv_automaton_text.proofs.GoodFiles.{same_target, IsGoodFile}
 use Rattle.dcv_automaton_text.proofs.GoodTables.{row_stands_below, length-table_of, no_line, state-at}
 use Rattle.dcv_automaton_text.proofs.Kept.{both}

@@ -14,10 +14,11 @@ use Rattle.dcv_dfa.specs.NodeLines.{AreReduced, node_lines_of, numbered}
 use Rattle.dcv_dfa.proofs.Reduced.{has_node_lines}
 use Rattle.dcv_language.specs.declared.certificate.Access.TheVariants.{Empty as NoLetters}
 use Rattle.dcv_language.specs.declared.certificate.Suffix.TheVariants.{Empty}
+use Rattle.dcv_language.specs.Limits.{most_variables, most_states, most_nodes}
 use Rattle.dcv_automaton_text.specs.File.{AutomatonFile}
 use Rattle.dcv_automaton_text.specs.Spelled.{name_words, node_words, state_words, access_words, suffix_words, step_words, steps_words}
 use Rattle.dcv_automaton_text.specs.Rules.{most_steps, most_start, keeps_steps, keeps_step, has_all_steps}
-use Rattle.dcv_automaton_text.specs.Rules.{AreNames, most_names, most_states, most_nodes, is_listed, keeps_name, keeps_names, keeps_node, keeps_state, keeps_access, keeps_suffix, has_all_access, judged, judged_words}
+use Rattle.dcv_automaton_text.specs.Rules.{AreNames, is_listed, keeps_name, keeps_names, keeps_node, keeps_state, keeps_access, keeps_suffix, has_all_access, judged, judged_words}
 use Rattle.dcv_automaton_text.proofs.Kept.{AreKept, AllKeep, none_kept, both_true, kept_words, in_turn, kind_kept, none_broken}
 use Rattle.dcv_automaton_read.specs.File.{step_line, step_part}
 use Rattle.dcv_print.specs.Counts.{ArePrintableCounts}
@@ -40,9 +41,9 @@ name_kept : (names : List (List ℕ)) (k : ℕ) → AreNames names → k < lengt
 name_kept names k are within =
     let name = get_or names k [] in
     let is = are.each k [] within in
-    let few = lt-ltb k most_names (let count = are.count in omega arith) in
+    let few = lt-ltb k most_variables (let count = are.count in omega arith) in
     let short = le-leb (length name) 24 is.short in
-    both_true _ (not (is_listed (take k names) name)) (both_true _ (nat_le (length name) 24) (both_true (nat_lt k most_names) _ few is.form) short) (ap not (name_is_new names k are.differ within))
+    both_true _ (not (is_listed (take k names) name)) (both_true _ (nat_le (length name) 24) (both_true (nat_lt k most_variables) _ few is.form) short) (ap not (name_is_new names k are.differ within))
 
 each_kept : (names rest : List (List ℕ)) (first : ℕ) → ((k : ℕ) → k < length rest → keeps_name names (first + k) (get_or rest k []) ≡ true)
     → AreKept (map (λ numbered. keeps_name names numbered.0 numbered.1) (enumerate_from first rest))

@@ -17,6 +17,7 @@ use Rattle.dcv_language.specs.declared.certificate.Access.{Access as CodeAccess}
 use Rattle.dcv_language.specs.declared.certificate.Access.TheVariants.{Empty as NoLetters, Start, After}
 use Rattle.dcv_language.specs.declared.certificate.Suffix.{Suffix as CodeSuffix}
 use Rattle.dcv_language.specs.declared.certificate.Suffix.TheVariants.{Empty, Then}
+use Rattle.dcv_language.specs.Limits.{most_states, most_nodes}
 use Rattle.dcv_certificate.specs.Proof.{IsSpelled, suffix_words}
 use Rattle.dcv_automaton_text.specs.Form.{is_visible, IsNameWord, IsTarget, IsNodeLine, IsStateLine, IsAccess, IsAccessLine, IsSuffix, IsSuffixLine, IsStepLine}
 use Rattle.dcv_automaton_text.specs.Rules.{IsPlainName, AreNames}
@@ -69,16 +70,16 @@ all_numbered P line xs none each k d within =
     let place : 0 + k ≡ k = omega arith in
     subst P (sym (at ∙ ap line (number ∙ ap (λ at. (at, get_or xs k none)) place))) (each k here)
 
-small_target : (states nodes : ℕ) (child : Child) → states ≤ 32000 → nodes ≤ 1000000 → IsBelow states nodes child → IsTarget (target_of child)
+small_target : (states nodes : ℕ) (child : Child) → states ≤ most_states → nodes ≤ most_nodes → IsBelow states nodes child → IsTarget (target_of child)
 small_target states nodes (State state) few few_nodes below = omega arith
 small_target states nodes (Node number) few few_nodes below = omega arith
 
-small_access : (words : List (List (List Bool))) (state : ℕ) (one : CodeAccess) → length words ≤ 32000 → IsSpelled words state one → IsAccess (access_from one)
+small_access : (words : List (List (List Bool))) (state : ℕ) (one : CodeAccess) → length words ≤ most_states → IsSpelled words state one → IsAccess (access_from one)
 small_access words state NoLetters few is = tt
 small_access words state (Start letter) few is = tt
 small_access words state (After before letter) few is = let below = is.is_state in omega arith
 
-small_suffix : (place : ℕ) (one : CodeSuffix) → place ≤ 32000 → ((from : ℕ) (letter : List Bool) → one ≡ Then letter from → from < place) → IsSuffix (suffix_from one)
+small_suffix : (place : ℕ) (one : CodeSuffix) → place ≤ most_states → ((from : ℕ) (letter : List Bool) → one ≡ Then letter from → from < place) → IsSuffix (suffix_from one)
 small_suffix place Empty few earlier = tt
 small_suffix place (Then letter from) few earlier = let below = earlier from letter refl in omega arith
 
@@ -104,8 +105,8 @@ printed_is_spellable raw names access suffixes counts is proof small =
     let lines_reduced = reduced raw is.is_raw is.auto in
     let below = slots_below raw (length names) lines_reduced is.slots in
     let facts = has_node_lines raw is.is_raw is.auto.nodes (numbered raw.arena raw.rows) refl in
-    let few_nodes : length all.lines ≤ 1000000 = let nodes = is.nodes in omega (arith, facts.count) in
-    let few : length raw.rows ≤ 32000 = is.states in
+    let few_nodes : length all.lines ≤ most_nodes = let nodes = is.nodes in omega (arith, facts.count) in
+    let few : length raw.rows ≤ most_states = is.states in
     let no_line : NodeLine = record { slot = 0; hi = State 0; lo = State 0 } in
     let count = lines_reduced.count in
     let words = count_of_words raw names access suffixes counts proof is.slots count in

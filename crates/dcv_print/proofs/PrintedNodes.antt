@@ -17,8 +17,9 @@ use Rattle.dcv_dfa.specs.NodeLines.{IsBelow, ComesAfter, AreReduced, node_lines_
 use Rattle.dcv_dfa.specs.Raw.{RawValue}
 use Rattle.dcv_language.specs.declared.certificate.Access.{Access as CodeAccess}
 use Rattle.dcv_language.specs.declared.certificate.Suffix.{Suffix as CodeSuffix}
+use Rattle.dcv_language.specs.Limits.{most_nodes}
 use Rattle.dcv_automaton_text.specs.File.{NodeLine as PlainNodeLine}
-use Rattle.dcv_automaton_text.specs.Rules.{most_nodes, slot_of, slot_of_node, keeps_child, is_same_target, is_same_node, keeps_node, keeps_row, keeps_state}
+use Rattle.dcv_automaton_text.specs.Rules.{slot_of, slot_of_node, keeps_child, is_same_target, is_same_node, keeps_node, keeps_row, keeps_state}
 use Rattle.dcv_automaton_text.proofs.Kept.{AreKept, both_true, both}
 use Rattle.dcv_print.specs.Printed.{target_of, node_line, state_line, printed_file, file_of}
 use Rattle.dcv_automaton_file.proofs.Tables.{slot_at}

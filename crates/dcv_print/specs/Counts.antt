@@ -4,7 +4,8 @@
 use Rattle.std.specs.Prelude.{◌≤◌, List, length}
 use Rattle.std.specs.List.{All}
 use Rattle.dcv_language.specs.declared.count.Count.{Count}
-use Rattle.dcv_automaton_text.specs.Rules.{most_steps, most_start, most_states, most_nodes}
+use Rattle.dcv_language.specs.Limits.{most_states, most_nodes}
+use Rattle.dcv_automaton_text.specs.Rules.{most_steps, most_start}
 
 pub record IsPrintableCount (count : Count) : Type 0 where
   -- the step stands in a source of the greatest size

@@ -5,8 +5,9 @@
 --     IsLined lined           it has few states and few nodes, the lines of nodes are its own, and each names a variable that there is
 use Rattle.std.specs.Prelude.{◌≡◌, ◌<◌, ◌≤◌, ℕ, List, [], length}
 use Rattle.std.specs.List.{All}
+use Rattle.dcv_language.specs.Limits.{most_states, most_nodes}
 use Rattle.dcv_automaton_text.specs.File.{AutomatonFile}
-use Rattle.dcv_automaton_text.specs.Rules.{AreNames, most_states, most_nodes}
+use Rattle.dcv_automaton_text.specs.Rules.{AreNames}
 use Rattle.dcv_automaton_file.specs.File.{file_of}
 use Rattle.dcv_dfa.specs.Auto.{count_of_nodes}
 use Rattle.dcv_dfa.specs.NodeLines.{node_lines_of}

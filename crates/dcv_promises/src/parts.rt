@@ -1,6 +1,7 @@
 //! What the parts promise to a program that uses them by themselves.
 ghost use Rattle.std.specs.Prelude.{◌≡◌, ◌↔◌, ◌++◌, ◌∷◌, [], ◌-◌, ◌+◌, ◌≤◌, ℕ, length, Err, IfOk, OnOk, IsTrue};
 ghost use Rattle.dcv_word.specs.Behaviour.{Word};
+ghost use Rattle.dcv_language.specs.Limits.{most_states};
 ghost use Rattle.dcv_core.specs.Core.{CoreTree};
 ghost use Rattle.dcv_core.specs.Holds.{words_of};
 ghost use Rattle.dcv_core.specs.Steps.{steps_of};
@@ -63,7 +64,7 @@ pub fn certify(alloc: Global, file: &AutoFile) -> Result<Answer, AllocError>
 pub fn synth(alloc: Global, auto: &Auto, inputs: u8) -> Result<Outcome, AllocError>
     requires inputs { inputs ≤ auto.now.arena.slots }
     requires outputs { auto.now.arena.slots ≤ inputs + 8 }
-    requires few { length auto.now.rows ≤ 32000 }
+    requires few { length auto.now.rows ≤ most_states }
     ensures wins { IfOk result (λ outcome. IfController outcome (λ control.
         Wins inputs (auto.now.arena.slots - inputs) (raw_accepts auto.now) (controller_by (auto.now.arena.slots - inputs) control))) }
     ensures beats { IfOk result (λ outcome. IfStrategy outcome (λ strategy. Beats inputs (auto.now.arena.slots - inputs) (raw_accepts auto.now)

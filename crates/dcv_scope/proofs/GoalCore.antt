@@ -8,6 +8,7 @@ use Rattle.dcv_syntax.specs.Views.{plain_formula_kind, plain_macro, plain_file}
 use Rattle.dcv_scope.specs.declared.expansion.Binding.{Binding}
 use Rattle.dcv_core.specs.Core.{CoreTree}
 use Rattle.dcv_scope.specs.CoreOf.{Sight, declared_slots, core_of, goal_sight, expanded_file}
+use Rattle.dcv_scope.specs.Faults.{most_nodes}
 use Rattle.dcv_scope.specs.Measures.{measure_of_file}
 use Rattle.dcv_core.specs.Steps.{without_core, steps_from, steps_of, PlainCore, Made, HasRoom}
 use Rattle.dcv_scope.specs.Expansions.{names_of, top_sight_of}
@@ -32,7 +33,7 @@ module _ (file : File) (k : ℕ) (names : List Binding) where
       (λ i. core (record { slots = k; truths = names_of names; macros = (top_sight_of (variables_are i) (macros_are i)).macros })) ∙ ap core (sight_is slots truths)
 
 -- a goal within the limits has numbers enough
-pub goal_room : (file : PlainFile) (old : PlainCore) → old.steps ≡ [] → (measure_of_file file).size ≤ 65536 → length file.variables + (measure_of_file file).quantifiers ≤ 32
+pub goal_room : (file : PlainFile) (old : PlainCore) → old.steps ≡ [] → (measure_of_file file).size ≤ most_nodes → length file.variables + (measure_of_file file).quantifiers ≤ 32
     → HasRoom old (length file.variables) (expanded_file file)
 goal_room file old empty size slots = record {
   enough_steps = omega (arith, ap length empty, (file_fits file).steps, size);

@@ -6,6 +6,7 @@
 use Rattle.std.specs.Prelude.{ℕ, ◌+◌, Option, None, Some, nat_le, if◌then◌else◌, length}
 use Rattle.std.specs.Option.{option_or, option_map}
 use Rattle.dcv_syntax.specs.Plain.{PlainFile}
+use Rattle.dcv_scope.specs.declared.faults.TheConstants.{MOST_NODES, MOST_DEPTH, MOST_SLOTS}
 use Rattle.dcv_scope.specs.declared.faults.ScopeFault.{ScopeFault}
 use Rattle.dcv_scope.specs.declared.faults.ScopeFault.TheVariants.{Size, Depth, Slots, BoundShift}
 use Rattle.dcv_scope.specs.Names.{fault_of_names}
@@ -15,13 +16,13 @@ use Rattle.dcv_tracks.specs.Shifting.{bound_shift}
 
 -- how many nodes a goal may have, how many of them one below another, and how many slots
 abbrev pub most_nodes : ℕ
-most_nodes = 65536
+most_nodes = MOST_NODES
 
 abbrev pub most_depth : ℕ
-most_depth = 512
+most_depth = MOST_DEPTH
 
 abbrev pub most_slots : ℕ
-most_slots = 32
+most_slots = MOST_SLOTS
 
 -- the fault, where the number is above the most
 abbrev pub above : ℕ → ℕ → ScopeFault → Option ScopeFault

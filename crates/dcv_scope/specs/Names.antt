@@ -11,7 +11,9 @@ use Rattle.dcv_syntax.specs.Plain.{PlainPropKind, PropConstant, PropCall, PropNo
 use Rattle.dcv_syntax.specs.Plain.{PlainPropOperands, no_prop_operands, prop_operand, PlainFormulaKind, FormulaConstant, FormulaPt, FormulaExt, FormulaBracketed}
 use Rattle.dcv_syntax.specs.Plain.{FormulaSlen, FormulaCounted, FormulaCall, FormulaApplied, FormulaJoined, FormulaImplies, FormulaChop, FormulaQuantified}
 use Rattle.dcv_syntax.specs.Plain.{PlainFormulaOperands, no_formula_operands, formula_operand, arguments_of, PlainMacroBody, FormulaBody, PropBody, PlainMacro, PlainFile}
+use Rattle.dcv_language.specs.Limits.{most_variables}
 use Rattle.dcv_logic.specs.Environment.{found}
+use Rattle.dcv_scope.specs.declared.faults.TheConstants.{MOST_PARAMETERS, MOST_MACROS}
 use Rattle.dcv_scope.specs.declared.faults.ScopeFault.{ScopeFault}
 use Rattle.dcv_scope.specs.declared.faults.ScopeFault.TheVariants.{TooMany, Duplicate, Taken, Unknown, Kind, Arity}
 
@@ -86,9 +88,9 @@ occurs name role sight = record { name = name; role = role; sight = sight }
 
 -- the 17th variable, the 9th parameter of a macro, the 257th macro
 abbrev pub is_one_too_many : Role → InSight → Bool
-is_one_too_many (Declared before) sight = nat_le 16 (length before)
-is_one_too_many (Parameter before) sight = nat_le 8 (length before)
-is_one_too_many Defined sight = nat_le 256 (length sight.macros)
+is_one_too_many (Declared before) sight = nat_le most_variables (length before)
+is_one_too_many (Parameter before) sight = nat_le MOST_PARAMETERS (length before)
+is_one_too_many Defined sight = nat_le MOST_MACROS (length sight.macros)
 is_one_too_many Quantified sight = false
 is_one_too_many (AtFormula arguments) sight = false
 is_one_too_many (AtProposition arguments) sight = false

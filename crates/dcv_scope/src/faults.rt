@@ -5,8 +5,6 @@ ghost use Rattle.dcv_scope.specs.declared.faults.ScopeFault.TheVariants.{Memory 
 use std::alloc::AllocError;
 use thiserror::Error;
 
-/// The most declared variables.
-pub(crate) const MOST_VARIABLES: usize = 16;
 /// The most parameters of a macro.
 pub(crate) const MOST_PARAMETERS: usize = 8;
 /// The most macros.

@@ -10,7 +10,8 @@ ghost use Rattle.std.specs.Option.{option_or, is_some};
 ghost use Rattle.dcv_scope.specs.declared.faults.ScopeFault.TheVariants.{Arity};
 ghost use Rattle.dcv_scope.specs.Sights.{in_sight_of, first_of, top_sight, faults_of_macros};
 
-use crate::faults::{MOST_MACROS, MOST_PARAMETERS, MOST_VARIABLES, ScopeFault};
+use crate::faults::{MOST_MACROS, MOST_PARAMETERS, ScopeFault};
+use dcv_language::MOST_VARIABLES;
 use dcv_syntax::{
     File, Formula, FormulaKind, FormulaOperand, Macro, MacroBody, Name, Prop, PropKind,
     PropOperand, Text,

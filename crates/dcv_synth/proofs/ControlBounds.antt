@@ -6,6 +6,7 @@ use Rattle.std.proofs.lemmas.List.{length-append, get_or_default}
 use Rattle.std.proofs.lemmas.Option.{slice_get-get_or}
 use Rattle.dcv_word.specs.Letter.{bits_of}
 use Rattle.dcv_word.proofs.Bits.{bits_of-lt}
+use Rattle.dcv_language.specs.Limits.{most_states, number_bound}
 use Rattle.dcv_arena.specs.Arena.{value_of}
 use Rattle.dcv_arena.specs.declared.nodes.Ref.TheVariants.{Leaf}
 use Rattle.dcv_dfa.specs.Raw.{RawValue, IsRaw, automaton_of}
@@ -26,7 +27,7 @@ rows_below bound n states f rows are of below = record {
       subst (λ v. v < bound) (sym value ∙ same) (below k letter inside (width ∙ of.slots));
 }
 
-module _ (raw : RawValue) (raw_is : IsRaw raw) (n m : ℕ) (slots : raw.arena.slots ≡ n + m) (few : m ≤ 8) (count : length raw.rows ≤ 32000)
+module _ (raw : RawValue) (raw_is : IsRaw raw) (n m : ℕ) (slots : raw.arena.slots ≡ n + m) (few : m ≤ 8) (count : length raw.rows ≤ most_states)
     (control : ControlValue) (is : IsControlOf n m (automaton_of raw) control) (below : All (λ state. state < length raw.rows) control.states) where
   abbrev answer : ℕ → List Bool → ℕ × List Bool
   answer state input = answer_of m (automaton_of raw) is.realisable.win state input
@@ -34,7 +35,7 @@ module _ (raw : RawValue) (raw_is : IsRaw raw) (n m : ℕ) (slots : raw.arena.sl
   wide : (state : ℕ) (input : List Bool) → length (answer state input).1 ≡ m
   wide state input = least-length m (λ output. is.realisable.win (leads (automaton_of raw) state input output))
 
-  next_below : (k : ℕ) (input : List Bool) → k < length control.states → length input ≡ n → (answer (get_or control.states k 0) input).0 < 32768
+  next_below : (k : ℕ) (input : List Bool) → k < length control.states → length input ≡ n → (answer (get_or control.states k 0) input).0 < number_bound
   next_below k input within width =
       let state = get_or control.states k 0 in
       let output = (answer state input).1 in
@@ -52,7 +53,7 @@ module _ (raw : RawValue) (raw_is : IsRaw raw) (n m : ℕ) (slots : raw.arena.sl
   is_control next output = record {
     in_order = is.in_order;
     below = λ k d within. omega (arith, below k d within, count);
-    next = rows_below 32768 n control.states (λ state input. (answer state input).0) control.next next is.next next_below;
+    next = rows_below number_bound n control.states (λ state input. (answer state input).0) control.next next is.next next_below;
     output = rows_below 256 n control.states (λ state input. bits_of (answer state input).1) control.output output is.output output_below;
     inputs = is.output.slots ∙ sym is.next.slots;
   }

@@ -3,6 +3,7 @@ use Rattle.std.proofs.Common.{◌≡◌, ℕ, zero, suc, ◌+◌, ◌<◌, ◌�
 use Rattle.std.specs.Prelude.{bytes_eq, nat_eq}
 use Rattle.std.specs.List.{range_with_len}
 use Rattle.std.proofs.lemmas.Bool.{cases_Bool, or_from, or_left, or_right, or_cases, false≢true, both_ways}
+use Rattle.dcv_language.specs.Limits.{most_nodes}
 use Rattle.dcv_observer.specs.Naming.{is_among, AreDistinct}
 use Rattle.dcv_observer.proofs.Naming.{Name, is_itself, one_name, among_later, among_append_left, among_append_right, among_append_cases, among_neither, distinct_append}
 use Rattle.dcv_observer.proofs.ObserverNames.{next_is_no_node, node_is_no_other}
@@ -58,7 +59,7 @@ output_node_differs k j small also differ = node_is_no_other k j small also diff
 
 -- ---- the locals
 
-module _ (nexts outputs : ℕ) (few_nexts : nexts ≤ 1000000) (few_outputs : outputs ≤ 1000000) where
+module _ (nexts outputs : ℕ) (few_nexts : nexts ≤ most_nodes) (few_outputs : outputs ≤ most_nodes) where
   abbrev both : List Name
   both = names_of_nodes node_name nexts ++ names_of_nodes output_node_name outputs
 

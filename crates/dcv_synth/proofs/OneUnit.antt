@@ -1,5 +1,6 @@
 -- Controllers that do the same have one unit.
 use Rattle.std.proofs.Common.{◌≡◌, ℕ, List, refl, sym, ◌∙◌, subst}
+use Rattle.dcv_language.specs.Limits.{number_bound}
 use Rattle.dcv_dfa.specs.NodeLines.{lines_of_rows}
 use Rattle.dcv_dfa.specs.Laws.{SameRowsHaveOneListOfLines}
 use Rattle.dcv_synth.specs.Control.{RowsValue, AreRowsBelow}
@@ -17,7 +18,7 @@ module _ (law : SameRowsHaveOneListOfLines) where
   pub same_controls_have_one_unit : SameControlsHaveOneUnit
   same_controls_have_one_unit names one other a b slots same =
       let n = one.next.arena.slots in
-      let next = same_lines n 32768 one.states other.states one.next other.next a.next b.next refl (sym slots) same.next in
+      let next = same_lines n number_bound one.states other.states one.next other.next a.next b.next refl (sym slots) same.next in
       let output = same_lines n 256 one.states other.states one.output other.output a.output b.output a.inputs (b.inputs ∙ sym slots) same.output in
       λ i. unit_of_lines (record { names = names; states = same.states i; next = next i; output = output i })
 

@@ -4,6 +4,7 @@ use Rattle.std.specs.List.{All, AllByRecursion, enumerate_from, range_with_len}
 use Rattle.std.proofs.lemmas.Bool.{and_parts}
 use Rattle.std.proofs.lemmas.List.Elements.{recursion_from_All}
 use Rattle.std.proofs.lemmas.Fmt.{length-decimal-le}
+use Rattle.dcv_language.specs.Limits.{most_nodes, number_bound}
 use Rattle.dcv_automaton_text.specs.Rules.{IsPlainName}
 use Rattle.dcv_automaton_text.proofs.Words.{digits_are}
 use Rattle.dcv_dfa.specs.declared.node_lines.Child.{Child}
@@ -33,7 +34,7 @@ step_is : IsName step_name
 unfolding lexicon
 step_is = refl
 
-output_node_is : (n : ℕ) → n < 1000000 → IsName (output_node_name n)
+output_node_is : (n : ℕ) → n < most_nodes → IsName (output_node_name n)
 unfolding lexicon
 output_node_is n small =
     plain_word (output_node_name n) (digits_are_word_bytes (decimal n) (digits_are n (omega arith)))
@@ -47,21 +48,21 @@ input_is names slot are below =
 
 -- ---- statements
 
-module _ (name : ℕ → Name) (is : (k : ℕ) → k < 1000000 → IsName (name k)) where
-  names_are : (first count : ℕ) → first + count ≤ 1000000 → AllByRecursion IsName (map name (range_with_len first count))
+module _ (name : ℕ → Name) (is : (k : ℕ) → k < most_nodes → IsName (name k)) where
+  names_are : (first count : ℕ) → first + count ≤ most_nodes → AllByRecursion IsName (map name (range_with_len first count))
   names_are first zero few = tt
   names_are first (suc count) few = (is first (omega (arith, few)), names_are (first + 1) count (omega (arith, few)))
 
-  target_is : (nodes : ℕ) (child : Child) → nodes ≤ 1000000 → IsBelow 32768 nodes child → IsItem (target name child)
+  target_is : (nodes : ℕ) (child : Child) → nodes ≤ most_nodes → IsBelow number_bound nodes child → IsItem (target name child)
   target_is nodes (State number) few below = omega (arith, below)
   target_is nodes (Node number) few below = is number (omega (arith, below, few))
 
   module _ (names : List Name) (are : All IsPlainName names) where
-    choices_are : (number : ℕ) (lines : List NodeLine) → number + length lines ≤ 1000000 → AreGoodLines (length names) number lines
+    choices_are : (number : ℕ) (lines : List NodeLine) → number + length lines ≤ most_nodes → AreGoodLines (length names) number lines
         → AllByRecursion IsStatement (map (choice name names) (enumerate_from number lines))
     choices_are number [] few good = tt
     choices_are number (line ∷ lines) few good =
-        let below : number ≤ 1000000 = omega (arith, few) in (
+        let below : number ≤ most_nodes = omega (arith, few) in (
           (
             is number (omega (arith, few)),
             (input_is names line.slot are good.0.slot, target_is number line.hi below good.0.hi, target_is number line.lo below good.0.lo),
@@ -69,8 +70,8 @@ module _ (name : ℕ → Name) (is : (k : ℕ) → k < 1000000 → IsName (name 
           choices_are (number + 1) lines (omega (arith, few)) good.1,
         )
 
-rows_are : (firsts seconds : ℕ) → firsts ≤ 1000000 → seconds ≤ 1000000 → (states : List ℕ) (nexts outputs : List Child)
-    → AllByRecursion (λ state. state < 32768) states → AllByRecursion (IsBelow 32768 firsts) nexts → AllByRecursion (IsBelow 32768 seconds) outputs
+rows_are : (firsts seconds : ℕ) → firsts ≤ most_nodes → seconds ≤ most_nodes → (states : List ℕ) (nexts outputs : List Child)
+    → AllByRecursion (λ state. state < number_bound) states → AllByRecursion (IsBelow number_bound firsts) nexts → AllByRecursion (IsBelow number_bound seconds) outputs
     → AllByRecursion IsStatement (all_state_choices states nexts outputs)
 rows_are firsts seconds few also [] nexts outputs below next output = tt
 rows_are firsts seconds few also (state ∷ states) [] outputs below next output = tt
@@ -97,9 +98,9 @@ unit_is_spellable all good =
     let first = choices_are node_name node_is names are 0 all.next.lines (omega (arith, good.next.few)) good.next.lines in
     let second = choices_are output_node_name output_node_is names are 0 all.output.lines (omega (arith, good.output.few)) good.output.lines in
     let rows = rows_are firsts seconds good.next.few good.output.few all.states all.next.rows all.output.rows
-    (recursion_from_All (λ (state : ℕ). state < 32768) all.states good.states)
-    (recursion_from_All (IsBelow 32768 firsts) all.next.rows good.next.rows)
-    (recursion_from_All (IsBelow 32768 seconds) all.output.rows good.output.rows) in
+    (recursion_from_All (λ (state : ℕ). state < number_bound) all.states good.states)
+    (recursion_from_All (IsBelow number_bound firsts) all.next.rows good.next.rows)
+    (recursion_from_All (IsBelow number_bound seconds) all.output.rows good.output.rows) in
     record {
       some_static = omega arith;
       statics = (state_is, tt);

@@ -4,6 +4,7 @@
 use Rattle.std.proofs.Common.{◌≡◌, ℕ, suc, ◌+◌, ◌<◌, ◌≤◌, List, [], ◌∷◌, length, Some, refl, subst, arith}
 use Rattle.std.specs.Prelude.{slice_get}
 use Rattle.std.specs.List.{All, AllPairs}
+use Rattle.dcv_language.specs.Limits.{most_nodes, number_bound}
 use Rattle.dcv_automaton_text.specs.Rules.{AreNames}
 use Rattle.dcv_dfa.specs.declared.node_lines.NodeLine.{NodeLine}
 use Rattle.dcv_dfa.specs.NodeLines.{NodeLinesValue, IsBelow, AreReducedRows}
@@ -16,13 +17,13 @@ AreGoodLines slots number (line ∷ lines) = Fits slots number line × AreGoodLi
 
 pub record AreGoodRows (slots states : ℕ) (all : NodeLinesValue) : Type 0 where
   pub lines : AreGoodLines slots 0 all.lines
-  pub few : length all.lines ≤ 1000000
+  pub few : length all.lines ≤ most_nodes
   pub count : length all.rows ≡ states
-  pub rows : All (IsBelow 32768 (length all.lines)) all.rows
+  pub rows : All (IsBelow number_bound (length all.lines)) all.rows
 
 pub record AreGoodUnitLines (all : ControlLines) : Type 0 where
   pub names : AreNames all.names
-  pub states : All (λ state. state < 32768) all.states
+  pub states : All (λ state. state < number_bound) all.states
   pub in_order : AllPairs (λ (one other : ℕ). one < other) all.states
   pub next : AreGoodRows (length all.names) (length all.states) all.next
   pub output : AreGoodRows (length all.names) (length all.states) all.output
@@ -36,7 +37,7 @@ good_from slots number (line ∷ lines) each = (
       subst (λ n. Fits slots n other) (let same : number + suc k ≡ number + 1 + k = omega arith in same) (each (suc k) other at)),
 )
 
-pub good_rows : (slots states : ℕ) (all : NodeLinesValue) → length all.lines ≤ 1000000 → AreReducedRows slots 32768 states all → AreGoodRows slots states all
+pub good_rows : (slots states : ℕ) (all : NodeLinesValue) → length all.lines ≤ most_nodes → AreReducedRows slots number_bound states all → AreGoodRows slots states all
 good_rows slots states all few reduced =
     record {
       lines = good_from slots 0 all.lines (λ k line at.

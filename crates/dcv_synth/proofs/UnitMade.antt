@@ -4,6 +4,7 @@ use Rattle.std.specs.List.{range_with_len, enumerate_from}
 use Rattle.std.proofs.lemmas.List.{map_push, length-map, get_or-map, get_or-append-add, get_or_append_left}
 use Rattle.std.proofs.lemmas.List.FromFn.{length-range_with_len, get_or-range_with_len}
 use Rattle.std.proofs.lemmas.Option.{slice_get-get_or}
+use Rattle.dcv_language.specs.Limits.{most_nodes, number_bound}
 use Rattle.dcv_dfa.specs.declared.node_lines.Child.{Child}
 use Rattle.dcv_dfa.specs.declared.node_lines.Child.TheVariants.{State}
 use Rattle.dcv_dfa.specs.NodeLines.{NodeLinesValue, AreReducedRows}
@@ -141,7 +142,7 @@ module _ (names : List (List ℕ)) (places : Places) (outputs : ℕ) (count : le
 -- ---- lines that fit
 
 -- those of a reduced diagram do
-pub lines_fit : (slots states : ℕ) (all : NodeLinesValue) → length all.lines ≤ 1000000 → AreReducedRows slots 32768 states all → AreFitting slots all
+pub lines_fit : (slots states : ℕ) (all : NodeLinesValue) → length all.lines ≤ most_nodes → AreReducedRows slots number_bound states all → AreFitting slots all
 lines_fit slots states all few is =
     record {
       few = few;
@@ -150,8 +151,8 @@ lines_fit slots states all few is =
           let one = is.lines k line (slice_get-get_or all.lines k d within) in
           record {
             slot = one.slot;
-            hi = below_more 32768 k 32768 (length all.lines) line.hi (omega arith) (omega (arith, within)) one.hi_below;
-            lo = below_more 32768 k 32768 (length all.lines) line.lo (omega arith) (omega (arith, within)) one.lo_below;
+            hi = below_more number_bound k number_bound (length all.lines) line.hi (omega arith) (omega (arith, within)) one.hi_below;
+            lo = below_more number_bound k number_bound (length all.lines) line.lo (omega arith) (omega (arith, within)) one.lo_below;
           };
       rows = is.rows;
     }

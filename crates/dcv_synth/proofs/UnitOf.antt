@@ -1,6 +1,7 @@
 -- The unit of a controller keeps the rules of the subset, and answers as the controller does.
 use Rattle.std.proofs.Common.{◌≡◌, ℕ, ◌≤◌, List, length, refl, sym, subst, ◌∙◌, arith}
 use Rattle.std.specs.List.{All}
+use Rattle.dcv_language.specs.Limits.{most_nodes, number_bound}
 use Rattle.dcv_automaton_text.specs.Rules.{AreNames}
 use Rattle.dcv_dfa.specs.Raw.{LeadsBelow}
 use Rattle.dcv_dfa.specs.NodeLines.{AreReducedRows, numbered, lines_of_rows}
@@ -19,12 +20,12 @@ use Rattle.dcv_synth.proofs.SameJoins.{wins_so}
 
 -- ---- the lines of rows
 
-module _ (bound : ℕ) (states : List ℕ) (rows : RowsValue) (least : bound ≤ 32768) (are : AreRowsBelow bound states rows) where
-  rows_reduced : AreReducedRows rows.arena.slots 32768 (length states) (lines_of_rows rows.arena rows.rows)
+module _ (bound : ℕ) (states : List ℕ) (rows : RowsValue) (least : bound ≤ number_bound) (are : AreRowsBelow bound states rows) where
+  rows_reduced : AreReducedRows rows.arena.slots number_bound (length states) (lines_of_rows rows.arena rows.rows)
   rows_reduced =
-      let small : All (LeadsBelow rows.arena 32768) rows.rows = λ k d within letter wide. omega (arith, are.below k d within letter wide, least) in
-      subst (λ size. AreReducedRows rows.arena.slots 32768 size (lines_of_rows rows.arena rows.rows)) are.count
-      ((has_lines rows.arena rows.rows are.are.arena are.are.refs (numbered rows.arena rows.rows) refl).reduced 32768 small)
+      let small : All (LeadsBelow rows.arena number_bound) rows.rows = λ k d within letter wide. omega (arith, are.below k d within letter wide, least) in
+      subst (λ size. AreReducedRows rows.arena.slots number_bound size (lines_of_rows rows.arena rows.rows)) are.count
+      ((has_lines rows.arena rows.rows are.are.arena are.are.refs (numbered rows.arena rows.rows) refl).reduced number_bound small)
 
   -- there are no more of them than nodes
   few_lines : length (lines_of_rows rows.arena rows.rows).lines ≤ length rows.arena.nodes
@@ -32,13 +33,13 @@ module _ (bound : ℕ) (states : List ℕ) (rows : RowsValue) (least : bound ≤
 
 -- the names of the inputs, and few nodes, are enough for a unit
 pub has_unit : (names : List (List ℕ)) (control : ControlValue) → IsControl control → AreNames names → length names ≡ control.next.arena.slots
-    → length control.next.arena.nodes ≤ 1000000 → length control.output.arena.nodes ≤ 1000000 → HasUnit names control
+    → length control.next.arena.nodes ≤ most_nodes → length control.output.arena.nodes ≤ most_nodes → HasUnit names control
 has_unit names control is are inputs next output =
     record {
       is_control = is;
       are_names = are;
       inputs = inputs;
-      next_lines = omega (arith, few_lines 32768 control.states control.next (omega arith) is.next, next);
+      next_lines = omega (arith, few_lines number_bound control.states control.next (omega arith) is.next, next);
       output_lines = omega (arith, few_lines 256 control.states control.output (omega arith) is.output, output);
     }
 
@@ -48,14 +49,14 @@ module _ (names : List (List ℕ)) (control : ControlValue) (has : HasUnit names
   abbrev is : IsControl control
   is = has.is_control
 
-  next_reduced : AreReducedRows (length names) 32768 (length control.states) (lines_of names control).next
+  next_reduced : AreReducedRows (length names) number_bound (length control.states) (lines_of names control).next
   next_reduced =
-      subst (λ slots. AreReducedRows slots 32768 (length control.states) (lines_of names control).next) (sym has.inputs)
-      (rows_reduced 32768 control.states control.next (omega arith) is.next)
+      subst (λ slots. AreReducedRows slots number_bound (length control.states) (lines_of names control).next) (sym has.inputs)
+      (rows_reduced number_bound control.states control.next (omega arith) is.next)
 
-  output_reduced : AreReducedRows (length names) 32768 (length control.states) (lines_of names control).output
+  output_reduced : AreReducedRows (length names) number_bound (length control.states) (lines_of names control).output
   output_reduced =
-      subst (λ slots. AreReducedRows slots 32768 (length control.states) (lines_of names control).output) (is.inputs ∙ sym has.inputs)
+      subst (λ slots. AreReducedRows slots number_bound (length control.states) (lines_of names control).output) (is.inputs ∙ sym has.inputs)
       (rows_reduced 256 control.states control.output (omega arith) is.output)
 
   pub next_fits : AreFitting (length names) (lines_of names control).next

@@ -6,6 +6,7 @@ use Rattle.std.specs.List.{AllByRecursion, enumerate_from}
 use Rattle.std.proofs.lemmas.Bool.{cases_lt, and_from, false_from_ne_true, both_ways}
 use Rattle.std.proofs.lemmas.List.{length-map}
 use Rattle.std.proofs.lemmas.List.Elements.{recursion_from_All}
+use Rattle.dcv_language.specs.Limits.{number_bound}
 use Rattle.dcv_dfa.specs.declared.node_lines.Child.{Child}
 use Rattle.dcv_dfa.specs.declared.node_lines.Child.TheVariants.{State, Node}
 use Rattle.dcv_dfa.specs.declared.node_lines.NodeLine.{NodeLine}
@@ -58,7 +59,7 @@ module _ (name : ℕ → Name) where
             subst (λ n. is_among (name n ∷ known) (name k) ≡ true) (sym same) (among_here known (name k))
       ]
 
-  target_kept : (known : List Name) (number : ℕ) (child : Child) → KnowsNodes name number known → IsBelow 32768 number child → keeps_item known (target name child) ≡ true
+  target_kept : (known : List Name) (number : ℕ) (child : Child) → KnowsNodes name number known → IsBelow number_bound number child → keeps_item known (target name child) ≡ true
   target_kept known number (State state) knows below = refl
   target_kept known number (Node k) knows below = knows k below
 
@@ -92,7 +93,7 @@ module _ (name : ℕ → Name) where
 module _ (unit : CUnit) (names known : List Name) (firsts seconds : ℕ) (knows : Knows names known) (first : KnowsNodes node_name firsts known)
     (second : KnowsNodes output_node_name seconds known) (next_left : keeps_left unit next_name ≡ true) (output_left : keeps_left unit output_name ≡ true) where
   rows_kept : (states : List ℕ) (nexts outputs : List Child) (more : List Statement)
-      → AllByRecursion (IsBelow 32768 firsts) nexts → AllByRecursion (IsBelow 32768 seconds) outputs
+      → AllByRecursion (IsBelow number_bound firsts) nexts → AllByRecursion (IsBelow number_bound seconds) outputs
       → all_kept (keeps_statements unit known more) ≡ true → all_kept (keeps_statements unit known (all_state_choices states nexts outputs ++ more)) ≡ true
   rows_kept [] nexts outputs more next output rest = rest
   rows_kept (state ∷ states) [] outputs more next output rest = rest
@@ -189,8 +190,8 @@ module _ (all : ControlLines) (good : AreGoodUnitLines all) where
   ending_kept after knows nexts outputs =
       rows_kept unit all.names after firsts seconds knows nexts outputs (left_local next_name refl) (left_local output_name refl)
       all.states all.next.rows all.output.rows (last_statement ∷ [])
-      (recursion_from_All (IsBelow 32768 firsts) all.next.rows good.next.rows)
-      (recursion_from_All (IsBelow 32768 seconds) all.output.rows good.output.rows)
+      (recursion_from_All (IsBelow number_bound firsts) all.next.rows good.next.rows)
+      (recursion_from_All (IsBelow number_bound seconds) all.output.rows good.output.rows)
       (last_kept unit all.names after firsts seconds knows nexts outputs (left_local next_name refl) (left_local output_name refl) state_left returns_output)
 
   choices_kept_all : all_kept (keeps_statements unit known

@@ -7,6 +7,7 @@ use Rattle.std.specs.Prelude.{bytes_eq}
 use Rattle.std.specs.List.{enumerate_from, position_or_len}
 use Rattle.std.proofs.lemmas.Bool.{cases_lt, cases_Bool, false≢true}
 use Rattle.std.proofs.lemmas.List.{length_push, get_or_append_left, get_or_push}
+use Rattle.dcv_language.specs.Limits.{most_nodes, number_bound}
 use Rattle.dcv_dfa.specs.declared.node_lines.Child.{Child}
 use Rattle.dcv_dfa.specs.declared.node_lines.Child.TheVariants.{State, Node}
 use Rattle.dcv_dfa.specs.declared.node_lines.NodeLine.{NodeLine}
@@ -37,16 +38,16 @@ steps_count letter (line ∷ lines) states =
     steps_count letter lines (states ++ next ∷ []) ∙ omega (arith, length_push states next)
 
 module _ (names : List Name) (letter : List Bool) (name : ℕ → Name)
-    (apart : (k j : ℕ) → k < 1000000 → j < 1000000 → (k ≡ j → ⊥) → bytes_eq (name k) (name j) ≡ false)
+    (apart : (k j : ℕ) → k < most_nodes → j < most_nodes → (k ≡ j → ⊥) → bytes_eq (name k) (name j) ≡ false)
     (no_input : (k : ℕ) (other : Name) → bytes_eq (parameter_name other) (name k) ≡ false) (start : Numbers) where
   pub record Leads (now : Numbers) (states : List ℕ) : Type 0 where
     pub nodes : (k : ℕ) → k < length states → now (name k) ≡ get_or states k 0
-    pub others : (other : Name) → ((k : ℕ) → k < 1000000 → bytes_eq other (name k) ≡ false) → now other ≡ start other
+    pub others : (other : Name) → ((k : ℕ) → k < most_nodes → bytes_eq other (name k) ≡ false) → now other ≡ start other
 
   leads_first : Leads start []
   leads_first = record { nodes = λ k below. absurd (omega (arith, below)); others = λ other differs. refl }
 
-  leads_more : (now : Numbers) (states : List ℕ) (number : ℕ) → length states < 1000000 → Leads now states
+  leads_more : (now : Numbers) (states : List ℕ) (number : ℕ) → length states < most_nodes → Leads now states
       → Leads (assigned now (name (length states)) number) (states ++ number ∷ [])
   leads_more now states number few leads =
       record {
@@ -64,19 +65,19 @@ module _ (names : List Name) (letter : List Bool) (name : ℕ → Name)
         others = λ other differs. assigned_elsewhere now (name (length states)) number other (differs (length states) few) ∙ leads.others other differs;
       }
 
-  target_stands : (now : Numbers) (states : List ℕ) (child : Child) → Leads now states → IsBelow 32768 (length states) child
+  target_stands : (now : Numbers) (states : List ℕ) (child : Child) → Leads now states → IsBelow number_bound (length states) child
       → item_number now (target name child) ≡ state_at states child
   target_stands now states (State number) leads below = refl
   target_stands now states (Node number) leads below = leads.nodes number below
 
-  side_stands : (now : Numbers) (states : List ℕ) (side : Bool) (hi lo : Child) → Leads now states → IsBelow 32768 (length states) hi
-      → IsBelow 32768 (length states) lo
+  side_stands : (now : Numbers) (states : List ℕ) (side : Bool) (hi lo : Child) → Leads now states → IsBelow number_bound (length states) hi
+      → IsBelow number_bound (length states) lo
       → cond side (item_number now (target name hi)) (item_number now (target name lo)) ≡ state_at states (cond side hi lo)
   side_stands now states true hi lo leads hi_below lo_below = target_stands now states hi leads hi_below
   side_stands now states false hi lo leads hi_below lo_below = target_stands now states lo leads lo_below
 
   choices_lead : InputsStand names letter start → (lines : List NodeLine) (states : List ℕ) (number : ℕ) (now : Numbers) → number ≡ length states
-      → number + length lines ≤ 1000000 → AreGoodLines (length names) number lines → Leads now states
+      → number + length lines ≤ most_nodes → AreGoodLines (length names) number lines → Leads now states
       → Leads (fold executed now (map (choice name names) (enumerate_from number lines))) (fold (step letter) states lines)
   choices_lead inputs [] states number now at few good leads = leads
   choices_lead inputs (line ∷ lines) states number now at few good leads =
@@ -85,8 +86,8 @@ module _ (names : List Name) (letter : List Bool) (name : ℕ → Name)
       let input = input_name names line.slot in
       let stands = leads.others input (λ k below. no_input k (get_or names line.slot [])) ∙ inputs line.slot good.0.slot in
       let holds : not (nat_eq (now input) 0) ≡ side = ap (λ n. not (nat_eq n 0)) stands ∙ truth_stands names letter 0 side in
-      let hi = subst (λ n. IsBelow 32768 n line.hi) at good.0.hi in
-      let lo = subst (λ n. IsBelow 32768 n line.lo) at good.0.lo in
+      let hi = subst (λ n. IsBelow number_bound n line.hi) at good.0.hi in
+      let lo = subst (λ n. IsBelow number_bound n line.lo) at good.0.lo in
       let chosen = cond (not (nat_eq (now input) 0)) (item_number now (target name line.hi)) (item_number now (target name line.lo)) in
       let value : chosen ≡ next =
       ap (λ b. cond b (item_number now (target name line.hi)) (item_number now (target name line.lo))) holds ∙ side_stands now states side line.hi line.lo leads hi lo in
@@ -97,13 +98,13 @@ module _ (names : List Name) (letter : List Bool) (name : ℕ → Name)
       choices_lead inputs lines (states ++ next ∷ []) (number + 1) (assigned now (name number) chosen)
       (omega (arith, at, length_push states next)) (omega (arith, few)) good.1 more
 
-  pub all_choices_lead : InputsStand names letter start → (lines : List NodeLine) → length lines ≤ 1000000 → AreGoodLines (length names) 0 lines
+  pub all_choices_lead : InputsStand names letter start → (lines : List NodeLine) → length lines ≤ most_nodes → AreGoodLines (length names) 0 lines
       → Leads (fold executed start (map (choice name names) (enumerate_from 0 lines))) (fold (step letter) [] lines)
   all_choices_lead inputs lines few good = choices_lead inputs lines [] 0 start refl (omega (arith, few)) good leads_first
 
 -- ---- states
 
-module _ (state : ℕ) (firsts seconds : List ℕ) (few : length firsts ≤ 1000000) where
+module _ (state : ℕ) (firsts seconds : List ℕ) (few : length firsts ≤ most_nodes) where
   pub record StandsAt (now : Numbers) (next output : ℕ) : Type 0 where
     pub state_is : now state_name ≡ state
     pub next_is : now next_name ≡ next
@@ -131,12 +132,12 @@ module _ (state : ℕ) (firsts seconds : List ℕ) (few : length firsts ≤ 1000
         outputs = stands.outputs;
       }
 
-  next_target : (now : Numbers) (next output : ℕ) (child : Child) → StandsAt now next output → IsBelow 32768 (length firsts) child
+  next_target : (now : Numbers) (next output : ℕ) (child : Child) → StandsAt now next output → IsBelow number_bound (length firsts) child
       → item_number now (target node_name child) ≡ state_at firsts child
   next_target now next output (State number) stands below = refl
   next_target now next output (Node number) stands below = stands.nexts number below
 
-  output_target : (now : Numbers) (next output : ℕ) (child : Child) → StandsAt now next output → IsBelow 32768 (length seconds) child
+  output_target : (now : Numbers) (next output : ℕ) (child : Child) → StandsAt now next output → IsBelow number_bound (length seconds) child
       → item_number now (target output_node_name child) ≡ state_at seconds child
   output_target now next output (State number) stands below = refl
   output_target now next output (Node number) stands below = stands.outputs number below
@@ -166,8 +167,8 @@ module _ (state : ℕ) (firsts seconds : List ℕ) (few : length firsts ≤ 1000
       ap (λ after. fold executed after (all_state_choices states nexts outputs)) (row_passed now one n o is (differ 0 (omega arith)))
       ∙ rows_passed states nexts outputs (λ k within. differ (suc k) (omega (arith, within))) now is
 
-  row_taken : (now : Numbers) (next output one : ℕ) (n o : Child) → StandsAt now next output → state ≡ one → IsBelow 32768 (length firsts) n
-      → IsBelow 32768 (length seconds) o → StandsAt (fold executed now (state_choices (one, (n, o)))) (state_at firsts n) (state_at seconds o)
+  row_taken : (now : Numbers) (next output one : ℕ) (n o : Child) → StandsAt now next output → state ≡ one → IsBelow number_bound (length firsts) n
+      → IsBelow number_bound (length seconds) o → StandsAt (fold executed now (state_choices (one, (n, o)))) (state_at firsts n) (state_at seconds o)
   row_taken now next output one n o stands same n_below o_below =
       let here : nat_eq (now state_name) one ≡ true = ap (λ s. nat_eq s one) (stands.state_is ∙ same) ∙ same_number one in
       let number = item_number now (target node_name n) in
@@ -187,8 +188,8 @@ module _ (state : ℕ) (firsts seconds : List ℕ) (few : length firsts ≤ 1000
 
   pub rows_lead : (states : List ℕ) (nexts outputs : List Child) → length nexts ≡ length states → length outputs ≡ length states
       → ((i j : ℕ) → i < j → j < length states → get_or states i 0 < get_or states j 0)
-      → ((k : ℕ) → k < length nexts → IsBelow 32768 (length firsts) (get_or nexts k (State 0)))
-      → ((k : ℕ) → k < length outputs → IsBelow 32768 (length seconds) (get_or outputs k (State 0)))
+      → ((k : ℕ) → k < length nexts → IsBelow number_bound (length firsts) (get_or nexts k (State 0)))
+      → ((k : ℕ) → k < length outputs → IsBelow number_bound (length seconds) (get_or outputs k (State 0)))
       → (now : Numbers) → StandsAt now 0 0
       → let place = position_or_len (nat_eq state) states in
       StandsAt (fold executed now (all_state_choices states nexts outputs)) (state_at firsts (get_or nexts place (State 0))) (state_at seconds (get_or outputs place (State 0)))

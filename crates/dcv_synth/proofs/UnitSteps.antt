@@ -9,6 +9,7 @@ use Rattle.std.proofs.lemmas.List.Sums.{fold-append}
 use Rattle.dcv_word.specs.Behaviour.{Word, IsBehaviour}
 use Rattle.dcv_word.specs.Letter.{letter_of}
 use Rattle.dcv_language.specs.Automaton.{state_from}
+use Rattle.dcv_language.specs.Limits.{most_nodes, number_bound}
 use Rattle.dcv_automaton_file.proofs.Tables.{slot_at}
 use Rattle.dcv_arena.specs.Arena.{value_of}
 use Rattle.dcv_arena.specs.declared.nodes.Ref.TheVariants.{Leaf}
@@ -104,7 +105,7 @@ module _ (all : ControlLines) (good : AreGoodUnitLines all) (state : ℕ) (lette
   unfolding states_at
   seconds_count = steps_count letter all.output.lines [] ∙ (let e : 0 + length all.output.lines ≡ length all.output.lines = omega arith in e)
 
-  few_firsts : length firsts ≤ 1000000
+  few_firsts : length firsts ≤ most_nodes
   few_firsts = omega (arith, firsts_count, good.next.few)
 
   stands_first : StandsAt state firsts seconds few_firsts after_outputs 0 0
@@ -126,8 +127,8 @@ module _ (all : ControlLines) (good : AreGoodUnitLines all) (state : ℕ) (lette
   stands_last =
       rows_lead state firsts seconds few_firsts all.states all.next.rows all.output.rows good.next.count good.output.count
       (λ i j earlier within. good.in_order i j 0 earlier within)
-      (λ k within. subst (λ n. IsBelow 32768 n (get_or all.next.rows k (State 0))) (sym firsts_count) (good.next.rows k (State 0) within))
-      (λ k within. subst (λ n. IsBelow 32768 n (get_or all.output.rows k (State 0))) (sym seconds_count) (good.output.rows k (State 0) within))
+      (λ k within. subst (λ n. IsBelow number_bound n (get_or all.next.rows k (State 0))) (sym firsts_count) (good.next.rows k (State 0) within))
+      (λ k within. subst (λ n. IsBelow number_bound n (get_or all.output.rows k (State 0))) (sym seconds_count) (good.output.rows k (State 0) within))
       after_outputs stands_first
 
   abbrev after : Numbers
@@ -174,7 +175,7 @@ module _ (law : LinesHaveTheNumbersOfTheRows) (names : List Name) (control : Con
       stepped (unit_of names control) zeros (state ∷ []) letter ≡ state_with (value_in control.next place letter) (value_in control.output place letter)
   step_answers state letter =
       let place = position_or_len (nat_eq state) control.states in
-      let next = number_of_row 32768 control.next is.next place letter good.next.count in
+      let next = number_of_row number_bound control.next is.next place letter good.next.count in
       let output = number_of_row 256 control.output is.output place letter good.output.count in
       step_is (lines_of names control) good state letter ∙ (λ i. state_with (next i) (output i))
 

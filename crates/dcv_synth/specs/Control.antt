@@ -12,6 +12,7 @@ use Rattle.std.specs.Prelude.{◌≡◌, ◌↔◌, ℕ, ◌<◌, nat_eq, Bool, 
 use Rattle.std.specs.List.{All, AllPairs, position_or_len}
 use Rattle.dcv_word.specs.Letter.{letter_of, bits_of}
 use Rattle.dcv_language.specs.Automaton.{Automaton}
+use Rattle.dcv_language.specs.Limits.{number_bound}
 use Rattle.dcv_arena.specs.Arena.{ArenaValue, IsArena, IsRef, value_of}
 use Rattle.dcv_arena.specs.declared.nodes.Ref.{Ref}
 use Rattle.dcv_arena.specs.declared.nodes.Ref.TheVariants.{Leaf}
@@ -41,8 +42,8 @@ pub record AreRowsBelow (bound : ℕ) (states : List ℕ) (rows : RowsValue) : T
 
 pub record IsControl (control : ControlValue) : Type 0 where
   pub in_order : AllPairs (λ (one other : ℕ). one < other) control.states
-  pub below : All (λ state. state < 32768) control.states
-  pub next : AreRowsBelow 32768 control.states control.next
+  pub below : All (λ state. state < number_bound) control.states
+  pub next : AreRowsBelow number_bound control.states control.next
   pub output : AreRowsBelow 256 control.states control.output
   pub inputs : control.output.arena.slots ≡ control.next.arena.slots
 

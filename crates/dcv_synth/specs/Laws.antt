@@ -11,7 +11,8 @@ use Rattle.dcv_synth.specs.Realisable.{IsRealisable}
 use Rattle.dcv_synth.specs.Control.{RowsValue, ControlValue, IsControl, IsControlOf, value_in, controller_by}
 use Rattle.dcv_synth.specs.Units.{lines_of, unit_of, controller_in}
 use Rattle.dcv_word.specs.Behaviour.{Word, IsBehaviour}
-use Rattle.dcv_automaton_text.specs.Rules.{AreNames, most_nodes}
+use Rattle.dcv_language.specs.Limits.{most_nodes}
+use Rattle.dcv_automaton_text.specs.Rules.{AreNames}
 use Rattle.dcv_c.specs.Rules.{IsWellNamed}
 use Rattle.dcv_c.specs.Form.{IsSpellable}
 use Rattle.dcv_synth.specs.Outcome.{IsUnrealisable}

@@ -6,6 +6,7 @@
 use Rattle.std.specs.Prelude.{◌≡◌, ℕ, ◌+◌, ◌<◌, ◌≤◌, List, ◌∷◌, ◌++◌, length, map}
 use Rattle.std.specs.Fmt.{decimal}
 use Rattle.std.specs.List.{All}
+use Rattle.dcv_language.specs.Limits.{most_nodes, number_bound}
 use Rattle.dcv_dfa.specs.NodeLines.{NodeLinesValue, IsBelow}
 use Rattle.dcv_automaton_file.specs.File.{Fits}
 use Rattle.dcv_c.specs.Seen.{name_at}
@@ -35,9 +36,9 @@ pub record HasNames (names : List (List ℕ)) (outputs : ℕ) (places : Places) 
 -- few enough that the places are numbers of the code
 pub record AreFew (places : Places) : Type 0 where
   pub inputs : places.inputs ≤ 16
-  pub nexts : places.nexts ≤ 1000000
+  pub nexts : places.nexts ≤ most_nodes
 
 pub record AreFitting (slots : ℕ) (all : NodeLinesValue) : Type 0 where
-  pub few : length all.lines ≤ 1000000
+  pub few : length all.lines ≤ most_nodes
   pub lines : All (Fits slots (length all.lines)) all.lines
-  pub rows : All (IsBelow 32768 (length all.lines)) all.rows
+  pub rows : All (IsBelow number_bound (length all.lines)) all.rows

@@ -1,6 +1,7 @@
 // The controller of least outputs, where the start can be held.
 ghost use Rattle.std.specs.Prelude.{◌≡◌, ◌<◌, ◌≤◌, ◌-◌, ◌+◌, ◌++◌, ◌∷◌, [], ℕ, length, IfOk, OnOk, IsTrue, if◌then◌else◌};
 ghost use Rattle.std.specs.List.{filter, range_with_len};
+ghost use Rattle.dcv_language.specs.Limits.{most_states};
 ghost use Rattle.dcv_dfa.specs.Auto.{count_of_nodes};
 ghost use Rattle.dcv_dfa.specs.Raw.{automaton_of};
 ghost use Rattle.dcv_synth.specs.Winning.{IsWin, is_held};
@@ -25,7 +26,7 @@ pub(crate) fn control(
 ) -> Result<Control, AllocError>
     requires inputs { inputs ≤ auto.now.arena.slots }
     requires outputs { auto.now.arena.slots ≤ inputs + 8 }
-    requires few { length auto.now.rows ≤ 32000 }
+    requires few { length auto.now.rows ≤ most_states }
     requires count { length ranks.now ≡ length auto.now.rows }
     requires win { IsWin inputs (auto.now.arena.slots - inputs) (automaton_of auto.now) (win_by (automaton_of auto.now) ranks.now) }
     requires held { IsTrue (is_held inputs (auto.now.arena.slots - inputs) (automaton_of auto.now) (win_by (automaton_of auto.now) ranks.now) auto.now.start) }

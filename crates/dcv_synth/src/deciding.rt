@@ -1,5 +1,6 @@
 // Which of the two wins from the start of an automaton, and how.
 ghost use Rattle.std.specs.Prelude.{◌≡◌, ◌↔◌, ◌<◌, ◌≤◌, ◌-◌, ◌+◌, ℕ, length, None, IfOk, IfSome, IfNone, IsTrue};
+ghost use Rattle.dcv_language.specs.Limits.{most_states};
 ghost use Rattle.dcv_dfa.specs.Auto.{count_of_nodes};
 ghost use Rattle.dcv_dfa.specs.Raw.{automaton_of, raw_accepts};
 ghost use Rattle.dcv_synth.specs.Game.{Wins, Beats};
@@ -33,7 +34,7 @@ pub enum Outcome {
 pub fn synth(alloc: Global, auto: &Auto, inputs: u8) -> Result<Outcome, AllocError>
     requires inputs { inputs ≤ auto.now.arena.slots }
     requires outputs { auto.now.arena.slots ≤ inputs + 8 }
-    requires few { length auto.now.rows ≤ 32000 }
+    requires few { length auto.now.rows ≤ most_states }
 
     // There is a controller exactly where each first input can be answered by an output that leads into Win.
     ensures realisable { IfOk result (λ outcome. IsTrue (is_controller outcome) ↔ IsRealisable inputs (auto.now.arena.slots - inputs) (automaton_of auto.now)) }

@@ -2,6 +2,7 @@
 // as W. Thomas has it, 1995). A round looks only at the rows that lead to states that the round before has beaten.
 ghost use Rattle.std.specs.Prelude.{◌≡◌, ◌≢◌, ◌↔◌, ◌-◌, ◌<◌, ◌≤◌, ℕ, suc, None, length, IfOk, OnOk, IsTrue, Contains};
 ghost use Rattle.std.specs.List.{All, range_with_len};
+ghost use Rattle.dcv_language.specs.Limits.{most_states};
 ghost use Rattle.dcv_dfa.specs.Raw.{automaton_of, IsRaw};
 ghost use Rattle.dcv_refinement.specs.Leads.{index_of};
 ghost use Rattle.dcv_synth.specs.Winning.{IsWin, is_held, is_beaten};
@@ -28,7 +29,7 @@ pub(crate) fn ranks(
     inputs: u8,
 ) -> Result<Vec<Option<Ranked>>, AllocError>
     requires inputs { inputs ≤ auto.now.arena.slots }
-    requires few { length auto.now.rows ≤ 32000 }
+    requires few { length auto.now.rows ≤ most_states }
     ensures ranks { IfOk result (λ ranks. AreRanked inputs (auto.now.arena.slots - inputs) (automaton_of auto.now) (length auto.now.rows) ranks.items) }
     ensures win { IfOk result (λ ranks. IsWin inputs (auto.now.arena.slots - inputs) (automaton_of auto.now) (win_by (automaton_of auto.now) ranks.items)) }
     ensures held { IfOk result (λ ranks. (state : ℕ) → state < length auto.now.rows → rank_at ranks.items state ≡ None
@@ -93,7 +94,7 @@ impl Standing<'_> {
         index: &Index<'_>,
         found: &mut Above,
     ) -> Result<(), AllocError>
-        requires bound { self.old.bound ≤ 32000 }
+        requires bound { self.old.bound ≤ most_states }
         requires index { index.now ≡ index_of auto.now.arena auto.now.rows }
         requires standing { IsStanding auto.now self.old.bound self.old.forcing self.old.ranks.items self.old.beaten.items }
         ensures bound { OnOk result (self.new.bound ≡ suc self.old.bound) }

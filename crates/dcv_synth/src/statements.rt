@@ -1,6 +1,7 @@
 // The statements of a controller's unit. A name stands in them by its place: the static first, then the inputs, then the locals.
 ghost use Rattle.std.specs.Prelude.{◌≡◌, ◌+◌, ◌<◌, ◌≤◌, ◌++◌, ℕ, List, length, map, slice_index_or, IfOk, OnOk};
 ghost use Rattle.std.specs.List.{All};
+ghost use Rattle.dcv_language.specs.Limits.{most_nodes, number_bound};
 ghost use Rattle.dcv_dfa.specs.declared.node_lines.Child.TheVariants.{State as AnyState};
 ghost use Rattle.dcv_dfa.specs.NodeLines.{IsBelow};
 ghost use Rattle.dcv_automaton_file.specs.File.{Fits};
@@ -65,7 +66,7 @@ pub(crate) fn statements(
 ) -> Result<Vec<Statement>, AllocError>
     requires few { AreFew places }
     requires nexts { length next.now.lines ≡ places.nexts }
-    requires states { All (λ state. state < 32768) states.now }
+    requires states { All (λ state. state < number_bound) states.now }
     requires next_count { length next.now.rows ≡ length states.now }
     requires output_count { length output.now.rows ≡ length states.now }
     requires next_fits { AreFitting places.inputs next.now }
@@ -106,8 +107,8 @@ fn push_choices(
     lines: &[NodeLine],
 ) -> Result<(), AllocError>
     requires first { first ≤ 2000000 }
-    requires few { length lines.now ≤ 1000000 }
-    requires fit { All (Fits 256 1000000) lines.now }
+    requires few { length lines.now ≤ most_nodes }
+    requires fit { All (Fits 256 most_nodes) lines.now }
     ensures { OnOk result ((all names : List (List ℕ)) (name : ℕ → List ℕ) → StandAt all 1 (length names) (input_name names)
         → StandAt all first (length lines.now) name → All (Fits (length names) (length lines.now)) lines.now
         → map (seen_statement all) statements.new.items ≡ map (seen_statement all) statements.old.items ++ choices name names lines.now) }
@@ -121,8 +122,8 @@ fn push_choices(
 // `nJ = v_NAME ? HI : LO`.
 fn node_choice(first: u32, number: u32, line: NodeLine) -> Statement
     requires first { first ≤ 2000000 }
-    requires number { number < 1000000 }
-    requires fits { Fits 256 1000000 line }
+    requires number { number < most_nodes }
+    requires fits { Fits 256 most_nodes line }
     ensures { (all names : List (List ℕ)) (name : ℕ → List ℕ) (nodes : ℕ) → StandAt all 1 (length names) (input_name names)
         → StandAt all first nodes name → number < nodes → Fits (length names) nodes line
         → seen_statement all result ≡ choice name names (number, line) }
@@ -136,8 +137,8 @@ fn node_choice(first: u32, number: u32, line: NodeLine) -> Statement
 // A number, or the name of a node.
 fn child_item(first: u32, child: Child) -> Item
     requires first { first ≤ 2000000 }
-    requires child { IsBelow 32768 1000000 child }
-    ensures { (all : List (List ℕ)) (name : ℕ → List ℕ) (nodes : ℕ) → StandAt all first nodes name → IsBelow 32768 nodes child
+    requires child { IsBelow number_bound most_nodes child }
+    ensures { (all : List (List ℕ)) (name : ℕ → List ℕ) (nodes : ℕ) → StandAt all first nodes name → IsBelow number_bound nodes child
         → seen_item all result ≡ target name child }
 {
     match child {
@@ -163,13 +164,13 @@ fn push_rows(
     outputs: &[Child],
 ) -> Result<(), AllocError>
     requires few { AreFew places }
-    requires states { All (λ state. state < 32768) states.now }
+    requires states { All (λ state. state < number_bound) states.now }
     requires next_count { length nexts.now ≡ length states.now }
     requires output_count { length outputs.now ≡ length states.now }
-    requires nexts { All (IsBelow 32768 1000000) nexts.now }
-    requires outputs { All (IsBelow 32768 1000000) outputs.now }
+    requires nexts { All (IsBelow number_bound most_nodes) nexts.now }
+    requires outputs { All (IsBelow number_bound most_nodes) outputs.now }
     ensures { OnOk result ((all names : List (List ℕ)) (count : ℕ) → HasNames names count places all
-        → All (IsBelow 32768 places.nexts) nexts.now → All (IsBelow 32768 count) outputs.now
+        → All (IsBelow number_bound places.nexts) nexts.now → All (IsBelow number_bound count) outputs.now
         → map (seen_statement all) statements.new.items
         ≡ map (seen_statement all) statements.old.items ++ all_state_choices states.now nexts.now outputs.now) }
 {
@@ -202,11 +203,11 @@ fn push_row(
     row: StateRow,
 ) -> Result<(), AllocError>
     requires few { AreFew places }
-    requires state { row.state < 32768 }
-    requires next { IsBelow 32768 1000000 row.next }
-    requires output { IsBelow 32768 1000000 row.output }
+    requires state { row.state < number_bound }
+    requires next { IsBelow number_bound most_nodes row.next }
+    requires output { IsBelow number_bound most_nodes row.output }
     ensures { OnOk result ((all names : List (List ℕ)) (count : ℕ) → HasNames names count places all
-        → IsBelow 32768 places.nexts row.next → IsBelow 32768 count row.output
+        → IsBelow number_bound places.nexts row.next → IsBelow number_bound count row.output
         → map (seen_statement all) statements.new.items
         ≡ map (seen_statement all) statements.old.items ++ state_choices (row.state, (row.next, row.output))) }
 {
@@ -218,9 +219,9 @@ fn push_row(
 // `if (st == I) nx = R`.
 fn next_choice(places: Places, state: u32, next: Child) -> Statement
     requires few { AreFew places }
-    requires state { state < 32768 }
-    requires next { IsBelow 32768 1000000 next }
-    ensures { (all names : List (List ℕ)) (count : ℕ) → HasNames names count places all → IsBelow 32768 places.nexts next
+    requires state { state < number_bound }
+    requires next { IsBelow number_bound most_nodes next }
+    ensures { (all names : List (List ℕ)) (count : ℕ) → HasNames names count places all → IsBelow number_bound places.nexts next
         → seen_statement all result ≡ next_choice_of state next }
 {
     let item = child_item(places.next_nodes(), next);
@@ -230,9 +231,9 @@ fn next_choice(places: Places, state: u32, next: Child) -> Statement
 // `if (st == I) y = R`.
 fn output_choice(places: Places, state: u32, output: Child) -> Statement
     requires few { AreFew places }
-    requires state { state < 32768 }
-    requires output { IsBelow 32768 1000000 output }
-    ensures { (all names : List (List ℕ)) (count : ℕ) → HasNames names count places all → IsBelow 32768 count output
+    requires state { state < number_bound }
+    requires output { IsBelow number_bound most_nodes output }
+    ensures { (all names : List (List ℕ)) (count : ℕ) → HasNames names count places all → IsBelow number_bound count output
         → seen_statement all result ≡ output_choice_of state output }
 {
     let item = child_item(places.output_nodes(), output);

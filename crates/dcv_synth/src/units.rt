@@ -3,7 +3,8 @@ ghost use Rattle.std.specs.Prelude.{◌≡◌, ◌<◌, ◌≤◌, ◌∷◌, []
 ghost use Rattle.std.specs.List.{All};
 ghost use Rattle.dcv_word.specs.Behaviour.{Word, IsBehaviour};
 ghost use Rattle.dcv_language.specs.Language.{Language};
-ghost use Rattle.dcv_automaton_text.specs.Rules.{AreNames, most_nodes};
+ghost use Rattle.dcv_language.specs.Limits.{most_nodes, number_bound};
+ghost use Rattle.dcv_automaton_text.specs.Rules.{AreNames};
 ghost use Rattle.dcv_automaton_file.specs.File.{texts_of};
 ghost use Rattle.dcv_c.specs.Tree.{Read as ReadByName};
 ghost use Rattle.dcv_c.specs.Observer.{parameter_name};
@@ -60,7 +61,7 @@ fn step_of(
     output: &NodeLines,
 ) -> Result<Step, AllocError>
     requires names { AreNames (texts_of names.now) }
-    requires states { All (λ state. state < 32768) states.now }
+    requires states { All (λ state. state < number_bound) states.now }
     requires next_count { length next.now.rows ≡ length states.now }
     requires output_count { length output.now.rows ≡ length states.now }
     requires next_fits { AreFitting (length names.now) next.now }

@@ -1,5 +1,6 @@
 use Rattle.std.proofs.Common.{◌≡◌, ◌+◌, ◌*◌, ◌≤◌, length}
-use Rattle.dcv_automaton_text.specs.Rules.{keeps_node, most_nodes}
+use Rattle.dcv_language.specs.Limits.{most_nodes}
+use Rattle.dcv_automaton_text.specs.Rules.{keeps_node}
 use Rattle.dcv_automaton_text.specs.Spelled.{node_words}
 use Rattle.dcv_automaton_lines.specs.Seen.{file_of}
 use Rattle.dcv_automaton_read.specs.Seen.{AreNodesOf}

@@ -1,5 +1,6 @@
 use Rattle.std.proofs.Common.{◌≡◌, ℕ, ◌<◌, ◌++◌, List, length, map, subst, ◌∙◌, arith}
 use Rattle.std.proofs.lemmas.List.{take_all}
+use Rattle.dcv_language.specs.Limits.{number_bound}
 use Rattle.dcv_dfa.specs.declared.node_lines.Child.{Child}
 use Rattle.dcv_dfa.specs.declared.node_lines.Child.TheVariants.{State}
 use Rattle.dcv_dfa.specs.NodeLines.{IsBelow}
@@ -16,7 +17,7 @@ loop-place-preserved c = λ (all names : List (List ℕ)) (count : ℕ) has next
     row_pushed (seen_statement all) states c.args.nexts.now c.args.outputs.now k c.requires.next_count c.requires.output_count within
     c.args.statements.now.items c.loop-place.statements.items c.push_row.new.statements.items
     (c.loop-place.invariant all names count has next_below output_below)
-    (subst (λ (row : ℕ × (Child × Child)). IsBelow 32768 c.args.places.nexts row.1.0 → IsBelow 32768 count row.1.1
+    (subst (λ (row : ℕ × (Child × Child)). IsBelow number_bound c.args.places.nexts row.1.0 → IsBelow number_bound count row.1.1
     → map (seen_statement all) c.push_row.new.statements.items ≡ map (seen_statement all) c.loop-place.statements.items ++ state_choices row)
     (λ i. (c.row_at.ensures.state i, (c.row_at.ensures.next i, c.row_at.ensures.output i))) (c.in_ok-push_row.ensures all names count has)
     (next_below k (State 0) (omega (arith, within, c.requires.next_count))) (output_below k (State 0) (omega (arith, within, c.requires.output_count))))

@@ -1,5 +1,6 @@
 use Rattle.std.proofs.Common.{◌≡◌, ℕ, ◌++◌, List, length, map, sym, ap, subst, ◌∙◌}
 use Rattle.std.specs.List.{All}
+use Rattle.dcv_language.specs.Limits.{number_bound}
 use Rattle.dcv_dfa.specs.declared.node_lines.NodeLine.{NodeLine}
 use Rattle.dcv_dfa.specs.NodeLines.{IsBelow}
 use Rattle.dcv_automaton_file.specs.File.{Fits}
@@ -33,10 +34,10 @@ returns c = λ (all names : List (List ℕ)) has.
     ∙ ap (λ lines. map see c.push-2.new.self.items ++ choices node_name names lines) next_lines in
     let fourth = c.in_ok-push_choices-2.ensures all names output_node_name has.inputs output_stand output_fit
     ∙ ap (λ lines. map see c.push_choices.new.statements.items ++ choices output_node_name names lines) output_lines in
-    let next_rows : All (IsBelow 32768 c.args.places.nexts) c.rows.result.now =
-    subst (All (IsBelow 32768 c.args.places.nexts)) (sym c.rows.ensures)
-    (subst (λ n. All (IsBelow 32768 n) c.args.next.now.rows) c.requires.nexts c.requires.next_fits.rows) in
-    let output_rows : All (IsBelow 32768 (length outputs)) c.rows-2.result.now = subst (All (IsBelow 32768 (length outputs))) (sym c.rows-2.ensures) c.requires.output_fits.rows in
+    let next_rows : All (IsBelow number_bound c.args.places.nexts) c.rows.result.now =
+    subst (All (IsBelow number_bound c.args.places.nexts)) (sym c.rows.ensures)
+    (subst (λ n. All (IsBelow number_bound n) c.args.next.now.rows) c.requires.nexts c.requires.next_fits.rows) in
+    let output_rows : All (IsBelow number_bound (length outputs)) c.rows-2.result.now = subst (All (IsBelow number_bound (length outputs))) (sym c.rows-2.ensures) c.requires.output_fits.rows in
     let fifth = c.in_ok-push_rows.ensures all names (length outputs) has next_rows output_rows
     ∙ (λ i. map see c.push_choices-2.new.statements.items ++ all_state_choices c.args.states.now (c.rows.ensures i) (c.rows-2.ensures i)) in
     in_turn see c.new-statements.result.items c.push.new.self.items c.push-2.new.self.items c.push_choices.new.statements.items

@@ -1,5 +1,6 @@
 use Rattle.std.proofs.Common.{◌<◌, ap, subst, take, ◌++◌, ◌∷◌, [], arith, length-append}
 use Rattle.std.proofs.lemmas.List.{length-take}
+use Rattle.dcv_replay.specs.TraceText.{most_lines}
 use Rattle.dcv_replay.specs.Coming.{LinesValue, IsBad}
 use Rattle.dcv_replay.proofs.Texts.{long_is_bad, feedless_more}
 use Rattle.dcv_replay.proofs.LineFacts.{bad_at, some_bytes}
@@ -13,7 +14,7 @@ returns-then-self-eq-LONGEST-clause-ok c =
     let is = c.self.invariant.1 in
     let counts = ap (λ (lines : LinesValue). lines.count) c.self.view_is in
     let long = length-take c.self.inside.filled c.self.inside.bytes in
-    let few : c.args.self.now.count < 1000000 = grind (arith, counts, c.if-self-eq-MOST_LINES.false, is.few) in
+    let few : c.args.self.now.count < most_lines = grind (arith, counts, c.if-self-eq-MOST_LINES.false, is.few) in
     bad_at _ _ _ c.bad_line.ensures few some_bytes
     (subst (λ (lines : LinesValue). IsBad lines.width (lines.line ++ c.args.byte ∷ [])) c.self.view_is
     (long_is_bad _ _ is.width (feedless_more _ (c.args.byte ∷ []) is.feedless (c.if-byte-eq10.false, tt))
