@@ -8,7 +8,8 @@ use Rattle.std.proofs.lemmas.Option.{slice_get_within, get_or_from_slice_get}
 use Rattle.dcv_word.specs.Letter.{bits_of, letters_of_width}
 use Rattle.dcv_word.specs.Laws.{LetterStandsAtItsBits}
 use Rattle.dcv_language.specs.Table.{no_state, next_in, is_accepting}
-use Rattle.dcv_automaton_text.specs.File.{Target, NodeLine, StateLine, AutomatonFile}
+use Rattle.dcv_language.specs.declared.child.Child.{Child}
+use Rattle.dcv_automaton_text.specs.File.{NodeLine, StateLine, AutomatonFile}
 use Rattle.dcv_automaton_text.specs.Meaning.{state_at, states_at, state_of, table_of}
 use Rattle.dcv_automaton_text.specs.Rules.{slot_of}
 use Rattle.dcv_automaton_text.proofs.GoodTables.{no_line, state-at}
@@ -24,7 +25,7 @@ states_count names letter (line ∷ lines) states =
     states_count names letter lines (states ++ next ∷ []) ∙ omega (arith, length_push states next)
 
 module _ (file : AutomatonFile) (stands : LetterStandsAtItsBits) where
-  abbrev pub row_at : ℕ → Target
+  abbrev pub row_at : ℕ → Child
   row_at state = (get_or file.state_lines state no_row).row
 
   state_there : (state : ℕ) → state < length file.state_lines → get_or (table_of file) state no_state ≡ state_of file (get_or file.state_lines state no_row)

@@ -1,6 +1,5 @@
 -- What a file has to be for its observer: its lines stand at their numbers, and what they name is there. So are the file of an automaton,
 -- and each file that keeps the table rules.
---     IsBelow states nodes target      a state, or a node, that is one of so many
 --     GoodLines, GoodRows              the lines of nodes and of states
 --     no_row                           the line of a state that is none
 --     IsObservable file                what is needed of a file
@@ -13,23 +12,19 @@ use Rattle.std.proofs.lemmas.List.Folds.{list_any_at}
 use Rattle.std.proofs.lemmas.List.FromFn.{length-enumerate_from}
 use Rattle.std.proofs.lemmas.Option.{slice_get-get_or}
 use Rattle.dcv_language.specs.Limits.{most_states, most_nodes}
-use Rattle.dcv_dfa.specs.declared.node_lines.Child.{Child}
-use Rattle.dcv_dfa.specs.declared.node_lines.Child.TheVariants.{State, Node as NodeAt}
+use Rattle.dcv_language.specs.declared.child.Child.{Child}
+use Rattle.dcv_language.specs.declared.child.Child.TheVariants.{State, Node as NodeAt}
 use Rattle.dcv_dfa.specs.declared.node_lines.NodeLine.{NodeLine as CodeNodeLine}
-use Rattle.dcv_dfa.specs.NodeLines.{node_lines_of, numbered, IsBelow as IsChildBelow, IsLine}
+use Rattle.dcv_dfa.specs.NodeLines.{node_lines_of, numbered, IsBelow, IsLine}
 use Rattle.dcv_dfa.specs.Raw.{RawValue}
 use Rattle.dcv_dfa.proofs.Reduced.{has_node_lines}
-use Rattle.dcv_automaton_text.specs.File.{Target, ToState, ToNode, NodeLine, StateLine, AccessLine, SuffixLine, AutomatonFile}
+use Rattle.dcv_automaton_text.specs.File.{NodeLine, StateLine, AccessLine, SuffixLine, AutomatonFile}
 use Rattle.dcv_automaton_text.specs.GoodFile.{IsChild, IsGoodNodeLine, IsRow, IsGoodStateLine, IsGoodFile}
 use Rattle.dcv_automaton_text.specs.Rules.{AreNames, slot_of, is_listed, IsGood}
 use Rattle.dcv_automaton_text.proofs.InWords.{listed_slot, good_files_in_words}
-use Rattle.dcv_automaton_file.specs.File.{target_of, node_line, state_line, file_of}
+use Rattle.dcv_automaton_file.specs.File.{node_line, state_line, file_of}
 use Rattle.dcv_automaton_file.specs.Laws.{HasFile}
 use Rattle.dcv_automaton_file.proofs.Tables.{same_bytes}
-
-abbrev pub IsBelow : ℕ → ℕ → Target → Type 0
-IsBelow states nodes (ToState number) = number < states
-IsBelow states nodes (ToNode number) = number < nodes
 
 -- the line of the node with this number
 pub record GoodLine (names : List (List ℕ)) (states number : ℕ) (line : NodeLine) : Type 0 where
@@ -54,7 +49,7 @@ GoodRows states nodes number (line ∷ lines) = GoodRow states nodes number line
 
 -- of a state that is none
 abbrev pub no_row : StateLine
-no_row = record { number = 0; accepting = false; row = ToState 0 }
+no_row = record { number = 0; accepting = false; row = State 0 }
 
 pub record IsObservable (file : AutomatonFile) : Type 0 where
   pub names : AreNames file.names
@@ -85,13 +80,13 @@ rows_from states nodes (line ∷ lines) number each = (
 )
 
 module _ (file : AutomatonFile) (is : IsGoodFile file) where
-  child_below : (place : ℕ) (target : Target) → IsChild file place target → IsBelow (length file.state_lines) place target
-  child_below place (ToState number) below = omega (arith, is.all_states, below)
-  child_below place (ToNode number) earlier = earlier.earlier
+  child_below : (place : ℕ) (target : Child) → IsChild file place target → IsBelow (length file.state_lines) place target
+  child_below place (State number) below = omega (arith, is.all_states, below)
+  child_below place (NodeAt number) earlier = earlier.earlier
 
-  row_below : (target : Target) → IsRow file target → IsBelow (length file.state_lines) (length file.node_lines) target
-  row_below (ToState number) below = omega (arith, is.all_states, below)
-  row_below (ToNode number) below = below
+  row_below : (target : Child) → IsRow file target → IsBelow (length file.state_lines) (length file.node_lines) target
+  row_below (State number) below = omega (arith, is.all_states, below)
+  row_below (NodeAt number) below = below
 
   good_line : (k : ℕ) (line : NodeLine) → IsGoodNodeLine file k line → GoodLine file.names (length file.state_lines) k line
   good_line k line good = record {
@@ -122,10 +117,6 @@ good_is_observable file good =
 
 -- ---- files of automata
 
-target_below : (states nodes : ℕ) (child : Child) → IsChildBelow states nodes child → IsBelow states nodes (target_of child)
-target_below states nodes (State state) below = below
-target_below states nodes (NodeAt number) below = below
-
 lines_of_nodes : (names : List (List ℕ)) (states : ℕ) (all lines : List CodeNodeLine) (number : ℕ)
     → ((k : ℕ) (d : CodeNodeLine) → k < length lines → IsLine (length names) states all (number + k) (get_or lines k d))
     → GoodLines names states number (map (node_line names) (enumerate_from number lines))
@@ -137,19 +128,19 @@ lines_of_nodes names states all (line ∷ lines) number is =
       record {
         number_is = refl;
         listed = list_any_at (bytes_eq name) names line.slot [] first.slot (same_bytes name);
-        hi = target_below states number line.hi first.hi_below;
-        lo = target_below states number line.lo first.lo_below;
+        hi = first.hi_below;
+        lo = first.lo_below;
       },
       lines_of_nodes names states all lines (number + 1) (λ k d within.
           subst (λ n. IsLine (length names) states all n (get_or lines k d)) (let same : number + suc k ≡ number + 1 + k = omega arith in same) (is (suc k) d (omega arith))),
     )
 
 rows_of_states : (raw : RawValue) (states nodes : ℕ) (rows : List Child) (number : ℕ)
-    → ((k : ℕ) (d : Child) → k < length rows → IsChildBelow states nodes (get_or rows k d))
+    → ((k : ℕ) (d : Child) → k < length rows → IsBelow states nodes (get_or rows k d))
     → GoodRows states nodes number (map (state_line raw) (enumerate_from number rows))
 rows_of_states raw states nodes [] number below = tt
 rows_of_states raw states nodes (row ∷ rows) number below = (
-  record { number_is = refl; row = target_below states nodes row (below 0 row (omega arith)) },
+  record { number_is = refl; row = below 0 row (omega arith) },
   rows_of_states raw states nodes rows (number + 1) (λ k d within. below (suc k) d (omega arith)),
 )
 

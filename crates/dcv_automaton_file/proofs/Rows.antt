@@ -5,8 +5,8 @@ use Rattle.std.specs.List.{All, range_with_len, enumerate_from, filter}
 use Rattle.std.proofs.lemmas.List.{take_more, length-take-le, map_push}
 use Rattle.std.proofs.lemmas.Option.{slice_get-get_or}
 use Rattle.dcv_language.specs.Limits.{most_nodes}
-use Rattle.dcv_dfa.specs.declared.node_lines.Child.{Child}
-use Rattle.dcv_dfa.specs.declared.node_lines.Child.TheVariants.{State, Node as NodeAt}
+use Rattle.dcv_language.specs.declared.child.Child.{Child}
+use Rattle.dcv_language.specs.declared.child.Child.TheVariants.{State, Node as NodeAt}
 use Rattle.dcv_dfa.specs.declared.node_lines.NodeLine.{NodeLine}
 use Rattle.dcv_dfa.specs.Auto.{IsAuto, count_of_nodes}
 use Rattle.dcv_dfa.specs.NodeLines.{NodeLinesValue, node_lines_of, numbered, IsBelow, AreReduced}

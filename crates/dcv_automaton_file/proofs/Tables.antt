@@ -9,8 +9,8 @@ use Rattle.std.proofs.lemmas.Option.{slice_get-get_or}
 use Rattle.std.proofs.lemmas.Slice.Eq.{bytes_eq-Decides}
 use Rattle.dcv_word.specs.Letter.{letters_of_width}
 use Rattle.dcv_arena.specs.Arena.{table_of as arena_table}
-use Rattle.dcv_dfa.specs.declared.node_lines.Child.{Child}
-use Rattle.dcv_dfa.specs.declared.node_lines.Child.TheVariants.{State, Node}
+use Rattle.dcv_language.specs.declared.child.Child.{Child}
+use Rattle.dcv_language.specs.declared.child.Child.TheVariants.{State, Node}
 use Rattle.dcv_dfa.specs.declared.node_lines.NodeLine.{NodeLine}
 use Rattle.dcv_dfa.specs.Auto.{IsAuto, table_of_states}
 use Rattle.dcv_dfa.specs.Laws.{LinesLeadAsTheRows}
@@ -21,7 +21,7 @@ use Rattle.dcv_dfa.proofs.States.{table_has_the_states, state-at}
 use Rattle.dcv_automaton_text.specs.File.{NodeLine as PlainNodeLine}
 use Rattle.dcv_automaton_text.specs.Meaning.{state_at as plain_state_at, states_at as plain_states_at, state_of as plain_state_of, table_of}
 use Rattle.dcv_automaton_text.specs.Rules.{slot_of}
-use Rattle.dcv_automaton_file.specs.File.{target_of, node_line, state_line, file_of}
+use Rattle.dcv_automaton_file.specs.File.{node_line, state_line, file_of}
 use Rattle.dcv_automaton_file.specs.Laws.{FileHasTheTable}
 
 -- ---- names
@@ -48,12 +48,12 @@ slot_at (name ∷ names) (suc slot) differ below =
 
 -- ---- lines
 
-same_state : (states : List ℕ) (child : Child) → plain_state_at states (target_of child) ≡ state_at states child
+same_state : (states : List ℕ) (child : Child) → plain_state_at states child ≡ state_at states child
 same_state states (State state) = refl
 same_state states (Node number) = refl
 
 same_choice : (states : List ℕ) (side : Bool) (hi lo : Child)
-    → plain_state_at states (cond side (target_of hi) (target_of lo)) ≡ state_at states (cond side hi lo)
+    → plain_state_at states (cond side hi lo) ≡ state_at states (cond side hi lo)
 same_choice states true hi lo = same_state states hi
 same_choice states false hi lo = same_state states lo
 
@@ -67,7 +67,7 @@ module _ (names : List (List ℕ)) (differ : AllPairs ◌≢◌ names) (letter :
   same_step : (states : List ℕ) (number : ℕ) (line : NodeLine) → line.slot < length names
       → plain_step states (node_line names (number, line)) ≡ step states line
   same_step states number line below =
-      ap (λ slot. states ++ plain_state_at states (cond (get_or letter slot false) (target_of line.hi) (target_of line.lo)) ∷ []) (slot_at names line.slot differ below)
+      ap (λ slot. states ++ plain_state_at states (cond (get_or letter slot false) line.hi line.lo) ∷ []) (slot_at names line.slot differ below)
       ∙ ap (λ state. states ++ state ∷ []) (same_choice states (get_or letter line.slot false) line.hi line.lo)
 
   same_steps : (lines : List NodeLine) (first : ℕ) (states : List ℕ) → All (λ (line : NodeLine). line.slot < length names) lines
@@ -114,7 +114,7 @@ file_table lead raw names access suffixes is =
     let place : 0 + k ≡ k = omega arith in
     let row = get_or all.rows k (State 0) in
     let same = λ (letter : List Bool).
-    ap (λ values. plain_state_at values (target_of row)) (same_states names is.are_names.differ letter all.lines below)
+    ap (λ values. plain_state_at values row) (same_states names is.are_names.differ letter all.lines below)
     ∙ same_state (states_at letter all.lines) row
     ∙ lead raw k letter is.is_raw here in
     at

@@ -1,6 +1,6 @@
 -- The file of an automaton: a line for each node of its rows, by the names of its variables, and one for each state.
 --     texts_of names                        names as bytes
---     target_of child                       a state or a node, as a line names it
+--     child                       a state or a node, as a line names it
 --     node_line names (number, line)        the line of the node with this number
 --     state_line raw (number, row)          the line of the state with this number
 --     state_lines raw rows                  the lines of states with these rows
@@ -10,31 +10,27 @@ use Rattle.std.specs.Prelude.{ℕ, ◌<◌, List, [], None, length, map, slice_i
 use Rattle.std.specs.List.{enumerate_from}
 use Rattle.dcv_syntax.specs.declared.names.Name.{Name}
 use Rattle.dcv_language.specs.Limits.{number_bound}
-use Rattle.dcv_dfa.specs.declared.node_lines.Child.{Child}
-use Rattle.dcv_dfa.specs.declared.node_lines.Child.TheVariants.{State, Node}
+use Rattle.dcv_language.specs.declared.child.Child.{Child}
+use Rattle.dcv_language.specs.declared.child.Child.TheVariants.{State, Node}
 use Rattle.dcv_dfa.specs.declared.node_lines.NodeLine.{NodeLine as CodeNodeLine}
 use Rattle.dcv_dfa.specs.Raw.{RawValue, is_accepting}
 use Rattle.dcv_dfa.specs.NodeLines.{node_lines_of, IsBelow}
-use Rattle.dcv_automaton_text.specs.File.{Target, ToState, ToNode, NodeLine, StateLine, AccessLine, SuffixLine, AutomatonFile}
+use Rattle.dcv_automaton_text.specs.File.{NodeLine, StateLine, AccessLine, SuffixLine, AutomatonFile}
 
 abbrev pub texts_of : List Name → List (List ℕ)
 texts_of names = map (λ (name : Name). name.text) names
 
 -- ---- what the parts of a line stand for
 
-abbrev pub target_of : Child → Target
-target_of (State state) = ToState state
-target_of (Node number) = ToNode number
-
 -- ---- lines, of what has a number
 
 abbrev pub node_line : List (List ℕ) → ℕ × CodeNodeLine → NodeLine
 node_line names numbered =
     let line = numbered.1 in
-    record { number = numbered.0; name = slice_index_or names line.slot []; hi = target_of line.hi; lo = target_of line.lo }
+    record { number = numbered.0; name = slice_index_or names line.slot []; hi = line.hi; lo = line.lo }
 
 abbrev pub state_line : RawValue → ℕ × Child → StateLine
-state_line raw numbered = record { number = numbered.0; accepting = is_accepting raw numbered.0; row = target_of numbered.1 }
+state_line raw numbered = record { number = numbered.0; accepting = is_accepting raw numbered.0; row = numbered.1 }
 
 -- the lines of states with these rows
 abbrev pub state_lines : RawValue → List Child → List StateLine

@@ -9,14 +9,16 @@ use Rattle.std.specs.Prelude.{ℕ, List, [], ◌∷◌, ◌++◌, map}
 use Rattle.std.specs.Fmt.{decimal}
 use Rattle.std.specs.List.{filter, join_by}
 use Rattle.std.specs.Str.{byte}
-use Rattle.dcv_automaton_text.specs.File.{Target, ToState, ToNode, NodeLine, StateLine}
+use Rattle.dcv_language.specs.declared.child.Child.{Child}
+use Rattle.dcv_language.specs.declared.child.Child.TheVariants.{State, Node}
+use Rattle.dcv_automaton_text.specs.File.{NodeLine, StateLine}
 use Rattle.dcv_automaton_file.specs.declared.lines.Listing.{Listing}
 use Rattle.dcv_automaton_file.specs.declared.lines.NodeLayout.{NodeLayout}
 use Rattle.dcv_automaton_file.specs.declared.lines.RowLayout.{RowLayout}
 
-abbrev pub child_text : Target → List ℕ
-child_text (ToState state) = decimal state
-child_text (ToNode number) = byte "n" ∷ decimal number
+abbrev pub child_text : Child → List ℕ
+child_text (State state) = decimal state
+child_text (Node number) = byte "n" ∷ decimal number
 
 abbrev pub node_text : NodeLayout → NodeLine → List ℕ
 node_text layout line =

@@ -3,12 +3,13 @@ ghost use Rattle.std.specs.Prelude.{◌≡◌, ◌<◌, ◌||◌, ◌++◌, [], 
 ghost use Rattle.std.specs.List.{All, range_with_len, enumerate_from, flat_map};
 ghost use Rattle.dcv_io.specs.Putting.{Puts};
 ghost use Rattle.dcv_dfa.specs.Raw.{RawValue};
-ghost use Rattle.dcv_dfa.specs.declared.node_lines.Child.{Child as PlainChild};
-ghost use Rattle.dcv_automaton_file.specs.File.{texts_of, target_of, node_line, state_lines};
+ghost use Rattle.dcv_language.specs.declared.child.Child.{Child as PlainChild};
+ghost use Rattle.dcv_automaton_file.specs.File.{texts_of, node_line, state_lines};
 ghost use Rattle.dcv_automaton_file.specs.Lines.{child_text, node_text, row_text, one_listed, listed, accepting_numbers};
 
-use dcv_dfa::{Auto, Child, NodeLine};
+use dcv_dfa::{Auto, NodeLine};
 use dcv_io::{Target, put_pieces};
+use dcv_language::Child;
 use dcv_syntax::Name;
 use itoa::Buffer;
 
@@ -104,7 +105,7 @@ fn put_node<T: Target>(
     line: NodeLine,
 )
     ensures { Puts (T.standing target.old) (T.standing target.new)
-        (node_text layout.now (record { number = number; name = name.now; hi = target_of line.hi; lo = target_of line.lo })) }
+        (node_text layout.now (record { number = number; name = name.now; hi = line.hi; lo = line.lo })) }
 {
     put_node_start(target, layout, number, name);
     put_child(target, line.hi);
@@ -133,7 +134,7 @@ fn put_node_start<T: Target>(target: &mut T, layout: &NodeLayout<'_>, number: us
 
 /// Puts a state as its number, and a node as `nJ`.
 pub fn put_child<T: Target>(target: &mut T, child: Child)
-    ensures { Puts (T.standing target.old) (T.standing target.new) (child_text (target_of child)) }
+    ensures { Puts (T.standing target.old) (T.standing target.new) (child_text child) }
 {
     let mut digits = Buffer::new();
     match child {
@@ -155,7 +156,7 @@ pub fn put_rows<T: Target>(target: &mut T, layout: &RowLayout<'_>, rows: &[Child
 
 fn put_row<T: Target>(target: &mut T, layout: &RowLayout<'_>, number: usize, row: Child)
     ensures { Puts (T.standing target.old) (T.standing target.new)
-        (layout.now.number.now ++ (decimal number ++ (layout.now.row.now ++ (child_text (target_of row) ++ layout.now.end.now)))) }
+        (layout.now.number.now ++ (decimal number ++ (layout.now.row.now ++ (child_text row ++ layout.now.end.now)))) }
 {
     put_row_start(target, layout, number);
     put_child(target, row);

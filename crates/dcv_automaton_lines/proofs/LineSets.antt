@@ -6,7 +6,8 @@ use Rattle.std.specs.Fmt.{decimal}
 use Rattle.std.proofs.lemmas.Fmt.{decimal_nonempty}
 use Rattle.std.specs.List.{list_all}
 use Rattle.dcv_word.specs.TraceLine.{trace_line, digit_of}
-use Rattle.dcv_automaton_text.specs.File.{Target, ToState}
+use Rattle.dcv_language.specs.declared.child.Child.{Child}
+use Rattle.dcv_language.specs.declared.child.Child.TheVariants.{State}
 use Rattle.dcv_automaton_text.specs.Form.{IsNumber, IsTarget, IsNameWord}
 use Rattle.dcv_automaton_text.specs.Spelled.{node_word, target_word, answer_word}
 use Rattle.dcv_automaton_text.proofs.Words.{digits_are}
@@ -41,20 +42,20 @@ number_is = record { number = 0; small = omega arith; is = refl }
 node_is : NodeWord (node_word 0)
 node_is = record { number = 0; small = omega arith; is = refl }
 
-target_is : TargetWord (target_word (ToState 0))
-target_is = record { target = ToState 0; small = omega arith; is = refl }
+target_is : TargetWord (target_word (State 0))
+target_is = record { target = State 0; small = omega arith; is = refl }
 
 letter_word_is : LetterWord (codes "-")
 letter_word_is = record { letter = []; is = refl }
 
 pub some_lo : Some NodeLo
-some_lo = some_followed 10 (target_word (ToState 0)) target_is some_nothing
+some_lo = some_followed 10 (target_word (State 0)) target_is some_nothing
 
 pub some_colon : Some NodeColon
 some_colon = some_followed 32 (codes ":") (record { is = refl }) some_lo
 
 pub some_hi : Some NodeHi
-some_hi = some_followed 32 (target_word (ToState 0)) target_is some_colon
+some_hi = some_followed 32 (target_word (State 0)) target_is some_colon
 
 pub some_mark : Some NodeMark
 some_mark = some_followed 32 (codes "?") (record { is = refl }) some_hi
@@ -66,7 +67,7 @@ pub some_node_body : Some NodeBody
 some_node_body = some_followed 32 (node_word 0) node_is some_name
 
 pub some_row : Some StateRow
-some_row = some_followed 10 (target_word (ToState 0)) target_is some_nothing
+some_row = some_followed 10 (target_word (State 0)) target_is some_nothing
 
 pub some_answer : Some StateAnswer
 some_answer = some_followed 32 (codes "accept") (record { accepting = true; is = refl }) some_row
@@ -251,7 +252,7 @@ number_of n small = record { number = n; small = small; is = refl }
 pub node_of : (n : ℕ) → IsNumber n → NodeWord (node_word n)
 node_of n small = record { number = n; small = small; is = refl }
 
-pub target_of : (target : Target) → IsTarget target → TargetWord (target_word target)
+pub target_of : (target : Child) → IsTarget target → TargetWord (target_word target)
 target_of target small = record { target = target; small = small; is = refl }
 
 pub answer_of : (accepting : Bool) → AnswerWord (answer_word accepting)

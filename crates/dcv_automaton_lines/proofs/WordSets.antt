@@ -10,7 +10,8 @@ use Rattle.std.proofs.lemmas.Int.Digits.{digits_value-lt}
 use Rattle.std.proofs.lemmas.List.{append_assoc, length-append, length-drop, take-append-drop, take_all}
 use Rattle.std.proofs.Math.Seq.{take-suc, drop-cons}
 use Rattle.dcv_word.specs.TraceLine.{trace_line, digit_of}
-use Rattle.dcv_automaton_text.specs.File.{Target, ToState, ToNode}
+use Rattle.dcv_language.specs.declared.child.Child.{Child}
+use Rattle.dcv_language.specs.declared.child.Child.TheVariants.{State, Node}
 use Rattle.dcv_automaton_text.specs.Form.{is_visible, IsNumber, IsNameWord, IsTarget}
 use Rattle.dcv_automaton_text.specs.Spelled.{node_word, target_word, answer_word}
 use Rattle.dcv_automaton_text.proofs.Words.{decimal_is_visible, letter_is_visible, digits_are}
@@ -43,9 +44,9 @@ node_is_visible number small = decimal_is_visible number small
 pub node_words : HasWords NodeWord
 node_words = record { visible = λ word is. subst AreVisible (sym is.is) (node_is_visible is.number is.small) }
 
-target_is_visible : (target : Target) → IsTarget target → AreVisible (target_word target)
-target_is_visible (ToState number) small = decimal_is_visible number small
-target_is_visible (ToNode number) small = decimal_is_visible number small
+target_is_visible : (target : Child) → IsTarget target → AreVisible (target_word target)
+target_is_visible (State number) small = decimal_is_visible number small
+target_is_visible (Node number) small = decimal_is_visible number small
 
 pub target_words : HasWords TargetWord
 target_words = record { visible = λ word is. subst AreVisible (sym is.is) (target_is_visible is.target is.small) }
@@ -463,16 +464,16 @@ node_away end text other =
 pub some_node : (end : ℕ) → Followed NodeWord end Nothing (node_word 0 ++ end ∷ [])
 some_node end = record { word = node_word 0; back = []; word_is = record { number = 0; small = omega arith; is = refl }; back_is = record { is = refl }; whole = refl }
 
-pub some_target : (end : ℕ) → Followed TargetWord end Nothing (target_word (ToState 0) ++ end ∷ [])
-some_target end = record { word = target_word (ToState 0); back = []; word_is = record { target = ToState 0; small = omega arith; is = refl }; back_is = record { is = refl }; whole = refl }
+pub some_target : (end : ℕ) → Followed TargetWord end Nothing (target_word (State 0) ++ end ∷ [])
+some_target end = record { word = target_word (State 0); back = []; word_is = record { target = State 0; small = omega arith; is = refl }; back_is = record { is = refl }; whole = refl }
 
-target_first : (end : ℕ) (target : Target) → IsTarget target → (text back : List ℕ) → text ≡ target_word target ++ end ∷ back
+target_first : (end : ℕ) (target : Child) → IsTarget target → (text back : List ℕ) → text ≡ target_word target ++ end ∷ back
     → (text ≡ [] → ⊥) × ((b : ℕ) (rest : List ℕ) → text ≡ b ∷ rest → (b ≡ 116) ⊎ (b ≡ 110))
-target_first end (ToState number) small text back whole = (
+target_first end (State number) small text back whole = (
   (λ none. let wrong : [] ≡ 116 ∷ (decimal number ++ end ∷ back) = sym none ∙ whole in cc),
   λ b rest same. let both_are : b ∷ rest ≡ 116 ∷ (decimal number ++ end ∷ back) = sym same ∙ whole in inl (let e : b ≡ 116 = cc in e),
 )
-target_first end (ToNode number) small text back whole = (
+target_first end (Node number) small text back whole = (
   (λ none. let wrong : [] ≡ 110 ∷ (decimal number ++ end ∷ back) = sym none ∙ whole in cc),
   λ b rest same. let both_are : b ∷ rest ≡ 110 ∷ (decimal number ++ end ∷ back) = sym same ∙ whole in inr (let e : b ≡ 110 = cc in e),
 )
@@ -490,20 +491,20 @@ number_text : (end number : ℕ) → IsNumber number → (back : List ℕ) → N
 number_text end number small back none =
     record { word = decimal number; back = back; word_is = record { number = number; small = small; is = refl }; back_is = none; whole = refl }
 
-behind_state : (end : ℕ) (target : Target) → IsTarget target → (text more rest back : List ℕ) → Nothing back → text ≡ target_word target ++ end ∷ back → text ++ more ≡ 116 ∷ rest
+behind_state : (end : ℕ) (target : Child) → IsTarget target → (text more rest back : List ℕ) → Nothing back → text ≡ target_word target ++ end ∷ back → text ++ more ≡ 116 ∷ rest
     → (left : List ℕ) × (Followed NumberWord end Nothing left × (text ≡ 116 ∷ left))
-behind_state end (ToState number) small text more rest back none whole same = (decimal number ++ end ∷ back, (number_text end number small back none, whole))
-behind_state end (ToNode number) small text more rest back none whole same =
+behind_state end (State number) small text more rest back none whole same = (decimal number ++ end ∷ back, (number_text end number small back none, whole))
+behind_state end (Node number) small text more rest back none whole same =
     absurd (let wrong : 110 ∷ ((decimal number ++ end ∷ back) ++ more) ≡ 116 ∷ rest = ap (λ t. t ++ more) (sym whole) ∙ same in
     let e : ◌≡◌ {A = ℕ} 110 116 = cc in not_same e)
   where
     not_same : ◌≡◌ {A = ℕ} 110 116 → ⊥
     not_same e = omega arith
 
-behind_node : (end : ℕ) (target : Target) → IsTarget target → (text more rest back : List ℕ) → Nothing back → text ≡ target_word target ++ end ∷ back → text ++ more ≡ 110 ∷ rest
+behind_node : (end : ℕ) (target : Child) → IsTarget target → (text more rest back : List ℕ) → Nothing back → text ≡ target_word target ++ end ∷ back → text ++ more ≡ 110 ∷ rest
     → (left : List ℕ) × (Followed NumberWord end Nothing left × (text ≡ 110 ∷ left))
-behind_node end (ToNode number) small text more rest back none whole same = (decimal number ++ end ∷ back, (number_text end number small back none, whole))
-behind_node end (ToState number) small text more rest back none whole same =
+behind_node end (Node number) small text more rest back none whole same = (decimal number ++ end ∷ back, (number_text end number small back none, whole))
+behind_node end (State number) small text more rest back none whole same =
     absurd (let wrong : 116 ∷ ((decimal number ++ end ∷ back) ++ more) ≡ 110 ∷ rest = ap (λ t. t ++ more) (sym whole) ∙ same in
     let e : ◌≡◌ {A = ℕ} 116 110 = cc in not_same e)
   where
@@ -516,7 +517,7 @@ leads_state end =
       into = λ rest parts. record {
         word = 116 ∷ parts.word;
         back = parts.back;
-        word_is = record { target = ToState parts.word_is.number; small = parts.word_is.small; is = ap (λ w. 116 ∷ w) parts.word_is.is };
+        word_is = record { target = State parts.word_is.number; small = parts.word_is.small; is = ap (λ w. 116 ∷ w) parts.word_is.is };
         back_is = parts.back_is;
         whole = ap (λ w. 116 ∷ w) parts.whole;
       };
@@ -530,7 +531,7 @@ leads_target_node end =
       into = λ rest parts. record {
         word = 110 ∷ parts.word;
         back = parts.back;
-        word_is = record { target = ToNode parts.word_is.number; small = parts.word_is.small; is = ap (λ w. 110 ∷ w) parts.word_is.is };
+        word_is = record { target = Node parts.word_is.number; small = parts.word_is.small; is = ap (λ w. 110 ∷ w) parts.word_is.is };
         back_is = parts.back_is;
         whole = ap (λ w. 110 ∷ w) parts.whole;
       };

@@ -19,7 +19,8 @@
 use Rattle.std.specs.Prelude.{◌≡◌, ℕ, ◌≤◌, Bool, List, [], ◌∷◌, ◌++◌, Option, None, Some, codes}
 use Rattle.std.specs.Fmt.{decimal}
 use Rattle.dcv_word.specs.TraceLine.{trace_line}
-use Rattle.dcv_automaton_text.specs.File.{Target, StepPart}
+use Rattle.dcv_language.specs.declared.child.Child.{Child}
+use Rattle.dcv_automaton_text.specs.File.{StepPart}
 use Rattle.dcv_automaton_text.specs.Form.{IsNumber, IsTarget, IsNameWord}
 use Rattle.dcv_automaton_text.specs.Spelled.{node_word, target_word, answer_word}
 use Rattle.dcv_automaton_lines.specs.Pieces.{Exactly, Nothing, Followed, Either}
@@ -41,7 +42,7 @@ pub record NodeWord (text : List ℕ) : Type 0 where
   pub is : text ≡ node_word number
 
 pub record TargetWord (text : List ℕ) : Type 0 where
-  pub target : Target
+  pub target : Child
   pub small : IsTarget target
   pub is : text ≡ target_word target
 

@@ -5,13 +5,13 @@
 use Rattle.std.specs.Prelude.{ℕ, Bool, nat_eq, if◌then◌else◌, List, [], ◌∷◌, map, Result, Err}
 use Rattle.std.specs.Option.{option_map}
 use Rattle.std.specs.Str.{byte}
-use Rattle.dcv_automaton_text.specs.File.{Target as FileTarget, ToState, ToNode, NodeLine as FileNodeLine, StateLine as FileStateLine}
+use Rattle.dcv_automaton_text.specs.File.{NodeLine as FileNodeLine, StateLine as FileStateLine}
 use Rattle.dcv_automaton_text.specs.File.{Access, EmptyAccess, StartAccess, AfterAccess, AccessLine as FileAccessLine}
 use Rattle.dcv_automaton_text.specs.File.{Suffix, EmptySuffix, ThenSuffix, SuffixLine as FileSuffixLine}
 use Rattle.dcv_automaton_text.specs.File.{StepLine as FileStepLine, StepPart as FileStepPart, AutomatonFile}
 use Rattle.dcv_automaton_text.specs.Form.{IsSyntaxFault}
-use Rattle.dcv_automaton_lines.specs.declared.lines.Target.{Target}
-use Rattle.dcv_automaton_lines.specs.declared.lines.Target.TheVariants.{State, Node}
+use Rattle.dcv_language.specs.declared.child.Child.{Child}
+use Rattle.dcv_language.specs.declared.child.Child.TheVariants.{State, Node}
 use Rattle.dcv_automaton_lines.specs.declared.lines.NodeLine.{NodeLine}
 use Rattle.dcv_automaton_lines.specs.declared.lines.StateLine.{StateLine}
 use Rattle.dcv_automaton_lines.specs.declared.lines.AccessWord.{AccessWord}
@@ -32,15 +32,11 @@ letter_of [] = []
 letter_of (digit ∷ []) = if nat_eq digit (byte "-") then [] else nat_eq digit (byte "1") ∷ []
 letter_of (first ∷ second ∷ digits) = map (nat_eq (byte "1")) (first ∷ second ∷ digits)
 
-abbrev pub target_of : Target → FileTarget
-target_of (State number) = ToState number
-target_of (Node number) = ToNode number
-
 abbrev pub node_line_of : NodeLine → FileNodeLine
-node_line_of line = record { number = line.number; name = line.name.now; hi = target_of line.hi; lo = target_of line.lo }
+node_line_of line = record { number = line.number; name = line.name.now; hi = line.hi; lo = line.lo }
 
 abbrev pub state_line_of : StateLine → FileStateLine
-state_line_of line = record { number = line.number; accepting = line.accepting; row = target_of line.row }
+state_line_of line = record { number = line.number; accepting = line.accepting; row = line.row }
 
 abbrev pub access_of : AccessWord → Access
 access_of EmptyWord = EmptyAccess

@@ -15,6 +15,5 @@ mod words;
 
 pub use lines::{
     AccessLine, AccessWord, Lines, NodeLine, StateLine, StepLine, StepPart, SuffixLine, SuffixWord,
-    Target,
 };
 pub use reading::{LinesFault, lines_of};

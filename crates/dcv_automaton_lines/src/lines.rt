@@ -1,13 +1,6 @@
 // What the lines of an automaton's text say. Names and letters are parts of the text.
 
-/// What comes next in a row.
-#[derive(Clone, Copy, Debug, PartialEq, Eq)]
-pub enum Target {
-    /// The state with this number.
-    State(u32),
-    /// What the node with this number says.
-    Node(u32),
-}
+use dcv_language::Child;
 
 /// A node of the rows.
 #[derive(Clone, Copy)]
@@ -17,9 +10,9 @@ pub struct NodeLine<'a> {
     /// The name of its variable.
     pub name: &'a [u8],
     /// What comes next where the variable is true.
-    pub hi: Target,
+    pub hi: Child,
     /// What comes next where it is false.
-    pub lo: Target,
+    pub lo: Child,
 }
 
 /// A state.
@@ -30,7 +23,7 @@ pub struct StateLine {
     /// Whether it accepts.
     pub accepting: bool,
     /// What comes first in its row.
-    pub row: Target,
+    pub row: Child,
 }
 
 /// How an access word is spelled. A letter is as in a trace.

@@ -7,11 +7,11 @@ ghost use Rattle.dcv_automaton_text.specs.Form.{is_visible, IsNumber, IsNameWord
 ghost use Rattle.dcv_automaton_text.specs.Spelled.{node_word, target_word, answer_word};
 ghost use Rattle.dcv_automaton_lines.specs.Pieces.{Exactly, Nothing, Followed};
 ghost use Rattle.dcv_automaton_lines.specs.Parts.{NumberWord, NodeWord, TargetWord, AnswerWord, NameWord, LetterWord};
-ghost use Rattle.dcv_automaton_lines.specs.Seen.{letter_of, target_of};
+ghost use Rattle.dcv_automaton_lines.specs.Seen.{letter_of};
 ghost use Rattle.dcv_automaton_lines.specs.Stops.{IsEnd, is_binary, IsStuckAt};
 
-use crate::lines::Target;
 use crate::stop::Stuck;
+use dcv_language::Child;
 
 // The largest number that a further digit may follow.
 const LARGEST_BEFORE_A_DIGIT: u32 = 999_999;
@@ -83,19 +83,19 @@ pub fn node_number<'a>(text: &'a [u8], end: u8) -> Result<(u32, &'a [u8]), Stuck
 }
 
 /// What comes next in a row, and the text after its end.
-pub fn target<'a>(text: &'a [u8], end: u8) -> Result<(Target, &'a [u8]), Stuck<'a>>
+pub fn target<'a>(text: &'a [u8], end: u8) -> Result<(Child, &'a [u8]), Stuck<'a>>
     requires { IsEnd end }
-    ensures small { IfOk result (λ read. IsTarget (target_of read.0)) }
-    ensures spelled { IfOk result (λ read. text.now ≡ target_word (target_of read.0) ++ end ∷ read.1.now) }
+    ensures small { IfOk result (λ read. IsTarget read.0) }
+    ensures spelled { IfOk result (λ read. text.now ≡ target_word read.0 ++ end ∷ read.1.now) }
     ensures fault { IsStuckAt (Followed TargetWord end Nothing) text.now result }
 {
     if begins_with(text, b't') {
         let (state, rest) = number(&text[1..], end)?;
-        return Ok((Target::State(state), rest));
+        return Ok((Child::State(state), rest));
     }
     if begins_with(text, b'n') {
         let (node, rest) = number(&text[1..], end)?;
-        return Ok((Target::Node(node), rest));
+        return Ok((Child::Node(node), rest));
     }
     Err(Stuck { left: text })
 }

@@ -5,7 +5,8 @@ use Rattle.std.specs.Prelude.{nat_lt, nat_le, codes}
 use Rattle.std.specs.Fmt.{decimal}
 use Rattle.std.proofs.lemmas.Bool.{and_parts, leb-true, ltb-true, cases_lt}
 use Rattle.dcv_language.specs.Limits.{most_states}
-use Rattle.dcv_automaton_text.specs.File.{ToState, StateLine, AutomatonFile}
+use Rattle.dcv_language.specs.declared.child.Child.TheVariants.{State}
+use Rattle.dcv_automaton_text.specs.File.{StateLine, AutomatonFile}
 use Rattle.dcv_automaton_text.specs.Rules.{keeps_state, has_all_access, has_all_steps, judged_steps, judged_words, first_broken, IsGood}
 use Rattle.dcv_automaton_text.specs.Spelled.{state_words}
 use Rattle.dcv_automaton_read.specs.Parts.{judged_lines, judged_names, judged_head, judged_nodes, judged_states, judged_access, judged_suffixes}
@@ -102,7 +103,7 @@ all_states file parts =
     (and_parts (nat_le file.states (length file.state_lines)) (nat_le file.states (length file.access_lines)) parts.all).0 in
     elim (cases_lt file.states (length file.state_lines)) [
       | inl more ↦
-          let nothing : StateLine = record { number = 0; accepting = false; row = ToState 0 } in
+          let nothing : StateLine = record { number = 0; accepting = false; row = State 0 } in
           let flag = kept_at state_words (keeps_state file) file.state_lines 0 file.states file.states nothing parts.states more (omega arith) in
           absurd (let below = ltb-true file.states file.states flag.0 in omega arith)
       | inr none ↦ omega (arith, enough, none)

@@ -12,18 +12,18 @@ use Rattle.std.proofs.lemmas.List.Sums.{passes_at_first}
 use Rattle.std.proofs.lemmas.Option.{get_or_from_slice_get}
 use Rattle.std.proofs.lemmas.Slice.Eq.{bytes_eq-Decides}
 use Rattle.dcv_language.specs.Limits.{most_nodes}
-use Rattle.dcv_automaton_text.specs.File.{Target, ToState, ToNode, NodeLine, AutomatonFile}
+use Rattle.dcv_automaton_text.specs.File.{NodeLine, AutomatonFile}
 use Rattle.dcv_automaton_text.proofs.InWords.{listed_slot}
 use Rattle.dcv_automaton_text.specs.Rules.{slot_of, is_listed, slot_of_node, keeps_child, is_same_target, is_same_node, keeps_node}
 use Rattle.dcv_automaton_text.specs.Spelled.{node_words}
 use Rattle.dcv_automaton_read.specs.declared.faults.Stop.{Stop}
-use Rattle.dcv_automaton_read.specs.declared.nodes.Child.{Child}
-use Rattle.dcv_automaton_read.specs.declared.nodes.Child.TheVariants.{State, Node as AtNode}
+use Rattle.dcv_language.specs.declared.child.Child.{Child}
+use Rattle.dcv_language.specs.declared.child.Child.TheVariants.{State, Node as AtNode}
 use Rattle.dcv_automaton_read.specs.declared.nodes.Node.{Node}
 use Rattle.dcv_automaton_read.specs.contracts.nodes.NodePartialEq.TheImpl.{eq-value as node_eq}
 use Rattle.dcv_automaton_read.specs.contracts.nodes.ChildPartialEq.TheImpl.{eq-value as child_eq}
 use Rattle.dcv_automaton_read.specs.Judged.{IsJudged, first_false, first_word}
-use Rattle.dcv_automaton_read.specs.Seen.{child_of, node_of, same_child, same_node, slots_of, child_kept, IsAdded, AreNodesOf}
+use Rattle.dcv_automaton_read.specs.Seen.{node_of, same_node, slots_of, child_kept, IsAdded, AreNodesOf}
 
 -- ---- tests
 
@@ -31,7 +31,7 @@ and_assoc : (a b c : Bool) → (a && (b && c)) ≡ ((a && b) && c)
 and_assoc true b c = refl
 and_assoc false b c = refl
 
-pub same_children : (a b : Child) → child_eq.it a b ≡ same_child a b
+pub same_children : (a b : Child) → child_eq.it a b ≡ is_same_target a b
 same_children (State a) (State b) = refl
 same_children (State a) (AtNode b) = refl
 same_children (AtNode a) (State b) = refl
@@ -40,17 +40,11 @@ same_children (AtNode a) (AtNode b) = refl
 pub same_nodes : (a b : Node) → node_eq.it a b ≡ same_node a b
 same_nodes a b =
     (λ i. nat_eq a.slot b.slot && (same_children a.hi b.hi i && same_children a.lo b.lo i))
-    ∙ and_assoc (nat_eq a.slot b.slot) (same_child a.hi b.hi) (same_child a.lo b.lo)
+    ∙ and_assoc (nat_eq a.slot b.slot) (is_same_target a.hi b.hi) (is_same_target a.lo b.lo)
 
 pub none_of : (node : Node) (nodes : List Node) → list_any (node_eq.it node) nodes ≡ list_any (same_node node) nodes
 none_of node [] = refl
 none_of node (other ∷ nodes) = λ i. same_nodes node other i || none_of node nodes i
-
-pub same_targets : (a b : Target) → same_child (child_of a) (child_of b) ≡ is_same_target a b
-same_targets (ToState a) (ToState b) = refl
-same_targets (ToState a) (ToNode b) = refl
-same_targets (ToNode a) (ToState b) = refl
-same_targets (ToNode a) (ToNode b) = refl
 
 pub added : (nodes : List Node) (node : Node) (is_new : Bool) (more : List Node) → length nodes < most_nodes
     → is_new ≡ not (list_any (node_eq.it node) nodes) → more ≡ insert_key node_eq.it nodes node → IsAdded nodes node is_new more
@@ -79,7 +73,7 @@ same_slot names a b listed =
 
 same_line : (names : List (List ℕ)) (line other : NodeLine) → is_listed names other.name ≡ true → same_node (node_of names line) (node_of names other) ≡ is_same_node line other
 same_line names line other listed =
-    λ i. (sym (same_slot names line.name other.name listed) i && same_targets line.hi other.hi i) && same_targets line.lo other.lo i
+    λ i. (sym (same_slot names line.name other.name listed) i && is_same_target line.hi other.hi) && is_same_target line.lo other.lo
 
 among : (names : List (List ℕ)) (line : NodeLine) (earlier : List NodeLine) → All (λ (other : NodeLine). is_listed names other.name ≡ true) earlier
     → list_any (same_node (node_of names line)) (map (node_of names) earlier) ≡ list_any (is_same_node line) earlier
@@ -119,18 +113,18 @@ module _ (file : AutomatonFile) (line : NodeLine) (nodes : List Node) (before : 
       ∙ ap (λ (all : List Node). (get_or all number (node_of file.names line)).slot) (sym before.same)
       ∙ sym (get_or-map (λ (node : Node). node.slot) nodes number (node_of file.names line) 0 below)
 
-  pub kept_child : (target : Target) → child_kept file.states nodes (slot_of file.names line.name) (child_of target) ≡ keeps_child file (length nodes) target
-  kept_child (ToState number) = refl
-  kept_child (ToNode number) = elim (cases_lt number (length nodes)) [
+  pub kept_child : (target : Child) → child_kept file.states nodes (slot_of file.names line.name) target ≡ keeps_child file (length nodes) target
+  kept_child (State number) = refl
+  kept_child (AtNode number) = elim (cases_lt number (length nodes)) [
     | inl below ↦
         let test = lt-ltb number (length nodes) below in
         rw (test) (λ i. nat_lt (sym this_slot i) (sym (earlier_slot number below) i))
     | inr above ↦ let test = le-ltb number (length nodes) above in rw (test) refl
   ]
 
-  pub kept_other : (hi lo : Target) → (child_kept file.states nodes (slot_of file.names line.name) (child_of lo) && not (same_child (child_of hi) (child_of lo)))
+  pub kept_other : (hi lo : Child) → (child_kept file.states nodes (slot_of file.names line.name) lo && not (is_same_target hi lo))
       ≡ (keeps_child file (length nodes) lo && not (is_same_target hi lo))
-  kept_other hi lo = λ i. kept_child lo i && not (same_targets hi lo i)
+  kept_other hi lo = λ i. kept_child lo i && not (is_same_target hi lo)
 
   pub next_nodes : is_listed file.names line.name ≡ true → (more : List Node) → more ≡ nodes ++ node_of file.names line ∷ [] → AreNodesOf file (length nodes + 1) more
   next_nodes listed more is =
@@ -153,8 +147,8 @@ module _ (file : AutomatonFile) (line : NodeLine) (nodes : List Node) (before : 
   -- the words of the line, from the flags
   pub node_judged : (first : ℕ) (begins numbered listed keeps_hi keeps_lo : Bool) (answer : Result ℕ Stop) (more : List Node)
       → IsAdded nodes (node_of file.names line) begins more → numbered ≡ nat_eq line.number (length nodes) → listed ≡ nat_lt (slot_of file.names line.name) (length file.names)
-      → keeps_hi ≡ child_kept file.states nodes (slot_of file.names line.name) (child_of line.hi)
-      → keeps_lo ≡ (child_kept file.states nodes (slot_of file.names line.name) (child_of line.lo) && not (same_child (child_of line.hi) (child_of line.lo)))
+      → keeps_hi ≡ child_kept file.states nodes (slot_of file.names line.name) line.hi
+      → keeps_lo ≡ (child_kept file.states nodes (slot_of file.names line.name) line.lo && not (is_same_target line.hi line.lo))
       → IsJudged (first_false first (begins ∷ numbered ∷ listed ∷ true ∷ keeps_hi ∷ true ∷ keeps_lo ∷ [])) (first + 7) answer
       → IsJudged (first_word first (zip (node_words line) (keeps_node file (length nodes) line))) (first + 7) answer
   node_judged first begins numbered listed keeps_hi keeps_lo answer more added a b c d judged =

@@ -5,7 +5,7 @@ use Rattle.std.specs.List.{All, enumerate_from, zip}
 use Rattle.std.proofs.lemmas.Bool.{eqb-true, leb-true, ltb-true, cases_lt}
 use Rattle.std.proofs.lemmas.List.{get_or-map, length-map, take_all}
 use Rattle.std.proofs.lemmas.Simd.{map-map}
-use Rattle.dcv_automaton_text.specs.File.{Target, ToState, ToNode, Access, EmptyAccess, StartAccess, AfterAccess, Suffix, EmptySuffix, ThenSuffix, StepLine as FileStepLine, AutomatonFile}
+use Rattle.dcv_automaton_text.specs.File.{Access, EmptyAccess, StartAccess, AfterAccess, Suffix, EmptySuffix, ThenSuffix, StepLine as FileStepLine, AutomatonFile}
 use Rattle.dcv_automaton_text.specs.Rules.{slot_of, keeps_node, keeps_state, keeps_access, keeps_suffix, keeps_steps, keeps_step, has_all_steps, judged_steps, IsGood}
 use Rattle.dcv_automaton_text.specs.Spelled.{node_words, state_words, access_words, suffix_words, steps_words, step_words, spelled_front}
 use Rattle.dcv_automaton_lines.specs.declared.lines.NodeLine.{NodeLine}
@@ -15,15 +15,17 @@ use Rattle.dcv_automaton_lines.specs.declared.lines.SuffixLine.{SuffixLine}
 use Rattle.dcv_automaton_lines.specs.declared.lines.StepLine.{StepLine}
 use Rattle.dcv_automaton_lines.specs.declared.lines.StepPart.{StepPart}
 use Rattle.dcv_automaton_lines.specs.declared.lines.Lines.{Lines}
-use Rattle.dcv_automaton_lines.specs.Seen.{file_of, target_of, node_line_of, state_line_of, access_line_of, suffix_line_of, step_line_of, step_part_of, access_of, suffix_of}
+use Rattle.dcv_automaton_lines.specs.Seen.{file_of, node_line_of, state_line_of, access_line_of, suffix_line_of, step_line_of, step_part_of, access_of, suffix_of}
 use Rattle.dcv_automaton_read.specs.declared.nodes.Node.{Node}
 use Rattle.dcv_automaton_read.specs.declared.file.Row.{Row}
 use Rattle.dcv_language.specs.declared.count.Count.{Count}
 use Rattle.dcv_language.specs.declared.certificate.Access.{Access as ReadAccess}
 use Rattle.dcv_language.specs.declared.certificate.Suffix.{Suffix as ReadSuffix}
-use Rattle.dcv_automaton_read.specs.File.{target_from, access_from, suffix_from, node_line, state_line, access_line, suffix_line, step_line, step_part, file_from, row_of, count_of, counts_of, IsNarrow, IsNarrowSuffix, IsRead, IsKept}
+use Rattle.dcv_language.specs.declared.child.Child.{Child}
+use Rattle.dcv_language.specs.declared.child.Child.TheVariants.{State, Node as AtNode}
+use Rattle.dcv_automaton_read.specs.File.{access_from, suffix_from, node_line, state_line, access_line, suffix_line, step_line, step_part, file_from, row_of, count_of, counts_of, IsNarrow, IsNarrowSuffix, IsRead, IsKept}
 use Rattle.dcv_automaton_read.specs.Parts.{judged_lines, judged_step_lines}
-use Rattle.dcv_automaton_read.specs.Seen.{child_of, node_of, AreNodesOf}
+use Rattle.dcv_automaton_read.specs.Seen.{node_of, AreNodesOf}
 use Rattle.dcv_automaton_read.proofs.Kept.{AreKept, kept_parts, kept_at, made_again, Parts, good_parts, names_are_few, all_states}
 use Rattle.dcv_automaton_text.proofs.InWords.{listed_slot}
 use Rattle.dcv_automaton_read.proofs.NodeWords.{name_there}
@@ -68,22 +70,18 @@ module _ (lines : Lines) (good : IsGood (file_of lines)) where
 
 -- ---- lines are made again
 
-same_target : (target : Target) → target_from (child_of target) ≡ target
-same_target (ToState number) = refl
-same_target (ToNode number) = refl
-
 node_again : (file : AutomatonFile) (n : ℕ) (x : NodeLine) → AreKept (zip (node_words (node_line_of x)) (keeps_node file n (node_line_of x)))
     → node_line file.names (n, node_of file.names (node_line_of x)) ≡ node_line_of x
 node_again file n x kept =
     let number = sym (eqb-true x.number n kept.1.0) in
     let below = ltb-true (slot_of file.names x.name.now) (length file.names) (sym (listed_slot file.names x.name.now) ∙ kept.1.1.0) in
     let name = sym (name_there file.names x.name.now below) in
-    λ i. record { number = number i; name = name i; hi = same_target (target_of x.hi) i; lo = same_target (target_of x.lo) i }
+    λ i. record { number = number i; name = name i; hi = x.hi; lo = x.lo }
 
 state_again : (file : AutomatonFile) (n : ℕ) (x : StateLine) → AreKept (zip (state_words (state_line_of x)) (keeps_state file n (state_line_of x))) → state_line (n, row_of x) ≡ state_line_of x
 state_again file n x kept =
     let number = sym (eqb-true x.number n kept.1.0) in
-    λ i. record { number = number i; accepting = x.accepting; row = same_target (target_of x.row) i }
+    λ i. record { number = number i; accepting = x.accepting; row = x.row }
 
 access_again : (file : AutomatonFile) (n : ℕ) (x : AccessLine) → AreKept (zip (access_words (access_line_of x)) (keeps_access file n (access_line_of x)))
     → access_line (n, access_of x.access) ≡ access_line_of x

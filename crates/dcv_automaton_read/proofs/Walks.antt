@@ -9,17 +9,17 @@ use Rattle.std.proofs.lemmas.Option.{get_or_from_slice_get}
 use Rattle.dcv_word.specs.Letter.{bits_of, letters_of_width}
 use Rattle.dcv_word.specs.Laws.{LetterStandsAtItsBits}
 use Rattle.dcv_language.specs.Table.{TableState, next_in}
-use Rattle.dcv_automaton_text.specs.File.{Target, ToState, ToNode, NodeLine, StateLine, AutomatonFile}
+use Rattle.dcv_automaton_text.specs.File.{NodeLine, StateLine, AutomatonFile}
 use Rattle.dcv_automaton_text.specs.Meaning.{state_at, states_at, table_of}
 use Rattle.dcv_automaton_text.specs.Rules.{slot_of, keeps_node, keeps_state, keeps_child, keeps_row}
 use Rattle.dcv_automaton_text.specs.Spelled.{node_words, state_words}
-use Rattle.dcv_automaton_read.specs.declared.nodes.Child.{Child}
-use Rattle.dcv_automaton_read.specs.declared.nodes.Child.TheVariants.{State, Node as AtNode}
+use Rattle.dcv_language.specs.declared.child.Child.{Child}
+use Rattle.dcv_language.specs.declared.child.Child.TheVariants.{State, Node as AtNode}
 use Rattle.dcv_automaton_read.specs.declared.nodes.Node.{Node}
 use Rattle.dcv_automaton_read.specs.declared.file.Row.{Row}
-use Rattle.dcv_automaton_read.specs.File.{target_from, state_line, IsRead}
-use Rattle.dcv_automaton_read.specs.Seen.{child_of, node_of}
-use Rattle.dcv_automaton_read.specs.Walk.{child_at, leaf_at, leaves_of, IsEarlier, AreOrdered}
+use Rattle.dcv_automaton_read.specs.File.{state_line, IsRead}
+use Rattle.dcv_automaton_read.specs.Seen.{node_of}
+use Rattle.dcv_automaton_read.specs.Walk.{child_at, leaves_of, IsEarlier, AreOrdered}
 use Rattle.dcv_automaton_read.proofs.Kept.{AreKept, kept_at, good_parts}
 use Rattle.dcv_automaton_text.proofs.InWords.{listed_slot}
 use Rattle.dcv_automaton_read.proofs.ReadFiles.{row_there, state_there}
@@ -27,7 +27,7 @@ use Rattle.dcv_automaton_read.proofs.ReadFiles.{row_there, state_there}
 -- ---- the states of nodes, one after another
 
 abbrev further : List Bool → List ℕ → List Node → List ℕ
-further letter leaves nodes = fold (λ leaves node. leaves ++ leaf_at leaves (child_at letter node) ∷ []) leaves nodes
+further letter leaves nodes = fold (λ leaves node. leaves ++ state_at leaves (child_at letter node) ∷ []) leaves nodes
 
 at_front : (leaves more : List ℕ) (place : ℕ) → place < length leaves → get_or (leaves ++ more) place 0 ≡ get_or leaves place 0
 at_front [] more place below = absurd (omega arith)
@@ -42,30 +42,30 @@ at_seam (y ∷ leaves) x = at_seam leaves x
 stays : (letter : List Bool) (leaves : List ℕ) (nodes : List Node) (place : ℕ) → place < length leaves → get_or (further letter leaves nodes) place 0 ≡ get_or leaves place 0
 stays letter leaves [] place below = refl
 stays letter leaves (node ∷ nodes) place below =
-    let one = leaf_at leaves (child_at letter node) ∷ [] in
+    let one = state_at leaves (child_at letter node) ∷ [] in
     stays letter (leaves ++ one) nodes place (omega (arith, below, length-append leaves one)) ∙ at_front leaves one place below
 
-leaf_stays : (letter : List Bool) (leaves : List ℕ) (nodes : List Node) (child : Child) → IsEarlier (length leaves) child → leaf_at leaves child ≡ leaf_at (further letter leaves nodes) child
+leaf_stays : (letter : List Bool) (leaves : List ℕ) (nodes : List Node) (child : Child) → IsEarlier (length leaves) child → state_at leaves child ≡ state_at (further letter leaves nodes) child
 leaf_stays letter leaves nodes (State number) earlier = refl
 leaf_stays letter leaves nodes (AtNode number) earlier = sym (stays letter leaves nodes number earlier)
 
 -- a node stands for what its child does
 leaf_of_node : (letter : List Bool) (leaves : List ℕ) (nodes : List Node) (k place : ℕ) (d : Node) → k < length nodes → place ≡ length leaves + k → IsEarlier place (child_at letter (get_or nodes k d))
-    → get_or (further letter leaves nodes) place 0 ≡ leaf_at (further letter leaves nodes) (child_at letter (get_or nodes k d))
+    → get_or (further letter leaves nodes) place 0 ≡ state_at (further letter leaves nodes) (child_at letter (get_or nodes k d))
 leaf_of_node letter leaves [] k place d below is earlier = absurd (omega arith)
 leaf_of_node letter leaves (node ∷ nodes) zero place d below is earlier =
     let child = child_at letter node in
-    let one = leaf_at leaves child ∷ [] in
+    let one = state_at leaves child ∷ [] in
     let here : place ≡ length leaves = omega (arith, is) in
     stays letter (leaves ++ one) nodes place (omega (arith, here, length-append leaves one))
-    ∙ ap (λ at. get_or (leaves ++ one) at 0) here ∙ at_seam leaves (leaf_at leaves child)
+    ∙ ap (λ at. get_or (leaves ++ one) at 0) here ∙ at_seam leaves (state_at leaves child)
     ∙ leaf_stays letter leaves (node ∷ nodes) child (subst (λ count. IsEarlier count child) here earlier)
 leaf_of_node letter leaves (node ∷ nodes) (suc k) place d below is earlier =
-    let one = leaf_at leaves (child_at letter node) ∷ [] in
+    let one = state_at leaves (child_at letter node) ∷ [] in
     leaf_of_node letter (leaves ++ one) nodes k place d (omega arith) (omega (arith, is, length-append leaves one)) earlier
 
 pub next_leaf : (letter : List Bool) (nodes : List Node) (place : ℕ) (d : Node) → place < length nodes → IsEarlier place (child_at letter (get_or nodes place d))
-    → leaf_at (leaves_of letter nodes) (child_at letter (get_or nodes place d)) ≡ leaf_at (leaves_of letter nodes) (AtNode place)
+    → state_at (leaves_of letter nodes) (child_at letter (get_or nodes place d)) ≡ state_at (leaves_of letter nodes) (AtNode place)
 unfolding leaves_of
 next_leaf letter nodes place d below earlier = sym (leaf_of_node letter [] nodes place place d below (omega arith) earlier)
 
@@ -80,18 +80,6 @@ earlier_than_all place count (AtNode number) few earlier = omega (arith, few, ea
 
 -- ---- the nodes of a file
 
-leaf_of_target : (leaves : List ℕ) (target : Target) → leaf_at leaves (child_of target) ≡ state_at leaves target
-leaf_of_target leaves (ToState number) = refl
-leaf_of_target leaves (ToNode number) = refl
-
-leaf_of_child : (leaves : List ℕ) (child : Child) → leaf_at leaves child ≡ state_at leaves (target_from child)
-leaf_of_child leaves (State number) = refl
-leaf_of_child leaves (AtNode number) = refl
-
-chosen : (leaves : List ℕ) (hi lo : Target) (value : Bool) → leaf_at leaves (if value then child_of hi else child_of lo) ≡ state_at leaves (if value then hi else lo)
-chosen leaves hi lo true = leaf_of_target leaves hi
-chosen leaves hi lo false = leaf_of_target leaves lo
-
 abbrev states_further : List (List ℕ) → List Bool → List ℕ → List NodeLine → List ℕ
 states_further names letter states lines =
     fold (λ states line. states ++ state_at states (if slice_index_or letter (slot_of names line.name) false then line.hi else line.lo) ∷ []) states lines
@@ -100,19 +88,17 @@ both_walks : (names : List (List ℕ)) (letter : List Bool) (leaves : List ℕ) 
 both_walks names letter leaves [] = refl
 both_walks names letter leaves (line ∷ lines) =
     let value = slice_index_or letter (slot_of names line.name) false in
-    let same = chosen leaves line.hi line.lo value in
-    ap (λ state. further letter (leaves ++ state ∷ []) (map (node_of names) lines)) same
-    ∙ both_walks names letter (leaves ++ state_at leaves (if value then line.hi else line.lo) ∷ []) lines
+    both_walks names letter (leaves ++ state_at leaves (if value then line.hi else line.lo) ∷ []) lines
 
 same_leaves : (names : List (List ℕ)) (letter : List Bool) (lines : List NodeLine) → leaves_of letter (map (node_of names) lines) ≡ states_at names letter lines
 unfolding leaves_of states_at
 same_leaves names letter lines = both_walks names letter [] lines
 
-earlier_target : (file : AutomatonFile) (place : ℕ) (target : Target) → keeps_child file place target ≡ true → IsEarlier place (child_of target)
-earlier_target file place (ToState number) kept = tt
-earlier_target file place (ToNode number) kept = ltb-true number place (and_parts _ _ kept).0
+earlier_target : (file : AutomatonFile) (place : ℕ) (target : Child) → keeps_child file place target ≡ true → IsEarlier place target
+earlier_target file place (State number) kept = tt
+earlier_target file place (AtNode number) kept = ltb-true number place (and_parts _ _ kept).0
 
-there_row : (file : AutomatonFile) (child : Child) → keeps_row file (target_from child) ≡ true → IsEarlier (length file.node_lines) child
+there_row : (file : AutomatonFile) (child : Child) → keeps_row file child ≡ true → IsEarlier (length file.node_lines) child
 there_row file (State number) kept = tt
 there_row file (AtNode number) kept = ltb-true number (length file.node_lines) kept
 
@@ -126,7 +112,7 @@ module _ (file : AutomatonFile) (nodes : List Node) (read : IsRead file nodes) w
   line_kept place d below = kept_at node_words (keeps_node file) file.node_lines 0 place place d (good_parts file read.good).nodes below (omega arith)
 
   some_line : NodeLine
-  some_line = record { number = 0; name = []; hi = ToState 0; lo = ToState 0 }
+  some_line = record { number = 0; name = []; hi = State 0; lo = State 0 }
 
   within : (place : ℕ) → place < length nodes → place < length file.node_lines
   within place below = omega (arith, below, ap length read.nodes_are, length-map file.node_lines (node_of file.names))
@@ -154,7 +140,7 @@ module _ (file : AutomatonFile) (nodes : List Node) (read : IsRead file nodes) w
 
   module _ (rows : List Row) (state : ℕ) (d : Row) (lines : file.state_lines ≡ map state_line (enumerate_from 0 rows)) (below : state < length rows) where
     some_state : StateLine
-    some_state = record { number = 0; accepting = false; row = ToState 0 }
+    some_state = record { number = 0; accepting = false; row = State 0 }
 
     pub row_within : IsEarlier (length nodes) (get_or rows state d).next
     row_within =
@@ -166,14 +152,14 @@ module _ (file : AutomatonFile) (nodes : List Node) (read : IsRead file nodes) w
         subst (λ size. IsEarlier size (get_or rows state d).next) (sym count) (there_row file (get_or rows state d).next row)
 
     pub leads : LetterStandsAtItsBits → (letter : List Bool) → length letter ≡ length file.names
-        → leaf_at (leaves_of letter nodes) (get_or rows state d).next ≡ next_in (table_of file) state letter
+        → state_at (leaves_of letter nodes) (get_or rows state d).next ≡ next_in (table_of file) state letter
     leads stands letter width =
         let next = (get_or rows state d).next in
-        let value = λ (one : List Bool). state_at (states_at file.names one file.node_lines) (target_from next) in
+        let value = λ (one : List Bool). state_at (states_at file.names one file.node_lines) next in
         let letters = letters_of_width (length file.names) in
         let there = subst (λ size. slice_get (letters_of_width size) (bits_of letter) ≡ Some letter) width (stands letter) in
         let row = get_or-map value letters (bits_of letter) letter 0 (some_below letters (bits_of letter) letter there) ∙ ap value (get_or_from_slice_get letters (bits_of letter) letter letter there) in
         leaf_of_child (leaves_of letter nodes) next
-        ∙ ap (λ leaves. state_at leaves (target_from next)) (ap (leaves_of letter) read.nodes_are ∙ same_leaves file.names letter file.node_lines)
+        ∙ ap (λ leaves. state_at leaves next) (ap (leaves_of letter) read.nodes_are ∙ same_leaves file.names letter file.node_lines)
         ∙ sym row
         ∙ sym (ap (λ (one : TableState). get_or one.row (bits_of letter) 0) (state_there file rows state d lines below))

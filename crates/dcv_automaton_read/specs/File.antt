@@ -11,17 +11,16 @@
 --     accesses_of file, suffixes_of file         how the words of a file are spelled
 use Rattle.std.specs.Prelude.{◌≡◌, ℕ, ◌≤◌, List, [], Option, length, map, option_map, slice_index_or, Vec}
 use Rattle.std.specs.List.{enumerate_from}
-use Rattle.dcv_automaton_text.specs.File.{Target, ToState, ToNode, NodeLine, StateLine, Access, EmptyAccess, StartAccess, AfterAccess, AccessLine}
+use Rattle.dcv_automaton_text.specs.File.{NodeLine, StateLine, Access, EmptyAccess, StartAccess, AfterAccess, AccessLine}
 use Rattle.dcv_automaton_text.specs.File.{Suffix, EmptySuffix, ThenSuffix, SuffixLine, StepLine, StepPart, AutomatonFile}
 use Rattle.dcv_automaton_text.specs.Rules.{IsGood}
 use Rattle.dcv_automaton_text.specs.Spelled.{spelled_front}
 use Rattle.dcv_automaton_lines.specs.declared.lines.StateLine.{StateLine as CodeLine}
 use Rattle.dcv_automaton_lines.specs.declared.lines.StepLine.{StepLine as CodeStepLine}
 use Rattle.dcv_automaton_lines.specs.declared.lines.StepPart.{StepPart as CodeStepPart}
-use Rattle.dcv_automaton_lines.specs.Seen.{target_of}
-use Rattle.dcv_automaton_read.specs.Seen.{child_of, node_of}
-use Rattle.dcv_automaton_read.specs.declared.nodes.Child.{Child}
-use Rattle.dcv_automaton_read.specs.declared.nodes.Child.TheVariants.{State, Node as AtNode}
+use Rattle.dcv_automaton_read.specs.Seen.{node_of}
+use Rattle.dcv_language.specs.declared.child.Child.{Child}
+use Rattle.dcv_language.specs.declared.child.Child.TheVariants.{State, Node as AtNode}
 use Rattle.dcv_automaton_read.specs.declared.nodes.Node.{Node}
 use Rattle.dcv_automaton_read.specs.declared.file.Row.{Row}
 use Rattle.dcv_language.specs.declared.count.Count.{Count}
@@ -29,10 +28,6 @@ use Rattle.dcv_language.specs.declared.certificate.Access.{Access as ReadAccess}
 use Rattle.dcv_language.specs.declared.certificate.Access.TheVariants.{Empty as NoLetter, Start, After}
 use Rattle.dcv_language.specs.declared.certificate.Suffix.{Suffix as ReadSuffix}
 use Rattle.dcv_language.specs.declared.certificate.Suffix.TheVariants.{Empty, Then}
-
-abbrev pub target_from : Child → Target
-target_from (State number) = ToState number
-target_from (AtNode number) = ToNode number
 
 abbrev pub access_from : ReadAccess → Access
 access_from NoLetter = EmptyAccess
@@ -45,10 +40,10 @@ suffix_from (Then letter suffix) = ThenSuffix letter suffix
 
 abbrev pub node_line : List (List ℕ) → ℕ × Node → NodeLine
 node_line names (number, node) =
-    record { number = number; name = slice_index_or names node.slot []; hi = target_from node.hi; lo = target_from node.lo }
+    record { number = number; name = slice_index_or names node.slot []; hi = node.hi; lo = node.lo }
 
 abbrev pub state_line : ℕ × Row → StateLine
-state_line (number, row) = record { number = number; accepting = row.accepting; row = target_from row.next }
+state_line (number, row) = record { number = number; accepting = row.accepting; row = row.next }
 
 abbrev pub access_line : ℕ × Access → AccessLine
 access_line (number, access) = record { number = number; access = access }
@@ -92,7 +87,7 @@ abbrev pub suffixes_of : AutomatonFile → List Suffix
 suffixes_of file = map (λ (line : SuffixLine). line.suffix) file.suffix_lines
 
 abbrev pub row_of : CodeLine → Row
-row_of line = record { accepting = line.accepting; next = child_of (target_of line.row) }
+row_of line = record { accepting = line.accepting; next = line.row }
 
 abbrev pub count_of : CodeStepLine → Count
 count_of line = record { at = line.at; states = line.states; nodes = line.nodes }

@@ -1,8 +1,8 @@
 -- How clauses see what is read.
 --     texts_of names                  the bytes of names
---     child_of target                 what comes next, as it is kept
+--     target                 what comes next, as it is kept
 --     node_of names line              the node of a line
---     same_child, same_node           whether children, and nodes, are the same
+--     same_node one other             whether nodes are the same
 --     child_kept states nodes ..      whether a child is a state that there is, or one of these nodes with a later variable
 --     IsAdded nodes node kept more    whether a node may be added, and the nodes with it where it may
 --     AreNodesOf file count nodes     these are the nodes of so many of the first lines, and their variables are listed
@@ -11,10 +11,10 @@ use Rattle.std.specs.Prelude.{◌≡◌, ℕ, Bool, true, false, not, ◌&&◌, 
 use Rattle.std.specs.List.{All, list_any}
 use Rattle.std.specs.Borrow.{Bor}
 use Rattle.dcv_language.specs.Limits.{most_nodes}
-use Rattle.dcv_automaton_text.specs.File.{Target, ToState, ToNode, NodeLine, AutomatonFile}
-use Rattle.dcv_automaton_text.specs.Rules.{slot_of, is_listed, IsTableFault, IsGood}
-use Rattle.dcv_automaton_read.specs.declared.nodes.Child.{Child}
-use Rattle.dcv_automaton_read.specs.declared.nodes.Child.TheVariants.{State, Node as AtNode}
+use Rattle.dcv_automaton_text.specs.File.{NodeLine, AutomatonFile}
+use Rattle.dcv_automaton_text.specs.Rules.{slot_of, is_listed, IsTableFault, IsGood, is_same_target}
+use Rattle.dcv_language.specs.declared.child.Child.{Child}
+use Rattle.dcv_language.specs.declared.child.Child.TheVariants.{State, Node as AtNode}
 use Rattle.dcv_automaton_read.specs.declared.nodes.Node.{Node}
 use Rattle.dcv_automaton_read.specs.declared.faults.AutoFault.{AutoFault}
 use Rattle.dcv_automaton_read.specs.declared.faults.AutoFault.TheVariants.{Syntax, Table, Memory}
@@ -22,21 +22,11 @@ use Rattle.dcv_automaton_read.specs.declared.faults.AutoFault.TheVariants.{Synta
 abbrev pub texts_of : List (Bor (List ℕ)) → List (List ℕ)
 texts_of names = map (λ name. name.now) names
 
-abbrev pub child_of : Target → Child
-child_of (ToState number) = State number
-child_of (ToNode number) = AtNode number
-
 abbrev pub node_of : List (List ℕ) → NodeLine → Node
-node_of names line = record { slot = slot_of names line.name; hi = child_of line.hi; lo = child_of line.lo }
-
-abbrev pub same_child : Child → Child → Bool
-same_child (State number) (State other) = nat_eq number other
-same_child (State number) (AtNode other) = false
-same_child (AtNode number) (State other) = false
-same_child (AtNode number) (AtNode other) = nat_eq number other
+node_of names line = record { slot = slot_of names line.name; hi = line.hi; lo = line.lo }
 
 abbrev pub same_node : Node → Node → Bool
-same_node node other = nat_eq node.slot other.slot && same_child node.hi other.hi && same_child node.lo other.lo
+same_node node other = nat_eq node.slot other.slot && is_same_target node.hi other.hi && is_same_target node.lo other.lo
 
 abbrev pub slots_of : List Node → List ℕ
 slots_of nodes = map (λ (node : Node). node.slot) nodes

@@ -9,7 +9,7 @@ ghost use Rattle.dcv_automaton_read.specs.File.{access_from, suffix_from, row_of
 
 use crate::file::{AutoFile, Row};
 use crate::letters::letter_of;
-use crate::nodes::{Node, child_of};
+use crate::nodes::Node;
 use dcv_automaton_lines::{
     AccessLine, AccessWord, Lines, StateLine, StepLine, SuffixLine, SuffixWord,
 };
@@ -37,7 +37,7 @@ fn rows(alloc: Global, lines: &[StateLine]) -> Result<Vec<Row>, AllocError>
     for line in lines {
         rows.push(Row {
             accepting: line.accepting,
-            next: child_of(line.row),
+            next: line.row,
         })?;
     }
     Ok(rows)

@@ -9,9 +9,9 @@ ghost use Rattle.dcv_automaton_text.specs.Versions.{version_of, steps_of};
 ghost use Rattle.dcv_automaton_read.specs.File.{file_from, IsRead, IsKept, state_line, access_from, suffix_from, accesses_of, suffixes_of};
 ghost use Rattle.dcv_automaton_read.specs.File.{step_line, counts_in};
 
-use crate::nodes::{Child, Node};
+use crate::nodes::Node;
 use crate::walk::leaf;
-use dcv_language::{Access, Count, Suffix};
+use dcv_language::{Access, Child, Count, Suffix};
 use dcv_syntax::Text;
 use dcv_word::Letter;
 use dcv_word::laws::letters_of_width_are_all;

@@ -17,5 +17,5 @@ mod words;
 pub use dcv_language::{Access, Suffix};
 pub use faults::AutoFault;
 pub use file::{AutoFile, Row};
-pub use nodes::{Child, Node};
+pub use nodes::Node;
 pub use reading::automaton_read;

@@ -2,29 +2,20 @@
 ghost use Rattle.std.specs.Prelude.{◌≡◌, ◌+◌, ◌*◌, ◌^◌, ◌<◌, ◌≤◌, not, ◌&&◌, length, [], slice_get, Some, IfOk, OnOk};
 ghost use Rattle.std.specs.List.{zip};
 ghost use Rattle.dcv_language.specs.Limits.{most_nodes};
-ghost use Rattle.dcv_automaton_text.specs.Rules.{keeps_node};
+ghost use Rattle.dcv_automaton_text.specs.Rules.{keeps_node, is_same_target};
 ghost use Rattle.dcv_automaton_text.specs.Spelled.{node_words};
-ghost use Rattle.dcv_automaton_lines.specs.Seen.{file_of, target_of, node_line_of};
+ghost use Rattle.dcv_automaton_lines.specs.Seen.{file_of, node_line_of};
 ghost use Rattle.dcv_automaton_read.specs.Judged.{IsJudged, first_word};
-ghost use Rattle.dcv_automaton_read.specs.Seen.{child_of, child_kept, same_child, IsAdded, AreNodesOf};
+ghost use Rattle.dcv_automaton_read.specs.Seen.{child_kept, IsAdded, AreNodesOf};
 ghost use Rattle.dcv_automaton_read.specs.Parts.{judged_nodes};
 
 use crate::faults::Stop;
 use crate::names::slot_of;
 use crate::words::judge;
-use dcv_automaton_lines::{Lines, NodeLine, Target};
-use dcv_language::MOST_NODES;
+use dcv_automaton_lines::{Lines, NodeLine};
+use dcv_language::{Child, MOST_NODES};
 use indexmap::IndexSet;
 use std::alloc::AllocFailed;
-
-/// What comes next in a row.
-#[derive(Clone, Copy, Debug, PartialEq, Eq, Hash)]
-pub enum Child {
-    /// This state, whatever the later variables are.
-    State(u32),
-    /// What the node with this number says.
-    Node(u32),
-}
 
 /// A node of the rows.
 #[derive(Clone, Copy, Debug, PartialEq, Eq, Hash)]
@@ -35,16 +26,6 @@ pub struct Node {
     pub hi: Child,
     /// What comes next where it is false.
     pub lo: Child,
-}
-
-// What a line says to come next.
-pub(crate) fn child_of(target: Target) -> Child
-    ensures { result ≡ child_of (target_of target) }
-{
-    match target {
-        Target::State(number) => Child::State(number),
-        Target::Node(number) => Child::Node(number),
-    }
 }
 
 // Whether a child is a state that there is, or one of the earlier nodes, with a later variable.
@@ -62,7 +43,7 @@ fn keeps_child(nodes: &[Node], states: u32, slot: usize, child: Child) -> bool
 
 // Whether the child where the variable is false is one that there may be, and not the other child once more.
 fn keeps_other(nodes: &[Node], states: u32, node: Node) -> bool
-    ensures { result ≡ (child_kept states nodes.now node.slot node.lo && not (same_child node.hi node.lo)) }
+    ensures { result ≡ (child_kept states nodes.now node.slot node.lo && not (is_same_target node.hi node.lo)) }
 {
     keeps_child(nodes, states, node.slot, node.lo) && node.hi != node.lo
 }
@@ -94,8 +75,8 @@ fn judge_node(
     let slot = slot_of(&lines.names, line.name);
     let node = Node {
         slot,
-        hi: child_of(line.hi),
-        lo: child_of(line.lo),
+        hi: line.hi,
+        lo: line.lo,
     };
     let keeps_hi = keeps_child(nodes.as_slice(), lines.states, slot, node.hi);
     let keeps_lo = keeps_other(nodes.as_slice(), lines.states, node);

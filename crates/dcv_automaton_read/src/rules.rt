@@ -6,7 +6,7 @@ ghost use Rattle.dcv_automaton_text.specs.Form.{HasForm};
 ghost use Rattle.dcv_automaton_text.specs.Rules.{keeps_state, keeps_access, keeps_suffix, keeps_step, keeps_row, has_width, goes_before};
 ghost use Rattle.dcv_automaton_text.specs.Rules.{has_all_states, has_all_access, has_all_steps, judged_steps, judged_words};
 ghost use Rattle.dcv_automaton_text.specs.Spelled.{state_words, access_words, suffix_words, step_words};
-ghost use Rattle.dcv_automaton_lines.specs.Seen.{file_of, target_of, letter_of, state_line_of, access_line_of, suffix_line_of};
+ghost use Rattle.dcv_automaton_lines.specs.Seen.{file_of, letter_of, state_line_of, access_line_of, suffix_line_of};
 ghost use Rattle.dcv_automaton_lines.specs.Seen.{step_line_of, step_part_of};
 ghost use Rattle.dcv_automaton_read.specs.Judged.{IsJudged, first_word, IsJudgedWhole};
 ghost use Rattle.dcv_automaton_read.specs.Seen.{AreNodesOf, IsJudgedText};
@@ -17,9 +17,9 @@ use crate::names::judge_names;
 use crate::nodes::{Node, judge_nodes};
 use crate::words::{judge, start_of_word};
 use dcv_automaton_lines::{
-    AccessLine, AccessWord, Lines, StateLine, StepLine, StepPart, SuffixLine, SuffixWord, Target,
+    AccessLine, AccessWord, Lines, StateLine, StepLine, StepPart, SuffixLine, SuffixWord,
 };
-use dcv_language::{MOST_NODES, MOST_STATES};
+use dcv_language::{Child, MOST_NODES, MOST_STATES};
 use indexmap::IndexSet;
 use std::alloc::Global;
 
@@ -46,12 +46,12 @@ fn judge_head(lines: &Lines) -> Result<u64, Stop>
 }
 
 // Whether a row is a state or a node that there is.
-fn keeps_row(lines: &Lines, row: Target) -> bool
-    ensures { result ≡ keeps_row (file_of lines.now) (target_of row) }
+fn keeps_row(lines: &Lines, row: Child) -> bool
+    ensures { result ≡ keeps_row (file_of lines.now) row }
 {
     match row {
-        Target::State(number) => number < lines.states,
-        Target::Node(number) => (number as usize) < lines.node_lines.len(),
+        Child::State(number) => number < lines.states,
+        Child::Node(number) => (number as usize) < lines.node_lines.len(),
     }
 }
 

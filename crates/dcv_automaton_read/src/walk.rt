@@ -1,8 +1,10 @@
 // The way through a row. Slots grow on it, so it takes a step for each variable at most.
 ghost use Rattle.std.specs.Prelude.{◌≡◌, ◌<◌, ◌≤◌, length};
-ghost use Rattle.dcv_automaton_read.specs.Walk.{child_at, leaf_at, leaves_of, IsEarlier, AreOrdered};
+ghost use Rattle.dcv_automaton_text.specs.Meaning.{state_at};
+ghost use Rattle.dcv_automaton_read.specs.Walk.{child_at, leaves_of, IsEarlier, AreOrdered};
 
-use crate::nodes::{Child, Node};
+use crate::nodes::Node;
+use dcv_language::Child;
 use dcv_word::Letter;
 
 // What comes next at a letter.
@@ -23,7 +25,7 @@ pub(crate) fn leaf(nodes: &[Node], start: Child, letter: &Letter) -> u32
     requires ordered { AreOrdered (length letter.now) nodes.now }
     requires narrow { length letter.now ≤ 32 }
     requires start { IsEarlier (length nodes.now) start }
-    ensures { result ≡ leaf_at (leaves_of letter.now nodes.now) start }
+    ensures { result ≡ state_at (leaves_of letter.now nodes.now) start }
 {
     let mut at = start;
     'way: loop {

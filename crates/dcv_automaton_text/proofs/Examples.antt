@@ -3,7 +3,8 @@ use Rattle.std.proofs.Common.{◌≡◌, true, false, List, [], ◌∷◌, ◌++
 use Rattle.std.specs.Prelude.{codes}
 use Rattle.std.specs.Fmt.{digits}
 use Rattle.dcv_tokens.specs.Tokens.{reserved_words}
-use Rattle.dcv_automaton_text.specs.File.{ToState, ToNode, NodeLine, StateLine, EmptyAccess, StartAccess, AfterAccess, AccessLine, EmptySuffix, ThenSuffix, SuffixLine, StepLine, AutomatonFile}
+use Rattle.dcv_language.specs.declared.child.Child.TheVariants.{State, Node}
+use Rattle.dcv_automaton_text.specs.File.{NodeLine, StateLine, EmptyAccess, StartAccess, AfterAccess, AccessLine, EmptySuffix, ThenSuffix, SuffixLine, StepLine, AutomatonFile}
 use Rattle.dcv_automaton_text.specs.Spelled.{lines_of, spelled}
 use Rattle.dcv_automaton_text.specs.Rules.{judged_words, IsGood, IsTableFault}
 use Rattle.dcv_automaton_text.specs.Numbering.{visits_of, numbered_nodes, IsNumbered}
@@ -13,13 +14,13 @@ use Rattle.dcv_automaton_text.specs.Meaning.{states_at, table_of, access_words_o
 -- ---- the words of one letter, in which the variable is true
 
 nodes_of_point : List NodeLine
-nodes_of_point = record { number = 0; name = codes "p"; hi = ToState 2; lo = ToState 1 } ∷ []
+nodes_of_point = record { number = 0; name = codes "p"; hi = State 2; lo = State 1 } ∷ []
 
 states_of_point : List StateLine
 states_of_point =
-    record { number = 0; accepting = false; row = ToNode 0 }
-    ∷ record { number = 1; accepting = false; row = ToState 1 }
-    ∷ record { number = 2; accepting = true; row = ToState 1 } ∷ []
+    record { number = 0; accepting = false; row = Node 0 }
+    ∷ record { number = 1; accepting = false; row = State 1 }
+    ∷ record { number = 2; accepting = true; row = State 1 } ∷ []
 
 access_of_point : List AccessLine
 access_of_point =
@@ -77,9 +78,9 @@ point_is_numbered = refl
 
 nodes_of_agreement : List NodeLine
 nodes_of_agreement =
-    record { number = 0; name = codes "q"; hi = ToState 0; lo = ToState 1 }
-    ∷ record { number = 1; name = codes "q"; hi = ToState 1; lo = ToState 0 }
-    ∷ record { number = 2; name = codes "p"; hi = ToNode 1; lo = ToNode 0 } ∷ []
+    record { number = 0; name = codes "q"; hi = State 0; lo = State 1 }
+    ∷ record { number = 1; name = codes "q"; hi = State 1; lo = State 0 }
+    ∷ record { number = 2; name = codes "p"; hi = Node 1; lo = Node 0 } ∷ []
 
 agreement : AutomatonFile
 agreement =
@@ -87,7 +88,7 @@ agreement =
       names = codes "p" ∷ codes "q" ∷ [];
       states = 2;
       node_lines = nodes_of_agreement;
-      state_lines = record { number = 0; accepting = false; row = ToNode 2 } ∷ record { number = 1; accepting = true; row = ToNode 2 } ∷ [];
+      state_lines = record { number = 0; accepting = false; row = Node 2 } ∷ record { number = 1; accepting = true; row = Node 2 } ∷ [];
       access_lines = record { number = 0; access = StartAccess (false ∷ true ∷ []) } ∷ record { number = 1; access = StartAccess (false ∷ false ∷ []) } ∷ [];
       suffix_lines = record { number = 0; suffix = EmptySuffix } ∷ [];
       steps = None;
@@ -99,9 +100,9 @@ agreement_is_numbered = refl
 
 -- where the other child stands first, the first two get each other's numbers
 exchanged_numbers : numbered_nodes (record agreement {
-  node_lines = record { number = 0; name = codes "q"; hi = ToState 1; lo = ToState 0 }
-      ∷ record { number = 1; name = codes "q"; hi = ToState 0; lo = ToState 1 }
-      ∷ record { number = 2; name = codes "p"; hi = ToNode 0; lo = ToNode 1 } ∷ [];
+  node_lines = record { number = 0; name = codes "q"; hi = State 1; lo = State 0 }
+      ∷ record { number = 1; name = codes "q"; hi = State 0; lo = State 1 }
+      ∷ record { number = 2; name = codes "p"; hi = Node 0; lo = Node 1 } ∷ [];
 }) ≡ 1 ∷ 0 ∷ 2 ∷ []
 unfolding agreement visits_of numbered_nodes
 exchanged_numbers = refl
@@ -114,7 +115,7 @@ all =
       names = [];
       states = 1;
       node_lines = [];
-      state_lines = record { number = 0; accepting = true; row = ToState 0 } ∷ [];
+      state_lines = record { number = 0; accepting = true; row = State 0 } ∷ [];
       access_lines = record { number = 0; access = StartAccess [] } ∷ [];
       suffix_lines = [];
       steps = None;
@@ -203,12 +204,12 @@ unfolding all judged_words digits
 access_missing_before_steps = refl
 
 -- equal children: at the second
-equal_children : IsTableFault (record point { node_lines = record { number = 0; name = codes "p"; hi = ToState 2; lo = ToState 2 } ∷ [] }) 50
+equal_children : IsTableFault (record point { node_lines = record { number = 0; name = codes "p"; hi = State 2; lo = State 2 } ∷ [] }) 50
 unfolding point states_of_point access_of_point suffixes_of_point judged_words reserved_words digits
 equal_children = refl
 
 -- a state is missing: at the first word of the access lines
-state_missing : IsTableFault (record point { state_lines = record { number = 0; accepting = false; row = ToNode 0 } ∷ [] }) 71
+state_missing : IsTableFault (record point { state_lines = record { number = 0; accepting = false; row = Node 0 } ∷ [] }) 71
 unfolding point nodes_of_point access_of_point suffixes_of_point judged_words reserved_words digits
 state_missing = refl
 

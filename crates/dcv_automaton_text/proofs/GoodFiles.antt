@@ -11,7 +11,9 @@ use Rattle.std.proofs.lemmas.List.{length-map}
 use Rattle.std.proofs.lemmas.List.Folds.{list_all-append}
 use Rattle.std.proofs.lemmas.List.FromFn.{length-enumerate_from}
 use Rattle.dcv_language.specs.Limits.{most_variables, most_states, most_nodes}
-use Rattle.dcv_automaton_text.specs.File.{Target, ToState, ToNode, NodeLine, StateLine, AutomatonFile}
+use Rattle.dcv_language.specs.declared.child.Child.{Child}
+use Rattle.dcv_language.specs.declared.child.Child.TheVariants.{State, Node}
+use Rattle.dcv_automaton_text.specs.File.{NodeLine, StateLine, AutomatonFile}
 use Rattle.dcv_automaton_text.specs.File.{Access, EmptyAccess, StartAccess, AfterAccess, AccessLine}
 use Rattle.dcv_automaton_text.specs.Spelled.{name_words, node_words, state_words, how_access, access_words, suffix_words, version_word, head_lines}
 use Rattle.dcv_automaton_text.specs.Rules.{is_listed, keeps_name, keeps_child}
@@ -87,9 +89,9 @@ few_names (name ∷ names) are =
 
 -- ---- lines
 
-pub same_target : (target : Target) → is_same_target target target ≡ true
-same_target (ToState number) = (unsigned_Decides number number).1 refl
-same_target (ToNode number) = (unsigned_Decides number number).1 refl
+pub same_target : (target : Child) → is_same_target target target ≡ true
+same_target (State number) = (unsigned_Decides number number).1 refl
+same_target (Node number) = (unsigned_Decides number number).1 refl
 
 -- the line of the node with this number
 pub record IsGoodNode (file : AutomatonFile) (place : ℕ) (line : NodeLine) : Type 0 where
@@ -163,10 +165,10 @@ few_of_access file place (StartAccess letter) = omega arith
 few_of_access file place (AfterAccess state letter) = omega arith
 
 no_node : NodeLine
-no_node = record { number = 0; name = []; hi = ToState 0; lo = ToState 0 }
+no_node = record { number = 0; name = []; hi = State 0; lo = State 0 }
 
 no_state : StateLine
-no_state = record { number = 0; accepting = false; row = ToState 0 }
+no_state = record { number = 0; accepting = false; row = State 0 }
 
 no_access : AccessLine
 no_access = record { number = 0; access = EmptyAccess }

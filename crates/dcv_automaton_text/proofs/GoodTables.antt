@@ -7,7 +7,9 @@ use Rattle.std.proofs.lemmas.List.Elements.{All-push}
 use Rattle.dcv_word.specs.Laws.{LettersAreTwoToTheWidth}
 use Rattle.dcv_word.specs.Letter.{letters_of_width}
 use Rattle.dcv_language.specs.Table.{TableState}
-use Rattle.dcv_automaton_text.specs.File.{Target, ToState, ToNode, NodeLine, StateLine, AutomatonFile}
+use Rattle.dcv_language.specs.declared.child.Child.{Child}
+use Rattle.dcv_language.specs.declared.child.Child.TheVariants.{State, Node}
+use Rattle.dcv_automaton_text.specs.File.{NodeLine, StateLine, AutomatonFile}
 use Rattle.dcv_automaton_text.specs.Laws.{GoodFilesAreTables, TableHasTheFilesStates}
 use Rattle.dcv_automaton_text.specs.Meaning.{state_at, states_at, state_of, table_of}
 use Rattle.dcv_automaton_text.specs.Rules.{slot_of, keeps_child, keeps_row}
@@ -16,21 +18,21 @@ use Rattle.dcv_automaton_text.proofs.GoodFiles.{IsGoodFile, good_file}
 -- ---- the states that targets stand for
 
 -- a target that is a state is one of so many
-abbrev pub IsStateBelow : ℕ → Target → Type 0
-IsStateBelow count (ToState number) = number < count
-IsStateBelow count (ToNode number) = Unit {0}
+abbrev pub IsStateBelow : ℕ → Child → Type 0
+IsStateBelow count (State number) = number < count
+IsStateBelow count (Node number) = Unit {0}
 
-pub child_is_below : (file : AutomatonFile) (place : ℕ) (target : Target) → keeps_child file place target ≡ true → IsStateBelow file.states target
-child_is_below file place (ToState number) kept = ltb-true number file.states kept
-child_is_below file place (ToNode number) kept = tt
+pub child_is_below : (file : AutomatonFile) (place : ℕ) (target : Child) → keeps_child file place target ≡ true → IsStateBelow file.states target
+child_is_below file place (State number) kept = ltb-true number file.states kept
+child_is_below file place (Node number) kept = tt
 
-pub row_is_below : (file : AutomatonFile) (target : Target) → keeps_row file target ≡ true → IsStateBelow file.states target
-row_is_below file (ToState number) kept = ltb-true number file.states kept
-row_is_below file (ToNode number) kept = tt
+pub row_is_below : (file : AutomatonFile) (target : Child) → keeps_row file target ≡ true → IsStateBelow file.states target
+row_is_below file (State number) kept = ltb-true number file.states kept
+row_is_below file (Node number) kept = tt
 
-pub stands_below : (count : ℕ) (states : List ℕ) (target : Target) → 0 < count → All (λ state. state < count) states → IsStateBelow count target → state_at states target < count
-stands_below count states (ToState number) some all below = below
-stands_below count states (ToNode number) some all below =
+pub stands_below : (count : ℕ) (states : List ℕ) (target : Child) → 0 < count → All (λ state. state < count) states → IsStateBelow count target → state_at states target < count
+stands_below count states (State number) some all below = below
+stands_below count states (Node number) some all below =
     elim (cases_lt number (length states)) [
       | inl within ↦ all number 0 within
       | inr past ↦ subst (λ state. state < count) (sym (get_or_past states number 0 past)) some
@@ -63,7 +65,7 @@ nodes_stand_below file is letter =
     (λ k d within. absurd (omega arith))
 
 -- the state to which a letter leads in a row
-pub row_stands_below : (file : AutomatonFile) → IsGoodFile file → (letter : List Bool) (target : Target) → keeps_row file target ≡ true
+pub row_stands_below : (file : AutomatonFile) → IsGoodFile file → (letter : List Bool) (target : Child) → keeps_row file target ≡ true
     → state_at (states_at file.names letter file.node_lines) target < file.states
 row_stands_below file is letter target kept =
     stands_below file.states (states_at file.names letter file.node_lines) target is.some (nodes_stand_below file is letter) (row_is_below file target kept)
@@ -75,7 +77,7 @@ unfolding table_of
 length-table_of file = length-map file.state_lines (state_of file)
 
 pub no_line : StateLine
-no_line = record { number = 0; accepting = false; row = ToState 0 }
+no_line = record { number = 0; accepting = false; row = State 0 }
 
 pub state-at : (file : AutomatonFile) (k : ℕ) (d : TableState) → k < length file.state_lines → get_or (table_of file) k d ≡ state_of file (get_or file.state_lines k no_line)
 unfolding table_of

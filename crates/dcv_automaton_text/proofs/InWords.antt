@@ -13,7 +13,9 @@ use Rattle.std.proofs.lemmas.Slice.Eq.{bytes_eq-Decides}
 use Rattle.dcv_tokens.specs.Tokens.{is_name}
 use Rattle.dcv_tokens.specs.Limits.{longest_word}
 use Rattle.dcv_language.specs.Limits.{most_variables, most_states, most_nodes}
-use Rattle.dcv_automaton_text.specs.File.{Target, ToState, ToNode, NodeLine, StateLine, Access, EmptyAccess, StartAccess, AfterAccess, AccessLine}
+use Rattle.dcv_language.specs.declared.child.Child.{Child}
+use Rattle.dcv_language.specs.declared.child.Child.TheVariants.{State, Node}
+use Rattle.dcv_automaton_text.specs.File.{NodeLine, StateLine, Access, EmptyAccess, StartAccess, AfterAccess, AccessLine}
 use Rattle.dcv_automaton_text.specs.File.{Suffix, EmptySuffix, ThenSuffix, StepLine, StepPart, AutomatonFile}
 use Rattle.dcv_automaton_text.specs.GoodFile.{AtEachPlace, IsChild, IsGoodNodeLine, AreSameNode, IsRow, IsGoodStateLine, HasWidth, IsHowAccess, IsGoodAccessLine}
 use Rattle.dcv_automaton_text.specs.GoodFile.{IsHowSuffix, IsGoodSuffixLine, IsGoodStepLine, IsGoodStepPart, IsGoodFile}
@@ -132,22 +134,22 @@ listed_slot names name = place_found (bytes_eq name) names
 
 -- ---- nodes
 
-child_is : (file : AutomatonFile) (place : ℕ) (target : Target) → keeps_child file place target ≡ true → IsChild file place target
-child_is file place (ToState number) kept = ltb-true number file.states kept
-child_is file place (ToNode number) kept =
+child_is : (file : AutomatonFile) (place : ℕ) (target : Child) → keeps_child file place target ≡ true → IsChild file place target
+child_is file place (State number) kept = ltb-true number file.states kept
+child_is file place (Node number) kept =
     let parts = both (nat_lt number place) (nat_lt (slot_of_node file place) (slot_of_node file number)) kept in
     record { earlier = ltb-true number place parts.0; later_variable = ltb-true (slot_of_node file place) (slot_of_node file number) parts.1 }
 
-child_kept : (file : AutomatonFile) (place : ℕ) (target : Target) → IsChild file place target → keeps_child file place target ≡ true
-child_kept file place (ToState number) is = lt-ltb number file.states is
-child_kept file place (ToNode number) is =
+child_kept : (file : AutomatonFile) (place : ℕ) (target : Child) → IsChild file place target → keeps_child file place target ≡ true
+child_kept file place (State number) is = lt-ltb number file.states is
+child_kept file place (Node number) is =
     both_true (nat_lt number place) _ (lt-ltb number place is.earlier) (lt-ltb (slot_of_node file place) (slot_of_node file number) is.later_variable)
 
-target_is : (target other : Target) → is_same_target target other ≡ true → target ≡ other
-target_is (ToState number) (ToState other) same = ap ToState ((unsigned_Decides number other).0 same)
-target_is (ToState number) (ToNode other) same = absurd (false≢true same)
-target_is (ToNode number) (ToState other) same = absurd (false≢true same)
-target_is (ToNode number) (ToNode other) same = ap ToNode ((unsigned_Decides number other).0 same)
+target_is : (target other : Child) → is_same_target target other ≡ true → target ≡ other
+target_is (State number) (State other) same = ap State ((unsigned_Decides number other).0 same)
+target_is (State number) (Node other) same = absurd (false≢true same)
+target_is (Node number) (State other) same = absurd (false≢true same)
+target_is (Node number) (Node other) same = ap Node ((unsigned_Decides number other).0 same)
 
 node_is : (line other : NodeLine) → is_same_node line other ≡ true → AreSameNode other line
 node_is line other same =
@@ -155,7 +157,7 @@ node_is line other same =
     let first = both (bytes_eq line.name other.name) (is_same_target line.hi other.hi) last.0 in
     record { name = sym ((bytes_eq-Decides line.name other.name).0 first.0); hi = sym (target_is line.hi other.hi first.1); lo = sym (target_is line.lo other.lo last.1) }
 
-same_is_same : (target other : Target) → target ≡ other → is_same_target target other ≡ true
+same_is_same : (target other : Child) → target ≡ other → is_same_target target other ≡ true
 same_is_same target other same = ap (is_same_target target) (sym same) ∙ same_target target
 
 is_node : (line other : NodeLine) → AreSameNode other line → is_same_node line other ≡ true
@@ -164,7 +166,7 @@ is_node line other same =
     (both_true (bytes_eq line.name other.name) _ ((bytes_eq-Decides line.name other.name).1 (sym same.name)) (same_is_same line.hi other.hi (sym same.hi)))
     (same_is_same line.lo other.lo (sym same.lo))
 
-other_target : (target other : Target) → target ≢ other → is_same_target target other ≡ false
+other_target : (target other : Child) → target ≢ other → is_same_target target other ≡ false
 other_target target other differ = by (is_same_target target other) refl
   where
     by : (same : Bool) → is_same_target target other ≡ same → same ≡ false
@@ -208,13 +210,13 @@ node_kept file place line is few new = (
 
 -- ---- states
 
-row_is : (file : AutomatonFile) (target : Target) → keeps_row file target ≡ true → IsRow file target
-row_is file (ToState number) kept = ltb-true number file.states kept
-row_is file (ToNode number) kept = ltb-true number (length file.node_lines) kept
+row_is : (file : AutomatonFile) (target : Child) → keeps_row file target ≡ true → IsRow file target
+row_is file (State number) kept = ltb-true number file.states kept
+row_is file (Node number) kept = ltb-true number (length file.node_lines) kept
 
-row_kept : (file : AutomatonFile) (target : Target) → IsRow file target → keeps_row file target ≡ true
-row_kept file (ToState number) is = lt-ltb number file.states is
-row_kept file (ToNode number) is = lt-ltb number (length file.node_lines) is
+row_kept : (file : AutomatonFile) (target : Child) → IsRow file target → keeps_row file target ≡ true
+row_kept file (State number) is = lt-ltb number file.states is
+row_kept file (Node number) is = lt-ltb number (length file.node_lines) is
 
 state_kept : (file : AutomatonFile) (place : ℕ) (line : StateLine) → IsGoodStateLine file place line → place < file.states → AreKept (keeps_state file place line)
 state_kept file place line is few = (lt-ltb place file.states few, ((unsigned_Decides line.number place).1 is.number, (refl, (row_kept file line.row is.row, tt))))

@@ -6,7 +6,9 @@ use Rattle.std.specs.Fmt.{decimal}
 use Rattle.std.specs.List.{All, list_all}
 use Rattle.std.proofs.lemmas.Fmt.{decimal_injective}
 use Rattle.dcv_word.specs.Laws.{LineIsOfOneLetter}
-use Rattle.dcv_automaton_text.specs.File.{Target, ToState, ToNode, NodeLine, StateLine, Access, EmptyAccess, StartAccess, AfterAccess, AccessLine}
+use Rattle.dcv_language.specs.declared.child.Child.{Child}
+use Rattle.dcv_language.specs.declared.child.Child.TheVariants.{State, Node}
+use Rattle.dcv_automaton_text.specs.File.{NodeLine, StateLine, Access, EmptyAccess, StartAccess, AfterAccess, AccessLine}
 use Rattle.dcv_automaton_text.specs.File.{Suffix, EmptySuffix, ThenSuffix, SuffixLine, StepLine, StepPart, AutomatonFile}
 use Rattle.dcv_automaton_text.specs.Spelled.{target_word, answer_word, name_words, node_words, state_words, how_access, access_words, how_suffix, suffix_words}
 use Rattle.dcv_automaton_text.specs.Spelled.{version_word, step_words, step_part, end_lines, lines_of, spelled}
@@ -19,11 +21,11 @@ use Rattle.dcv_automaton_text.proofs.Words.{AreVisible, decimal_is_visible, lett
 same_numbers : (a b : ℕ) → IsNumber a → IsNumber b → decimal a ≡ decimal b → a ≡ b
 same_numbers a b small other same = decimal_injective a b (omega arith) (omega arith) same
 
-same_targets : (a b : Target) → IsTarget a → IsTarget b → target_word a ≡ target_word b → a ≡ b
-same_targets (ToState a) (ToState b) small other same = ap ToState (same_numbers a b small other cc)
-same_targets (ToState a) (ToNode b) small other same = absurd (let wrong : nat_eq 116 116 ≡ nat_eq 110 116 = ap (λ word. nat_eq (slice_index_or word 0 0) 116) same in cc)
-same_targets (ToNode a) (ToState b) small other same = absurd (let wrong : nat_eq 110 116 ≡ nat_eq 116 116 = ap (λ word. nat_eq (slice_index_or word 0 0) 116) same in cc)
-same_targets (ToNode a) (ToNode b) small other same = ap ToNode (same_numbers a b small other cc)
+same_targets : (a b : Child) → IsTarget a → IsTarget b → target_word a ≡ target_word b → a ≡ b
+same_targets (State a) (State b) small other same = ap State (same_numbers a b small other cc)
+same_targets (State a) (Node b) small other same = absurd (let wrong : nat_eq 116 116 ≡ nat_eq 110 116 = ap (λ word. nat_eq (slice_index_or word 0 0) 116) same in cc)
+same_targets (Node a) (State b) small other same = absurd (let wrong : nat_eq 110 116 ≡ nat_eq 116 116 = ap (λ word. nat_eq (slice_index_or word 0 0) 116) same in cc)
+same_targets (Node a) (Node b) small other same = ap Node (same_numbers a b small other cc)
 
 same_answers : (a b : Bool) → answer_word a ≡ answer_word b → a ≡ b
 same_answers true true same = refl
@@ -163,9 +165,9 @@ name_words_are : (names : List (List ℕ)) → All IsNameWord names → AreWords
 name_words_are [] each = (refl, tt)
 name_words_are (name ∷ names) each = names_are_visible (name ∷ names) each
 
-target_is_visible : (target : Target) → IsTarget target → AreVisible (target_word target)
-target_is_visible (ToState number) small = decimal_is_visible number small
-target_is_visible (ToNode number) small = decimal_is_visible number small
+target_is_visible : (target : Child) → IsTarget target → AreVisible (target_word target)
+target_is_visible (State number) small = decimal_is_visible number small
+target_is_visible (Node number) small = decimal_is_visible number small
 
 answer_is_visible : (accepting : Bool) → AreVisible (answer_word accepting)
 answer_is_visible true = refl

@@ -5,7 +5,9 @@
 --     IsSyntaxFault text at     the text is viable up to this byte, and no further
 use Rattle.std.specs.Prelude.{◌≡◌, ◌≢◌, ℕ, ◌+◌, ◌^◌, ◌<◌, Bool, false, ◌&&◌, nat_le, List, [], ◌∷◌, ◌++◌, ◌⊎◌, length, take, codes, IsTrue, IfSome}
 use Rattle.std.specs.List.{All, list_all}
-use Rattle.dcv_automaton_text.specs.File.{Target, ToState, ToNode, NodeLine, StateLine, Access, EmptyAccess, StartAccess, AfterAccess, AccessLine}
+use Rattle.dcv_language.specs.declared.child.Child.{Child}
+use Rattle.dcv_language.specs.declared.child.Child.TheVariants.{State, Node}
+use Rattle.dcv_automaton_text.specs.File.{NodeLine, StateLine, Access, EmptyAccess, StartAccess, AfterAccess, AccessLine}
 use Rattle.dcv_automaton_text.specs.File.{Suffix, EmptySuffix, ThenSuffix, SuffixLine, StepLine, StepPart, AutomatonFile}
 use Rattle.dcv_automaton_text.specs.Spelled.{spelled}
 
@@ -24,9 +26,9 @@ is_name_word (b ∷ bytes) = list_all is_visible (b ∷ bytes)
 abbrev pub IsNameWord : List ℕ → Type 0
 IsNameWord name = IsTrue (is_name_word name)
 
-abbrev pub IsTarget : Target → Type 0
-IsTarget (ToState number) = IsNumber number
-IsTarget (ToNode number) = IsNumber number
+abbrev pub IsTarget : Child → Type 0
+IsTarget (State number) = IsNumber number
+IsTarget (Node number) = IsNumber number
 
 pub record IsNodeLine (line : NodeLine) : Type 0 where
   pub number : IsNumber line.number

@@ -8,7 +8,9 @@
 use Rattle.std.specs.Prelude.{◌≡◌, ◌≢◌, ℕ, ◌<◌, ◌≤◌, Bool, List, IfSome, length, slice_index_or}
 use Rattle.std.specs.List.{AllPairs}
 use Rattle.dcv_language.specs.Limits.{most_states, most_nodes}
-use Rattle.dcv_automaton_text.specs.File.{Target, ToState, ToNode, NodeLine, StateLine, Access, EmptyAccess, StartAccess, AfterAccess, AccessLine}
+use Rattle.dcv_language.specs.declared.child.Child.{Child}
+use Rattle.dcv_language.specs.declared.child.Child.TheVariants.{State, Node}
+use Rattle.dcv_automaton_text.specs.File.{NodeLine, StateLine, Access, EmptyAccess, StartAccess, AfterAccess, AccessLine}
 use Rattle.dcv_automaton_text.specs.File.{Suffix, EmptySuffix, ThenSuffix, SuffixLine, StepLine, StepPart, AutomatonFile}
 use Rattle.dcv_automaton_text.specs.Rules.{most_steps, most_start, AreNames, slot_of, slot_of_node}
 
@@ -24,9 +26,9 @@ pub record IsEarlierNode (file : AutomatonFile) (place : ℕ) (number : ℕ) : T
   pub later_variable : slot_of_node file place < slot_of_node file number
 
 -- a state that there is, or an earlier node
-abbrev pub IsChild : AutomatonFile → ℕ → Target → Type 0
-IsChild file place (ToState number) = number < file.states
-IsChild file place (ToNode number) = IsEarlierNode file place number
+abbrev pub IsChild : AutomatonFile → ℕ → Child → Type 0
+IsChild file place (State number) = number < file.states
+IsChild file place (Node number) = IsEarlierNode file place number
 
 pub record IsGoodNodeLine (file : AutomatonFile) (place : ℕ) (line : NodeLine) : Type 0 where
   pub number : line.number ≡ place
@@ -45,9 +47,9 @@ pub record AreSameNode (line other : NodeLine) : Type 0 where
 -- ---- states
 
 -- a state or a node that there is
-abbrev pub IsRow : AutomatonFile → Target → Type 0
-IsRow file (ToState number) = number < file.states
-IsRow file (ToNode number) = number < length file.node_lines
+abbrev pub IsRow : AutomatonFile → Child → Type 0
+IsRow file (State number) = number < file.states
+IsRow file (Node number) = number < length file.node_lines
 
 pub record IsGoodStateLine (file : AutomatonFile) (place : ℕ) (line : StateLine) : Type 0 where
   pub number : line.number ≡ place

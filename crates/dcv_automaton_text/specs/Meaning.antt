@@ -7,23 +7,25 @@ use Rattle.std.specs.Prelude.{ℕ, Bool, false, if◌then◌else◌, List, [], �
 use Rattle.dcv_word.specs.Behaviour.{Word}
 use Rattle.dcv_word.specs.Letter.{letters_of_width}
 use Rattle.dcv_language.specs.Table.{TableState, Table}
-use Rattle.dcv_automaton_text.specs.File.{Target, ToState, ToNode, NodeLine, StateLine, Access, EmptyAccess, StartAccess, AfterAccess, AccessLine}
+use Rattle.dcv_language.specs.declared.child.Child.{Child}
+use Rattle.dcv_language.specs.declared.child.Child.TheVariants.{State, Node}
+use Rattle.dcv_automaton_text.specs.File.{NodeLine, StateLine, Access, EmptyAccess, StartAccess, AfterAccess, AccessLine}
 use Rattle.dcv_automaton_text.specs.File.{Suffix, EmptySuffix, ThenSuffix, AutomatonFile}
 use Rattle.dcv_automaton_text.specs.Rules.{slot_of}
 
 -- ---- the table
 
 -- the state that a target stands for, given those of the nodes
-abbrev pub state_at : List ℕ → Target → ℕ
-state_at states (ToState number) = number
-state_at states (ToNode number) = slice_index_or states number 0
+abbrev pub state_at : List ℕ → Child → ℕ
+state_at states (State number) = number
+state_at states (Node number) = slice_index_or states number 0
 
 -- a node stands for what its child does on the side of the variable's value; its children stand before it
 unfoldable pub states_at : List (List ℕ) → List Bool → List NodeLine → List ℕ
 states_at names letter lines =
     fold (λ states line. states ++ state_at states (if slice_index_or letter (slot_of names line.name) false then line.hi else line.lo) ∷ []) [] lines
 
-abbrev pub row_of : AutomatonFile → Target → List ℕ
+abbrev pub row_of : AutomatonFile → Child → List ℕ
 row_of file target = map (λ letter. state_at (states_at file.names letter file.node_lines) target) (letters_of_width (length file.names))
 
 abbrev pub state_of : AutomatonFile → StateLine → TableState

@@ -8,14 +8,16 @@
 --     IsNumbered file               each node line has the number that its node gets, and each node gets one
 use Rattle.std.specs.Prelude.{◌≡◌, ℕ, Bool, nat_eq, if◌then◌else◌, List, [], ◌∷◌, ◌++◌, length, fold, slice_index_or}
 use Rattle.std.specs.List.{list_any, range_with_len}
-use Rattle.dcv_automaton_text.specs.File.{Target, ToState, ToNode, NodeLine, StateLine, AutomatonFile}
+use Rattle.dcv_language.specs.declared.child.Child.{Child}
+use Rattle.dcv_language.specs.declared.child.Child.TheVariants.{State, Node}
+use Rattle.dcv_automaton_text.specs.File.{NodeLine, StateLine, AutomatonFile}
 
 abbrev pub is_numbered : List ℕ → ℕ → Bool
 is_numbered nodes node = list_any (nat_eq node) nodes
 
-abbrev pub visit_by : List (List ℕ → List ℕ) → List ℕ → Target → List ℕ
-visit_by visits nodes (ToState state) = nodes
-visit_by visits nodes (ToNode node) = slice_index_or visits node (λ nodes. nodes) nodes
+abbrev pub visit_by : List (List ℕ → List ℕ) → List ℕ → Child → List ℕ
+visit_by visits nodes (State state) = nodes
+visit_by visits nodes (Node node) = slice_index_or visits node (λ nodes. nodes) nodes
 
 abbrev pub visit_node : List (List ℕ → List ℕ) → ℕ → NodeLine → List ℕ → List ℕ
 visit_node visits node line nodes =

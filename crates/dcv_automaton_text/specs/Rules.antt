@@ -13,7 +13,9 @@ use Rattle.std.specs.List.{All, AllPairs, flat_map, list_any, position_or_len, e
 use Rattle.dcv_tokens.specs.Tokens.{is_name}
 use Rattle.dcv_tokens.specs.Limits.{longest_word}
 use Rattle.dcv_language.specs.Limits.{most_variables, most_states, most_nodes}
-use Rattle.dcv_automaton_text.specs.File.{Target, ToState, ToNode, NodeLine, StateLine, Access, EmptyAccess, StartAccess, AfterAccess, AccessLine}
+use Rattle.dcv_language.specs.declared.child.Child.{Child}
+use Rattle.dcv_language.specs.declared.child.Child.TheVariants.{State, Node}
+use Rattle.dcv_automaton_text.specs.File.{NodeLine, StateLine, Access, EmptyAccess, StartAccess, AfterAccess, AccessLine}
 use Rattle.dcv_automaton_text.specs.File.{Suffix, EmptySuffix, ThenSuffix, SuffixLine, StepLine, StepPart, AutomatonFile}
 use Rattle.dcv_automaton_text.specs.Spelled.{node_words, state_words, access_words, suffix_words, step_words, steps_words, head_lines, end_lines}
 
@@ -54,15 +56,15 @@ abbrev pub slot_of_node : AutomatonFile → ℕ → ℕ
 slot_of_node file number = slot_of file.names (slice_index_or (map (λ (line : NodeLine). line.name) file.node_lines) number [])
 
 -- a state that there is, or an earlier node with a later variable
-abbrev pub keeps_child : AutomatonFile → ℕ → Target → Bool
-keeps_child file place (ToState number) = nat_lt number file.states
-keeps_child file place (ToNode number) = nat_lt number place && nat_lt (slot_of_node file place) (slot_of_node file number)
+abbrev pub keeps_child : AutomatonFile → ℕ → Child → Bool
+keeps_child file place (State number) = nat_lt number file.states
+keeps_child file place (Node number) = nat_lt number place && nat_lt (slot_of_node file place) (slot_of_node file number)
 
-abbrev pub is_same_target : Target → Target → Bool
-is_same_target (ToState number) (ToState other) = nat_eq number other
-is_same_target (ToState number) (ToNode other) = false
-is_same_target (ToNode number) (ToState other) = false
-is_same_target (ToNode number) (ToNode other) = nat_eq number other
+abbrev pub is_same_target : Child → Child → Bool
+is_same_target (State number) (State other) = nat_eq number other
+is_same_target (State number) (Node other) = false
+is_same_target (Node number) (State other) = false
+is_same_target (Node number) (Node other) = nat_eq number other
 
 -- the same variable, and the same children
 abbrev pub is_same_node : NodeLine → NodeLine → Bool
@@ -81,9 +83,9 @@ keeps_node file place line =
 -- ---- states
 
 -- a state or a node that there is
-abbrev pub keeps_row : AutomatonFile → Target → Bool
-keeps_row file (ToState number) = nat_lt number file.states
-keeps_row file (ToNode number) = nat_lt number (length file.node_lines)
+abbrev pub keeps_row : AutomatonFile → Child → Bool
+keeps_row file (State number) = nat_lt number file.states
+keeps_row file (Node number) = nat_lt number (length file.node_lines)
 
 abbrev pub keeps_state : AutomatonFile → ℕ → StateLine → List Bool
 keeps_state file place line =

@@ -12,7 +12,9 @@ use Rattle.std.specs.List.{flat_map, join_with_byte}
 use Rattle.std.specs.Str.{byte}
 use Rattle.dcv_word.specs.TraceLine.{trace_line}
 use Rattle.dcv_language.specs.VerdictText.{line}
-use Rattle.dcv_automaton_text.specs.File.{Target, ToState, ToNode, NodeLine, StateLine, Access, EmptyAccess, StartAccess, AfterAccess, AccessLine}
+use Rattle.dcv_language.specs.declared.child.Child.{Child}
+use Rattle.dcv_language.specs.declared.child.Child.TheVariants.{State, Node}
+use Rattle.dcv_automaton_text.specs.File.{NodeLine, StateLine, Access, EmptyAccess, StartAccess, AfterAccess, AccessLine}
 use Rattle.dcv_automaton_text.specs.File.{Suffix, EmptySuffix, ThenSuffix, SuffixLine, StepLine, StepPart, AutomatonFile}
 
 -- ---- words
@@ -20,9 +22,9 @@ use Rattle.dcv_automaton_text.specs.File.{Suffix, EmptySuffix, ThenSuffix, Suffi
 abbrev pub node_word : ℕ → List ℕ
 node_word number = byte "n" ∷ decimal number
 
-abbrev pub target_word : Target → List ℕ
-target_word (ToState number) = byte "t" ∷ decimal number
-target_word (ToNode number) = node_word number
+abbrev pub target_word : Child → List ℕ
+target_word (State number) = byte "t" ∷ decimal number
+target_word (Node number) = node_word number
 
 abbrev pub answer_word : Bool → List ℕ
 answer_word accepting = if accepting then codes "accept" else codes "reject"

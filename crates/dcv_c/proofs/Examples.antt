@@ -2,7 +2,8 @@
 use Rattle.std.proofs.Common.{◌≡◌, ℕ, ◌+◌, true, false, List, [], ◌∷◌, ◌++◌, None, refl, codes}
 use Rattle.std.specs.Fmt.{digits}
 use Rattle.dcv_lexer.specs.Cuts.{Token}
-use Rattle.dcv_automaton_text.specs.File.{AutomatonFile, ToState, ToNode, StartAccess, EmptySuffix}
+use Rattle.dcv_language.specs.declared.child.Child.TheVariants.{State, Node}
+use Rattle.dcv_automaton_text.specs.File.{AutomatonFile, StartAccess, EmptySuffix}
 use Rattle.dcv_c.specs.Tree.{CUnit, Statement, Assign, When, Plain, Chosen, Constant, Named, Holds, Equals, Returned, Read, Tested}
 use Rattle.dcv_c.specs.Placed.{PlacedUnit, PlacedAssign, PlacedPlain, PlacedReturned, PlacedFixed, PlacedRead, PlacedAssignment, unit_of}
 use Rattle.dcv_c.specs.Meaning.{unit_accepts, returned_number, returned_after, zeros}
@@ -19,7 +20,7 @@ nothing_file =
       names = [];
       states = 1;
       node_lines = [];
-      state_lines = record { number = 0; accepting = false; row = ToState 0 } ∷ [];
+      state_lines = record { number = 0; accepting = false; row = State 0 } ∷ [];
       access_lines = record { number = 0; access = StartAccess [] } ∷ [];
       suffix_lines = record { number = 0; suffix = EmptySuffix } ∷ [];
       steps = None;
@@ -37,8 +38,8 @@ throughout_file =
     record {
       names = codes "p" ∷ [];
       states = 2;
-      node_lines = record { number = 0; name = codes "p"; hi = ToState 0; lo = ToState 1 } ∷ [];
-      state_lines = record { number = 0; accepting = true; row = ToNode 0 } ∷ record { number = 1; accepting = false; row = ToState 1 } ∷ [];
+      node_lines = record { number = 0; name = codes "p"; hi = State 0; lo = State 1 } ∷ [];
+      state_lines = record { number = 0; accepting = true; row = Node 0 } ∷ record { number = 1; accepting = false; row = State 1 } ∷ [];
       access_lines = record { number = 0; access = StartAccess (true ∷ []) } ∷ record { number = 1; access = StartAccess (false ∷ []) } ∷ [];
       suffix_lines = record { number = 0; suffix = EmptySuffix } ∷ [];
       steps = None;
@@ -66,10 +67,10 @@ throughout_rejects = refl
 two_text : text_of (observer_of (record {
   names = codes "p" ∷ codes "q" ∷ [];
   states = 3;
-  node_lines = record { number = 0; name = codes "q"; hi = ToState 1; lo = ToState 2 } ∷ record { number = 1; name = codes "p"; hi = ToNode 0; lo = ToState 0 } ∷ [];
+  node_lines = record { number = 0; name = codes "q"; hi = State 1; lo = State 2 } ∷ record { number = 1; name = codes "p"; hi = Node 0; lo = State 0 } ∷ [];
   state_lines =
-      record { number = 0; accepting = true; row = ToNode 1 } ∷ record { number = 1; accepting = false; row = ToState 1 }
-      ∷ record { number = 2; accepting = true; row = ToNode 0 } ∷ [];
+      record { number = 0; accepting = true; row = Node 1 } ∷ record { number = 1; accepting = false; row = State 1 }
+      ∷ record { number = 2; accepting = true; row = Node 0 } ∷ [];
   access_lines = [];
   suffix_lines = [];
   steps = None;

@@ -7,16 +7,19 @@ use Rattle.std.specs.Char.{is_ascii_alphabetic, is_ascii_digit}
 use Rattle.std.proofs.lemmas.Bool.{and_parts, and_from, or_left, or_right, or_cases, le-leb, false≢true}
 use Rattle.std.proofs.lemmas.List.Elements.{recursion_from_All}
 use Rattle.std.proofs.lemmas.Fmt.{length-decimal-le}
-use Rattle.dcv_automaton_text.specs.File.{Target, ToState, ToNode, NodeLine, StateLine, AutomatonFile}
+use Rattle.dcv_dfa.specs.NodeLines.{IsBelow}
+use Rattle.dcv_automaton_text.specs.File.{NodeLine, StateLine, AutomatonFile}
 use Rattle.dcv_automaton_text.specs.Rules.{IsPlainName}
 use Rattle.dcv_automaton_text.proofs.Words.{digits_are}
 use Rattle.dcv_lexer.specs.Lexicon.{is_word, is_word_byte, word_class}
 use Rattle.dcv_language.specs.Limits.{most_states, most_nodes}
+use Rattle.dcv_language.specs.declared.child.Child.{Child}
+use Rattle.dcv_language.specs.declared.child.Child.TheVariants.{State, Node}
 use Rattle.dcv_observer.specs.Classes.{name as plain_name, is_short_word, class_of}
 use Rattle.dcv_observer.proofs.Limits.{short_word}
 use Rattle.dcv_observer.specs.Naming.{is_among}
 use Rattle.dcv_observer.proofs.Naming.{one_name}
-use Rattle.dcv_automaton_file.proofs.ObservedFiles.{IsBelow, GoodLines, GoodRows, IsObservable}
+use Rattle.dcv_automaton_file.proofs.ObservedFiles.{GoodLines, GoodRows, IsObservable}
 use Rattle.dcv_c.specs.Classes.{lexicon}
 use Rattle.dcv_c.specs.Tree.{Test, Statement}
 use Rattle.dcv_c.specs.Form.{IsName, IsItem, IsTest, IsReturned, IsStatement, IsSpellable}
@@ -84,9 +87,9 @@ listed_is (n ∷ names) name are among =
 -- ---- statements
 
 module _ (most : ℕ) (few : most ≤ most_states) where
-  item_is : (nodes : ℕ) (target : Target) → nodes ≤ most_nodes → IsBelow most nodes target → IsItem (item_of target)
-  item_is nodes (ToState state) small below = omega (arith, below)
-  item_is nodes (ToNode number) small below = node_is number (omega (arith, below))
+  item_is : (nodes : ℕ) (target : Child) → nodes ≤ most_nodes → IsBelow most nodes target → IsItem (item_of target)
+  item_is nodes (State state) small below = omega (arith, below)
+  item_is nodes (Node number) small below = node_is number (omega (arith, below))
 
   rows_are : (nodes : ℕ) → nodes ≤ most_nodes → (state : ℕ) (rows : List StateLine) → GoodRows most nodes state rows → state + length rows ≤ most_states
       → AllByRecursion IsStatement (map state_statement rows)

@@ -7,11 +7,14 @@ use Rattle.std.specs.List.{filter}
 use Rattle.std.proofs.lemmas.Bool.{cases_lt, or_cases, and_from, false_from_ne_true, false≢true, both_ways, lt-ltb}
 use Rattle.std.proofs.lemmas.List.{length-map}
 use Rattle.dcv_language.specs.Limits.{most_nodes}
-use Rattle.dcv_automaton_text.specs.File.{Target, ToState, ToNode, NodeLine, StateLine, AutomatonFile}
+use Rattle.dcv_language.specs.declared.child.Child.{Child}
+use Rattle.dcv_language.specs.declared.child.Child.TheVariants.{State, Node}
+use Rattle.dcv_dfa.specs.NodeLines.{IsBelow}
+use Rattle.dcv_automaton_text.specs.File.{NodeLine, StateLine, AutomatonFile}
 use Rattle.dcv_observer.specs.Naming.{is_among, AreDistinct}
 use Rattle.dcv_observer.proofs.Naming.{Name, one_name, among_here, among_later, among_append_cases}
 use Rattle.dcv_observer.proofs.ObserverNames.{node_names, each_node, next_is_no_node, among_no_nodes, nodes_are_distinct, node_is_among, among_no_variables, variables_are_distinct, variable_is_among, each_variable}
-use Rattle.dcv_automaton_file.proofs.ObservedFiles.{IsBelow, GoodLines, GoodRows, IsObservable}
+use Rattle.dcv_automaton_file.proofs.ObservedFiles.{GoodLines, GoodRows, IsObservable}
 use Rattle.dcv_c.specs.Tree.{Test, Statement, CUnit}
 use Rattle.dcv_c.specs.Rules.{most_parameters, keeps_new, keeps_apart, keeps_parameters, keeps_item, keeps_left, keeps_statement, keeps_statements}
 use Rattle.dcv_c.specs.Rules.{keeps_returned, IsWellNamed}
@@ -83,9 +86,9 @@ module _ (unit : CUnit) (names : List Name) (most total : ℕ) where
             ];
       }
 
-  item_kept : (known : List Name) (number : ℕ) (target : Target) → Knows names known number → IsBelow most number target → keeps_item known (item_of target) ≡ true
-  item_kept known number (ToState state) knows below = refl
-  item_kept known number (ToNode k) knows below = knows.nodes k below
+  item_kept : (known : List Name) (number : ℕ) (target : Child) → Knows names known number → IsBelow most number target → keeps_item known (item_of target) ≡ true
+  item_kept known number (State state) knows below = refl
+  item_kept known number (Node k) knows below = knows.nodes k below
 
   module _ (lefts : KeepsLefts) where
     nodes_kept : (lines : List NodeLine) (number : ℕ) (known : List Name) (more : List Statement) → GoodLines names most number lines

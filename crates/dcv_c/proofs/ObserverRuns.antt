@@ -7,13 +7,16 @@ use Rattle.std.specs.List.{list_any}
 use Rattle.std.proofs.lemmas.Bool.{cases_lt}
 use Rattle.std.proofs.lemmas.List.{length_push, get_or_append_left, get_or_push}
 use Rattle.dcv_language.specs.Limits.{most_nodes}
-use Rattle.dcv_automaton_text.specs.File.{Target, ToState, ToNode, NodeLine, StateLine}
+use Rattle.dcv_language.specs.declared.child.Child.{Child}
+use Rattle.dcv_language.specs.declared.child.Child.TheVariants.{State, Node}
+use Rattle.dcv_dfa.specs.NodeLines.{IsBelow}
+use Rattle.dcv_automaton_text.specs.File.{NodeLine, StateLine}
 use Rattle.dcv_automaton_text.specs.Meaning.{state_at}
 use Rattle.dcv_automaton_text.specs.Rules.{slot_of}
 use Rattle.dcv_observer.specs.Naming.{is_among}
 use Rattle.dcv_observer.proofs.Naming.{Name, is_itself}
 use Rattle.dcv_observer.proofs.ObserverNames.{node_is_not_next, node_is_no_other}
-use Rattle.dcv_automaton_file.proofs.ObservedFiles.{IsBelow, GoodLines, GoodRows, no_row}
+use Rattle.dcv_automaton_file.proofs.ObservedFiles.{GoodLines, GoodRows, no_row}
 use Rattle.dcv_automaton_file.proofs.Leading.{same_number, other_number, passes_where_accepting}
 use Rattle.dcv_c.specs.Tree.{Test}
 use Rattle.dcv_c.specs.Meaning.{Numbers, item_number, assigned, executed, passes, returned_number, truth_number}
@@ -61,10 +64,10 @@ module _ (names : List Name) (letter : List Bool) (state : ℕ) where
             ];
       }
 
-  item_stands : (now : Numbers) (states : List ℕ) (most : ℕ) (target : Target) → Stands now states → IsBelow most (length states) target
+  item_stands : (now : Numbers) (states : List ℕ) (most : ℕ) (target : Child) → Stands now states → IsBelow most (length states) target
       → item_number now (item_of target) ≡ state_at states target
-  item_stands now states most (ToState number) stands below = refl
-  item_stands now states most (ToNode number) stands below = stands.nodes number below
+  item_stands now states most (State number) stands below = refl
+  item_stands now states most (Node number) stands below = stands.nodes number below
 
   -- ---- nodes
 
@@ -75,7 +78,7 @@ module _ (names : List Name) (letter : List Bool) (state : ℕ) where
   truth_stands true = refl
   truth_stands false = refl
 
-  choice_stands : (now : Numbers) (states : List ℕ) (most : ℕ) (side : Bool) (hi lo : Target) → Stands now states → IsBelow most (length states) hi
+  choice_stands : (now : Numbers) (states : List ℕ) (most : ℕ) (side : Bool) (hi lo : Child) → Stands now states → IsBelow most (length states) hi
       → IsBelow most (length states) lo
       → cond side (item_number now (item_of hi)) (item_number now (item_of lo)) ≡ state_at states (cond side hi lo)
   choice_stands now states most true hi lo stands hi_below lo_below = item_stands now states most hi stands hi_below

@@ -4,11 +4,12 @@ use Rattle.std.specs.Fmt.{decimal, digits}
 use Rattle.std.specs.List.{enumerate_from, filter, flat_map}
 use Rattle.std.proofs.lemmas.Grind.{flat_map-append}
 use Rattle.std.proofs.lemmas.List.{append_assoc, append-nil}
-use Rattle.dcv_dfa.specs.declared.node_lines.Child.{Child}
+use Rattle.dcv_language.specs.declared.child.Child.{Child}
+use Rattle.dcv_language.specs.declared.child.Child.TheVariants.{State, Node}
 use Rattle.dcv_dfa.specs.declared.node_lines.NodeLine.{NodeLine as CodeLine}
 use Rattle.dcv_dfa.specs.NodeLines.{node_lines_of}
 use Rattle.dcv_dfa.specs.Raw.{RawValue}
-use Rattle.dcv_automaton_text.specs.File.{Target, ToState, ToNode, NodeLine, StateLine, AccessLine, SuffixLine}
+use Rattle.dcv_automaton_text.specs.File.{NodeLine, StateLine, AccessLine, SuffixLine}
 use Rattle.dcv_automaton_file.specs.File.{node_line, state_lines, file_of}
 use Rattle.dcv_automaton_file.specs.Lines.{child_text, listed_by, number_of, accepting_numbers}
 use Rattle.dcv_automaton_file.proofs.PutLines.{listed_names, listed_seen}
@@ -18,9 +19,9 @@ use Rattle.dcv_c.specs.Observer.{returned_for, observer_of}
 
 -- ---- parts
 
-child_is : (target : Target) → child_text target ≡ item_text (item_of target)
-child_is (ToState state) = refl
-child_is (ToNode number) = refl
+child_is : (target : Child) → child_text target ≡ item_text (item_of target)
+child_is (State state) = refl
+child_is (Node number) = refl
 
 pub parameters_are : (names : List (List ℕ)) → listed_by (codes "int v_") [] (codes ", ") (codes "void") names ≡ parameters_text (map parameter_name names)
 parameters_are [] = refl

@@ -6,7 +6,9 @@
 --     returned_for tests        what a step returns, by the tests of the states that accept
 use Rattle.std.specs.Prelude.{ℕ, List, [], ◌∷◌, ◌++◌, map, codes}
 use Rattle.std.specs.List.{filter}
-use Rattle.dcv_automaton_text.specs.File.{Target, ToState, ToNode, NodeLine, StateLine, AutomatonFile}
+use Rattle.dcv_language.specs.declared.child.Child.{Child}
+use Rattle.dcv_language.specs.declared.child.Child.TheVariants.{State, Node}
+use Rattle.dcv_automaton_text.specs.File.{NodeLine, StateLine, AutomatonFile}
 pub use Rattle.dcv_observer.specs.Naming.{state_name, next_name, node_name, variable_name as parameter_name}
 use Rattle.dcv_c.specs.Tree.{Item, Constant, Named, Holds, Equals, Test, Plain, Chosen, Statement, Assign, When, Returned, Fixed, Tested, CUnit}
 
@@ -21,9 +23,9 @@ step_name = codes "observer_step"
 -- ---- statements
 
 -- a state is its number
-abbrev pub item_of : Target → Item
-item_of (ToState state) = Constant state
-item_of (ToNode number) = Named (node_name number)
+abbrev pub item_of : Child → Item
+item_of (State state) = Constant state
+item_of (Node number) = Named (node_name number)
 
 -- `nx = 0`
 abbrev pub first_statement : Statement

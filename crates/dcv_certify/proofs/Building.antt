@@ -6,14 +6,15 @@ use Rattle.std.specs.Prelude.{nat_lt}
 use Rattle.dcv_arena.specs.Arena.{ArenaValue, IsArena, IsRef, KeepsRefs, level_of, value_of}
 use Rattle.dcv_arena.specs.declared.nodes.Ref.{Ref}
 use Rattle.dcv_arena.specs.declared.nodes.Ref.TheVariants.{Leaf}
-use Rattle.dcv_automaton_text.specs.File.{Target, ToState, ToNode, NodeLine, AutomatonFile}
+use Rattle.dcv_automaton_text.specs.File.{NodeLine, AutomatonFile}
 use Rattle.dcv_automaton_text.specs.Rules.{slot_of, slot_of_node, keeps_child}
 use Rattle.dcv_automaton_text.proofs.GoodFiles.{good_file}
+use Rattle.dcv_automaton_text.specs.Meaning.{state_at}
 use Rattle.dcv_automaton_read.specs.File.{IsRead}
-use Rattle.dcv_automaton_read.specs.Seen.{child_of, node_of}
-use Rattle.dcv_automaton_read.specs.Walk.{leaf_at, leaves_of, IsEarlier}
-use Rattle.dcv_automaton_read.specs.declared.nodes.Child.{Child}
-use Rattle.dcv_automaton_read.specs.declared.nodes.Child.TheVariants.{State, Node as AtNode}
+use Rattle.dcv_automaton_read.specs.Seen.{node_of}
+use Rattle.dcv_automaton_read.specs.Walk.{leaves_of, IsEarlier}
+use Rattle.dcv_language.specs.declared.child.Child.{Child}
+use Rattle.dcv_language.specs.declared.child.Child.TheVariants.{State, Node as AtNode}
 use Rattle.dcv_automaton_read.specs.declared.nodes.Node.{Node}
 use Rattle.dcv_automaton_read.proofs.Walks.{ordered, next_leaf, earlier_child}
 use Rattle.dcv_certify.specs.Built.{ref_at, some_node, slot_at, IsLater, AreNodes, AreRefsOf}
@@ -22,7 +23,7 @@ use Rattle.dcv_certify.specs.Built.{ref_at, some_node, slot_at, IsLater, AreNode
 
 module _ (file : AutomatonFile) (nodes : List Node) (read : IsRead file nodes) where
   abbrev no_line : NodeLine
-  no_line = record { number = 0; name = []; hi = ToState 0; lo = ToState 0 }
+  no_line = record { number = 0; name = []; hi = State 0; lo = State 0 }
 
   node_there : (place : ℕ) (d : Node) → place < length nodes → (place < length file.node_lines) × (get_or nodes place d ≡ node_of file.names (get_or file.node_lines place no_line))
   node_there place d within =
@@ -34,14 +35,14 @@ module _ (file : AutomatonFile) (nodes : List Node) (read : IsRead file nodes) w
       let there = node_there place some_node within in
       ap (slot_of file.names) (get_or-map (λ (line : NodeLine). line.name) file.node_lines place no_line [] there.0) ∙ ap (λ (node : Node). node.slot) (sym there.1)
 
-  later_target : (place : ℕ) (target : Target) → place < length nodes → keeps_child file place target ≡ true → IsLater nodes (slot_at nodes place) (child_of target)
-  later_target place (ToState number) within kept = tt
-  later_target place (ToNode number) within kept =
+  later_target : (place : ℕ) (target : Child) → place < length nodes → keeps_child file place target ≡ true → IsLater nodes (slot_at nodes place) target
+  later_target place (State number) within kept = tt
+  later_target place (AtNode number) within kept =
       let parts = and_parts (nat_lt number place) (nat_lt (slot_of_node file place) (slot_of_node file number)) kept in
       let before = ltb-true number place parts.0 in
       omega (arith, ltb-true (slot_of_node file place) (slot_of_node file number) parts.1, slot_there place within, slot_there number (omega (arith, before, within)))
 
-  later_there : (place : ℕ) (d : Node) (child : Node → Child) (target : NodeLine → Target) → ((line : NodeLine) → child (node_of file.names line) ≡ child_of (target line)) → place < length nodes
+  later_there : (place : ℕ) (d : Node) (child : Node → Child) (target : NodeLine → Child) → ((line : NodeLine) → child (node_of file.names line) ≡ (target line)) → place < length nodes
       → keeps_child file place (target (get_or file.node_lines place no_line)) ≡ true → IsLater nodes (get_or nodes place d).slot (child (get_or nodes place d))
   later_there place d child target same within kept =
       let there = node_there place d within in
@@ -71,7 +72,7 @@ module _ (width : ℕ) (nodes : List Node) where
     child_level slot (State number) within later earlier = omega (arith, within, are.slots)
     child_level slot (AtNode number) within later earlier = omega (arith, later, are.levels number earlier)
 
-    pub child_value : (child : Child) (letter : List Bool) → IsEarlier count child → value_of arena (ref_at refs child) letter ≡ leaf_at (leaves_of letter nodes) child
+    pub child_value : (child : Child) (letter : List Bool) → IsEarlier count child → value_of arena (ref_at refs child) letter ≡ state_at (leaves_of letter nodes) child
     child_value (State number) letter earlier = refl
     child_value (AtNode number) letter earlier = are.values number letter earlier
 
@@ -91,11 +92,11 @@ module _ (width : ℕ) (nodes : List Node) where
 
     value_there : (letter : List Bool)
         → value_of new made letter ≡ (if get_or letter node.slot false then value_of old (ref_at refs node.hi) letter else value_of old (ref_at refs node.lo) letter)
-        → value_of new made letter ≡ leaf_at (leaves_of letter nodes) (AtNode count)
+        → value_of new made letter ≡ state_at (leaves_of letter nodes) (AtNode count)
     value_there letter is =
         is
         ∙ (elim (get_or letter node.slot false) as (λ side. (if side then value_of old (ref_at refs node.hi) letter else value_of old (ref_at refs node.lo) letter)
-        ≡ leaf_at (leaves_of letter nodes) (if side then node.hi else node.lo)) [
+        ≡ state_at (leaves_of letter nodes) (if side then node.hi else node.lo)) [
           | true ↦ child_value count old refs so_far node.hi letter (all.ordered.his count some_node within)
           | false ↦ child_value count old refs so_far node.lo letter (all.ordered.los count some_node within)
         ])
@@ -124,10 +125,10 @@ module _ (width : ℕ) (nodes : List Node) where
         b place before (inr more) =
             let same : count ≡ place = omega arith in subst (λ n. slot_at nodes n ≤ level_of new (at n)) same (subst (λ ref. slot_at nodes count ≤ level_of new ref) last level)
 
-        c : (place : ℕ) (letter : List Bool) → place < count + 1 → (place < count) ⊎ (count ≤ place) → value_of new (at place) letter ≡ leaf_at (leaves_of letter nodes) (AtNode place)
+        c : (place : ℕ) (letter : List Bool) → place < count + 1 → (place < count) ⊎ (count ≤ place) → value_of new (at place) letter ≡ state_at (leaves_of letter nodes) (AtNode place)
         c place letter before (inl less) =
             ap (λ ref. value_of new ref letter) (sym (front place less)) ∙ kept.values (get_or refs place (Leaf 0)) letter (so_far.refs_are place less) ∙ so_far.values place letter less
         c place letter before (inr more) =
             let same : count ≡ place = omega arith in
-            subst (λ n. value_of new (at n) letter ≡ leaf_at (leaves_of letter nodes) (AtNode n)) same
+            subst (λ n. value_of new (at n) letter ≡ state_at (leaves_of letter nodes) (AtNode n)) same
             (ap (λ ref. value_of new ref letter) (sym last) ∙ value_there letter (value letter))

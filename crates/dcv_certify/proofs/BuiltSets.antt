@@ -19,7 +19,7 @@ use Rattle.dcv_automaton_text.proofs.GoodFiles.{good_file}
 use Rattle.dcv_automaton_text.proofs.GoodTables.{length-table_of, table_has_the_files_states}
 use Rattle.dcv_automaton_read.specs.File.{IsRead, state_line}
 use Rattle.dcv_automaton_read.specs.Walk.{IsEarlier}
-use Rattle.dcv_automaton_read.specs.declared.nodes.Child.TheVariants.{State}
+use Rattle.dcv_language.specs.declared.child.Child.TheVariants.{State}
 use Rattle.dcv_automaton_read.specs.declared.nodes.Node.{Node}
 use Rattle.dcv_automaton_read.specs.declared.file.Row.{Row}
 use Rattle.dcv_automaton_read.proofs.Walks.{row_within, leads}

@@ -1,7 +1,8 @@
 -- Worked examples: what is said of small texts, by computing. The first is that of the words of one letter, in which the variable is true.
 use Rattle.std.proofs.Common.{◌≡◌, Bool, true, false, List, [], ◌∷◌, None, refl}
 use Rattle.std.specs.Prelude.{codes}
-use Rattle.dcv_automaton_text.specs.File.{ToState, ToNode, Access as AccessWord, EmptyAccess, StartAccess, EmptySuffix, ThenSuffix, SuffixLine, AutomatonFile}
+use Rattle.dcv_language.specs.declared.child.Child.TheVariants.{State, Node}
+use Rattle.dcv_automaton_text.specs.File.{Access as AccessWord, EmptyAccess, StartAccess, EmptySuffix, ThenSuffix, SuffixLine, AutomatonFile}
 use Rattle.dcv_automaton_text.specs.Meaning.{states_at, table_of, access_words_of}
 use Rattle.dcv_certify.specs.Certified.{set_of, landed}
 
@@ -17,11 +18,11 @@ text_of start first suffixes =
     record {
       names = codes "p" ∷ [];
       states = 3;
-      node_lines = record { number = 0; name = codes "p"; hi = ToState 2; lo = ToState 1 } ∷ [];
+      node_lines = record { number = 0; name = codes "p"; hi = State 2; lo = State 1 } ∷ [];
       state_lines =
-          record { number = 0; accepting = false; row = ToNode 0 }
-          ∷ record { number = 1; accepting = false; row = ToState 1 }
-          ∷ record { number = 2; accepting = true; row = ToState 1 } ∷ [];
+          record { number = 0; accepting = false; row = Node 0 }
+          ∷ record { number = 1; accepting = false; row = State 1 }
+          ∷ record { number = 2; accepting = true; row = State 1 } ∷ [];
       access_lines =
           record { number = 0; access = start }
           ∷ record { number = 1; access = first }

@@ -9,9 +9,10 @@ use Rattle.std.specs.Prelude.{◌≡◌, ℕ, ◌<◌, ◌≤◌, Bool, List, le
 use Rattle.dcv_arena.specs.Arena.{ArenaValue, IsArena, IsRef, level_of, value_of}
 use Rattle.dcv_arena.specs.declared.nodes.Ref.{Ref}
 use Rattle.dcv_arena.specs.declared.nodes.Ref.TheVariants.{Leaf}
-use Rattle.dcv_automaton_read.specs.Walk.{AreOrdered, leaf_at, leaves_of}
-use Rattle.dcv_automaton_read.specs.declared.nodes.Child.{Child}
-use Rattle.dcv_automaton_read.specs.declared.nodes.Child.TheVariants.{State, Node as AtNode}
+use Rattle.dcv_automaton_text.specs.Meaning.{state_at}
+use Rattle.dcv_automaton_read.specs.Walk.{AreOrdered, leaves_of}
+use Rattle.dcv_language.specs.declared.child.Child.{Child}
+use Rattle.dcv_language.specs.declared.child.Child.TheVariants.{State, Node as AtNode}
 use Rattle.dcv_automaton_read.specs.declared.nodes.Node.{Node}
 
 abbrev pub ref_at : List Ref → Child → Ref
@@ -41,7 +42,7 @@ pub record AreRefsOf (width : ℕ) (nodes : List Node) (count : ℕ) (arena : Ar
   pub refs_are : (place : ℕ) → place < count → IsRef arena (slice_index_or refs place (Leaf 0))
   pub levels : (place : ℕ) → place < count → slot_at nodes place ≤ level_of arena (slice_index_or refs place (Leaf 0))
   pub values : (place : ℕ) (letter : List Bool) → place < count
-      → value_of arena (slice_index_or refs place (Leaf 0)) letter ≡ leaf_at (leaves_of letter nodes) (AtNode place)
+      → value_of arena (slice_index_or refs place (Leaf 0)) letter ≡ state_at (leaves_of letter nodes) (AtNode place)
 
 abbrev pub StandFor : ℕ → List Node → ArenaValue → List Ref → Type 0
 StandFor width nodes arena refs = AreRefsOf width nodes (length nodes) arena refs

@@ -8,10 +8,10 @@ ghost use Rattle.dcv_certify.specs.Built.{ref_at, AreNodes, StandFor};
 ghost use Rattle.dcv_certify.specs.Certified.{set_of};
 
 use dcv_arena::{Arena, ArenaFault, Ref};
-use dcv_automaton_read::{AutoFile, Child, Node, Row};
+use dcv_automaton_read::{AutoFile, Node, Row};
 use dcv_automaton_text::laws::good_files_are_tables;
 use dcv_dfa::Raw;
-use dcv_language::MOST_NODES;
+use dcv_language::{Child, MOST_NODES};
 use dcv_word::laws::letters_of_width_are_all;
 use std::alloc::{AllocError, Global};
 

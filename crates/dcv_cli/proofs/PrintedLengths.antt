@@ -11,7 +11,7 @@ use Rattle.std.proofs.lemmas.List.FromFn.{length-enumerate_from}
 use Rattle.std.specs.Cmp.{unsigned_Decides}
 use Rattle.std.proofs.lemmas.Slice.Eq.{bytes_eq-Decides}
 use Rattle.dcv_word.specs.TraceLine.{trace_line, digit_of}
-use Rattle.dcv_automaton_text.specs.File.{Target, ToState, ToNode, NodeLine, StateLine, Access, EmptyAccess, StartAccess, AfterAccess}
+use Rattle.dcv_automaton_text.specs.File.{NodeLine, StateLine, Access, EmptyAccess, StartAccess, AfterAccess}
 use Rattle.dcv_automaton_text.specs.File.{Suffix, EmptySuffix, ThenSuffix, SuffixLine, StepLine, StepPart, AutomatonFile}
 use Rattle.dcv_automaton_text.specs.Form.{IsNumber, IsTarget, IsNodeLine, IsStateLine, IsAccess, IsSuffix, IsStepLine, IsStepPart}
 use Rattle.dcv_automaton_text.specs.Rules.{IsPlainName, AreNames, is_listed, keeps_how_access, most_steps}
@@ -28,6 +28,8 @@ use Rattle.dcv_automaton_read.specs.File.{step_line, step_part as step_part_of}
 use Rattle.dcv_print.proofs.SuffixCounts.{suffixes_are_few}
 use Rattle.dcv_word.specs.Behaviour.{Word}
 use Rattle.dcv_language.specs.Limits.{most_states}
+use Rattle.dcv_language.specs.declared.child.Child.{Child}
+use Rattle.dcv_language.specs.declared.child.Child.TheVariants.{State, Node}
 use Rattle.dcv_cli.specs.Refusal.{most_automaton_bytes}
 
 -- ---- words of a line
@@ -50,9 +52,9 @@ within (word ∷ words) most some few = omega (arith, few, length-append (join_w
 number_is_short : (number : ℕ) → IsNumber number → length (decimal number) ≤ 7
 number_is_short number is = length-decimal-le 7 number (omega arith) is (omega arith)
 
-target_is_short : (target : Target) → IsTarget target → length (target_word target) ≤ 8
-target_is_short (ToState number) is = omega (arith, number_is_short number is)
-target_is_short (ToNode number) is = omega (arith, number_is_short number is)
+target_is_short : (target : Child) → IsTarget target → length (target_word target) ≤ 8
+target_is_short (State number) is = omega (arith, number_is_short number is)
+target_is_short (Node number) is = omega (arith, number_is_short number is)
 
 answer_is_short : (accepting : Bool) → length (answer_word accepting) ≤ 6
 answer_is_short true = omega arith

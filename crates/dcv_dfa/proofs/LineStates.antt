@@ -8,8 +8,8 @@ use Rattle.dcv_arena.specs.Arena.{ArenaValue, IsReduced, level_of, value_of}
 use Rattle.dcv_arena.specs.declared.nodes.Ref.{Ref}
 use Rattle.dcv_arena.specs.declared.nodes.Ref.TheVariants.{Leaf, Place}
 use Rattle.dcv_arena.proofs.Refs.{value_of-leaf}
-use Rattle.dcv_dfa.specs.declared.node_lines.Child.{Child}
-use Rattle.dcv_dfa.specs.declared.node_lines.Child.TheVariants.{State}
+use Rattle.dcv_language.specs.declared.child.Child.{Child}
+use Rattle.dcv_language.specs.declared.child.Child.TheVariants.{State}
 use Rattle.dcv_dfa.specs.declared.node_lines.NodeLine.{NodeLine}
 use Rattle.dcv_dfa.specs.NodeLines.{lo_of, hi_of, numbered, number_of, child_of, line_of, state_at, states_at}
 use Rattle.dcv_dfa.specs.Laws.{LinesHaveTheNumbersOfTheRows, LinesLeadAsTheRows}

@@ -13,7 +13,7 @@ use Rattle.dcv_arena.specs.declared.nodes.Ref.TheVariants.{Leaf, Place}
 use Rattle.dcv_arena.proofs.Refs.{rank, rank_before, is_ref, level_of-le, value_of-leaf, fixed_later, same_ref, own_slot_matters}
 use Rattle.dcv_arena.proofs.Tables.{same_values}
 use Rattle.dcv_language.specs.Table.{TableState}
-use Rattle.dcv_dfa.specs.declared.node_lines.Child.TheVariants.{State, Node}
+use Rattle.dcv_language.specs.declared.child.Child.TheVariants.{State, Node}
 use Rattle.dcv_dfa.specs.Raw.{RawValue, row_of}
 use Rattle.dcv_dfa.specs.Auto.{state_of, table_of_states}
 use Rattle.dcv_dfa.specs.NodeLines.{lo_of, hi_of, is_numbered, visit, numbered, number_of, child_of, line_of, lines_and_rows}

@@ -12,7 +12,7 @@ use Rattle.dcv_language.specs.Complement.{stands_alone, complement}
 use Rattle.dcv_dfa.specs.Raw.{RawValue, IsRaw, is_accepting, next_in, automaton_of, raw_accepts}
 use Rattle.dcv_dfa.specs.Auto.{IsAuto, table_of_states, complement_of}
 use Rattle.dcv_dfa.specs.NodeLines.{lines_of_rows, node_lines_of, state_at, states_at}
-use Rattle.dcv_dfa.specs.declared.node_lines.Child.TheVariants.{State}
+use Rattle.dcv_language.specs.declared.child.Child.TheVariants.{State}
 
 -- ---- the table of the states
 

@@ -18,8 +18,8 @@ use Rattle.std.specs.List.{All, AllPairs, list_any, position_or_len}
 use Rattle.dcv_arena.specs.Arena.{ArenaValue, level_of}
 use Rattle.dcv_arena.specs.declared.nodes.Ref.{Ref}
 use Rattle.dcv_arena.specs.declared.nodes.Ref.TheVariants.{Leaf, Place}
-use Rattle.dcv_dfa.specs.declared.node_lines.Child.{Child}
-use Rattle.dcv_dfa.specs.declared.node_lines.Child.TheVariants.{State, Node}
+use Rattle.dcv_language.specs.declared.child.Child.{Child}
+use Rattle.dcv_language.specs.declared.child.Child.TheVariants.{State, Node}
 use Rattle.dcv_dfa.specs.declared.node_lines.NodeLine.{NodeLine}
 use Rattle.dcv_dfa.specs.Raw.{RawValue}
 

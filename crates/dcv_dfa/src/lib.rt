@@ -22,6 +22,6 @@ mod raw;
 mod table;
 
 pub use auto::Auto;
-pub use node_lines::{Child, NodeLine, NodeLines};
+pub use node_lines::{NodeLine, NodeLines};
 pub use raw::Raw;
 pub use table::Table;

@@ -10,18 +10,10 @@ ghost use Rattle.dcv_dfa.specs.NodeLines.{visit, numbered, number_of, child_of, 
 
 use crate::auto::Auto;
 use dcv_arena::{Arena, Ref};
+use dcv_language::Child;
 use indexmap::IndexSet;
 use std::alloc::{AllocError, Global};
 use std::marker::Model;
-
-/// What comes next in a row, at one value of a variable.
-#[derive(Clone, Copy, Debug, PartialEq, Eq)]
-pub enum Child {
-    /// This state, whatever the later variables are.
-    State(u32),
-    /// What the node with this number says.
-    Node(u32),
-}
 
 /// A node of the rows: the slot of its variable, and what comes next where that is true and where it is false.
 #[derive(Clone, Copy, Debug, PartialEq, Eq)]

@@ -3,7 +3,8 @@ use Rattle.std.proofs.Common.{◌≡◌, ℕ, true, false, List, [], ◌∷◌, 
 use Rattle.std.specs.Fmt.{digits}
 use Rattle.dcv_lexer.specs.Cuts.{Token}
 use Rattle.dcv_tokens.specs.Tokens.{reserved_words}
-use Rattle.dcv_automaton_text.specs.File.{AutomatonFile, ToState, ToNode, StartAccess, EmptySuffix}
+use Rattle.dcv_language.specs.declared.child.Child.TheVariants.{State, Node as AtNode}
+use Rattle.dcv_automaton_text.specs.File.{AutomatonFile, StartAccess, EmptySuffix}
 use Rattle.dcv_automaton_text.specs.Rules.{IsGood, judged_words}
 use Rattle.dcv_lustre.specs.Tree.{Node}
 use Rattle.dcv_lustre.specs.Placed.{PlacedNode, PlacedChosen, node_of}
@@ -20,7 +21,7 @@ every_file =
       names = [];
       states = 1;
       node_lines = [];
-      state_lines = record { number = 0; accepting = true; row = ToState 0 } ∷ [];
+      state_lines = record { number = 0; accepting = true; row = State 0 } ∷ [];
       access_lines = record { number = 0; access = StartAccess [] } ∷ [];
       suffix_lines = [];
       steps = None;
@@ -42,8 +43,8 @@ throughout_file =
     record {
       names = codes "p" ∷ [];
       states = 2;
-      node_lines = record { number = 0; name = codes "p"; hi = ToState 0; lo = ToState 1 } ∷ [];
-      state_lines = record { number = 0; accepting = true; row = ToNode 0 } ∷ record { number = 1; accepting = false; row = ToState 1 } ∷ [];
+      node_lines = record { number = 0; name = codes "p"; hi = State 0; lo = State 1 } ∷ [];
+      state_lines = record { number = 0; accepting = true; row = AtNode 0 } ∷ record { number = 1; accepting = false; row = State 1 } ∷ [];
       access_lines = record { number = 0; access = StartAccess (true ∷ []) } ∷ record { number = 1; access = StartAccess (false ∷ []) } ∷ [];
       suffix_lines = record { number = 0; suffix = EmptySuffix } ∷ [];
       steps = None;
@@ -63,10 +64,10 @@ throughout_text = refl
 never_text : text_of (observer_of (record {
   names = codes "p" ∷ codes "q" ∷ [];
   states = 3;
-  node_lines = record { number = 0; name = codes "q"; hi = ToState 1; lo = ToState 2 } ∷ record { number = 1; name = codes "p"; hi = ToNode 0; lo = ToState 0 } ∷ [];
+  node_lines = record { number = 0; name = codes "q"; hi = State 1; lo = State 2 } ∷ record { number = 1; name = codes "p"; hi = AtNode 0; lo = State 0 } ∷ [];
   state_lines =
-      record { number = 0; accepting = false; row = ToNode 1 } ∷ record { number = 1; accepting = false; row = ToState 1 }
-      ∷ record { number = 2; accepting = false; row = ToNode 0 } ∷ [];
+      record { number = 0; accepting = false; row = AtNode 1 } ∷ record { number = 1; accepting = false; row = State 1 }
+      ∷ record { number = 2; accepting = false; row = AtNode 0 } ∷ [];
   access_lines = [];
   suffix_lines = [];
   steps = None;

@@ -10,16 +10,19 @@ use Rattle.std.proofs.lemmas.List.{length-map}
 use Rattle.std.proofs.lemmas.List.Elements.{recursion_from_All}
 use Rattle.std.proofs.lemmas.Fmt.{decimal_is_IsNumeral, length-decimal-le}
 use Rattle.std.proofs.lemmas.Str.Parse.{digit_from_value}
-use Rattle.dcv_automaton_text.specs.File.{Target, ToState, ToNode, NodeLine, StateLine, AutomatonFile}
+use Rattle.dcv_dfa.specs.NodeLines.{IsBelow}
+use Rattle.dcv_automaton_text.specs.File.{NodeLine, StateLine, AutomatonFile}
 use Rattle.dcv_automaton_text.specs.Rules.{IsPlainName}
 use Rattle.dcv_automaton_text.proofs.Words.{digits_are}
 use Rattle.dcv_lexer.specs.Lexicon.{is_word, is_word_byte, word_class}
 use Rattle.dcv_language.specs.Limits.{most_states, most_nodes}
+use Rattle.dcv_language.specs.declared.child.Child.{Child}
+use Rattle.dcv_language.specs.declared.child.Child.TheVariants.{State, Node}
 use Rattle.dcv_observer.specs.Classes.{name as plain_name, is_short_word, class_of}
 use Rattle.dcv_observer.proofs.Limits.{short_word}
 use Rattle.dcv_observer.specs.Naming.{is_among}
 use Rattle.dcv_observer.proofs.Naming.{differs, one_name}
-use Rattle.dcv_automaton_file.proofs.ObservedFiles.{IsBelow, GoodLines, GoodRows, IsObservable}
+use Rattle.dcv_automaton_file.proofs.ObservedFiles.{GoodLines, GoodRows, IsObservable}
 use Rattle.dcv_lustre.specs.Classes.{lexicon, word_ok}
 use Rattle.dcv_lustre.specs.Tree.{Test, Equation, Local}
 use Rattle.dcv_lustre.specs.Meaning.{ok, tick}
@@ -94,9 +97,9 @@ inputs_are (name ∷ names) are = each (name ∷ names) are
 -- ---- equations
 
 module _ (most : ℕ) (few : most ≤ most_states) where
-  item_is : (nodes : ℕ) (target : Target) → nodes ≤ most_nodes → IsBelow most nodes target → IsItem (item_of target)
-  item_is nodes (ToState state) small below = omega (arith, below)
-  item_is nodes (ToNode number) small below = node_is number (omega (arith, below))
+  item_is : (nodes : ℕ) (target : Child) → nodes ≤ most_nodes → IsBelow most nodes target → IsItem (item_of target)
+  item_is nodes (State state) small below = omega (arith, below)
+  item_is nodes (Node number) small below = node_is number (omega (arith, below))
 
   arms_are : (nodes : ℕ) → nodes ≤ most_nodes → (state : ℕ) (rows : List StateLine) → GoodRows most nodes state rows → state + length rows ≤ most_states
       → AllByRecursion IsArm (row_arms rows)

@@ -5,11 +5,14 @@ use Rattle.std.specs.Prelude.{bytes_eq}
 use Rattle.std.specs.List.{AllPairs, enumerate_from, flat_map, list_all, filter}
 use Rattle.std.proofs.lemmas.List.{take_at, length-map}
 use Rattle.std.proofs.lemmas.Bool.{or_parts, or_from, or_left, or_right, and_from, both_ways, not_from_false, lt-ltb, le-leb, cases_lt, false≢true}
-use Rattle.dcv_automaton_text.specs.File.{Target, ToState, ToNode, NodeLine, StateLine, AutomatonFile}
+use Rattle.dcv_language.specs.declared.child.Child.{Child}
+use Rattle.dcv_language.specs.declared.child.Child.TheVariants.{State, Node as AtNode}
+use Rattle.dcv_dfa.specs.NodeLines.{IsBelow}
+use Rattle.dcv_automaton_text.specs.File.{NodeLine, StateLine, AutomatonFile}
 use Rattle.dcv_observer.specs.Naming.{is_among, AreDistinct}
 use Rattle.dcv_observer.proofs.Naming.{Name, is_itself, differs, among_here, among_later, among_append_left, among_append_right, distinct_apart}
 use Rattle.dcv_observer.proofs.ObserverNames.{node_names, next_is_no_node, node_is_no_other, among_no_nodes, node_is_among, variable_is_among}
-use Rattle.dcv_automaton_file.proofs.ObservedFiles.{IsBelow, GoodLine, GoodLines, GoodRows, IsObservable}
+use Rattle.dcv_automaton_file.proofs.ObservedFiles.{GoodLine, GoodLines, GoodRows, IsObservable}
 use Rattle.dcv_lustre.specs.Tree.{OfTruth, OfNumber, Test, Right, Equation, Node}
 use Rattle.dcv_lustre.specs.Meaning.{ok, local_names, names_of}
 use Rattle.dcv_lustre.specs.Rules.{most_inputs, names_of_kind, kind_of, declared, keeps_declared, keeps_name, keeps_item, keeps_arm}
@@ -168,10 +171,10 @@ module _ (file : AutomatonFile) (good : IsObservable file) where
   next_is_local : is_among locals next_name ≡ true
   next_is_local = among_later state_name (next_name ∷ nodes) next_name (among_here nodes next_name)
 
-  child_keeps : (number : ℕ) (earlier : List Name) → number ≤ length file.node_lines → Earlier number earlier → (target : Target) → IsBelow most number target
+  child_keeps : (number : ℕ) (earlier : List Name) → number ≤ length file.node_lines → Earlier number earlier → (target : Child) → IsBelow most number target
       → keeps_item node (node.inputs ++ earlier) OfNumber (item_of target) ≡ true
-  child_keeps number earlier there e (ToState state) below = refl
-  child_keeps number earlier there e (ToNode k) below =
+  child_keeps number earlier there e (State state) below = refl
+  child_keeps number earlier there e (AtNode k) below =
       and_from _ _ (among_append_right node.inputs earlier (node_name k) (e.before k below)) (is_number_name (node_name k) (node_is_local k (omega (arith, below))))
 
   left_keeps : (earlier : List Name) (name : Name) (right : Right) → is_among locals name ≡ true → is_among earlier name ≡ false

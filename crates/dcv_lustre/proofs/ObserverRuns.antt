@@ -4,11 +4,14 @@ use Rattle.std.proofs.Common.{Option, inl, inr, refl, sym, ap, subst, ◌∙◌,
 use Rattle.std.specs.List.{AllByRecursion, list_any}
 use Rattle.std.proofs.lemmas.Bool.{cases_lt}
 use Rattle.std.proofs.lemmas.List.{length_push, get_or_append_left, get_or_push}
-use Rattle.dcv_automaton_text.specs.File.{Target, ToState, ToNode, NodeLine, StateLine}
+use Rattle.dcv_language.specs.declared.child.Child.{Child}
+use Rattle.dcv_language.specs.declared.child.Child.TheVariants.{State, Node}
+use Rattle.dcv_dfa.specs.NodeLines.{IsBelow}
+use Rattle.dcv_automaton_text.specs.File.{NodeLine, StateLine}
 use Rattle.dcv_automaton_text.specs.Meaning.{state_at}
 use Rattle.dcv_automaton_text.specs.Rules.{slot_of}
 use Rattle.dcv_observer.specs.Naming.{is_among}
-use Rattle.dcv_automaton_file.proofs.ObservedFiles.{IsBelow, GoodLines, GoodRows, no_row}
+use Rattle.dcv_automaton_file.proofs.ObservedFiles.{GoodLines, GoodRows, no_row}
 use Rattle.dcv_automaton_file.proofs.Leading.{same_number, other_number, passes_where_accepting}
 use Rattle.dcv_lustre.specs.Tree.{Truth, Number, Test, Equation}
 use Rattle.dcv_lustre.specs.Meaning.{Values, item_value, chosen_value, passes, right_value, is_true, is_number}
@@ -25,12 +28,12 @@ module _ (now : Values) (before : Option Values) where
   abbrev pub AreStates : List ℕ → Type 0
   AreStates states = (k : ℕ) → k < length states → now (node_name k) ≡ Number (get_or states k 0)
 
-  item_stands : (states : List ℕ) (most : ℕ) (target : Target) → AreStates states → IsBelow most (length states) target
+  item_stands : (states : List ℕ) (most : ℕ) (target : Child) → AreStates states → IsBelow most (length states) target
       → item_value now (item_of target) ≡ Number (state_at states target)
-  item_stands states most (ToState state) are below = refl
-  item_stands states most (ToNode number) are below = are number below
+  item_stands states most (State state) are below = refl
+  item_stands states most (Node number) are below = are number below
 
-  choice_stands : (states : List ℕ) (most : ℕ) (side : Bool) (hi lo : Target) → AreStates states → IsBelow most (length states) hi
+  choice_stands : (states : List ℕ) (most : ℕ) (side : Bool) (hi lo : Child) → AreStates states → IsBelow most (length states) hi
       → IsBelow most (length states) lo
       → cond side (item_value now (item_of hi)) (item_value now (item_of lo)) ≡ Number (state_at states (cond side hi lo))
   choice_stands states most true hi lo are hi_below lo_below = item_stands states most hi are hi_below

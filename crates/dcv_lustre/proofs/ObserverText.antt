@@ -4,13 +4,13 @@ use Rattle.std.specs.Fmt.{decimal, digits}
 use Rattle.std.specs.List.{enumerate_from, filter, flat_map, join_by}
 use Rattle.std.proofs.lemmas.Grind.{flat_map-append}
 use Rattle.std.proofs.lemmas.List.{append_assoc, append-nil}
-use Rattle.dcv_dfa.specs.declared.node_lines.Child.{Child}
-use Rattle.dcv_dfa.specs.declared.node_lines.Child.TheVariants.{State}
+use Rattle.dcv_language.specs.declared.child.Child.{Child}
+use Rattle.dcv_language.specs.declared.child.Child.TheVariants.{State, Node}
 use Rattle.dcv_dfa.specs.declared.node_lines.NodeLine.{NodeLine as CodeLine}
 use Rattle.dcv_dfa.specs.NodeLines.{node_lines_of}
 use Rattle.dcv_dfa.specs.Raw.{RawValue}
-use Rattle.dcv_automaton_text.specs.File.{Target, ToState, ToNode, NodeLine, StateLine, AccessLine, SuffixLine}
-use Rattle.dcv_automaton_file.specs.File.{target_of, node_line, state_line, state_lines, file_of}
+use Rattle.dcv_automaton_text.specs.File.{NodeLine, StateLine, AccessLine, SuffixLine}
+use Rattle.dcv_automaton_file.specs.File.{node_line, state_line, state_lines, file_of}
 use Rattle.dcv_automaton_file.specs.Lines.{child_text, listed_by, number_of, accepting_numbers}
 use Rattle.dcv_automaton_file.proofs.PutLines.{listed_names, listed_seen}
 use Rattle.dcv_lustre.specs.Layout.{input_text, local_line, local_lines, arm_text, test_text, item_text, right_text, equation_line, text_of}
@@ -19,9 +19,9 @@ use Rattle.dcv_lustre.specs.Observer.{next_equation, state_test, accepting_tests
 
 -- ---- parts
 
-child_is : (target : Target) → child_text target ≡ item_text (item_of target)
-child_is (ToState state) = refl
-child_is (ToNode number) = refl
+child_is : (target : Child) → child_text target ≡ item_text (item_of target)
+child_is (State state) = refl
+child_is (Node number) = refl
 
 pub inputs_text : (names : List (List ℕ)) → listed_by (codes "v_") (codes ": bool") (codes "; ") (codes "tick: bool") names ≡ join_by input_text (codes "; ") (input_names names)
 inputs_text [] = refl
@@ -51,17 +51,17 @@ abbrev row_arm : StateLine → List ℕ
 row_arm line = codes "if st = " ++ (decimal line.number ++ (codes " then " ++ (child_text line.row ++ codes " else ")))
 
 pub choice_text : (raw : RawValue) (first : ℕ) (rows : List Child) (last : ℕ) → last + 1 ≡ length rows
-    → flat_map row_arm (lines_from raw first (take last rows)) ++ child_text (target_of (get_or rows last (State 0)))
+    → flat_map row_arm (lines_from raw first (take last rows)) ++ child_text ((get_or rows last (State 0)))
     ≡ flat_map arm_text (row_arms (lines_from raw first rows)) ++ item_text (item_of (last_row (lines_from raw first rows)))
 choice_text raw first [] last at = absurd (omega (arith, at))
-choice_text raw first (row ∷ []) zero at = child_is (target_of row)
+choice_text raw first (row ∷ []) zero at = child_is row
 choice_text raw first (row ∷ []) (suc last) at = absurd (omega (arith, at))
 choice_text raw first (row ∷ next ∷ rows) zero at = absurd (omega (arith, at))
 choice_text raw first (row ∷ next ∷ rows) (suc last) at =
     let arm = λ (text : List ℕ). codes "if st = " ++ (decimal first ++ (codes " then " ++ (text ++ codes " else "))) in
     append_assoc (row_arm (state_line raw (first, row))) (flat_map row_arm (lines_from raw (first + 1) (take last (next ∷ rows)))) _
-    ∙ (λ i. arm (child_is (target_of row) i) ++ choice_text raw (first + 1) (next ∷ rows) last (omega (arith, at)) i)
-    ∙ sym (append_assoc (arm (item_text (item_of (target_of row)))) (flat_map arm_text (row_arms (lines_from raw (first + 1) (next ∷ rows)))) _)
+    ∙ (λ i. arm (child_is row i) ++ choice_text raw (first + 1) (next ∷ rows) last (omega (arith, at)) i)
+    ∙ sym (append_assoc (arm (item_text (item_of row))) (flat_map arm_text (row_arms (lines_from raw (first + 1) (next ∷ rows)))) _)
 
 pub tests_text : (lines : List StateLine)
     → listed_by (codes "(nx = ") (codes ")") (codes " or ") (codes "false") (accepting_numbers lines) ≡ right_text (ok_right (accepting_tests lines))

@@ -6,7 +6,9 @@
 --     ok_equation lines     that of the output
 use Rattle.std.specs.Prelude.{ℕ, false, List, [], ◌∷◌, ◌++◌, map, codes}
 use Rattle.std.specs.List.{filter}
-use Rattle.dcv_automaton_text.specs.File.{Target, ToState, ToNode, NodeLine, StateLine, AutomatonFile}
+use Rattle.dcv_language.specs.declared.child.Child.{Child}
+use Rattle.dcv_language.specs.declared.child.Child.TheVariants.{State, Node as AtNode}
+use Rattle.dcv_automaton_text.specs.File.{NodeLine, StateLine, AutomatonFile}
 pub use Rattle.dcv_observer.specs.Naming.{state_name, next_name, node_name, variable_name as input_name}
 use Rattle.dcv_lustre.specs.Tree.{Truth, Number, OfNumber, Item, Constant, Named, Holds, Equals, Arm, Test, Right, Delayed, Chosen, Tested, Equation}
 use Rattle.dcv_lustre.specs.Tree.{Local, Node}
@@ -21,9 +23,9 @@ input_names (name ∷ names) = map input_name (name ∷ names)
 -- ---- equations
 
 -- a state is its number
-abbrev pub item_of : Target → Item
-item_of (ToState state) = Constant (Number state)
-item_of (ToNode number) = Named (node_name number)
+abbrev pub item_of : Child → Item
+item_of (State state) = Constant (Number state)
+item_of (AtNode number) = Named (node_name number)
 
 -- `st = 0 -> pre nx`
 abbrev pub state_equation : Equation
@@ -43,8 +45,8 @@ row_arms [] = []
 row_arms (line ∷ []) = []
 row_arms (line ∷ next ∷ lines) = record { condition = Equals state_name line.number; item = item_of line.row } ∷ row_arms (next ∷ lines)
 
-abbrev pub last_row : List StateLine → Target
-last_row [] = ToState 0
+abbrev pub last_row : List StateLine → Child
+last_row [] = State 0
 last_row (line ∷ []) = line.row
 last_row (line ∷ next ∷ lines) = last_row (next ∷ lines)
 

@@ -16,8 +16,9 @@ use dcv_automaton_file::{
     Listing, NodeLayout, RowLayout, put_accepting, put_child, put_names, put_nodes, put_numbers,
     put_rows,
 };
-use dcv_dfa::{Auto, Child, NodeLines};
+use dcv_dfa::{Auto, NodeLines};
 use dcv_io::Target;
+use dcv_language::Child;
 use dcv_syntax::Name;
 
 const INPUTS: Listing<'static> = Listing {

@@ -12,6 +12,8 @@ use Rattle.std.proofs.lemmas.Option.{slice_get_within, get_or_from_slice_get}
 use Rattle.std.proofs.lemmas.Slice.Eq.{bytes_eq-Decides}
 use Rattle.dcv_word.specs.Letter.{letters_of_width}
 use Rattle.dcv_language.specs.Limits.{most_nodes}
+use Rattle.dcv_language.specs.declared.child.Child.{Child}
+use Rattle.dcv_language.specs.declared.child.Child.TheVariants.{State, Node}
 use Rattle.dcv_arena.specs.Arena.{ArenaValue, IsBefore, IsNodeAt, IsReduced, IsRef, function_at, function_of}
 use Rattle.dcv_arena.specs.Arena.{functions_of, level_of, value_of, node_of, table_of as arena_table}
 use Rattle.dcv_arena.specs.declared.nodes.Ref.{Ref}
@@ -19,16 +21,16 @@ use Rattle.dcv_arena.specs.declared.nodes.Ref.TheVariants.{Leaf, Place}
 use Rattle.dcv_dfa.specs.Auto.{state_of as raw_state_of, table_of_states}
 use Rattle.dcv_dfa.specs.Raw.{RawValue, raw_value, IsRaw}
 use Rattle.dcv_dfa.proofs.States.{table_has_the_states, state-at as raw_state-at}
-use Rattle.dcv_automaton_text.specs.File.{Target, ToState, ToNode, NodeLine, StateLine, AutomatonFile}
+use Rattle.dcv_automaton_text.specs.File.{NodeLine, StateLine, AutomatonFile}
 use Rattle.dcv_automaton_text.specs.Meaning.{state_at, states_at, state_of, table_of}
 use Rattle.dcv_automaton_text.specs.Rules.{slot_of, slot_of_node, is_listed, keeps_child, keeps_row, is_same_target, is_same_node}
 use Rattle.dcv_automaton_text.proofs.GoodFiles.{same_target, IsGoodFile}
 use Rattle.dcv_automaton_text.proofs.GoodTables.{row_stands_below, length-table_of, no_line, state-at}
 use Rattle.dcv_automaton_text.proofs.Kept.{both}
 
-abbrev pub ref_of : Target → Ref
-ref_of (ToState number) = Leaf number
-ref_of (ToNode number) = Place number
+abbrev pub ref_of : Child → Ref
+ref_of (State number) = Leaf number
+ref_of (Node number) = Place number
 
 abbrev pub arena_of : AutomatonFile → ArenaValue
 arena_of file = record {
@@ -44,7 +46,7 @@ abbrev pub raw_of : AutomatonFile → RawValue
 raw_of file = raw_value (arena_of file) (rows_of file) (map (λ (line : StateLine). line.accepting) file.state_lines) 0
 
 pub no_node : NodeLine
-no_node = record { number = 0; name = []; hi = ToState 0; lo = ToState 0 }
+no_node = record { number = 0; name = []; hi = State 0; lo = State 0 }
 
 abbrev pub node_line_at : AutomatonFile → ℕ → NodeLine
 node_line_at file place = get_or file.node_lines place no_node
@@ -56,9 +58,9 @@ at_letter [] letter n = refl
 at_letter (function ∷ functions) letter zero = refl
 at_letter (function ∷ functions) letter (suc n) = at_letter functions letter n
 
-target_stands : (functions : List (List Bool → ℕ)) (letter : List Bool) (target : Target) → function_at functions (ref_of target) letter ≡ state_at (map (λ function. function letter) functions) target
-target_stands functions letter (ToState number) = refl
-target_stands functions letter (ToNode number) = at_letter functions letter number
+target_stands : (functions : List (List Bool → ℕ)) (letter : List Bool) (target : Child) → function_at functions (ref_of target) letter ≡ state_at (map (λ function. function letter) functions) target
+target_stands functions letter (State number) = refl
+target_stands functions letter (Node number) = at_letter functions letter number
 
 module _ (names : List (List ℕ)) (letter : List Bool) where
   abbrev step : List ℕ → NodeLine → List ℕ
@@ -67,7 +69,7 @@ module _ (names : List (List ℕ)) (letter : List Bool) where
   abbrev at : List (List Bool → ℕ) → List ℕ
   at functions = map (λ (function : List Bool → ℕ). function letter) functions
 
-  side_stands : (functions : List (List Bool → ℕ)) (side : Bool) (hi lo : Target) → cond side (function_at functions (ref_of hi) letter) (function_at functions (ref_of lo) letter) ≡ state_at (at functions) (cond side hi lo)
+  side_stands : (functions : List (List Bool → ℕ)) (side : Bool) (hi lo : Child) → cond side (function_at functions (ref_of hi) letter) (function_at functions (ref_of lo) letter) ≡ state_at (at functions) (cond side hi lo)
   side_stands functions true hi lo = target_stands functions letter hi
   side_stands functions false hi lo = target_stands functions letter lo
 
@@ -83,7 +85,7 @@ module _ (names : List (List ℕ)) (letter : List Bool) where
       ∙ ap (λ state. at functions ++ state ∷ []) (side_stands functions (get_or letter (slot_of names line.name) false) line.hi line.lo))
 
 -- a target has the value at a letter that it stands for
-pub value_stands : (file : AutomatonFile) (letter : List Bool) (target : Target) → value_of (arena_of file) (ref_of target) letter ≡ state_at (states_at file.names letter file.node_lines) target
+pub value_stands : (file : AutomatonFile) (letter : List Bool) (target : Child) → value_of (arena_of file) (ref_of target) letter ≡ state_at (states_at file.names letter file.node_lines) target
 unfolding functions_of states_at
 value_stands file letter target =
     target_stands (functions_of (arena_of file).nodes) letter target
@@ -109,11 +111,11 @@ raw_has_the_table file =
 
 -- ---- nodes
 
-same_ref_of : (one other : Target) → ref_of one ≡ ref_of other → one ≡ other
-same_ref_of (ToState a) (ToState b) same = ap ToState (let equal : a ≡ b = cc in equal)
-same_ref_of (ToState a) (ToNode b) same = absurd cc
-same_ref_of (ToNode a) (ToState b) same = absurd cc
-same_ref_of (ToNode a) (ToNode b) same = ap ToNode (let equal : a ≡ b = cc in equal)
+same_ref_of : (one other : Child) → ref_of one ≡ ref_of other → one ≡ other
+same_ref_of (State a) (State b) same = ap State (let equal : a ≡ b = cc in equal)
+same_ref_of (State a) (Node b) same = absurd cc
+same_ref_of (Node a) (State b) same = absurd cc
+same_ref_of (Node a) (Node b) same = ap Node (let equal : a ≡ b = cc in equal)
 
 slice_get-map : {X Y : Type 0} (f : X → Y) (xs : List X) (k : ℕ) (d : X) → k < length xs → slice_get (map f xs) k ≡ Some (f (get_or xs k d))
 slice_get-map f [] k d within = absurd (omega arith)
@@ -146,14 +148,14 @@ module _ (file : AutomatonFile) (is : IsGoodFile file) where
   slot-at : (place : ℕ) → place < length file.node_lines → slot_of_node file place ≡ slot_of file.names (node_line_at file place).name
   slot-at place within = ap (slot_of file.names) (get_or-map (λ (line : NodeLine). line.name) file.node_lines place no_node [] within)
 
-  pub child_before : (place : ℕ) (target : Target) → keeps_child file place target ≡ true → IsBefore place (ref_of target)
-  child_before place (ToState number) kept = tt
-  child_before place (ToNode number) kept = ltb-true number place (both (nat_lt number place) (nat_lt (slot_of_node file place) (slot_of_node file number)) kept).0
+  pub child_before : (place : ℕ) (target : Child) → keeps_child file place target ≡ true → IsBefore place (ref_of target)
+  child_before place (State number) kept = tt
+  child_before place (Node number) kept = ltb-true number place (both (nat_lt number place) (nat_lt (slot_of_node file place) (slot_of_node file number)) kept).0
 
-  child_later : (place : ℕ) (target : Target) → place < length file.node_lines → keeps_child file place target ≡ true
+  child_later : (place : ℕ) (target : Child) → place < length file.node_lines → keeps_child file place target ≡ true
       → slot_of file.names (node_line_at file place).name < level_of (arena_of file) (ref_of target)
-  child_later place (ToState number) within kept = slot_within file.names (node_line_at file place).name (is.node place no_node within).listed
-  child_later place (ToNode number) within kept =
+  child_later place (State number) within kept = slot_within file.names (node_line_at file place).name (is.node place no_node within).listed
+  child_later place (Node number) within kept =
       let parts = both (nat_lt number place) (nat_lt (slot_of_node file place) (slot_of_node file number)) kept in
       let before = ltb-true number place parts.0 in
       let later = ltb-true (slot_of_node file place) (slot_of_node file number) parts.1 in
@@ -225,9 +227,9 @@ module _ (file : AutomatonFile) (is : IsGoodFile file) where
         ];
   }
 
-  pub row_is_ref : (target : Target) → keeps_row file target ≡ true → IsRef (arena_of file) (ref_of target)
-  row_is_ref (ToState number) kept = tt
-  row_is_ref (ToNode number) kept = omega (arith, ltb-true number (length file.node_lines) kept, count_of_places)
+  pub row_is_ref : (target : Child) → keeps_row file target ≡ true → IsRef (arena_of file) (ref_of target)
+  row_is_ref (State number) kept = tt
+  row_is_ref (Node number) kept = omega (arith, ltb-true number (length file.node_lines) kept, count_of_places)
 
   pub is_raw : IsRaw (raw_of file)
   is_raw =

@@ -11,13 +11,13 @@ use Rattle.dcv_arena.specs.Arena.{IsBefore, node_of}
 use Rattle.dcv_arena.specs.declared.nodes.Ref.{Ref}
 use Rattle.dcv_arena.specs.declared.nodes.Ref.TheVariants.{Leaf, Place}
 use Rattle.dcv_arena.proofs.Members.{Contains-range}
-use Rattle.dcv_dfa.specs.declared.node_lines.Child.{Child}
-use Rattle.dcv_dfa.specs.declared.node_lines.Child.TheVariants.{State, Node}
+use Rattle.dcv_language.specs.declared.child.Child.{Child}
+use Rattle.dcv_language.specs.declared.child.Child.TheVariants.{State, Node}
 use Rattle.dcv_dfa.specs.declared.node_lines.NodeLine.{NodeLine as CodeNodeLine}
 use Rattle.dcv_dfa.specs.NodeLines.{children_of, lo_of, hi_of, is_numbered, visit_by as arena_visit_by, visit_node as arena_visit_node, visits_of as arena_visits_of, numbered, number_of, child_of, line_of, lines_and_rows, node_lines_of}
 use Rattle.dcv_dfa.proofs.Numberings.{HasNumber, IsNumbering, has_child, rows_numbered}
 use Rattle.dcv_dfa.proofs.Reduced.{number_within, number_at}
-use Rattle.dcv_automaton_text.specs.File.{Target, ToState, ToNode, NodeLine, StateLine, AutomatonFile}
+use Rattle.dcv_automaton_text.specs.File.{NodeLine, StateLine, AutomatonFile}
 use Rattle.dcv_automaton_text.specs.Numbering.{visit_by, visit_node, visits_of, numbered_nodes, IsNumbered}
 use Rattle.dcv_automaton_text.specs.Rules.{slot_of, keeps_row}
 use Rattle.dcv_automaton_text.proofs.GoodFiles.{IsGoodFile}
@@ -29,9 +29,9 @@ use Rattle.dcv_print.proofs.FileArenas.{ref_of, arena_of, rows_of, raw_of, no_no
 abbrev Visit : Type 0
 Visit = List ℕ → List ℕ
 
-same_visit : (visits : List Visit) (nodes : List ℕ) (target : Target) → arena_visit_by visits nodes (ref_of target) ≡ visit_by visits nodes target
-same_visit visits nodes (ToState number) = refl
-same_visit visits nodes (ToNode number) = refl
+same_visit : (visits : List Visit) (nodes : List ℕ) (target : Child) → arena_visit_by visits nodes (ref_of target) ≡ visit_by visits nodes target
+same_visit visits nodes (State number) = refl
+same_visit visits nodes (Node number) = refl
 
 same_node_visit : (visits : List Visit) (node : ℕ) (line : NodeLine) → arena_visit_node visits node (ref_of line.lo, ref_of line.hi) ≡ visit_node visits node line
 same_node_visit visits node line =
@@ -69,18 +69,8 @@ same_walk file =
 
 -- ---- lines as the automaton has them
 
-abbrev pub child_for : Target → Child
-child_for (ToState number) = State number
-child_for (ToNode number) = Node number
-
 abbrev pub line_for : List (List ℕ) → NodeLine → CodeNodeLine
-line_for names line = record { slot = slot_of names line.name; hi = child_for line.hi; lo = child_for line.lo }
-
-pub one_child : (one other : Target) → child_for one ≡ child_for other → one ≡ other
-one_child (ToState a) (ToState b) same = ap ToState (let equal : a ≡ b = cc in equal)
-one_child (ToState a) (ToNode b) same = absurd cc
-one_child (ToNode a) (ToState b) same = absurd cc
-one_child (ToNode a) (ToNode b) same = ap ToNode (let equal : a ≡ b = cc in equal)
+line_for names line = record { slot = slot_of names line.name; hi = line.hi; lo = line.lo }
 
 -- in the list of all numbers each stands at its own place
 number_in_range : (count place : ℕ) → place < count → number_of (range_with_len 0 count) place ≡ place
@@ -90,13 +80,13 @@ number_in_range count place below =
     let within = number_within all place there in
     omega (arith, number_at all place there, get_or-range_with_len 0 count (number_of all place) 0 (omega (arith, within, length-range_with_len 0 count)))
 
-child_in_range : (count : ℕ) (target : Target) → IsBefore count (ref_of target) → child_of (range_with_len 0 count) (ref_of target) ≡ child_for target
-child_in_range count (ToState number) before = refl
-child_in_range count (ToNode number) before = ap Node (number_in_range count number before)
+child_in_range : (count : ℕ) (target : Child) → IsBefore count (ref_of target) → child_of (range_with_len 0 count) (ref_of target) ≡ target
+child_in_range count (State number) before = refl
+child_in_range count (Node number) before = ap Node (number_in_range count number before)
 
-before_more : (place count : ℕ) (target : Target) → place ≤ count → IsBefore place (ref_of target) → IsBefore count (ref_of target)
-before_more place count (ToState number) le before = tt
-before_more place count (ToNode number) le before = omega arith
+before_more : (place count : ℕ) (target : Child) → place ≤ count → IsBefore place (ref_of target) → IsBefore count (ref_of target)
+before_more place count (State number) le before = tt
+before_more place count (Node number) le before = omega arith
 
 module _ (file : AutomatonFile) (is : IsGoodFile file) where
   pair-at : (place : ℕ) → place < length file.node_lines → get_or (children_of (arena_of file)) place (Leaf 0, Leaf 0) ≡ (ref_of (node_line_at file place).lo, ref_of (node_line_at file place).hi)
@@ -141,14 +131,14 @@ module _ (file : AutomatonFile) (is : IsGoodFile file) where
       ∙ line_in_range k within
       ∙ sym (get_or-map (line_for file.names) file.node_lines k no_node d within))
 
-  row_before : (target : Target) → keeps_row file target ≡ true → IsBefore count (ref_of target)
-  row_before (ToState number) kept = tt
-  row_before (ToNode number) kept = omega (arith, row_is_ref file is (ToNode number) kept, count_of_places file is)
+  row_before : (target : Child) → keeps_row file target ≡ true → IsBefore count (ref_of target)
+  row_before (State number) kept = tt
+  row_before (Node number) kept = omega (arith, row_is_ref file is (Node number) kept, count_of_places file is)
 
-  rows_in_range : map (child_of all) (rows_of file) ≡ map (λ (line : StateLine). child_for line.row) file.state_lines
+  rows_in_range : map (child_of all) (rows_of file) ≡ map (λ (line : StateLine). line.row) file.state_lines
   rows_in_range =
       let row = λ (line : StateLine). ref_of line.row in
-      let child = λ (line : StateLine). child_for line.row in
+      let child = λ (line : StateLine). line.row in
       let size = length-map (rows_of file) (child_of all) in
       let size_of_rows = length-map file.state_lines row in
       same_lists (map (child_of all) (rows_of file)) (map child file.state_lines) (omega (arith, length-map file.state_lines child)) (λ k d below.
@@ -159,7 +149,7 @@ module _ (file : AutomatonFile) (is : IsGoodFile file) where
       ∙ child_in_range count line.row (row_before line.row (is.state k no_line within).row)
       ∙ sym (get_or-map child file.state_lines k no_line d within))
 
-  pub numbered_lines : IsNumbered file → node_lines_of (raw_of file) ≡ lines_and_rows (map (line_for file.names) file.node_lines) (map (λ (line : StateLine). child_for line.row) file.state_lines)
+  pub numbered_lines : IsNumbered file → node_lines_of (raw_of file) ≡ lines_and_rows (map (line_for file.names) file.node_lines) (map (λ (line : StateLine). line.row) file.state_lines)
   numbered_lines by_walk =
       ap (λ places. lines_and_rows (map (line_of (arena_of file) places) places) (map (child_of places) (rows_of file))) (same_walk file ∙ by_walk)
       ∙ (λ i. lines_and_rows (lines_in_range i) (rows_in_range i))
@@ -184,12 +174,12 @@ module _ (file : AutomatonFile) (is : IsGoodFile file) where
         ∙ get_or-map (line_for file.names) file.node_lines k no_node d within
 
     -- a child that was visited before is the file's
-    same_child : (k : ℕ) (ref : Ref) (target : Target) → HasNumber places ref → child_of places ref ≡ child_for target → IsBefore k (ref_of target)
+    same_child : (k : ℕ) (ref : Ref) (target : Child) → HasNumber places ref → child_of places ref ≡ target → IsBefore k (ref_of target)
         → ((j : ℕ) → j < k → get_or places j 0 ≡ j) → ref ≡ ref_of target
-    same_child k (Leaf a) (ToState b) has equal before earlier = ap Leaf (let number : a ≡ b = cc in number)
-    same_child k (Leaf a) (ToNode b) has equal before earlier = absurd cc
-    same_child k (Place a) (ToState b) has equal before earlier = absurd cc
-    same_child k (Place a) (ToNode b) has equal before earlier =
+    same_child k (Leaf a) (State b) has equal before earlier = ap Leaf (let number : a ≡ b = cc in number)
+    same_child k (Leaf a) (Node b) has equal before earlier = absurd cc
+    same_child k (Place a) (State b) has equal before earlier = absurd cc
+    same_child k (Place a) (Node b) has equal before earlier =
         let number : number_of places a ≡ b = cc in
         ap Place (sym (number_at places a has) ∙ ap (λ at. get_or places at 0) number ∙ earlier b before)
 

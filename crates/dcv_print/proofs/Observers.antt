@@ -9,9 +9,9 @@ use Rattle.dcv_language.specs.Language.{Language}
 use Rattle.dcv_language.specs.Laws.{CanonicalForSameBehaviours, OneCanonicalTable}
 use Rattle.dcv_language.specs.Table.{TableState, no_state}
 use Rattle.dcv_automaton_text.specs.File.{AutomatonFile}
-use Rattle.dcv_automaton_file.specs.File.{target_of, node_line, state_line, file_of}
+use Rattle.dcv_automaton_file.specs.File.{node_line, state_line, file_of}
 use Rattle.dcv_dfa.specs.Auto.{table_of_states}
-use Rattle.dcv_dfa.specs.declared.node_lines.Child.{Child}
+use Rattle.dcv_language.specs.declared.child.Child.{Child}
 use Rattle.dcv_dfa.specs.Laws.{OneTableHasOneListOfLines}
 use Rattle.dcv_dfa.specs.NodeLines.{NodeLinesValue, node_lines_of}
 use Rattle.dcv_dfa.specs.Raw.{RawValue, IsRaw, is_accepting, raw_accepts}
@@ -52,7 +52,7 @@ module _ (one other : RawValue) (is : IsRaw one) (its : IsRaw other) (tables : t
   same_state_lines (row ∷ rows) first =
       let rest = same_state_lines rows (first + 1) in
       let flag = same_flag first in
-      λ i. record { number = first; accepting = flag i; row = target_of row } ∷ rest i
+      λ i. record { number = first; accepting = flag i; row = row } ∷ rest i
 
   same_files : one.arena.slots ≡ other.arena.slots → OneTableHasOneListOfLines → (names : List (List ℕ)) → file_of one names [] [] ≡ file_of other names [] []
   unfolding file_of

@@ -10,7 +10,7 @@ use Rattle.dcv_language.specs.Language.{Language}
 use Rattle.dcv_language.specs.Laws.{OneCanonicalTable}
 use Rattle.dcv_language.specs.Table.{TableState, Table, no_state}
 use Rattle.dcv_dfa.specs.declared.node_lines.NodeLine.{NodeLine as CodeNodeLine}
-use Rattle.dcv_dfa.specs.declared.node_lines.Child.TheVariants.{State}
+use Rattle.dcv_language.specs.declared.child.Child.TheVariants.{State}
 use Rattle.dcv_dfa.specs.Laws.{OneTableHasOneListOfLines}
 use Rattle.dcv_dfa.specs.NodeLines.{NodeLinesValue, lines_and_rows, node_lines_of}
 use Rattle.dcv_automaton_text.specs.File.{NodeLine, StateLine, AccessLine, AutomatonFile}
@@ -22,7 +22,7 @@ use Rattle.dcv_automaton_text.proofs.GoodTables.{length-table_of, no_line, state
 use Rattle.dcv_print.specs.Automaton.{IsAutomatonOf, AreSameUpToAccess}
 use Rattle.dcv_print.specs.Laws.{OneAutomaton}
 use Rattle.dcv_print.proofs.FileArenas.{raw_of, no_node, raw_has_the_table, same_name, is_raw}
-use Rattle.dcv_print.proofs.FileNumbers.{child_for, line_for, one_child, numbered_lines}
+use Rattle.dcv_print.proofs.FileNumbers.{line_for, numbered_lines}
 
 -- ---- access words
 
@@ -43,14 +43,13 @@ module _ (names : List (List ℕ)) where
       let numbers = number ∙ sym its_number in
       let slots : slot_of names one.name ≡ slot_of names other.name = ap (λ (line : CodeNodeLine). line.slot) same in
       let name = same_name names one.name other.name listed its_listed slots in
-      let hi = one_child one.hi other.hi (ap (λ (line : CodeNodeLine). line.hi) same) in
-      let lo = one_child one.lo other.lo (ap (λ (line : CodeNodeLine). line.lo) same) in
+      let hi = ap (λ (line : CodeNodeLine). line.hi) same in
+      let lo = ap (λ (line : CodeNodeLine). line.lo) same in
       λ i. record { number = numbers i; name = name i; hi = hi i; lo = lo i }
 
-one_state : (place : ℕ) (one other : StateLine) → one.number ≡ place → other.number ≡ place → one.accepting ≡ other.accepting → child_for one.row ≡ child_for other.row → one ≡ other
-one_state place one other number its_number accepting same =
+one_state : (place : ℕ) (one other : StateLine) → one.number ≡ place → other.number ≡ place → one.accepting ≡ other.accepting → one.row ≡ other.row → one ≡ other
+one_state place one other number its_number accepting row =
     let numbers = number ∙ sym its_number in
-    let row = one_child one.row other.row same in
     λ i. record { number = numbers i; accepting = accepting i; row = row i }
 
 one_access_line : (place : ℕ) (one other : AccessLine) → one.number ≡ place → other.number ≡ place → one.access ≡ other.access → one ≡ other
@@ -69,8 +68,8 @@ module _ (k : ℕ) (L : Language) (names : List (List ℕ)) (one other : Automat
   same_count : one.states ≡ other.states
   same_count = sym good.states ∙ sym (length-table_of one) ∙ ap length tables ∙ length-table_of other ∙ good_other.states
 
-  same_all : lines_and_rows (map (line_for one.names) one.node_lines) (map (λ (line : StateLine). child_for line.row) one.state_lines)
-      ≡ lines_and_rows (map (line_for other.names) other.node_lines) (map (λ (line : StateLine). child_for line.row) other.state_lines)
+  same_all : lines_and_rows (map (line_for one.names) one.node_lines) (map (λ (line : StateLine). line.row) one.state_lines)
+      ≡ lines_and_rows (map (line_for other.names) other.node_lines) (map (λ (line : StateLine). line.row) other.state_lines)
   same_all = sym (numbered_lines one good is.numbered) ∙ lines ∙ numbered_lines other good_other its.numbered
 
   same_plain : map (line_for one.names) one.node_lines ≡ map (line_for one.names) other.node_lines
@@ -92,7 +91,7 @@ module _ (k : ℕ) (L : Language) (names : List (List ℕ)) (one other : Automat
 
   same_state_lines : one.state_lines ≡ other.state_lines
   same_state_lines =
-      let child = λ (line : StateLine). child_for line.row in
+      let child = λ (line : StateLine). line.row in
       let rows = ap (λ (all : NodeLinesValue). all.rows) same_all in
       let size = good.states ∙ same_count ∙ sym good_other.states in
       same_lists one.state_lines other.state_lines size (λ place d within.

@@ -5,36 +5,30 @@ use Rattle.dcv_word.specs.Behaviour.{Word}
 use Rattle.dcv_language.specs.Canonical.{IsCanonical}
 use Rattle.dcv_language.specs.Certificate.{IsCertificate}
 use Rattle.dcv_language.specs.Table.{Table}
-use Rattle.dcv_dfa.specs.declared.node_lines.Child.{Child}
-use Rattle.dcv_dfa.specs.declared.node_lines.Child.TheVariants.{State, Node}
+use Rattle.dcv_language.specs.declared.child.Child.{Child}
+use Rattle.dcv_language.specs.declared.child.Child.TheVariants.{State, Node}
 use Rattle.dcv_dfa.specs.declared.node_lines.NodeLine.{NodeLine}
 use Rattle.dcv_dfa.specs.Laws.{OneTableHasOneListOfLines, LinesLeadAsTheRows}
 use Rattle.dcv_dfa.specs.NodeLines.{NodeLinesValue, node_lines_of}
 use Rattle.dcv_dfa.specs.Raw.{raw_accepts}
 use Rattle.dcv_automaton_text.specs.Meaning.{table_of, suffix_words_of}
 use Rattle.dcv_automaton_text.proofs.GoodFiles.{good_file}
-use Rattle.dcv_print.specs.Printed.{target_of, node_line, access_line, suffix_line, printed_file, file_of}
+use Rattle.dcv_print.specs.Printed.{node_line, access_line, suffix_line, printed_file, file_of}
 use Rattle.dcv_print.specs.Laws.{PrintedIsAutomaton, PrintedTable}
 use Rattle.dcv_print.proofs.FileArenas.{raw_of, raw_has_the_table, is_raw}
-use Rattle.dcv_print.proofs.FileNumbers.{child_for, line_for, numbered_by_lines}
+use Rattle.dcv_print.proofs.FileNumbers.{line_for, numbered_by_lines}
 use Rattle.dcv_print.proofs.PrintedFiles.{printed_is_good}
 use Rattle.dcv_print.proofs.PrintedForms.{printed_is_spellable}
 use Rattle.dcv_automaton_file.proofs.Tables.{slot_at, reduced, slots_below, file_table}
 use Rattle.dcv_print.proofs.PrintedWords.{printed_access, printed_suffixes}
-
-child_back : (child : Child) → child_for (target_of child) ≡ child
-child_back (State state) = refl
-child_back (Node number) = refl
 
 lines_back : (names : List (List ℕ)) → AllPairs ◌≢◌ names → (lines : List NodeLine) (first : ℕ) → All (λ (line : NodeLine). line.slot < length names) lines
     → map (line_for names) (map (node_line names) (enumerate_from first lines)) ≡ lines
 lines_back names differ [] first below = refl
 lines_back names differ (line ∷ lines) first below =
     let slot = slot_at names line.slot differ (below 0 line (omega arith)) in
-    let hi = child_back line.hi in
-    let lo = child_back line.lo in
     let rest = lines_back names differ lines (first + 1) (λ k d within. below (suc k) d (omega arith)) in
-    λ i. record { slot = slot i; hi = hi i; lo = lo i } ∷ rest i
+    λ i. record { slot = slot i; hi = line.hi; lo = line.lo } ∷ rest i
 
 -- the steps do not matter to the table
 pub printed_table : LinesLeadAsTheRows → PrintedTable

@@ -7,8 +7,8 @@ use Rattle.std.proofs.lemmas.List.{length-map, get_or-map}
 use Rattle.std.proofs.lemmas.List.FromFn.{length-enumerate_from, get_or-enumerate_from}
 use Rattle.std.proofs.lemmas.Option.{slice_get-get_or}
 use Rattle.dcv_language.specs.declared.count.Count.{Count}
-use Rattle.dcv_dfa.specs.declared.node_lines.Child.{Child}
-use Rattle.dcv_dfa.specs.declared.node_lines.Child.TheVariants.{State, Node}
+use Rattle.dcv_language.specs.declared.child.Child.{Child}
+use Rattle.dcv_language.specs.declared.child.Child.TheVariants.{State, Node}
 use Rattle.dcv_dfa.specs.declared.node_lines.NodeLine.{NodeLine}
 use Rattle.dcv_dfa.specs.NodeLines.{IsBelow, node_lines_of, numbered}
 use Rattle.dcv_dfa.specs.Raw.{raw_accepts}
@@ -22,7 +22,7 @@ use Rattle.dcv_certificate.specs.Proof.{IsSpelled, suffix_words}
 use Rattle.dcv_automaton_text.specs.Form.{is_visible, IsNameWord, IsTarget, IsNodeLine, IsStateLine, IsAccess, IsAccessLine, IsSuffix, IsSuffixLine, IsStepLine}
 use Rattle.dcv_automaton_text.specs.Rules.{IsPlainName, AreNames}
 use Rattle.dcv_automaton_text.proofs.Kept.{both_true, both}
-use Rattle.dcv_print.specs.Printed.{target_of, node_line, state_line, access_line, suffix_line, file_of}
+use Rattle.dcv_print.specs.Printed.{node_line, state_line, access_line, suffix_line, file_of}
 use Rattle.dcv_automaton_read.specs.File.{access_from, suffix_from, step_line}
 use Rattle.dcv_print.specs.Counts.{ArePrintableCounts}
 use Rattle.dcv_print.specs.Laws.{PrintedIsSpellable}
@@ -70,7 +70,7 @@ all_numbered P line xs none each k d within =
     let place : 0 + k ≡ k = omega arith in
     subst P (sym (at ∙ ap line (number ∙ ap (λ at. (at, get_or xs k none)) place))) (each k here)
 
-small_target : (states nodes : ℕ) (child : Child) → states ≤ most_states → nodes ≤ most_nodes → IsBelow states nodes child → IsTarget (target_of child)
+small_target : (states nodes : ℕ) (child : Child) → states ≤ most_states → nodes ≤ most_nodes → IsBelow states nodes child → IsTarget child
 small_target states nodes (State state) few few_nodes below = omega arith
 small_target states nodes (Node number) few few_nodes below = omega arith
 

@@ -10,8 +10,8 @@ use Rattle.std.proofs.lemmas.List.FromFn.{length-enumerate_from, get_or-enumerat
 use Rattle.std.proofs.lemmas.Option.{slice_get-get_or}
 use Rattle.std.proofs.lemmas.Slice.Eq.{bytes_eq-Decides}
 use Rattle.dcv_language.specs.declared.count.Count.{Count}
-use Rattle.dcv_dfa.specs.declared.node_lines.Child.{Child}
-use Rattle.dcv_dfa.specs.declared.node_lines.Child.TheVariants.{State, Node}
+use Rattle.dcv_language.specs.declared.child.Child.{Child}
+use Rattle.dcv_language.specs.declared.child.Child.TheVariants.{State, Node}
 use Rattle.dcv_dfa.specs.declared.node_lines.NodeLine.{NodeLine}
 use Rattle.dcv_dfa.specs.NodeLines.{IsBelow, ComesAfter, AreReduced, node_lines_of}
 use Rattle.dcv_dfa.specs.Raw.{RawValue}
@@ -21,7 +21,7 @@ use Rattle.dcv_language.specs.Limits.{most_nodes}
 use Rattle.dcv_automaton_text.specs.File.{NodeLine as PlainNodeLine}
 use Rattle.dcv_automaton_text.specs.Rules.{slot_of, slot_of_node, keeps_child, is_same_target, is_same_node, keeps_node, keeps_row, keeps_state}
 use Rattle.dcv_automaton_text.proofs.Kept.{AreKept, both_true, both}
-use Rattle.dcv_print.specs.Printed.{target_of, node_line, state_line, printed_file, file_of}
+use Rattle.dcv_print.specs.Printed.{node_line, state_line, printed_file, file_of}
 use Rattle.dcv_automaton_file.proofs.Tables.{slot_at}
 
 pub same_number : (n : ℕ) → nat_eq n n ≡ true
@@ -34,7 +34,7 @@ fails false not_so = refl
 
 -- ---- children
 
-same_target : (one other : Child) → is_same_target (target_of one) (target_of other) ≡ true → one ≡ other
+same_target : (one other : Child) → is_same_target one other ≡ true → one ≡ other
 same_target (State a) (State b) same = ap State ((unsigned_Decides a b).0 same)
 same_target (State a) (Node b) same = absurd cc
 same_target (Node a) (State b) same = absurd cc
@@ -70,7 +70,7 @@ module _ (raw : RawValue) (names : List (List ℕ)) (access : List CodeAccess) (
       ∙ slot_of_line k within
 
   child_kept : (k : ℕ) (child : Child) → k < length lines → IsBelow (length raw.rows) k child → ComesAfter lines (get_or lines k no_line).slot child
-      → keeps_child (printed_file raw names access suffixes counts) k (target_of child) ≡ true
+      → keeps_child (printed_file raw names access suffixes counts) k child ≡ true
   unfolding file_of
   child_kept k (State state) within is_below after = lt-ltb state (length raw.rows) is_below
   child_kept k (Node number) within is_below after =
@@ -86,8 +86,8 @@ module _ (raw : RawValue) (names : List (List ℕ)) (access : List CodeAccess) (
   same_line one other within other_within same =
       let a = get_or lines one no_line in
       let b = get_or lines other no_line in
-      let parts = both (bytes_eq (node_line names (one, a)).name (node_line names (other, b)).name && is_same_target (target_of a.hi) (target_of b.hi)) (is_same_target (target_of a.lo) (target_of b.lo)) same in
-      let firsts = both (bytes_eq (node_line names (one, a)).name (node_line names (other, b)).name) (is_same_target (target_of a.hi) (target_of b.hi)) parts.0 in
+      let parts = both (bytes_eq (node_line names (one, a)).name (node_line names (other, b)).name && is_same_target a.hi b.hi) (is_same_target a.lo b.lo) same in
+      let firsts = both (bytes_eq (node_line names (one, a)).name (node_line names (other, b)).name) (is_same_target a.hi b.hi) parts.0 in
       let name = (bytes_eq-Decides (node_line names (one, a)).name (node_line names (other, b)).name).0 firsts.0 in
       let slots : a.slot ≡ b.slot = sym (slot_of_line one within) ∙ ap (slot_of names) name ∙ slot_of_line other other_within in
       let his = same_target a.hi b.hi firsts.1 in
@@ -111,7 +111,7 @@ module _ (raw : RawValue) (names : List (List ℕ)) (access : List CodeAccess) (
       let name = get_or names line.slot [] in
       let others = is_new k within in
       let listed = list_any_at (bytes_eq name) names line.slot [] (below k no_line within) ((bytes_eq-Decides name name).1 refl) in
-      let differs = fails (is_same_target (target_of line.hi) (target_of line.lo)) (λ same. is.differ (sym (same_target line.hi line.lo same))) in (
+      let differs = fails (is_same_target line.hi line.lo) (λ same. is.differ (sym (same_target line.hi line.lo same))) in (
         both_true (nat_lt k most_nodes) _ (lt-ltb k most_nodes (omega arith)) (ap not others),
         (
           same_number k,
@@ -121,14 +121,14 @@ module _ (raw : RawValue) (names : List (List ℕ)) (access : List CodeAccess) (
               refl,
               (
                 child_kept k line.hi within is.hi_below is.hi_after,
-                (refl, (both_true (keeps_child (printed_file raw names access suffixes counts) k (target_of line.lo)) _ (child_kept k line.lo within is.lo_below is.lo_after) (ap not differs), tt)),
+                (refl, (both_true (keeps_child (printed_file raw names access suffixes counts) k line.lo) _ (child_kept k line.lo within is.lo_below is.lo_after) (ap not differs), tt)),
               ),
             ),
           ),
         ),
       )
 
-  row_kept : (child : Child) → IsBelow (length raw.rows) (length lines) child → keeps_row (printed_file raw names access suffixes counts) (target_of child) ≡ true
+  row_kept : (child : Child) → IsBelow (length raw.rows) (length lines) child → keeps_row (printed_file raw names access suffixes counts) child ≡ true
   unfolding file_of
   row_kept (State state) is_below = lt-ltb state (length raw.rows) is_below
   row_kept (Node number) is_below = lt-ltb number (length plain_lines) (omega (arith, count_of_lines))

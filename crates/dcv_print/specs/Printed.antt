@@ -7,7 +7,7 @@ use Rattle.dcv_language.specs.declared.count.Count.{Count}
 use Rattle.dcv_dfa.specs.Raw.{RawValue}
 use Rattle.dcv_language.specs.declared.certificate.Access.{Access as CodeAccess}
 use Rattle.dcv_language.specs.declared.certificate.Suffix.{Suffix as CodeSuffix}
-pub use Rattle.dcv_automaton_file.specs.File.{texts_of, target_of, node_line, state_line}
+pub use Rattle.dcv_automaton_file.specs.File.{texts_of, node_line, state_line}
 unfoldable pub use Rattle.dcv_automaton_file.specs.File.{file_of}
 use Rattle.dcv_automaton_read.specs.File.{access_from, suffix_from, step_part}
 use Rattle.dcv_automaton_text.specs.File.{AccessLine, SuffixLine, AutomatonFile}

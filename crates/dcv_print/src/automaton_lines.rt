@@ -10,7 +10,7 @@ ghost use Rattle.dcv_dfa.specs.NodeLines.{node_lines_of};
 ghost use Rattle.dcv_automaton_text.specs.Rules.{AreNames};
 ghost use Rattle.dcv_automaton_text.specs.Spelled.{answer_word, target_word, name_words, node_words, state_words, how_access};
 ghost use Rattle.dcv_automaton_text.specs.Spelled.{how_suffix, step_words, steps_words, spelled_line, spelled};
-ghost use Rattle.dcv_print.specs.Printed.{texts_of, target_of, node_line, state_line, printed_file};
+ghost use Rattle.dcv_print.specs.Printed.{texts_of, node_line, state_line, printed_file};
 ghost use Rattle.dcv_automaton_read.specs.File.{access_from, suffix_from, step_line, step_part};
 ghost use Rattle.dcv_certificate.specs.Proof.{IsProof};
 ghost use Rattle.dcv_print.specs.Counts.{ArePrintableCounts};
@@ -19,9 +19,9 @@ ghost use Rattle.dcv_print.specs.Pushed.{spaced, spelled_lines};
 
 use crate::verdict_lines::{put_heading, put_letter, put_number};
 use dcv_certificate::{Access, Proof, Suffix, separate};
-use dcv_dfa::{Auto, Child, NodeLine, NodeLines};
+use dcv_dfa::{Auto, NodeLine, NodeLines};
 use dcv_io::{Target, Text, put_pieces};
-use dcv_language::Count;
+use dcv_language::{Child, Count};
 use dcv_syntax::Name;
 use dcv_word::Letter;
 use itoa::Buffer;
@@ -199,7 +199,7 @@ fn put_nodes<T: Target>(target: &mut T, names: &[Name], nodes: &[NodeLine])
 // The line of a node.
 fn put_node<T: Target>(target: &mut T, number: usize, name: &[u8], node: NodeLine)
     ensures { Puts (T.standing target.old) (T.standing target.new)
-        (spelled_line (node_words (record { number = number; name = name.now; hi = target_of node.hi; lo = target_of node.lo }))) }
+        (spelled_line (node_words (record { number = number; name = name.now; hi = node.hi; lo = node.lo }))) }
 {
     put_node_head(target, number, name);
     put_child(target, node.hi);
@@ -238,7 +238,7 @@ fn put_states<T: Target>(target: &mut T, auto: &Auto, rows: &[Child])
 // The line of a state.
 fn put_state<T: Target>(target: &mut T, state: u32, accepting: bool, row: Child)
     ensures { Puts (T.standing target.old) (T.standing target.new)
-        (spelled_line (state_words (record { number = state; accepting = accepting; row = target_of row }))) }
+        (spelled_line (state_words (record { number = state; accepting = accepting; row = row }))) }
 {
     put_state_head(target, state, answer(accepting));
     put_child(target, row);
@@ -375,7 +375,7 @@ fn put_step<T: Target>(target: &mut T, number: usize, count: Count)
 
 // A state or a node.
 fn put_child<T: Target>(target: &mut T, child: Child)
-    ensures { Puts (T.standing target.old) (T.standing target.new) (target_word (target_of child)) }
+    ensures { Puts (T.standing target.old) (T.standing target.new) (target_word child) }
 {
     let mut digits = Buffer::new();
     match child {

@@ -7,8 +7,8 @@ use Rattle.std.proofs.lemmas.Fmt.{length-decimal-le}
 use Rattle.dcv_language.specs.Limits.{most_nodes, number_bound}
 use Rattle.dcv_automaton_text.specs.Rules.{IsPlainName}
 use Rattle.dcv_automaton_text.proofs.Words.{digits_are}
-use Rattle.dcv_dfa.specs.declared.node_lines.Child.{Child}
-use Rattle.dcv_dfa.specs.declared.node_lines.Child.TheVariants.{State, Node}
+use Rattle.dcv_language.specs.declared.child.Child.{Child}
+use Rattle.dcv_language.specs.declared.child.Child.TheVariants.{State, Node}
 use Rattle.dcv_dfa.specs.declared.node_lines.NodeLine.{NodeLine}
 use Rattle.dcv_dfa.specs.NodeLines.{IsBelow}
 use Rattle.dcv_observer.proofs.Naming.{Name}

@@ -5,8 +5,8 @@ use Rattle.std.proofs.lemmas.List.{map_push, length-map, get_or-map, get_or-appe
 use Rattle.std.proofs.lemmas.List.FromFn.{length-range_with_len, get_or-range_with_len}
 use Rattle.std.proofs.lemmas.Option.{slice_get-get_or}
 use Rattle.dcv_language.specs.Limits.{most_nodes, number_bound}
-use Rattle.dcv_dfa.specs.declared.node_lines.Child.{Child}
-use Rattle.dcv_dfa.specs.declared.node_lines.Child.TheVariants.{State}
+use Rattle.dcv_language.specs.declared.child.Child.{Child}
+use Rattle.dcv_language.specs.declared.child.Child.TheVariants.{State}
 use Rattle.dcv_dfa.specs.NodeLines.{NodeLinesValue, AreReducedRows}
 use Rattle.dcv_automaton_file.proofs.Rows.{range_more, numbered_more, below_more}
 use Rattle.dcv_c.specs.declared.unit.Reset.{Reset}

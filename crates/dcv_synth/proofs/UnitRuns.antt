@@ -8,8 +8,8 @@ use Rattle.std.specs.List.{enumerate_from, position_or_len}
 use Rattle.std.proofs.lemmas.Bool.{cases_lt, cases_Bool, false≢true}
 use Rattle.std.proofs.lemmas.List.{length_push, get_or_append_left, get_or_push}
 use Rattle.dcv_language.specs.Limits.{most_nodes, number_bound}
-use Rattle.dcv_dfa.specs.declared.node_lines.Child.{Child}
-use Rattle.dcv_dfa.specs.declared.node_lines.Child.TheVariants.{State, Node}
+use Rattle.dcv_language.specs.declared.child.Child.{Child}
+use Rattle.dcv_language.specs.declared.child.Child.TheVariants.{State, Node}
 use Rattle.dcv_dfa.specs.declared.node_lines.NodeLine.{NodeLine}
 use Rattle.dcv_dfa.specs.NodeLines.{IsBelow, state_at}
 use Rattle.dcv_observer.proofs.Naming.{Name}

@@ -13,7 +13,7 @@ use Rattle.dcv_language.specs.Limits.{most_nodes, number_bound}
 use Rattle.dcv_automaton_file.proofs.Tables.{slot_at}
 use Rattle.dcv_arena.specs.Arena.{value_of}
 use Rattle.dcv_arena.specs.declared.nodes.Ref.TheVariants.{Leaf}
-use Rattle.dcv_dfa.specs.declared.node_lines.Child.TheVariants.{State}
+use Rattle.dcv_language.specs.declared.child.Child.TheVariants.{State}
 use Rattle.dcv_dfa.specs.NodeLines.{NodeLinesValue, IsBelow, lines_of_rows, state_at, states_at}
 use Rattle.dcv_dfa.specs.Laws.{LinesHaveTheNumbersOfTheRows}
 use Rattle.dcv_observer.proofs.Naming.{Name}

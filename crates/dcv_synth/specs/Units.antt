@@ -12,8 +12,8 @@ use Rattle.std.specs.Fmt.{decimal}
 use Rattle.std.specs.List.{enumerate_from, range_with_len, flat_map, zip}
 use Rattle.std.specs.Str.{byte}
 use Rattle.dcv_word.specs.Letter.{letter_of}
-use Rattle.dcv_dfa.specs.declared.node_lines.Child.{Child}
-use Rattle.dcv_dfa.specs.declared.node_lines.Child.TheVariants.{State, Node}
+use Rattle.dcv_language.specs.declared.child.Child.{Child}
+use Rattle.dcv_language.specs.declared.child.Child.TheVariants.{State, Node}
 use Rattle.dcv_dfa.specs.declared.node_lines.NodeLine.{NodeLine}
 use Rattle.dcv_dfa.specs.NodeLines.{NodeLinesValue, lines_of_rows}
 use Rattle.dcv_c.specs.Tree.{Item, Constant, Named, Holds, Equals, Plain, Chosen, Statement, Assign, When, Read, CUnit}

@@ -2,7 +2,7 @@
 ghost use Rattle.std.specs.Prelude.{◌≡◌, ◌+◌, ◌<◌, ◌≤◌, ◌++◌, ℕ, List, length, map, slice_index_or, IfOk, OnOk};
 ghost use Rattle.std.specs.List.{All};
 ghost use Rattle.dcv_language.specs.Limits.{most_nodes, number_bound};
-ghost use Rattle.dcv_dfa.specs.declared.node_lines.Child.TheVariants.{State as AnyState};
+ghost use Rattle.dcv_language.specs.declared.child.Child.TheVariants.{State as AnyState};
 ghost use Rattle.dcv_dfa.specs.NodeLines.{IsBelow};
 ghost use Rattle.dcv_automaton_file.specs.File.{Fits};
 ghost use Rattle.dcv_c.specs.Seen.{name_at, seen_item, seen_statement};
@@ -11,7 +11,8 @@ ghost use Rattle.dcv_synth.specs.Units.{next_choice as next_choice_of, output_ch
 ghost use Rattle.dcv_synth.specs.Placing.{StandAt, HasNames, AreFew, AreFitting};
 
 use dcv_c::{Condition, Item, Right, Statement};
-use dcv_dfa::{Child, NodeLine, NodeLines};
+use dcv_dfa::{NodeLine, NodeLines};
+use dcv_language::Child;
 use std::alloc::{AllocError, Global};
 
 // How many names stand before those of the output rows' nodes.

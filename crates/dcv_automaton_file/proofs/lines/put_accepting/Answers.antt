@@ -2,7 +2,7 @@ use Rattle.std.proofs.Common.{◌<◌, ◌++◌, ◌∷◌, [], List, cond, leng
 use Rattle.std.specs.Fmt.{decimal}
 use Rattle.std.proofs.lemmas.List.{take_all}
 use Rattle.dcv_io.proofs.Putting.{puts_both, puts_further, puts_nothing, puts_same}
-use Rattle.dcv_dfa.specs.declared.node_lines.Child.{Child}
+use Rattle.dcv_language.specs.declared.child.Child.{Child}
 use Rattle.dcv_automaton_file.specs.File.{state_lines}
 use Rattle.dcv_automaton_file.specs.Lines.{number_of, accepting_numbers, listed}
 use Rattle.dcv_automaton_file.proofs.Rows.{flags_more}

@@ -1,6 +1,6 @@
 use Rattle.std.proofs.Common.{◌≡◌, List, length, take}
 use Rattle.dcv_io.specs.Putting.{Puts}
-use Rattle.dcv_dfa.specs.declared.node_lines.Child.{Child}
+use Rattle.dcv_language.specs.declared.child.Child.{Child}
 use Rattle.dcv_automaton_file.specs.File.{state_lines}
 use Rattle.dcv_automaton_file.specs.Lines.{accepting_numbers}
 use Rattle.dcv_automaton_file.proofs.PutLines.{has_some, joined}

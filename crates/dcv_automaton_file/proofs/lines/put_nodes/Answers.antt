@@ -1,10 +1,10 @@
 use Rattle.std.proofs.Common.{◌≡◌, ◌<◌, length, [], sym, ap, get_or, ◌∙◌, arith}
 use Rattle.std.proofs.lemmas.List.{get_or-map, take_all}
 use Rattle.dcv_syntax.specs.declared.names.Name.{Name}
-use Rattle.dcv_dfa.specs.declared.node_lines.Child.TheVariants.{State}
+use Rattle.dcv_language.specs.declared.child.Child.TheVariants.{State}
 use Rattle.dcv_dfa.specs.declared.node_lines.NodeLine.{NodeLine}
 use Rattle.dcv_io.proofs.Putting.{puts_further, puts_nothing, puts_same}
-use Rattle.dcv_automaton_file.specs.File.{texts_of, target_of, node_line}
+use Rattle.dcv_automaton_file.specs.File.{texts_of, node_line}
 use Rattle.dcv_automaton_file.specs.Lines.{node_text}
 use Rattle.dcv_automaton_file.proofs.PutLines.{lines_text, line_more}
 use Rattle.dcv_automaton_file.proofs.lines.put_nodes.Goals as goal
@@ -26,7 +26,7 @@ loop-number-preserved g c =
     ∙ ap (λ at. get_or (texts_of names) at []) slot in
     puts_further _ _ _ _ _ _ c.loop-number.invariant
     (puts_same _ _ _ _ c.put_node.ensures
-    (ap (λ text. node_text c.args.layout.now (record { number = number; name = text; hi = target_of line.hi; lo = target_of line.lo })) name))
+    (ap (λ text. node_text c.args.layout.now (record { number = number; name = text; hi = line.hi; lo = line.lo })) name))
     (line_more (node_text c.args.layout.now) (node_line (texts_of names)) c.args.lines.now number none c.loop-number-test.true)
 
 pub returns : goal.returns

@@ -1,6 +1,6 @@
 use Rattle.std.proofs.Common.{ap}
 use Rattle.std.proofs.lemmas.List.{take_all}
-use Rattle.dcv_dfa.specs.declared.node_lines.Child.TheVariants.{State}
+use Rattle.dcv_language.specs.declared.child.Child.TheVariants.{State}
 use Rattle.dcv_dfa.specs.Raw.{RawValue}
 use Rattle.dcv_io.proofs.Putting.{puts_further, puts_nothing, puts_same}
 use Rattle.dcv_automaton_file.specs.File.{state_line}

@@ -3,7 +3,7 @@ use Rattle.std.specs.List.{zip}
 use Rattle.std.proofs.lemmas.List.{get_or-map, length-map}
 use Rattle.std.proofs.lemmas.Option.{slice_get-get_or}
 use Rattle.dcv_automaton_lines.specs.declared.lines.NodeLine.{NodeLine}
-use Rattle.dcv_automaton_lines.specs.declared.lines.Target.TheVariants.{State}
+use Rattle.dcv_language.specs.declared.child.Child.TheVariants.{State}
 use Rattle.dcv_automaton_text.specs.File.{AutomatonFile}
 use Rattle.dcv_automaton_text.specs.Rules.{keeps_node}
 use Rattle.dcv_automaton_text.specs.Spelled.{node_words}

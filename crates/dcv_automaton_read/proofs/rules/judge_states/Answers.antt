@@ -1,7 +1,7 @@
 use Rattle.std.proofs.Common.{◌+◌, false, length, get_or, arith}
 use Rattle.std.specs.List.{zip}
 use Rattle.dcv_automaton_lines.specs.declared.lines.StateLine.{StateLine}
-use Rattle.dcv_automaton_lines.specs.declared.lines.Target.TheVariants.{State}
+use Rattle.dcv_language.specs.declared.child.Child.TheVariants.{State}
 use Rattle.dcv_automaton_text.specs.Rules.{keeps_state}
 use Rattle.dcv_automaton_text.specs.Spelled.{state_words}
 use Rattle.dcv_automaton_lines.specs.Seen.{file_of, state_line_of}

@@ -2,10 +2,10 @@ use Rattle.std.proofs.Common.{◌≡◌, ◌<◌, length, [], sym, ap, get_or, �
 use Rattle.std.proofs.lemmas.Grind.{common_steps}
 use Rattle.std.proofs.lemmas.List.{get_or-map}
 use Rattle.dcv_syntax.specs.declared.names.Name.{Name}
-use Rattle.dcv_dfa.specs.declared.node_lines.Child.TheVariants.{State}
+use Rattle.dcv_language.specs.declared.child.Child.TheVariants.{State}
 use Rattle.dcv_dfa.specs.declared.node_lines.NodeLine.{NodeLine}
 use Rattle.dcv_automaton_text.specs.Spelled.{node_words, spelled_line}
-use Rattle.dcv_print.specs.Printed.{texts_of, target_of, node_line}
+use Rattle.dcv_print.specs.Printed.{texts_of, node_line}
 use Rattle.dcv_print.proofs.Spellings.{one_line_more, all_lines}
 use Rattle.dcv_io.proofs.Putting.{puts_further, puts_nothing, puts_same}
 use Rattle.dcv_print.proofs.automaton_lines.put_nodes.Goals as goal
@@ -24,7 +24,7 @@ loop-number-preserved g c =
     ∙ ap (λ at. get_or (texts_of names) at []) slot in
     puts_further _ _ _ _ _ _ c.loop-number.invariant c.put_node.ensures
     (one_line_more (λ numbered. node_words (node_line (texts_of names) numbered)) c.args.nodes.now number none _ c.loop-number-test.true
-    (ap (λ text. spelled_line (node_words (record { number = number; name = text; hi = target_of node.hi; lo = target_of node.lo }))) name))
+    (ap (λ text. spelled_line (node_words (record { number = number; name = text; hi = node.hi; lo = node.lo }))) name))
 
 pub loop-number-init : goal.loop-number-init
 loop-number-init g c = puts_nothing _

@@ -1,6 +1,6 @@
 use Rattle.std.proofs.Common.{ℕ, ◌<◌, ◌++◌, List, length, map, ap, ◌∙◌, arith}
 use Rattle.std.proofs.lemmas.List.{take_all}
-use Rattle.dcv_dfa.specs.declared.node_lines.Child.TheVariants.{State}
+use Rattle.dcv_language.specs.declared.child.Child.TheVariants.{State}
 use Rattle.dcv_dfa.specs.declared.node_lines.NodeLine.{NodeLine}
 use Rattle.dcv_c.specs.Seen.{seen_statement}
 use Rattle.dcv_synth.specs.Units.{choice, choices}

@@ -1,11 +1,11 @@
 use Rattle.std.proofs.Common.{◌<◌, List, length, get_or, refl, sym, ap, ◌∙◌, subst, arith}
 use Rattle.dcv_language.specs.Table.{next_in}
 use Rattle.dcv_automaton_text.specs.File.{AutomatonFile}
-use Rattle.dcv_automaton_text.specs.Meaning.{table_of}
+use Rattle.dcv_automaton_text.specs.Meaning.{table_of, state_at}
 use Rattle.dcv_automaton_read.specs.declared.nodes.Node.{Node}
 use Rattle.dcv_automaton_read.specs.declared.file.Row.{Row}
 use Rattle.dcv_automaton_read.specs.File.{file_from, counts_in}
-use Rattle.dcv_automaton_read.specs.Walk.{leaf_at, leaves_of, AreOrdered, IsEarlier}
+use Rattle.dcv_automaton_read.specs.Walk.{leaves_of, AreOrdered, IsEarlier}
 use Rattle.dcv_automaton_read.proofs.Kept.{good_parts, names_are_few}
 use Rattle.dcv_automaton_read.proofs.Walks.{ordered, row_within, leads}
 use Rattle.dcv_automaton_read.proofs.file.AutoFile.next.Goals as goal
@@ -45,6 +45,6 @@ returns c =
     let below : c.args.state < length inside.rows.items = omega (arith, c.requires.state, ap (λ (one : AutomatonFile). one.states) c.self.view_is) in
     let width = c.requires.width ∙ sym (ap (λ (one : AutomatonFile). length one.names) c.self.view_is) in
     c.leaf.ensures
-    ∙ (λ i. leaf_at (leaves_of letter (c.as_slice.ensures.keys i)) (c.index.ensures i).next)
+    ∙ (λ i. state_at (leaves_of letter (c.as_slice.ensures.keys i)) (c.index.ensures i).next)
     ∙ leads file nodes c.self.invariant.read inside.rows.items c.args.state c.index.result.now refl below c.letters_of_width_are_all.ensures.place letter width
     ∙ ap (λ one. next_in (table_of one) c.args.state letter) c.self.view_is
