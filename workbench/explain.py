@@ -89,13 +89,13 @@ class Explainer:
         return self.report(output)
 
     def report(self, output):
-        """A report of check, implies or certify."""
+        """A report of check, stuck, implies or certify."""
         lines, words = [], words_of(output)
         compared = "does not imply" in output.split("\n")[:1]
         for line in output.splitlines():
             lines += [said.format(*match.groups()) for pattern, said in SENTENCES for match in [re.fullmatch(pattern, line)] if match]
         for kind, word in words.items():
-            does = "meets the first and breaks the second" if compared else "meets it" if kind == "example" else "breaks it"
+            does = DOES["outside" if compared else kind]
             lines += ["", heading(f"A shortest behaviour that {does}", word), *self.drawn(self.question.variables(), word)]
         return lines
 
@@ -209,6 +209,9 @@ def play(automaton, moves):
         state = places[word[-1]]
 
 
+DOES = {"counterexample": "breaks it", "example": "meets it", "outside": "meets the first and breaks the second",
+        "stuck": "keeps to it at each instant, and that no next instant continues"}
+
 SENTENCES = (
     ("valid", "valid: each behaviour meets the requirement"),
     ("not valid", "not valid: some behaviour breaks the requirement"),
@@ -216,6 +219,9 @@ SENTENCES = (
     ("not satisfiable", "not satisfiable: no behaviour meets it"),
     ("implies", "implies: each behaviour that meets the first requirement meets the second"),
     ("does not imply", "does not imply: some behaviour meets the first requirement and breaks the second"),
+    ("never stuck", "never stuck: whatever has kept to the requirement so far can go on"),
+    ("stuck 0", "stuck at once: no behaviour of one instant meets the requirement"),
+    (r"stuck [1-9]\d*", "stuck: some behaviour keeps to the requirement so far, and no next instant keeps to it"),
     (r"certified (\d+)", "certified: no automaton with fewer than these {0} states accepts the same, as its words show"),
     (r"refused access (\d+)", "refused: the access word of state {0} leads to another state"),
     (r"refused pair (\d+) (\d+)", "refused: no suffix tells state {0} from state {1}"),

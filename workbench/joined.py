@@ -70,15 +70,15 @@ def macro_lines(requirement, prefix, number):
     yield f"define {prefix}{number} as {to_text(renamed(requirement.file.goal, names))};"
 
 
-def joined(requirements, goal="{all}", names=None, first=()):
-    """A file about several requirements. In the goal `{all}` stands for all of them together; `names` may declare more variables."""
+def joined(requirements, names=None, first=()):
+    """A file whose formula is that of all the requirements together; `names` may declare more variables."""
     prefix = fresh_prefix(requirements, "r")
     declared = names if names is not None else names_of(requirements, first)
     lines = [f"var {', '.join(declared)};"] if declared else []
     for number, it in enumerate(requirements):
         lines += macro_lines(it, prefix, number)
     together = " && ".join(f"{prefix}{number}" for number in range(len(requirements)))
-    return "\n".join(lines + [f"infer {goal.replace('{all}', f'({together})')};", ""])
+    return "\n".join(lines + [f"infer {together};", ""])
 
 
 def read_requirement(name, path, expanded):

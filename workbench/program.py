@@ -60,10 +60,10 @@ def fault_of(message):
 
 
 def words_of(report):
-    """The behaviours in a report by their headings, as `counterexample` and `example`."""
+    """The behaviours in a report by their headings, as `counterexample`, `example` and `stuck`."""
     found, word = {}, None
     for line in report.splitlines():
-        heading = re.match(r"(counterexample|example) \d+$", line)
+        heading = re.match(r"(counterexample|example|stuck) \d+$", line)
         if heading:
             word = found.setdefault(heading.group(1), [])
         elif word is not None and re.match(r"([01]+|-)$", line):
@@ -140,6 +140,11 @@ class Program:
         """None where the first formula implies the second, else a shortest behaviour that satisfies the first alone."""
         answer = self.ask("implies", first, second, options=options)
         return None if answer.status == 0 else words_of(answer.output)["counterexample"]
+
+    def stuck(self, text, options=()):
+        """None where what has kept to the formula so far can always go on, else a shortest behaviour that cannot: an empty one where there is no first instant."""
+        answer = self.ask("stuck", text, options=options)
+        return None if answer.status == 0 else words_of(answer.output)["stuck"]
 
     def observer(self, text, language="c", options=()):
         return self.ask(language, text, options=options).output

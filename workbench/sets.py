@@ -11,7 +11,6 @@ from joined import MOST_NAMES, joined, named, names_of, read_requirement
 from program import Refusal
 from sets_report import print_report, write_junit
 from sources import load
-from stuck import stuck
 
 
 @dataclass(frozen=True)
@@ -85,14 +84,14 @@ class Questions:
 
     def at_each_instant(self, members):
         """What is not well where they are kept to from the first instant on."""
-        if not self.asked(lambda: self.program.check(joined(members, "pt && {all}"))).satisfiable:
+        word = self.asked(lambda: self.program.stuck(joined(members)))
+        if word:
+            return Finding("stuck", members, tuple(word))
+        if word is not None:  # no behaviour of one instant keeps to them
             if len(members) > 1:
                 return Finding("no first instant", members)
             self.late.update(members)
             return None
-        word = self.asked(lambda: stuck(self.program, members))
-        if word is not None:
-            return Finding("stuck", members, tuple(word))
         if not self.inputs or self.alone["unrealisable"] & set(members):
             return None
         try:

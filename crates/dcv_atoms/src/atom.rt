@@ -27,7 +27,9 @@ use std::marker::Model;
 /// A form of a core, with the diagrams of its proposition and its slot.
 #[derive(Drop)]
 pub struct Atom<'a> {
+    // the form, as the core has it
     basic: &'a Basic,
+    // the nodes of both functions
     arena: Arena,
     // the letters in which the proposition holds; of a form without one, none
     root: Ref,

@@ -15,7 +15,9 @@ use std::marker::Model;
 // A memo, and the round of the next join, of which it has no entry yet.
 #[derive(Drop)]
 pub(crate) struct Rounds {
+    // what the joins so far were merged into
     memo: Memo,
+    // the round of the next join
     next: u32,
 }
 

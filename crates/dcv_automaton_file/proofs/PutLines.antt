@@ -55,10 +55,10 @@ module _ (listing : Listing) where
       → joined (texts ++ text ∷ []) ≡ joined texts ++ ((if has_some texts then listing.between.now else []) ++ one_listed listing text)
   text_more [] text = append-nil (one_listed listing text)
   text_more (first ∷ texts) text =
-      let behind = λ (text : List ℕ). listing.between.now ++ one_listed listing text in
+      let after = λ (text : List ℕ). listing.between.now ++ one_listed listing text in
       ap (λ more. one_listed listing first ++ more)
-      (flat_map-append behind texts (text ∷ []) ∙ ap (λ last. flat_map behind texts ++ last) (append-nil (behind text)))
-      ∙ sym (append_assoc (one_listed listing first) (flat_map behind texts) (behind text))
+      (flat_map-append after texts (text ∷ []) ∙ ap (λ last. flat_map after texts ++ last) (append-nil (after text)))
+      ∙ sym (append_assoc (one_listed listing first) (flat_map after texts) (after text))
 
   -- a text after others, if it is there
   pub texts_further : (texts : List (List ℕ)) (more some : Bool) (text : List ℕ) → some ≡ has_some texts
@@ -75,17 +75,17 @@ module _ (listing : Listing) where
 -- ---- the same lines in other words
 
 -- of a list of texts that is not empty
-pub listed_names : {Y : Type 0} (before behind between none : List ℕ) (see : List ℕ → Y) (f : Y → List ℕ) → ((text : List ℕ) → before ++ (text ++ behind) ≡ f (see text))
-    → (text : List ℕ) (texts : List (List ℕ)) → listed_by before behind between none (text ∷ texts) ≡ join_by f between (map see (text ∷ texts))
-listed_names before behind between none see f one text texts =
+pub listed_names : {Y : Type 0} (before after between none : List ℕ) (see : List ℕ → Y) (f : Y → List ℕ) → ((text : List ℕ) → before ++ (text ++ after) ≡ f (see text))
+    → (text : List ℕ) (texts : List (List ℕ)) → listed_by before after between none (text ∷ texts) ≡ join_by f between (map see (text ∷ texts))
+listed_names before after between none see f one text texts =
     (λ i. one text i ++ flat_map (λ text. between ++ one text i) texts)
     ∙ ap (λ more. f (see text) ++ more) (sym (flat_map-map (λ y. between ++ f y) see texts))
 
-pub listed_seen : {X Y : Type 0} (before behind between none : List ℕ) (text : X → List ℕ) (see : X → Y) (f : Y → List ℕ)
-    → ((x : X) → before ++ (text x ++ behind) ≡ f (see x)) → (x : X) (xs : List X)
-    → listed_by before behind between none (map text (x ∷ xs)) ≡ join_by f between (map see (x ∷ xs))
-listed_seen before behind between none text see f one x xs =
-    ap (λ more. (before ++ (text x ++ behind)) ++ more) (flat_map-map (λ text. between ++ (before ++ (text ++ behind))) text xs)
+pub listed_seen : {X Y : Type 0} (before after between none : List ℕ) (text : X → List ℕ) (see : X → Y) (f : Y → List ℕ)
+    → ((x : X) → before ++ (text x ++ after) ≡ f (see x)) → (x : X) (xs : List X)
+    → listed_by before after between none (map text (x ∷ xs)) ≡ join_by f between (map see (x ∷ xs))
+listed_seen before after between none text see f one x xs =
+    ap (λ more. (before ++ (text x ++ after)) ++ more) (flat_map-map (λ text. between ++ (before ++ (text ++ after))) text xs)
     ∙ (λ i. one x i ++ flat_map (λ x. between ++ one x i) xs)
     ∙ ap (λ more. f (see x) ++ more) (sym (flat_map-map (λ y. between ++ f y) see xs))
 

@@ -2,7 +2,7 @@
 --     child_text target          a state as its number, and a node as `nJ`
 --     node_text layout line      the line of a node
 --     row_text layout line       the line of a state, by its row
---     listed_by before behind between none texts    the texts, each between two, with something between every two or in place of none
+--     listed_by before after between none texts    the texts, each between two, with something between every two or in place of none
 --     listed listing texts       the same by a listing
 --     accepting_numbers lines    the numbers of the states that accept
 use Rattle.std.specs.Prelude.{ℕ, List, [], ◌∷◌, ◌++◌, map}
@@ -29,14 +29,14 @@ abbrev pub row_text : RowLayout → StateLine → List ℕ
 row_text layout line = layout.number.now ++ (decimal line.number ++ (layout.row.now ++ (child_text line.row ++ layout.end.now)))
 
 abbrev pub listed_by : List ℕ → List ℕ → List ℕ → List ℕ → List (List ℕ) → List ℕ
-listed_by before behind between none [] = none
-listed_by before behind between none (text ∷ texts) = join_by (λ text. before ++ (text ++ behind)) between (text ∷ texts)
+listed_by before after between none [] = none
+listed_by before after between none (text ∷ texts) = join_by (λ text. before ++ (text ++ after)) between (text ∷ texts)
 
 abbrev pub one_listed : Listing → List ℕ → List ℕ
-one_listed listing text = listing.before.now ++ (text ++ listing.behind.now)
+one_listed listing text = listing.before.now ++ (text ++ listing.after.now)
 
 abbrev pub listed : Listing → List (List ℕ) → List ℕ
-listed listing texts = listed_by listing.before.now listing.behind.now listing.between.now listing.none.now texts
+listed listing texts = listed_by listing.before.now listing.after.now listing.between.now listing.none.now texts
 
 abbrev pub number_of : StateLine → List ℕ
 number_of line = decimal line.number

@@ -16,27 +16,39 @@ use itoa::Buffer;
 /// How a list is laid out: what stands before and after each, between every two, and in place of none.
 #[derive(Clone, Copy)]
 pub struct Listing<'a> {
+    /// What stands before each.
     pub before: &'a [u8],
-    pub behind: &'a [u8],
+    /// What stands after each.
+    pub after: &'a [u8],
+    /// What stands between every two.
     pub between: &'a [u8],
+    /// What stands in place of an empty list.
     pub none: &'a [u8],
 }
 
 /// How a node's line is laid out: what stands before its number, before the name of its variable, before its children, and at the end.
 #[derive(Clone, Copy)]
 pub struct NodeLayout<'a> {
+    /// What stands before the node's number.
     pub number: &'a [u8],
+    /// What stands before the name of its variable.
     pub variable: &'a [u8],
+    /// What stands before the child where the variable is true.
     pub hi: &'a [u8],
+    /// What stands before the child where it is false.
     pub lo: &'a [u8],
+    /// What ends the line.
     pub end: &'a [u8],
 }
 
 /// How a state's line is laid out: what stands before its number, before its row, and at the end.
 #[derive(Clone, Copy)]
 pub struct RowLayout<'a> {
+    /// What stands before the state's number.
     pub number: &'a [u8],
+    /// What stands before its row.
     pub row: &'a [u8],
+    /// What ends the line.
     pub end: &'a [u8],
 }
 
@@ -59,25 +71,25 @@ pub fn put_names<T: Target>(target: &mut T, listing: &Listing<'_>, names: &[Name
 fn put_one<T: Target>(target: &mut T, listing: &Listing<'_>, between: &[u8], text: &[u8])
     ensures { Puts (T.standing target.old) (T.standing target.new) (between.now ++ one_listed listing.now text.now) }
 {
-    put_pieces(target, &[between, listing.before, text, listing.behind]);
+    put_pieces(target, &[between, listing.before, text, listing.after]);
 }
 
 // ---- nodes
 
 /// Puts the numbers below a count, each between two texts.
-pub fn put_numbers<T: Target>(target: &mut T, before: &[u8], behind: &[u8], count: u32)
-    ensures { Puts (T.standing target.old) (T.standing target.new) (flat_map (λ number. before.now ++ (decimal number ++ behind.now)) (range_with_len 0 count)) }
+pub fn put_numbers<T: Target>(target: &mut T, before: &[u8], after: &[u8], count: u32)
+    ensures { Puts (T.standing target.old) (T.standing target.new) (flat_map (λ number. before.now ++ (decimal number ++ after.now)) (range_with_len 0 count)) }
 {
     for number in 0..count {
-        put_number(target, before, behind, number);
+        put_number(target, before, after, number);
     }
 }
 
-fn put_number<T: Target>(target: &mut T, before: &[u8], behind: &[u8], number: u32)
-    ensures { Puts (T.standing target.old) (T.standing target.new) (before.now ++ (decimal number ++ behind.now)) }
+fn put_number<T: Target>(target: &mut T, before: &[u8], after: &[u8], number: u32)
+    ensures { Puts (T.standing target.old) (T.standing target.new) (before.now ++ (decimal number ++ after.now)) }
 {
     let mut digits = Buffer::new();
-    put_pieces(target, &[before, digits.format(number).as_bytes(), behind]);
+    put_pieces(target, &[before, digits.format(number).as_bytes(), after]);
 }
 
 /// Puts a line for each node.

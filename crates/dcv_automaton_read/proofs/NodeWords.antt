@@ -21,7 +21,7 @@ use Rattle.dcv_language.specs.declared.child.Child.{Child}
 use Rattle.dcv_language.specs.declared.child.Child.TheVariants.{State, Node as AtNode}
 use Rattle.dcv_automaton_read.specs.declared.nodes.Node.{Node}
 use Rattle.dcv_automaton_read.specs.contracts.nodes.NodePartialEq.TheImpl.{eq-value as node_eq}
-use Rattle.dcv_automaton_read.specs.contracts.nodes.ChildPartialEq.TheImpl.{eq-value as child_eq}
+use Rattle.dcv_language.specs.contracts.child.ChildPartialEq.TheImpl.{eq-value as child_eq}
 use Rattle.dcv_automaton_read.specs.Judged.{IsJudged, first_false, first_word}
 use Rattle.dcv_automaton_read.specs.Seen.{node_of, same_node, slots_of, child_kept, IsAdded, AreNodesOf}
 

@@ -159,7 +159,6 @@ module _ (file : AutomatonFile) (nodes : List Node) (read : IsRead file nodes) w
         let letters = letters_of_width (length file.names) in
         let there = subst (λ size. slice_get (letters_of_width size) (bits_of letter) ≡ Some letter) width (stands letter) in
         let row = get_or-map value letters (bits_of letter) letter 0 (some_below letters (bits_of letter) letter there) ∙ ap value (get_or_from_slice_get letters (bits_of letter) letter letter there) in
-        leaf_of_child (leaves_of letter nodes) next
-        ∙ ap (λ leaves. state_at leaves next) (ap (leaves_of letter) read.nodes_are ∙ same_leaves file.names letter file.node_lines)
+        ap (λ leaves. state_at leaves next) (ap (leaves_of letter) read.nodes_are ∙ same_leaves file.names letter file.node_lines)
         ∙ sym row
         ∙ sym (ap (λ (one : TableState). get_or one.row (bits_of letter) 0) (state_there file rows state d lines below))

@@ -29,18 +29,21 @@ fn texts(alloc: Global, names: &[&[u8]]) -> Result<Vec<Text>, AllocError>
     Ok(texts)
 }
 
+// What the line of a state says.
+fn row_of(line: &StateLine) -> Row
+    ensures { result ≡ row_of line.now }
+{
+    Row {
+        accepting: line.accepting,
+        next: line.row,
+    }
+}
+
 // What the lines of states say.
 fn rows(alloc: Global, lines: &[StateLine]) -> Result<Vec<Row>, AllocError>
     ensures { IfOk result (λ rows. rows.items ≡ map row_of lines.now) }
 {
-    let mut rows = Vec::new(alloc);
-    for line in lines {
-        rows.push(Row {
-            accepting: line.accepting,
-            next: line.row,
-        })?;
-    }
-    Ok(rows)
+    lines.iter().map(row_of).collect(alloc)
 }
 
 // How a line spells an access word.
@@ -90,19 +93,22 @@ fn suffix_words(alloc: Global, lines: &[SuffixLine]) -> Result<Vec<Suffix>, Allo
     Ok(words)
 }
 
+// What the line of a step says.
+fn count_of(line: &StepLine) -> Count
+    ensures { result ≡ count_of line.now }
+{
+    Count {
+        at: line.at,
+        states: line.states,
+        nodes: line.nodes,
+    }
+}
+
 // What the lines of steps say.
 fn counts(alloc: Global, lines: &[StepLine]) -> Result<Vec<Count>, AllocError>
     ensures { IfOk result (λ counts. counts.items ≡ map count_of lines.now) }
 {
-    let mut counts = Vec::new(alloc);
-    for line in lines {
-        counts.push(Count {
-            at: line.at,
-            states: line.states,
-            nodes: line.nodes,
-        })?;
-    }
-    Ok(counts)
+    lines.iter().map(count_of).collect(alloc)
 }
 
 // What the step part says, if there is one.

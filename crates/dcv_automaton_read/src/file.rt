@@ -30,10 +30,15 @@ pub struct Row {
 /// What the text of an automaton says, where it keeps the table rules. It is seen as the plain data of the text.
 #[derive(Drop)]
 pub struct AutoFile {
+    // the variables, in their order
     names: Vec<Text>,
+    // the nodes by their numbers, each once
     nodes: IndexSet<Node>,
+    // the states by their numbers
     rows: Vec<Row>,
+    // how the access word of each state is spelled
     access: Vec<Access>,
+    // how each suffix is spelled
     suffixes: Vec<Suffix>,
     // What the steps took, which a text of version 1 does not say.
     steps: Option<Vec<Count>>,

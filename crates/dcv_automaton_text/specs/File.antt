@@ -1,6 +1,5 @@
 -- The text of an automaton as plain data: what its lines say, in order. Here numbers may be any and stand in any order, and there may be
 -- any number of lines of each kind; the table rules judge them.
---     Target           what comes next in a row: a state or a node, by its number
 --     NodeLine         a node: its number, its variable's name, and what comes next where that is true and where it is false
 --     StateLine        a state: its number, whether it accepts, and its row
 --     AccessLine       how the access word of a state is spelled
@@ -9,23 +8,20 @@
 --     StepPart         how many steps there are, and the line of each
 --     AutomatonFile    the variables, the number of states, the lines of each kind, and the step part, if there is one
 use Rattle.std.specs.Prelude.{ℕ, Bool, List, Option}
-
-pub data Target : Type 0 where
-  ToState : (number : ℕ) → Target
-  ToNode : (number : ℕ) → Target
+use Rattle.dcv_language.specs.declared.child.Child.{Child}
 
 pub record NodeLine : Type 0 where
   pub number : ℕ
   pub name : List ℕ
   -- where the variable is true
-  pub hi : Target
+  pub hi : Child
   -- where it is false
-  pub lo : Target
+  pub lo : Child
 
 pub record StateLine : Type 0 where
   pub number : ℕ
   pub accepting : Bool
-  pub row : Target
+  pub row : Child
 
 -- the empty word, a word of one letter, or the access word of a state and a letter more
 pub data Access : Type 0 where

@@ -19,7 +19,7 @@ use dcv_syntax::Name;
 
 const PARAMETERS: Listing<'static> = Listing {
     before: b"int v_",
-    behind: b"",
+    after: b"",
     between: b", ",
     none: b"void",
 };
@@ -40,7 +40,7 @@ const ROWS: RowLayout<'static> = RowLayout {
 
 const ACCEPTING: Listing<'static> = Listing {
     before: b"nx == ",
-    behind: b"",
+    after: b"",
     between: b" || ",
     none: b"0",
 };

@@ -42,24 +42,33 @@ pub enum Returned {
 /// `name = number;`, by the place of a static.
 #[derive(Clone, Copy, Debug, PartialEq, Eq)]
 pub struct Assignment {
+    /// The place of the static.
     pub name: u32,
+    /// What it is set to.
     pub number: u16,
 }
 
 /// The function that sets the statics.
 #[derive(Drop)]
 pub struct Reset {
+    /// The name of the function.
     pub name: Text,
+    /// The statics with their values, in the order of the text.
     pub assignments: Vec<Assignment>,
 }
 
 /// The function that makes a step. Its parameters are the values of the variables, as 0 and 1.
 #[derive(Drop)]
 pub struct Step {
+    /// The name of the function.
     pub name: Text,
+    /// One for each variable, in their order.
     pub parameters: Vec<Text>,
+    /// Names that keep nothing from one step to the next.
     pub locals: Vec<Text>,
+    /// What is done, in order.
     pub statements: Vec<Statement>,
+    /// What is answered in the end.
     pub returned: Returned,
 }
 
@@ -67,8 +76,11 @@ pub struct Step {
 /// step does depends on the statics and on the parameters alone.
 #[derive(Drop)]
 pub struct CUnit {
+    // names that keep their values from step to step
     statics: Vec<Text>,
+    // what sets the statics
     reset: Reset,
+    // what takes the values of an instant and answers
     step: Step,
 }
 

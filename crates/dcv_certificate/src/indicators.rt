@@ -17,7 +17,9 @@ use std::alloc::{AllocError, Global};
 #[derive(Drop)]
 pub(crate) struct Part<'a> {
     pub(crate) arena: &'a Arena,
+    // the states of the part
     states: IndexSet<u32>,
+    // the places of the nodes from which a state of the part can be reached
     above: &'a SparseSet,
 }
 

@@ -28,11 +28,17 @@ use std::alloc::{AllocError, Global};
 pub(crate) struct Partition<'a> {
     pub(crate) alloc: Global,
     pub(crate) vertices: &'a Vertices<'a>,
+    // the suffixes so far
     pub(crate) suffixes: Vec<Suffix>,
+    // the block of each state
     pub(crate) blocks: Vec<u32>,
+    // for each suffix the states that it took out of their blocks
     pub(crate) parts: Vec<Vec<u32>>,
+    // a number above those of all blocks
     pub(crate) count: usize,
+    // how many states each block has
     pub(crate) sizes: Vec<usize>,
+    // the states of each block
     pub(crate) members: Members,
 }
 

@@ -8,7 +8,9 @@ use std::marker::Model;
 /// accepts the same words (A. Nerode, 1958).
 #[derive(Drop)]
 pub struct Proof {
+    // how the access word of each state is spelled
     access: Vec<Access>,
+    // how each suffix is spelled
     suffixes: Vec<Suffix>,
 }
 

@@ -10,6 +10,7 @@ use std::alloc::{AllocError, Global};
 
 #[derive(Drop)]
 pub(crate) struct Tally {
+    // the states that were counted
     states: IndexSet<u32>,
     blocks: IndexMap<u32, (Ref, usize)>,
 }

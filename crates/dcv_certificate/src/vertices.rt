@@ -11,7 +11,9 @@ use std::alloc::{AllocError, Global};
 #[derive(Drop)]
 pub(crate) struct Vertices<'a> {
     pub(crate) arena: &'a Arena,
+    // the row of each state
     pub(crate) rows: Vec<Ref>,
+    // whether each state accepts
     pub(crate) flags: Vec<bool>,
 }
 

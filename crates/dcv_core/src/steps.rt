@@ -39,15 +39,20 @@ pub enum Operator {
 // An operator with its place and the number of slots over which it is judged.
 #[derive(Drop)]
 struct Step {
+    // what the step does to earlier ones
     operator: Operator,
+    // where it stands in the source
     span: Span,
+    // over how many slots it is judged
     slots: u8,
 }
 
 /// The core of a goal: how many variables are declared, and its steps, numbered from 0. The last is that of the whole.
 #[derive(Drop)]
 pub struct Core {
+    // how many variables are declared
     declared: u8,
+    // operands stand before their operators
     steps: Vec<Step>,
 }
 

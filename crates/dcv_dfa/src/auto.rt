@@ -23,7 +23,9 @@ use std::marker::Model;
 /// A start that no word leads to stands alone, and rejects.
 #[derive(Drop)]
 pub struct Auto {
+    // the least automaton, its states in the order of their least words
     raw: Raw,
+    // whether no word leads back to the start
     alone: bool,
 }
 

@@ -29,7 +29,9 @@ pub struct NodeLine {
 /// The nodes of an automaton's rows, in the order of their numbers, and the rows by these numbers.
 #[derive(Drop)]
 pub struct NodeLines {
+    // the nodes by their numbers
     lines: Vec<NodeLine>,
+    // the row of each state
     rows: Vec<Child>,
 }
 
@@ -90,7 +92,9 @@ impl Auto {
 // The places of nodes that have a number, in the order of these.
 #[derive(Drop)]
 struct Numbering<'a> {
+    // the nodes that are numbered
     arena: &'a Arena,
+    // the place of each node that has a number, in the order of the numbers
     places: IndexSet<u32>,
 }
 

@@ -12,9 +12,13 @@ use std::marker::Model;
 /// states.
 #[derive(Drop)]
 pub struct Raw {
+    // the nodes of the rows
     arena: Arena,
+    // for each state, by a letter, the state that comes next
     rows: Vec<Ref>,
+    // whether each state accepts
     accepting: Vec<bool>,
+    // the state before the first letter
     start: u32,
 }
 

@@ -29,7 +29,9 @@ pub enum Item {
 /// `if condition then item`.
 #[derive(Clone, Copy, Debug, PartialEq, Eq)]
 pub struct Arm {
+    /// When the arm is chosen.
     pub condition: Condition,
+    /// What it then gives.
     pub item: Item,
 }
 
@@ -47,14 +49,18 @@ pub enum Right {
 /// `left = right`, where `left` is the place of a name.
 #[derive(Drop)]
 pub struct Equation {
+    /// The place of the name that is defined.
     pub left: u32,
+    /// What defines it.
     pub right: Right,
 }
 
 /// A name that is neither an input nor the output, and what values it has.
 #[derive(Drop)]
 pub struct Local {
+    /// Its name.
     pub name: Text,
+    /// Whether it has truths or numbers.
     pub kind: Kind,
 }
 
@@ -62,9 +68,13 @@ pub struct Local {
 /// what is after `pre`; and each name is used for values of its own kind. So it has one trace over each word.
 #[derive(Drop)]
 pub struct Node {
+    // the name of the node
     name: Text,
+    // one for each variable, in their order
     inputs: Vec<Text>,
+    // the names that are neither inputs nor the output
     locals: Vec<Local>,
+    // one for each local and one for the output, in the order of the text
     equations: Vec<Equation>,
 }
 

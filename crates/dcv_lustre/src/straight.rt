@@ -23,7 +23,7 @@ use dcv_syntax::Name;
 
 const INPUTS: Listing<'static> = Listing {
     before: b"v_",
-    behind: b": bool",
+    after: b": bool",
     between: b"; ",
     none: b"tick: bool",
 };
@@ -44,7 +44,7 @@ const ROWS: RowLayout<'static> = RowLayout {
 
 const ACCEPTING: Listing<'static> = Listing {
     before: b"(nx = ",
-    behind: b")",
+    after: b")",
     between: b" or ",
     none: b"false",
 };

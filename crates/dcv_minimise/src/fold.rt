@@ -23,6 +23,7 @@ use std::alloc::{AllocError, Global};
 // The states that are kept: with their rows and flags they are the states 0, 1, 2, .. of the new automaton.
 #[derive(Drop)]
 struct Kept {
+    // the number that each had before
     states: Vec<u32>,
     // Whether the first of them is a start that stands alone.
     alone: bool,
@@ -31,7 +32,9 @@ struct Kept {
 // Rows, in an arena that has their nodes and no others.
 #[derive(Drop)]
 struct Rows {
+    // the nodes of the rows and no others
     arena: Arena,
+    // the row of each state that is kept
     rows: Vec<Ref>,
 }
 

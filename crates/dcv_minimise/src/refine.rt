@@ -61,8 +61,11 @@ fn divide_on(alloc: Global, raw: &Raw, partition: Partition) -> Result<Vec<u32>,
 // The blocks between two rounds, and the states that moved in the last one.
 #[derive(Drop)]
 struct Refining {
+    // the block of each state, and a state of each block
     partition: Partition,
+    // the states of each block
     members: Members,
+    // the states that moved in the last round
     moved: Vec<u32>,
     // What keys keep of places, one list for all rounds: so a round costs what it looks at, and not what the arena holds.
     places: Places,

@@ -50,8 +50,11 @@ pub fn automaton_text(
 // An automaton with the lines of its nodes beside it, in a list.
 #[derive(Drop)]
 pub(crate) struct Lined<'a> {
+    // the automaton
     pub(crate) auto: &'a Auto,
+    // its variables
     pub(crate) names: &'a [Name],
+    // the nodes of its rows by their numbers
     pub(crate) nodes: NodeLines,
 }
 
@@ -78,8 +81,11 @@ impl<'a> Lined<'a> {
 // An automaton with what all its lines say beside it, in lists.
 #[derive(Drop)]
 pub(crate) struct Listed<'a> {
+    // the automaton with its nodes
     pub(crate) lined: Lined<'a>,
+    // the words that show that it has the fewest states
     pub(crate) proof: Proof,
+    // what each step took
     pub(crate) counts: &'a [Count],
 }
 

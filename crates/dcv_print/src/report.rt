@@ -119,7 +119,9 @@ fn put_observers<T: Target>(target: &mut T, lined: &Lined<'_>)
 /// It is made whole before a byte is written, so that memory cannot run out half-way.
 #[derive(Drop)]
 pub struct Report<'a> {
+    // what is said first
     verdict: Verdict,
+    // what is asked for
     content: Content<'a>,
 }
 

@@ -13,7 +13,9 @@ use std::alloc::{AllocError, Global};
 /// The shortlex-least behaviour that is not in a set of behaviours, and the least that is, where there are such.
 #[derive(Drop)]
 pub struct Verdict {
+    /// The least behaviour that is not in the set.
     pub counterexample: Option<Word>,
+    /// The least that is.
     pub example: Option<Word>,
 }
 

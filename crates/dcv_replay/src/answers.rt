@@ -13,7 +13,9 @@ const BLOCK: usize = 4096;
 /// The lines of answers that have not been written.
 #[derive(Drop)]
 pub(crate) struct Answers {
+    // a line of two bytes for each answer
     bytes: [u8; BLOCK],
+    // how many bytes there are
     filled: usize,
 }
 

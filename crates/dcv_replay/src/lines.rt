@@ -18,9 +18,13 @@ const LONGEST: usize = 34;
 /// What has come of a trace.
 #[derive(Drop)]
 pub(crate) struct Lines {
+    // how many variables each line is to have
     width: u8,
+    // the line so far
     bytes: [u8; LONGEST],
+    // how many bytes of it there are
     filled: usize,
+    // how many lines came before it
     count: u32,
 }
 

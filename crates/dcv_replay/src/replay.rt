@@ -15,20 +15,30 @@ use std::marker::Model;
 // and else that of `otherwise`.
 #[derive(Clone, Copy)]
 pub(crate) struct Select {
+    // the slot that is written
     pub(crate) target: u32,
+    // the slot that is compared
     pub(crate) tested: u32,
+    // what it is compared with
     pub(crate) number: u32,
+    // the slot that is copied if they are equal
     pub(crate) when_equal: u32,
+    // the slot that is copied if they are not
     pub(crate) otherwise: u32,
 }
 
 /// An observer, and what it keeps of the letters so far.
 #[derive(Drop)]
 pub struct Replay {
+    // how many variables a letter has
     width: u8,
+    // the slot of the first input
     inputs: u32,
+    // what an instant does, in order
     selects: Vec<Select>,
+    // the slot that has the answer after it
     answer: u32,
+    // the numbers of all slots
     store: Vec<u32>,
 }
 

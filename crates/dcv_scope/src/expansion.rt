@@ -52,7 +52,9 @@ impl Meaning<'_> {
 
 #[derive(Clone, Copy, Drop)]
 struct Binding<'a> {
+    // the name
     name: &'a Name,
+    // the slot, or the argument, that it stands for
     meaning: Meaning<'a>,
 }
 
@@ -64,6 +66,7 @@ struct Sight<'a> {
     slots: u8,
     // Declared variables, parameters and quantified names, the newest first.
     names: Vec<Binding<'a>>,
+    // the declared variables
     variables: &'a [Name],
     // The macros before this one, in order, with their measures, and the places to which relays hand on.
     macros: &'a [Macro],
@@ -74,11 +77,17 @@ struct Sight<'a> {
 // A macro that is called, and what its body sees: the declared variables and the macros before it.
 #[derive(Drop)]
 struct Called<'a> {
+    // the macro
     defined: &'a Macro,
+    // its measure
     measure: &'a MacroMeasure,
+    // the declared variables
     variables: &'a [Name],
+    // the macros before it
     macros: &'a [Macro],
+    // the measures of these
     measures: &'a [MacroMeasure],
+    // the places to which these hand on, if they are relays
     relays: &'a [Option<usize>],
 }
 

@@ -24,8 +24,11 @@ use std::alloc::{AllocError, Global};
 /// greatest of its type.
 #[derive(Clone, Copy)]
 pub(crate) struct Measure {
+    // how many nodes there are
     pub(crate) size: u32,
+    // how many of them stand one below another
     pub(crate) depth: u32,
+    // how many quantifiers stand one inside another
     pub(crate) quantifiers: u32,
 }
 
@@ -77,8 +80,11 @@ impl Measure {
 /// How often a macro's expansion has an argument, and how deep below the root its deepest use is, in nodes and in quantifiers.
 #[derive(Clone, Copy)]
 pub(crate) struct Share {
+    // how often the argument is used
     uses: u32,
+    // how many nodes stand above its deepest use
     depth: u32,
+    // how many quantifiers stand around its uses at most
     quantifiers: u32,
 }
 
@@ -130,7 +136,9 @@ impl Share {
 /// Sizes add up, and depths go by the greatest.
 #[derive(Clone, Copy)]
 pub(crate) struct MacroMeasure {
+    // of the body without its arguments
     own: Measure,
+    // for each parameter what an argument adds
     shares: [Option<Share>; MOST_PARAMETERS],
 }
 

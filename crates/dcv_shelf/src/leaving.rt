@@ -14,7 +14,9 @@ use std::alloc::{AllocError, Global};
 // Rows, in an arena that has their nodes and no others.
 #[derive(Drop)]
 struct Rows {
+    // the nodes of the rows and no others
     arena: Arena,
+    // the row of each state
     rows: Vec<Ref>,
 }
 
@@ -72,9 +74,5 @@ fn numbers_below(alloc: Global, count: u32) -> Result<Vec<u32>, AllocError>
 fn flags_of(alloc: Global, states: &[State]) -> Result<Vec<bool>, AllocError>
     ensures { IfOk result (λ flags. flags.items ≡ map (λ (state : AnyState). state.accepting) states.now) }
 {
-    let mut flags = Vec::new(alloc);
-    for state in states {
-        flags.push(state.accepting)?;
-    }
-    Ok(flags)
+    states.iter().map(|state| state.accepting).collect(alloc)
 }

@@ -18,7 +18,7 @@ use std::marker::Model;
 // How many nodes the arena of a shelf may have.
 const MOST_NODES: u32 = 1_073_741_824;
 
-// How many tables a shelf may have.
+// At so many tables a new one is refused, as if memory had run out. No build comes near it.
 const MOST_TABLES: usize = 1_000_000_000;
 
 /// Canonical automata in one arena, each with a number. Two have one number exactly where their tables and their widths are the same.
@@ -27,7 +27,9 @@ const MOST_TABLES: usize = 1_000_000_000;
 #[derive(Drop)]
 pub struct Shelf {
     alloc: Global,
+    // the nodes of all automata
     arena: Arena,
+    // the automata by their numbers, each once
     tables: IndexSet<Stored>,
 }
 

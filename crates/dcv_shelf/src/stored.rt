@@ -15,7 +15,9 @@ use std::alloc::{AllocError, Global};
 // Whether a state accepts, and its row.
 #[derive(Clone, Copy, Debug, PartialEq, Eq, Hash)]
 pub(crate) struct State {
+    // whether it accepts
     pub(crate) accepting: bool,
+    // where its row begins in the shelf's arena
     pub(crate) row: Ref,
 }
 
@@ -27,6 +29,7 @@ pub(crate) struct Stored {
     pub(crate) alone: bool,
     // How many nodes the rows have together.
     pub(crate) nodes: u32,
+    // the states by their numbers
     pub(crate) states: Vec<State>,
 }
 

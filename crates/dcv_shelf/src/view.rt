@@ -14,7 +14,9 @@ use std::marker::Model;
 /// depend on its own slots alone.
 #[derive(Drop)]
 pub struct View<'a> {
+    // the arena of the shelf
     arena: &'a Arena,
+    // the automaton there
     stored: &'a Stored,
 }
 

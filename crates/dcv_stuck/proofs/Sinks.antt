@@ -67,18 +67,6 @@ module _ (raw : RawValue) (is : IsRaw raw) (numbers : List ℕ) (from : ArenaVal
       ∙ get_or-map-range_with_len (number_in raw) 0 (length raw.rows) next next 0 (leads letter width) (omega arith)
       ∙ ap (λ state. number_in raw (next_in raw state letter)) is_place
 
--- ---- whose rows are the sink's
-
-pub one_more_flag : (sink : Ref) (rows : List Ref) (flags : List Bool) (flag : Bool) → LeadTo sink rows flags → (flag ≡ true) ↔ (get_or rows (length flags) (Leaf 0) ≡ sink)
-    → LeadTo sink rows (flags ++ flag ∷ [])
-one_more_flag sink rows flags flag lead tells place within = elim (cases_lt place (length flags)) [
-  | inl earlier ↦ subst (λ one. (one ≡ true) ↔ (get_or rows place (Leaf 0) ≡ sink)) (sym (get_or_append_left flags (flag ∷ []) false place earlier)) (lead place earlier)
-  | inr last ↦
-      let here : length flags ≡ place = omega (arith, length_push flags flag) in
-      subst (λ one. (one ≡ true) ↔ (get_or rows place (Leaf 0) ≡ sink)) (sym (get_or_push flags flag false place here))
-      (subst (λ place. (flag ≡ true) ↔ (get_or rows place (Leaf 0) ≡ sink)) here tells)
-]
-
 -- ---- the automaton with the sink
 
 abbrev pub made : RawValue → ArenaValue → List Ref → List Bool → RawValue

@@ -12,7 +12,9 @@ use std::alloc::{AllocError, Global};
 // Rows with their arena.
 #[derive(Drop)]
 struct Rows {
+    // the nodes of the rows
     arena: Arena,
+    // the row of each state
     rows: Vec<Ref>,
 }
 
@@ -82,9 +84,5 @@ fn lead_to(alloc: Global, rows: &[Ref], sink: Ref) -> Result<Vec<bool>, AllocErr
     ensures flags { IfOk result (λ flags. LeadTo sink rows.now flags.items) }
     ensures count { IfOk result (λ flags. length flags.items ≡ length rows.now) }
 {
-    let mut flags = Vec::new(alloc);
-    for row in rows {
-        flags.push(*row == sink)?;
-    }
-    Ok(flags)
+    rows.iter().map(|row| *row == sink).collect(alloc)
 }

@@ -11,7 +11,9 @@ use std::alloc::{AllocError, Global};
 // The least values of the slots from a ref on, and the state to which they lead.
 #[derive(Clone, Copy)]
 pub(crate) struct Answer {
+    // the outputs as a number
     pub(crate) output: u32,
+    // the state that comes next
     pub(crate) next: u32,
 }
 

@@ -9,7 +9,9 @@ use std::marker::Model;
 /// Functions of the inputs, as diagrams in one arena.
 #[derive(Drop)]
 pub struct Rows {
+    // the nodes of the rows
     arena: Arena,
+    // a function of the inputs for each state
     rows: Vec<Ref>,
 }
 
@@ -60,8 +62,11 @@ impl Rows {
 /// A controller of least outputs. It begins in state 0, and its states are those of the automaton from which it never loses.
 #[derive(Drop)]
 pub struct Control {
+    // the states of the automaton that the controller keeps to
     states: Vec<u32>,
+    // the state that comes next
     next: Rows,
+    // the outputs as a number
     output: Rows,
 }
 

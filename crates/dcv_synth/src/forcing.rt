@@ -17,6 +17,7 @@ use std::alloc::{AllocError, Global};
 #[derive(Drop)]
 pub(crate) struct Forcing<'a> {
     arena: &'a Arena,
+    // how many of the first variables are inputs
     inputs: u8,
     // For each state whether it is lost.
     lost: Vec<bool>,

@@ -18,7 +18,9 @@ use std::alloc::{AllocError, Global};
 // The rank of a state, and its move.
 #[derive(Clone, Copy)]
 pub(crate) struct Ranked {
+    // within how many instants the environment can force a fault
     pub(crate) rank: u32,
+    // what it gives first
     pub(crate) input: Letter,
 }
 

@@ -151,8 +151,11 @@ fn child_item(first: u32, child: Child) -> Item
 // A state with its rows.
 #[derive(Clone, Copy)]
 struct StateRow {
+    // the state
     state: u32,
+    // the state that comes next
     next: Child,
+    // the outputs
     output: Child,
 }
 

@@ -18,7 +18,9 @@ use std::alloc::{AllocError, Global};
 #[derive(Drop)]
 struct Placing<'a> {
     alloc: Global,
+    // how many variables are declared
     declared: u8,
+    // the shifts that have a slot, in the order of their slots
     shifts: &'a [Shift<'a>],
 }
 

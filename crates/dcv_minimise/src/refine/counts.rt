@@ -7,7 +7,9 @@ use std::alloc::{AllocError, Global};
 // How many each block has, by its number, and the blocks that have some. One is kept for all rounds.
 #[derive(Drop)]
 pub(crate) struct Counts {
+    // how many each block has, by its number
     counts: Vec<u32>,
+    // the blocks that have some
     blocks: Vec<u32>,
 }
 

@@ -18,23 +18,31 @@ use std::alloc::{AllocError, Global};
 // A state gets a number.
 #[derive(Clone, Copy)]
 pub(crate) struct Move {
+    // the state that moves
     pub(crate) state: u32,
+    // its new block
     pub(crate) number: u32,
 }
 
 // The states of a block with one key.
 #[derive(Clone, Copy, Debug, PartialEq, Eq, Hash)]
 pub(crate) struct Part {
+    // the block that falls apart
     pub(crate) block: u32,
+    // what the rows of the part become by the blocks of the round
     pub(crate) key: Ref,
 }
 
 // The division so far. The parts have the numbers from `count` on.
 #[derive(Drop)]
 struct Division<'a> {
+    // how many blocks there were before
     count: usize,
+    // what makes a row into its key
     keys: Keys<'a>,
+    // the parts so far, in the order of their numbers
     parts: IndexSet<Part>,
+    // the states that get a new block
     moves: Vec<Move>,
 }
 

@@ -24,15 +24,20 @@ const MIXER: u64 = 15_485_907_386_658_061_715;
 // What the states of a new block have in common: their block, and the hash of their rows.
 #[derive(Clone, Copy, Debug, PartialEq, Eq, Hash)]
 pub(crate) struct Alike {
+    // the block of the states
     pub(crate) block: u32,
+    // the hash of their rows by the blocks so far
     pub(crate) hash: u64,
 }
 
 // New blocks of the states so far: what each has in common, which one each state has, and the first state of each.
 #[derive(Drop)]
 struct NewBlocks {
+    // what the states of each new block have in common
     parts: IndexSet<Alike>,
+    // the new block of each state
     blocks: Vec<u32>,
+    // the first state of each new block
     witness: Vec<u32>,
 }
 

@@ -13,14 +13,18 @@ use std::alloc::{AllocError, Global};
 // A state beside its key.
 #[derive(Clone, Copy)]
 pub(crate) struct Keyed {
+    // the state
     pub(crate) state: u32,
+    // what its row becomes by the blocks
     pub(crate) key: Ref,
 }
 
 // Each node of the rows is gone through once, however many states are asked for.
 #[derive(Drop)]
 pub(crate) struct Keys<'a> {
+    // from the rows' arena, by the blocks of the states
     pub(crate) remapping: Remapping<'a>,
+    // the nodes of the keys
     pub(crate) scratch: Arena,
 }
 

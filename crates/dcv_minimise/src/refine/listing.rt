@@ -14,7 +14,9 @@ use std::alloc::{AllocError, Global};
 // The states that a round compares with the witnesses, and the blocks of which these are all. One is kept for all rounds.
 #[derive(Drop)]
 pub(crate) struct Listed {
+    // the states that are compared
     pub(crate) states: Vec<u32>,
+    // the blocks of which all states are compared
     pub(crate) full: SparseSet,
 }
 

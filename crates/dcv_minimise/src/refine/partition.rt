@@ -15,7 +15,9 @@ use std::mem;
 
 #[derive(Drop)]
 pub(crate) struct Partition {
+    // the block of each state
     pub(crate) blocks: Vec<u32>,
+    // a state of each block, which stands for it
     pub(crate) witness: Vec<u32>,
 }
 

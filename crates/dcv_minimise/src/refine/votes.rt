@@ -14,7 +14,9 @@ use std::alloc::{AllocError, Global};
 // What the votes of a block have come to: the key that leads, and by how many votes.
 #[derive(Clone, Copy)]
 struct Ballot {
+    // the key that leads
     key: Ref,
+    // by how many votes it leads
     votes: u32,
 }
 

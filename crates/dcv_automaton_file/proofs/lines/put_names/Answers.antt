@@ -23,8 +23,8 @@ returns g c =
     let first = c.in-Some.first.now in
     let others = c.in-Some.others.now in
     let split : c.args.names.now ≡ first ∷ others = grind (arith, common_steps) in
-    let behind = λ (text : List ℕ). listing.between.now ++ one_listed listing text in
+    let after = λ (text : List ℕ). listing.between.now ++ one_listed listing text in
     puts_same _ _ _ _ (puts_both _ _ _ _ _ (puts_same _ _ _ _ c.put_one.ensures (ap (one_listed listing) c.as_bytes.ensures)) c.loop-name.invariant)
-    (ap (λ names. one_listed listing first.text ++ flat_map (λ (name : Name). behind name.text) names) (take_all c.loop-name.name-index others c.loop-name-test.false)
-    ∙ ap (λ more. one_listed listing first.text ++ more) (sym (flat_map-map behind (λ (name : Name). name.text) others))
+    (ap (λ names. one_listed listing first.text ++ flat_map (λ (name : Name). after name.text) names) (take_all c.loop-name.name-index others c.loop-name-test.false)
+    ∙ ap (λ more. one_listed listing first.text ++ more) (sym (flat_map-map after (λ (name : Name). name.text) others))
     ∙ ap (λ (names : List Name). listed listing (texts_of names)) (sym split))

@@ -7,4 +7,4 @@ use Rattle.dcv_automaton_file.proofs.lines.put_numbers.Given as goal
 -- the numbers so far are put
 abbrev pub invariant-loop-number : goal.invariant-loop-number
 invariant-loop-number g l =
-    Puts (g.T.Target.standing l.fn.target) (g.T.Target.standing l.target) (flat_map (λ number. l.before ++ (decimal number ++ l.behind)) (range_with_len 0 l.number))
+    Puts (g.T.Target.standing l.fn.target) (g.T.Target.standing l.target) (flat_map (λ number. l.before ++ (decimal number ++ l.after)) (range_with_len 0 l.number))
