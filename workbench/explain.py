@@ -95,6 +95,8 @@ class Explainer:
         for line in output.splitlines():
             lines += [said.format(*match.groups()) for pattern, said in SENTENCES for match in [re.fullmatch(pattern, line)] if match]
         for kind, word in words.items():
+            if not word:
+                continue
             does = DOES["outside" if compared else kind]
             lines += ["", heading(f"A shortest behaviour that {does}", word), *self.drawn(self.question.variables(), word)]
         return lines

@@ -406,6 +406,19 @@ class Check:
         text = "does not imply\n" + self.report("counterexample", word) if word else "implies\n"
         self.answered("implies", int(bool(word)), text, other.text)
 
+    def stuck(self):
+        """A shortest word that keeps to the requirement and that no letter continues, by a search over the states that accept."""
+        words, todo = {None: []}, [None]
+        for state in todo:
+            row = self.rows[self.automaton.start if state is None else state]
+            further = {it: letter for it, letter in ends_of(row).items() if self.accept[it]}
+            if not further:
+                return self.answered("stuck", 1, self.report("stuck", words[state]) or "stuck 0\n")
+            new = {it: words[state] + [letter] for it, letter in further.items() if it not in words}
+            words.update(new)
+            todo += new
+        self.answered("stuck", 0, "never stuck\n")
+
     def observers(self):
         status = int(not all(self.accept[it] for it in self.automaton.came))
         returned = " || ".join(f"nx == {it}" for it in self.rows if self.accept[it]) or "0"
@@ -455,6 +468,7 @@ def add_arguments(parser):
     parser.add_argument("file", metavar="FILE")
     parser.add_argument("other", metavar="FILE", nargs="?", help="with --implies the second formula")
     parser.add_argument("--implies", action="store_true", help="checks the answer of implies too, to both files")
+    parser.add_argument("--stuck", action="store_true", help="checks the answer of stuck too")
     parser.add_argument("--observer", action="store_true", help="checks both observers too")
     parser.add_argument("--inputs", type=int, metavar="N", help="checks the answer of synth too, with so many inputs")
 
@@ -489,6 +503,9 @@ def verified(options, ask):
     if options.implies:
         checks[0].implies(checks[1])
         yield "the answer to implies"
+    if options.stuck:
+        checks[0].stuck()
+        yield "the answer to stuck"
     if options.observer:
         checks[0].observers()
         yield from (f"the observer in {language}, in all its states and for all letters" for language in ("C", "Lustre"))

@@ -398,6 +398,16 @@ class Planted(unittest.TestCase):
             checks[0].ask = Changed("implies", texts[0], output)
             self.assertRaises(verify.Wrong, checks[0].implies, checks[1])
 
+    def test_stuck(self):
+        for goal, found in (("slen <= 1", "stuck 2\n0\n0\n"), ("false", "stuck 0\n"), ("<p> ^ true", "never stuck\n")):
+            text = f"var p; infer {goal};"
+            check = checked(text)
+            check.stuck()
+            for status, output in ((0, "never stuck\n"), (1, "stuck 0\n"), (1, "stuck 2\n0\n0\n"), (1, "stuck 2\n0\n1\n"), (1, "stuck 1\n0\n")):
+                if output != found:
+                    check.ask = Changed("stuck", text, output, status)
+                    self.assertRaises(verify.Wrong, check.stuck)
+
     def test_observers(self):
         """Each number, one higher; each line left out, or twice; names that are taken, not declared or of another kind."""
         text = "var p, q; infer [p] ^ <q> || slen = 2;"
