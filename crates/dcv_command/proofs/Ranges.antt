@@ -79,8 +79,11 @@ each_is_fine = (
               (
                 λ first _ second _ states some nodes few. limits_are_fine states nodes some few,
                 (
-                  λ file _ inputs small states some nodes few. record { few_inputs = small.1; within = limits_are_fine states nodes some few },
-                  (λ observer _ trace _. tt, (λ observer _ trace _. tt, (λ seed small count some. record { small = small.1; some = some.0; few = some.1 }, tt))),
+                  λ file _ states some nodes few. limits_are_fine states nodes some few,
+                  (
+                    λ file _ inputs small states some nodes few. record { few_inputs = small.1; within = limits_are_fine states nodes some few },
+                    (λ observer _ trace _. tt, (λ observer _ trace _. tt, (λ seed small count some. record { small = small.1; some = some.0; few = some.1 }, tt))),
+                  ),
                 ),
               ),
             ),

@@ -19,13 +19,14 @@ use Rattle.dcv_command.specs.Program.{program}
 use Rattle.dcv_command.specs.Table.{Argument, Asks, Command, Of, Value, FileName, Number, commands}
 use Rattle.dcv_language.specs.Limits.{most_states, most_nodes}
 use Rattle.dcv_command.specs.Table.{most_inputs, most_seed, most_count}
-pub use Rattle.dcv_command.specs.Table.{Request, Report, Certify, Convert, Implies, Synth, Replay, Sweep}
+pub use Rattle.dcv_command.specs.Table.{Request, Report, Certify, Convert, Implies, Stuck, Synth, Replay, Sweep}
 
 abbrev pub files_of : Request → List (List ℕ)
 files_of (Report kind name limits) = name ∷ []
 files_of (Certify name) = name ∷ []
 files_of (Convert name to) = name ∷ []
 files_of (Implies first second limits) = first ∷ second ∷ []
+files_of (Stuck name limits) = name ∷ []
 files_of (Synth name inputs limits) = name ∷ []
 files_of (Replay subset observer trace) = observer ∷ trace ∷ []
 files_of (Sweep seed count) = []
@@ -50,6 +51,7 @@ IsInRange (Report kind name limits) = AreInRange limits
 IsInRange (Certify name) = Unit {0}
 IsInRange (Convert name to) = Unit {0}
 IsInRange (Implies first second limits) = AreInRange limits
+IsInRange (Stuck name limits) = AreInRange limits
 IsInRange (Synth name inputs limits) = AreInputsInRange inputs limits
 IsInRange (Replay subset observer trace) = Unit {0}
 IsInRange (Sweep seed count) = CanBeDrawn seed count

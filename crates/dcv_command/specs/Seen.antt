@@ -11,11 +11,11 @@ use Rattle.dcv_command.specs.declared.program.Form.TheVariants.{Operand as CodeO
 use Rattle.dcv_command.specs.declared.program.Value.{Value as CodeValue}
 use Rattle.dcv_command.specs.declared.program.Value.TheVariants.{FileName as CodeFileName, Number as CodeNumber}
 use Rattle.dcv_command.specs.declared.words.Request.{Request as CodeRequest}
-use Rattle.dcv_command.specs.declared.words.Request.TheVariants.{Report as CodeReport, Certify as CodeCertify, Convert as CodeConvert, Implies as CodeImplies, Synth as CodeSynth, Replay as CodeReplay, Sweep as CodeSweep}
+use Rattle.dcv_command.specs.declared.words.Request.TheVariants.{Report as CodeReport, Certify as CodeCertify, Convert as CodeConvert, Implies as CodeImplies, Stuck as CodeStuck, Synth as CodeSynth, Replay as CodeReplay, Sweep as CodeSweep}
 use Rattle.dcv_command.specs.declared.words.WordsFault.{WordsFault}
 use Rattle.dcv_command.specs.declared.words.WordsFault.TheVariants.{Usage, Memory}
 use Rattle.dcv_command.specs.Program.{shape_of}
-use Rattle.dcv_command.specs.Table.{Argument, Form, Operand, Required, WithDefault, Value, FileName, Number, Request, Report, Certify, Convert, Implies, Synth, Replay, Sweep}
+use Rattle.dcv_command.specs.Table.{Argument, Form, Operand, Required, WithDefault, Value, FileName, Number, Request, Report, Certify, Convert, Implies, Stuck, Synth, Replay, Sweep}
 
 abbrev pub form_seen : CodeForm → Form
 form_seen CodeOperand = Operand
@@ -37,6 +37,7 @@ asked_by (CodeReport kind file limits) = Report kind file.now limits
 asked_by (CodeCertify automaton) = Certify automaton.now
 asked_by (CodeConvert automaton to) = Convert automaton.now to
 asked_by (CodeImplies first second limits) = Implies first.now second.now limits
+asked_by (CodeStuck file limits) = Stuck file.now limits
 asked_by (CodeSynth file inputs limits) = Synth file.now inputs limits
 asked_by (CodeReplay subset observer trace) = Replay subset observer.now trace.now
 asked_by (CodeSweep seed count) = Sweep seed count

@@ -32,6 +32,8 @@ pub data Request : Type 0 where
   Convert : (name : List ℕ) → (to : Version) → Request
   -- whether the formula in the first file implies that in the second
   Implies : (first second : List ℕ) → (limits : Limits) → Request
+  -- whether what has kept to the formula in the file so far can always go on
+  Stuck : (name : List ℕ) → (limits : Limits) → Request
   -- a controller for the formula in the file, of which so many variables, the first, are inputs
   Synth : (name : List ℕ) → (inputs : ℕ) → (limits : Limits) → Request
   -- what the observer in the first file, a text of this subset, answers at each instant of the trace in the second
@@ -132,6 +134,13 @@ implies = record {
   asks = λ first second states nodes. Implies first second (limits_of states nodes);
 }
 
+abbrev pub stuck : Command
+stuck = record {
+  name = codes "stuck";
+  arguments = file (codes "file") ∷ states ∷ nodes ∷ [];
+  asks = λ file states nodes. Stuck file (limits_of states nodes);
+}
+
 abbrev pub synth : Command
 synth = record {
   name = codes "synth";
@@ -156,5 +165,5 @@ sweep = record {
 
 abbrev pub commands : List Command
 commands =
-    report Check ∷ report Automaton ∷ report Lustre ∷ report C ∷ report All ∷ certify ∷ convert ∷ implies ∷ synth ∷ replay LustreText ∷ replay CText ∷ sweep
-    ∷ []
+    report Check ∷ report Automaton ∷ report Lustre ∷ report C ∷ report All ∷ certify ∷ convert ∷ implies ∷ stuck ∷ synth ∷ replay LustreText
+    ∷ replay CText ∷ sweep ∷ []

@@ -13,7 +13,8 @@ use std::alloc::{AllocError, Global};
 const ABOUT: &str =
     "Decides whether a requirement about stretches of time, a formula of Quantified Discrete-time Duration Calculus, always holds. \
 Shows a shortest behaviour that breaks it, or the minimal automaton of the behaviours that satisfy it, or an observer of these. \
-Tells whether one requirement implies another, and whether an automaton's text shows by its own words that it is minimal. \
+Tells whether one requirement implies another, whether what has kept to a requirement so far can always go on, and whether an \
+automaton's text shows by its own words that it is minimal. \
 Writes such a text in another version. \
 Makes a controller that keeps to a requirement whatever its inputs are, or shows how the inputs beat every controller. \
 Replays traces through observers. Counts what holds of formulas that are drawn.";
@@ -25,6 +26,7 @@ const EXAMPLE_AND_STATUS: &str =
   dcvalid certify door.auto
   dcvalid convert door.auto --to 1 > door.auto1
   dcvalid implies door.dc other.dc
+  dcvalid stuck door.dc
   dcvalid synth door.dc --inputs 0 | tail -n +2 > controller.c
   dcvalid c door.dc > door.c
   dcvalid replay-c door.c door.trace
@@ -34,8 +36,10 @@ The report is on standard output, and the line of a fault on standard error. /de
 
 Status:
   0  each behaviour satisfies the formula; the automaton is shown to be minimal; A implies B; there is a controller;
-     the automaton's text was converted; the trace was read to its end; the drawn formulas are counted
-  1  some behaviour does not; the automaton is not shown to be minimal; A does not imply B; there is no controller
+     the automaton's text was converted; the trace was read to its end; the drawn formulas are counted;
+     what has kept to the formula so far can always go on
+  1  some behaviour does not; the automaton is not shown to be minimal; A does not imply B; there is no controller;
+     some behaviour that has kept to the formula so far cannot go on
   2  the words are no command, or ask for help
   3  a file holds no formula, for the fault that is named, at its offset in bytes; A and B declare different variables;
      there are fewer variables than inputs, or more than 8 outputs
@@ -144,7 +148,7 @@ const OVER_A_TRACE: [Argument<'static>; 2] = [
     ),
 ];
 
-static COMMANDS: [Entry<'static>; 12] = [
+static COMMANDS: [Entry<'static>; 13] = [
     Entry {
         name: "check",
         about: "Writes the verdict, with a shortest counterexample and a shortest example",
@@ -214,6 +218,12 @@ nodes it had, and version 1 does not",
             STATES,
             NODES,
         ],
+    },
+    Entry {
+        name: "stuck",
+        about: "Tells whether a system that has kept to the formula at each instant so far can always go on, with a shortest behaviour after \
+which it cannot",
+        arguments: &OVER_A_FORMULA,
     },
     Entry {
         name: "synth",

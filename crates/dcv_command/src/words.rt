@@ -4,7 +4,7 @@ ghost use Rattle.clap.specs.Words.{fault_of, first_of, found_of, rows_of, subcom
 ghost use Rattle.dcv_command.specs.Program.{program as the_program};
 ghost use Rattle.dcv_command.specs.Request.{IsInRange, IsTaken, request_of, request_of_subcommand, number_in as number_in_rows};
 ghost use Rattle.dcv_command.specs.Request.{asked_of, request_in as request_among};
-ghost use Rattle.dcv_command.specs.Table.{report, certify, convert, implies, synth, replay, sweep, version_numbered as the_version};
+ghost use Rattle.dcv_command.specs.Table.{report, certify, convert, implies, stuck, synth, replay, sweep, version_numbered as the_version};
 ghost use Rattle.dcv_command.specs.declared.words.WordsFault.TheVariants.{Memory};
 ghost use Rattle.dcv_command.specs.Seen.{asked_by, IsUsageOnlyWhere};
 
@@ -39,6 +39,11 @@ pub enum Request<'a> {
     Implies {
         first: &'a str,
         second: &'a str,
+        limits: Limits,
+    },
+    /// Whether what has kept to the formula in the file of this name so far can always go on, where no step exceeds the limits.
+    Stuck {
+        file: &'a str,
         limits: Limits,
     },
     /// A controller for the formula in the file of this name, of which so many variables, the first, are inputs and the others outputs.
@@ -142,6 +147,7 @@ fn request_named<'a>(name: &str, matches: &ArgMatches<'a>) -> Option<Request<'a>
         "certify" => certify_in(matches),
         "convert" => convert_in(matches),
         "implies" => implies_in(matches),
+        "stuck" => stuck_in(matches),
         "synth" => synth_in(matches),
         "replay-lustre" => replay_in(matches, Subset::Lustre),
         "replay-c" => replay_in(matches, Subset::C),
@@ -204,6 +210,19 @@ fn implies_in<'a>(matches: &ArgMatches<'a>) -> Option<Request<'a>>
     Some(Request::Implies {
         first,
         second,
+        limits: Limits { states, nodes },
+    })
+}
+
+// The file of which it is asked whether what keeps to its formula can always go on.
+fn stuck_in<'a>(matches: &ArgMatches<'a>) -> Option<Request<'a>>
+    ensures { option_map asked_by result ≡ asked_of stuck (rows_of (found_of matches.now)) }
+{
+    let file = operand_in(matches, "file")?;
+    let states = number_in(matches, "states", 1, MOST_STATES)?;
+    let nodes = number_in(matches, "nodes", 1, MOST_NODES)?;
+    Some(Request::Stuck {
+        file,
         limits: Limits { states, nodes },
     })
 }
