@@ -10,7 +10,7 @@ use Rattle.indexmap.specs.IndexMap.{insert_entry}
 use Rattle.lru.proofs.CallerLemmas.{Contains-lookup}
 use Rattle.dcv_build.proofs.FaultFacts.{same_fault}
 use Rattle.dcv_build.proofs.Insertions.{insert_cases}
-use Rattle.dcv_build.proofs.Settled.{settled_ok}
+use Rattle.dcv_build.proofs.Settled.{made_is_built}
 use Rattle.dcv_language.specs.Automaton.{WorkingMachine}
 use Rattle.dcv_language.specs.OperationMachines.{and_machine, or_machine, iff_machine, chop_machine, star_machine, exists_machine}
 use Rattle.dcv_language.specs.Table.{Table, automaton_of}
@@ -19,12 +19,13 @@ use Rattle.dcv_explore.specs.Budget.{Row}
 use Rattle.dcv_shelf.specs.Shelf.{ShelfTable, table_of_auto, nodes_of_table, KeepsNumbers, HasComplement}
 use Rattle.dcv_build.specs.Asked.{no_table, at_number, plain_tables, asked_row, AreTwo, IsWide, AreOperands, IsAnswer, AreAnswers, IsPut, IsTurned}
 use Rattle.dcv_build.specs.Rows.{pair_row, chop_row, star_row, set_row}
-use Rattle.dcv_build.specs.Settled.{IsBuilt, Settles, IsFor, Answers}
+use Rattle.dcv_build.specs.Settled.{IsBuilt, HasExplored, IsLeastMade, Settles, IsFor, Answers}
 use Rattle.dcv_build.specs.declared.asked.Answer.{Answer}
 use Rattle.dcv_build.specs.declared.asked.Asked.{Asked}
 use Rattle.dcv_build.specs.declared.asked.Asked.TheVariants.{And, Or, Iff, Chop, Star, Exists}
 use Rattle.dcv_build.specs.declared.faults.BuildFault.{BuildFault}
 use Rattle.dcv_build.specs.declared.faults.BuildFault.TheVariants.{States, Nodes}
+use Rattle.dcv_build.specs.declared.settling.Explored.{Explored}
 use Rattle.dcv_build.specs.declared.settling.Made.{Made}
 use Rattle.dcv_build.specs.contracts.asked.AskedPartialEq.TheImpl.{eq-value as asked_eq}
 use Rattle.dcv_build.proofs.ShelfTables.{at_of, at_kept, within_kept}
@@ -32,7 +33,7 @@ use Rattle.dcv_build.proofs.ShelfTables.{at_of, at_kept, within_kept}
 -- ---- what a call answers
 
 module _ {S : Type 0} (machine : WorkingMachine S) (parts : ℕ) (limits : Limits) (step : ℕ) (shelf : List ShelfTable) where
-  fault_answers : (result : Result Made BuildFault) → Settles machine parts limits step result → (fault : BuildFault) → result ≡ Err fault → Answers machine parts limits step shelf (Err fault)
+  fault_answers : (result : Result Explored BuildFault) → Settles machine parts limits step result → (fault : BuildFault) → result ≡ Err fault → Answers machine parts limits step shelf (Err fault)
   fault_answers result settles fault is = record {
     built = tt;
     states = λ at limit named. settles.states at limit (is ∙ ap Err (same_fault (Err fault) fault fault (States at limit) refl refl named));
@@ -40,7 +41,7 @@ module _ {S : Type 0} (machine : WorkingMachine S) (parts : ℕ) (limits : Limit
   }
 
   -- the fault of the exploration, handed on
-  pub answers_fault : (result : Result Made BuildFault) → Settles machine parts limits step result → (given own : BuildFault) → result ≡ Err own
+  pub answers_fault : (result : Result Explored BuildFault) → Settles machine parts limits step result → (given own : BuildFault) → result ≡ Err own
       → (answered : Result Answer BuildFault) → answered ≡ Err given → given ≡ own → Answers machine parts limits step shelf answered
   answers_fault result settles given own is answered handed same =
       subst (Answers machine parts limits step shelf) (sym (handed ∙ ap Err same)) (fault_answers result settles own is)
@@ -49,21 +50,14 @@ module _ {S : Type 0} (machine : WorkingMachine S) (parts : ℕ) (limits : Limit
   answer_within (Ok answer) answers = slice_get_within shelf answer.number answers.built.one answers.built.there
   answer_within (Err fault) answers = tt
 
-  pub for_put : (made : Made) (answer : Answer) → IsBuilt machine parts limits (table_of_auto made.auto) made.states made.nodes → IsPut made shelf answer
+  pub for_put : (explored : Explored) (made : Made) (answer : Answer) → HasExplored machine parts limits explored → IsLeastMade explored made → IsPut made shelf answer
       → IsFor machine parts limits shelf answer
-  for_put made answer built put = record {
+  for_put explored made answer has least put = let built = made_is_built machine parts limits explored made.auto made.states made.nodes has least.least least.states_are least.nodes_are in record {
     one = table_of_auto made.auto;
     there = put.there;
     built = subst (λ n. IsBuilt machine parts limits (table_of_auto made.auto) n answer.nodes) (sym put.states)
         (subst (λ n. IsBuilt machine parts limits (table_of_auto made.auto) made.states n) (sym put.nodes) built);
   }
-
-  -- what answered, in an arena of its own
-  pub settled_found : (answer : Answer) (made : Made) → IsFor machine parts limits shelf answer → IsPut made shelf answer → Settles machine parts limits step (Ok made)
-  settled_found answer made is put =
-      let one : is.one ≡ table_of_auto made.auto = same_Some is.one (table_of_auto made.auto) (sym is.there ∙ put.there) in
-      settled_ok machine parts limits step made
-      (subst (λ (t : ShelfTable × (ℕ × ℕ)). IsBuilt machine parts limits t.0 t.1.0 t.1.1) (λ i. (one i, (put.states i, put.nodes i))) is.built)
 
 -- ---- a shelf that has grown
 

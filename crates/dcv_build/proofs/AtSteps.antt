@@ -26,7 +26,7 @@ use Rattle.dcv_build.specs.declared.asked.Answer.{Answer}
 use Rattle.dcv_build.specs.declared.asked.Asked.{Asked}
 use Rattle.dcv_build.specs.declared.asked.Asked.TheVariants.{And, Or, Iff, Chop, Star, Exists}
 use Rattle.dcv_build.specs.declared.faults.BuildFault.{BuildFault}
-use Rattle.dcv_build.specs.declared.settling.Made.{Made}
+use Rattle.dcv_build.specs.declared.settling.Explored.{Explored}
 use Rattle.dcv_build.specs.Asked.{at_number, tables_at, AreThere, plain_tables, asked_row, AreTwo, IsWide, AreOperands, SettlesAsked, AnswersAsked, IsTurned}
 use Rattle.dcv_build.specs.Building.{AreWaiting, HasBuilt, IsNext, Goes, Makes, ForTree}
 use Rattle.dcv_build.specs.Given.{IsCoreOf, IsCore}
@@ -203,13 +203,13 @@ module _ (k : ℕ) (tree : CoreTree) (limits : Limits) (n : ℕ) (shelf : List S
   module _ (atoms : MachineAcceptsAtomStep) where
     -- the automaton of the step, on no shelf
     pub asked_makes : (asked : Asked) (c d : ℕ) → step.op ≡ op_like asked c d → AreThere shelf (numbers_of asked) → Built (numbers_of asked)
-        → (result : Result Made BuildFault) → SettlesAsked shelf asked limits n result → Makes (steps_of k tree) limits n (tables_at shelf rest) counts result
+        → (result : Result Explored BuildFault) → SettlesAsked shelf asked limits n result → Makes (steps_of k tree) limits n (tables_at shelf rest) counts result
     asked_makes asked c d is all built result settles =
         let has = takes asked c d is all built in
         makes k tree limits n built.tables built.count built.done step there (tables_at shelf rest) counts built.one_each built.each has.begin has.begins has.waits atoms result
         (own_row (λ (row : Row). Settles row.machine row.parts limits n result) asked c d is all built settles)
 
-    pub atom_makes : (basic : PlainBasic) → step.op ≡ OpAtom basic → Built [] → (result : Result Made BuildFault)
+    pub atom_makes : (basic : PlainBasic) → step.op ≡ OpAtom basic → Built [] → (result : Result Explored BuildFault)
         → Settles (atom_machine step.slots basic) (atom_nodes step.slots basic) limits n result → Makes (steps_of k tree) limits n (tables_at shelf rest) counts result
     atom_makes basic is built result settles =
         makes k tree limits n built.tables built.count built.done step there (tables_at shelf rest) counts built.one_each built.each n (none_begins basic is) (all_wait built) atoms result
@@ -257,7 +257,7 @@ module _ (core : PlainCore) (limits : Limits) (n : ℕ) (counts : List Count) wh
   abbrev GoesOn : List ShelfTable → List ShelfTable → Result Answer BuildFault → Type 0
   GoesOn rest shelf result = ForTree core (λ steps. Goes steps limits n rest counts shelf result)
 
-  abbrev MakesOn : List ShelfTable → Result Made BuildFault → Type 0
+  abbrev MakesOn : List ShelfTable → Result Explored BuildFault → Type 0
   MakesOn rest result = ForTree core (λ steps. Makes steps limits n rest counts result)
 
   -- ---- how many wait
@@ -325,7 +325,7 @@ module _ (core : PlainCore) (limits : Limits) (n : ℕ) (counts : List Count) wh
           asked_goes core.declared tree limits n shelf rest counts found.0 found.1 atoms after kept (rest_are (numbers_of asked) same) asked c d found.2
           (numbers_are (numbers_of asked) same) (taken (numbers_of asked) same tree is) result answers
 
-      pub makes_on : MachineAcceptsAtomStep → Here core n (op_like asked c d) → (result : Result Made BuildFault) → SettlesAsked shelf asked limits n result → MakesOn (tables_at shelf rest) result
+      pub makes_on : MachineAcceptsAtomStep → Here core n (op_like asked c d) → (result : Result Explored BuildFault) → SettlesAsked shelf asked limits n result → MakesOn (tables_at shelf rest) result
       makes_on atoms here result settles tree is =
           let found = step_at core tree n (op_like asked c d) is here in
           asked_makes core.declared tree limits n shelf rest counts found.0 found.1 atoms asked c d found.2
@@ -350,7 +350,7 @@ module _ (core : PlainCore) (limits : Limits) (n : ℕ) (counts : List Count) wh
       (answers found.0.slots (atom_at core tree n basic found.0 is found.1 found.2))
 
   pub atom_makes_on : (shelf : List ShelfTable) (old : List ℕ) (built : AreBuilt (tables_at shelf old)) (basic : PlainBasic)
-      → MachineAcceptsAtomStep → Here core n (OpAtom basic) → (result : Result Made BuildFault)
+      → MachineAcceptsAtomStep → Here core n (OpAtom basic) → (result : Result Explored BuildFault)
       → ((slots : ℕ) → IsAtom core n basic slots → Settles (atom_machine slots basic) (atom_nodes slots basic) limits n result) → MakesOn (tables_at shelf old) result
   atom_makes_on shelf old built basic atoms here result settles tree is =
       let found = step_at core tree n (OpAtom basic) is here in

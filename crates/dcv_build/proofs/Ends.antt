@@ -1,18 +1,20 @@
 -- A build from its first step to its last.
-use Rattle.std.proofs.Common.{◌≡◌, ℕ, ◌<◌, ◌≤◌, List, [], ◌∷◌, ◌++◌, length, refl, sym, subst}
+use Rattle.std.proofs.Common.{◌≡◌, ℕ, ◌<◌, ◌≤◌, Bool, List, [], ◌∷◌, ◌++◌, length, refl, sym, subst, ◌∙◌}
 use Rattle.std.proofs.lemmas.List.Elements.{All-nil}
 use Rattle.dcv_language.specs.declared.count.Count.{Count}
 use Rattle.dcv_core.specs.Core.{CoreTree}
 use Rattle.dcv_core.specs.Holds.{words_of}
 use Rattle.dcv_core.specs.Steps.{PlainCore, steps_of}
 use Rattle.dcv_dfa.specs.Raw.{RawValue}
-use Rattle.dcv_dfa.specs.Auto.{count_of_nodes}
+use Rattle.dcv_language.specs.Language.{HaveSameBehaviours}
+use Rattle.dcv_language.specs.Table.{table_accepts}
+use Rattle.dcv_dfa.specs.Auto.{table_of_states, count_of_nodes}
 use Rattle.dcv_explore.specs.declared.explorer.Limits.{Limits}
 use Rattle.dcv_shelf.specs.Shelf.{ShelfTable, table_of_auto}
 use Rattle.dcv_build.specs.declared.building.Building.{Building}
 use Rattle.dcv_build.specs.Asked.{tables_at, AreThere}
-use Rattle.dcv_build.specs.Budget.{IsWithinBudget, IsAutomatonOf}
-use Rattle.dcv_build.specs.Building.{HasBuilt, IsBuilding, IsGoal}
+use Rattle.dcv_build.specs.Budget.{IsWithinBudget, IsAutomatonOf, accepted_by, IsRawOf}
+use Rattle.dcv_build.specs.Building.{HasBuilt, IsBuilding, IsGoal, IsRawGoal}
 use Rattle.dcv_build.specs.Counts.{AreCounts}
 use Rattle.dcv_build.specs.Given.{IsCoreOf}
 use Rattle.dcv_build.proofs.Waiting.{none_built, goal_is, goal_within, goal_counts, goal_states, goal_nodes}
@@ -44,3 +46,24 @@ module _ (core : PlainCore) (limits : Limits) (auto : RawValue) (counts : List C
 
   pub built_nodes : count_of_nodes auto ≤ limits.nodes
   built_nodes = goal_nodes core limits (length core.steps) waits counts is.built refl is.rest auto refl tree of_core
+
+-- ---- what is not minimised
+
+module _ (core : PlainCore) (limits : Limits) (raw : RawValue) (complemented : Bool) (is : IsRawGoal core limits (length core.steps) raw complemented) (tree : CoreTree) (of_core : IsCoreOf tree core) where
+  pub raw_is : IsRawOf core.declared (words_of tree) raw complemented
+  raw_is =
+      let auto = is.auto in
+      let own = is.auto_is in
+      let of = built_is core limits auto is.counts is.goal tree of_core in
+      let slots : auto.arena.slots ≡ core.declared = of.slots in
+      let accepts : HaveSameBehaviours auto.arena.slots (accepted_by raw complemented) (table_accepts (table_of_states auto)) =
+      λ word b. is.accepts word b ∙ sym (own.canonical.exact word b) in
+      record {
+        slots = is.slots ∙ slots;
+        accepts = λ word b.
+            subst (λ k. HaveSameBehaviours k (accepted_by raw complemented) (table_accepts (table_of_states auto))) slots accepts word b
+            ∙ of.canonical.exact word b;
+      }
+
+  pub raw_within : IsWithinBudget (steps_of core.declared tree) limits
+  raw_within = built_within core limits is.auto is.counts is.goal tree of_core

@@ -26,7 +26,7 @@ use Rattle.dcv_language.proofs.Runs.{start_is_reached}
 use Rattle.dcv_language.proofs.Sameness.{outside_same}
 use Rattle.dcv_dfa.specs.Raw.{RawValue, IsRaw, raw_accepts, next_in, row_of}
 use Rattle.dcv_dfa.specs.Auto.{IsAuto, table_of_states, count_of_nodes, complement_of}
-use Rattle.dcv_dfa.proofs.Complements.{table_of_complement, complement_is_raw, still_auto}
+use Rattle.dcv_dfa.proofs.Complements.{table_of_complement, complement_is_raw, still_auto, accepts_outside}
 use Rattle.dcv_dfa.proofs.States.{table_has_the_states, table_has_the_steps, table_accepts_as_the_states, leads_below}
 use Rattle.dcv_explore.specs.declared.explorer.Limits.{Limits}
 use Rattle.dcv_explore.specs.Exploring.{IsExploring}
@@ -123,11 +123,17 @@ module _ (raw : RawValue) (is : IsRaw raw) (auto : IsAuto raw) where
 
   -- ---- the complement
 
-  abbrev other : RawValue
+  abbrev pub other : RawValue
   other = complement_of (stands_alone auto.access) raw
 
-  other_is_auto : IsAuto other
+  pub other_is_raw : IsRaw other
+  other_is_raw = complement_is_raw (stands_alone auto.access) raw is
+
+  pub other_is_auto : IsAuto other
   other_is_auto = (still_auto complement_is_canonical canonical_for_same_behaviours raw (stands_alone auto.access) is (record { auto = auto; alone = refl })).auto
+
+  pub other_accepts : HaveSameBehaviours raw.arena.slots (raw_accepts other) (outside (raw_accepts raw))
+  other_accepts = accepts_outside complement_is_canonical canonical_for_same_behaviours raw (stands_alone auto.access) is (record { auto = auto; alone = refl })
 
   outside_is : IsCanonical raw.arena.slots (outside (raw_accepts raw)) (table_of_states other) auto.access
   outside_is =
@@ -178,7 +184,7 @@ module _ (raw : RawValue) (is : IsRaw raw) (auto : IsAuto raw) where
               (λ word behaves. sym (not_accepts raw.arena.slots (table_automaton (table_of_states raw)) word behaves.nonempty)) complement.canonical;
           own = record {
             auto = other;
-            raw = complement_is_raw (stands_alone auto.access) raw is;
+            raw = other_is_raw;
             auto_is = other_is_auto;
             table = turned_is;
             states = own_states;

@@ -25,14 +25,15 @@ use Rattle.dcv_explore.proofs.Places.{pushed_cases}
 use Rattle.dcv_shelf.specs.Shelf.{ShelfTable, table_of_auto}
 use Rattle.dcv_build.specs.declared.asked.Answer.{Answer}
 use Rattle.dcv_build.specs.declared.faults.BuildFault.{BuildFault}
-use Rattle.dcv_build.specs.declared.settling.Made.{Made}
+use Rattle.dcv_build.specs.declared.settling.Explored.{Explored}
 use Rattle.dcv_build.specs.Budget.{row_at, IsStepDone, IsDone, IsOver}
 use Rattle.dcv_build.specs.Building.{IsNewest, AreWaiting, HasBuilt, IsNext, GoesWith, MakesNext, Goes, Makes}
 use Rattle.dcv_build.specs.Counts.{HasAllCounts, IsCount}
 use Rattle.dcv_build.specs.Laws.{AreCanonicalBefore}
 use Rattle.dcv_build.specs.Rows.{row_of}
-use Rattle.dcv_build.specs.Settled.{IsOwn, IsBuilt, Settles, IsFor, Answers}
+use Rattle.dcv_build.specs.Settled.{IsOwn, IsBuilt, HasExplored, Settles, IsFor, Answers}
 use Rattle.dcv_build.proofs.SameRows.{table_at, row_over}
+use Rattle.dcv_build.proofs.Settled.{made_is_built, some_least}
 use Rattle.dcv_build.proofs.ShelfTables.{at_of}
 use Rattle.dcv_build.proofs.StepMachines.{machine_accepts_step}
 
@@ -239,14 +240,23 @@ module _ (k : ℕ) (tree : CoreTree) (limits : Limits) (n : ℕ) (tables : List 
           nodes = λ at limit is. let named = answers.nodes at limit is in (named.1, over_here TooManyNodes at named.0 named.2);
         }
 
-      -- it stands on none
-      makes_where_ok : (result : Result Made BuildFault)
-          → IfOk result (λ made. IsBuilt (row_at step tables).machine (row_at step tables).parts limits (table_of_auto made.auto) made.states made.nodes)
+      -- it is not minimised
+      makes_where_ok : (result : Result Explored BuildFault) → IfOk result (HasExplored (row_at step tables).machine (row_at step tables).parts limits)
           → IfOk result (MakesNext (steps_of k tree) limits n rest counts)
-      makes_where_ok (Ok made) is = next_of (table_of_auto made.auto) made.states made.nodes is
+      makes_where_ok (Ok explored) has =
+          let row = row_at step tables in
+          let is = has.within in
+          let few = is.nodes in
+          record {
+            some = some_least row limits explored.raw is;
+            each = λ auto least.
+                next_of (table_of_auto auto) explored.states explored.nodes (made_is_built row.machine row.parts limits explored auto explored.states explored.nodes has least refl refl);
+            states = is.states;
+            nodes = omega arith;
+          }
       makes_where_ok (Err fault) is = tt
 
-      pub makes : (result : Result Made BuildFault) → Settles (row_at step tables).machine (row_at step tables).parts limits n result → Makes (steps_of k tree) limits n rest counts result
+      pub makes : (result : Result Explored BuildFault) → Settles (row_at step tables).machine (row_at step tables).parts limits n result → Makes (steps_of k tree) limits n rest counts result
       makes result settles = record {
         built = makes_where_ok result settles.built;
         states = λ at limit is. let named = settles.states at limit is in (named.1, over_here TooManyStates at named.0 named.2);

@@ -1,5 +1,5 @@
--- What is explored within the limits and minimised is the canonical automaton of the machine.
-use Rattle.std.proofs.Common.{◌≡◌, ℕ, ◌+◌, ◌-◌, ◌<◌, ◌≤◌, length, Result, Ok, Err, refl, subst, ◌∙◌, arith}
+-- What is explored within the limits has a canonical automaton, which is that of the machine.
+use Rattle.std.proofs.Common.{◌≡◌, ℕ, ◌+◌, ◌-◌, ◌<◌, ◌≤◌, length, Result, Ok, Err, refl, sym, subst, ◌∙◌, arith}
 use Rattle.dcv_arena.proofs.Counts.{count_exact}
 use Rattle.dcv_language.specs.Automaton.{WorkingMachine, accepts}
 use Rattle.dcv_language.specs.Canonical.{IsCanonical}
@@ -10,29 +10,25 @@ use Rattle.dcv_dfa.specs.Auto.{table_of_states}
 use Rattle.dcv_explore.specs.declared.explorer.Limits.{Limits}
 use Rattle.dcv_explore.specs.declared.faults.ExploreFault.{ExploreFault}
 use Rattle.dcv_explore.specs.declared.faults.ExploreFault.TheVariants.{States as TooMany, Nodes as TooLarge, Memory as NoMemory}
-use Rattle.dcv_explore.specs.Budget.{HasMoreNodes}
+use Rattle.dcv_explore.specs.Budget.{HasMoreNodes, Row, IsWithin}
 use Rattle.dcv_explore.specs.Explored.{IsExplored}
 use Rattle.dcv_explore.specs.Reached.{HasCounts, MoreStates, MoreNodes}
 use Rattle.dcv_explore.proofs.Budgets.{more_with_parts, more_by_parts}
 use Rattle.dcv_shelf.specs.Shelf.{table_of_auto}
 use Rattle.dcv_build.specs.declared.faults.BuildFault.{BuildFault}
 use Rattle.dcv_build.specs.declared.faults.BuildFault.TheVariants.{States, Nodes}
-use Rattle.dcv_build.specs.Settled.{IsLeastOf, IsBuilt, Settles, fault_at}
-use Rattle.dcv_build.specs.declared.settling.Made.{Made}
+use Rattle.dcv_quotient.proofs.RowLimits.{table_of_row}
+use Rattle.dcv_quotient.proofs.SomeAutomata.{some_automaton}
+use Rattle.dcv_quotient.proofs.TableBounds.{within_of_row}
+use Rattle.dcv_quotient.proofs.WordOrder.{word_laws}
+use Rattle.dcv_build.specs.Settled.{IsLeastOf, IsBuilt, IsExploredWithin, HasExplored, Settles, fault_at}
+use Rattle.dcv_build.specs.declared.settling.Explored.{Explored}
 
--- what the explorer gives where the parts of a proposition leave it less room
-pub record IsExploredWithin {S : Type 0} (machine : WorkingMachine S) (parts : ℕ) (limits : Limits) (found : RawValue) : Type 0 where
-  pub raw : IsRaw found
-  pub explored : IsExplored machine found
-  pub alike : HaveSameBehaviours machine.slots (raw_accepts found) (accepts machine.automaton)
-  pub counts : HasCounts machine (length found.rows) (length found.arena.nodes)
-  pub states : length found.rows ≤ limits.states
-  pub nodes : length found.arena.nodes ≤ limits.nodes - parts
-
-pub least_is_built : {S : Type 0} (machine : WorkingMachine S) (parts : ℕ) (limits : Limits) (found auto : RawValue) → parts ≤ limits.nodes
+pub least_is_built : {S : Type 0} (machine : WorkingMachine S) (parts : ℕ) (limits : Limits) (found auto : RawValue)
     → IsExploredWithin machine parts limits found → IsLeastOf found auto
     → IsBuilt machine parts limits (table_of_auto auto) (length found.rows) (parts + length found.arena.nodes)
-least_is_built machine parts limits found auto few is least =
+least_is_built machine parts limits found auto is least =
+    let few = is.few in
     let minimal = least.minimal in
     let own = count_exact found.arena is.raw.arena.reduced found.rows is.raw.rows is.explored.nodes in
     let canonical = subst (λ k. IsCanonical k (raw_accepts found) (table_of_states auto) minimal.access) is.explored.slots minimal.canonical in
@@ -53,11 +49,64 @@ least_is_built machine parts limits found auto few is least =
       };
     }
 
+-- the same beside its counts
+pub made_is_built : {S : Type 0} (machine : WorkingMachine S) (parts : ℕ) (limits : Limits) (explored : Explored) (auto : RawValue) (states nodes : ℕ) → HasExplored machine parts limits explored
+    → IsLeastOf explored.raw auto → states ≡ explored.states → nodes ≡ explored.nodes → IsBuilt machine parts limits (table_of_auto auto) states nodes
+made_is_built machine parts limits explored auto states nodes has least states_are nodes_are =
+    subst (λ n. IsBuilt machine parts limits (table_of_auto auto) n nodes) (sym (states_are ∙ has.states_are))
+    (subst (λ n. IsBuilt machine parts limits (table_of_auto auto) (length explored.raw.rows) n) (sym (nodes_are ∙ has.nodes_are))
+    (least_is_built machine parts limits explored.raw auto has.within least))
+
+-- there is one, whose row is that of the machine
+pub some_least : (row : Row) (limits : Limits) (found : RawValue) → IsExploredWithin row.machine row.parts limits found → (auto : RawValue) × IsLeastOf found auto
+some_least row limits found is =
+    let machine = row.machine in
+    let slots = is.explored.slots in
+    let own = count_exact found.arena is.raw.arena.reduced found.rows is.raw.rows is.explored.nodes in
+    let alone : Row = record { State = row.State; machine = machine; number = row.number; apart = row.apart; parts = 0 } in
+    let exact : Limits = record { states = length found.rows; nodes = length found.arena.nodes } in
+    let within : IsWithin alone exact = record {
+      states = length found.rows;
+      nodes = length found.arena.nodes;
+      counts = is.counts;
+      states_within = omega arith;
+      nodes_within = omega arith;
+    } in
+    let (table, (access, canonical)) = table_of_row word_laws alone exact within in
+    let few = within_of_row alone exact within table access canonical in
+    let narrow = is.raw.arena.slots in
+    let few_states = few.states in
+    let few_nodes = few.nodes in
+    let bound = is.raw.states in
+    let room = is.raw.arena.limit in
+    let held = is.raw.arena.within in
+    let (auto, of) = some_automaton machine.slots (accepts machine.automaton) table access (omega (arith, narrow, slots)) canonical (omega (arith, few_states, bound)) (omega (arith, few_nodes, held, room)) in
+    let same : HaveSameBehaviours machine.slots (raw_accepts auto) (raw_accepts found) = λ word b. of.exact word b ∙ sym (is.alike word b) in
+    let of_found : HaveSameBehaviours found.arena.slots (raw_accepts auto) (raw_accepts found) =
+    subst (λ k. HaveSameBehaviours k (raw_accepts auto) (raw_accepts found)) (sym slots) same in
+    let count = of.count in
+    let nodes = of.nodes in (
+      auto,
+      record {
+        minimal = record {
+          slots = of.same_slots ∙ sym slots;
+          access = of.auto.access;
+          canonical = canonical_for_same_behaviours found.arena.slots (raw_accepts auto) (raw_accepts found) (table_of_states auto) of.auto.access of_found
+              (subst (λ k. IsCanonical k (raw_accepts auto) (table_of_states auto) of.auto.access) (of.same_slots ∙ sym slots) of.auto.canonical);
+          accepts = of_found;
+          states = omega (arith, count, few_states);
+          nodes = omega (arith, nodes, few_nodes, own);
+        };
+        raw_is = of.is;
+        auto_is = of.auto;
+      },
+    )
+
 -- ---- what the call answers
 
 module _ {S : Type 0} (machine : WorkingMachine S) (parts : ℕ) (limits : Limits) (step : ℕ) where
-  pub settled_ok : (made : Made) → IsBuilt machine parts limits (table_of_auto made.auto) made.states made.nodes → Settles machine parts limits step (Ok made)
-  settled_ok made is = record { built = is; states = λ at limit same. absurd cc; nodes = λ at limit same. absurd cc }
+  pub settled_ok : (explored : Explored) → HasExplored machine parts limits explored → Settles machine parts limits step (Ok explored)
+  settled_ok explored is = record { built = is; states = λ at limit same. absurd cc; nodes = λ at limit same. absurd cc }
 
   settled_states : MoreStates machine limits.states → Settles machine parts limits step (Err (States step limits.states))
   settled_states more = record {
@@ -99,7 +148,7 @@ module _ {S : Type 0} (machine : WorkingMachine S) (parts : ℕ) (limits : Limit
   settled_parts many = settled_nodes (more_by_parts machine parts limits many)
 
 -- the same of an equal machine, with as many parts
-pub settled_same : {S : Type 0} (machine other : WorkingMachine S) (parts more : ℕ) (limits : Limits) (step : ℕ) (result : Result Made BuildFault)
+pub settled_same : {S : Type 0} (machine other : WorkingMachine S) (parts more : ℕ) (limits : Limits) (step : ℕ) (result : Result Explored BuildFault)
     → machine ≡ other → parts ≡ more → Settles machine parts limits step result → Settles other more limits step result
 settled_same {S = S} machine other parts more limits step result same alike settles =
     subst (λ (m : WorkingMachine S). Settles m more limits step result) same (subst (λ p. Settles machine p limits step result) alike settles)

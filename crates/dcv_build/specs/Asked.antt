@@ -22,6 +22,7 @@ use Rattle.dcv_build.specs.declared.asked.Answer.{Answer}
 use Rattle.dcv_build.specs.declared.asked.Asked.{Asked}
 use Rattle.dcv_build.specs.declared.asked.Asked.TheVariants.{And, Or, Iff, Chop, Star, Exists}
 use Rattle.dcv_build.specs.declared.faults.BuildFault.{BuildFault}
+use Rattle.dcv_build.specs.declared.settling.Explored.{Explored}
 use Rattle.dcv_build.specs.declared.settling.Made.{Made}
 
 -- ---- numbers
@@ -80,7 +81,7 @@ AreOperands shelf (Chop c d) = AreTwo shelf c d
 AreOperands shelf (Star d) = d < length shelf
 AreOperands shelf (Exists d) = IsWide shelf d
 
-abbrev pub SettlesAsked : List ShelfTable → Asked → Limits → ℕ → Result Made BuildFault → Type 0
+abbrev pub SettlesAsked : List ShelfTable → Asked → Limits → ℕ → Result Explored BuildFault → Type 0
 SettlesAsked shelf asked limits step result = Settles (asked_row shelf asked).machine (asked_row shelf asked).parts limits step result
 
 abbrev pub AnswersAsked : List ShelfTable → Asked → Limits → ℕ → List ShelfTable → Result Answer BuildFault → Type 0

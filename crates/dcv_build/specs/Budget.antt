@@ -4,14 +4,16 @@
 --     IsWithinBudget steps limits         so it is with all of them
 --     IsOver steps limits kind number     so it is with all steps before this one, and it has too many of this kind
 --     IsAutomatonOf k L auto              the canonical automaton of a set over k variables
-use Rattle.std.specs.Prelude.{◌≡◌, ℕ, ◌≤◌, List, length, Some, slice_get}
+--     accepted_by raw complemented        the words that an automaton accepts, or all others
+--     IsRawOf k L raw complemented        these are the set over k variables
+use Rattle.std.specs.Prelude.{◌≡◌, ℕ, ◌≤◌, Bool, if◌then◌else◌, List, length, Some, slice_get}
 use Rattle.dcv_word.specs.Behaviour.{Word}
 use Rattle.dcv_language.specs.Table.{Table}
 use Rattle.dcv_language.specs.Canonical.{IsCanonical}
-use Rattle.dcv_language.specs.Language.{Language}
+use Rattle.dcv_language.specs.Language.{Language, HaveSameBehaviours, outside}
 use Rattle.dcv_core.specs.Holds.{words_of}
 use Rattle.dcv_core.specs.Steps.{PlainStep}
-use Rattle.dcv_dfa.specs.Raw.{RawValue}
+use Rattle.dcv_dfa.specs.Raw.{RawValue, raw_accepts}
 use Rattle.dcv_dfa.specs.Auto.{table_of_states}
 use Rattle.dcv_explore.specs.declared.explorer.Limits.{Limits}
 use Rattle.dcv_explore.specs.Budget.{Row, IsWithin, Kind, Exceeds}
@@ -51,3 +53,13 @@ pub record IsAutomatonOf (k : ℕ) (L : Language) (auto : RawValue) : Type 0 whe
   pub slots : auto.arena.slots ≡ k
   pub access : List Word
   pub canonical : IsCanonical k L (table_of_states auto) access
+
+-- ---- what is not minimised
+
+-- the words that an automaton accepts, or all others
+abbrev pub accepted_by : RawValue → Bool → Language
+accepted_by raw complemented = if complemented then outside (raw_accepts raw) else raw_accepts raw
+
+pub record IsRawOf (k : ℕ) (L : Language) (raw : RawValue) (complemented : Bool) : Type 0 where
+  pub slots : raw.arena.slots ≡ k
+  pub accepts : HaveSameBehaviours k (accepted_by raw complemented) L

@@ -5,16 +5,20 @@
 --     IsCountOf                         the count of a step that took so many states and nodes
 --     IsNext                            with this table and these counts a step is built
 --     GoesTo steps limits IsGiven       what a call answers that builds a step: what is so, or the first step that is over
---     Goes, Makes                       the same, where the table stands on the shelf, and where it stands on none
+--     Goes, Makes                       the same, where the table stands on the shelf, and where what is explored for it is not minimised
 --     ForTree core P                    so it is, whatever tree the core has the steps of
 --     IsBuilding core n building        so it is with what waits as numbers on the shelf
 --     IsGoal core limits n auto counts  so it is with this automaton, on no shelf, as the newest
-use Rattle.std.specs.Prelude.{◌≡◌, ℕ, ◌+◌, suc, List, [], ◌∷◌, ◌++◌, length, reverse, Some, slice_get, Result, Err, IfOk}
+--     IsExploredGoal core limits n raw counts   so it is with the canonical automaton of this one
+--     IsRawGoal core limits n raw complemented  so it is with that of what this one accepts, or of all else
+use Rattle.std.specs.Prelude.{◌≡◌, ℕ, ◌+◌, ◌≤◌, suc, Bool, List, [], ◌∷◌, ◌++◌, length, reverse, Some, slice_get, Result, Err, IfOk}
 use Rattle.dcv_language.specs.declared.count.Count.{Count}
 use Rattle.dcv_language.specs.Table.{Table}
 use Rattle.dcv_core.specs.Core.{CoreTree}
 use Rattle.dcv_core.specs.Steps.{PlainStep, PlainCore, steps_before, steps_of}
-use Rattle.dcv_dfa.specs.Raw.{RawValue}
+use Rattle.dcv_dfa.specs.Auto.{IsAuto}
+use Rattle.dcv_dfa.specs.Raw.{RawValue, IsRaw, raw_accepts}
+use Rattle.dcv_language.specs.Language.{HaveSameBehaviours}
 use Rattle.dcv_explore.specs.declared.explorer.Limits.{Limits}
 use Rattle.dcv_explore.specs.Budget.{TooManyStates, TooManyNodes}
 use Rattle.dcv_shelf.specs.Shelf.{ShelfTable, table_of_auto}
@@ -22,12 +26,12 @@ use Rattle.dcv_build.specs.declared.asked.Answer.{Answer}
 use Rattle.dcv_build.specs.declared.building.Building.{Building}
 use Rattle.dcv_build.specs.declared.faults.BuildFault.{BuildFault}
 use Rattle.dcv_build.specs.declared.faults.BuildFault.TheVariants.{States, Nodes}
-use Rattle.dcv_build.specs.declared.settling.Made.{Made}
+use Rattle.dcv_build.specs.declared.settling.Explored.{Explored}
 use Rattle.dcv_build.specs.Asked.{at_number, tables_at, AreThere}
-use Rattle.dcv_build.specs.Budget.{IsDone, IsOver}
+use Rattle.dcv_build.specs.Budget.{IsDone, IsOver, accepted_by}
 use Rattle.dcv_build.specs.Counts.{IsCount}
 use Rattle.dcv_build.specs.Given.{IsCoreOf}
-use Rattle.dcv_build.specs.Settled.{IsOwn}
+use Rattle.dcv_build.specs.Settled.{IsOwn, IsLeastOf}
 
 -- the newest table that waits before step n is that of the step just before, whose own steps begin with this one
 pub record IsNewest (steps : List PlainStep) (limits : Limits) (tables : List Table) (n : ℕ) (one : ShelfTable) (begin : ℕ) : Type 0 where
@@ -67,8 +71,12 @@ IsNext steps limits n waiting counts one states nodes = (count : Count) → IsCo
 abbrev pub GoesWith : List PlainStep → Limits → ℕ → List ShelfTable → List Count → List ShelfTable → Answer → Type 0
 GoesWith steps limits n waiting counts shelf answer = IsNext steps limits n waiting counts (at_number shelf answer.number) answer.states answer.nodes
 
-abbrev pub MakesNext : List PlainStep → Limits → ℕ → List ShelfTable → List Count → Made → Type 0
-MakesNext steps limits n waiting counts made = IsNext steps limits n waiting counts (table_of_auto made.auto) made.states made.nodes
+-- what is explored has a canonical automaton, with whose table the step is built
+pub record MakesNext (steps : List PlainStep) (limits : Limits) (n : ℕ) (waiting : List ShelfTable) (counts : List Count) (explored : Explored) : Type 0 where
+  pub some : (auto : RawValue) × IsLeastOf explored.raw auto
+  pub each : (auto : RawValue) → IsLeastOf explored.raw auto → IsNext steps limits n waiting counts (table_of_auto auto) explored.states explored.nodes
+  pub states : length explored.raw.rows ≤ limits.states
+  pub nodes : length explored.raw.arena.nodes ≤ limits.nodes
 
 pub record GoesTo {X : Type 0} (steps : List PlainStep) (limits : Limits) (IsGiven : X → Type 0) (result : Result X BuildFault) : Type 0 where
   pub built : IfOk result IsGiven
@@ -78,7 +86,7 @@ pub record GoesTo {X : Type 0} (steps : List PlainStep) (limits : Limits) (IsGiv
 abbrev pub Goes : List PlainStep → Limits → ℕ → List ShelfTable → List Count → List ShelfTable → Result Answer BuildFault → Type 0
 Goes steps limits n waiting counts shelf result = GoesTo steps limits (GoesWith steps limits n waiting counts shelf) result
 
-abbrev pub Makes : List PlainStep → Limits → ℕ → List ShelfTable → List Count → Result Made BuildFault → Type 0
+abbrev pub Makes : List PlainStep → Limits → ℕ → List ShelfTable → List Count → Result Explored BuildFault → Type 0
 Makes steps limits n waiting counts result = GoesTo steps limits (MakesNext steps limits n waiting counts) result
 
 abbrev pub ForTree : PlainCore → (List PlainStep → Type 0) → Type 0
@@ -91,6 +99,22 @@ pub record IsBuilding (core : PlainCore) (n : ℕ) (building : Building) : Type 
 pub record IsGoal (core : PlainCore) (limits : Limits) (n : ℕ) (auto : RawValue) (counts : List Count) : Type 0 where
   pub rest : List ShelfTable
   pub built : ForTree core (λ steps. HasBuilt steps limits n (rest ++ table_of_auto auto ∷ []) counts)
+
+-- of what was explored there is a canonical automaton, and it is so with each
+pub record IsExploredGoal (core : PlainCore) (limits : Limits) (n : ℕ) (raw : RawValue) (counts : List Count) : Type 0 where
+  pub some : (auto : RawValue) × IsLeastOf raw auto
+  pub each : (auto : RawValue) → IsLeastOf raw auto → IsGoal core limits n auto counts
+  pub states : length raw.rows ≤ limits.states
+  pub nodes : length raw.arena.nodes ≤ limits.nodes
+
+pub record IsRawGoal (core : PlainCore) (limits : Limits) (n : ℕ) (raw : RawValue) (complemented : Bool) : Type 0 where
+  pub auto : RawValue
+  pub raw_is : IsRaw auto
+  pub auto_is : IsAuto auto
+  pub slots : raw.arena.slots ≡ auto.arena.slots
+  pub accepts : HaveSameBehaviours auto.arena.slots (accepted_by raw complemented) (raw_accepts auto)
+  pub counts : List Count
+  pub goal : IsGoal core limits n auto counts
 
 -- ---- counts
 

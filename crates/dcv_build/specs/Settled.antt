@@ -1,27 +1,34 @@
 -- For the proofs alone: what the exploration of one machine gives within the limits.
 --     IsOwn limits one                  what the table of a machine that was explored has of its own: it is an automaton's, and within the limits
 --     IsBuilt                           the canonical table of a machine that is within the limits, with its exact counts
+--     IsExploredWithin                  the automaton of a machine that is within the limits, where the parts of a proposition leave it less room
+--     HasExplored                       that automaton beside its exact counts
 --     IsLeastOf raw auto                the canonical automaton of what a raw one accepts
---     Settles                           what a call answers that makes the automaton of a machine for a step
+--     IsLeastMade explored made         that of what was explored, beside the same counts
+--     Settles                           what a call answers that explores a machine for a step
 --     IsFor                             a number on a shelf is that of a machine's table, and the counts beside it are the machine's
 --     Answers                           what a call answers that finds this number for a step
 --     fault_at step limits fault        the fault of a step whose exploration has this fault
-use Rattle.std.specs.Prelude.{◌≡◌, ℕ, ◌≤◌, List, length, Some, slice_get, Result, Err, IfOk}
+use Rattle.std.specs.Prelude.{◌≡◌, ℕ, ◌+◌, ◌-◌, ◌≤◌, List, length, Some, slice_get, Result, Err, IfOk}
 use Rattle.dcv_word.specs.Behaviour.{Word}
 use Rattle.dcv_language.specs.Automaton.{WorkingMachine, accepts}
 use Rattle.dcv_language.specs.Canonical.{IsCanonical}
-use Rattle.dcv_dfa.specs.Raw.{RawValue, IsRaw}
+use Rattle.dcv_language.specs.Language.{HaveSameBehaviours}
+use Rattle.dcv_dfa.specs.Raw.{RawValue, IsRaw, raw_accepts}
 use Rattle.dcv_dfa.specs.Auto.{IsAuto, count_of_nodes}
 use Rattle.dcv_minimise.specs.Minimal.{IsMinimalOf}
 use Rattle.dcv_explore.specs.declared.explorer.Limits.{Limits}
 use Rattle.dcv_explore.specs.declared.faults.ExploreFault.{ExploreFault}
 use Rattle.dcv_explore.specs.declared.faults.ExploreFault.TheVariants.{States as TooMany, Nodes as TooLarge, Memory as NoMemory}
 use Rattle.dcv_explore.specs.Budget.{TooManyStates, TooManyNodes, Passes}
+use Rattle.dcv_explore.specs.Explored.{IsExplored}
+use Rattle.dcv_explore.specs.Reached.{HasCounts}
 use Rattle.dcv_shelf.specs.Shelf.{ShelfTable, table_of_auto}
 use Rattle.dcv_build.specs.Counts.{HasAllCounts}
 use Rattle.dcv_build.specs.declared.asked.Answer.{Answer}
 use Rattle.dcv_build.specs.declared.faults.BuildFault.{BuildFault}
 use Rattle.dcv_build.specs.declared.faults.BuildFault.TheVariants.{States, Nodes, Memory}
+use Rattle.dcv_build.specs.declared.settling.Explored.{Explored}
 use Rattle.dcv_build.specs.declared.settling.Made.{Made}
 
 pub record IsOwn (limits : Limits) (one : ShelfTable) : Type 0 where
@@ -47,8 +54,29 @@ pub record IsLeastOf (raw auto : RawValue) : Type 0 where
   pub raw_is : IsRaw auto
   pub auto_is : IsAuto auto
 
-pub record Settles {S : Type 0} (machine : WorkingMachine S) (parts : ℕ) (limits : Limits) (step : ℕ) (result : Result Made BuildFault) : Type 0 where
-  pub built : IfOk result (λ made. IsBuilt machine parts limits (table_of_auto made.auto) made.states made.nodes)
+-- it stands for what was explored, and the counts are the same
+pub record IsLeastMade (explored : Explored) (made : Made) : Type 0 where
+  pub least : IsLeastOf explored.raw made.auto
+  pub states_are : made.states ≡ explored.states
+  pub nodes_are : made.nodes ≡ explored.nodes
+
+-- what the explorer gives where the parts of a proposition leave it less room
+pub record IsExploredWithin {S : Type 0} (machine : WorkingMachine S) (parts : ℕ) (limits : Limits) (found : RawValue) : Type 0 where
+  pub few : parts ≤ limits.nodes
+  pub raw : IsRaw found
+  pub explored : IsExplored machine found
+  pub alike : HaveSameBehaviours machine.slots (raw_accepts found) (accepts machine.automaton)
+  pub counts : HasCounts machine (length found.rows) (length found.arena.nodes)
+  pub states : length found.rows ≤ limits.states
+  pub nodes : length found.arena.nodes ≤ limits.nodes - parts
+
+pub record HasExplored {S : Type 0} (machine : WorkingMachine S) (parts : ℕ) (limits : Limits) (explored : Explored) : Type 0 where
+  pub within : IsExploredWithin machine parts limits explored.raw
+  pub states_are : explored.states ≡ length explored.raw.rows
+  pub nodes_are : explored.nodes ≡ parts + length explored.raw.arena.nodes
+
+pub record Settles {S : Type 0} (machine : WorkingMachine S) (parts : ℕ) (limits : Limits) (step : ℕ) (result : Result Explored BuildFault) : Type 0 where
+  pub built : IfOk result (HasExplored machine parts limits)
   pub states : (at limit : ℕ) → result ≡ Err (States at limit) → (at ≡ step) × (limit ≡ limits.states) × Passes TooManyStates machine parts limits
   pub nodes : (at limit : ℕ) → result ≡ Err (Nodes at limit) → (at ≡ step) × (limit ≡ limits.nodes) × Passes TooManyNodes machine parts limits
 

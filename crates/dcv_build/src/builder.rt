@@ -1,4 +1,4 @@
-// Builds of cores: each begins with nothing known, and explores no operator twice over the same automata of one shelf.
+// Builds of cores: each begins with nothing known, and explores no operator but the last twice over the same automata of one shelf.
 ghost use Rattle.std.specs.Prelude.{◌≡◌, ◌≤◌, ℕ, Err, length, IfOk, OnOk};
 ghost use Rattle.dcv_core.specs.Core.{CoreTree};
 ghost use Rattle.dcv_core.specs.Holds.{words_of};
@@ -7,13 +7,14 @@ ghost use Rattle.dcv_dfa.specs.Auto.{count_of_nodes};
 ghost use Rattle.dcv_explore.specs.Budget.{TooManyStates, TooManyNodes};
 ghost use Rattle.dcv_build.specs.declared.faults.BuildFault.TheVariants.{States, Nodes};
 ghost use Rattle.dcv_build.specs.Given.{IsCoreOf, IsCore};
-ghost use Rattle.dcv_build.specs.Budget.{IsWithinBudget, IsOver, IsAutomatonOf};
+ghost use Rattle.dcv_build.specs.Budget.{IsWithinBudget, IsOver, IsAutomatonOf, IsRawOf};
 ghost use Rattle.dcv_build.specs.Counts.{AreCounts};
 
-use crate::building::Building;
+use crate::building::{Building, is_complemented};
 use crate::faults::BuildFault;
+use crate::tasks::last_operator;
 use dcv_core::Core;
-use dcv_dfa::Auto;
+use dcv_dfa::{Auto, Raw};
 use dcv_explore::Limits;
 use dcv_language::Count;
 use std::alloc::Global;
@@ -26,6 +27,15 @@ pub struct Built {
     pub auto: Auto,
     /// What each step took.
     pub counts: Vec<Count>,
+}
+
+/// An automaton for a goal's words as its last operator was explored.
+#[derive(Drop)]
+pub struct BuiltRaw {
+    /// The automaton, over the variables that the core declares.
+    pub raw: Raw,
+    /// Whether it accepts the words that are not the goal's, in place of the goal's.
+    pub complemented: bool,
 }
 
 /// Builds cores within limits, each from nothing.
@@ -89,6 +99,28 @@ pub fn build_counted(alloc: Global, core: &Core, limits: Limits) -> Result<Built
     builder.build_counted(core)
 }
 
+/// An automaton of the goal's words that need not be the least, and of which nothing is minimised after its last operator was explored.
+///
+/// Its verdict needs no more than this: shortest words are found in any automaton.
+pub fn build_raw(alloc: Global, core: &Core, limits: Limits) -> Result<BuiltRaw, BuildFault>
+    requires { IsCore core.now }
+
+    // It accepts the core's words over the declared variables, or those outside them.
+    ensures accepts { (tree : CoreTree) → IsCoreOf tree core.now → IfOk result (λ built. IsRawOf core.now.declared (words_of tree) built.raw built.complemented) }
+    ensures few_states { IfOk result (λ built. length built.raw.rows ≤ limits.states) }
+    ensures few_nodes { IfOk result (λ built. length built.raw.arena.nodes ≤ limits.nodes) }
+
+    // It comes where the automaton of `build` does, and the faults are those of `build`.
+    ensures within { (tree : CoreTree) → IsCoreOf tree core.now → OnOk result (IsWithinBudget (steps_of core.now.declared tree) limits) }
+    ensures states { (tree : CoreTree) (step limit : ℕ) → IsCoreOf tree core.now → result ≡ Err (States step limit)
+        → (limit ≡ limits.states) × IsOver (steps_of core.now.declared tree) limits TooManyStates step }
+    ensures nodes { (tree : CoreTree) (step limit : ℕ) → IsCoreOf tree core.now → result ≡ Err (Nodes step limit)
+        → (limit ≡ limits.nodes) × IsOver (steps_of core.now.declared tree) limits TooManyNodes step }
+{
+    let mut builder = Builder::new(alloc, limits);
+    builder.build_raw(core)
+}
+
 impl Builder {
     /// A builder within these limits. It takes no memory.
     pub fn new(alloc: Global, limits: Limits) -> Builder
@@ -134,13 +166,39 @@ impl Builder {
         ensures nodes { (tree : CoreTree) (step limit : ℕ) → IsCoreOf tree core.now → result ≡ Err (Nodes step limit)
             → (limit ≡ self.old.nodes) × IsOver (steps_of core.now.declared tree) self.old TooManyNodes step }
     {
+        let last = last_operator(core);
         let mut building = Building::new(self.alloc, self.limits);
-        let taken = building.take_all(core);
+        let taken = building.take_to(core, last);
         self.explored = building.explored();
-        let auto = taken?;
+        let auto = building.finish(core, last + 1, taken?)?;
         Ok(Built {
             auto,
             counts: building.into_counts(),
+        })
+    }
+
+    /// The automaton of the goal's words as it was explored, as `build_raw` gives it.
+    pub fn build_raw(&mut self, core: &Core) -> Result<BuiltRaw, BuildFault>
+        requires { IsCore core.now }
+        ensures same { self.new ≡ self.old }
+        ensures accepts { (tree : CoreTree) → IsCoreOf tree core.now → IfOk result (λ built. IsRawOf core.now.declared (words_of tree) built.raw built.complemented) }
+        ensures few_states { IfOk result (λ built. length built.raw.rows ≤ self.old.states) }
+        ensures few_nodes { IfOk result (λ built. length built.raw.arena.nodes ≤ self.old.nodes) }
+        ensures within { (tree : CoreTree) → IsCoreOf tree core.now → OnOk result (IsWithinBudget (steps_of core.now.declared tree) self.old) }
+        ensures states { (tree : CoreTree) (step limit : ℕ) → IsCoreOf tree core.now → result ≡ Err (States step limit)
+            → (limit ≡ self.old.states) × IsOver (steps_of core.now.declared tree) self.old TooManyStates step }
+        ensures nodes { (tree : CoreTree) (step limit : ℕ) → IsCoreOf tree core.now → result ≡ Err (Nodes step limit)
+            → (limit ≡ self.old.nodes) × IsOver (steps_of core.now.declared tree) self.old TooManyNodes step }
+    {
+        let last = last_operator(core);
+        let mut building = Building::new(self.alloc, self.limits);
+        let taken = building.take_to(core, last);
+        self.explored = building.explored();
+        drop(building);
+        let explored = taken?;
+        Ok(BuiltRaw {
+            raw: explored.raw,
+            complemented: is_complemented(core, last + 1),
         })
     }
 

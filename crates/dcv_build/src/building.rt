@@ -1,18 +1,21 @@
 // The steps of a core, built one after another. A step takes the automata of its operands from the end of those that wait, and its own
-// waits in their place. That of the last operator goes on no shelf: it is turned where it is by the `!` after it, and handed out.
-ghost use Rattle.std.specs.Prelude.{◌≡◌, ◌<◌, ◌≤◌, ◌+◌, [], ℕ, Err, length, IfOk, OnOk};
+// waits in their place. That of the last operator goes on no shelf, and is handed out as it was explored; or it is minimised, and turned
+// where it is by the `!` after it.
+ghost use Rattle.std.specs.Prelude.{◌≡◌, ◌<◌, ◌≤◌, ◌+◌, [], ℕ, Err, List, length, IfOk, OnOk};
 ghost use Rattle.dcv_atoms.specs.AtomRows.{atom_machine};
 ghost use Rattle.dcv_atoms.specs.Parts.{atom_nodes};
 ghost use Rattle.dcv_atoms.specs.Steps.{IsAtom};
 ghost use Rattle.dcv_core.specs.Core.{CoreTree, PlainBasic};
 ghost use Rattle.dcv_core.specs.Steps.{OpNot, steps_of};
+ghost use Rattle.dcv_dfa.specs.Raw.{RawValue};
+ghost use Rattle.dcv_language.specs.declared.count.Count.{Count as CountValue};
 ghost use Rattle.dcv_explore.specs.Budget.{TooManyStates, TooManyNodes};
 ghost use Rattle.dcv_explore.specs.declared.explorer.Limits.{Limits as AnyLimits};
 ghost use Rattle.dcv_shelf.specs.Shelf.{KeepsNumbers};
 ghost use Rattle.dcv_build.specs.declared.faults.BuildFault.TheVariants.{States, Nodes};
 ghost use Rattle.dcv_build.specs.Asked.{tables_at, AreThere};
 ghost use Rattle.dcv_build.specs.Budget.{IsOver};
-ghost use Rattle.dcv_build.specs.Building.{IsBuilding, ForTree, Goes, GoesWith, Makes, IsGoal, IsNoted};
+ghost use Rattle.dcv_build.specs.Building.{IsBuilding, ForTree, Goes, GoesWith, Makes, IsGoal, IsExploredGoal, IsRawGoal, IsNoted};
 ghost use Rattle.dcv_build.specs.Tasks.{Here, TurnFrom, IsNoComplement};
 ghost use Rattle.dcv_build.specs.Settled.{Answers, Settles};
 ghost use Rattle.dcv_build.specs.Given.{IsCoreOf, IsCore};
@@ -21,8 +24,8 @@ use crate::asked::Answer;
 use crate::faults::BuildFault;
 use crate::known::Known;
 use crate::operations;
-use crate::settling::Made;
-use crate::tasks::{Task, last_operator, task_of};
+use crate::settling::{Explored, least};
+use crate::tasks::{Task, task_of};
 use dcv_atoms::laws::machines_accept_steps as atoms_accept_steps;
 use dcv_core::Core;
 use dcv_dfa::Auto;
@@ -68,21 +71,44 @@ impl Building {
         self.known.explored()
     }
 
-    // Builds all steps, and gives the automaton of the last one.
-    pub(crate) fn take_all(&mut self, core: &Core) -> Result<Auto, BuildFault>
+    // Builds the steps up to this one, which is no `!`, and gives the automaton that was explored for it.
+    pub(crate) fn take_to(&mut self, core: &Core, last: u32) -> Result<Explored, BuildFault>
         requires core { IsCore core.now }
+        requires last { last < length core.now.steps }
+        requires operator { IsNoComplement core.now last }
         requires begun { IsBuilding core.now 0 self.old }
-        ensures goal { IfOk result (λ auto. IsGoal core.now self.old.known.limits (length core.now.steps) auto self.new.counts.items) }
+        ensures goal { IfOk result (λ explored. IsExploredGoal core.now self.old.known.limits (last + 1) explored.raw self.new.counts.items) }
         ensures states { (tree : CoreTree) (step limit : ℕ) → IsCoreOf tree core.now → result ≡ Err (States step limit)
             → (limit ≡ self.old.known.limits.states) × IsOver (steps_of core.now.declared tree) self.old.known.limits TooManyStates step }
         ensures nodes { (tree : CoreTree) (step limit : ℕ) → IsCoreOf tree core.now → result ≡ Err (Nodes step limit)
             → (limit ≡ self.old.known.limits.nodes) × IsOver (steps_of core.now.declared tree) self.old.known.limits TooManyNodes step }
     {
-        let last = last_operator(core);
         self.take_steps(core, last)?;
-        let made = self.make(core, last)?;
-        note(core, last, made.states, made.nodes, &mut self.counts)?;
-        Ok(turn(core, last + 1, made.auto, &mut self.counts)?)
+        let explored = self.make(core, last)?;
+        note(
+            core,
+            last,
+            explored.states,
+            explored.nodes,
+            &mut self.counts,
+        )?;
+        Ok(explored)
+    }
+
+    // The canonical automaton of the last step, given what was explored for the one before this: from here on each is a complement.
+    pub(crate) fn finish(
+        &mut self,
+        core: &Core,
+        from: u32,
+        explored: Explored,
+    ) -> Result<Auto, AllocError>
+        requires within { from ≤ length core.now.steps }
+        requires turn { TurnFrom core.now from }
+        ensures { (limits : AnyLimits) → IsExploredGoal core.now limits from explored.raw self.old.counts.items
+            → IfOk result (λ auto. IsGoal core.now limits (length core.now.steps) auto self.new.counts.items) }
+    {
+        let made = least(self.alloc, explored)?;
+        turn(core, from, made.auto, &mut self.counts)
     }
 
     // Builds the steps before this one.
@@ -105,8 +131,8 @@ impl Building {
         Ok(())
     }
 
-    // The automaton of a step that is no `!`, where those before it are built. Its operands wait no more, and it goes on no shelf.
-    fn make(&mut self, core: &Core, step: u32) -> Result<Made, BuildFault>
+    // What is explored for a step that is no `!`, where those before it are built. Its operands wait no more, and it goes on no shelf.
+    fn make(&mut self, core: &Core, step: u32) -> Result<Explored, BuildFault>
         requires core { IsCore core.now }
         requires step { step < length core.now.steps }
         requires operator { IsNoComplement core.now step }
@@ -120,12 +146,15 @@ impl Building {
         match task_of(core, step, &mut self.waiting) {
             Task::Atom => self.make_atom(core, step),
             Task::Complement(_) => unreachable!(),
-            Task::Operator(asked) => self.known.make(asked, step),
+            Task::Operator(asked) => {
+                self.known.count();
+                self.known.explore(asked, step)
+            }
         }
     }
 
     // The automaton of a form without a formula in it, which is explored always.
-    fn make_atom(&mut self, core: &Core, step: u32) -> Result<Made, BuildFault>
+    fn make_atom(&mut self, core: &Core, step: u32) -> Result<Explored, BuildFault>
         requires { (basic : PlainBasic) × (slots : ℕ) × IsAtom core.now step basic slots }
         ensures known { self.new.known ≡ self.old.known }
         ensures waiting { self.new.waiting ≡ self.old.waiting }
@@ -133,9 +162,8 @@ impl Building {
         ensures settles { (basic : PlainBasic) (slots : ℕ) → IsAtom core.now step basic slots
             → Settles (atom_machine slots basic) (atom_nodes slots basic) self.old.known.limits step result }
     {
-        let made = operations::atom(self.alloc, core, step, self.known.limits())?;
         self.known.count();
-        Ok(made)
+        operations::atom(self.alloc, core, step, self.known.limits())
     }
 
     // What each step took.
@@ -155,7 +183,8 @@ impl Building {
         ensures answers { (basic : PlainBasic) (slots : ℕ) → IsAtom core.now step basic slots
             → Answers (atom_machine slots basic) (atom_nodes slots basic) self.old.known.limits step self.new.known.tables result }
     {
-        let made = operations::atom(self.alloc, core, step, self.known.limits())?;
+        let explored = operations::atom(self.alloc, core, step, self.known.limits())?;
+        let made = least(self.alloc, explored)?;
         Ok(self.known.put(&made)?)
     }
 
@@ -276,4 +305,20 @@ fn note(
         nodes,
     })?;
     Ok(())
+}
+
+// Whether the last step is the complement of the one before this, given that from here on each is that of the one before.
+pub(crate) fn is_complemented(core: &Core, from: u32) -> bool
+    requires within { from ≤ length core.now.steps }
+    requires turn { TurnFrom core.now from }
+    ensures { (limits : AnyLimits) (raw : RawValue) (counts : List CountValue) → IsExploredGoal core.now limits from raw counts
+        → IsRawGoal core.now limits (length core.now.steps) raw result }
+{
+    atoms_accept_steps();
+    one_canonical_table();
+    let mut complemented = false;
+    for _step in from..core.steps() {
+        complemented = !complemented;
+    }
+    complemented
 }

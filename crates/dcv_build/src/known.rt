@@ -7,7 +7,7 @@ ghost use Rattle.dcv_build.specs.Asked.{AreOperands, SettlesAsked, AnswersAsked,
 use crate::asked::{Answer, Asked};
 use crate::faults::BuildFault;
 use crate::operations;
-use crate::settling::Made;
+use crate::settling::{Explored, Made, least};
 use dcv_dfa::{Auto, Table};
 use dcv_explore::Limits;
 use dcv_shelf::Shelf;
@@ -98,24 +98,11 @@ impl Known {
         if let Some(answer) = self.find(asked) {
             return Ok(answer);
         }
-        let made = self.explore(asked, step)?;
+        let explored = self.explore(asked, step)?;
+        let made = least(self.alloc, explored)?;
         let answer = self.put(&made)?;
         self.remember(asked, answer)?;
         Ok(answer)
-    }
-
-    // The automaton of an operator over automata of the shelf, which does not go there. It is explored where it is not known.
-    pub(crate) fn make(&mut self, asked: Asked, step: u32) -> Result<Made, BuildFault>
-        requires { AreOperands self.old.tables asked }
-        ensures settles { SettlesAsked self.old.tables asked self.old.limits step result }
-        ensures same { self.new ≡ self.old }
-    {
-        if let Some(answer) = self.find(asked) {
-            return Ok(self.take_out(answer)?);
-        }
-        let made = self.explore(asked, step)?;
-        self.count();
-        Ok(made)
     }
 
     // What is known of an operator.
@@ -134,8 +121,8 @@ impl Known {
         Ok(())
     }
 
-    // The automaton of an operator over automata of the shelf.
-    fn explore(&self, asked: Asked, step: u32) -> Result<Made, BuildFault>
+    // The automaton of an operator over automata of the shelf, as it is explored.
+    pub(crate) fn explore(&self, asked: Asked, step: u32) -> Result<Explored, BuildFault>
         requires { AreOperands self.now.tables asked }
         ensures { SettlesAsked self.now.tables asked self.now.limits step result }
     {
@@ -234,19 +221,6 @@ impl Known {
         ensures { IfOk result (λ auto. slice_get self.now.tables number ≡ Some (table_of_auto auto)) }
     {
         self.shelf.copy_out(number)
-    }
-
-    // What answered an operator, in an arena of its own.
-    fn take_out(&self, answer: Answer) -> Result<Made, AllocError>
-        requires { answer.number < length self.now.tables }
-        ensures { IfOk result (λ made. IsPut made self.now.tables answer) }
-    {
-        let auto = self.copy_out(answer.number)?;
-        Ok(Made {
-            auto,
-            states: answer.states,
-            nodes: answer.nodes,
-        })
     }
 }
 

@@ -6,11 +6,12 @@
 //! let auto = build(alloc, &core, limits)?;
 //! auto.states() // the least number for the words of the goal
 //! build_counted(alloc, &core, limits)?.counts // what each step took
+//! build_raw(alloc, &core, limits)?.raw // not minimised, which a verdict does not need
 //! ```
 //!
 //! What a step may need is defined in `specs/`: the machine that is explored for it is a function of its operator and of the canonical
 //! tables of its operands, which are determined, and `laws` has that at most one step is over. In one build an operator is explored once
-//! over the same tables of one shelf: what it gave is found again by the numbers that its operands have there.
+//! over the same tables of one shelf, unless it is the last: what it gave is found again by the numbers that its operands have there.
 #![tactic(auto)]
 
 mod asked;
@@ -23,5 +24,5 @@ mod operations;
 mod settling;
 mod tasks;
 
-pub use builder::{Builder, Built, build, build_counted};
+pub use builder::{Builder, Built, BuiltRaw, build, build_counted, build_raw};
 pub use faults::BuildFault;

@@ -1,4 +1,4 @@
-// The automaton of each operator, of the automata of its operands where they stand on the shelf.
+// What is explored for each operator, of the automata of its operands where they stand on the shelf.
 ghost use Rattle.std.specs.Prelude.{◌≡◌, ◌<◌, ◌-◌, ℕ};
 ghost use Rattle.dcv_language.specs.OperationMachines.{and_machine, or_machine, iff_machine, chop_machine, star_machine, exists_machine};
 ghost use Rattle.dcv_language.specs.Table.{automaton_of};
@@ -10,7 +10,7 @@ ghost use Rattle.dcv_shelf.specs.Stored.{view_table};
 ghost use Rattle.dcv_build.specs.Settled.{Settles};
 
 use crate::faults::BuildFault;
-use crate::settling::{Made, settle};
+use crate::settling::{Explored, settle};
 use dcv_atoms::{Atom, AtomFault};
 use dcv_chop::{Chop, Star};
 use dcv_core::Core;
@@ -26,7 +26,7 @@ pub(crate) fn atom(
     core: &Core,
     step: u32,
     limits: Limits,
-) -> Result<Made, BuildFault>
+) -> Result<Explored, BuildFault>
     requires { (basic : PlainBasic) × (slots : ℕ) × IsAtom core.now step basic slots }
     ensures { (basic : PlainBasic) (slots : ℕ) → IsAtom core.now step basic slots
         → Settles (atom_machine slots basic) (atom_nodes slots basic) limits step result }
@@ -48,7 +48,7 @@ pub(crate) fn conjunction(
     second: View<'_>,
     limits: Limits,
     step: u32,
-) -> Result<Made, BuildFault>
+) -> Result<Explored, BuildFault>
     requires { first.stored.slots ≡ second.stored.slots }
     ensures { Settles (and_machine first.entry.stored.slots (automaton_of (view_table first.entry).table) (automaton_of (view_table second.entry).table)) 0 limits step result }
 {
@@ -62,7 +62,7 @@ pub(crate) fn disjunction(
     second: View<'_>,
     limits: Limits,
     step: u32,
-) -> Result<Made, BuildFault>
+) -> Result<Explored, BuildFault>
     requires { first.stored.slots ≡ second.stored.slots }
     ensures { Settles (or_machine first.entry.stored.slots (automaton_of (view_table first.entry).table) (automaton_of (view_table second.entry).table)) 0 limits step result }
 {
@@ -76,7 +76,7 @@ pub(crate) fn agreement(
     second: View<'_>,
     limits: Limits,
     step: u32,
-) -> Result<Made, BuildFault>
+) -> Result<Explored, BuildFault>
     requires { first.stored.slots ≡ second.stored.slots }
     ensures { Settles (iff_machine first.entry.stored.slots (automaton_of (view_table first.entry).table) (automaton_of (view_table second.entry).table)) 0 limits step result }
 {
@@ -90,7 +90,7 @@ pub(crate) fn chop(
     second: View<'_>,
     limits: Limits,
     step: u32,
-) -> Result<Made, BuildFault>
+) -> Result<Explored, BuildFault>
     requires { first.stored.slots ≡ second.stored.slots }
     ensures { Settles (chop_machine first.entry.stored.slots (automaton_of (view_table first.entry).table) (automaton_of (view_table second.entry).table)) 0 limits step result }
 {
@@ -103,7 +103,7 @@ pub(crate) fn star(
     operand: View<'_>,
     limits: Limits,
     step: u32,
-) -> Result<Made, BuildFault>
+) -> Result<Explored, BuildFault>
     ensures { Settles (star_machine operand.entry.stored.slots (automaton_of (view_table operand.entry).table)) 0 limits step result }
 {
     settle(alloc, &Star::new(&operand), 0, limits, step)
@@ -115,7 +115,7 @@ pub(crate) fn some_track(
     operand: View<'_>,
     limits: Limits,
     step: u32,
-) -> Result<Made, BuildFault>
+) -> Result<Explored, BuildFault>
     requires { 0 < operand.stored.slots }
     ensures { Settles (exists_machine (operand.entry.stored.slots - 1) (automaton_of (view_table operand.entry).table)) 0 limits step result }
 {

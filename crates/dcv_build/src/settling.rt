@@ -1,7 +1,6 @@
-// From a machine to its canonical automaton, within the limits.
+// From a machine to the automaton that is explored for it within the limits, and from that to the canonical one.
 ghost use Rattle.std.specs.Prelude.{◌≡◌, ◌≤◌, ◌-◌, IfOk};
-ghost use Rattle.dcv_dfa.specs.Raw.{IsRaw};
-ghost use Rattle.dcv_build.specs.Settled.{IsLeastOf, Settles, fault_at};
+ghost use Rattle.dcv_build.specs.Settled.{IsLeastMade, Settles, fault_at};
 
 use crate::faults::BuildFault;
 use dcv_dfa::{Auto, Raw};
@@ -9,7 +8,15 @@ use dcv_explore::{ExploreFault, Limits, Machine, explore_large};
 use dcv_minimise::minimise;
 use std::alloc::{AllocError, Global};
 
-// An automaton, and what was counted as its machine was explored.
+// An automaton as its machine was explored, and what was counted.
+#[derive(Drop)]
+pub(crate) struct Explored {
+    pub(crate) raw: Raw,
+    pub(crate) states: u32,
+    pub(crate) nodes: u32,
+}
+
+// The canonical automaton, beside the same counts.
 #[derive(Drop)]
 pub(crate) struct Made {
     pub(crate) auto: Auto,
@@ -17,15 +24,15 @@ pub(crate) struct Made {
     pub(crate) nodes: u32,
 }
 
-// The canonical automaton of what the machine of a step accepts, with its counts. The parts of its proposition, if it has one, have so
-// many nodes, which count towards the limit.
+// The automaton of what the machine of a step accepts, with its counts. The parts of its proposition, if it has one, have so many nodes,
+// which count towards the limit.
 pub(crate) fn settle<M: Machine>(
     alloc: Global,
     machine: &M,
     parts: u32,
     limits: Limits,
     step: u32,
-) -> Result<Made, BuildFault>
+) -> Result<Explored, BuildFault>
     requires { parts ≤ limits.nodes }
     ensures { Settles (M.machine machine.now) parts limits step result }
 {
@@ -33,12 +40,7 @@ pub(crate) fn settle<M: Machine>(
         Ok(raw) => {
             let states = raw.states();
             let nodes = parts + raw.arena().len();
-            let auto = least(alloc, raw)?;
-            Ok(Made {
-                auto,
-                states,
-                nodes,
-            })
+            Ok(Explored { raw, states, nodes })
         }
         Err(fault) => Err(at_step(step, limits, fault)),
     }
@@ -73,14 +75,18 @@ fn at_step(step: u32, limits: Limits, fault: ExploreFault) -> BuildFault
     }
 }
 
-// The canonical automaton of what the raw one accepts.
-fn least(alloc: Global, raw: Raw) -> Result<Auto, AllocError>
-    ensures raw { IsRaw raw }
-    ensures least { IfOk result (IsLeastOf raw) }
+// The canonical automaton of what was explored.
+pub(crate) fn least(alloc: Global, explored: Explored) -> Result<Made, AllocError>
+    ensures { IfOk result (IsLeastMade explored) }
 {
+    let (states, nodes) = (explored.states, explored.nodes);
     // for the prover: what is true of every raw and of every canonical automaton.
-    let _raw_states = raw.states();
-    let auto = minimise(alloc, raw)?;
+    let _raw_states = explored.raw.states();
+    let auto = minimise(alloc, explored.raw)?;
     let _states = auto.states();
-    Ok(auto)
+    Ok(Made {
+        auto,
+        states,
+        nodes,
+    })
 }

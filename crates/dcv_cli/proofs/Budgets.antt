@@ -1,5 +1,5 @@
 -- What `build` answers of a core is what is right for the steps of its file, and the verdict of its automaton is that of its words.
-use Rattle.std.proofs.Common.{◌≡◌, ℕ, ◌<◌, ◌≤◌, List, length, map, Option, None, Some, Result, Ok, Err, sym, ap, ◌∙◌, subst}
+use Rattle.std.proofs.Common.{◌≡◌, ℕ, ◌<◌, ◌≤◌, Bool, List, length, map, Option, None, Some, Result, Ok, Err, sym, ap, ◌∙◌, subst}
 use Rattle.std.specs.Prelude.{IfOk, IfErr, OnOk, slice_get}
 use Rattle.std.specs.Option.{option_map}
 use Rattle.std.proofs.lemmas.Option.{slice_get-map, slice_get_within}
@@ -17,16 +17,18 @@ use Rattle.dcv_dfa.specs.Raw.{RawValue, IsRaw, raw_accepts}
 use Rattle.dcv_language.specs.Table.{table_accepts}
 use Rattle.dcv_dfa.specs.Auto.{IsAuto, count_of_nodes, table_of_states}
 use Rattle.dcv_explore.specs.declared.explorer.Limits.{Limits}
-use Rattle.dcv_explore.specs.Budget.{Kind}
-use Rattle.dcv_build.specs.Budget.{IsAutomatonOf, IsOver, IsWithinBudget}
+use Rattle.dcv_explore.specs.Budget.{Kind, TooManyStates, TooManyNodes}
+use Rattle.dcv_build.specs.Budget.{IsAutomatonOf, IsRawOf, IsOver, IsWithinBudget}
 use Rattle.dcv_build.specs.Counts.{AreCounts}
 use Rattle.dcv_build.specs.Given.{IsCoreOf, IsCore}
 use Rattle.dcv_build.specs.declared.builder.Built.{Built}
+use Rattle.dcv_build.specs.declared.faults.BuildFault.{BuildFault}
+use Rattle.dcv_build.specs.declared.faults.BuildFault.TheVariants.{States as OverStates, Nodes as OverNodes, Memory as NoMemory}
 use Rattle.dcv_cli.specs.declared.budget_line.Excess.{Excess}
 use Rattle.dcv_cli.specs.declared.budget_line.Over.{Over}
 use Rattle.dcv_cli.specs.declared.refusal.Refusal.{Refusal}
 use Rattle.dcv_cli.specs.Expanded.{IsBuilt}
-use Rattle.dcv_cli.specs.Budget.{steps_of_file, kind_of, limit_of, IsFirstOverIn, NamesFirstOver}
+use Rattle.dcv_cli.specs.Budget.{steps_of_file, kind_of, limit_of, IsFirstOverIn, NamesFirstOver, IsAtSomeStep, IsFaultOver}
 
 -- ---- steps of a core, with and without their trees
 
@@ -35,6 +37,21 @@ pub over_is_there : (core : PlainCore) (tree : CoreTree) (limits : Limits) (kind
     → IsOver (steps_of core.declared tree) limits kind step → step < length core.steps
 over_is_there core tree limits kind step is over = slice_get_within core.steps step (without_core over.step) (ap (λ steps. slice_get steps step) is
     ∙ slice_get-map without_core (steps_of core.declared tree) step ∙ ap (option_map without_core) over.is_there)
+
+-- what the builder says of its faults, said of one
+module _ {T : Type 0} (steps : List PlainStep) (limits : Limits) (result : Result T BuildFault)
+    (states : (step limit : ℕ) → result ≡ Err (OverStates step limit) → (limit ≡ limits.states) × IsOver steps limits TooManyStates step)
+    (nodes : (step limit : ℕ) → result ≡ Err (OverNodes step limit) → (limit ≡ limits.nodes) × IsOver steps limits TooManyNodes step) where
+  pub fault_over : (fault : BuildFault) → result ≡ Err fault → IsFaultOver steps limits fault
+  fault_over (OverStates step limit) is = states step limit is
+  fault_over (OverNodes step limit) is = nodes step limit is
+  fault_over NoMemory is = tt
+
+pub at_some_step : (core : PlainCore) (tree : CoreTree) (limits : Limits) → IsCoreOf tree core → (fault : BuildFault) → IsFaultOver (steps_of core.declared tree) limits fault
+    → IsAtSomeStep core fault
+at_some_step core tree limits is (OverStates step limit) over = over_is_there core tree limits TooManyStates step is over.1
+at_some_step core tree limits is (OverNodes step limit) over = over_is_there core tree limits TooManyNodes step is over.1
+at_some_step core tree limits is NoMemory over = tt
 
 begins_there : (steps : List PlainStep) (step at : ℕ) → option_map (λ (s : CoreStep). s.span.start) (slice_get (map without_core steps) step) ≡ Some at
     → option_map (λ (s : PlainStep). s.span.start) (slice_get steps step) ≡ Some at
@@ -86,6 +103,12 @@ module _ (file : PlainFile) (core : PlainCore) (declared : core.declared ≡ len
       → IsWithinBudget (steps_of_file file) limits
   within_in_file limits within =
       subst (λ k. IsWithinBudget (steps_of k (core_of_file file)) limits) declared (within (core_of_file file) core_of_the_file)
+
+  pub raw_of_file : HasNoBoundShift file → (raw : RawValue) (complemented : Bool) → WordsAreModels
+      → ((tree : CoreTree) → IsCoreOf tree core → IsRawOf core.declared (words_of tree) raw complemented) → IsRawOf (length file.variables) (models file) raw complemented
+  raw_of_file unbound raw complemented models_are accepts =
+      let of_words = subst (λ k. IsRawOf k (words_of (core_of_file file)) raw complemented) declared (accepts (core_of_file file) core_of_the_file) in
+      record { slots = of_words.slots; accepts = λ word behaves. of_words.accepts word behaves ∙ models_are file word unbound behaves }
 
   pub automaton_of_file : HasNoBoundShift file → (auto : RawValue) → WordsAreModels → CanonicalForSameBehaviours
       → ((tree : CoreTree) → IsCoreOf tree core → IsAutomatonOf core.declared (words_of tree) auto) → IsAutomatonOf (length file.variables) (models file) auto

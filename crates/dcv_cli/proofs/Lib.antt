@@ -21,6 +21,7 @@ pub mod Printed
 pub mod PrintedLengths
 pub mod Promises
 pub mod Replays
+pub mod Reporting
 pub mod SomeAnswers
 pub mod SomeBounds
 pub mod SomeControllers

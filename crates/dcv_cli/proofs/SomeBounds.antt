@@ -27,7 +27,7 @@ use Rattle.dcv_build.specs.Laws.{MachineAcceptsStep, AreCanonicalBefore}
 use Rattle.dcv_cli.specs.Budget.{steps_of_file}
 use Rattle.dcv_build.proofs.Progress.{row_slots}
 use Rattle.dcv_build.proofs.SameRows.{table_at}
-use Rattle.dcv_existence.proofs.TableBounds.{IsTableWithin, within_of_row}
+use Rattle.dcv_quotient.proofs.TableBounds.{IsTableWithin, within_of_row}
 use Rattle.dcv_cli.proofs.VariableNames.{none_of_both}
 
 module _ (accept : MachineAcceptsStep) (k : ℕ) (tree : CoreTree) (limits : Limits) (within : IsWithinBudget (steps_of k tree) limits) where

@@ -30,7 +30,7 @@ use Rattle.dcv_synth.specs.declared.strategy.Strategy.{Strategy}
 use Rattle.dcv_cli.specs.Outcome.{Outcome}
 use Rattle.dcv_cli.specs.declared.status.Status.TheVariants.{Valid, NotValid}
 use Rattle.dcv_cli.specs.Synthesis.{controller_text, strategy_text, SaysController, SaysStrategy, IsSynthesis, Realisable, Unrealisable}
-use Rattle.dcv_existence.proofs.SomeAutomata.{rows_of}
+use Rattle.dcv_quotient.proofs.SomeAutomata.{rows_of}
 use Rattle.dcv_existence.proofs.SomeControls.{IsControlFor, some_control}
 use Rattle.dcv_existence.proofs.SomeSyntheses.{some_synthesis}
 

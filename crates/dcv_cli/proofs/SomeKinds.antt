@@ -33,14 +33,14 @@ use Rattle.dcv_cli.specs.Outcome.{Outcome}
 use Rattle.dcv_cli.specs.Report.{IsReport}
 use Rattle.dcv_cli.specs.Status.{status_of_verdict}
 use Rattle.dcv_cli.specs.declared.refused.Which.TheVariants.{Only}
-use Rattle.dcv_existence.proofs.SomeAutomata.{some_automaton}
+use Rattle.dcv_quotient.proofs.SomeAutomata.{some_automaton}
 use Rattle.dcv_cli.proofs.SomeBounds.{within_of_file}
 use Rattle.dcv_existence.proofs.SomeBudgets.{counts_within}
 use Rattle.dcv_cli.proofs.SomeReports.{table_of_file, over_or_within}
 use Rattle.dcv_cli.proofs.SomeTexts.{some_text}
 use Rattle.dcv_quotient.proofs.SomeVerdicts.{some_verdict}
 use Rattle.dcv_cli.proofs.StepCounts.{printable_counts}
-use Rattle.dcv_existence.proofs.TableBounds.{IsTableWithin}
+use Rattle.dcv_quotient.proofs.TableBounds.{IsTableWithin}
 use Rattle.dcv_cli.proofs.VariableNames.{are_names}
 
 -- an automaton of the models of a formula file, with their canonical table

@@ -59,7 +59,7 @@ use Rattle.dcv_cli.specs.Comparison.{compared, have_same_texts, IsDifference, Ov
 use Rattle.dcv_cli.specs.Outcome.{Outcome, refused}
 use Rattle.dcv_cli.specs.Swept.{default_limits, IsSwept}
 use Rattle.dcv_cli.proofs.Comparisons.{names_same, names_differ}
-use Rattle.dcv_existence.proofs.RowLimits.{within_or_exceeds, table_of_row}
+use Rattle.dcv_quotient.proofs.RowLimits.{within_or_exceeds, table_of_row}
 use Rattle.dcv_existence.proofs.SomeBudgets.{some_budget, table_of_core}
 use Rattle.dcv_quotient.proofs.SomeVerdicts.{some_least, some_verdict}
 use Rattle.dcv_cli.proofs.VariableNames.{none_of_both}

@@ -26,7 +26,7 @@ use Rattle.dcv_cli.proofs.SomeBounds.{within_of_file}
 use Rattle.dcv_cli.proofs.SomeControllers.{GameLaws, some_synthesis_of}
 use Rattle.dcv_cli.proofs.SomeReports.{table_of_file, over_or_within}
 use Rattle.dcv_cli.proofs.Syntheses.{AreDivided, divided, names_of_inputs, texts_of_some}
-use Rattle.dcv_existence.proofs.TableBounds.{IsTableWithin}
+use Rattle.dcv_quotient.proofs.TableBounds.{IsTableWithin}
 
 -- the inputs have as many names
 inputs_named : (n : ℕ) (names : List Name) → n ≤ length names → length (take n (texts_of names)) ≡ n

@@ -1,4 +1,4 @@
--- Commands that read a second file: what is right for that, after the first, is right for both.
+-- Commands that go on after their first file: what is right for the rest, after that, is right for all.
 use Rattle.std.proofs.Common.{◌≡◌, ℕ, List, [], ◌∷◌, Option, None, Some, Result, refl, sym, ◌∙◌, subst, inl, inr}
 use Rattle.std.specs.Prelude.{nat_eq, if◌then◌else◌}
 use Rattle.dcv_io.specs.Asked.{Asks}
@@ -58,20 +58,20 @@ abbrev pub from : Outside → Outside → Outside
 from before mid = outside mid.told mid.asked before.open_faults before.read_faults before.written before.faults
 
 -- the counts and the output are those before the first file
-counted : {One : Outcome → Type 0} {Left : Outside → Outside → List ℕ → Type 0} (first second : List ℕ) (result : Result Status Refused) (before mid after : Outside)
-    → StepsTo first before mid → Performs One Left (second ∷ []) result mid after → Performs One Left (second ∷ []) result (from before mid) after
-counted {One} {Left} first second result before mid after steps is =
-    subst (λ n. Performs One Left (second ∷ []) result (outside mid.told mid.asked before.open_faults before.read_faults before.written n) after) steps.faults
-    (subst (λ bytes. Performs One Left (second ∷ []) result (outside mid.told mid.asked before.open_faults before.read_faults bytes mid.faults) after) steps.written
-    (subst (λ n. Performs One Left (second ∷ []) result (outside mid.told mid.asked before.open_faults n mid.written mid.faults) after) steps.read
-    (subst (λ n. Performs One Left (second ∷ []) result (outside mid.told mid.asked n mid.read_faults mid.written mid.faults) after) steps.opened is)))
+counted : {One : Outcome → Type 0} {Left : Outside → Outside → List ℕ → Type 0} (first : List ℕ) (others : List (List ℕ)) (result : Result Status Refused) (before mid after : Outside)
+    → StepsTo first before mid → Performs One Left others result mid after → Performs One Left others result (from before mid) after
+counted {One} {Left} first others result before mid after steps is =
+    subst (λ n. Performs One Left others result (outside mid.told mid.asked before.open_faults before.read_faults before.written n) after) steps.faults
+    (subst (λ bytes. Performs One Left others result (outside mid.told mid.asked before.open_faults before.read_faults bytes mid.faults) after) steps.written
+    (subst (λ n. Performs One Left others result (outside mid.told mid.asked before.open_faults n mid.written mid.faults) after) steps.read
+    (subst (λ n. Performs One Left others result (outside mid.told mid.asked n mid.read_faults mid.written mid.faults) after) steps.opened is)))
 
 module _ {One Other : Outcome → Type 0} {Left Leaves : Outside → Outside → List ℕ → Type 0} (moves : (outcome : Outcome) → One outcome → Other outcome)
-    (first second : List ℕ) (result : Result Status Refused) (before mid after : Outside) (steps : StepsTo first before mid)
+    (first : List ℕ) (others : List (List ℕ)) (result : Result Status Refused) (before mid after : Outside) (steps : StepsTo first before mid)
     (leaves : StepsTo first before mid → (bytes : List ℕ) → Left (from before mid) after bytes → Leaves before after bytes) where
-  pub performs_later : Performs One Left (second ∷ []) result mid after → Performs Other Leaves (first ∷ second ∷ []) result before after
+  pub performs_later : Performs One Left others result mid after → Performs Other Leaves (first ∷ others) result before after
   performs_later given =
-      let is = counted first second result before mid after steps given in
+      let is = counted first others result before mid after steps given in
       let left : (some : (bytes : List ℕ) × Left (from before mid) after bytes × Appends before.written after.written bytes)
       → (bytes : List ℕ) × Leaves before after bytes × Appends before.written after.written bytes = λ some. (some.0, leaves steps some.0 some.1, some.2) in
       record {
@@ -81,7 +81,7 @@ module _ {One Other : Outcome → Type 0} {Left Leaves : Outside → Outside →
         silent = is.silent;
         stops = on_true_weaker (is_output (ending result)) (stops_moved moves before.written after.written) is.stops;
         left = on_true_weaker (is_input (ending result)) left is.left;
-        asked = asks_further before.asked mid.asked after.asked (first ∷ []) (second ∷ []) steps.asked is.asked;
+        asked = asks_further before.asked mid.asked after.asked (first ∷ []) others steps.asked is.asked;
         input = is.input;
         opened = is.opened;
         read = is.read;

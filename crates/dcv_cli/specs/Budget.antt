@@ -3,16 +3,20 @@
 --     kind_of, limit_of               what there is too much of, and how much there may be
 --     IsFirstOver limits file over    this step is the first over the limits, with what it has too much of and where its text begins
 --     NamesFirstOver steps limits r   the refusal names the first of these steps that is over the limits, or memory ran out
+--     IsAtSomeStep core fault         a fault of the builder is at a step of the core
+--     IsFaultOver steps limits fault  this is the first of these steps that is over the limits
 --     IsBudgeted limits which Right ..
 --                                     the outcome names the first step over the limits, or there is none and it is right otherwise
-use Rattle.std.specs.Prelude.{◌≡◌, ℕ, List, Some, length, slice_get}
+use Rattle.std.specs.Prelude.{◌≡◌, ℕ, ◌<◌, List, Some, length, slice_get}
 use Rattle.std.specs.Option.{option_map}
 use Rattle.dcv_syntax.specs.Plain.{PlainFile}
 use Rattle.dcv_scope.specs.CoreOf.{core_of_file}
-use Rattle.dcv_core.specs.Steps.{PlainStep, steps_of}
+use Rattle.dcv_core.specs.Steps.{PlainStep, PlainCore, steps_of}
 use Rattle.dcv_explore.specs.declared.explorer.Limits.{Limits}
 use Rattle.dcv_explore.specs.Budget.{Kind, TooManyStates, TooManyNodes}
 use Rattle.dcv_build.specs.Budget.{IsOver, IsWithinBudget}
+use Rattle.dcv_build.specs.declared.faults.BuildFault.{BuildFault}
+use Rattle.dcv_build.specs.declared.faults.BuildFault.TheVariants.{States as OverStates, Nodes as OverNodes, Memory as NoMemory}
 use Rattle.dcv_cli.specs.declared.budget_line.Excess.{Excess}
 use Rattle.dcv_cli.specs.declared.budget_line.Excess.TheVariants.{States, Nodes}
 use Rattle.dcv_cli.specs.declared.budget_line.Over.{Over}
@@ -45,6 +49,16 @@ abbrev pub NamesFirstOver : List PlainStep → Limits → Refusal → Type 0
 NamesFirstOver steps limits (Budget over) = IsFirstOverIn steps limits over
 NamesFirstOver steps limits Memory = Unit {0}
 NamesFirstOver steps limits _ = ⊥
+
+abbrev pub IsAtSomeStep : PlainCore → BuildFault → Type 0
+IsAtSomeStep core (OverStates step limit) = step < length core.steps
+IsAtSomeStep core (OverNodes step limit) = step < length core.steps
+IsAtSomeStep core NoMemory = Unit {0}
+
+abbrev pub IsFaultOver : List PlainStep → Limits → BuildFault → Type 0
+IsFaultOver steps limits (OverStates step limit) = (limit ≡ limits.states) × IsOver steps limits TooManyStates step
+IsFaultOver steps limits (OverNodes step limit) = (limit ≡ limits.nodes) × IsOver steps limits TooManyNodes step
+IsFaultOver steps limits NoMemory = Unit {0}
 
 -- Some step is over the limits, and the first such step is named, of this file of the request; or none is, and the outcome is right for the file in another way, `RightFor`.
 pub data IsBudgeted (limits : Limits) (which : Which) (RightFor : PlainFile → Outcome → Type 0) (file : PlainFile) (outcome : Outcome) : Type 0 where

@@ -5,14 +5,15 @@ ghost use Rattle.dcv_core.specs.Core.{CoreTree};
 ghost use Rattle.dcv_core.specs.Holds.{words_of};
 ghost use Rattle.dcv_core.specs.Steps.{steps_of};
 ghost use Rattle.dcv_dfa.specs.Auto.{count_of_nodes};
-ghost use Rattle.dcv_build.specs.Budget.{IsAutomatonOf, IsWithinBudget};
+ghost use Rattle.dcv_build.specs.Budget.{IsAutomatonOf, IsRawOf, IsWithinBudget};
 ghost use Rattle.dcv_build.specs.Counts.{AreCounts};
 ghost use Rattle.dcv_build.specs.Given.{IsCore, IsCoreOf};
-ghost use Rattle.dcv_cli.specs.Budget.{NamesFirstOver};
+ghost use Rattle.dcv_explore.specs.declared.explorer.Limits.{Limits as AnyLimits};
+ghost use Rattle.dcv_cli.specs.Budget.{NamesFirstOver, IsAtSomeStep, IsFaultOver};
 
 use crate::budget_line::{Excess, Over};
 use crate::refusal::Refusal;
-use dcv_build::{BuildFault, Built, build_counted};
+use dcv_build::{BuildFault, Built, BuiltRaw, build_counted, build_raw};
 use dcv_core::Core;
 use dcv_explore::Limits;
 use std::alloc::Global;
@@ -29,13 +30,37 @@ pub(crate) fn automaton_of(alloc: Global, core: &Core, limits: Limits) -> Result
 {
     match build_counted(alloc, core, limits) {
         Ok(built) => Ok(built),
-        Err(BuildFault::States { step, limit }) => {
-            Err(Refusal::Budget(over(core, Excess::States, limit, step)))
+        Err(fault) => Err(refusal_of(core, fault)),
+    }
+}
+
+/// An automaton of the core's words that is not minimised.
+pub(crate) fn raw_of(alloc: Global, core: &Core, limits: Limits) -> Result<BuiltRaw, Refusal>
+    requires { IsCore core.now }
+    ensures accepts { (tree : CoreTree) → IsCoreOf tree core.now → IfOk result (λ built. IsRawOf core.now.declared (words_of tree) built.raw built.complemented) }
+    ensures within { (tree : CoreTree) → IsCoreOf tree core.now → OnOk result (IsWithinBudget (steps_of core.now.declared tree) limits) }
+    ensures over { (tree : CoreTree) → IsCoreOf tree core.now → IfErr result (NamesFirstOver (steps_of core.now.declared tree) limits) }
+{
+    match build_raw(alloc, core, limits) {
+        Ok(built) => Ok(built),
+        Err(fault) => Err(refusal_of(core, fault)),
+    }
+}
+
+// The refusal that names the step of a fault.
+fn refusal_of(core: &Core, fault: BuildFault) -> Refusal
+    requires { IsAtSomeStep core.now fault }
+    ensures { (tree : CoreTree) (limits : AnyLimits) → IsCoreOf tree core.now → IsFaultOver (steps_of core.now.declared tree) limits fault
+        → NamesFirstOver (steps_of core.now.declared tree) limits result }
+{
+    match fault {
+        BuildFault::States { step, limit } => {
+            Refusal::Budget(over(core, Excess::States, limit, step))
         }
-        Err(BuildFault::Nodes { step, limit }) => {
-            Err(Refusal::Budget(over(core, Excess::Nodes, limit, step)))
+        BuildFault::Nodes { step, limit } => {
+            Refusal::Budget(over(core, Excess::Nodes, limit, step))
         }
-        Err(BuildFault::Memory) => Err(Refusal::Memory),
+        BuildFault::Memory => Refusal::Memory,
     }
 }
 

@@ -21,6 +21,7 @@ mod budget_line;
 mod certifying;
 mod comparing;
 mod converting;
+mod deciding;
 mod expanded;
 mod faults;
 mod judged;

@@ -1,15 +1,17 @@
 // The commands that report on one formula file: from its name to the report.
 ghost use Rattle.std.specs.Prelude.{◌≡◌, ◌≤◌, ℕ, List, IfOk, IfErr};
 ghost use Rattle.dcv_syntax.specs.Plain.{PlainFile};
+ghost use Rattle.dcv_language.specs.declared.kind.Kind.TheVariants.{Check};
 ghost use Rattle.dcv_build.specs.Given.{IsCore};
 ghost use Rattle.dcv_command.specs.Request.{Report as ReportRequest, AreInRange};
 ghost use Rattle.dcv_cli.specs.Budget.{steps_of_file, NamesFirstOver};
 ghost use Rattle.dcv_cli.specs.Expanded.{IsExpanded};
 ghost use Rattle.dcv_cli.specs.FormulaFile.{IsFormulaFile};
-ghost use Rattle.dcv_cli.specs.Judged.{IsJudged};
+ghost use Rattle.dcv_cli.specs.Judged.{IsJudged, ReportsOn};
 ghost use Rattle.dcv_cli.specs.Outside.{outside};
 ghost use Rattle.dcv_cli.specs.Performed.{PerformsRequest};
 
+use crate::deciding::decide;
 use crate::expanded::{Expanded, counted, expanded_file};
 use crate::judged::{Judged, report_on};
 use crate::refusal::Refusal;
@@ -17,7 +19,7 @@ use crate::refused::Refused;
 use crate::status::Status;
 use dcv_explore::Limits;
 use dcv_io::{Files, Sink};
-use dcv_print::Kind;
+use dcv_print::{Kind, Report};
 use dcv_reader::laws::names_are_short;
 use dcv_scope::laws::measures_bound_core;
 use std::alloc::Global;
@@ -37,6 +39,43 @@ pub(crate) fn report_on_file<F: Files, O: Sink>(
         (outside (F.told files.new) (F.asked files.new) (F.open_faults files.new) (F.read_faults files.new) (O.written out.new) (O.faults out.new)) }
 {
     let expanded = expanded_file(alloc, files, name)?;
+    match kind {
+        Kind::Check => check(alloc, expanded, limits, out),
+        _ => print(alloc, kind, expanded, limits, out),
+    }
+}
+
+// Writes the verdict. No step is minimised for it that is not an operand of another.
+fn check<O: Sink>(
+    alloc: Global,
+    expanded: Expanded,
+    limits: Limits,
+    out: &mut O,
+) -> Result<Status, Refused>
+    requires { IsCore expanded.core }
+    ensures { (text : List ℕ) (file : PlainFile) → IsFormulaFile text file → IsExpanded file expanded
+        → ReportsOn Check limits text result (O.written out.old) (O.faults out.old) (O.written out.new) (O.faults out.new) }
+{
+    let decided = decide(alloc, &expanded, limits);
+    drop(expanded);
+    let report = Report::of_verdict(decided?);
+    report.send(out)?;
+    Ok(Status::of(report.verdict()))
+}
+
+// Writes what is asked for of the canonical automaton.
+fn print<O: Sink>(
+    alloc: Global,
+    kind: Kind,
+    expanded: Expanded,
+    limits: Limits,
+    out: &mut O,
+) -> Result<Status, Refused>
+    requires core { IsCore expanded.core }
+    requires limits { AreInRange limits }
+    ensures { (text : List ℕ) (file : PlainFile) → IsFormulaFile text file → IsExpanded file expanded
+        → ReportsOn kind limits text result (O.written out.old) (O.faults out.old) (O.written out.new) (O.faults out.new) }
+{
     let judged = judge(alloc, expanded, limits)?;
     let report = report_on(alloc, kind, &judged)?;
     report.send(out)?;

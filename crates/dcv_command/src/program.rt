@@ -171,7 +171,7 @@ static COMMANDS: [Entry<'static>; 13] = [
     },
     Entry {
         name: "all",
-        about: "Writes the verdict, the automaton and both observers, each behind a line that names it",
+        about: "Writes the verdict, the automaton and both observers, each after a line that names it",
         arguments: &OVER_A_FORMULA,
     },
     Entry {

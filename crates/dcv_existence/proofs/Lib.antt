@@ -1,9 +1,5 @@
 pub mod SomeSpellings
-pub mod SomeDiagrams
-pub mod SomeAutomata
 pub mod MergedRows
-pub mod RowLimits
-pub mod TableBounds
 pub mod SomeBudgets
 pub mod SomeVectors
 pub mod SomeRows

@@ -18,8 +18,8 @@ use Rattle.dcv_arena.proofs.Members.{Contains-map, Contains-map_cases, Contains-
 use Rattle.dcv_arena.proofs.Renumbered.{tables_no_more}
 use Rattle.dcv_arena.proofs.Tables.{same_table, same_values}
 use Rattle.dcv_language.specs.Table.{TableState, Table, IsTable, no_state, next_in}
-use Rattle.dcv_existence.proofs.SomeDiagrams.{reading, as_table-reading}
-use Rattle.dcv_existence.proofs.SomeAutomata.{rows_of}
+use Rattle.dcv_quotient.proofs.SomeDiagrams.{reading, as_table-reading}
+use Rattle.dcv_quotient.proofs.SomeAutomata.{rows_of}
 
 abbrev Node : Type 0
 Node = ℕ × List ℕ

@@ -23,7 +23,7 @@ use Rattle.dcv_build.specs.Counts.{IsCount, AreCounts}
 use Rattle.dcv_build.specs.Laws.{MachineAcceptsStep, AreCanonicalBefore}
 use Rattle.dcv_build.proofs.Progress.{row_slots}
 use Rattle.dcv_build.proofs.SameRows.{table_at, row_over}
-use Rattle.dcv_existence.proofs.RowLimits.{within_or_exceeds, table_of_row}
+use Rattle.dcv_quotient.proofs.RowLimits.{within_or_exceeds, table_of_row}
 
 -- ---- the rows of earlier steps stay as they are where a table comes to the others
 

@@ -23,7 +23,7 @@ use Rattle.dcv_synth.specs.Play.{answer_of, IsStartOr}
 use Rattle.dcv_synth.specs.Control.{ControlValue, IsControl, IsControlOf}
 use Rattle.dcv_synth.proofs.Tracks.{least-length}
 use Rattle.dcv_existence.proofs.MergedRows.{Merges, merged_rows_no_more}
-use Rattle.dcv_existence.proofs.SomeAutomata.{rows_of}
+use Rattle.dcv_quotient.proofs.SomeAutomata.{rows_of}
 use Rattle.dcv_existence.proofs.SomeRows.{StaysBelow, tables_for, some_rows}
 
 -- ---- the least output depends on the outputs of the width alone

@@ -14,8 +14,8 @@ use Rattle.dcv_arena.specs.declared.nodes.Ref.{Ref}
 use Rattle.dcv_arena.specs.declared.nodes.Ref.TheVariants.{Leaf}
 use Rattle.dcv_arena.proofs.Tables.{same_values}
 use Rattle.dcv_synth.specs.Control.{RowsValue, IsRows, AreRowsBelow, AreRowsOf}
-use Rattle.dcv_existence.specs.Diagrams.{AreDiagramsOf}
-use Rattle.dcv_existence.proofs.SomeDiagrams.{some_diagrams}
+use Rattle.dcv_quotient.specs.Diagrams.{AreDiagramsOf}
+use Rattle.dcv_quotient.proofs.SomeDiagrams.{some_diagrams}
 
 abbrev pub tables_for : ℕ → List ℕ → (ℕ → List Bool → ℕ) → List (List ℕ)
 tables_for n states f = map (λ state. as_table n (f state)) states

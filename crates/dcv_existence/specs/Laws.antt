@@ -14,7 +14,7 @@ use Rattle.dcv_explore.specs.declared.explorer.Limits.{Limits}
 use Rattle.dcv_explore.specs.Budget.{Kind}
 use Rattle.dcv_build.specs.Budget.{IsWithinBudget, IsOver}
 use Rattle.dcv_build.specs.Counts.{AreCounts}
-use Rattle.dcv_existence.specs.Diagrams.{AreDiagramsOf}
+use Rattle.dcv_quotient.specs.Diagrams.{AreDiagramsOf}
 
 -- functions that are given by tables have diagrams
 abbrev pub SomeDiagrams : Type 0

@@ -1,3 +1,2 @@
 -- the statements that `src` proves
-pub mod Diagrams
 pub mod Laws

@@ -36,4 +36,4 @@ pub use dcv_language::Kind;
 pub use report::{Report, all_text};
 pub use stuck_lines::put_stuck;
 pub use verdict_lines::{Verdict, put_letter, put_word};
-pub use verdicts::{verdict, verdict_text};
+pub use verdicts::{verdict, verdict_in, verdict_text};

@@ -158,6 +158,17 @@ impl<'a> Report<'a> {
         Ok(Report { verdict, content })
     }
 
+    /// The report that says a verdict alone.
+    pub fn of_verdict(verdict: Verdict) -> Report<'a>
+        ensures verdict { result.verdict ≡ seen_verdict verdict }
+        ensures says { result.text ≡ verdict_text (seen_verdict verdict) }
+    {
+        Report {
+            verdict,
+            content: Content::Verdict,
+        }
+    }
+
     /// The verdict, of whatever kind the report is.
     pub fn verdict(&self) -> &Verdict
         ensures { seen_verdict result.now ≡ self.now.verdict }

@@ -7,9 +7,9 @@ ghost use Rattle.dcv_print.specs.Verdict.{letters_of, seen_verdict};
 ghost use Rattle.dcv_print.specs.Said.{SaysSomeVerdict, SaysEachVerdict};
 
 use crate::verdict_lines::Verdict;
-use dcv_dfa::Auto;
+use dcv_dfa::{Auto, Raw};
 use dcv_language::laws::one_verdict;
-use dcv_reach::shortest;
+use dcv_reach::shortest_in;
 use dcv_word::Word;
 use std::alloc::{AllocError, Global};
 
@@ -17,8 +17,15 @@ use std::alloc::{AllocError, Global};
 pub fn verdict(alloc: Global, auto: &Auto) -> Result<Verdict, AllocError>
     ensures { IfOk result (λ verdict. IsVerdict auto.now.arena.slots (raw_accepts auto.now) (seen_verdict verdict)) }
 {
-    let counterexample = least_refused(alloc, auto)?;
-    let example = least_accepted(alloc, auto)?;
+    verdict_in(alloc, auto.raw())
+}
+
+/// The same of an automaton that need not be canonical.
+pub fn verdict_in(alloc: Global, raw: &Raw) -> Result<Verdict, AllocError>
+    ensures { IfOk result (λ verdict. IsVerdict raw.now.arena.slots (raw_accepts raw.now) (seen_verdict verdict)) }
+{
+    let counterexample = least_refused(alloc, raw)?;
+    let example = least_accepted(alloc, raw)?;
     Ok(Verdict {
         counterexample,
         example,
@@ -37,16 +44,16 @@ pub fn verdict_text(alloc: Global, auto: &Auto) -> Result<Vec<u8>, AllocError>
 
 // The least word that an automaton refuses.
 #[tactic(auto, using(crate::proofs::LeastWords::least_outside))]
-fn least_refused(alloc: Global, auto: &Auto) -> Result<Option<Word>, AllocError>
-    ensures { IfOk result (λ word. IsLeastOf auto.now.arena.slots (outside (raw_accepts auto.now)) (letters_of word)) }
+fn least_refused(alloc: Global, raw: &Raw) -> Result<Option<Word>, AllocError>
+    ensures { IfOk result (λ word. IsLeastOf raw.now.arena.slots (outside (raw_accepts raw.now)) (letters_of word)) }
 {
-    shortest(alloc, auto, false)
+    shortest_in(alloc, raw, false)
 }
 
 // The least word that an automaton accepts.
 #[tactic(auto, using(crate::proofs::LeastWords::least_inside))]
-fn least_accepted(alloc: Global, auto: &Auto) -> Result<Option<Word>, AllocError>
-    ensures { IfOk result (λ word. IsLeastOf auto.now.arena.slots (raw_accepts auto.now) (letters_of word)) }
+fn least_accepted(alloc: Global, raw: &Raw) -> Result<Option<Word>, AllocError>
+    ensures { IfOk result (λ word. IsLeastOf raw.now.arena.slots (raw_accepts raw.now) (letters_of word)) }
 {
-    shortest(alloc, auto, true)
+    shortest_in(alloc, raw, true)
 }

@@ -8,3 +8,7 @@ pub mod ToldWords
 pub mod SomeCertificates
 pub mod WordOrder
 pub mod TableQuotients
+pub mod SomeDiagrams
+pub mod SomeAutomata
+pub mod RowLimits
+pub mod TableBounds

@@ -1,5 +1,5 @@
 -- What is right for the second file, after the first, is right for both.
-use Rattle.std.proofs.Common.{refl}
+use Rattle.std.proofs.Common.{[], ◌∷◌, refl}
 use Rattle.dcv_cli.specs.Comparison.{IsCompared}
 use Rattle.dcv_cli.specs.FormulaFile.{OnText}
 use Rattle.dcv_cli.specs.Held.{OnHeld}
@@ -19,7 +19,7 @@ returns-in-Ok g c =
     let known = given.expanded.is in
     performs_later
     (λ outcome right. fulfils_both told mid c.args.first.now c.args.second.now given.expanded.text c.args.limits known.file outcome given.held given.expanded.there known.formula right)
-    c.args.first.now c.args.second.now c.compare_with.result _ _ _
+    c.args.first.now (c.args.second.now ∷ []) c.compare_with.result _ _ _
     (record { asked = given.asked; opened = given.open_faults; read = given.read_faults; written = refl; faults = refl; held = given.held })
     (λ steps bytes left. leaves_both c.args.first.now c.args.second.now given.expanded.text c.args.limits known.file _ _ _ bytes steps given.expanded.there known.formula left)
     (c.compare_with.ensures known.file known.is)

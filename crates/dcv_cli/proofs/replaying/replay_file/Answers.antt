@@ -1,5 +1,5 @@
 -- What is right for the trace, after the observer, is right for both.
-use Rattle.std.proofs.Common.{refl}
+use Rattle.std.proofs.Common.{[], ◌∷◌, refl}
 use Rattle.std.proofs.lemmas.Result.{err_from_is_err_and}
 use Rattle.dcv_cli.specs.declared.refused.Which.TheVariants.{Only}
 use Rattle.dcv_cli.proofs.Endings.{nothing_told}
@@ -26,7 +26,7 @@ returns g c =
     let known = given.observer in
     performs_later
     (fulfils_replay c.args.subset told c.args.observer.now c.args.trace.now _ known.text known.is.observer given.held known.there known.is.is)
-    c.args.observer.now c.args.trace.now c.answer_trace.result _ _ _
+    c.args.observer.now (c.args.trace.now ∷ []) c.answer_trace.result _ _ _
     (record { asked = given.asked; opened = given.open_faults; read = given.read_faults; written = refl; faults = refl; held = given.held })
     (λ steps bytes left. leaves_replay c.args.subset c.args.observer.now c.args.trace.now known.text known.is.observer _ _ _ bytes steps known.there known.is.is left)
     (c.answer_trace.ensures known.is.observer (keeps_the_rules c.args.subset known.text known.is.observer known.is.is) known.is.follows)

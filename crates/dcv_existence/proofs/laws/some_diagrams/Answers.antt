@@ -1,4 +1,4 @@
-use Rattle.dcv_existence.proofs.SomeDiagrams.{some_diagrams}
+use Rattle.dcv_quotient.proofs.SomeDiagrams.{some_diagrams}
 use Rattle.dcv_existence.proofs.laws.some_diagrams.Goals as goal
 
 pub returns : goal.returns

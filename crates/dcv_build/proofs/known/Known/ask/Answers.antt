@@ -11,4 +11,4 @@ remember-requires c =
     let row = asked_row old.tables c.args.asked in
     subst (λ (limits : Limits). IsAnswer new.tables limits c.args.asked c.in_ok-answer.answer) (sym c.put.ensures.limits)
     (answer_of old.tables new.tables c.put.ensures.kept old.limits c.args.asked c.in_ok-answer.answer c.requires
-    (for_put row.machine row.parts old.limits c.args.step new.tables c.in_ok-made.made c.in_ok-answer.answer c.in_ok-made.ensures.built c.in_ok-answer.ensures.put))
+    (for_put row.machine row.parts old.limits c.args.step new.tables c.in_ok-explored.explored c.in_ok-made.made c.in_ok-answer.answer c.in_ok-explored.ensures.built c.in_ok-made.ensures c.in_ok-answer.ensures.put))

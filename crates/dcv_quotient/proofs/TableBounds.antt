@@ -29,9 +29,9 @@ use Rattle.dcv_explore.specs.Budget.{Row, IsWithin}
 use Rattle.dcv_explore.specs.Reached.{row_table, row_nodes}
 use Rattle.dcv_quotient.proofs.Reaching.{AllFound, without, one_fewer, others_stay}
 use Rattle.dcv_quotient.proofs.WordClasses.{st, st_more, reached_by, apart_not_alike}
-use Rattle.dcv_existence.proofs.SomeAutomata.{rows_of}
-use Rattle.dcv_existence.proofs.SomeDiagrams.{as_table-reading}
-use Rattle.dcv_existence.proofs.RowLimits.{contains_member, member_contained, all_found}
+use Rattle.dcv_quotient.proofs.SomeAutomata.{rows_of}
+use Rattle.dcv_quotient.proofs.SomeDiagrams.{as_table-reading}
+use Rattle.dcv_quotient.proofs.RowLimits.{contains_member, member_contained, all_found}
 
 -- ---- lists whose members are all among others
 

@@ -20,8 +20,8 @@ use Rattle.dcv_language.proofs.Canonicals.{canonical_for_same_behaviours}
 use Rattle.dcv_dfa.specs.Raw.{RawValue, raw_value, IsRaw, LeadsBelow, raw_accepts}
 use Rattle.dcv_dfa.specs.Auto.{IsAuto, state_of, table_of_states, count_of_nodes}
 use Rattle.dcv_dfa.proofs.States.{table_has_the_states, state-at, table_accepts_as_the_states}
-use Rattle.dcv_existence.specs.Diagrams.{AreDiagramsOf}
-use Rattle.dcv_existence.proofs.SomeDiagrams.{some_diagrams}
+use Rattle.dcv_quotient.specs.Diagrams.{AreDiagramsOf}
+use Rattle.dcv_quotient.proofs.SomeDiagrams.{some_diagrams}
 
 -- the rows, without the flags
 abbrev pub rows_of : Table → List (List ℕ)

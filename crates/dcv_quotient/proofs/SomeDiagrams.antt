@@ -17,7 +17,7 @@ use Rattle.dcv_arena.specs.Diagram.{as_table, nodes_of, node_count}
 use Rattle.dcv_arena.specs.Laws.{MeansBehind}
 use Rattle.dcv_arena.specs.declared.nodes.Ref.{Ref}
 use Rattle.dcv_arena.specs.declared.nodes.Ref.TheVariants.{Leaf, Place}
-use Rattle.dcv_existence.specs.Diagrams.{AreDiagramsOf}
+use Rattle.dcv_quotient.specs.Diagrams.{AreDiagramsOf}
 use Rattle.dcv_arena.proofs.Counts.{count_exact}
 use Rattle.dcv_arena.proofs.Growth.{grown, is_reduced_grown, keeps_grown, keeps_all, adds_grown, includes_itself, slice_get-push_last}
 use Rattle.dcv_arena.proofs.Growth.{ref_meant, level_meant, value_meant, lo_nodes_meant, hi_nodes_meant}
