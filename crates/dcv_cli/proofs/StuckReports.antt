@@ -1,5 +1,5 @@
 -- What is said of stuck words is right for the file: where it is said of the automaton that is built, and where it is only shown that there is something to say.
-use Rattle.std.proofs.Common.{◌≡◌, ◌⊎◌, ℕ, length, Option, None, Some, inl, inr, refl, sym, ◌∙◌, subst}
+use Rattle.std.proofs.Common.{◌≡◌, ℕ, length, Option, None, Some, inl, inr, refl, sym, ◌∙◌, subst}
 use Rattle.std.specs.Prelude.{◌↔◌}
 use Rattle.dcv_word.specs.Behaviour.{Word, IsBehaviour}
 use Rattle.dcv_language.specs.Language.{Language}
