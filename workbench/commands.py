@@ -50,6 +50,7 @@ PROGRAM = (
     Command("c", "FILE", "an observer in a subset of C", LIMITS),
     Command("all", "FILE", "the verdict, the automaton and both observers, each after a line that names it", LIMITS),
     Command("implies", "FILE FILE", "whether the first formula implies the second, or a shortest behaviour that shows that it does not", LIMITS),
+    Command("stuck", "FILE", "whether what has kept to the formula so far can always go on, or a shortest behaviour that cannot", LIMITS),
     Command("synth", "FILE", "a controller of the variables after the first N, or a strategy of these that beats each controller",
             (Option("--inputs", "N", "how many of the variables, the first ones, are inputs (0 to 16)"),) + LIMITS),
     Command("certify", "FILE", "whether an automaton's words show that it is minimal"),

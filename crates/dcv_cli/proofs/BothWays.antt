@@ -13,7 +13,8 @@ use Rattle.dcv_print.specs.Printed.{texts_of}
 use Rattle.dcv_reader.specs.Spelling.{SpellsOne}
 use Rattle.dcv_cli.proofs.FormulaFiles.{one_file}
 use Rattle.dcv_cli.specs.Budget.{OverBudget, WithinBudget, limit_of}
-use Rattle.dcv_cli.specs.Comparison.{IsCompared, Undeclared, Declared, IsComparison, OverProduct, WithinProduct, compared, status_of_least}
+use Rattle.dcv_cli.specs.Comparison.{IsCompared, Undeclared, Declared, IsComparison, OverProduct, WithinProduct, compared}
+use Rattle.dcv_cli.specs.Status.{status_of_least}
 use Rattle.dcv_cli.specs.FormulaFile.{IsFormulaFile, OnText, Refused, Read}
 use Rattle.dcv_cli.specs.Held.{OnHeld}
 use Rattle.dcv_cli.specs.Laws.{Implied, ImpliesBothWays}

@@ -29,7 +29,7 @@ use Rattle.dcv_implies.specs.declared.faults.OutsideFault.{OutsideFault}
 use Rattle.dcv_implies.specs.declared.faults.OutsideFault.TheVariants as outside
 use Rattle.dcv_print.specs.Printed.{texts_of}
 use Rattle.dcv_cli.specs.Budget.{OverBudget, WithinBudget, NamesFirstOver, steps_of_file}
-use Rattle.dcv_cli.specs.Comparison.{comparison_text, status_of_least, compared, have_same_texts, OverProduct, WithinProduct, IsCompared, Undeclared, Declared, FulfilsSecond, LeavesComparison, OfFirst, OfSecond, LeavesSecond}
+use Rattle.dcv_cli.specs.Comparison.{comparison_text, compared, have_same_texts, OverProduct, WithinProduct, IsCompared, Undeclared, Declared, FulfilsSecond, LeavesComparison, OfFirst, OfSecond, LeavesSecond}
 use Rattle.dcv_cli.specs.Expanded.{IsBuilt}
 use Rattle.dcv_cli.specs.FormulaFile.{IsFormulaFile, OnText, Read as ReadFile}
 use Rattle.dcv_cli.specs.Held.{Texts, OnHeld, ForHeld, IsHeldText}
@@ -40,7 +40,7 @@ use Rattle.dcv_cli.specs.Outcome.{Outcome, IsExplained, refused}
 use Rattle.dcv_cli.specs.Outside.{Outside}
 use Rattle.dcv_cli.specs.Performed.{LeavesFor}
 use Rattle.dcv_cli.specs.Refusal.{marked, is_of_text, refusal_of_outside}
-use Rattle.dcv_cli.specs.Status.{is_answer}
+use Rattle.dcv_cli.specs.Status.{is_answer, status_of_least}
 use Rattle.dcv_cli.specs.declared.budget_line.Excess.TheVariants.{States, Nodes}
 use Rattle.dcv_cli.specs.declared.refusal.Refusal.{Refusal}
 use Rattle.dcv_cli.specs.declared.refusal.Refusal.TheVariants.{Open, Read, Formula, Automaton, Observer, Trace, Budget, Product, Write, Memory}

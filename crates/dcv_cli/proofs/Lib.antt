@@ -31,6 +31,7 @@ pub mod SomeReports
 pub mod SomeSynthesised
 pub mod SomeTexts
 pub mod StepCounts
+pub mod StuckReports
 pub mod Sweeps
 pub mod Syntheses
 mod Texts

@@ -1,5 +1,5 @@
 -- One outcome at most is right where it is asked what the words of an automaton's text show.
-use Rattle.std.proofs.Common.{◌≡◌, ◌≢◌, inl, ℕ, List, Option, None, Some, sym, ap, ◌∙◌, subst, arith}
+use Rattle.std.proofs.Common.{◌≡◌, inl, ℕ, List, Option, None, Some, sym, ap, ◌∙◌, subst, arith}
 use Rattle.std.specs.Prelude.{IsSomeAnd}
 use Rattle.dcv_automaton_text.specs.File.{AutomatonFile}
 use Rattle.dcv_automaton_text.specs.Laws.{OneFile}

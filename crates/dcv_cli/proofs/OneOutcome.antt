@@ -47,12 +47,14 @@ use Rattle.dcv_cli.proofs.ConvertedBack.{one_held_conversion}
 use Rattle.dcv_cli.proofs.OneReplay.{AreSubsets, one_held_replay}
 use Rattle.dcv_cli.specs.Comparison.{IsCompared, Undeclared, Declared, IsDifference, OverProduct, WithinProduct, compared}
 use Rattle.dcv_cli.specs.Held.{OnHeld}
-use Rattle.dcv_command.specs.Request.{Request, Report, Certify, Convert, Implies, Synth, Replay, Sweep}
+use Rattle.dcv_command.specs.Request.{Request, Report, Certify, Convert, Implies, Stuck, Synth, Replay, Sweep}
 use Rattle.dcv_implies.specs.Comparison.{TooMany, Least}
 use Rattle.dcv_implies.specs.Laws.{OneAnswer as OneComparison}
 use Rattle.dcv_replay.specs.Laws.{OneVerdict as OneTraceVerdict, OneText as OneTextOfAnswers}
+use Rattle.dcv_stuck.proofs.Answers.{one_least_stuck}
 use Rattle.dcv_sweep.specs.Laws.{OneSummary}
 use Rattle.dcv_sweep.specs.SummaryText.{summary_text}
+use Rattle.dcv_cli.specs.Stuck.{stuck_outcome, IsStuckReport}
 use Rattle.dcv_cli.specs.Swept.{IsSwept, default_limits}
 use Rattle.dcv_cli.specs.Synthesis.{IsSynthesised, Undivided, Divided, IsSynthesisOf}
 use Rattle.dcv_cli.specs.Request.{AsksFor}
@@ -289,6 +291,10 @@ module _ (one_tree : SpellsOne) (one_fault : FaultIsUnique) (one_verdict : OneVe
       one_budgeted limits First (λ first. IsBudgeted limits Second (IsDifference limits first) other)
       (λ first a b p q. one_budgeted limits Second (IsDifference limits first) (one_difference limits first) other a b p q) one a b is is'
 
+  one_stuck : (file : PlainFile) (a b : Outcome) → IsStuckReport file a → IsStuckReport file b → Agrees a b
+  one_stuck file a b p q =
+      same_agrees a b (p.says ∙ ap stuck_outcome (one_least_stuck (length file.variables) (models file) p.least q.least p.is_least q.is_least) ∙ sym q.says)
+
   one_synthesised : (inputs : ℕ) (limits : Limits) (file : PlainFile) (a b : Outcome) → IsSynthesised inputs limits file a → IsSynthesised inputs limits file b → Agrees a b
   one_synthesised inputs limits file a b (Undivided not e) (Undivided not' e') = same_agrees a b (e ∙ sym e')
   one_synthesised inputs limits file a b (Undivided not e) (Divided fits is) = absurd (true≢false (sym fits ∙ not))
@@ -312,6 +318,8 @@ module _ (one_tree : SpellsOne) (one_fault : FaultIsUnique) (one_verdict : OneVe
   one_fulfilled (Implies first second limits) held a b p q =
       one_on_file (held 0 first) First (λ one. OnHeld (held 1) second (λ text. OnText text Second (IsCompared limits one)))
       (λ one a b p q. one_on_file (held 1 second) Second (IsCompared limits one) (one_compared limits one) a b p q) a b p q
+  one_fulfilled (Stuck name limits) held a b p q =
+      one_on_file (held 0 name) Only (IsBudgeted limits Only IsStuckReport) (one_budgeted limits Only IsStuckReport one_stuck) a b p q
   one_fulfilled (Synth name inputs limits) held a b p q = one_on_file (held 0 name) Only (IsSynthesised inputs limits) (one_synthesised inputs limits) a b p q
   one_fulfilled (Replay subset observer trace) held a b p q =
       one_held_replay subsets one_trace_verdict one_text_of_answers subset (held 0 observer) (held 1 trace) a b p q

@@ -1,5 +1,5 @@
 -- How the fields of a promise follow from one another.
-use Rattle.std.proofs.Common.{◌≡◌, ◌⊎◌, ℕ, List, true, inl, inr, refl, sym, ◌∙◌, IsTrue}
+use Rattle.std.proofs.Common.{◌≡◌, ◌⊎◌, ℕ, List, inl, inr, refl, sym, ◌∙◌, IsTrue}
 use mathlib.Core.Bool.{true≢false}
 use Rattle.dcv_io.specs.Faults.{RisesIf}
 use Rattle.dcv_command.specs.Request.{IsTaken}

@@ -30,6 +30,7 @@ use Rattle.dcv_replay.specs.Laws.{SomeVerdict, GoodLinesAreAnswered}
 use Rattle.dcv_scope.specs.Faults.{fault_of_file}
 use Rattle.dcv_scope.specs.Laws.{WordsAreModels}
 use Rattle.dcv_scope.specs.declared.faults.ScopeFault.{ScopeFault}
+use Rattle.dcv_stuck.specs.Laws.{NeverStuckGoesOn}
 use Rattle.dcv_cli.specs.declared.refusal.Refusal.{Refusal}
 use Rattle.dcv_cli.specs.declared.refusal.Refusal.TheVariants.{Formula, Automaton as AutomatonRefusal}
 use Rattle.dcv_cli.specs.declared.faults.FormulaFault.TheVariants.{Length}
@@ -56,15 +57,17 @@ use Rattle.dcv_command.specs.Program.{program}
 use Rattle.dcv_explore.specs.declared.explorer.Limits.{Limits}
 use Rattle.dcv_language.specs.declared.kind.Kind.{Kind}
 use Rattle.std.specs.List.{All}
-use Rattle.dcv_command.specs.Request.{Request, Report, Certify, Convert, Implies, Synth, Replay, Sweep, AreInRange, AreInputsInRange, IsInRange, IsTaken, request_of, files_of}
+use Rattle.dcv_command.specs.Request.{Request, Report, Certify, Convert, Implies, Stuck, Synth, Replay, Sweep, AreInRange, AreInputsInRange, IsInRange, IsTaken, request_of, files_of}
 use Rattle.dcv_command.proofs.Ranges.{request_is_in_range}
 use Rattle.dcv_cli.specs.Request.{AsksFor}
 use Rattle.dcv_cli.specs.Right.{Fulfils, IsRight, Misused, Fulfilled}
+use Rattle.dcv_cli.specs.Stuck.{IsStuckReport}
 use Rattle.dcv_cli.specs.Synthesis.{IsSynthesised}
 use Rattle.dcv_automaton_lines.proofs.ReadForms.{some_form}
 use Rattle.dcv_cli.proofs.OneReplay.{some_replay}
 use Rattle.dcv_cli.proofs.SomeAnswers.{some_answer}
 use Rattle.dcv_cli.proofs.SomeReports.{some_sweep, some_comparison}
+use Rattle.dcv_cli.proofs.StuckReports.{some_stuck_report}
 
 -- ---- texts of formula files
 
@@ -172,7 +175,7 @@ held_under OfText held name there right = by (held name) there
 
 module _ (some_reading : SomeReading) (reports : SomeReport) (syntheses : SomeSynthesis) (laws : WordLaws) (accept : MachineAcceptsStep)
     (outside_is : ComplementIsCanonical) (models_are : WordsAreModels) (none_included : NoneWhereIncluded) (fewest : MinimalShowsFewestStates) (reached : MinimalReachesEachState)
-    (words_ask : TakenWordsAsk) (some_node : SomeNode) (some_unit : SomeUnit) (some_verdict : SomeVerdict) (answered : GoodLinesAreAnswered) where
+    (words_ask : TakenWordsAsk) (some_node : SomeNode) (some_unit : SomeUnit) (some_verdict : SomeVerdict) (answered : GoodLinesAreAnswered) (goes_on : NeverStuckGoesOn) where
   -- ---- a formula file
 
   on_text : (which : Which) (RightFor : PlainFile → Outcome → Type 0) (text : List ℕ)
@@ -188,6 +191,11 @@ module _ (some_reading : SomeReading) (reports : SomeReport) (syntheses : SomeSy
   report_held kind limits name held range there =
       held_under (λ text. OnText text Only (IsBudgeted limits Only (IsReport kind limits))) (held 0) name there
       (λ text. on_text Only (IsBudgeted limits Only (IsReport kind limits)) text (reports kind limits range text))
+
+  stuck_held : (name : List ℕ) (limits : Limits) (held : Texts) → IsSome (held 0 name) → (outcome : Outcome) × Fulfils (Stuck name limits) held outcome
+  stuck_held name limits held there =
+      held_under (λ text. OnText text Only (IsBudgeted limits Only IsStuckReport)) (held 0) name there
+      (λ text. on_text Only (IsBudgeted limits Only IsStuckReport) text (λ file formula. some_stuck_report goes_on laws accept models_are limits file formula.has_core))
 
   synth_held : (name : List ℕ) (inputs : ℕ) (limits : Limits) (held : Texts) → AreInputsInRange inputs limits → IsSome (held 0 name)
       → (outcome : Outcome) × Fulfils (Synth name inputs limits) held outcome
@@ -234,6 +242,7 @@ module _ (some_reading : SomeReading) (reports : SomeReport) (syntheses : SomeSy
       let one = recursion_from_All (λ n. IsSome (held 0 n)) (first ∷ second ∷ []) (there 0) in
       let other = recursion_from_All (λ n. IsSome (held 1 n)) (first ∷ second ∷ []) (there 1) in
       implies_held first second limits held one.0 other.1.0
+  some_for_request held (Stuck name limits) range there = stuck_held name limits held (All-head (λ n. IsSome (held 0 n)) name [] (there 0))
   some_for_request held (Synth name inputs limits) range there = synth_held name inputs limits held range (All-head (λ n. IsSome (held 0 n)) name [] (there 0))
   some_for_request held (Replay subset observer trace) range there =
       let one = recursion_from_All (λ n. IsSome (held 0 n)) (observer ∷ trace ∷ []) (there 0) in

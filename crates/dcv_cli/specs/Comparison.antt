@@ -5,7 +5,7 @@
 --     LeavesComparison first second ..    what was written where an input failed
 --     have_same_texts                     for proofs alone
 --     IsCompared limits one other o       they have the same variables, both are within the limits, and so it is; or the outcome says what is not
-use Rattle.std.specs.Prelude.{◌≡◌, ◌≢◌, ◌↔◌, ℕ, Bool, true, false, ◌&&◌, List, [], ◌∷◌, ◌++◌, Option, None, Some, is_none, length, codes, if◌then◌else◌}
+use Rattle.std.specs.Prelude.{◌≡◌, ◌≢◌, ◌↔◌, ℕ, Bool, true, false, ◌&&◌, List, [], ◌∷◌, ◌++◌, Option, None, Some, length, codes}
 use Rattle.std.specs.Str.{bytes_eq}
 use Rattle.dcv_word.specs.Behaviour.{Word}
 use Rattle.dcv_syntax.specs.Plain.{PlainFile}
@@ -19,22 +19,18 @@ use Rattle.dcv_cli.specs.declared.budget_line.Excess.{Excess}
 use Rattle.dcv_cli.specs.declared.refusal.Refusal.TheVariants.{Formula, Product}
 use Rattle.dcv_cli.specs.declared.faults.FormulaFault.TheVariants.{Declarations}
 use Rattle.dcv_cli.specs.declared.refused.Which.TheVariants.{Only, First, Second}
-use Rattle.dcv_cli.specs.declared.status.Status.{Status}
-use Rattle.dcv_cli.specs.declared.status.Status.TheVariants.{Valid, NotValid}
 use Rattle.dcv_cli.specs.Budget.{IsBudgeted, kind_of, limit_of}
 use Rattle.dcv_cli.specs.FormulaFile.{IsFormulaFile, OnText}
 use Rattle.dcv_cli.specs.Held.{Texts, OnHeld, ForHeld}
 use Rattle.dcv_cli.specs.Outcome.{Outcome, refused}
 use Rattle.dcv_cli.specs.Outside.{Outside}
+use Rattle.dcv_cli.specs.Status.{status_of_least}
 use Rattle.dcv_io.specs.Asked.{Asks}
 use Rattle.dcv_io.specs.Disk.{Disk}
 
 abbrev pub comparison_text : Option Word → List ℕ
 comparison_text None = line (codes "implies")
 comparison_text (Some word) = line (codes "does not imply") ++ shown (codes "counterexample") (Some word)
-
-abbrev pub status_of_least : Option Word → Status
-status_of_least least = if is_none least then Valid else NotValid
 
 abbrev pub compared : Option Word → Outcome
 compared least = record { status = status_of_least least; out = comparison_text least; err = [] }

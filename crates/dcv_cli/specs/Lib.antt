@@ -13,6 +13,7 @@ pub mod AutomatonFile
 pub mod Certificate
 pub mod Conversion
 pub mod Comparison
+pub mod Stuck
 pub mod ObserverFile
 pub mod Replayed
 pub mod Synthesis

@@ -4,7 +4,7 @@
 use Rattle.std.specs.Prelude.{◌≡◌, ℕ, List, [], Option}
 use Rattle.dcv_io.specs.Disk.{Disk}
 use Rattle.dcv_cli.specs.declared.status.Status.TheVariants.{Usage}
-use Rattle.dcv_command.specs.Request.{Request, Report, Certify, Convert, Implies, Synth, Replay, Sweep, IsTaken}
+use Rattle.dcv_command.specs.Request.{Request, Report, Certify, Convert, Implies, Stuck, Synth, Replay, Sweep, IsTaken}
 use Rattle.dcv_cli.specs.AutomatonFile.{OnAutomaton}
 use Rattle.dcv_cli.specs.Budget.{IsBudgeted}
 use Rattle.dcv_cli.specs.Certificate.{IsCertificate}
@@ -18,6 +18,7 @@ use Rattle.dcv_cli.specs.ObserverFile.{OnObserver}
 use Rattle.dcv_cli.specs.Replayed.{IsReplay}
 use Rattle.dcv_cli.specs.Report.{IsReport}
 use Rattle.dcv_cli.specs.Request.{AsksFor}
+use Rattle.dcv_cli.specs.Stuck.{IsStuckReport}
 use Rattle.dcv_cli.specs.Swept.{IsSwept}
 use Rattle.dcv_cli.specs.Synthesis.{IsSynthesised}
 
@@ -27,6 +28,7 @@ Fulfils (Certify name) held outcome = OnHeld (held 0) name (λ text. OnAutomaton
 Fulfils (Convert name to) held outcome = OnHeld (held 0) name (λ text. OnAutomaton text (IsConverted to)) outcome
 Fulfils (Implies first second limits) held outcome =
     OnHeld (held 0) first (λ text. OnText text First (λ one. OnHeld (held 1) second (λ other_text. OnText other_text Second (IsCompared limits one)))) outcome
+Fulfils (Stuck name limits) held outcome = OnHeld (held 0) name (λ text. OnText text Only (IsBudgeted limits Only IsStuckReport)) outcome
 Fulfils (Synth name inputs limits) held outcome = OnHeld (held 0) name (λ text. OnText text Only (IsSynthesised inputs limits)) outcome
 Fulfils (Replay subset observer trace) held outcome =
     OnHeld (held 0) observer (λ text. OnObserver subset text (λ one. OnHeld (held 1) trace (IsReplay one))) outcome

@@ -1,5 +1,6 @@
 -- The statuses of a run, and how they group.
-use Rattle.std.specs.Prelude.{ℕ, Bool, true, false, is_none, if◌then◌else◌}
+use Rattle.std.specs.Prelude.{ℕ, Bool, true, false, Option, is_none, if◌then◌else◌}
+use Rattle.dcv_word.specs.Behaviour.{Word}
 use Rattle.dcv_language.specs.Verdict.{Verdict}
 use Rattle.dcv_cli.specs.declared.status.Status.{Status}
 use Rattle.dcv_cli.specs.declared.status.Status.TheVariants.{Valid, Done, NotValid, Usage, Formula, Budget, Input, Output, Memory, Trace, Observer, Automaton}
@@ -22,6 +23,10 @@ code_of Automaton = 10
 -- of a run that answers with this verdict: valid where there is no counterexample
 abbrev pub status_of_verdict : Verdict → Status
 status_of_verdict verdict = if is_none verdict.counterexample then Valid else NotValid
+
+-- of a run that asks for a least word, which is not to be
+abbrev pub status_of_least : Option Word → Status
+status_of_least least = if is_none least then Valid else NotValid
 
 -- the status of a run that answers
 abbrev pub is_answer : Status → Bool

@@ -5,7 +5,7 @@ ghost use Rattle.dcv_syntax.specs.Plain.{PlainFile};
 ghost use Rattle.dcv_command.specs.Request.{Implies, AreInRange};
 ghost use Rattle.dcv_implies.specs.Comparison.{letters_of};
 ghost use Rattle.dcv_print.specs.Printed.{texts_of};
-ghost use Rattle.dcv_cli.specs.Comparison.{status_of_least, compared, have_same_texts, IsCompared, FulfilsSecond, LeavesSecond};
+ghost use Rattle.dcv_cli.specs.Comparison.{compared, have_same_texts, IsCompared, FulfilsSecond, LeavesSecond};
 ghost use Rattle.dcv_cli.specs.Ending.{has_cause};
 ghost use Rattle.dcv_cli.specs.Expanded.{IsExpanded, IsOfFile};
 ghost use Rattle.dcv_cli.specs.Outcome.{IsExplained};
@@ -77,7 +77,7 @@ fn compare_with<F: Files, O: Sink>(
     };
     let compared = compare(alloc, one, &other, limits)?;
     send(&compared, out)?;
-    Ok(compared.status())
+    Ok(Status::of_least(&compared.least))
 }
 
 // Compares the requirements of two files.
@@ -131,18 +131,6 @@ fn have_same_names(names: &[Name], others: &[Name]) -> bool
         return false;
     }
     have_same_names(names, others)
-}
-
-impl Compared {
-    fn status(&self) -> Status
-        ensures { result ≡ status_of_least (letters_of self.now.least) }
-    {
-        if self.least.is_none() {
-            Status::Valid
-        } else {
-            Status::NotValid
-        }
-    }
 }
 
 impl Reply for Compared {

@@ -21,6 +21,7 @@ use dcv_print::laws::{
 use dcv_reader::laws::{names_are_short, one_fault, one_tree, some_reading};
 use dcv_replay::laws::{letters_have_one_text_of_answers, traces_have_one_verdict};
 use dcv_scope::laws::{core_means_text, measures_bound_core};
+use dcv_stuck::laws::never_stuck_goes_on;
 use dcv_sweep::laws::one_summary;
 use dcv_synth::laws::{
     answers_are_one, controls_win, one_side_is_right, some_player_wins, strategies_beat,
@@ -96,6 +97,7 @@ pub fn some_outcome()
     strategies_beat();
     winners_of_same_behaviours();
     units_answer();
+    never_stuck_goes_on();
 }
 
 /// Formula files with the same variables and the same models have the same answer: the same verdict, the same observers, and the same

@@ -11,6 +11,7 @@ use crate::refused::Refused;
 use crate::replaying::replay_file;
 use crate::reporting::report_on_file;
 use crate::status::Status;
+use crate::stuck::stuck_in_file;
 use crate::sweeping::sweep_formulas;
 use crate::synthesising::synthesise_file;
 use dcv_command::Request;
@@ -40,6 +41,7 @@ pub(crate) fn perform<F: Files, O: Sink>(
             second,
             limits,
         } => compare_files(alloc, first, second, limits, files, out),
+        Request::Stuck { file, limits } => stuck_in_file(alloc, file, limits, files, out),
         Request::Synth {
             file,
             inputs,

@@ -1,20 +1,21 @@
 // How a run ends.
 ghost use Rattle.std.specs.Prelude.{◌≡◌};
-ghost use Rattle.dcv_print.specs.Verdict.{seen_verdict};
-ghost use Rattle.dcv_cli.specs.Status.{code_of, status_of_verdict};
+ghost use Rattle.dcv_print.specs.Verdict.{letters_of, seen_verdict};
+ghost use Rattle.dcv_cli.specs.Status.{code_of, status_of_least, status_of_verdict};
 
 use dcv_print::Verdict;
+use dcv_word::Word;
 
 /// How a run ended.
 #[derive(Clone, Copy, Debug, PartialEq, Eq)]
 pub enum Status {
-    /// Each behaviour satisfies the formula, or the first of two requirements implies the second.
+    /// Each behaviour satisfies the formula, the first of two requirements implies the second, or what has kept to one can always go on.
     Valid,
     /// What was asked for is done, and it says no verdict of a formula: an automaton's words show that it is minimal, or there is a controller,
     /// a trace was read to its end, the drawn formulas are counted, or a text is converted.
     Done,
-    /// Some behaviour does not satisfy the formula, or satisfies the first requirement and not the second; the words of an automaton do not show
-    /// that it is minimal; or there is no controller.
+    /// Some behaviour does not satisfy the formula, satisfies the first requirement and not the second, or has kept to one and cannot go on;
+    /// the words of an automaton do not show that it is minimal; or there is no controller.
     NotValid,
     /// The words ask for nothing that the program does.
     Usage,
@@ -43,6 +44,17 @@ impl Status {
         ensures { result ≡ status_of_verdict (seen_verdict verdict.now) }
     {
         if verdict.is_valid() {
+            Status::Valid
+        } else {
+            Status::NotValid
+        }
+    }
+
+    // Of a run that asks for a least word, which is not to be: valid where there is none.
+    pub(crate) fn of_least(least: &Option<Word>) -> Status
+        ensures { result ≡ status_of_least (letters_of least.now) }
+    {
+        if least.is_none() {
             Status::Valid
         } else {
             Status::NotValid

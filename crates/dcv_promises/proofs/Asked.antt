@@ -8,7 +8,7 @@ use Rattle.dcv_explore.specs.declared.explorer.Limits.{Limits}
 use Rattle.dcv_language.specs.declared.kind.Kind.{Kind}
 use Rattle.dcv_language.specs.declared.kind.Kind.TheVariants.{All}
 use Rattle.dcv_replay.specs.Observer.{Observer}
-use Rattle.dcv_command.specs.Request.{Request, Report, Certify, Implies, Synth, Replay}
+use Rattle.dcv_command.specs.Request.{Request, Report, Certify, Implies, Stuck, Synth, Replay}
 use Rattle.dcv_command.specs.declared.words.Subset.{Subset}
 use Rattle.dcv_cli.specs.declared.refused.Which.{Which}
 use Rattle.dcv_cli.specs.declared.refused.Which.TheVariants.{First, Second}
@@ -24,7 +24,7 @@ use Rattle.dcv_cli.specs.Replayed.{IsReplay}
 use Rattle.dcv_cli.specs.Request.{AsksFor}
 use Rattle.dcv_cli.specs.Right.{Fulfils, IsRight, Misused, Fulfilled, IsRightOver}
 use Rattle.dcv_cli.proofs.OneRequest.{one_request}
-use Rattle.dcv_promises.specs.Promises.{Holds, IsReported, IsImplied, IsPlayed, IsCertified, IsReplayed}
+use Rattle.dcv_promises.specs.Promises.{Holds, IsReported, IsImplied, IsContinued, IsPlayed, IsCertified, IsReplayed}
 
 -- what is right for the words is right for their request
 fulfils : (words : List (List ℕ)) (held : Texts) (outcome : Outcome) (request : Request) → AsksFor words request → IsRight words held outcome
@@ -86,6 +86,12 @@ module _ (words : List (List ℕ)) (told : Option Disk) where
       → (b : Bool) (status : Status) (old new : Option (List ℕ)) (P : List ℕ → Type 0)
       → OnTrue b (EndsBy (IsRightOver words told) status old new P) → OnTrue b (EndsBy (IsCertified text) status old new P)
   certified name text asks holds b status old new P = ends_also b (IsRightOver words told) (IsCertified text) status old new P (on_one (Certify name) name text IsCertified asks holds (λ held outcome on. on))
+
+  pub continued : (name : List ℕ) (limits : Limits) (text : List ℕ) → AsksFor words (Stuck name limits) → Holds told name text
+      → (b : Bool) (status : Status) (old new : Option (List ℕ)) (P : List ℕ → Type 0)
+      → OnTrue b (EndsBy (IsRightOver words told) status old new P) → OnTrue b (EndsBy (IsContinued text limits) status old new P)
+  continued name limits text asks holds b status old new P = ends_also b (IsRightOver words told) (IsContinued text limits) status old new P
+      (on_one (Stuck name limits) name text (λ text. IsContinued text limits) asks holds (λ held outcome on. on))
 
   pub played : (name : List ℕ) (inputs : ℕ) (limits : Limits) (text : List ℕ) → AsksFor words (Synth name inputs limits) → Holds told name text
       → (b : Bool) (status : Status) (old new : Option (List ℕ)) (P : List ℕ → Type 0)

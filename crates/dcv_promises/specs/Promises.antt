@@ -23,6 +23,7 @@ use Rattle.dcv_cli.specs.Outcome.{Outcome}
 use Rattle.dcv_cli.specs.Replayed.{IsReplay}
 use Rattle.dcv_cli.specs.Report.{IsReport}
 use Rattle.dcv_cli.specs.Status.{is_determined}
+use Rattle.dcv_cli.specs.Stuck.{IsStuckReport}
 use Rattle.dcv_cli.specs.Synthesis.{IsSynthesised}
 
 abbrev pub Holds : Option Disk → List ℕ → List ℕ → Type 0
@@ -48,6 +49,10 @@ IsReported kind text limits = OnText text Only (IsBudgeted limits Only (IsReport
 -- the first fault of the first text, or of the second, or a limit is named; or it is said whether the first implies the second
 abbrev pub IsImplied : List ℕ → List ℕ → Limits → Outcome → Type 0
 IsImplied first second limits = OnText first First (λ one. OnText second Second (IsCompared limits one))
+
+-- the first fault or a limit is named; or it is said whether what has kept to the formula so far can always go on
+abbrev pub IsContinued : List ℕ → Limits → Outcome → Type 0
+IsContinued text limits = OnText text Only (IsBudgeted limits Only IsStuckReport)
 
 abbrev pub IsPlayed : List ℕ → ℕ → Limits → Outcome → Type 0
 IsPlayed text inputs limits = OnText text Only (IsSynthesised inputs limits)

@@ -2,7 +2,8 @@
 use Rattle.std.proofs.Common.{refl}
 use Rattle.std.proofs.lemmas.Result.{err_from_is_err_and}
 use Rattle.dcv_implies.specs.Comparison.{letters_of}
-use Rattle.dcv_cli.specs.Comparison.{IsCompared, compared, comparison_text, status_of_least}
+use Rattle.dcv_cli.specs.Comparison.{IsCompared, compared, comparison_text}
+use Rattle.dcv_cli.specs.Status.{status_of_least}
 use Rattle.dcv_cli.specs.declared.refused.Which.TheVariants.{Second}
 use Rattle.dcv_cli.proofs.Comparisons.{answers_least}
 use Rattle.dcv_cli.proofs.Endings.{nothing_told}
@@ -56,7 +57,7 @@ returns g c first is =
     let given = c.in-Ok.ensures in
     let known = given.expanded.is in
     let least = letters_of c.in_ok-compared.compared.least in
-    rw c.status.ensures (performs_sent _ _ _ _ _ (status_of_least least) (comparison_text least)
+    rw c.of_least.ensures (performs_sent _ _ _ _ _ (status_of_least least) (comparison_text least)
     (fulfils_file told c.args.second.now Second (λ held. IsCompared c.args.limits first) given.expanded.text known.file (compared least) given.expanded.there known.formula
     (λ held. c.in_ok-compared.ensures.compared first known.file is known.is))
     (answers_least least) c.in_ok-send.ensures.ok c.in_ok-send.ensures.faults
