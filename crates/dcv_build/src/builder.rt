@@ -202,8 +202,8 @@ impl Builder {
         })
     }
 
-    /// How many explorations the last build made: one for each atom, and one for each other operator but `!` that it had not met over the same
-    /// operands. No clause says so.
+    /// How many explorations the last build made: one for each atom, one for each other operator but `!` that it had not met over the same
+    /// operands, and one for the last. No clause says so.
     pub fn explored(&self) -> u32 {
         self.explored
     }

@@ -21,7 +21,6 @@ pub mod Printed
 pub mod PrintedLengths
 pub mod Promises
 pub mod Replays
-pub mod Reporting
 pub mod SomeAnswers
 pub mod SomeBounds
 pub mod SomeControllers
@@ -35,7 +34,9 @@ pub mod StuckReports
 pub mod Sweeps
 pub mod Syntheses
 mod Texts
+pub mod TextReports
 pub mod ThreeEnds
 pub mod TraceEnds
 pub mod TwoFiles
 pub mod VariableNames
+pub mod Verdicts
