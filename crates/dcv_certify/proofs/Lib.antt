@@ -1,7 +1,9 @@
 mod OwnWords
 mod Building
 mod BuiltSets
-mod KeptColumns
+mod SuffixWords
+mod Linking
+mod Walks
 mod Joins
 mod GoodLines
 mod Certificates
@@ -9,7 +11,7 @@ mod Landings
 mod Splits
 mod Alikes
 mod Bits
-mod Numbers
+mod Numbering
 mod Told
 mod Pairs
 mod Examples

@@ -22,7 +22,7 @@ use Rattle.dcv_automaton_text.specs.Meaning.{access_word_of, access_words_from, 
 use Rattle.dcv_automaton_text.specs.Rules.{IsGood}
 use Rattle.dcv_automaton_read.specs.File.{access_from, suffix_from, accesses_of, suffixes_of}
 use Rattle.dcv_certify.specs.Certified.{set_of, HasAllTold}
-use Rattle.dcv_certify.specs.Numbers.{with_suffix}
+use Rattle.dcv_certify.proofs.SuffixWords.{with_suffix}
 use Rattle.dcv_certify.proofs.Certificates.{certificate_tells_all}
 
 -- ---- suffixes

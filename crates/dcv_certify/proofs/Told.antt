@@ -19,11 +19,12 @@ use Rattle.dcv_automaton_text.proofs.Kept.{AreKept}
 use Rattle.dcv_certify.specs.Certified.{set_of, word_at, HasGoodWords, AreTold}
 use Rattle.dcv_certify.specs.Alike.{bit, has_no_letters, AreAlike}
 use Rattle.dcv_certify.specs.Split.{number_at}
-use Rattle.dcv_certify.specs.Numbers.{with_suffix, words_upto, AreNumbersOf}
+use Rattle.dcv_certify.specs.Links.{suffix_at}
+use Rattle.dcv_certify.specs.Numbers.{AreNumbersOf}
 use Rattle.dcv_certify.proofs.Alikes.{same_number, alike_by_number}
 use Rattle.dcv_certify.proofs.Bits.{bit_of_state, last_behind, last_empty}
 use Rattle.dcv_certify.proofs.Landings.{access_at, spelled_at, kept_at, earlier, width, empty_word, no_letters}
-use Rattle.dcv_certify.proofs.Numbers.{GoesOnFrom, no_line, suffix_at, suffix_goes_on}
+use Rattle.dcv_certify.proofs.SuffixWords.{with_suffix, words_upto, GoesOnFrom, no_line, suffix_goes_on}
 
 from-append : (table : Table) (state : ℕ) (u w : Word) → state_from (automaton_of table) state (u ++ w) ≡ state_from (automaton_of table) (state_from (automaton_of table) state u) w
 from-append table state [] w = refl

@@ -7,5 +7,7 @@ pub mod Alike
 pub mod Split
 pub mod Columns
 pub mod Numbers
+pub mod Links
+pub mod Walk
 pub mod Joined
 pub mod Built

@@ -5,10 +5,11 @@ ghost use Rattle.dcv_certify.specs.Certified.{HasGoodWords, HasAllTold, IsFirstP
 ghost use Rattle.dcv_automaton_read.specs.File.{access_from};
 ghost use Rattle.dcv_certify.specs.Alike.{has_no_letters, is_empty_access, entries_of};
 ghost use Rattle.dcv_certify.specs.Numbers.{AreNumbersOf};
+ghost use Rattle.dcv_certify.specs.Links.{root_of};
 
-use crate::columns::{column, keep, last_uses, release};
 use crate::joined::{are_own, first_joined};
-use crate::split::split;
+use crate::links::Links;
+use crate::walk::{try_next, wait};
 use dcv_automaton_read::{Access, AutoFile};
 use std::alloc::{AllocError, Global};
 
@@ -30,20 +31,30 @@ fn least_alike(alloc: Global, file: &AutoFile) -> Result<Vec<u32>, AllocError>
 {
     // for the prover: what is true of every file.
     file.keeps_the_rules();
-    let suffixes = file.suffixes();
-    let lasts = last_uses(alloc, suffixes)?;
-    let mut columns = Vec::new(alloc);
+    let links = Links::of(alloc, file)?;
     let mut numbers = vec![in alloc; 0; entries(file)]?;
-    for suffix in suffixes {
+    let mut left = Vec::new(alloc);
+    wait(&mut left, Vec::new(alloc), root(file))?;
+    while let Some(at) = left.pop() {
         if are_own(&numbers) {
             return Ok(numbers);
         }
-        let column = column(alloc, file, &columns, *suffix)?;
-        numbers = split(alloc, &numbers, &column)?;
-        release(alloc, &mut columns, &lasts, *suffix);
-        keep(alloc, &mut columns, &lasts, column)?;
+        try_next(alloc, file, &links, at, &mut left, &mut numbers)?;
     }
     Ok(numbers)
+}
+
+// The first suffix, from which all others go on.
+fn root(file: &AutoFile) -> Option<u32>
+    ensures { result ≡ root_of file.now }
+{
+    // for the prover: what is true of every file.
+    file.keeps_the_rules();
+    if file.suffixes().is_empty() {
+        None
+    } else {
+        Some(0)
+    }
 }
 
 // How many entries there are.

@@ -17,8 +17,10 @@ mod certifier;
 mod columns;
 mod joined;
 pub mod laws;
+mod links;
 mod own;
 mod split;
+mod walk;
 mod words;
 
 pub use answer::Answer;

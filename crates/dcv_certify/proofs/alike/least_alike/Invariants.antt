@@ -1,5 +1,9 @@
-use Rattle.dcv_certify.proofs.Numbers.{AlikeSoFar}
+use Rattle.dcv_certify.specs.Walk.{work_left, IsWalk}
 use Rattle.dcv_certify.proofs.alike.least_alike.Given as goal
 
-abbrev pub invariant-loop-suffix : goal.invariant-loop-suffix
-invariant-loop-suffix l = AlikeSoFar l.file l.lasts.items l.suffix-index l.columns.items l.numbers.items
+-- each suffix is known, or waits
+abbrev pub invariant-loop-at : goal.invariant-loop-at
+invariant-loop-at l = IsWalk l.file l.links.first.items l.links.next.items l.left.items l.numbers.items
+
+abbrev pub decreases-loop-at : goal.decreases-loop-at
+decreases-loop-at l = work_left l.file l.links.next.items l.left.items

@@ -1,0 +1,57 @@
+//! A walk over the suffixes of a text. Each is tried after the one that it goes on from, and its column is made of the column of that, which
+//! goes once the last suffix that goes on from it was tried.
+ghost use Rattle.std.specs.Prelude.{◌≡◌, ◌<◌, ◌∷◌, ◌++◌, [], Option, OnOk};
+ghost use Rattle.dcv_certify.specs.Links.{AreLinks};
+ghost use Rattle.dcv_certify.specs.Walk.{waiting, work_left, IsWalk};
+
+use crate::columns::column;
+use crate::links::Links;
+use crate::split::split;
+use dcv_automaton_read::AutoFile;
+use std::alloc::{AllocError, Global};
+
+// A suffix that is to be tried, with the column of the one that it goes on from. After it come those that go on from the same one.
+#[derive(Drop)]
+pub(crate) struct Untried {
+    // Whether the suffix that it goes on from is accepted from each entry.
+    column: Vec<bool>,
+    // Its place in the text.
+    place: u32,
+}
+
+// Tries a suffix. Then come those that go on from it, and after these the next that goes on from the same one.
+pub(crate) fn try_next(
+    alloc: Global,
+    file: &AutoFile,
+    links: &Links,
+    at: Untried,
+    left: &mut Vec<Untried>,
+    numbers: &mut Vec<u32>,
+) -> Result<(), AllocError>
+    requires links { AreLinks file.now links.now.first.items links.now.next.items }
+    requires walk { IsWalk file.now links.now.first.items links.now.next.items (left.old.items ++ at ∷ []) numbers.old.items }
+    ensures walk { OnOk result (IsWalk file.now links.now.first.items links.now.next.items left.new.items numbers.new.items) }
+    ensures shorter { OnOk result (work_left file.now links.now.next.items left.new.items < work_left file.now links.now.next.items (left.old.items ++ at ∷ [])) }
+{
+    // for the prover: what is true of every file.
+    file.keeps_the_rules();
+    let place = at.place as usize;
+    let column = column(alloc, file, &at.column, file.suffixes()[place])?;
+    *numbers = split(alloc, numbers, &column)?;
+    wait(left, at.column, links.next[place])?;
+    wait(left, column, links.first[place])
+}
+
+// Lets a suffix be tried next, given the column of the one that it goes on from.
+pub(crate) fn wait(
+    left: &mut Vec<Untried>,
+    column: Vec<bool>,
+    place: Option<u32>,
+) -> Result<(), AllocError>
+    ensures { OnOk result (left.new.items ≡ waiting left.old.items column place) }
+{
+    if let Some(place) = place {
+        left.push(Untried { column, place })?;
+    }
+    Ok(())
+}
