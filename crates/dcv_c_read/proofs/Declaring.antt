@@ -9,7 +9,8 @@ use Rattle.dcv_observer.proofs.Naming.{is_itself, differs, among_append_left, am
 use Rattle.dcv_c.specs.Rules.{keeps_new}
 use Rattle.dcv_c_read.specs.declared.scope.Sort.{Sort}
 use Rattle.dcv_c_read.specs.declared.scope.Sort.TheVariants.{Variable, Parameter}
-use Rattle.dcv_c_read.specs.Scope.{Row, Frame, with_function, with_names, is_variable, IsRow, AreRows, KnowsNames}
+use Rattle.dcv_c_read.specs.Scope.{Row, Frame, with_function, with_names, is_variable, IsRow, KnowsNames}
+use Rattle.dcv_translation.proofs.Rows.{rows_push}
 
 -- ---- one more name in a list
 
@@ -104,21 +105,6 @@ module _ (frame : Frame) (functions declared : Names) (rows : List Row) (knows :
         second true b both = both
         second false b both = absurd (false≢true both)
 
-    rows_push : (lefts known : Names) (place : ℕ) (names : Names) (rows : List Row) (row : Row)
-        → ((n : List ℕ) → is_among names n ≡ true → is_among frame.placed n ≡ true)
-        → ((n : List ℕ) → is_among frame.placed n ≡ true → (is_among frame.lefts n ≡ is_among lefts n) × (is_among frame.known n ≡ is_among known n))
-        → AreRows frame.lefts frame.known place names rows → IsRow lefts known (place + length rows) name row
-        → AreRows lefts known place (names ++ name ∷ []) (rows ++ row ∷ [])
-    rows_push lefts known place [] [] row within same are new = (subst (λ p. IsRow lefts known p name row) (let e : place + 0 ≡ place = omega arith in e) new, tt)
-    rows_push lefts known place [] (r ∷ rows) row within same are new = absurd are
-    rows_push lefts known place (n ∷ names) [] row within same are new = absurd are
-    rows_push lefts known place (n ∷ names) (r ∷ rows) row within same are new =
-        let here = same n (within n (or_left _ _ (is_itself n))) in (
-          record { is_at = are.0.is_at; is_left = are.0.is_left ∙ here.0; is_known = are.0.is_known ∙ here.1 },
-          rows_push lefts known (place + 1) names rows row (λ m among. within m (or_right (bytes_eq m n) _ among)) same are.1
-              (subst (λ p. IsRow lefts known p name row) (let e : place + length (r ∷ rows) ≡ place + 1 + length rows = omega arith in e) new),
-        )
-
     entered : (lefts known : Names) (is_left is_known : Bool) → Grows frame.lefts is_left lefts → Grows frame.known is_known known
         → KnowsNames (record { earlier = frame.earlier ++ name ∷ []; functions = frame.functions; placed = frame.placed ++ name ∷ []; lefts = lefts; known = known })
         functions (declared ++ name ∷ []) (rows ++ record { place = length rows; is_left = is_left; is_known = is_known } ∷ [])
@@ -135,8 +121,14 @@ module _ (frame : Frame) (functions declared : Names) (rows : List Row) (knows :
           lefts_among = within_push frame.lefts lefts is_left left_grows knows.lefts_among;
           known_among = within_push frame.known known is_known known_grows knows.known_among;
           are_rows =
-              rows_push lefts known 0 frame.placed rows _ (λ n among. among)
-              (λ n among. (same_here frame.lefts lefts is_left left_grows n among, same_here frame.known known is_known known_grows n among)) knows.are_rows
+              rows_push (IsRow frame.lefts frame.known) (IsRow lefts known) 0 frame.placed rows name _
+              (λ n other row among is.
+              record {
+                is_at = is.is_at;
+                is_left = is.is_left ∙ same_here frame.lefts lefts is_left left_grows other among;
+                is_known = is.is_known ∙ same_here frame.known known is_known known_grows other among;
+              })
+              knows.are_rows
               (record {
                 is_at = let e : length rows ≡ 0 + length rows = omega arith in e;
                 is_left = new_here frame.lefts lefts is_left left_grows knows.lefts_among;

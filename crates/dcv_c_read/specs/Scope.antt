@@ -2,7 +2,7 @@
 --     Frame                          the names that are declared so far, by what may be done with them
 --     Knows frame scope              what the code keeps tells of them
 --     IsNamed placed name place      the name with a place
-use Rattle.std.specs.Prelude.{◌≡◌, ℕ, zero, suc, ◌+◌, ◌<◌, Bool, true, false, ◌||◌, List, [], ◌∷◌, ◌++◌, Option, Some, None, length, map}
+use Rattle.std.specs.Prelude.{◌≡◌, ℕ, ◌<◌, Bool, true, false, ◌||◌, List, [], ◌∷◌, ◌++◌, Option, Some, None, length, map}
 use Rattle.dcv_observer.specs.Conditions.{Names, name_at}
 use Rattle.dcv_observer.specs.Naming.{is_among, AreDistinct}
 use Rattle.dcv_c.specs.Tree.{CUnit}
@@ -13,6 +13,7 @@ use Rattle.dcv_c_read.specs.declared.scope.Sort.TheVariants.{Variable, Parameter
 use Rattle.dcv_c_read.specs.declared.scope.Declaration.{Declaration}
 use Rattle.dcv_c_read.specs.declared.scope.Scope.{Scope}
 use Rattle.dcv_observer.specs.Judged.{IsLeft}
+use Rattle.dcv_translation.specs.Rows.{AreRows}
 
 -- ---- the names so far
 
@@ -101,12 +102,6 @@ pub record IsRow (lefts known : Names) (place : ℕ) (name : List ℕ) (row : Ro
   pub is_left : row.is_left ≡ is_among lefts name
   pub is_known : row.is_known ≡ is_among known name
 
-abbrev pub AreRows : Names → Names → ℕ → Names → List Row → Type 0
-AreRows lefts known place [] [] = Unit {0}
-AreRows lefts known place [] (row ∷ rows) = ⊥
-AreRows lefts known place (name ∷ names) [] = ⊥
-AreRows lefts known place (name ∷ names) (row ∷ rows) = IsRow lefts known place name row × AreRows lefts known (place + 1) names rows
-
 pub record KnowsNames (frame : Frame) (functions declared : Names) (rows : List Row) : Type 0 where
   pub functions_are : functions ≡ frame.functions
   pub declared_are : declared ≡ frame.placed
@@ -114,7 +109,7 @@ pub record KnowsNames (frame : Frame) (functions declared : Names) (rows : List 
   pub distinct : AreDistinct frame.placed
   pub lefts_among : (name : List ℕ) → is_among frame.lefts name ≡ true → is_among frame.placed name ≡ true
   pub known_among : (name : List ℕ) → is_among frame.known name ≡ true → is_among frame.placed name ≡ true
-  pub are_rows : AreRows frame.lefts frame.known 0 frame.placed rows
+  pub are_rows : AreRows (IsRow frame.lefts frame.known) 0 frame.placed rows
 
 abbrev pub Knows : Frame → Scope → Type 0
 Knows frame scope = KnowsNames frame scope.functions scope.declared (map seen_row scope.names.items)
@@ -134,11 +129,9 @@ abbrev pub IsFound : Frame → List ℕ → Option Declaration → Type 0
 IsFound frame name None = is_among frame.placed name ≡ false
 IsFound frame name (Some found) = IsFoundAs frame name (seen_row found)
 
--- the name at a place is known from now on
-abbrev pub marked : ℕ → List Row → List Row
-marked place [] = []
-marked zero (row ∷ rows) = record { place = row.place; is_left = row.is_left; is_known = true } ∷ rows
-marked (suc place) (row ∷ rows) = row ∷ marked place rows
+-- the name is known from now on
+abbrev pub as_known : Row → Row
+as_known row = record { place = row.place; is_left = row.is_left; is_known = true }
 
 -- after assignments of these names, where none was known before
 pub record KnowsAssigned (frame : Frame) (assigned : Names) (scope : Scope) : Type 0 where

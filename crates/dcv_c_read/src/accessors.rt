@@ -17,17 +17,14 @@ use crate::placed::{
     PlacedTest, PlacedTests,
 };
 use dcv_observer::Item;
-use dcv_translation::Body;
+use dcv_translation::{Body, next_of, next_of_or_end};
 
 // The next part, which is a token.
 pub(crate) fn token<'a>(parts: &mut Body<Part<'a>>) -> Item<'a>
     requires { BeginsWithToken (map seen_part parts.old) }
     ensures { map seen_part parts.old ≡ AToken (seen result) ∷ map seen_part parts.new }
 {
-    match parts.next() {
-        Some(Part::Token(item)) => item,
-        _ => unreachable!(),
-    }
+    next_of!(parts, Token)
 }
 
 // The next part, a list of tokens.
@@ -35,10 +32,7 @@ pub(crate) fn tokens<'a>(parts: &mut Body<Part<'a>>) -> Vec<Item<'a>>
     requires { BeginsWithTokens (map seen_part parts.old) }
     ensures { map seen_part parts.old ≡ Tokens (reverse (map seen result.items)) ∷ map seen_part parts.new }
 {
-    match parts.next() {
-        Some(Part::Tokens(tokens)) => tokens,
-        _ => unreachable!(),
-    }
+    next_of!(parts, Tokens)
 }
 
 // The next part, a list of assignments.
@@ -46,10 +40,7 @@ pub(crate) fn assignments<'a>(parts: &mut Body<Part<'a>>) -> Vec<PlacedAssignmen
     requires { BeginsWithAssignments (map seen_part parts.old) }
     ensures { map seen_part parts.old ≡ Assignments (reverse (map seen_assignment result.items)) ∷ map seen_part parts.new }
 {
-    match parts.next() {
-        Some(Part::Assignments(assignments)) => assignments,
-        _ => unreachable!(),
-    }
+    next_of!(parts, Assignments)
 }
 
 // The next part, a list of statements.
@@ -57,10 +48,7 @@ pub(crate) fn statements<'a>(parts: &mut Body<Part<'a>>) -> Vec<PlacedStatement<
     requires { BeginsWithStatements (map seen_part parts.old) }
     ensures { map seen_part parts.old ≡ Statements (reverse (map seen_statement result.items)) ∷ map seen_part parts.new }
 {
-    match parts.next() {
-        Some(Part::Statements(statements)) => statements,
-        _ => unreachable!(),
-    }
+    next_of!(parts, Statements)
 }
 
 // The next part, which is a test.
@@ -68,10 +56,7 @@ pub(crate) fn test<'a>(parts: &mut Body<Part<'a>>) -> PlacedTest<'a>
     requires { BeginsWithTest (map seen_part parts.old) }
     ensures { map seen_part parts.old ≡ ATest (seen_test result) ∷ map seen_part parts.new }
 {
-    match parts.next() {
-        Some(Part::Test(test)) => test,
-        _ => unreachable!(),
-    }
+    next_of!(parts, Test)
 }
 
 // The next part, a list of tests.
@@ -79,10 +64,7 @@ pub(crate) fn tests<'a>(parts: &mut Body<Part<'a>>) -> Vec<PlacedTest<'a>>
     requires { BeginsWithTests (map seen_part parts.old) }
     ensures { map seen_part parts.old ≡ Tests (reverse (map seen_test result.items)) ∷ map seen_part parts.new }
 {
-    match parts.next() {
-        Some(Part::Tests(tests)) => tests,
-        _ => unreachable!(),
-    }
+    next_of!(parts, Tests)
 }
 
 // The next part, which is the number of a condition.
@@ -90,10 +72,7 @@ pub(crate) fn maybe<'a>(parts: &mut Body<Part<'a>>) -> Option<Item<'a>>
     requires { BeginsWithMaybe (map seen_part parts.old) }
     ensures { map seen_part parts.old ≡ Maybe (option_map seen result) ∷ map seen_part parts.new }
 {
-    match parts.next() {
-        Some(Part::Maybe(maybe)) => maybe,
-        _ => unreachable!(),
-    }
+    next_of!(parts, Maybe)
 }
 
 // The next part, which is what a step returns.
@@ -101,10 +80,7 @@ pub(crate) fn returned<'a>(parts: &mut Body<Part<'a>>) -> PlacedReturned<'a>
     requires { BeginsWithReturned (map seen_part parts.old) }
     ensures { map seen_part parts.old ≡ AReturned (seen_returned result) ∷ map seen_part parts.new }
 {
-    match parts.next() {
-        Some(Part::Returned(returned)) => returned,
-        _ => unreachable!(),
-    }
+    next_of!(parts, Returned)
 }
 
 // The next part, which is the function that sets the statics.
@@ -112,10 +88,7 @@ pub(crate) fn reset<'a>(parts: &mut Body<Part<'a>>) -> PlacedReset<'a>
     requires { BeginsWithReset (map seen_part parts.old) }
     ensures { map seen_part parts.old ≡ AReset (seen result.name) (map seen_assignment result.assignments.items) (seen result.end) ∷ map seen_part parts.new }
 {
-    match parts.next() {
-        Some(Part::Reset(reset)) => reset,
-        _ => unreachable!(),
-    }
+    next_of!(parts, Reset)
 }
 
 // The next part, which is the function that makes a step.
@@ -123,10 +96,7 @@ pub(crate) fn step<'a>(parts: &mut Body<Part<'a>>) -> Box<PlacedStep<'a>>
     requires { BeginsWithStep (map seen_part parts.old) }
     ensures { map seen_part parts.old ≡ seen_step result.value ∷ map seen_part parts.new }
 {
-    match parts.next() {
-        Some(Part::Step(step)) => step,
-        _ => unreachable!(),
-    }
+    next_of!(parts, Step)
 }
 
 // The next part, which is a token, or none at the end.
@@ -134,11 +104,7 @@ pub(crate) fn token_or_end<'a>(parts: &mut Body<Part<'a>>) -> Option<Item<'a>>
     requires { EndsOrBeginsWithToken (map seen_part parts.old) }
     ensures { Takes (λ item. AToken (seen item)) result (map seen_part parts.old) (map seen_part parts.new) }
 {
-    match parts.next() {
-        None => None,
-        Some(Part::Token(item)) => Some(item),
-        _ => unreachable!(),
-    }
+    next_of_or_end!(parts, Token)
 }
 
 // The next part, a list of tokens, or none at the end.
@@ -146,11 +112,7 @@ pub(crate) fn tokens_or_end<'a>(parts: &mut Body<Part<'a>>) -> Option<Vec<Item<'
     requires { EndsOrBeginsWithTokens (map seen_part parts.old) }
     ensures { Takes (λ items. Tokens (reverse (map seen items.items))) result (map seen_part parts.old) (map seen_part parts.new) }
 {
-    match parts.next() {
-        None => None,
-        Some(Part::Tokens(tokens)) => Some(tokens),
-        _ => unreachable!(),
-    }
+    next_of_or_end!(parts, Tokens)
 }
 
 // The next part, which is an assignment, or none at the end.
@@ -158,11 +120,7 @@ pub(crate) fn assignment_or_end<'a>(parts: &mut Body<Part<'a>>) -> Option<Placed
     requires { EndsOrBeginsWithAssignment (map seen_part parts.old) }
     ensures { Takes (λ assignment. AnAssignment (seen_assignment assignment)) result (map seen_part parts.old) (map seen_part parts.new) }
 {
-    match parts.next() {
-        None => None,
-        Some(Part::Assignment(assignment)) => Some(assignment),
-        _ => unreachable!(),
-    }
+    next_of_or_end!(parts, Assignment)
 }
 
 // The next part, which is a statement, or none at the end.
@@ -170,11 +128,7 @@ pub(crate) fn statement_or_end<'a>(parts: &mut Body<Part<'a>>) -> Option<PlacedS
     requires { EndsOrBeginsWithStatement (map seen_part parts.old) }
     ensures { Takes (λ statement. AStatement (seen_statement statement)) result (map seen_part parts.old) (map seen_part parts.new) }
 {
-    match parts.next() {
-        None => None,
-        Some(Part::Statement(statement)) => Some(statement),
-        _ => unreachable!(),
-    }
+    next_of_or_end!(parts, Statement)
 }
 
 // The next part, which is what stands after a name on a right side, or none at the end.
@@ -182,11 +136,7 @@ pub(crate) fn choice_or_end<'a>(parts: &mut Body<Part<'a>>) -> Option<Option<Box
     requires { EndsOrBeginsWithChoice (map seen_part parts.old) }
     ensures { Takes (λ choice. Choice (option_map (λ boxed. seen_choice boxed.value) choice)) result (map seen_part parts.old) (map seen_part parts.new) }
 {
-    match parts.next() {
-        None => None,
-        Some(Part::Choice(choice)) => Some(choice),
-        _ => unreachable!(),
-    }
+    next_of_or_end!(parts, Choice)
 }
 
 // The next part, which is what stands after the first name of a result, or none at the end.
@@ -194,9 +144,5 @@ pub(crate) fn behind_or_end<'a>(parts: &mut Body<Part<'a>>) -> Option<Option<Pla
     requires { EndsOrBeginsWithBehind (map seen_part parts.old) }
     ensures { Takes (λ tests. Behind (option_map seen_tests tests)) result (map seen_part parts.old) (map seen_part parts.new) }
 {
-    match parts.next() {
-        None => None,
-        Some(Part::Behind(behind)) => Some(behind),
-        _ => unreachable!(),
-    }
+    next_of_or_end!(parts, Behind)
 }

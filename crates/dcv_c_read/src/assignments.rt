@@ -17,7 +17,7 @@ ghost use Rattle.dcv_c_read.specs.Judged.{words_of_assignments, names_of_assignm
 use crate::placed::{PlacedAssignment, PlacedReset};
 use crate::scope::Scope;
 use dcv_c::{Assignment, ObsFault, Reset};
-use dcv_observer::{Item as Word, broken, number_at, push};
+use dcv_observer::{Item as Word, broken, number_at};
 use dcv_syntax::Text;
 use std::alloc::Global;
 
@@ -77,7 +77,7 @@ impl<'a> Scope<'a> {
     {
         let mut all = Vec::new(alloc);
         for assignment in assignments {
-            push(&mut all, self.assignment(assignment)?)?;
+            all.push(self.assignment(assignment)?)?;
         }
         Ok(all)
     }

@@ -13,7 +13,7 @@ ghost use Rattle.dcv_observer.specs.Judged.{Leads, IsLeft};
 use crate::placed::PlacedUnit;
 use crate::scope::{Scope, Sort};
 use dcv_c::{CUnit, ObsFault, Reset, Step};
-use dcv_observer::{Item, broken, push};
+use dcv_observer::{Item, broken};
 use dcv_syntax::Text;
 use std::alloc::Global;
 
@@ -44,7 +44,7 @@ impl<'a> Scope<'a> {
         let mut texts = Vec::new(alloc);
         for word in words {
             self.declare(word, Sort::Variable)?;
-            push(&mut texts, Text::copy_of(alloc, word.bytes)?)?;
+            texts.push(Text::copy_of(alloc, word.bytes)?)?;
         }
         Ok(texts)
     }
@@ -63,7 +63,7 @@ impl<'a> Scope<'a> {
                 return Err(broken(word));
             }
             self.declare(word, Sort::Parameter)?;
-            push(&mut texts, Text::copy_of(alloc, word.bytes)?)?;
+            texts.push(Text::copy_of(alloc, word.bytes)?)?;
         }
         Ok(texts)
     }

@@ -8,11 +8,12 @@ ghost use Rattle.dcv_dfa.specs.Auto.{count_of_nodes};
 ghost use Rattle.dcv_dfa.specs.Raw.{raw_accepts};
 ghost use Rattle.dcv_c.specs.Faults.{IsReadAs};
 ghost use Rattle.dcv_c.specs.Laws.{Observes};
+ghost use Rattle.dcv_c.specs.Tree.{CUnit as PlainCUnit};
 ghost use Rattle.dcv_c.specs.Observer.{observer_of};
 
 use crate::reading::read;
-use dcv_c::laws::{observers_accept_the_same, texts_spell_units};
-use dcv_c::{CUnit, put_observer};
+use dcv_c::laws::{observers_accept_the_same, texts_are_units_or_at_fault, texts_spell_units};
+use dcv_c::{CUnit, ObsFault, put_observer};
 use dcv_dfa::Auto;
 use dcv_io::Text;
 use dcv_syntax::Name;
@@ -39,15 +40,20 @@ pub fn of_auto(alloc: Global, auto: &Auto, names: &[Name]) -> Result<CUnit, Allo
     unit_of(alloc, &text)
 }
 
-// The unit that a text is of. Any other text, and one of 4 GB, counts as out of memory: no observer has it.
+// The unit that a text is of. One of 4 GB counts as out of memory.
 fn unit_of(alloc: Global, text: &[u8]) -> Result<CUnit, AllocError>
+    requires { (unit : PlainCUnit) × IsReadAs text.now unit }
     ensures { IfOk result (IsReadAs text.now) }
 {
+    texts_are_units_or_at_fault();
     if text.len() > u32::MAX as usize {
         return Err(AllocError);
     }
     match read(alloc, text) {
         Ok(unit) => Ok(unit),
-        Err(_) => Err(AllocError),
+        Err(fault) => match fault {
+            ObsFault::Memory => Err(AllocError),
+            _ => unreachable!(),
+        },
     }
 }

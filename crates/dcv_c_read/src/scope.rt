@@ -6,10 +6,11 @@ ghost use Rattle.dcv_observer.specs.Left.{seen};
 ghost use Rattle.dcv_observer.specs.Naming.{is_among};
 ghost use Rattle.dcv_c.specs.Rules.{keeps_new};
 ghost use Rattle.dcv_observer.specs.Judged.{Leads, IsLeft};
-ghost use Rattle.dcv_c_read.specs.Scope.{is_variable, seen_row, marked};
+ghost use Rattle.dcv_c_read.specs.Scope.{is_variable, seen_row, as_known};
+ghost use Rattle.dcv_translation.specs.Rows.{changed};
 
 use dcv_c::ObsFault;
-use dcv_observer::{Declared, Item, broken, push};
+use dcv_observer::{Declared, Item, broken};
 use std::alloc::Global;
 
 /// What a name with a place stands for.
@@ -131,7 +132,7 @@ impl<'a> Scope<'a> {
             sort,
             known: !sort.is_variable(),
         };
-        push(&mut self.names, declaration)?;
+        self.names.push(declaration)?;
         Ok(())
     }
 
@@ -149,7 +150,7 @@ impl<'a> Scope<'a> {
     pub(crate) fn mark(&mut self, place: u32)
         ensures functions { self.new.functions ≡ self.old.functions }
         ensures declared { self.new.declared ≡ self.old.declared }
-        ensures names { map seen_row self.new.names.items ≡ marked place (map seen_row self.old.names.items) }
+        ensures names { map seen_row self.new.names.items ≡ changed as_known place (map seen_row self.old.names.items) }
     {
         let place = place as usize;
         if place < self.names.len() {

@@ -19,7 +19,7 @@ ghost use Rattle.dcv_c_read.specs.Judged.{words_of_statements, words_of_tests, k
 use crate::placed::{PlacedReturned, PlacedRight, PlacedStatement, PlacedTest, PlacedWhen};
 use crate::scope::Scope;
 use dcv_c::{Condition, Item, ObsFault, Returned, Right, Statement, Test};
-use dcv_observer::{Item as Word, broken, is_number, number_at, push};
+use dcv_observer::{Item as Word, broken, is_number, number_at};
 use std::alloc::Global;
 
 impl<'a> Scope<'a> {
@@ -163,7 +163,7 @@ impl<'a> Scope<'a> {
     {
         let mut all = Vec::with_capacity(alloc, statements.len())?;
         for statement in statements {
-            push(&mut all, self.statement(statement)?)?;
+            all.push(self.statement(statement)?)?;
         }
         Ok(all)
     }
@@ -191,7 +191,7 @@ impl<'a> Scope<'a> {
     {
         let mut all = Vec::new(alloc);
         for test in tests {
-            push(&mut all, self.test(test)?)?;
+            all.push(self.test(test)?)?;
         }
         Ok(all)
     }

@@ -1,11 +1,4 @@
 // The lexicon and the grammar of the subset as tables. In the comments `{x}` is any number of x, and `[x]` is x or nothing.
-ghost use Rattle.std.specs.Prelude.{◌≡◌, IsTrue};
-ghost use Rattle.dcv_grammar.specs.Grammar.{grammar_of};
-ghost use Rattle.dcv_grammar.specs.Predictive.{IsPredictive};
-ghost use Rattle.dcv_lexer.specs.Lexicon.{lexicon_of, is_orderly};
-ghost use Rattle.dcv_c.specs.Classes.{lexicon};
-ghost use Rattle.dcv_c.specs.Language.{language};
-
 use dcv_grammar::grammar::Symbol::{Class, Rule};
 use dcv_grammar::grammar::{Alternative, ContextFree, Production};
 use dcv_grammar::{after, always, optional};
@@ -66,7 +59,8 @@ const WORDS: [(&[u8], u8); 5] = [
     (b"if", WORD_IF),
 ];
 
-static LEXICON: Lexicon<'static> = Lexicon {
+// What units are written with.
+pub(crate) static LEXICON: Lexicon<'static> = Lexicon {
     symbols: &SYMBOLS,
     words: &WORDS,
     name: NAME,
@@ -75,15 +69,6 @@ static LEXICON: Lexicon<'static> = Lexicon {
     comments: false,
     leading_zeros: false,
 };
-
-// What units are written with.
-#[tactic(auto, unfolding(dcv_c::specs::Classes::lexicon))]
-pub(crate) fn lexicon() -> &'static Lexicon<'static>
-    ensures lexicon { lexicon_of result.now ≡ lexicon }
-    ensures orderly { IsTrue (is_orderly lexicon) }
-{
-    &LEXICON
-}
 
 // The numbers of the rules.
 pub(crate) const UNIT: u8 = 0;
@@ -258,16 +243,8 @@ const RULES: [Production<'static>; 23] = [
     always!(Class(NAME), Class(DOUBLE_EQUALS), Class(NUMBER)),
 ];
 
-static GRAMMAR: ContextFree<'static> = ContextFree {
+// The grammar of units.
+pub(crate) static GRAMMAR: ContextFree<'static> = ContextFree {
     start: UNIT,
     tables: &[&RULES],
 };
-
-// The grammar of units.
-#[tactic(auto, unfolding(dcv_c::specs::Language::language, dcv_grammar::specs::Predictive::IsPredictive))]
-pub(crate) fn grammar() -> &'static ContextFree<'static>
-    ensures grammar { grammar_of result.now ≡ language }
-    ensures predictive { IsPredictive language }
-{
-    &GRAMMAR
-}

@@ -29,12 +29,14 @@ impl<'a> Translation<'a> for UnitTranslation {
 
     ghost meaning = { seen_part };
 
+    #[tactic(auto, unfolding(dcv_c::specs::Classes::lexicon))]
     fn lexicon(&self) -> &'a Lexicon<'a> {
-        tables::lexicon()
+        &tables::LEXICON
     }
 
+    #[tactic(auto, unfolding(dcv_c::specs::Language::language, dcv_grammar::specs::Predictive::IsPredictive))]
     fn grammar(&self) -> &'a ContextFree<'a> {
-        tables::grammar()
+        &tables::GRAMMAR
     }
 
     fn token(&self, item: Item<'a>) -> Part<'a> {

@@ -9,8 +9,9 @@ use Rattle.dcv_lustre.specs.Tree.{Kind, OfTruth, OfNumber, Local, Node}
 use Rattle.dcv_lustre.specs.Meaning.{ok, local_names, names_of}
 use Rattle.dcv_lustre.specs.Placed.{PlacedNode, local_of, equation_of, node_of, bytes_of}
 use Rattle.dcv_lustre.specs.Rules.{is_same_kind, kind_of, keeps_equations, has_all_equations, words_of, judged}
-use Rattle.dcv_lustre_read.specs.Scope.{Told, Row, told_inputs, told_locals, told_of, rows_from, keeps_from, IsDeclaring, AreRows, Knows, KnowsAll, seen_row}
-use Rattle.dcv_lustre_read.specs.Judged.{IsLeft, words_of_equations, words_of_locals, names_of_locals}
+use Rattle.dcv_lustre_read.specs.Scope.{Told, Row, told_inputs, told_locals, told_of, rows_from, keeps_from, IsDeclaring, IsRow, Knows, KnowsAll, seen_row}
+use Rattle.dcv_observer.specs.Judged.{IsLeft}
+use Rattle.dcv_lustre_read.specs.Judged.{words_of_equations, words_of_locals, names_of_locals}
 use Rattle.dcv_lustre_read.specs.Contents.{first_fault_of}
 use Rattle.dcv_lustre_read.specs.declared.placed.PlacedNode.{PlacedNode as CodeNode}
 use Rattle.dcv_lustre_read.specs.declared.placed.PlacedLocal.{PlacedLocal as CodeLocal}
@@ -22,14 +23,14 @@ use Rattle.dcv_observer.specs.Left.{seen}
 use Rattle.dcv_observer.specs.Naming.{is_among, AreDistinct}
 use Rattle.dcv_observer.proofs.Naming.{is_itself, differs, among_append_left, among_append_right, distinct_apart, distinct_behind}
 use Rattle.dcv_observer.specs.Subsets.{first_broken}
+use Rattle.dcv_translation.specs.Rows.{AreRows}
+use Rattle.dcv_translation.proofs.Rows.{among_at}
 use Rattle.dcv_lustre_read.proofs.NameKinds.{of_kind, named, none_of_kind, no_input, with_first}
 
 -- ---- the kinds of locals
 
-name_among : (locals : List Local) (k : ℕ) → k < length locals → is_among (named locals) (get_or (named locals) k []) ≡ true
-name_among [] k within = absurd (omega arith)
-name_among (local ∷ locals) zero within = or_left _ _ (is_itself local.name)
-name_among (local ∷ locals) (suc k) within = or_right (bytes_eq (get_or (named locals) k []) local.name) _ (name_among locals k (omega arith))
+named_among : (locals : List Local) (k : ℕ) → k < length locals → is_among (named locals) (get_or (named locals) k []) ≡ true
+named_among locals k within = among_at (named locals) k (omega (arith, within, length-map locals (λ (local : Local). local.name)))
 
 first_truth : (kind : Kind) (local : Local) (locals : List Local) → is_among (named locals) local.name ≡ false
     → is_among (with_first OfTruth kind local locals) local.name ≡ is_same_kind OfTruth kind
@@ -47,9 +48,10 @@ truth_at [] none distinct k within = absurd (omega arith)
 truth_at (local ∷ locals) none distinct zero within = first_truth local.kind local locals distinct.0
 truth_at (local ∷ locals) none distinct (suc k) within =
     let inside : k < length locals = omega arith in
+    let there = named_among locals k inside in
     let other : bytes_eq (get_or (named locals) k []) local.name ≡ false =
     differs (get_or (named locals) k []) local.name (λ same.
-    both_ways (is_among (named locals) local.name) distinct.0 (subst (λ (n : List ℕ). is_among (named locals) n ≡ true) same (name_among locals k inside))) in
+    both_ways (is_among (named locals) local.name) distinct.0 (subst (λ (n : List ℕ). is_among (named locals) n ≡ true) same there)) in
     later_truth local.kind local locals (get_or (named locals) k []) other ∙ truth_at locals none distinct.1 k inside
 
 kind_back : (kind : Kind) → cond (is_same_kind OfTruth kind) OfTruth OfNumber ≡ kind
@@ -60,7 +62,7 @@ kind_back OfNumber = refl
 
 module _ (node : Node) (distinct : AreDistinct (names_of node)) where
   input_rows : (place : ℕ) (inputs more : Names) (told : List Told) → ((name : List ℕ) → is_among inputs name ≡ true → is_among node.inputs name ≡ true)
-      → ((place : ℕ) → AreRows node [] place more (rows_from place told)) → AreRows node [] place (inputs ++ more) (rows_from place (told_inputs inputs ++ told))
+      → ((place : ℕ) → AreRows (IsRow node []) place more (rows_from place told)) → AreRows (IsRow node []) place (inputs ++ more) (rows_from place (told_inputs inputs ++ told))
   input_rows place [] more told among rest = rest place
   input_rows place (name ∷ inputs) more told among rest =
       let here = among name (or_left _ _ (is_itself name)) in (
@@ -78,7 +80,7 @@ module _ (node : Node) (distinct : AreDistinct (names_of node)) where
 
   local_rows : (place : ℕ) (locals : List Local) (none : Local)
       → ((k : ℕ) → k < length locals → (kind_of node (get_or (named locals) k []) ≡ (get_or locals k none).kind) × (is_among (node.inputs ++ []) (get_or (named locals) k []) ≡ false))
-      → AreRows node [] place (named locals) (rows_from place (told_locals locals))
+      → AreRows (IsRow node []) place (named locals) (rows_from place (told_locals locals))
   local_rows place [] none each = tt
   local_rows place (local ∷ locals) none each =
       let here = each 0 (omega arith) in
@@ -88,17 +90,17 @@ module _ (node : Node) (distinct : AreDistinct (names_of node)) where
       → (kind_of node (get_or (named node.locals) k []) ≡ (get_or node.locals k none).kind) × (is_among (node.inputs ++ []) (get_or (named node.locals) k []) ≡ false)
   local_kind none k within =
       let name = get_or (named node.locals) k [] in
-      let among : is_among (ok ∷ local_names node) name ≡ true = or_right (bytes_eq name ok) _ (name_among node.locals k within) in
+      let among : is_among (ok ∷ local_names node) name ≡ true = or_right (bytes_eq name ok) _ (named_among node.locals k within) in
       let behind = distinct_behind node.inputs (ok ∷ local_names node) distinct in
       let other : bytes_eq name ok ≡ false =
-      differs name ok (λ same. both_ways (is_among (local_names node) ok) behind.0 (subst (λ (n : List ℕ). is_among (local_names node) n ≡ true) same (name_among node.locals k within))) in
+      differs name ok (λ same. both_ways (is_among (local_names node) ok) behind.0 (subst (λ (n : List ℕ). is_among (local_names node) n ≡ true) same (named_among node.locals k within))) in
       let truth : is_among (node.inputs ++ (ok ∷ of_kind OfTruth node.locals)) name ≡ is_same_kind OfTruth (get_or node.locals k none).kind =
       no_input node.inputs (ok ∷ of_kind OfTruth node.locals) name (distinct_apart node.inputs (ok ∷ local_names node) distinct name among)
       ∙ ap (λ (b : Bool). b || is_among (of_kind OfTruth node.locals) name) other
       ∙ truth_at node.locals none behind.1 k within in
       (ap (λ (b : Bool). cond b OfTruth OfNumber) truth ∙ kind_back (get_or node.locals k none).kind, unknown name among)
 
-  all_rows : AreRows node [] 0 (names_of node) (rows_from 0 (told_of node))
+  all_rows : AreRows (IsRow node []) 0 (names_of node) (rows_from 0 (told_of node))
   all_rows =
       input_rows 0 node.inputs (ok ∷ local_names node) ((OfTruth, false) ∷ told_locals node.locals) (λ name h. h) (λ place. (
         record {
@@ -114,7 +116,7 @@ pub declared_knows : {node : Node} {whole : Option ℕ} {others : List Token} {o
 declared_knows {node = node} {names = names} {rows = rows} d =
     let all = sym (append-nil names) ∙ d.all in
     let distinct = (subst AreDistinct all d.distinct).1 in (
-      record { all = all; distinct = d.distinct; are_rows = subst (λ (rs : List Row). AreRows node [] 0 (names_of node) rs) (sym (sym (append-nil rows) ∙ d.told_all)) (all_rows node distinct) },
+      record { all = all; distinct = d.distinct; are_rows = subst (λ (rs : List Row). AreRows (IsRow node []) 0 (names_of node) rs) (sym (sym (append-nil rows) ∙ d.told_all)) (all_rows node distinct) },
       d.left,
     )
 

@@ -1,8 +1,7 @@
 -- One more name is declared.
-use Rattle.std.proofs.Common.{◌≡◌, ℕ, ◌+◌, Bool, true, false, not, cond, ◌&&◌, List, [], ◌∷◌, ◌++◌, length, take, Option, Some, refl, sym, ap, subst, ◌∙◌, arith}
+use Rattle.std.proofs.Common.{◌≡◌, ℕ, ◌+◌, Bool, true, false, not, ◌&&◌, List, [], ◌∷◌, ◌++◌, length, take, Option, Some, refl, sym, ap, subst, ◌∙◌, arith}
 use Rattle.std.proofs.Common.{append_assoc, length-append}
 use Rattle.std.proofs.lemmas.List.{take_at}
-use Rattle.std.proofs.lemmas.Bool.{false≢true, not-true}
 use Rattle.dcv_lexer.specs.Cuts.{Token}
 use Rattle.dcv_observer.specs.Conditions.{Names}
 use Rattle.dcv_observer.specs.Naming.{is_among}
@@ -10,8 +9,8 @@ use Rattle.dcv_observer.proofs.Naming.{distinct_push}
 use Rattle.dcv_lustre.specs.Tree.{Kind, Node}
 use Rattle.dcv_lustre.specs.Rules.{declared, keeps_declared}
 use Rattle.dcv_lustre_read.specs.Scope.{Told, Row, rows_from, is_within, keeps_from, IsDeclaring}
-use Rattle.dcv_lustre_read.specs.Judged.{IsLeft}
-use Rattle.dcv_lustre_read.proofs.Judging.{kept, broken}
+use Rattle.dcv_observer.specs.Judged.{IsLeft}
+use Rattle.dcv_observer.proofs.Judging.{kept, broken}
 
 with_true : (b : Bool) → (b && true) ≡ b
 with_true true = refl
@@ -64,16 +63,3 @@ module _ (node : Node) (whole : Option ℕ) (others : List Token) (others_keep :
     declared_then {more = more} {more_rows = more_rows} new is rows_are =
         subst (λ (ns : Names). IsDeclaring node whole others others_keep ns more_rows words later told) (sym is)
         (subst (λ (rs : List Row). IsDeclaring node whole others others_keep (names ++ name ∷ []) rs words later told) (sym rows_are) (declared_more new))
-
--- whether a name was new, and what is declared then
-pub was_new : (b : Bool) (names more : Names) (name : List ℕ) → b ≡ true → b ≡ not (is_among names name) → more ≡ cond b (names ++ name ∷ []) names
-    → (is_among names name ≡ false) × (more ≡ names ++ name ∷ [])
-was_new b names more name new is then =
-    (not-true (is_among names name) (sym is ∙ new), then ∙ ap (λ (d : Bool). cond d (names ++ name ∷ []) names) new)
-
-pub was_there : (b : Bool) (names : Names) (name : List ℕ) → b ≡ false → b ≡ not (is_among names name) → is_among names name ≡ true
-was_there b names name old is = among (is_among names name) (sym is ∙ old)
-  where
-    among : (there : Bool) → not there ≡ false → there ≡ true
-    among true h = refl
-    among false h = absurd (false≢true (sym h))

@@ -1,5 +1,5 @@
 -- The inputs, and the locals, that are declared so far.
-use Rattle.std.proofs.Common.{◌≡◌, ℕ, ◌+◌, ◌<◌, ◌≤◌, Bool, true, false, nat_le, nat_lt, List, [], ◌∷◌, ◌++◌, length, map, Option, ap, subst, ◌∙◌, arith, append_assoc}
+use Rattle.std.proofs.Common.{◌≡◌, ℕ, ◌+◌, ◌<◌, ◌≤◌, Bool, true, false, nat_le, nat_lt, List, [], ◌∷◌, ◌++◌, length, map, Option, subst, arith}
 use Rattle.std.proofs.lemmas.Bool.{or_from, or_left, or_right, le-leb, lt-ltb}
 use Rattle.std.proofs.lemmas.Bool.Decides.{nat_tests}
 use Rattle.dcv_lexer.specs.Cuts.{Token}
@@ -14,7 +14,7 @@ use Rattle.dcv_lustre_read.specs.declared.placed.PlacedLocal.{PlacedLocal}
 use Rattle.dcv_lustre_read.specs.Seen.{seen_local}
 use Rattle.dcv_lustre_read.specs.Scope.{Told, Row, told_inputs, told_locals, is_within, IsDeclaring}
 use Rattle.dcv_lustre_read.specs.Judged.{words_of_locals, names_of_locals}
-use Rattle.dcv_lustre_read.proofs.RightSides.{one_more}
+use Rattle.dcv_observer.proofs.SoFar.{one_more}
 
 pub within_inputs : (node : Node) (place : ℕ) → place ≤ 16 → is_within node place ≡ true
 within_inputs node place small = or_left _ _ (le-leb place 16 small)
@@ -30,10 +30,6 @@ pub record AreInputsSoFar (node : Node) (whole : Option ℕ) (others : List Toke
   pub texts_are : texts ++ bytes_of (map seen later) ≡ bytes_of (map seen all)
   pub count : length names ≡ place + 1
   pub declaring : IsDeclaring node whole others others_keep names rows (map seen later ++ words) (bytes_of (map seen later) ++ behind) (told_inputs (bytes_of (map seen later)) ++ told)
-
-pub text_more : (all texts more : Names) (name : List ℕ) (text : List ℕ) (later : Names) → texts ++ (name ∷ later) ≡ all → text ≡ name → more ≡ texts ++ text ∷ [] → more ++ later ≡ all
-text_more all texts more name text later whole is pushed =
-    ap (λ (ts : Names). ts ++ later) pushed ∙ append_assoc texts (text ∷ []) later ∙ ap (λ (t : List ℕ). texts ++ t ∷ later) is ∙ whole
 
 pub record AreLocalsSoFar (node : Node) (whole : Option ℕ) (others : List Token) (others_keep : List Bool)
     (all : List PlacedLocal) (made : List CodeLocal) (later : List PlacedLocal) (names : Names) (rows : List Row) : Type 0 where

@@ -1,14 +1,14 @@
 -- The left side of an equation, and what is known after the equation.
-use Rattle.std.proofs.Common.{◌≡◌, ℕ, zero, suc, ◌+◌, ◌<◌, ◌≤◌, Bool, true, false, not, ◌&&◌, ◌||◌, List, []}
-use Rattle.std.proofs.Common.{◌∷◌, ◌++◌, length, map, get_or, Option, refl, sym, ap, subst, ◌∙◌, arith, inl, inr, append_assoc}
-use Rattle.std.specs.Prelude.{bytes_eq, slice_set}
+use Rattle.std.proofs.Common.{◌≡◌, ℕ, ◌+◌, Bool, true, false, not, ◌&&◌, ◌||◌, List, []}
+use Rattle.std.proofs.Common.{◌∷◌, ◌++◌, map, Option, refl, sym, ap, subst, ◌∙◌, inl, inr, append_assoc}
+use Rattle.std.specs.Prelude.{bytes_eq}
 use Rattle.std.specs.List.{list_all}
 use Rattle.std.proofs.lemmas.List.{append-nil}
-use Rattle.std.proofs.lemmas.Bool.{or_parts, or_left, or_right, and_from, both_ways, false_from_ne_true}
+use Rattle.std.proofs.lemmas.Bool.{or_left, or_right, and_from, both_ways, false_from_ne_true}
 use Rattle.dcv_lexer.specs.Cuts.{Token}
 use Rattle.dcv_observer.specs.Conditions.{Names}
 use Rattle.dcv_observer.specs.Naming.{is_among, AreDistinct}
-use Rattle.dcv_observer.proofs.Naming.{is_itself, differs, among_append_left, among_append_right, among_append_cases, distinct_apart}
+use Rattle.dcv_observer.proofs.Naming.{is_itself, among_append_left, among_append_right, among_append_cases, distinct_apart}
 use Rattle.dcv_lustre.specs.declared.node.Equation.{Equation as CodeEquation}
 use Rattle.dcv_lustre.specs.Tree.{OfTruth, Right, Delayed, Chosen, Tested, Equation, Node}
 use Rattle.dcv_lustre.specs.Meaning.{ok, local_names, names_of}
@@ -18,10 +18,14 @@ use Rattle.dcv_lustre.specs.Rules.{keeps_left, keeps_form, keeps_equation, keeps
 use Rattle.dcv_lustre_read.specs.declared.scope.Declaration.{Declaration}
 use Rattle.dcv_lustre_read.specs.declared.placed.PlacedEquation.{PlacedEquation}
 use Rattle.dcv_lustre_read.specs.Seen.{seen_equation}
-use Rattle.dcv_lustre_read.specs.Scope.{Row, seen_row, AreRows, Knows, KnowsAll, IsFoundAs, marked, fits_form}
-use Rattle.dcv_lustre_read.specs.Judged.{IsLeft, words_of_equations}
+use Rattle.dcv_lustre_read.specs.Scope.{Row, seen_row, IsRow, Knows, KnowsAll, IsFoundAs, as_known, fits_form}
+use Rattle.dcv_observer.specs.Judged.{IsLeft}
+use Rattle.dcv_lustre_read.specs.Judged.{words_of_equations}
+use Rattle.dcv_translation.specs.Rows.{changed}
+use Rattle.dcv_translation.proofs.Rows.{all_rows, change_rows}
 use Rattle.dcv_lustre_read.proofs.NameKinds.{names_distinct, delayed_as, no_input}
-use Rattle.dcv_lustre_read.proofs.RightSides.{one_more}
+use Rattle.dcv_observer.proofs.SoFar.{one_more}
+use Rattle.dcv_observer.proofs.Declaring.{or_turned}
 
 -- ---- left sides
 
@@ -83,76 +87,36 @@ module _ (node : Node) (earlier names : Names) (rows : List Row) (knows : Knows 
 
 -- ---- a name that is known from now on
 
-pub set_known : (items : List Declaration) (place : ℕ) (at kind_at : Declaration) → at ≡ get_or items place kind_at → place < length items
-    → map seen_row (slice_set items place (record at { known = true })) ≡ marked place (map seen_row items)
-set_known [] place at d is within = absurd (omega arith)
-set_known (item ∷ items) zero at d is within = ap (λ (x : Declaration). seen_row (record x { known = true }) ∷ map seen_row items) is
-set_known (item ∷ items) (suc place) at d is within = ap (λ (rows : List Row). seen_row item ∷ rows) (set_known items place at d is (omega arith))
-
-pub none_marked : (place : ℕ) (rows : List Row) → length rows ≤ place → rows ≡ marked place rows
-none_marked place [] beyond = refl
-none_marked zero (row ∷ rows) beyond = absurd (omega arith)
-none_marked (suc place) (row ∷ rows) beyond = ap (λ (more : List Row). row ∷ more) (none_marked place rows (omega arith))
-
 module _ (node : Node) (earlier : Names) (left : List ℕ) where
   other_known : (inputs : Names) (name : List ℕ) → bytes_eq name left ≡ false → is_among (inputs ++ earlier) name ≡ is_among (inputs ++ (left ∷ earlier)) name
   other_known [] name other = ap (λ (b : Bool). b || is_among earlier name) (sym other)
   other_known (i ∷ inputs) name other = ap (λ (b : Bool). bytes_eq name i || b) (other_known inputs name other)
 
-  other_rows : (place : ℕ) (names : Names) (rows : List Row) → is_among names left ≡ false → AreRows node earlier place names rows → AreRows node (left ∷ earlier) place names rows
-  other_rows place [] [] none are = tt
-  other_rows place [] (row ∷ rows) none are = absurd are
-  other_rows place (name ∷ names) [] none are = absurd are
-  other_rows place (name ∷ names) (row ∷ rows) none are =
-      let both = or_parts (bytes_eq left name) (is_among names left) none in
-      let other : bytes_eq name left ≡ false = differs name left (λ same. both_ways (bytes_eq left name) both.0 (subst (λ (n : List ℕ). bytes_eq left n ≡ true) (sym same) (is_itself left))) in
-      (record { is_at = are.0.is_at; kind = are.0.kind; is_known = are.0.is_known ∙ other_known node.inputs name other }, other_rows (place + 1) names rows both.1 are.1)
+  known_still : (place : ℕ) (name : List ℕ) (row : Row) → bytes_eq name left ≡ false → IsRow node earlier place name row → IsRow node (left ∷ earlier) place name row
+  known_still place name row other is = record { is_at = is.is_at; kind = is.kind; is_known = is.is_known ∙ other_known node.inputs name other }
 
-  mark_rows : (place : ℕ) (names : Names) (rows : List Row) (k : ℕ) → AreDistinct names → AreRows node earlier place names rows → k < length names
-      → get_or names k [] ≡ left → AreRows node (left ∷ earlier) place names (marked k rows)
-  mark_rows place [] rows k distinct are within is = absurd (omega arith)
-  mark_rows place (name ∷ names) [] k distinct are within is = absurd are
-  mark_rows place (name ∷ names) (row ∷ rows) zero distinct are within is = (
-    record {
-      is_at = are.0.is_at;
-      kind = are.0.kind;
-      is_known = sym (among_append_right node.inputs (left ∷ earlier) name (or_left _ _ (subst (λ (l : List ℕ). bytes_eq name l ≡ true) is (is_itself name))));
-    },
-    other_rows (place + 1) names rows (subst (λ (l : List ℕ). is_among names l ≡ false) is distinct.0) are.1,
-  )
-  mark_rows place (name ∷ names) (row ∷ rows) (suc k) distinct are within is =
-      let other : bytes_eq name left ≡ false =
-      differs name left (λ same.
-      both_ways (is_among names name) distinct.0 (subst (λ (n : List ℕ). is_among names n ≡ true) (is ∙ sym same) (among_at names k (omega arith)))) in
-      (record { is_at = are.0.is_at; kind = are.0.kind; is_known = are.0.is_known ∙ other_known node.inputs name other }, mark_rows (place + 1) names rows k distinct.1 are.1 (omega arith) is)
-    where
-      among_at : (names : Names) (k : ℕ) → k < length names → is_among names (get_or names k []) ≡ true
-      among_at [] k within = absurd (omega arith)
-      among_at (n ∷ names) zero within = or_left _ _ (is_itself n)
-      among_at (n ∷ names) (suc k) within = or_right (bytes_eq (get_or names k []) n) _ (among_at names k (omega arith))
+  known_now : (place : ℕ) (row : Row) → IsRow node earlier place left row → IsRow node (left ∷ earlier) place left (as_known row)
+  known_now place row is =
+      record { is_at = is.is_at; kind = is.kind; is_known = sym (among_append_right node.inputs (left ∷ earlier) left (or_left _ _ (is_itself left))) }
 
   marked_knows : (names : Names) (rows : List Row) (row : Row) → Knows node earlier names rows → IsFoundAs node earlier left row
-      → Knows node (left ∷ earlier) names (marked row.place rows)
+      → Knows node (left ∷ earlier) names (changed as_known row.place rows)
   marked_knows names rows row knows found =
       record {
         all = knows.all;
         distinct = knows.distinct;
-        are_rows = mark_rows 0 (names_of node) rows row.place (names_distinct node earlier names rows knows) knows.are_rows found.within found.is;
+        are_rows =
+            change_rows (IsRow node earlier) (IsRow node (left ∷ earlier)) as_known left known_still known_now 0 (names_of node) rows row.place
+            (names_distinct node earlier names rows knows) knows.are_rows found.within found.is;
       }
 
   pub marked_then : (names : Names) (rows : List Row) (row : Row) {names_then : Names} {rows_then : List Row} → Knows node earlier names rows → IsFoundAs node earlier left row
-      → names_then ≡ names → rows_then ≡ marked row.place rows → Knows node (left ∷ earlier) names_then rows_then
+      → names_then ≡ names → rows_then ≡ changed as_known row.place rows → Knows node (left ∷ earlier) names_then rows_then
   marked_then names rows row {names_then = names_then} {rows_then = rows_then} knows found same marks =
       subst (λ (ns : Names). Knows node (left ∷ earlier) ns rows_then) (sym same)
       (subst (λ (rs : List Row). Knows node (left ∷ earlier) names rs) (sym marks) (marked_knows names rows row knows found))
 
 -- ---- one more equation
-
-or_turned : (e b l : Bool) → (e || (b || l)) ≡ ((b || e) || l)
-or_turned true true l = refl
-or_turned true false l = refl
-or_turned false true l = refl
-or_turned false false l = refl
 
 no_or : (b : Bool) → (b || false) ≡ b
 no_or true = refl
@@ -210,15 +174,6 @@ module _ (node : Node) (whole : Option ℕ) (words : List Token) (keeps : List B
 
 -- ---- whether all have one
 
-rows_known : (node : Node) (earlier : Names) (place : ℕ) (names : Names) (rows : List Row) → AreRows node earlier place names rows
-    → list_all (λ row. row.is_known) rows ≡ list_all (is_among (node.inputs ++ earlier)) names
-rows_known node earlier place [] [] are = refl
-rows_known node earlier place [] (row ∷ rows) are = absurd are
-rows_known node earlier place (name ∷ names) [] are = absurd are
-rows_known node earlier place (name ∷ names) (row ∷ rows) are =
-    let more = rows_known node earlier (place + 1) names rows are.1 in
-    λ i. are.0.is_known i && more i
-
 inputs_known : (inputs more earlier others : Names) → ((name : List ℕ) → is_among others name ≡ true → is_among inputs name ≡ true)
     → list_all (is_among (inputs ++ earlier)) (others ++ more) ≡ list_all (is_among (inputs ++ earlier)) more
 inputs_known inputs more earlier [] among = refl
@@ -238,11 +193,6 @@ pub all_known : (node : Node) (names : Names) (items : List Declaration) → Kno
     → list_all (λ (name : Declaration). name.known) items ≡ has_all_equations node
 all_known node names items k =
     let distinct = names_distinct node k.earlier names (map seen_row items) k.knows in
-    sym (all_mapped items)
-    ∙ rows_known node k.earlier 0 (names_of node) (map seen_row items) k.knows.are_rows
+    all_rows seen_row (IsRow node k.earlier) (λ name. name.known) (is_among (node.inputs ++ k.earlier)) (λ n name item is. is.is_known) 0 (names_of node) items k.knows.are_rows
     ∙ inputs_known node.inputs (ok ∷ local_names node) k.earlier node.inputs (λ name h. h)
     ∙ others_known node.inputs k.earlier (lefts_of node.equations) (ok ∷ local_names node) (λ name h. distinct_apart node.inputs (ok ∷ local_names node) distinct name h) k.are_lefts
-  where
-    all_mapped : (items : List Declaration) → list_all (λ row. row.is_known) (map seen_row items) ≡ list_all (λ (name : Declaration). name.known) items
-    all_mapped [] = refl
-    all_mapped (item ∷ items) = ap (λ (b : Bool). item.known && b) (all_mapped items)

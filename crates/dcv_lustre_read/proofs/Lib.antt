@@ -1,4 +1,3 @@
-pub mod Judging
 pub mod Declaring
 pub mod Found
 pub mod NameKinds

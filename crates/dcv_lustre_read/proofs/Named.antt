@@ -1,9 +1,5 @@
--- The parts make up a node that keeps the rules, and no other fault is told than that of the first broken word.
-use Rattle.std.proofs.Common.{◌≡◌, ℕ, List, ◌∷◌, ◌++◌, map, None, Result, Ok, Err, sym, ap, subst, ◌∙◌}
-use Rattle.std.specs.Prelude.{IfErr}
-use Rattle.std.specs.Result.{IsErrAnd}
-use Rattle.dcv_observer.specs.declared.fault.ObsFault.{ObsFault}
-use Rattle.dcv_observer.specs.declared.fault.ObsFault.TheVariants.{Syntax, Names as Fault, Memory}
+-- The parts make up a node that keeps the rules.
+use Rattle.std.proofs.Common.{◌≡◌, ℕ, List, ◌∷◌, ◌++◌, map, None, sym, ap, subst, ◌∙◌}
 use Rattle.dcv_lustre.specs.declared.node.Local.{Local as CodeLocal}
 use Rattle.dcv_lustre.specs.declared.node.Equation.{Equation as CodeEquation}
 use Rattle.dcv_observer.specs.Conditions.{Names}
@@ -12,11 +8,10 @@ use Rattle.dcv_lustre.specs.Tree.{Local}
 use Rattle.dcv_lustre.specs.Meaning.{ok, names_of}
 use Rattle.dcv_lustre.specs.Seen.{seen_local, seen_equation, seen_node, IsNode}
 use Rattle.dcv_lustre.specs.Placed.{PlacedNode, node_of}
-use Rattle.dcv_lustre.specs.Rules.{IsNamesFault, IsWellNamed}
+use Rattle.dcv_lustre.specs.Rules.{IsWellNamed}
 use Rattle.dcv_lustre.specs.Form.{IsSpellable}
 use Rattle.dcv_lustre.specs.Words.{AreWords}
 use Rattle.dcv_lustre.proofs.Readings.{is_subset}
-use Rattle.dcv_lustre_read.specs.Judged.{IsFaultOf}
 use Rattle.dcv_lustre_read.specs.Contents.{first_fault_of}
 use Rattle.dcv_lustre_read.proofs.Spellable.{words_are_spellable}
 
@@ -35,10 +30,3 @@ module _ (placed : PlacedNode) (name : List ℕ) (inputs : Names) (locals : List
         well_named = subst IsWellNamed (sym is) (well_named_if_unbroken is_subset placed unbroken);
         spellable = subst IsSpellable (sym is) (words_are_spellable placed words);
       }
-
-pub told_fault : {A : Type 0} (placed : PlacedNode) (result : Result A ObsFault) (fault : ObsFault) → IsErrAnd result (λ e. e ≡ fault) → IsFaultOf (first_fault_of placed) fault
-    → IfErr result (λ fault. (fault ≡ Memory → ⊥) → (at : ℕ) × (fault ≡ Fault at) × IsNamesFault placed at)
-told_fault placed (Ok x) fault is told = absurd is
-told_fault placed (Err e) (Syntax place) is told = absurd told
-told_fault placed (Err e) (Fault place) is told = λ other. (place, is, told)
-told_fault placed (Err e) Memory is told = λ other. absurd (other is)

@@ -1,7 +1,7 @@
 -- One more test of a right side, and one more arm.
 use Rattle.std.proofs.Common.{◌≡◌, ℕ, ◌≤◌, Bool, true, List, [], ◌∷◌, ◌++◌, length, map, drop, Option, sym, ap, subst, ◌∙◌, append_assoc, Vec, Global}
 use Rattle.std.specs.List.{flat_map}
-use Rattle.std.proofs.lemmas.List.{at_drop_all, map_push, append-nil}
+use Rattle.std.proofs.lemmas.List.{at_drop_all, append-nil}
 use Rattle.dcv_lexer.specs.Cuts.{Token}
 use Rattle.dcv_observer.specs.Conditions.{Names, seen_test as test_seen}
 use Rattle.dcv_observer.specs.declared.conditions.Test.{Test as CodeTest}
@@ -20,22 +20,10 @@ use Rattle.dcv_lustre_read.specs.declared.placed.PlacedTest.{PlacedTest}
 use Rattle.dcv_lustre_read.specs.declared.placed.PlacedRight.{PlacedRight}
 use Rattle.dcv_lustre_read.specs.declared.placed.PlacedRight.TheVariants.{Chosen as CodeChosen}
 use Rattle.dcv_lustre_read.specs.Seen.{seen_test, seen_arm, seen_right}
-use Rattle.dcv_lustre_read.specs.Judged.{IsLeft, IsBroken, IsFaultOf, words_of_tests, words_of_arms, keeps_tests}
-use Rattle.dcv_lustre_read.proofs.Judging.{kept, first_fault}
-
--- what is made so far and what is left make up the whole
-module _ {X Y Z : Type 0} (f : X → Y) (g : Z → Y) where
-  pub one_more : (made more : List X) (x : X) (z : Z) (later : List Z) (all : List Y) → more ≡ made ++ x ∷ [] → f x ≡ g z
-      → map f made ++ map g (z ∷ later) ≡ all → map f more ++ map g later ≡ all
-  one_more made more x z later all is same whole =
-      ap (λ (xs : List X). map f xs ++ map g later) is
-      ∙ ap (λ (ys : List Y). ys ++ map g later) (map_push f made x)
-      ∙ append_assoc (map f made) (f x ∷ []) (map g later)
-      ∙ ap (λ (y : Y). map f made ++ y ∷ map g later) same
-      ∙ whole
-
-  pub none_more : (made : List X) (items : List Z) (i : ℕ) (all : List Y) → length items ≤ i → map f made ++ map g (drop i items) ≡ all → map f made ≡ all
-  none_more made items i all done whole = sym (append-nil (map f made)) ∙ sym (at_drop_all (λ (later : List Z). map f made ++ map g later) items i done) ∙ whole
+use Rattle.dcv_observer.specs.Judged.{IsLeft, IsBroken, IsFaultOf}
+use Rattle.dcv_lustre_read.specs.Judged.{words_of_tests, words_of_arms, keeps_tests}
+use Rattle.dcv_observer.proofs.Judging.{kept, first_fault}
+use Rattle.dcv_observer.proofs.SoFar.{one_more}
 
 module _ (node : Node) (known : List (List ℕ)) (whole : Option ℕ) (words : List Token) (keeps : List Bool) where
   abbrev pub TestsLeft : List PlacedTest → Type 0

@@ -1,7 +1,7 @@
 -- What is known of the names of a node at a place in its text.
 --     IsDeclaring node whole ..     while names are declared: those so far, and those that come
 --     Knows node earlier ..         once all are: with the names on the left of earlier equations
-use Rattle.std.specs.Prelude.{◌≡◌, ℕ, zero, suc, ◌+◌, ◌<◌, Bool, true, false, ◌||◌, nat_le, nat_lt, List, [], ◌∷◌, ◌++◌, Option, Some, None, length, map}
+use Rattle.std.specs.Prelude.{◌≡◌, ℕ, ◌+◌, ◌<◌, Bool, true, false, ◌||◌, nat_le, nat_lt, List, [], ◌∷◌, ◌++◌, Option, Some, None, length, map}
 use Rattle.std.specs.List.{enumerate_from}
 use Rattle.dcv_lexer.specs.Cuts.{Token}
 use Rattle.dcv_observer.specs.Conditions.{Names, name_at}
@@ -11,7 +11,8 @@ use Rattle.dcv_lustre.specs.Tree.{Kind, OfTruth, Right, Delayed, Chosen, Tested,
 use Rattle.dcv_lustre.specs.Meaning.{names_of}
 use Rattle.dcv_lustre.specs.Rules.{most_inputs, is_same_kind, lefts_of, declared, keeps_declared, kind_of}
 use Rattle.dcv_lustre_read.specs.declared.scope.Declaration.{Declaration}
-use Rattle.dcv_lustre_read.specs.Judged.{IsLeft}
+use Rattle.dcv_observer.specs.Judged.{IsLeft}
+use Rattle.dcv_translation.specs.Rows.{AreRows}
 
 -- ---- while names are declared
 
@@ -63,16 +64,10 @@ pub record IsRow (node : Node) (earlier : Names) (place : ℕ) (name : List ℕ)
   pub kind : row.kind ≡ kind_of node name
   pub is_known : row.is_known ≡ is_among (node.inputs ++ earlier) name
 
-abbrev pub AreRows : Node → Names → ℕ → Names → List Row → Type 0
-AreRows node earlier place [] [] = Unit {0}
-AreRows node earlier place [] (row ∷ rows) = ⊥
-AreRows node earlier place (name ∷ names) [] = ⊥
-AreRows node earlier place (name ∷ names) (row ∷ rows) = IsRow node earlier place name row × AreRows node earlier (place + 1) names rows
-
 pub record Knows (node : Node) (earlier : Names) (names : Names) (rows : List Row) : Type 0 where
   pub all : names ≡ declared node
   pub distinct : AreDistinct names
-  pub are_rows : AreRows node earlier 0 (names_of node) rows
+  pub are_rows : AreRows (IsRow node earlier) 0 (names_of node) rows
 
 -- the row of a name
 pub record IsFoundAs (node : Node) (earlier : Names) (name : List ℕ) (row : Row) : Type 0 where
@@ -92,11 +87,9 @@ fits_form kind (Delayed first source) = true
 fits_form kind (Chosen arms otherwise) = true
 fits_form kind (Tested tests) = is_same_kind OfTruth kind
 
--- the name at a place is known from now on
-abbrev pub marked : ℕ → List Row → List Row
-marked place [] = []
-marked zero (row ∷ rows) = record { place = row.place; kind = row.kind; is_known = true } ∷ rows
-marked (suc place) (row ∷ rows) = row ∷ marked place rows
+-- the name is known from now on
+abbrev pub as_known : Row → Row
+as_known row = record { place = row.place; kind = row.kind; is_known = true }
 
 -- after all equations
 pub record KnowsAll (node : Node) (equations : List Equation) (names : Names) (rows : List Row) : Type 0 where

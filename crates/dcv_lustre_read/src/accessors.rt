@@ -10,17 +10,14 @@ ghost use Rattle.dcv_lustre_read.specs.Translated.{BeginsWithTokens, BeginsWithL
 use crate::parts::Part;
 use crate::placed::{PlacedEquation, PlacedLocal, PlacedTest};
 use dcv_observer::Item;
-use dcv_translation::Body;
+use dcv_translation::{Body, next_of, next_of_or_end};
 
 // The next part, which is a token.
 pub(crate) fn token<'a>(parts: &mut Body<Part<'a>>) -> Item<'a>
     requires { BeginsWithToken (map seen_part parts.old) }
     ensures { map seen_part parts.old ≡ AToken (seen result) ∷ map seen_part parts.new }
 {
-    match parts.next() {
-        Some(Part::Token(item)) => item,
-        _ => unreachable!(),
-    }
+    next_of!(parts, Token)
 }
 
 // The next part, which is a token if there is one.
@@ -29,11 +26,7 @@ pub(crate) fn token_or_end<'a>(parts: &mut Body<Part<'a>>) -> Option<Item<'a>>
     ensures end { IfNone result (map seen_part parts.old ≡ []) }
     ensures token { IfSome result (λ item. map seen_part parts.old ≡ AToken (seen item) ∷ map seen_part parts.new) }
 {
-    match parts.next() {
-        None => None,
-        Some(Part::Token(item)) => Some(item),
-        _ => unreachable!(),
-    }
+    next_of_or_end!(parts, Token)
 }
 
 // The next part, which is tokens, from the last to the first.
@@ -41,10 +34,7 @@ pub(crate) fn tokens<'a>(parts: &mut Body<Part<'a>>) -> Vec<Item<'a>>
     requires { BeginsWithTokens (map seen_part parts.old) }
     ensures { map seen_part parts.old ≡ Tokens (reverse (map seen result.items)) ∷ map seen_part parts.new }
 {
-    match parts.next() {
-        Some(Part::Tokens(tokens)) => tokens,
-        _ => unreachable!(),
-    }
+    next_of!(parts, Tokens)
 }
 
 // The next part, which is locals, from the last to the first.
@@ -52,10 +42,7 @@ pub(crate) fn locals<'a>(parts: &mut Body<Part<'a>>) -> Vec<PlacedLocal<'a>>
     requires { BeginsWithLocals (map seen_part parts.old) }
     ensures { map seen_part parts.old ≡ Locals (reverse (map seen_local result.items)) ∷ map seen_part parts.new }
 {
-    match parts.next() {
-        Some(Part::Locals(locals)) => locals,
-        _ => unreachable!(),
-    }
+    next_of!(parts, Locals)
 }
 
 // The next part, which is equations, from the last to the first.
@@ -63,10 +50,7 @@ pub(crate) fn equations<'a>(parts: &mut Body<Part<'a>>) -> Vec<PlacedEquation<'a
     requires { BeginsWithEquations (map seen_part parts.old) }
     ensures { map seen_part parts.old ≡ Equations (reverse (map seen_equation result.items)) ∷ map seen_part parts.new }
 {
-    match parts.next() {
-        Some(Part::Equations(equations)) => equations,
-        _ => unreachable!(),
-    }
+    next_of!(parts, Equations)
 }
 
 // The next part, which is tests, from the last to the first.
@@ -74,8 +58,5 @@ pub(crate) fn tests<'a>(parts: &mut Body<Part<'a>>) -> Vec<PlacedTest<'a>>
     requires { BeginsWithTests (map seen_part parts.old) }
     ensures { map seen_part parts.old ≡ Tests (reverse (map seen_test result.items)) ∷ map seen_part parts.new }
 {
-    match parts.next() {
-        Some(Part::Tests(tests)) => tests,
-        _ => unreachable!(),
-    }
+    next_of!(parts, Tests)
 }

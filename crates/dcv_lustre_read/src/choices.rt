@@ -66,7 +66,7 @@ fn with_arm<'a>(
 }
 
 // right = literal delay | "if" condition "then" item "else" choice | test more_tests | name
-#[tactic(auto, using(crate::proofs::Bodies::forwards))]
+#[tactic(auto, using(dcv_translation::proofs::Reversed::forwards))]
 pub(crate) fn right<'a>(alloc: Global, parts: &mut Body<Part<'a>>) -> Result<Part<'a>, AllocError>
     requires { IsMeant (right_part (map seen_part parts.old)) }
     ensures { IfOk result (λ part. seen_part part ≡ right_part (map seen_part parts.old)) }
@@ -83,7 +83,7 @@ pub(crate) fn right<'a>(alloc: Global, parts: &mut Body<Part<'a>>) -> Result<Par
 }
 
 // A right side that begins with a token.
-#[tactic(auto, using(crate::proofs::Bodies::right_in_steps, crate::proofs::Bodies::forwards))]
+#[tactic(auto, using(crate::proofs::Bodies::right_in_steps, dcv_translation::proofs::Reversed::forwards))]
 fn behind_token<'a>(
     alloc: Global,
     first: Item<'a>,

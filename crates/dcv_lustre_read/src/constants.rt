@@ -1,45 +1,19 @@
-// What constants and numbers of a text stand for.
-ghost use Rattle.std.specs.Prelude.{◌≡◌, IsTrue};
-ghost use Rattle.std.specs.List.{list_all};
-ghost use Rattle.std.specs.Char.{is_ascii_digit};
-ghost use Rattle.dcv_lexer.specs.Lexicon.{is_number};
-ghost use Rattle.dcv_lexer.specs.Decimal.{value_of};
-ghost use Rattle.dcv_observer.specs.Classes.{is_small_number};
+// What constants of a text stand for.
+ghost use Rattle.std.specs.Prelude.{◌≡◌};
 ghost use Rattle.dcv_observer.specs.Left.{seen};
 ghost use Rattle.dcv_lustre.specs.Placed.{is_constant, value_at, kind_at};
 ghost use Rattle.dcv_lustre.specs.Form.{IsValue};
 ghost use Rattle.dcv_lustre.specs.Seen.{seen_value, seen_kind};
 ghost use Rattle.dcv_lustre.specs.Rules.{is_of_kind};
 
-use dcv_lexer::value_up_to;
 use dcv_lustre::{Kind, Value};
-use dcv_observer::{Item, LARGEST_NUMBER};
-
-fn is_number(bytes: &[u8]) -> bool
-    ensures { result ≡ is_number bytes.now }
-{
-    !bytes.is_empty() && are_digits(bytes)
-}
-
-fn are_digits(bytes: &[u8]) -> bool
-    ensures { result ≡ list_all is_ascii_digit bytes.now }
-{
-    bytes.iter().all(|byte| byte.is_ascii_digit())
-}
+use dcv_observer::{Item, is_number, number_at};
 
 /// Whether an item is a number, `true` or `false`, and no name.
 pub(crate) fn is_constant(item: &Item<'_>) -> bool
     ensures { result ≡ is_constant item.now.bytes.now }
 {
     is_number(item.bytes) || item.bytes == b"true".as_slice() || item.bytes == b"false".as_slice()
-}
-
-/// What digits stand for.
-pub(crate) fn number_at(item: &Item<'_>) -> u16
-    requires { IsTrue (is_small_number item.now.bytes.now) }
-    ensures { result ≡ value_of item.now.bytes.now }
-{
-    value_up_to(item.bytes, LARGEST_NUMBER) as u16
 }
 
 /// What a constant stands for.

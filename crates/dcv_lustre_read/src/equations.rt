@@ -10,12 +10,15 @@ ghost use Rattle.dcv_lustre.specs.Tree.{Node as PlainNode};
 ghost use Rattle.dcv_lustre.specs.Meaning.{names_of};
 ghost use Rattle.dcv_lustre.specs.Rules.{words_of_right, keeps_left, keeps_equation, keeps_equations, has_all_equations};
 ghost use Rattle.dcv_lustre_read.specs.Seen.{seen_right, seen_equation};
-ghost use Rattle.dcv_lustre_read.specs.Scope.{seen_row, marked, fits_form, Knows, KnowsAll, IsFoundAs};
-ghost use Rattle.dcv_lustre_read.specs.Judged.{Keeps, Leads, IsLeft, words_of_equations};
+ghost use Rattle.dcv_lustre_read.specs.Scope.{seen_row, as_known, fits_form, Knows, KnowsAll, IsFoundAs};
+ghost use Rattle.dcv_observer.specs.Judged.{Keeps, Leads, IsLeft};
+ghost use Rattle.dcv_lustre_read.specs.Judged.{words_of_equations};
+ghost use Rattle.dcv_translation.specs.Rows.{changed};
 
 use crate::placed::{PlacedEquation, PlacedRight};
-use crate::scope::{Declaration, Scope, broken, push};
+use crate::scope::{Declaration, Scope};
 use dcv_lustre::{Equation, Kind, ObsFault};
+use dcv_observer::broken;
 use std::alloc::Global;
 
 impl Declaration {
@@ -35,7 +38,7 @@ impl<'a> Scope<'a> {
     // From now on the name at a place has an equation.
     fn mark(&mut self, place: u32)
         ensures declared { self.new.declared ≡ self.old.declared }
-        ensures names { map seen_row self.new.names.items ≡ marked place (map seen_row self.old.names.items) }
+        ensures names { map seen_row self.new.names.items ≡ changed as_known place (map seen_row self.old.names.items) }
     {
         let place = place as usize;
         if place < self.names.len() {
@@ -102,7 +105,7 @@ impl<'a> Scope<'a> {
     {
         let mut all = Vec::with_capacity(alloc, equations.len())?;
         for equation in equations {
-            push(&mut all, self.equation(alloc, equation)?)?;
+            all.push(self.equation(alloc, equation)?)?;
         }
         Ok(all)
     }

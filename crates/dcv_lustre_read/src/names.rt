@@ -13,13 +13,14 @@ ghost use Rattle.dcv_lustre.specs.Meaning.{ok};
 ghost use Rattle.dcv_lustre.specs.Rules.{IsNamesFault};
 ghost use Rattle.dcv_lustre_read.specs.Seen.{seen_local, seen_node};
 ghost use Rattle.dcv_lustre_read.specs.Scope.{seen_row, Told, told_inputs, told_locals, IsDeclaring, is_within};
-ghost use Rattle.dcv_lustre_read.specs.Judged.{Leads, words_of_locals, names_of_locals};
+ghost use Rattle.dcv_observer.specs.Judged.{Leads};
+ghost use Rattle.dcv_lustre_read.specs.Judged.{words_of_locals, names_of_locals};
 
 use crate::constants::kind_at;
 use crate::placed::{PlacedLocal, PlacedNode};
-use crate::scope::{Scope, broken, push};
+use crate::scope::Scope;
 use dcv_lustre::{Equation, Kind, Local, Node, ObsFault};
-use dcv_observer::{Declared, Item};
+use dcv_observer::{Declared, Item, broken};
 use dcv_syntax::Text;
 use std::alloc::Global;
 
@@ -68,7 +69,7 @@ impl<'a> Scope<'a> {
                 return Err(broken(input));
             }
             self.declare(input.bytes, input.start, Kind::OfTruth, true)?;
-            push(&mut texts, Text::copy_of(alloc, input.bytes)?)?;
+            texts.push(Text::copy_of(alloc, input.bytes)?)?;
         }
         Ok(texts)
     }
@@ -99,7 +100,7 @@ impl<'a> Scope<'a> {
             let kind = kind_at(&local.kind);
             self.declare(local.name.bytes, local.name.start, kind, false)?;
             let name = Text::copy_of(alloc, local.name.bytes)?;
-            push(&mut all, Local { name, kind })?;
+            all.push(Local { name, kind })?;
         }
         Ok(all)
     }

@@ -12,7 +12,7 @@ use dcv_translation::Body;
 use std::alloc::{AllocError, Global};
 
 // node = "node" name "(" input more_inputs ")" output variables "let" equations "tel"
-#[tactic(auto, using(crate::proofs::Bodies::forwards))]
+#[tactic(auto, using(dcv_translation::proofs::Reversed::forwards))]
 pub(crate) fn node<'a>(alloc: Global, parts: &mut Body<Part<'a>>) -> Result<Part<'a>, AllocError>
     requires { IsMeant (node_part (map seen_part parts.old)) }
     ensures { IfOk result (λ part. seen_part part ≡ node_part (map seen_part parts.old)) }

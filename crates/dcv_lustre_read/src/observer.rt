@@ -8,13 +8,14 @@ ghost use Rattle.dcv_dfa.specs.Auto.{count_of_nodes};
 ghost use Rattle.dcv_dfa.specs.Raw.{raw_accepts};
 ghost use Rattle.dcv_lustre.specs.Faults.{IsReadAs};
 ghost use Rattle.dcv_lustre.specs.Laws.{Observes};
+ghost use Rattle.dcv_lustre.specs.Tree.{Node as PlainNode};
 ghost use Rattle.dcv_lustre.specs.Observer.{observer_of};
 
 use crate::reading::read;
 use dcv_dfa::Auto;
 use dcv_io::Text;
-use dcv_lustre::laws::{observers_accept_the_same, texts_spell_nodes};
-use dcv_lustre::{Node, put_observer};
+use dcv_lustre::laws::{observers_accept_the_same, texts_are_nodes_or_at_fault, texts_spell_nodes};
+use dcv_lustre::{Node, ObsFault, put_observer};
 use dcv_syntax::Name;
 use std::alloc::{AllocError, Global};
 
@@ -39,15 +40,20 @@ pub fn of_auto(alloc: Global, auto: &Auto, names: &[Name]) -> Result<Node, Alloc
     node_of(alloc, &text)
 }
 
-// The node that a text is of. Any other text, and one of 4 GB, counts as out of memory: no observer has it.
+// The node that a text is of. One of 4 GB counts as out of memory.
 fn node_of(alloc: Global, text: &[u8]) -> Result<Node, AllocError>
+    requires { (node : PlainNode) × IsReadAs text.now node }
     ensures { IfOk result (IsReadAs text.now) }
 {
+    texts_are_nodes_or_at_fault();
     if text.len() > u32::MAX as usize {
         return Err(AllocError);
     }
     match read(alloc, text) {
         Ok(node) => Ok(node),
-        Err(_) => Err(AllocError),
+        Err(fault) => match fault {
+            ObsFault::Memory => Err(AllocError),
+            _ => unreachable!(),
+        },
     }
 }

@@ -14,13 +14,14 @@ ghost use Rattle.dcv_lustre.specs.Rules.{names_of_kind, keeps_name, keeps_item, 
 ghost use Rattle.dcv_lustre.specs.Rules.{words_of_right};
 ghost use Rattle.dcv_lustre_read.specs.Seen.{seen_arm, seen_test, seen_right};
 ghost use Rattle.dcv_lustre_read.specs.Scope.{seen_row, Knows};
-ghost use Rattle.dcv_lustre_read.specs.Judged.{Keeps, Leads, IsLeft, words_of_arms, words_of_tests, keeps_tests};
+ghost use Rattle.dcv_observer.specs.Judged.{Keeps, Leads, IsLeft};
+ghost use Rattle.dcv_lustre_read.specs.Judged.{words_of_arms, words_of_tests, keeps_tests};
 
-use crate::constants::{is_constant, is_of_kind, number_at, value_at};
+use crate::constants::{is_constant, is_of_kind, value_at};
 use crate::placed::{PlacedArm, PlacedRight, PlacedTest};
-use crate::scope::{Scope, broken, push};
+use crate::scope::Scope;
 use dcv_lustre::{Arm, Condition, Item, Kind, ObsFault, Right, Test};
-use dcv_observer::Item as Word;
+use dcv_observer::{Item as Word, broken, number_at};
 use std::alloc::Global;
 
 impl<'a> Scope<'a> {
@@ -123,7 +124,7 @@ impl<'a> Scope<'a> {
     {
         let mut all = Vec::with_capacity(alloc, arms.len())?;
         for arm in arms {
-            push(&mut all, self.arm(arm, kind)?)?;
+            all.push(self.arm(arm, kind)?)?;
         }
         Ok(all)
     }
@@ -138,7 +139,7 @@ impl<'a> Scope<'a> {
     {
         let mut all = Vec::with_capacity(alloc, tests.len())?;
         for test in tests {
-            push(&mut all, self.test(test)?)?;
+            all.push(self.test(test)?)?;
         }
         Ok(all)
     }

@@ -1,15 +1,14 @@
 // The names of a node, each with its place, its kind, and whether it is known.
-ghost use Rattle.std.specs.Prelude.{◌≡◌, ◌+◌, ◌&&◌, ◌∷◌, ◌++◌, ℕ, Bool, Option, List, [], true, map, length, slice_get, OnOk};
+ghost use Rattle.std.specs.Prelude.{◌≡◌, ◌+◌, ◌&&◌, ◌∷◌, ℕ, Bool, Option, List, true, map, length, slice_get};
 ghost use Rattle.dcv_lexer.specs.Cuts.{Token};
 ghost use Rattle.dcv_observer.specs.Conditions.{Names as PlainNames};
 ghost use Rattle.dcv_lustre.specs.Seen.{seen_kind};
 ghost use Rattle.dcv_lustre.specs.Tree.{Node as PlainNode};
 ghost use Rattle.dcv_lustre.specs.Rules.{is_same_kind};
-ghost use Rattle.dcv_lustre_read.specs.Judged.{Leads};
-ghost use Rattle.dcv_observer.specs.declared.fault.ObsFault.TheVariants.{Names};
+ghost use Rattle.dcv_observer.specs.Judged.{Leads};
 
 use dcv_lustre::{Kind, ObsFault};
-use dcv_observer::{Declared, Item};
+use dcv_observer::Declared;
 use std::alloc::AllocError;
 
 /// What is told of a name where it is declared, and whether it is known: an input, or on the left of an earlier equation.
@@ -42,21 +41,6 @@ pub(crate) struct Scope<'a> {
     pub(crate) declared: Declared<'a>,
     // of each but that of the node
     pub(crate) names: Vec<Declaration>,
-}
-
-// One more at the end.
-pub(crate) fn push<T: Drop>(items: &mut Vec<T>, item: T) -> Result<(), AllocError>
-    ensures { OnOk result (items.new.items ≡ items.old.items ++ item ∷ []) }
-{
-    items.push(item)?;
-    Ok(())
-}
-
-// The fault at a word that breaks its rule.
-pub(crate) fn broken(word: &Item<'_>) -> ObsFault
-    ensures { result ≡ Names word.now.start }
-{
-    ObsFault::Names { at: word.start }
 }
 
 fn declaration_at(names: &[Declaration], place: usize) -> Option<Declaration>
@@ -96,7 +80,7 @@ impl<'a> Scope<'a> {
             kind,
             known,
         };
-        push(&mut self.names, declaration)?;
+        self.names.push(declaration)?;
         Ok(())
     }
 

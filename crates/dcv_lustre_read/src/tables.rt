@@ -1,11 +1,4 @@
 // The lexicon and the grammar of the subset as tables. In the comments `{x}` is any number of x, and `[x]` is x or nothing.
-ghost use Rattle.std.specs.Prelude.{◌≡◌, IsTrue};
-ghost use Rattle.dcv_grammar.specs.Grammar.{grammar_of};
-ghost use Rattle.dcv_grammar.specs.Predictive.{IsPredictive};
-ghost use Rattle.dcv_lexer.specs.Lexicon.{lexicon_of, is_orderly};
-ghost use Rattle.dcv_lustre.specs.Classes.{lexicon};
-ghost use Rattle.dcv_lustre.specs.Language.{language};
-
 use dcv_grammar::grammar::Symbol::{Class, Rule};
 use dcv_grammar::grammar::{Alternative, ContextFree, Production};
 use dcv_grammar::{after, always, optional};
@@ -82,7 +75,8 @@ const WORDS: [(&[u8], u8); 15] = [
     (b"int", WORD_INT),
 ];
 
-static LEXICON: Lexicon<'static> = Lexicon {
+// What nodes are written with.
+pub(crate) static LEXICON: Lexicon<'static> = Lexicon {
     symbols: &SYMBOLS,
     words: &WORDS,
     name: NAME,
@@ -91,15 +85,6 @@ static LEXICON: Lexicon<'static> = Lexicon {
     comments: false,
     leading_zeros: true,
 };
-
-// What nodes are written with.
-#[tactic(auto, unfolding(dcv_lustre::specs::Classes::lexicon))]
-pub(crate) fn lexicon() -> &'static Lexicon<'static>
-    ensures lexicon { lexicon_of result.now ≡ lexicon }
-    ensures orderly { IsTrue (is_orderly lexicon) }
-{
-    &LEXICON
-}
 
 // The numbers of the rules.
 pub(crate) const NODE: u8 = 0;
@@ -274,16 +259,8 @@ const RULES: [Production<'static>; 20] = [
     ),
 ];
 
-static GRAMMAR: ContextFree<'static> = ContextFree {
+// The grammar of nodes.
+pub(crate) static GRAMMAR: ContextFree<'static> = ContextFree {
     start: NODE,
     tables: &[&RULES],
 };
-
-// The grammar of nodes.
-#[tactic(auto, unfolding(dcv_lustre::specs::Language::language, dcv_grammar::specs::Predictive::IsPredictive))]
-pub(crate) fn grammar() -> &'static ContextFree<'static>
-    ensures grammar { grammar_of result.now ≡ language }
-    ensures predictive { IsPredictive language }
-{
-    &GRAMMAR
-}

@@ -1,5 +1,5 @@
 // Why a text is no observer of its language.
-use std::alloc::AllocError;
+use std::alloc::{AllocError, AllocFailed};
 
 /// Why a text is no node, or no unit, of the subset in which it is written.
 #[derive(Clone, Copy, Debug, PartialEq, Eq)]
@@ -19,6 +19,17 @@ impl From<AllocError> for ObsFault {
     ghost from_gives = { λ _ e. e ≡ Memory };
 
     fn from(_error: AllocError) -> ObsFault {
+        ObsFault::Memory
+    }
+}
+
+impl<T: Drop> From<AllocFailed<T>> for ObsFault {
+    ghost use Rattle.std.specs.Prelude.{◌≡◌};
+    ghost use Rattle.dcv_observer.specs.declared.fault.ObsFault.TheVariants.{Memory};
+
+    ghost from_gives = { λ _ e. e ≡ Memory };
+
+    fn from(_refused: AllocFailed<T>) -> ObsFault {
         ObsFault::Memory
     }
 }

@@ -18,7 +18,7 @@ mod syntax;
 pub use conditions::{Condition, Test};
 pub use fault::ObsFault;
 pub use items::{Item, Items, LARGEST_NUMBER, LONGEST_WORD, NAME, NUMBER, UNKNOWN};
-pub use judge::{broken, push};
+pub use judge::broken;
 pub use names::Declared;
 pub use numbers::{is_number, number_at};
 pub use syntax::syntax_fault;

@@ -1,3 +1,4 @@
 pub mod Running
 pub mod Within
 pub mod Reversed
+pub mod Rows

@@ -1,2 +1,4 @@
 -- for proofs alone: how far a translation is
 pub mod UnderWay
+-- what readers tell of names
+pub mod Rows

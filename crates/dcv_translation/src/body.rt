@@ -61,3 +61,26 @@ impl<P: Drop> Body<P> {
         Ok(())
     }
 }
+
+/// The next part of a body, which is of this kind of `Part`.
+#[macro_export]
+macro_rules! next_of {
+    ($parts:expr, $kind:ident) => {
+        match $parts.next() {
+            Some(Part::$kind(part)) => part,
+            _ => unreachable!(),
+        }
+    };
+}
+
+/// The next part of a body, which is of this kind of `Part` if there is one.
+#[macro_export]
+macro_rules! next_of_or_end {
+    ($parts:expr, $kind:ident) => {
+        match $parts.next() {
+            None => None,
+            Some(Part::$kind(part)) => Some(part),
+            _ => unreachable!(),
+        }
+    };
+}

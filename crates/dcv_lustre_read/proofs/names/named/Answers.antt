@@ -1,7 +1,9 @@
 use Rattle.std.proofs.Common.{◌∙◌}
+use Rattle.dcv_observer.proofs.Judging.{told_fault}
+use Rattle.dcv_lustre_read.specs.Contents.{first_fault_of}
 use Rattle.dcv_lustre.proofs.EachTree.{words_spelled}
 use Rattle.dcv_lustre_read.specs.Seen.{seen_node}
-use Rattle.dcv_lustre_read.proofs.Named.{node_is, is_node, told_fault}
+use Rattle.dcv_lustre_read.proofs.Named.{node_is, is_node}
 use Rattle.dcv_lustre_read.proofs.names.named.Goals as goal
 
 pub contents-contents-requires-clause-words : goal.contents-contents-requires-clause-words
@@ -9,7 +11,7 @@ contents-contents-requires-clause-words c = words_spelled c.requires.spelled.0 (
 
 pub returns-in_err-inputs-clause-fault : goal.returns-in_err-inputs-clause-fault
 returns-in_err-inputs-clause-fault c =
-    told_fault (seen_node c.args.placed.now) c.from_residual-in_err-inputs.result c.in_err-inputs.field-0.0 c.from_residual-in_err-inputs.ensures.1 c.in_err-inputs.ensures
+    told_fault (first_fault_of (seen_node c.args.placed.now)) c.from_residual-in_err-inputs.result c.in_err-inputs.field-0.0 c.from_residual-in_err-inputs.ensures.1 c.in_err-inputs.ensures
 
 pub new-requires : goal.new-requires
 new-requires c =

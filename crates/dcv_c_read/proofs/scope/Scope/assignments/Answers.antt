@@ -29,8 +29,8 @@ loop-assignment-preserved c =
       λ (frame : Frame) knows (whole : Option ℕ) (words : List Token) (keeps : List Bool) left.
           let sofar = subst (λ (later : List PlacedAssignment). AreAssignedSoFar frame whole words keeps items c.loop-assignment.all.items later c.loop-assignment.self) split
           (c.loop-assignment.invariant.1 frame knows whole words keeps left) in
-          assignments_more frame whole words keeps items c.loop-assignment.all.items _ (drop (i + 1) items) c.loop-assignment.self _ sofar c.push.new.items.items c.in_ok-assignment.field-0
-          c.in_ok-push.ensures (c.in_ok-assignment.ensures (with_known sofar.known frame) sofar.knows whole _ _ sofar.left),
+          assignments_more frame whole words keeps items c.loop-assignment.all.items _ (drop (i + 1) items) c.loop-assignment.self _ sofar c.push.new.self.items c.in_ok-assignment.field-0
+          c.in_ok-push.ensures.items (c.in_ok-assignment.ensures (with_known sofar.known frame) sofar.knows whole _ _ sofar.left),
     )
 
 pub returns : goal.returns

@@ -24,7 +24,7 @@ returns c = λ (frame : Frame) knows (whole : Option ℕ) (words : List Token) (
     let new = was_new c.in_ok-declare.field-0 c.args.self.now.declared c.declare.new.self name c.if-not-branch.false c.in_ok-declare.ensures.new c.in_ok-declare.ensures.names in
     let no_function = sym c.contains.ensures ∙ c.if-contains.false in (
       name_declared frame _ _ _ knows name c.args.sort new.0 new.1
-          (ap (map seen_row) c.in_ok-push.ensures ∙ map_push seen_row items _
+          (ap (map seen_row) c.in_ok-push.ensures.items ∙ map_push seen_row items _
           ∙ ap (λ (b : Bool). map seen_row items ++ record { place = c.len-place.result; is_left = is_variable c.args.sort; is_known = not b } ∷ []) c.is_variable.ensures
           ∙ ap (λ (place : ℕ). map seen_row items ++ record { place = place; is_left = is_variable c.args.sort; is_known = not (is_variable c.args.sort) } ∷ [])
           (let e : c.len-place.result ≡ length items = omega (arith, c.len-place.ensures, c.args.self.now.names.ok.0) in e ∙ sym (length-map items seen_row))),

@@ -39,8 +39,8 @@ loop-place-preserved c = λ (frame : Frame) knows (whole : Option ℕ) (others :
     let small : nat_lt i 16 ≡ true = grind (arith, nat_tests, c.if-place-ge-MOST_PARAMETERS.false) in
     let sofar = subst (λ (rest : List Item). AreParametersSoFar frame whole others keeps items i c.loop-place.texts.items rest c.loop-place.self) (drop_more items i _ c.loop-place-test.true)
     (c.loop-place.invariant frame knows whole others keeps left) in
-    parameters_more frame whole others keeps items c.loop-place.texts.items _ (drop (i + 1) items) i c.loop-place.self sofar c.push.new.items.items c.in_ok-copy_of.field-0 c.declare.new.self
-    (c.in_ok-declare.ensures _ sofar.knows whole _ _ (parameter_left frame whole others keeps items c.loop-place.texts.items _ (drop (i + 1) items) i c.loop-place.self small sofar)) c.in_ok-push.ensures c.in_ok-copy_of.ensures
+    parameters_more frame whole others keeps items c.loop-place.texts.items _ (drop (i + 1) items) i c.loop-place.self sofar c.push.new.self.items c.in_ok-copy_of.field-0 c.declare.new.self
+    (c.in_ok-declare.ensures _ sofar.knows whole _ _ (parameter_left frame whole others keeps items c.loop-place.texts.items _ (drop (i + 1) items) i c.loop-place.self small sofar)) c.in_ok-push.ensures.items c.in_ok-copy_of.ensures
 
 pub returns : goal.returns
 returns c = λ (frame : Frame) knows (whole : Option ℕ) (others : List Token) (keeps : List Bool) left.

@@ -33,8 +33,8 @@ loop-statement-preserved c =
       λ (frame : Frame) knows (unit : CUnit) lefts (whole : Option ℕ) (words : List Token) left.
           let sofar = subst (λ (later : List PlacedStatement). AreStatementsSoFar unit frame whole words items c.loop-statement.all.items later c.loop-statement.self) split
           (c.loop-statement.invariant.1 frame knows unit lefts whole words left) in
-          statements_more unit frame whole words items c.loop-statement.all.items _ (drop (i + 1) items) c.loop-statement.self sofar _ c.push.new.items.items c.in_ok-statement.field-0
-          c.in_ok-push.ensures
+          statements_more unit frame whole words items c.loop-statement.all.items _ (drop (i + 1) items) c.loop-statement.self sofar _ c.push.new.self.items c.in_ok-statement.field-0
+          c.in_ok-push.ensures.items
           (c.in_ok-statement.ensures (with_known sofar.known frame) sofar.knows unit lefts whole _ _
           (statement_left unit frame whole words items c.loop-statement.all.items _ (drop (i + 1) items) c.loop-statement.self sofar)),
     )

@@ -26,8 +26,8 @@ loop-test-preserved c =
       (subst (λ (later : List PlacedTest). AllByRecursion AreWordsOfTest (map seen_test later)) split c.loop-test.invariant.0).1,
       λ (frame : Frame) knows (whole : Option ℕ) left.
           tests_more frame.placed frame.known whole (drop i items) _ (drop (i + 1) items)
-          (map test_of (map seen_test items)) c.loop-test.all.items c.push.new.items.items c.in_ok-test.field-0 split
-          c.in_ok-push.ensures (c.loop-test.invariant.1 frame knows whole left) (c.in_ok-test.ensures frame knows),
+          (map test_of (map seen_test items)) c.loop-test.all.items c.push.new.self.items c.in_ok-test.field-0 split
+          c.in_ok-push.ensures.items (c.loop-test.invariant.1 frame knows whole left) (c.in_ok-test.ensures frame knows),
     )
 
 pub returns : goal.returns

@@ -25,8 +25,8 @@ loop-word-preserved c = λ (frame : Frame) knows (whole : Option ℕ) (others : 
     let i = c.loop-word.word-index in
     let sofar = subst (λ (rest : List Item). AreDeclaredSoFar frame whole others keeps items c.loop-word.texts.items rest c.loop-word.self) (drop_more items i _ c.loop-word-test.true)
     (c.loop-word.invariant frame knows whole others keeps left) in
-    variables_more frame whole others keeps items c.loop-word.texts.items _ (drop (i + 1) items) c.loop-word.self sofar c.push.new.items.items c.in_ok-copy_of.field-0 c.declare.new.self
-    (c.in_ok-declare.ensures _ sofar.knows whole _ _ sofar.left) c.in_ok-push.ensures c.in_ok-copy_of.ensures
+    variables_more frame whole others keeps items c.loop-word.texts.items _ (drop (i + 1) items) c.loop-word.self sofar c.push.new.self.items c.in_ok-copy_of.field-0 c.declare.new.self
+    (c.in_ok-declare.ensures _ sofar.knows whole _ _ sofar.left) c.in_ok-push.ensures.items c.in_ok-copy_of.ensures
 
 pub returns : goal.returns
 returns c = λ (frame : Frame) knows (whole : Option ℕ) (others : List Token) (keeps : List Bool) left.

@@ -9,7 +9,7 @@ use Rattle.dcv_lustre.specs.Seen.{seen_kind}
 use Rattle.dcv_lustre.specs.Tree.{Node}
 use Rattle.dcv_lustre_read.specs.Seen.{seen_arm}
 use Rattle.dcv_lustre_read.specs.declared.placed.PlacedArm.{PlacedArm as CodeArm}
-use Rattle.dcv_lustre_read.proofs.Judging.{leads_on}
+use Rattle.dcv_observer.proofs.Judging.{leads_on}
 use Rattle.dcv_lustre_read.proofs.RightSides.{arm_left, arms_more, arms_whole}
 use Rattle.dcv_lustre_read.proofs.scope.Scope.arms.Goals as goal
 
@@ -30,8 +30,8 @@ loop-arm-preserved c =
       (subst (λ (later : List CodeArm). AllByRecursion AreWordsOfArm (map seen_arm later)) split c.loop-arm.invariant.0).1,
       λ (node : Node) (earlier : Names) knows (whole : Option ℕ) (words : List Token) (keeps : List Bool) left.
           arms_more node (node.inputs ++ earlier) (seen_kind c.args.kind) whole words keeps (drop i items) _ (drop (i + 1) items)
-          (map arm_of (map seen_arm items)) c.loop-arm.all.items c.push.new.items.items c.in_ok-arm.field-0 split
-          c.in_ok-push.ensures (c.loop-arm.invariant.1 node earlier knows whole words keeps left)
+          (map arm_of (map seen_arm items)) c.loop-arm.all.items c.push.new.self.items c.in_ok-arm.field-0 split
+          c.in_ok-push.ensures.items (c.loop-arm.invariant.1 node earlier knows whole words keeps left)
           (c.in_ok-arm.ensures node earlier knows whole _ _
           (arm_left node (node.inputs ++ earlier) (seen_kind c.args.kind) whole words keeps (drop i items) _ (drop (i + 1) items) split
           (c.loop-arm.invariant.1 node earlier knows whole words keeps left).1)),

@@ -10,7 +10,8 @@ use Rattle.dcv_lustre.specs.Meaning.{names_of}
 use Rattle.dcv_lustre.specs.Rules.{keeps_arm}
 use Rattle.dcv_lustre_read.specs.Seen.{seen_arm}
 use Rattle.dcv_lustre_read.specs.Scope.{seen_row, Knows}
-use Rattle.dcv_lustre_read.specs.Judged.{IsLeft, words_of_arms}
+use Rattle.dcv_observer.specs.Judged.{IsLeft}
+use Rattle.dcv_lustre_read.specs.Judged.{words_of_arms}
 use Rattle.dcv_lustre_read.proofs.scope.Scope.arms.Given as goal
 
 abbrev pub invariant-loop-arm : goal.invariant-loop-arm

@@ -6,8 +6,8 @@ use Rattle.dcv_lustre.specs.Placed.{right_of}
 use Rattle.dcv_lustre.specs.Rules.{words_of_right, keeps_right}
 use Rattle.dcv_lustre_read.specs.Seen.{seen_equation}
 use Rattle.dcv_lustre_read.specs.Scope.{seen_row}
-use Rattle.dcv_lustre_read.specs.Judged.{IsLeft}
-use Rattle.dcv_lustre_read.proofs.Judging.{kept, leads_on}
+use Rattle.dcv_observer.specs.Judged.{IsLeft}
+use Rattle.dcv_observer.proofs.Judging.{kept, leads_on}
 use Rattle.dcv_lustre_read.proofs.Lefts.{marked_then}
 use Rattle.dcv_lustre_read.proofs.scope.Scope.equation.Goals as goal
 

@@ -7,7 +7,7 @@ use Rattle.dcv_lustre.specs.Tree.{Node}
 use Rattle.dcv_lustre_read.specs.declared.placed.PlacedEquation.{PlacedEquation as CodeEquation}
 use Rattle.dcv_lustre_read.specs.Seen.{seen_equation}
 use Rattle.dcv_lustre_read.specs.Scope.{seen_row}
-use Rattle.dcv_lustre_read.proofs.Judging.{leads_on}
+use Rattle.dcv_observer.proofs.Judging.{leads_on}
 use Rattle.dcv_lustre_read.proofs.Lefts.{AreEquationsSoFar, equation_left, equations_more, equations_end}
 use Rattle.dcv_lustre_read.proofs.scope.Scope.equations.Goals as goal
 
@@ -36,7 +36,7 @@ loop-equation-preserved c =
       λ (node : Node) knows (whole : Option ℕ) (words : List Token) (keeps : List Bool) left.
           let sofar = subst (λ (later : List CodeEquation). AreEquationsSoFar node whole words keeps items c.loop-equation.all.items later names rows) split
           (c.loop-equation.invariant.1 node knows whole words keeps left) in
-          equations_more node whole words keeps items c.loop-equation.all.items _ (drop (i + 1) items) names rows sofar c.push.new.items.items c.in_ok-equation.field-0 _ _ c.in_ok-push.ensures
+          equations_more node whole words keeps items c.loop-equation.all.items _ (drop (i + 1) items) names rows sofar c.push.new.self.items c.in_ok-equation.field-0 _ _ c.in_ok-push.ensures.items
           (c.in_ok-equation.ensures node sofar.earlier sofar.knows whole _ _ (equation_left node whole words keeps items c.loop-equation.all.items _ (drop (i + 1) items) names rows sofar)),
     )
 

@@ -7,7 +7,8 @@ use Rattle.dcv_lustre.specs.Tree.{Node}
 use Rattle.dcv_lustre.specs.Rules.{keeps_equations}
 use Rattle.dcv_lustre_read.specs.Seen.{seen_equation}
 use Rattle.dcv_lustre_read.specs.Scope.{seen_row, Knows}
-use Rattle.dcv_lustre_read.specs.Judged.{IsLeft, words_of_equations}
+use Rattle.dcv_observer.specs.Judged.{IsLeft}
+use Rattle.dcv_lustre_read.specs.Judged.{words_of_equations}
 use Rattle.dcv_lustre_read.proofs.Lefts.{AreEquationsSoFar}
 use Rattle.dcv_lustre_read.proofs.scope.Scope.equations.Given as goal
 

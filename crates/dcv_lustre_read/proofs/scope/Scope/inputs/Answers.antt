@@ -7,9 +7,10 @@ use Rattle.dcv_observer.specs.declared.items.Item.{Item}
 use Rattle.dcv_lustre.specs.Placed.{bytes_of}
 use Rattle.dcv_lustre.specs.Tree.{Node}
 use Rattle.dcv_lustre_read.specs.Scope.{Told, seen_row}
-use Rattle.dcv_lustre_read.proofs.Judging.{leads_on, fault_is}
+use Rattle.dcv_observer.proofs.Judging.{leads_on, fault_is}
 use Rattle.dcv_lustre_read.proofs.Declaring.{declared_beyond}
-use Rattle.dcv_lustre_read.proofs.Inputs.{AreInputsSoFar, within_inputs, beyond_inputs, text_more}
+use Rattle.dcv_lustre_read.proofs.Inputs.{AreInputsSoFar, within_inputs, beyond_inputs}
+use Rattle.dcv_observer.proofs.SoFar.{text_more}
 use Rattle.dcv_lustre_read.proofs.scope.Scope.inputs.Goals as goal
 
 pub returns-then-place-ge-MOST_INPUTS : goal.returns-then-place-ge-MOST_INPUTS
@@ -49,8 +50,8 @@ loop-place-preserved c = λ (node : Node) (whole : Option ℕ) (others : List To
     (c.loop-place.invariant node whole others others_keep words later told d one count) in
     let then = c.in_ok-declare.ensures node whole others others_keep _ _ _ _ sofar.declaring (within_inputs node (length names) (omega (arith, sofar.count, c.if-place-ge-MOST_INPUTS.false))) in
     record {
-      texts_are = text_more (bytes_of (map seen items)) c.loop-place.texts.items c.push.new.items.items _ c.in_ok-copy_of.field-0
-          (bytes_of (map seen (drop (i + 1) items))) sofar.texts_are c.in_ok-copy_of.ensures c.in_ok-push.ensures;
+      texts_are = text_more (bytes_of (map seen items)) c.loop-place.texts.items c.push.new.self.items _ c.in_ok-copy_of.field-0
+          (bytes_of (map seen (drop (i + 1) items))) sofar.texts_are c.in_ok-copy_of.ensures c.in_ok-push.ensures.items;
       count = then.1 ∙ ap (λ n. n + 1) sofar.count;
       declaring = then.0;
     }

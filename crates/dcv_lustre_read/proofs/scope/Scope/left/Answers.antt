@@ -4,7 +4,7 @@ use Rattle.dcv_lustre.specs.Placed.{equation_of}
 use Rattle.dcv_lustre.specs.Tree.{Node}
 use Rattle.dcv_lustre_read.specs.Seen.{seen_equation}
 use Rattle.dcv_lustre_read.specs.Scope.{seen_row}
-use Rattle.dcv_lustre_read.proofs.Judging.{broken_word}
+use Rattle.dcv_observer.proofs.Judging.{broken_word}
 use Rattle.dcv_lustre_read.proofs.Lefts.{unknown_left, known_left, unfit_left, kept_left}
 use Rattle.dcv_lustre_read.proofs.scope.Scope.left.Goals as goal
 

@@ -5,7 +5,7 @@ use Rattle.dcv_lustre.specs.Tree.{Node}
 use Rattle.dcv_lustre.specs.Seen.{seen_local as local_seen}
 use Rattle.dcv_lustre_read.specs.declared.placed.PlacedLocal.{PlacedLocal as CodeLocal}
 use Rattle.dcv_lustre_read.specs.Scope.{seen_row}
-use Rattle.dcv_lustre_read.proofs.Judging.{leads_on}
+use Rattle.dcv_observer.proofs.Judging.{leads_on}
 use Rattle.dcv_lustre_read.proofs.Inputs.{AreLocalsSoFar, behind_inputs, told_here, locals_made}
 use Rattle.dcv_lustre_read.proofs.scope.Scope.locals.Goals as goal
 
@@ -30,7 +30,7 @@ loop-local-preserved c = λ (node : Node) (whole : Option ℕ) (others : List To
     (c.loop-local.invariant node whole others others_keep d behind) in
     let then = c.in_ok-declare.ensures node whole others others_keep _ _ _ _ (told_here (sym c.kind_at-kind.ensures) sofar.declaring) (behind_inputs node (length names) sofar.behind) in
     record {
-      are_made = locals_made _ sofar c.in_ok-push.ensures (λ j. record { name = c.in_ok-name.ensures j; kind = c.kind_at-kind.ensures j });
+      are_made = locals_made _ sofar c.in_ok-push.ensures.items (λ j. record { name = c.in_ok-name.ensures j; kind = c.kind_at-kind.ensures j });
       behind = omega (arith, then.1, sofar.behind);
       declaring = then.0;
     }

@@ -4,7 +4,7 @@ use Rattle.dcv_lustre.specs.Tree.{Node as PlainNode}
 use Rattle.dcv_lustre.specs.Seen.{seen_kind}
 use Rattle.dcv_lustre_read.specs.Scope.{seen_row}
 use Rattle.dcv_lustre_read.proofs.NameKinds.{unknown_name, name_as}
-use Rattle.dcv_lustre_read.proofs.Judging.{broken_word}
+use Rattle.dcv_observer.proofs.Judging.{broken_word}
 use Rattle.dcv_lustre_read.proofs.scope.Scope.name.Goals as goal
 
 pub returns-in_default : goal.returns-in_default

@@ -4,7 +4,7 @@ use Rattle.dcv_observer.specs.Conditions.{Names}
 use Rattle.dcv_lustre.specs.Seen.{seen_kind}
 use Rattle.dcv_lustre.specs.Tree.{Node}
 use Rattle.dcv_lustre.specs.Meaning.{names_of}
-use Rattle.dcv_lustre_read.proofs.Judging.{kept, first_fault, leads_on}
+use Rattle.dcv_observer.proofs.Judging.{kept, first_fault, leads_on}
 use Rattle.dcv_lustre_read.proofs.RightSides.{chosen_left, chosen_is}
 use Rattle.dcv_lustre_read.proofs.scope.Scope.right.Goals as goal
 

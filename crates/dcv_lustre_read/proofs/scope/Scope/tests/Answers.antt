@@ -8,7 +8,7 @@ use Rattle.dcv_observer.specs.Conditions.{Names}
 use Rattle.dcv_lustre.specs.Tree.{Node}
 use Rattle.dcv_lustre_read.specs.Seen.{seen_test}
 use Rattle.dcv_lustre_read.specs.declared.placed.PlacedTest.{PlacedTest as CodeTest}
-use Rattle.dcv_lustre_read.proofs.Judging.{leads_on}
+use Rattle.dcv_observer.proofs.Judging.{leads_on}
 use Rattle.dcv_lustre_read.proofs.RightSides.{tests_more, tests_fault, tests_whole}
 use Rattle.dcv_lustre_read.proofs.scope.Scope.tests.Goals as goal
 
@@ -28,8 +28,8 @@ loop-test-preserved c =
       (subst (λ (later : List CodeTest). AllByRecursion AreWordsOfTest (map seen_test later)) split c.loop-test.invariant.0).1,
       λ (node : Node) (earlier : Names) knows (whole : Option ℕ) (words : List Token) (keeps : List Bool) left.
           tests_more node (node.inputs ++ earlier) whole words keeps (drop i items) _ (drop (i + 1) items)
-          (map test_of (map seen_test items)) c.loop-test.all.items c.push.new.items.items c.in_ok-test.field-0 split
-          c.in_ok-push.ensures (c.loop-test.invariant.1 node earlier knows whole words keeps left) (c.in_ok-test.ensures node earlier knows),
+          (map test_of (map seen_test items)) c.loop-test.all.items c.push.new.self.items c.in_ok-test.field-0 split
+          c.in_ok-push.ensures.items (c.loop-test.invariant.1 node earlier knows whole words keeps left) (c.in_ok-test.ensures node earlier knows),
     )
 
 pub returns : goal.returns

@@ -8,7 +8,8 @@ use Rattle.dcv_lustre.specs.Tree.{Node}
 use Rattle.dcv_lustre.specs.Meaning.{names_of}
 use Rattle.dcv_lustre_read.specs.Seen.{seen_test}
 use Rattle.dcv_lustre_read.specs.Scope.{seen_row, Knows}
-use Rattle.dcv_lustre_read.specs.Judged.{IsLeft, words_of_tests, keeps_tests}
+use Rattle.dcv_observer.specs.Judged.{IsLeft}
+use Rattle.dcv_lustre_read.specs.Judged.{words_of_tests, keeps_tests}
 use Rattle.dcv_lustre_read.proofs.scope.Scope.tests.Given as goal
 
 abbrev pub invariant-loop-test : goal.invariant-loop-test
