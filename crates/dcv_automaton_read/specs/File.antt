@@ -1,5 +1,5 @@
 -- How clauses see an automaton that was read.
---     target_from, access_from, suffix_from      what comes next, and how words are spelled, as plain data
+--     access_from, suffix_from                   how words are spelled, as plain data
 --     node_line names numbered ..                the line of what has this number
 --     file_from names nodes ..                   the plain data of a text
 --     row_of line                                what the line of a state says

@@ -13,12 +13,13 @@ ghost use Rattle.dcv_observer.specs.Judged.{Leads, IsLeft};
 use crate::placed::PlacedUnit;
 use crate::scope::{Scope, Sort};
 use dcv_c::{CUnit, ObsFault, Reset, Step};
+use dcv_language::MOST_VARIABLES;
 use dcv_observer::{Item, broken};
 use dcv_syntax::Text;
 use std::alloc::Global;
 
 /// How many parameters a step may have.
-const MOST_PARAMETERS: usize = 16;
+const MOST_PARAMETERS: usize = MOST_VARIABLES;
 
 /// What is in a unit, its names by places.
 #[derive(Drop)]

@@ -19,13 +19,14 @@ ghost use Rattle.dcv_lustre_read.specs.Judged.{words_of_locals, names_of_locals}
 use crate::constants::kind_at;
 use crate::placed::{PlacedLocal, PlacedNode};
 use crate::scope::Scope;
+use dcv_language::MOST_VARIABLES;
 use dcv_lustre::{Equation, Kind, Local, Node, ObsFault};
 use dcv_observer::{Declared, Item, broken};
 use dcv_syntax::Text;
 use std::alloc::Global;
 
 /// How many inputs a node may have.
-const MOST_INPUTS: usize = 16;
+const MOST_INPUTS: usize = MOST_VARIABLES;
 
 /// What is in a node, its names by places.
 #[derive(Drop)]
