@@ -293,7 +293,8 @@ module _ (one_tree : SpellsOne) (one_fault : FaultIsUnique) (one_verdict : OneVe
 
   one_stuck : (file : PlainFile) (a b : Outcome) → IsStuckReport file a → IsStuckReport file b → Agrees a b
   one_stuck file a b p q =
-      same_agrees a b (p.says ∙ ap stuck_outcome (one_least_stuck (length file.variables) (models file) p.least q.least p.is_least q.is_least) ∙ sym q.says)
+      let same = one_least_stuck (length file.variables) (models file) p.least q.least p.is_least q.is_least in
+      same_agrees a b (p.says ∙ ap stuck_outcome same ∙ sym q.says)
 
   one_synthesised : (inputs : ℕ) (limits : Limits) (file : PlainFile) (a b : Outcome) → IsSynthesised inputs limits file a → IsSynthesised inputs limits file b → Agrees a b
   one_synthesised inputs limits file a b (Undivided not e) (Undivided not' e') = same_agrees a b (e ∙ sym e')

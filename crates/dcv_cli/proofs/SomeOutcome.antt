@@ -192,10 +192,12 @@ module _ (some_reading : SomeReading) (reports : SomeReport) (syntheses : SomeSy
       held_under (λ text. OnText text Only (IsBudgeted limits Only (IsReport kind limits))) (held 0) name there
       (λ text. on_text Only (IsBudgeted limits Only (IsReport kind limits)) text (reports kind limits range text))
 
-  stuck_held : (name : List ℕ) (limits : Limits) (held : Texts) → IsSome (held 0 name) → (outcome : Outcome) × Fulfils (Stuck name limits) held outcome
+  stuck_held : (name : List ℕ) (limits : Limits) (held : Texts) → IsSome (held 0 name)
+      → (outcome : Outcome) × Fulfils (Stuck name limits) held outcome
   stuck_held name limits held there =
       held_under (λ text. OnText text Only (IsBudgeted limits Only IsStuckReport)) (held 0) name there
-      (λ text. on_text Only (IsBudgeted limits Only IsStuckReport) text (λ file formula. some_stuck_report goes_on laws accept models_are limits file formula.has_core))
+      (λ text. on_text Only (IsBudgeted limits Only IsStuckReport) text
+      (λ file formula. some_stuck_report goes_on laws accept models_are limits file formula.has_core))
 
   synth_held : (name : List ℕ) (inputs : ℕ) (limits : Limits) (held : Texts) → AreInputsInRange inputs limits → IsSome (held 0 name)
       → (outcome : Outcome) × Fulfils (Synth name inputs limits) held outcome

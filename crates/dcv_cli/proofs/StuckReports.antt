@@ -1,4 +1,4 @@
--- What is said of stuck words is right for the file: where it is said of the automaton that is built, and where it is only shown that there is something to say.
+-- What is said of stuck words is right for the file: of those of its automaton, and of some that there are.
 use Rattle.std.proofs.Common.{◌≡◌, ℕ, length, Option, None, Some, inl, inr, refl, sym, ◌∙◌, subst}
 use Rattle.std.specs.Prelude.{◌↔◌}
 use Rattle.dcv_word.specs.Behaviour.{Word, IsBehaviour}
@@ -31,11 +31,14 @@ module _ (goes_on : NeverStuckGoesOn) where
     (λ goes. absurd ((goes_on k L).1 goes word is.stuck)),
   )
 
-  reports : (file : PlainFile) (least : Option Word) → IsLeastStuckOf (length file.variables) (models file) least → IsStuckReport file (stuck_outcome least)
-  reports file least is = record { least = least; is_least = is; goes_on = none_goes_on (length file.variables) (models file) least is; says = refl }
+  reports : (file : PlainFile) (least : Option Word)
+      → IsLeastStuckOf (length file.variables) (models file) least → IsStuckReport file (stuck_outcome least)
+  reports file least is =
+      record { least = least; is_least = is; goes_on = none_goes_on (length file.variables) (models file) least is; says = refl }
 
   -- the automaton of the file has its stuck words
-  pub built_reports : LeastStuckOfSameBehaviours → (file : PlainFile) (limits : Limits) (auto : RawValue) (least : Option Word) → IsAuto auto → IsBuilt file limits auto
+  pub built_reports : LeastStuckOfSameBehaviours → (file : PlainFile) (limits : Limits) (auto : RawValue) (least : Option Word)
+      → IsAuto auto → IsBuilt file limits auto
       → IsLeastStuckOf auto.arena.slots (raw_accepts auto) least → IsBudgeted limits Only IsStuckReport file (stuck_outcome least)
   built_reports move file limits auto least auto_is built is =
       let of = built.automaton in
@@ -45,8 +48,8 @@ module _ (goes_on : NeverStuckGoesOn) where
       (λ word b. sym (auto_is.canonical.exact word b) ∙ of.canonical.exact word (subst (λ k. IsBehaviour k word) of.slots b)) is)))
 
   -- there is something to say, by the canonical table of the file
-  pub some_stuck_report : WordLaws → MachineAcceptsStep → WordsAreModels → (limits : Limits) (file : PlainFile) → fault_of_file file ≡ None
-      → (outcome : Outcome) × IsBudgeted limits Only IsStuckReport file outcome
+  pub some_stuck_report : WordLaws → MachineAcceptsStep → WordsAreModels → (limits : Limits) (file : PlainFile)
+      → fault_of_file file ≡ None → (outcome : Outcome) × IsBudgeted limits Only IsStuckReport file outcome
   some_stuck_report laws accept models_are limits file none = elim (over_or_within laws accept limits Only IsStuckReport file) [
     | inl over ↦ over
     | inr within ↦

@@ -17,5 +17,6 @@ stuck_outcome least = record { status = status_of_least least; out = stuck_text 
 pub record IsStuckReport (file : PlainFile) (outcome : Outcome) : Type 0 where
   pub least : Option Word
   pub is_least : IsLeastStuckOf (length file.variables) (models file) least
-  pub goes_on : (least ≡ None) ↔ ((word : Word) → KeepsTo (length file.variables) (models file) word → GoesOnForEver (length file.variables) (models file) word)
+  pub goes_on : (least ≡ None)
+      ↔ ((word : Word) → KeepsTo (length file.variables) (models file) word → GoesOnForEver (length file.variables) (models file) word)
   pub says : outcome ≡ stuck_outcome least

@@ -14,8 +14,8 @@ pub enum Status {
     /// What was asked for is done, and it says no verdict of a formula: an automaton's words show that it is minimal, or there is a controller,
     /// a trace was read to its end, the drawn formulas are counted, or a text is converted.
     Done,
-    /// Some behaviour does not satisfy the formula, satisfies the first requirement and not the second, or has kept to one and cannot go on;
-    /// the words of an automaton do not show that it is minimal; or there is no controller.
+    /// Some behaviour does not satisfy the formula, satisfies the first requirement and not the second, or has kept to one and cannot go
+    /// on; the words of an automaton do not show that it is minimal; or there is no controller.
     NotValid,
     /// The words ask for nothing that the program does.
     Usage,

@@ -9,8 +9,8 @@ use dcv_cli::{Status, Words, run};
 use dcv_io::{Files, Sink};
 use std::alloc::Global;
 
-/// `stuck FILE`: whether every behaviour that satisfied the formula at each instant so far can go on so for ever, or a least one after which no
-/// next instant satisfies it: the empty one where no first instant does.
+/// `stuck FILE`: whether every behaviour that satisfied the formula at each instant so far can go on so for ever, or a least one after which
+/// no next instant satisfies it: the empty one where no first instant does.
 #[tactic(auto, using(crate::proofs::Asked::continued))]
 pub fn stuck<F: Files, O: Sink, E: Sink>(
     alloc: Global,

@@ -21,5 +21,6 @@ pub returns-clause-found : goal.returns-clause-found
 returns-clause-found c file is =
     let auto = c.in_ok-auto.auto in
     let least = letters_of c.in_ok-least.least in
-    built_reports c.never_stuck_goes_on.ensures c.least_stuck_is_of_sets.ensures.same file c.args.limits auto least c.raw.ensures.auto (c.in_ok-auto.ensures.built file is)
+    built_reports c.never_stuck_goes_on.ensures c.least_stuck_is_of_sets.ensures.same
+    file c.args.limits auto least c.raw.ensures.auto (c.in_ok-auto.ensures.built file is)
     (subst (λ (raw : RawValue). IsLeastStuckOf raw.arena.slots (raw_accepts raw) least) c.raw.ensures.raw c.in_ok-least.ensures.least)
