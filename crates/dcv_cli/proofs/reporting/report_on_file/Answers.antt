@@ -25,8 +25,8 @@ returns-in_err-expanded g c =
 pub check-requires : goal.check-requires
 check-requires g c = c.in_ok-expanded.ensures.expanded.is.is.core
 
-pub print-requires-clause-core : goal.print-requires-clause-core
-print-requires-clause-core g c = c.in_ok-expanded.ensures.expanded.is.is.core
+pub print-requires-clause-text : goal.print-requires-clause-text
+print-requires-clause-text g c = let given = c.in_ok-expanded.ensures.expanded in (given.text, given.is)
 
 pub returns-in-Check : goal.returns-in-Check
 returns-in-Check g c =
