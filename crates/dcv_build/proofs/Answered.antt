@@ -59,6 +59,14 @@ module _ {S : Type 0} (machine : WorkingMachine S) (parts : ℕ) (limits : Limit
         (subst (λ n. IsBuilt machine parts limits (table_of_auto made.auto) made.states n) (sym put.nodes) built);
   }
 
+  pub put_answers : (explored : Explored) (made : Made) (answer : Answer) → HasExplored machine parts limits explored → IsLeastMade explored made → IsPut made shelf answer
+      → Answers machine parts limits step shelf (Ok answer)
+  put_answers explored made answer has least put = record {
+    built = for_put explored made answer has least put;
+    states = λ at limit same. absurd cc;
+    nodes = λ at limit same. absurd cc;
+  }
+
 -- ---- a shelf that has grown
 
 pub plain_at : (shelf : List ShelfTable) (number : ℕ) → number < length shelf → get_or (plain_tables shelf) number [] ≡ (at_number shelf number).table

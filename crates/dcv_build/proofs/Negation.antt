@@ -14,7 +14,7 @@ use Rattle.dcv_arena.proofs.Counts.{count_exact}
 use Rattle.dcv_language.specs.Automaton.{Automaton, WorkingMachine, IsReached, state_from, accepts}
 use Rattle.dcv_language.specs.Canonical.{IsCanonical}
 use Rattle.dcv_language.specs.Complement.{stands_alone}
-use Rattle.dcv_language.specs.Language.{outside}
+use Rattle.dcv_language.specs.Language.{HaveSameBehaviours, outside}
 use Rattle.dcv_language.specs.OperationMachines.{not_machine}
 use Rattle.dcv_language.specs.Laws.{OneCanonicalTable}
 use Rattle.dcv_language.specs.Table.{Table, leads_to, table_accepts, automaton_of as table_automaton}

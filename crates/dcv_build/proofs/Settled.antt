@@ -1,18 +1,17 @@
 -- What is explored within the limits has a canonical automaton, which is that of the machine.
-use Rattle.std.proofs.Common.{◌≡◌, ℕ, ◌+◌, ◌-◌, ◌<◌, ◌≤◌, length, Result, Ok, Err, refl, sym, subst, ◌∙◌, arith}
+use Rattle.std.proofs.Common.{◌≡◌, ℕ, ◌+◌, ◌-◌, ◌<◌, length, Result, Ok, Err, refl, sym, subst, ◌∙◌, arith}
 use Rattle.dcv_arena.proofs.Counts.{count_exact}
 use Rattle.dcv_language.specs.Automaton.{WorkingMachine, accepts}
 use Rattle.dcv_language.specs.Canonical.{IsCanonical}
 use Rattle.dcv_language.specs.Language.{HaveSameBehaviours}
 use Rattle.dcv_language.proofs.Canonicals.{canonical_for_same_behaviours}
-use Rattle.dcv_dfa.specs.Raw.{RawValue, IsRaw, raw_accepts}
+use Rattle.dcv_dfa.specs.Raw.{RawValue, raw_accepts}
 use Rattle.dcv_dfa.specs.Auto.{table_of_states}
 use Rattle.dcv_explore.specs.declared.explorer.Limits.{Limits}
 use Rattle.dcv_explore.specs.declared.faults.ExploreFault.{ExploreFault}
 use Rattle.dcv_explore.specs.declared.faults.ExploreFault.TheVariants.{States as TooMany, Nodes as TooLarge, Memory as NoMemory}
 use Rattle.dcv_explore.specs.Budget.{HasMoreNodes, Row, IsWithin}
-use Rattle.dcv_explore.specs.Explored.{IsExplored}
-use Rattle.dcv_explore.specs.Reached.{HasCounts, MoreStates, MoreNodes}
+use Rattle.dcv_explore.specs.Reached.{MoreStates, MoreNodes}
 use Rattle.dcv_explore.proofs.Budgets.{more_with_parts, more_by_parts}
 use Rattle.dcv_shelf.specs.Shelf.{table_of_auto}
 use Rattle.dcv_build.specs.declared.faults.BuildFault.{BuildFault}

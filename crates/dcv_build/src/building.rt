@@ -147,8 +147,9 @@ impl Building {
             Task::Atom => self.make_atom(core, step),
             Task::Complement(_) => unreachable!(),
             Task::Operator(asked) => {
+                let explored = self.known.explore(asked, step);
                 self.known.count();
-                self.known.explore(asked, step)
+                explored
             }
         }
     }

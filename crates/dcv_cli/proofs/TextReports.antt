@@ -59,6 +59,11 @@ module _ (kind : Kind) (limits : Limits) (text : List ℕ) where
         performs_failed Right LeavesNone [] (outside told asked open_faults read_faults old before) (outside told asked open_faults read_faults new after) status report right answers
         part rises (record { asked = asks_no_prefix asked []; opened = refl; read = refl; held = refl })
 
+pub reports_kind : (kind other : Kind) → kind ≡ other → (limits : Limits) (text : List ℕ) (result : Result Status Refused) (old : Option (List ℕ)) (before : ℕ) (new : Option (List ℕ)) (after : ℕ)
+    → ReportsOn other limits text result old before new after → ReportsOn kind limits text result old before new after
+reports_kind kind other same limits text result old before new after reports =
+    subst (λ (kind : Kind). ReportsOn kind limits text result old before new after) (sym same) reports
+
 -- what is right for the text is right for the file of the name
 pub performs_report : (kind : Kind) (limits : Limits) (name text : List ℕ) (result : Result Status Refused) (before mid after : Outside) → StepsTo name before mid → IsHeldText before.told name text
     → ReportsOn kind limits text result mid.written mid.faults after.written after.faults

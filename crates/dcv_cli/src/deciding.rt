@@ -1,5 +1,5 @@
 // The verdict on a formula, of an automaton that is not minimised: shortest words are found in any.
-ghost use Rattle.std.specs.Prelude.{IfOk, IfErr, length};
+ghost use Rattle.std.specs.Prelude.{ℕ, IfOk, IfErr};
 ghost use Rattle.dcv_syntax.specs.Plain.{PlainFile};
 ghost use Rattle.dcv_language.specs.Language.{Language};
 ghost use Rattle.dcv_language.specs.Verdict.{IsVerdict};

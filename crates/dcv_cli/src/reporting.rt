@@ -5,7 +5,7 @@ ghost use Rattle.dcv_language.specs.declared.kind.Kind.TheVariants.{Check};
 ghost use Rattle.dcv_build.specs.Given.{IsCore};
 ghost use Rattle.dcv_command.specs.Request.{Report as ReportRequest, AreInRange};
 ghost use Rattle.dcv_cli.specs.Budget.{steps_of_file, NamesFirstOver};
-ghost use Rattle.dcv_cli.specs.Expanded.{IsExpanded};
+ghost use Rattle.dcv_cli.specs.Expanded.{IsExpanded, IsExpandedText};
 ghost use Rattle.dcv_cli.specs.FormulaFile.{IsFormulaFile};
 ghost use Rattle.dcv_cli.specs.Judged.{IsJudged, ReportsOn};
 ghost use Rattle.dcv_cli.specs.Outside.{outside};
@@ -71,7 +71,7 @@ fn print<O: Sink>(
     limits: Limits,
     out: &mut O,
 ) -> Result<Status, Refused>
-    requires core { IsCore expanded.core }
+    requires text { (text : List ℕ) × IsExpandedText text expanded }
     requires limits { AreInRange limits }
     ensures { (text : List ℕ) (file : PlainFile) → IsFormulaFile text file → IsExpanded file expanded
         → ReportsOn kind limits text result (O.written out.old) (O.faults out.old) (O.written out.new) (O.faults out.new) }

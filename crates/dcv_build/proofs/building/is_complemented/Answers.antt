@@ -8,11 +8,11 @@ loop-step-init c limits raw counts is = raw_goal c.args.core.now limits c.args.f
 
 pub loop-step-preserved : goal.loop-step-preserved
 loop-step-preserved c limits raw counts is =
-    let here = c.requires.turn c.loop-step.step (omega arith) (omega arith) in
-    turned_raw_goal c.machines_accept_steps.ensures.step c.one_canonical_table.ensures c.args.core.now limits c.loop-step.step here.0 raw c.loop-step.complemented here.1
+    let here = c.requires.turn c.loop-step._step (omega arith) (omega arith) in
+    turned_raw_goal c.machines_accept_steps.ensures.step c.one_canonical_table.ensures c.args.core.now limits c.loop-step._step here.0 raw c.loop-step.complemented here.1
     (c.loop-step.invariant limits raw counts is)
 
 pub returns : goal.returns
 returns c limits raw counts is =
-    let all : c.loop-step.step ≡ length c.args.core.now.steps = omega arith in
+    let all : c.loop-step._step ≡ length c.args.core.now.steps = omega arith in
     subst (λ n. IsRawGoal c.args.core.now limits n raw c.loop-step.complemented) all (c.loop-step.invariant limits raw counts is)

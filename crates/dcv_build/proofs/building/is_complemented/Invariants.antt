@@ -7,4 +7,4 @@ use Rattle.dcv_build.proofs.building.is_complemented.Given as goal
 
 -- what was explored stands for the steps so far
 abbrev pub invariant-loop-step : goal.invariant-loop-step
-invariant-loop-step l = (limits : Limits) (raw : RawValue) (counts : List Count) → IsExploredGoal l.core limits l.from raw counts → IsRawGoal l.core limits l.step raw l.complemented
+invariant-loop-step l = (limits : Limits) (raw : RawValue) (counts : List Count) → IsExploredGoal l.core limits l.from raw counts → IsRawGoal l.core limits l._step raw l.complemented

@@ -1,4 +1,4 @@
-use Rattle.std.proofs.Common.{sym, ap, subst, ◌∙◌}
+use Rattle.std.proofs.Common.{refl, ap, ◌∙◌}
 use Rattle.std.proofs.lemmas.Result.{err_from_is_err_and}
 use Rattle.dcv_cli.specs.Status.{status_of_verdict}
 use Rattle.dcv_cli.specs.declared.refusal.Refusal.TheVariants.{Memory}
@@ -7,10 +7,12 @@ use Rattle.dcv_cli.proofs.TextReports.{reports_refused, reports_sent, reports_fa
 use Rattle.dcv_cli.proofs.reporting.print.Goals as goal
 
 pub judge-requires : goal.judge-requires
-judge-requires g c = record { core = c.requires.core; limits = c.requires.limits }
+judge-requires g c = record { core = c.requires.text.1.is.core; limits = c.requires.limits }
 
 pub report_on-requires : goal.report_on-requires
-report_on-requires g c = ?
+report_on-requires g c =
+    let given = c.requires.text.1 in
+    (c.in_ok-judged.ensures.judged c.requires.text.0 given.file given.formula given.is).printable
 
 pub returns-in_err-judged : goal.returns-in_err-judged
 returns-in_err-judged g c text file formula is =

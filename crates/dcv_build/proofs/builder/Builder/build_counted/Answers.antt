@@ -17,31 +17,31 @@ take_to-taken-requires-clause-begun c = fresh_building c.args.core.now c.new-bui
 pub returns-clause-canonical : goal.returns-clause-canonical
 returns-clause-canonical c tree is =
     let core = c.args.core.now in
-    let goal_is = subst (λ (l : Limits). IsGoal core l (length core.steps) c.in_ok-auto.auto c.finish.new.building.counts.items) (c.new-building.ensures.limits ∙ c.self.view_is) (c.in_ok-auto.ensures c.new-building.result.known.limits c.in_ok-taken.ensures.goal) in
-    built_is core c.args.self.now c.in_ok-auto.auto c.finish.new.building.counts.items goal_is tree is
+    let goal_is = subst (λ (l : Limits). IsGoal core l (length core.steps) c.in_ok-auto.auto c.finish.new.self.counts.items) (c.new-building.ensures.limits ∙ c.self.view_is) (c.in_ok-auto.ensures c.new-building.result.known.limits c.in_ok-taken.ensures.goal) in
+    built_is core c.args.self.now c.in_ok-auto.auto c.finish.new.self.counts.items goal_is tree is
 
 pub returns-clause-within : goal.returns-clause-within
 returns-clause-within c tree is =
     let core = c.args.core.now in
-    let goal_is = subst (λ (l : Limits). IsGoal core l (length core.steps) c.in_ok-auto.auto c.finish.new.building.counts.items) (c.new-building.ensures.limits ∙ c.self.view_is) (c.in_ok-auto.ensures c.new-building.result.known.limits c.in_ok-taken.ensures.goal) in
-    built_within core c.args.self.now c.in_ok-auto.auto c.finish.new.building.counts.items goal_is tree is
+    let goal_is = subst (λ (l : Limits). IsGoal core l (length core.steps) c.in_ok-auto.auto c.finish.new.self.counts.items) (c.new-building.ensures.limits ∙ c.self.view_is) (c.in_ok-auto.ensures c.new-building.result.known.limits c.in_ok-taken.ensures.goal) in
+    built_within core c.args.self.now c.in_ok-auto.auto c.finish.new.self.counts.items goal_is tree is
 
 pub returns-clause-few_states : goal.returns-clause-few_states
 returns-clause-few_states c =
     let core = c.args.core.now in
-    let goal_is = subst (λ (l : Limits). IsGoal core l (length core.steps) c.in_ok-auto.auto c.finish.new.building.counts.items) (c.new-building.ensures.limits ∙ c.self.view_is) (c.in_ok-auto.ensures c.new-building.result.known.limits c.in_ok-taken.ensures.goal) in
-    built_states core c.args.self.now c.in_ok-auto.auto c.finish.new.building.counts.items goal_is c.requires.tree c.requires.is
+    let goal_is = subst (λ (l : Limits). IsGoal core l (length core.steps) c.in_ok-auto.auto c.finish.new.self.counts.items) (c.new-building.ensures.limits ∙ c.self.view_is) (c.in_ok-auto.ensures c.new-building.result.known.limits c.in_ok-taken.ensures.goal) in
+    built_states core c.args.self.now c.in_ok-auto.auto c.finish.new.self.counts.items goal_is c.requires.tree c.requires.is
 
 pub returns-clause-few_nodes : goal.returns-clause-few_nodes
 returns-clause-few_nodes c =
     let core = c.args.core.now in
-    let goal_is = subst (λ (l : Limits). IsGoal core l (length core.steps) c.in_ok-auto.auto c.finish.new.building.counts.items) (c.new-building.ensures.limits ∙ c.self.view_is) (c.in_ok-auto.ensures c.new-building.result.known.limits c.in_ok-taken.ensures.goal) in
-    built_nodes core c.args.self.now c.in_ok-auto.auto c.finish.new.building.counts.items goal_is c.requires.tree c.requires.is
+    let goal_is = subst (λ (l : Limits). IsGoal core l (length core.steps) c.in_ok-auto.auto c.finish.new.self.counts.items) (c.new-building.ensures.limits ∙ c.self.view_is) (c.in_ok-auto.ensures c.new-building.result.known.limits c.in_ok-taken.ensures.goal) in
+    built_nodes core c.args.self.now c.in_ok-auto.auto c.finish.new.self.counts.items goal_is c.requires.tree c.requires.is
 
 pub returns-clause-counts : goal.returns-clause-counts
 returns-clause-counts c tree is =
     let core = c.args.core.now in
-    let counts = c.finish.new.building.counts.items in
+    let counts = c.finish.new.self.counts.items in
     let goal_is = subst (λ (l : Limits). IsGoal core l (length core.steps) c.in_ok-auto.auto counts) (c.new-building.ensures.limits ∙ c.self.view_is) (c.in_ok-auto.ensures c.new-building.result.known.limits c.in_ok-taken.ensures.goal) in
     subst (AreCounts (steps_of core.declared tree) c.args.self.now) (λ i. (sym c.into_counts.ensures i).items) (built_counts core c.args.self.now c.in_ok-auto.auto counts goal_is tree is)
 
