@@ -7,7 +7,8 @@ use Rattle.std.specs.Prelude.{Result, Ok, Err, OnOk}
 use Rattle.std.proofs.lemmas.Bool.{cases_lt}
 use Rattle.std.proofs.Math.Nat.{mul-le-mul_right, suc-mul}
 use Rattle.dcv_word.specs.Behaviour.{Word}
-use Rattle.dcv_language.specs.Table.{Table}
+use Rattle.dcv_language.specs.Table.{Table, IsTable, next_in}
+use Rattle.dcv_language.proofs.Bounds.{next-below}
 use Rattle.dcv_automaton_text.specs.File.{Suffix, EmptySuffix, ThenSuffix, AutomatonFile}
 use Rattle.dcv_language.specs.declared.certificate.Suffix.{Suffix as ReadSuffix}
 use Rattle.dcv_automaton_read.specs.File.{suffix_from, suffixes_of}
@@ -18,9 +19,10 @@ use Rattle.dcv_certify.specs.declared.walk.Untried.{Untried}
 use Rattle.dcv_certify.specs.Columns.{IsColumn, GoesOnFromColumn, IsColumnBefore}
 use Rattle.dcv_certify.specs.Links.{suffix_at, parent, parent_at, link_at, root_of, Below, Here, Beside, Under, AreLinks}
 use Rattle.dcv_certify.specs.Numbers.{AreNumbersOf}
-use Rattle.dcv_certify.specs.Alike.{bit}
+use Rattle.dcv_certify.specs.Alike.{bit, entries_of}
 use Rattle.dcv_certify.specs.Split.{bit_at, IsSplit}
-use Rattle.dcv_certify.specs.Walk.{waiting, depth_of, left_beside, rank_of, weight, work_left, suffix_word, IsKnown, Waits, IsUntried, IsNumbering, IsWalk}
+use Rattle.dcv_certify.specs.Walk.{waiting, IsSteady, IsFirstBelow, depth_of, left_beside, rank_of, weight, work_left, suffix_word, IsKnown, Waits, IsUntried, IsNumbering, IsWalk}
+use Rattle.dcv_certify.proofs.Bits.{bit_behind, last_behind}
 use Rattle.dcv_certify.proofs.Linking.{none_is_none, none_below, parent_is_earlier, some_is_one}
 use Rattle.dcv_certify.proofs.Numbering.{known_still, known_now, split_more, all_known, entries_few}
 use Rattle.dcv_certify.proofs.SuffixWords.{GoesOnFrom, suffix_goes_on, read_suffix, length_read_suffixes, word_is}
@@ -31,6 +33,10 @@ positive count some =
       | inl less ↦ less
       | inr none ↦ absurd (let is : (count == 0) ≡ true = (unsigned_Decides count 0).1 (omega (arith, none)) in let wrong : true ≡ false = sym is ∙ some in cc)
     ]
+
+first_is : (column : List Bool) (first below : Option ℕ) → IsFirstBelow column first below → (child : ℕ) → below ≡ Some child → first ≡ Some child
+first_is column first below (inl same) child link = sym same ∙ link
+first_is column first below (inr none) child link = absurd (none_is_none child (sym none.0 ∙ link))
 
 -- ---- less is left with each suffix
 
@@ -99,15 +105,15 @@ module _ (file : AutomatonFile) (good : IsGood file) (first next : List (Option 
   work_waiting left column None = omega arith
   work_waiting left column (Some place) = work_more left (record { column = column; place = place })
 
-  pub less_left : (left : List Untried) (at : Untried) (column : Vec Bool Global) → at.place < length file.suffix_lines
-      → work_left file next (waiting (waiting left at.column (link_at next at.place)) column (link_at first at.place)) < work_left file next (left ++ at ∷ [])
-  less_left left at column within =
+  pub less_left : (left : List Untried) (at : Untried) (column : Vec Bool Global) (below : Option ℕ) → IsFirstBelow column.items (link_at first at.place) below → at.place < length file.suffix_lines
+      → work_left file next (waiting (waiting left at.column (link_at next at.place)) column below) < work_left file next (left ++ at ∷ [])
+  less_left left at column below is within =
       omega (
         arith,
-        work_waiting (waiting left at.column (link_at next at.place)) column (link_at first at.place),
+        work_waiting (waiting left at.column (link_at next at.place)) column below,
         work_waiting left at.column (link_at next at.place),
         work_more left at,
-        by (link_at next at.place) (link_at first at.place) (λ other link. less_beside at.place other within link) (λ child link. less_under at.place child within link),
+        by (link_at next at.place) below (λ other link. less_beside at.place other within link) (λ child link. less_under at.place child within (first_is column.items (link_at first at.place) below is child link)),
       )
     where
       by : (beside under : Option ℕ) → ((other : ℕ) → beside ≡ Some other → rank_of file next other < rank_of file next at.place)
@@ -198,19 +204,74 @@ module _ (file : AutomatonFile) (good : IsGood file) (read : List ReadSuffix) (s
       subst (λ word. IsColumn table word column) (sym (word_is file good place within))
       (subst (λ suffix. IsColumn table (suffix_word_of words suffix) column) here (made words (subst (IsColumnBefore table words from) (sym here) has)))
 
+-- ---- where a suffix tells no states apart
+
+module _ (file : AutomatonFile) (good : IsGood file) (first next : List (Option ℕ)) (are : AreLinks file first next) (is_table : IsTable (length file.names) (table_of file)) where
+  abbrev table : Table
+  table = table_of file
+
+  abbrev IsSteadyWord : Word → Type 0
+  IsSteadyWord word = (entry : ℕ) → entry < length table → bit table entry word ≡ bit table 0 word
+
+  some_states : 0 < length table
+  some_states = is_table.nonempty
+
+  steady_word : (place : ℕ) (column : List Bool) → IsColumn table (suffix_word file place) column → IsSteady column → IsSteadyWord (suffix_word file place)
+  steady_word place column made steady entry within =
+      sym (made.bits entry (omega (arith, within))) ∙ steady entry (omega (arith, made.count, within)) ∙ made.bits 0 (omega arith)
+
+  steady_more : (letter : List Bool) (word : Word) → IsSteadyWord word → IsSteadyWord (letter ∷ word)
+  steady_more letter word steady entry within = of entry within ∙ sym (of 0 some_states)
+    where
+      of : (entry : ℕ) → entry < length table → bit table entry (letter ∷ word) ≡ bit table 0 word
+      of entry within =
+          let next = next-below (length file.names) table is_table entry letter within in
+          bit_behind table entry letter word within next ∙ steady (next_in table entry letter) next
+
+  known_of : (numbers : List ℕ) → length numbers ≡ entries_of file → (letter : List Bool) (word : Word) → IsSteadyWord (letter ∷ word) → (one : ℕ) → one < length numbers
+      → bit table one (letter ∷ word) ≡ bit table 0 (letter ∷ word)
+  known_of numbers count letter word steady one within =
+      elim (cases_lt one (length table)) [
+        | inl less ↦ steady one less
+        | inr past ↦
+            let last : length table ≡ one = omega (arith, past, within, count, entries_few file, table_has_the_files_states file good) in
+            ap (λ n. bit table n (letter ∷ word)) (sym last) ∙ last_behind table letter word some_states
+      ]
+
+  step_below : (from place : ℕ) → parent_at file place ≡ Some from → IsSteadyWord (suffix_word file from) → (letter : List Bool) × (suffix_word file place ≡ letter ∷ suffix_word file from)
+  step_below from place has steady = of (suffix_at file place) has (word_is file good place (parent_is_earlier file good place from has).0)
+    where
+      of : (suffix : Suffix) → parent suffix ≡ Some from → suffix_word file place ≡ suffix_word_of (suffix_words_of file) suffix → (letter : List Bool) × (suffix_word file place ≡ letter ∷ suffix_word file from)
+      of EmptySuffix is word = absurd (none_is_none from is)
+      of (ThenSuffix letter other) is word = (letter, word ∙ ap (λ n. letter ∷ suffix_word file n) (some_is_one other from is))
+
+  known_below : (numbers : List ℕ) → length numbers ≡ entries_of file → (from : ℕ) → IsSteadyWord (suffix_word file from) → (start : Option ℕ) (place : ℕ) → Below first next start place
+      → ((child : ℕ) → start ≡ Some child → parent_at file child ≡ Some from) → IsKnown file numbers place
+  known_below numbers count from steady start place (Here _ _ is) goes =
+      let word = step_below from place (goes place is) steady in
+      let longer = steady_more word.0 (suffix_word file from) steady in
+      λ one other within there same. subst (λ word. bit table one word ≡ bit table other word) (sym word.1)
+      (known_of numbers count word.0 (suffix_word file from) longer one within ∙ sym (known_of numbers count word.0 (suffix_word file from) longer other there))
+  known_below numbers count from steady start place (Beside _ one _ met is) goes =
+      known_below numbers count from steady (link_at next one) place met
+      (λ child link. let both = are.goes_on_too one child link in both.2 ∙ sym both.1 ∙ goes one is)
+  known_below numbers count from steady start place (Under _ one _ met is) goes =
+      let word = step_below from one (goes one is) steady in
+      known_below numbers count one (subst IsSteadyWord (sym word.1) (steady_more word.0 (suffix_word file from) steady)) (link_at first one) place met (are.goes_on one)
+
 -- ---- the walk
 
 module _ (file : AutomatonFile) (good : IsGood file) (first next : List (Option ℕ)) (are : AreLinks file first next) where
   pub at_is : (left : List Untried) (at : Untried) (numbers : List ℕ) → IsWalk file first next (left ++ at ∷ []) numbers → IsUntried file at
   at_is left at numbers walk = (all_in file left at walk.columns).1
 
-  pub walked : (left : List Untried) (at : Untried) (column : Vec Bool Global) (old new : List ℕ) → IsWalk file first next (left ++ at ∷ []) old
+  pub walked : IsTable (length file.names) (table_of file) → (left : List Untried) (at : Untried) (column : Vec Bool Global) (below : Option ℕ) (old new : List ℕ) → IsFirstBelow column.items (link_at first at.place) below → IsWalk file first next (left ++ at ∷ []) old
       → IsColumn (table_of file) (suffix_word file at.place) column.items → IsSplit old column.items new
-      → IsWalk file first next (waiting (waiting left at.column (link_at next at.place)) column (link_at first at.place)) new
-  walked left at column old new walk made split = record {
+      → IsWalk file first next (waiting (waiting left at.column (link_at next at.place)) column below) new
+  walked is_table left at column below old new first_below walk made split = record {
     numbering = split_more file old new column.items walk.numbering split at.place (at_is left at old walk).0 bits;
     columns =
-        all_waiting file (waiting left at.column (link_at next at.place)) column (link_at first at.place)
+        all_waiting file (waiting left at.column (link_at next at.place)) column below
         (all_waiting file left at.column (link_at next at.place) (all_in file left at walk.columns).0 beside) under;
     each = λ place within. ⊎_elim (λ known. inl (known_still file old new column.items walk.numbering split place known)) (λ waits. after place (waits_in first next place left at waits)) (walk.each place within);
   }
@@ -229,28 +290,34 @@ module _ (file : AutomatonFile) (good : IsGood file) (first next : List (Option 
                 (column_from (table_of file) words at.column.items (suffix_at file at.place) one.0 one.1 (at_is left at old walk).1),
           )
 
-      under : (place : ℕ) → link_at first at.place ≡ Some place → IsUntried file (record { column = column; place = place })
+      under : (place : ℕ) → below ≡ Some place → IsUntried file (record { column = column; place = place })
       under place link =
-          let from = are.goes_on at.place place link in
+          let from = are.goes_on at.place place (first_is column.items (link_at first at.place) below first_below place link) in
           ((parent_is_earlier file good place at.place from).0, column_before (table_of file) words column.items (suffix_at file place) at.place from made)
 
       more : List Untried
       more = waiting left at.column (link_at next at.place)
 
-      now : (place : ℕ) → (start : Option ℕ) → start ≡ Some at.place → Below first next start place → IsKnown file new place ⊎ Waits first next (waiting more column (link_at first at.place)) place
+      -- those below it wait, or tell nothing apart
+      under_one : (place : ℕ) → IsFirstBelow column.items (link_at first at.place) below → Below first next (link_at first at.place) place
+          → IsKnown file new place ⊎ Waits first next (waiting more column below) place
+      under_one place (inl same) met = inr (now_waits first next place more column below (subst (λ link. Below first next link place) (sym same) met))
+      under_one place (inr none) met =
+          inl (known_below file good first next are is_table new (split.count ∙ walk.numbering.count) at.place (steady_word file good first next are is_table at.place column.items made none.1) (link_at first at.place) place met (λ child link. are.goes_on at.place child link))
+
+      now : (place : ℕ) → (start : Option ℕ) → start ≡ Some at.place → Below first next start place → IsKnown file new place ⊎ Waits first next (waiting more column below) place
       now place start at_place (Here _ _ is) =
           inl (subst (IsKnown file new) (some_is_one at.place place (sym at_place ∙ is))
           (known_now file old new column.items walk.numbering split at.place (at_is left at old walk).0 bits))
-      now place start at_place (Beside _ one _ below is) =
-          inr (still_waits first next place more column (link_at first at.place) (now_waits first next place left at.column (link_at next at.place)
-          (subst (λ n. Below first next (link_at next n) place) (some_is_one one at.place (sym is ∙ at_place)) below)))
-      now place start at_place (Under _ one _ below is) =
-          inr (now_waits first next place more column (link_at first at.place)
-          (subst (λ n. Below first next (link_at first n) place) (some_is_one one at.place (sym is ∙ at_place)) below))
+      now place start at_place (Beside _ one _ beside_it is) =
+          inr (still_waits first next place more column below (now_waits first next place left at.column (link_at next at.place)
+          (subst (λ n. Below first next (link_at next n) place) (some_is_one one at.place (sym is ∙ at_place)) beside_it)))
+      now place start at_place (Under _ one _ under_it is) =
+          under_one place first_below (subst (λ n. Below first next (link_at first n) place) (some_is_one one at.place (sym is ∙ at_place)) under_it)
 
-      after : (place : ℕ) → Waits first next left place ⊎ Below first next (Some at.place) place → IsKnown file new place ⊎ Waits first next (waiting more column (link_at first at.place)) place
-      after place (inl waits) = inr (still_waits first next place more column (link_at first at.place) (still_waits first next place left at.column (link_at next at.place) waits))
-      after place (inr below) = now place (Some at.place) refl below
+      after : (place : ℕ) → Waits first next left place ⊎ Below first next (Some at.place) place → IsKnown file new place ⊎ Waits first next (waiting more column below) place
+      after place (inl waits) = inr (still_waits first next place more column below (still_waits first next place left at.column (link_at next at.place) waits))
+      after place (inr met) = now place (Some at.place) refl met
 
   pub walk_begins : (left : List Untried) (column : Vec Bool Global) (numbers : List ℕ) → left ≡ waiting [] column (root_of file) → IsNumbering file numbers → IsWalk file first next left numbers
   walk_begins left column numbers is numbering =

@@ -1,6 +1,8 @@
 -- For the proofs: suffixes that are to be tried, and what was tried so far.
 --     waiting left column place          those after one more, if any
 --     rank_of, work_left ..              numbers that grow less with each suffix that is tried
+--     IsSteady column                    a column is the same at all states
+--     IsFirstBelow column first below    the link leads there, or to none where the column is so
 --     suffix_word file place                 the word of a suffix
 --     IsKnown file numbers place         entries of one number are told apart by no such suffix
 --     Waits first next left place        the suffix is met from one that is to be tried
@@ -16,7 +18,7 @@ use Rattle.dcv_certify.specs.declared.walk.Untried.{Untried}
 use Rattle.dcv_certify.specs.Alike.{bit, entries_of, AreAlike}
 use Rattle.dcv_certify.specs.Columns.{IsColumnBefore}
 use Rattle.dcv_certify.specs.Links.{suffix_at, parent_at, link_at, Below}
-use Rattle.dcv_certify.specs.Split.{number_at, AreOwn}
+use Rattle.dcv_certify.specs.Split.{number_at, bit_at, AreOwn}
 
 -- ---- suffixes that are to be tried
 
@@ -45,6 +47,17 @@ weight (suc rank) = 3 * weight rank
 abbrev pub work_left : AutomatonFile → List (Option ℕ) → List Untried → ℕ
 work_left file next [] = 0
 work_left file next (at ∷ left) = weight (rank_of file next at.place) + work_left file next left
+
+-- ---- where nothing below tells states apart
+
+abbrev pub IsSteadyBefore : List Bool → ℕ → Type 0
+IsSteadyBefore column count = (entry : ℕ) → entry < count → bit_at column entry ≡ bit_at column 0
+
+abbrev pub IsSteady : List Bool → Type 0
+IsSteady column = IsSteadyBefore column (length column - 1)
+
+abbrev pub IsFirstBelow : List Bool → Option ℕ → Option ℕ → Type 0
+IsFirstBelow column first below = (below ≡ first) ⊎ ((below ≡ None) × IsSteady column)
 
 -- ---- what was tried so far
 

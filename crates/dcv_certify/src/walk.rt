@@ -1,13 +1,14 @@
 //! A walk over the suffixes of a text. Each is tried after the one that it goes on from, and its column is made of the column of that, which
 //! goes once the last suffix that goes on from it was tried.
-ghost use Rattle.std.specs.Prelude.{◌≡◌, ◌<◌, ◌∷◌, ◌++◌, [], Option, OnOk};
+ghost use Rattle.std.specs.Prelude.{◌≡◌, ◌<◌, ◌∷◌, ◌++◌, [], length, Option, OnOk, IsTrue};
 ghost use Rattle.dcv_certify.specs.Links.{AreLinks};
-ghost use Rattle.dcv_certify.specs.Walk.{waiting, work_left, IsWalk};
+ghost use Rattle.dcv_certify.specs.Walk.{waiting, work_left, IsSteady, IsFirstBelow, IsWalk};
 
 use crate::columns::column;
 use crate::links::Links;
 use crate::split::split;
 use dcv_automaton_read::AutoFile;
+use dcv_automaton_text::laws::good_files_are_tables;
 use std::alloc::{AllocError, Global};
 
 // A suffix that is to be tried, with the column of the one that it goes on from. After it come those that go on from the same one.
@@ -33,13 +34,36 @@ pub(crate) fn try_next(
     ensures walk { OnOk result (IsWalk file.now links.now.first.items links.now.next.items left.new.items numbers.new.items) }
     ensures shorter { OnOk result (work_left file.now links.now.next.items left.new.items < work_left file.now links.now.next.items (left.old.items ++ at ∷ [])) }
 {
+    good_files_are_tables();
     // for the prover: what is true of every file.
     file.keeps_the_rules();
     let place = at.place as usize;
     let column = column(alloc, file, &at.column, file.suffixes()[place])?;
     *numbers = split(alloc, numbers, &column)?;
     wait(left, at.column, links.next[place])?;
-    wait(left, column, links.first[place])
+    let below = first_below(links.first[place], &column);
+    wait(left, column, below)
+}
+
+// The first suffix below one, unless that tells no states apart. Then those below it do not either.
+fn first_below(first: Option<u32>, column: &[bool]) -> Option<u32>
+    requires { 0 < length column.now }
+    ensures { IsFirstBelow column.now first result }
+{
+    if is_steady(column) { None } else { first }
+}
+
+// Whether a column is the same at all states.
+fn is_steady(column: &[bool]) -> bool
+    requires { 0 < length column.now }
+    ensures { IsTrue result → IsSteady column.now }
+{
+    for entry in 0..column.len() - 1 {
+        if column[entry] != column[0] {
+            return false;
+        }
+    }
+    true
 }
 
 // Lets a suffix be tried next, given the column of the one that it goes on from.

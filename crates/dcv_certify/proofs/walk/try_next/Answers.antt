@@ -5,7 +5,7 @@ use Rattle.dcv_automaton_text.proofs.GoodTables.{table_has_the_files_states}
 use Rattle.dcv_certify.specs.Columns.{IsColumn, IsColumnBefore}
 use Rattle.dcv_certify.specs.Links.{suffix_at, link_at}
 use Rattle.dcv_certify.specs.Split.{AreOwn, IsSplit}
-use Rattle.dcv_certify.specs.Walk.{waiting, work_left, suffix_word, IsUntried, IsWalk}
+use Rattle.dcv_certify.specs.Walk.{waiting, work_left, IsFirstBelow, suffix_word, IsUntried, IsWalk}
 use Rattle.dcv_certify.proofs.Numbering.{entries_few, few_entries}
 use Rattle.dcv_certify.proofs.Walks.{at_is, goes_on_read, made_of, walked, less_left, on_ok_more}
 use Rattle.dcv_certify.proofs.walk.try_next.Goals as goal
@@ -54,40 +54,53 @@ pub split-requires-clause-few : goal.split-requires-clause-few
 split-requires-clause-few c =
     omega (arith, few_entries c.args.file.now c.keeps_the_rules.ensures, c.requires.walk.numbering.count, ap length c.deref-2.ensures.value)
 
+pub first_below-below-requires : goal.first_below-below-requires
+first_below-below-requires c =
+    let column = made (goal.at.first_below-below-requires c).In_ok-column (goal.at.first_below-below-requires c).After-index-suffixes-place in
+    omega (arith, column.count, ap length c.deref-4.ensures.value)
+
 -- what is to be tried then
-then : (c : After-wait-2) → c.args.at.place < length c.args.file.now.suffix_lines → c.wait-2.new.left.items ≡ waiting c.wait.new.left.items c.in_ok-column.column c.index-2.result.now
-    → c.wait-2.new.left.items ≡ waiting (waiting c.args.left.now.items c.args.at.column (link_at c.args.links.now.next.items c.args.at.place)) c.in_ok-column.column (link_at c.args.links.now.first.items c.args.at.place)
+then : (c : After-wait-2) → c.args.at.place < length c.args.file.now.suffix_lines → c.wait-2.new.left.items ≡ waiting c.wait.new.left.items c.in_ok-column.column c.first_below-below.result
+    → c.wait-2.new.left.items ≡ waiting (waiting c.args.left.now.items c.args.at.column (link_at c.args.links.now.next.items c.args.at.place)) c.in_ok-column.column c.first_below-below.result
 then c within is =
     let next : c.index.result.now ≡ link_at c.args.links.now.next.items c.args.at.place =
     c.index.ensures ∙ get_or_default c.args.links.now.next.items c.args.at.place c.index.result.now None (omega (arith, within, c.requires.links.next_count)) in
+    is ∙ ap (λ left. waiting left c.in_ok-column.column c.first_below-below.result) c.in_ok-wait.ensures
+    ∙ ap (λ link. waiting (waiting c.args.left.now.items c.args.at.column link) c.in_ok-column.column c.first_below-below.result) next
+
+-- the first suffix below it, unless that tells no states apart
+below : (c : After-wait-2) → c.args.at.place < length c.args.file.now.suffix_lines → IsFirstBelow c.in_ok-column.column.items (link_at c.args.links.now.first.items c.args.at.place) c.first_below-below.result
+below c within =
     let first : c.index-2.result.now ≡ link_at c.args.links.now.first.items c.args.at.place =
     c.index-2.ensures ∙ get_or_default c.args.links.now.first.items c.args.at.place c.index-2.result.now None (omega (arith, within, c.requires.links.count)) in
-    is ∙ ap (λ left. waiting left c.in_ok-column.column c.index-2.result.now) c.in_ok-wait.ensures
-    ∙ ap (λ link. waiting (waiting c.args.left.now.items c.args.at.column link) c.in_ok-column.column c.index-2.result.now) next
-    ∙ ap (λ link. waiting (waiting c.args.left.now.items c.args.at.column (link_at c.args.links.now.next.items c.args.at.place)) c.in_ok-column.column link) first
+    subst₂ (λ column link. IsFirstBelow column link c.first_below-below.result) c.deref-4.ensures.value first c.first_below-below.ensures
 
 pub returns-clause-walk : goal.returns-clause-walk
 returns-clause-walk c =
     let file = c.args.file.now in
+    let good = c.keeps_the_rules.ensures in
     let here = (goal.at.returns-clause-walk c).After-index-suffixes-place in
+    let end = (goal.at.returns-clause-walk c).After-wait-2 in
     let column = made (goal.at.returns-clause-walk c).In_ok-column here in
     let split : IsSplit c.args.numbers.now.items c.in_ok-column.column.items c.in_ok-numbers.field-0.items =
     subst₂ (λ (old : List ℕ) (column : List Bool). IsSplit old column c.in_ok-numbers.field-0.items) c.deref-2.ensures.value c.deref-3.ensures.value c.in_ok-numbers.ensures in
     on_ok_more c.wait-2.result _ _
     (λ is.
     subst (λ left. IsWalk file c.args.links.now.first.items c.args.links.now.next.items left c.in_ok-numbers.field-0.items)
-    (sym (then (goal.at.returns-clause-walk c).After-wait-2 (before here).0 is))
-    (walked file c.keeps_the_rules.ensures c.args.links.now.first.items c.args.links.now.next.items c.requires.links c.args.left.now.items c.args.at c.in_ok-column.column
-    c.args.numbers.now.items c.in_ok-numbers.field-0.items c.requires.walk column split))
+    (sym (then end (before here).0 is))
+    (walked file good c.args.links.now.first.items c.args.links.now.next.items c.requires.links (c.good_files_are_tables.ensures.table file good) c.args.left.now.items c.args.at
+    c.in_ok-column.column c.first_below-below.result c.args.numbers.now.items c.in_ok-numbers.field-0.items (below end (before here).0) c.requires.walk column split))
     c.wait-2.ensures
 
 pub returns-clause-shorter : goal.returns-clause-shorter
 returns-clause-shorter c =
     let file = c.args.file.now in
     let here = (goal.at.returns-clause-shorter c).After-index-suffixes-place in
+    let end = (goal.at.returns-clause-shorter c).After-wait-2 in
     on_ok_more c.wait-2.result _ _
     (λ is.
     subst (λ left. work_left file c.args.links.now.next.items left < work_left file c.args.links.now.next.items (c.args.left.now.items ++ c.args.at ∷ []))
-    (sym (then (goal.at.returns-clause-shorter c).After-wait-2 (before here).0 is))
-    (less_left file c.keeps_the_rules.ensures c.args.links.now.first.items c.args.links.now.next.items c.requires.links c.args.left.now.items c.args.at c.in_ok-column.column (before here).0))
+    (sym (then end (before here).0 is))
+    (less_left file c.keeps_the_rules.ensures c.args.links.now.first.items c.args.links.now.next.items c.requires.links c.args.left.now.items c.args.at c.in_ok-column.column
+    c.first_below-below.result (below end (before here).0) (before here).0))
     c.wait-2.ensures

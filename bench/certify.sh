@@ -1,0 +1,48 @@
+#!/usr/bin/env bash
+# Measures `certify` on texts whose suffixes tell hardly anything apart, so that all are tried. Half of the suffixes go on from the empty one, and
+# from each of these another does. With `same` no state accepts, so that the first suffix is the same at all states and nothing after it is tried;
+# with `apart` the last state does. DCVALID is the program; it tells the seconds of processor time and the most memory, in megabytes.
+#
+#   DCVALID=PROGRAM bench/certify.sh [SUFFIXES ..]
+#
+# Goals: memory for the text and its lines, and little for the columns. The last figures: 30 November 2026, an unproved build, with much else to do:
+#
+#     kind   suffixes       bytes   seconds megabytes
+#     same      18600     1791509       0.0       6.7
+#     same     900000    19687412       0.1      70.8
+#     same    5580000   121997414       0.4     418.4
+#    apart      18600     1791509       2.1      10.7
+#
+# Before, each suffix that a later one goes on from took 35 kB: 338 megabytes at 18,600 suffixes. The time of `apart` grows with states by suffixes.
+set -euo pipefail
+built=$(mktemp -d)
+trap 'rm -rf "$built"' EXIT
+
+# A text with so many states and suffixes, of this kind.
+text() {
+  awk -v kind="$1" -v half="$(($2 / 2))" -v states=32000 'BEGIN {
+    printf "automaton 1\nvariables p\nstates %d\n", states
+    for (i = 0; i < states; i++) {
+      last = i == states - 1
+      printf "state %d %s t%d\n", i, (last && kind == "apart") ? "accept" : "reject", last ? i : i + 1
+    }
+    print "access 0 empty\naccess 1 start 0"
+    for (i = 2; i < states; i++) printf "access %d %d 0\n", i, i - 1
+    print "suffix 0 empty"
+    for (i = 1; i <= half; i++) printf "suffix %d 0 0\n", i
+    for (i = 1; i <= half; i++) printf "suffix %d 0 %d\n", half + i, i
+    print "end"
+  }'
+}
+
+printf '%6s %10s %11s %9s %9s\n' kind suffixes bytes seconds megabytes
+for kind in same apart; do
+  for suffixes in "${@:-18600}"; do
+    text "$kind" "$suffixes" >"$built/text"
+    /usr/bin/time -f '%U %M' -o "$built/used" "$DCVALID" certify "$built/text" >/dev/null || true
+    # `time` writes a line before this one where the status is not 0.
+    read -r seconds memory < <(tail -n 1 "$built/used")
+    awk -v k="$kind" -v n="$suffixes" -v b="$(wc -c <"$built/text")" -v s="$seconds" -v m="$memory" \
+      'BEGIN { printf "%6s %10d %11d %9.1f %9.1f\n", k, n, b, s, m / 1024 }'
+  done
+done
