@@ -1,6 +1,5 @@
 use Rattle.std.proofs.Common.{subst}
 use Rattle.dcv_core.specs.Steps.{steps_of}
-use Rattle.dcv_build.specs.declared.faults.BuildFault.{BuildFault}
 use Rattle.dcv_cli.specs.Budget.{IsAtSomeStep, IsFaultOver}
 use Rattle.dcv_cli.specs.declared.budget_line.Excess.TheVariants.{States, Nodes}
 use Rattle.dcv_cli.proofs.Budgets.{first_over}

@@ -1,11 +1,7 @@
 use Rattle.std.proofs.Common.{ap, ◌∙◌}
 use Rattle.std.proofs.lemmas.Result.{err_from_is_err_and}
-use Rattle.dcv_language.specs.VerdictText.{verdict_text}
 use Rattle.dcv_language.specs.declared.kind.Kind.TheVariants.{Check}
-use Rattle.dcv_print.specs.Verdict.{seen_verdict}
 use Rattle.dcv_cli.specs.Status.{status_of_verdict}
-use Rattle.dcv_cli.specs.declared.refusal.Refusal.TheVariants.{Memory}
-use Rattle.dcv_cli.proofs.Outcomes.{answer_of_verdict}
 use Rattle.dcv_cli.proofs.TextReports.{reports_refused, sent_verdict, failed_verdict}
 use Rattle.dcv_cli.proofs.reporting.check.Goals as goal
 
