@@ -12,6 +12,7 @@
 #     same     900000    19687412       0.1      70.8
 #     same    5580000   121997414       0.4     418.4
 #    apart      18600     1791509       2.1      10.7
+#    apart     900000    19687412     116.3      71.1
 #
 # Before, each suffix that a later one goes on from took 35 kB: 338 megabytes at 18,600 suffixes. The time of `apart` grows with states by suffixes.
 set -euo pipefail
