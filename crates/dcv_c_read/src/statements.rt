@@ -9,7 +9,7 @@ ghost use Rattle.dcv_c.specs.Tree.{CUnit as PlainUnit};
 ghost use Rattle.dcv_c.specs.Placed.{item_at, condition_of, test_of, right_of, statement_of, returned_of, PlacedAssign};
 ghost use Rattle.dcv_c.specs.Words.{IsItemWord, IsNumberOrNone, AreWordsOfTest, AreWordsOfRight, AreWordsOfStatement, AreWordsOfReturned};
 ghost use Rattle.dcv_c.specs.Seen.{seen_item, seen_right as right_seen, seen_statement as statement_seen, seen_returned as returned_seen};
-ghost use Rattle.dcv_c.specs.Rules.{keeps_item, keeps_condition, keeps_right, keeps_left, keeps_statement, keeps_statements, keeps_returned};
+ghost use Rattle.dcv_c.specs.Rules.{keeps_item, keeps_condition, keeps_right, keeps_statement, keeps_statements, keeps_returned};
 ghost use Rattle.dcv_c.specs.Rules.{known_after, words_of_right, words_of_statement, words_of_returned};
 ghost use Rattle.dcv_c_read.specs.Seen.{seen_test, seen_right, seen_when, seen_statement, seen_returned};
 ghost use Rattle.dcv_c_read.specs.Scope.{Frame, with_known, Knows, KnowsMore, IsNamed};

@@ -71,7 +71,6 @@ fn class_within(lexicon: &Lexicon, bytes: &[u8], class: u8) -> u8
 }
 
 impl<'a> Items<'a> {
-    ghost use Rattle.std.specs.Prelude.{[]};
     ghost use Rattle.dcv_observer.specs.Items.{HasItems};
     ghost use Rattle.dcv_observer.specs.Left.{left, GivesItem};
 
