@@ -13,8 +13,7 @@
 use Rattle.std.specs.Prelude.{ℕ, List, [], ◌∷◌, if◌then◌else◌, ◌==◌, codes}
 use Rattle.std.specs.Str.Parse.{digits_value, without_leading_plus}
 use Rattle.clap.specs.Words.{Text}
-use Rattle.dcv_language.specs.Limits.{most_states, most_nodes}
-use Rattle.dcv_command.specs.declared.program.TheConstants.{MOST_VERSION, MOST_INPUTS, MOST_SEED, MOST_COUNT}
+use Rattle.dcv_language.specs.Limits.{most_variables, most_states, most_nodes}
 use Rattle.dcv_explore.specs.declared.explorer.Limits.{Limits}
 use Rattle.dcv_language.specs.declared.kind.Kind.{Kind}
 use Rattle.dcv_language.specs.declared.kind.Kind.TheVariants.{Check, Automaton, Lustre, C, All}
@@ -42,16 +41,16 @@ pub data Request : Type 0 where
   Sweep : (seed count : ℕ) → Request
 
 abbrev pub most_version : ℕ
-most_version = MOST_VERSION
+most_version = 2
 
 abbrev pub most_inputs : ℕ
-most_inputs = MOST_INPUTS
+most_inputs = most_variables
 
 abbrev pub most_seed : ℕ
-most_seed = MOST_SEED
+most_seed = 2147483647
 
 abbrev pub most_count : ℕ
-most_count = MOST_COUNT
+most_count = 1000
 
 -- ---- arguments
 

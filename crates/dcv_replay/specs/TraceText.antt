@@ -10,7 +10,6 @@ use Rattle.std.specs.Prelude.{◌≡◌, ◌≢◌, ℕ, ◌+◌, ◌<◌, ◌�
 use Rattle.std.specs.List.{All}
 use Rattle.dcv_word.specs.Behaviour.{Word}
 use Rattle.dcv_word.specs.TraceLine.{line_feed, trace_line}
-use Rattle.dcv_replay.specs.declared.lines.TheConstants.{MOST_LINES}
 
 -- each letter has so many variables
 abbrev pub AreWide : ℕ → Word → Type 0
@@ -22,7 +21,7 @@ carriage_return = 13
 
 -- a trace has at most this many lines
 abbrev pub most_lines : ℕ
-most_lines = MOST_LINES
+most_lines = 1000000
 
 -- a line ends so, if this follows it
 abbrev pub IsLineEnd : List ℕ → List ℕ → Type 0

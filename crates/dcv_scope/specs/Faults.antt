@@ -6,7 +6,6 @@
 use Rattle.std.specs.Prelude.{ℕ, ◌+◌, Option, None, Some, nat_le, if◌then◌else◌, length}
 use Rattle.std.specs.Option.{option_or, option_map}
 use Rattle.dcv_syntax.specs.Plain.{PlainFile}
-use Rattle.dcv_scope.specs.declared.faults.TheConstants.{MOST_NODES, MOST_DEPTH, MOST_SLOTS}
 use Rattle.dcv_scope.specs.declared.faults.ScopeFault.{ScopeFault}
 use Rattle.dcv_scope.specs.declared.faults.ScopeFault.TheVariants.{Size, Depth, Slots, BoundShift}
 use Rattle.dcv_scope.specs.Names.{fault_of_names}
@@ -16,13 +15,13 @@ use Rattle.dcv_tracks.specs.Shifting.{bound_shift}
 
 -- how many nodes a goal may have, how many of them one below another, and how many slots
 abbrev pub most_nodes : ℕ
-most_nodes = MOST_NODES
+most_nodes = 65536
 
 abbrev pub most_depth : ℕ
-most_depth = MOST_DEPTH
+most_depth = 512
 
 abbrev pub most_slots : ℕ
-most_slots = MOST_SLOTS
+most_slots = 32
 
 -- the fault, where the number is above the most
 abbrev pub above : ℕ → ℕ → ScopeFault → Option ScopeFault

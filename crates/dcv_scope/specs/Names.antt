@@ -13,7 +13,6 @@ use Rattle.dcv_syntax.specs.Plain.{FormulaSlen, FormulaCounted, FormulaCall, For
 use Rattle.dcv_syntax.specs.Plain.{PlainFormulaOperands, no_formula_operands, formula_operand, arguments_of, PlainMacroBody, FormulaBody, PropBody, PlainMacro, PlainFile}
 use Rattle.dcv_language.specs.Limits.{most_variables}
 use Rattle.dcv_logic.specs.Environment.{found}
-use Rattle.dcv_scope.specs.declared.faults.TheConstants.{MOST_PARAMETERS, MOST_MACROS}
 use Rattle.dcv_scope.specs.declared.faults.ScopeFault.{ScopeFault}
 use Rattle.dcv_scope.specs.declared.faults.ScopeFault.TheVariants.{TooMany, Duplicate, Taken, Unknown, Kind, Arity}
 
@@ -89,8 +88,8 @@ occurs name role sight = record { name = name; role = role; sight = sight }
 -- the 17th variable, the 9th parameter of a macro, the 257th macro
 abbrev pub is_one_too_many : Role → InSight → Bool
 is_one_too_many (Declared before) sight = nat_le most_variables (length before)
-is_one_too_many (Parameter before) sight = nat_le MOST_PARAMETERS (length before)
-is_one_too_many Defined sight = nat_le MOST_MACROS (length sight.macros)
+is_one_too_many (Parameter before) sight = nat_le 8 (length before)
+is_one_too_many Defined sight = nat_le 256 (length sight.macros)
 is_one_too_many Quantified sight = false
 is_one_too_many (AtFormula arguments) sight = false
 is_one_too_many (AtProposition arguments) sight = false
