@@ -9,9 +9,9 @@ import sys
 from commands import ASK, PROGRAM, options_of
 
 STATUSES = (
-    ("0", "The formula holds of every behaviour; the automaton is shown to be minimal; the first formula implies the second; there is a controller; "
+    ("0", "The formula holds of every behaviour; the automaton is shown to be minimal; the first formula implies the second; nothing gets stuck; there is a controller; "
           "the text was converted; the trace was read to its end; the drawn formulas are counted."),
-    ("1", "Some behaviour breaks the formula; the automaton is not shown to be minimal; the first formula does not imply the second; there is no controller."),
+    ("1", "Some behaviour breaks the formula; the automaton is not shown to be minimal; the first formula does not imply the second; some behaviour gets stuck; there is no controller."),
     ("2", "The words are no command, or ask for help."),
     ("3", "A file holds no formula. The line on standard error names the first fault and its offset in bytes."),
     ("4", "A step of a formula, or the product of two automata, is over the limits."),
