@@ -1,7 +1,7 @@
 #!/usr/bin/env python3
 """Refuses each growth of memory in turn, once and from there on, and each open, read and write once, over every command. By hand, some minutes:
 
-    tests/growth.py [PROGRAM]
+    tests/growth.py [PROGRAM [COMMAND]]      COMMAND alone, if it is given
 
 A run with a growth refused has its answer, or status 7 with nothing on the output and the beginning of `fault memory` on the messages. One with an open or a
 read that failed has status 5, with nothing on the output but answers of a replay; one with a write that failed has status 6 and the beginning of its
@@ -26,6 +26,7 @@ FILES = {
     "response.dc": RESPONSE,
     "large.dc": MACROS,
     "nested.dc": "infer " + 262138 * "!",
+    "stuck.dc": "var p; infer slen <= 2;",
     "fault.dc": "var p; infer [[q]];",
     "capture.dc": "var q; define F(a) as (ex q. [[q <=> a]]); infer F(!q);",
     "trace": "00\n10\n11\n",
@@ -44,7 +45,7 @@ COMMANDS = [
     ["replay-c", "names.c", "trace"], ["implies", "each.dc", "edge.dc"], ["implies", "edge.dc", "edge.dc"], ["synth", "response.dc", "--inputs", "1"],
     ["sweep", "7", "3"], ["sweep", "0", "1"], ["check", "capture.dc"], ["all", "each.dc"], ["implies", "each.dc", "fault.dc"],
     *([f"replay-{kind}", f"each.{end}", trace] for kind, end in (("lustre", "lus"), ("c", "c")) for trace in ("one.trace", "bad.trace", "no.trace")),
-    ["--help"], ["check"],
+    ["stuck", "each.dc"], ["stuck", "stuck.dc"], ["stuck", "fault.dc"], ["--help"], ["check"],
 ]
 
 
@@ -82,7 +83,7 @@ def main():
                             (["lustre", "each.dc"], "each.lus"), (["c", "each.dc"], "each.c")):
             with open(os.path.join(folder, name), "wb") as file:
                 file.write(run(words, folder, library)[1])
-        for words in COMMANDS:
+        for words in COMMANDS if len(sys.argv) < 3 else [words for words in COMMANDS if words[0] == sys.argv[2]]:
             counts = os.path.join(folder, "counts")
             plain = run(words, folder, library, counts=counts)
             numbers = dict(zip(("growth", "open", "read", "write"), map(int, open(counts).read().split())))

@@ -23,7 +23,7 @@ row() {
   run "$status" "$line" check "$name"
   case $status in
     0 | 1) run "$status" 'automaton 2' automaton "$name" ;;
-    *) run "$status" "$line" automaton "$name" ;;
+    *) run "$status" "$line" automaton "$name" && run "$status" "$line" stuck "$name" ;;
   esac
   rows=$((rows + 1))
 }
