@@ -7,7 +7,6 @@
 use Rattle.std.specs.Prelude.{◌≡◌, ℕ, Bool, List, length, map}
 use Rattle.dcv_arena.specs.Arena.{ArenaValue, IsArena, IsRef, value_of}
 use Rattle.dcv_arena.specs.declared.nodes.Ref.{Ref}
-use Rattle.dcv_renumber.specs.Renumbered.{HoldsNew}
 use Rattle.dcv_dfa.specs.Raw.{RawValue, IsRaw, next_in}
 use Rattle.dcv_refinement.specs.Members.{block_of}
 use Rattle.dcv_minimise.specs.Rounds.{IsState}
@@ -15,16 +14,15 @@ use Rattle.dcv_minimise.specs.declared.refine.keys.Keyed.{Keyed}
 use Rattle.dcv_minimise.specs.declared.refine.keys.Keys.{Keys}
 
 abbrev pub blocks_in : Keys → List ℕ
-blocks_in keys = keys.remapping.numbers
+blocks_in keys = keys.renumbering.numbers
 
 pub record IsKeys (raw : RawValue) (blocks : List ℕ) (keys : Keys) : Type 0 where
   pub is_raw : IsRaw raw
   pub each : length blocks ≡ length raw.rows
-  pub from : keys.remapping.from ≡ raw.arena
+  pub from : keys.renumbering.from ≡ raw.arena
   pub by : blocks_in keys ≡ blocks
-  pub holds : HoldsNew keys.remapping keys.scratch
-  pub slots : keys.scratch.slots ≡ raw.arena.slots
-  pub arena : IsArena keys.scratch
+  pub slots : keys.renumbering.own.slots ≡ raw.arena.slots
+  pub arena : IsArena keys.renumbering.own
 
 pub record IsKeyOf (raw : RawValue) (blocks : List ℕ) (scratch : ArenaValue) (state : ℕ) (key : Ref) : Type 0 where
   pub is_ref : IsRef scratch key

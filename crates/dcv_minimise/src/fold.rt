@@ -16,7 +16,7 @@ use crate::refine::keys::Keys;
 use dcv_arena::{Arena, Ref};
 use dcv_dfa::{Auto, Raw};
 use dcv_reach::{Found, Reached};
-use dcv_renumber::{Places, Remapping};
+use dcv_renumber::{Places, Renumbering};
 use dcv_word::Letter;
 use std::alloc::{AllocError, Global};
 
@@ -179,18 +179,18 @@ fn rows_of(alloc: Global, raw: &Raw, states: &[u32], numbers: &[u32]) -> Result<
     ensures count { IfOk result (λ new. length new.rows.items ≡ length states.now) }
     ensures raw { IsRaw raw.now }
 {
-    let mut arena = Arena::new(alloc, raw.slots(), u32::MAX);
-    let mut remapping = Remapping::new(alloc, raw.arena(), numbers);
+    // for the prover: of an automaton that was asked it is known what is true of every one.
+    let _ = raw.slots();
+    let mut new = Renumbering::new(alloc, Places::new(alloc), raw.arena(), numbers);
     let mut rows = Vec::with_capacity(alloc, states.len())?;
     for state in states {
-        let old = raw.row(*state);
-        match remapping.remap(&mut arena, old) {
-            Ok(new) => rows.push(new)?,
-            // The limit is the largest there is, so an arena that is full is as good as one without memory.
-            Err(_) => return Err(AllocError),
-        }
+        let row = new.renumber(raw.row(*state))?;
+        rows.push(row)?;
     }
-    Ok(Rows { arena, rows })
+    Ok(Rows {
+        arena: new.into_arena(),
+        rows,
+    })
 }
 
 // The block to which a letter leads from a state.

@@ -1,2 +1,3 @@
 mod NewNumbers
+mod OwnNodes
 mod PlaceFacts

@@ -9,11 +9,16 @@
 //! let same = remapping.remap(&mut arena, root)?;
 //! // and by another list, in the memory of the first
 //! let mut next = Remapping::over(remapping.into_places(), &from, &[1, 1, 0]);
+//! // and into an arena of their own, which is never full
+//! let mut renumbering = Renumbering::new(alloc, Places::new(alloc), &from, &[7, 5, 4]);
+//! let alone = renumbering.renumber(root)?;
 //! ```
 #![tactic(auto)]
 
+mod own;
 mod places;
 mod renumbering;
 
+pub use own::Renumbering;
 pub use places::Places;
 pub use renumbering::{Remapping, remap};

@@ -6,7 +6,7 @@ ghost use Rattle.dcv_stuck.specs.Sink.{number_in, numbers_of, HasRows, LeadTo, I
 
 use dcv_arena::{Arena, Ref};
 use dcv_dfa::Raw;
-use dcv_renumber::Remapping;
+use dcv_renumber::{Places, Renumbering};
 use std::alloc::{AllocError, Global};
 
 // Rows with their arena.
@@ -65,18 +65,18 @@ fn rows_of(alloc: Global, raw: &Raw, numbers: &[u32]) -> Result<Rows, AllocError
     ensures rows { IfOk result (λ new. HasRows raw.now new.arena new.rows.items) }
     ensures count { IfOk result (λ new. length new.rows.items ≡ length raw.now.rows) }
 {
-    let mut arena = Arena::new(alloc, raw.slots(), u32::MAX);
-    let mut remapping = Remapping::new(alloc, raw.arena(), numbers);
+    // for the prover: of an automaton that was asked it is known what is true of every one.
+    let _ = raw.slots();
+    let mut new = Renumbering::new(alloc, Places::new(alloc), raw.arena(), numbers);
     let mut rows = Vec::new(alloc);
     for state in 0..raw.states() {
-        let old = raw.row(state);
-        match remapping.remap(&mut arena, old) {
-            Ok(new) => rows.push(new)?,
-            // The limit is the largest there is, so an arena that is full is as good as one without memory.
-            Err(_) => return Err(AllocError),
-        }
+        let row = new.renumber(raw.row(state))?;
+        rows.push(row)?;
     }
-    Ok(Rows { arena, rows })
+    Ok(Rows {
+        arena: new.into_arena(),
+        rows,
+    })
 }
 
 // For each of these rows whether it is the sink's.

@@ -77,7 +77,7 @@ fn settle_all(
 ) -> Result<(Vec<Move>, Places), AllocError>
     requires witnessed { IsWitnessed raw.now blocks.now witness.old.items }
     requires keys { IsKeys raw.now blocks.now keys }
-    requires listed { All (IsKeyed raw.now blocks.now keys.scratch) listed.now }
+    requires listed { All (IsKeyed raw.now blocks.now keys.renumbering.own) listed.now }
     ensures { IfOk result (λ divided. IsDivision raw.now blocks.now witness.old.items witness.new.items (states_in listed.now) divided.0.items) }
 {
     let mut division = Division {
@@ -101,12 +101,12 @@ impl Division<'_> {
         witness: &mut Vec<u32>,
         keyed: Keyed,
     ) -> Result<(), AllocError>
-        requires keyed { IsKeyed raw.now blocks.now self.old.keys.scratch keyed }
+        requires keyed { IsKeyed raw.now blocks.now self.old.keys.renumbering.own keyed }
         requires keys { IsKeys raw.now blocks.now self.old.keys }
-        requires dividing { IsDividing raw.now blocks.now self.old.count self.old.keys.scratch witness.old.items self.old.parts.keys self.old.moves.items }
+        requires dividing { IsDividing raw.now blocks.now self.old.count self.old.keys.renumbering.own witness.old.items self.old.parts.keys self.old.moves.items }
         ensures keys { IsKeys raw.now blocks.now self.new.keys }
-        ensures refs { KeepsRefs self.old.keys.scratch self.new.keys.scratch }
-        ensures dividing { OnOk result (IsDividing raw.now blocks.now self.old.count self.new.keys.scratch witness.new.items self.new.parts.keys self.new.moves.items) }
+        ensures refs { KeepsRefs self.old.keys.renumbering.own self.new.keys.renumbering.own }
+        ensures dividing { OnOk result (IsDividing raw.now blocks.now self.old.count self.new.keys.renumbering.own witness.new.items self.new.parts.keys self.new.moves.items) }
         ensures settled { OnOk result (IsSettled raw.now blocks.now witness.new.items self.new.moves.items keyed.state) }
         ensures count { self.new.count ≡ self.old.count }
 

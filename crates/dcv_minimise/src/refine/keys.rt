@@ -5,9 +5,9 @@ ghost use Rattle.dcv_arena.specs.Arena.{KeepsRefs};
 ghost use Rattle.dcv_minimise.specs.Rounds.{IsState};
 ghost use Rattle.dcv_minimise.specs.Keys.{IsKeys, IsKeyOf, IsKeyed, blocks_in, states_in};
 
-use dcv_arena::{Arena, Ref};
+use dcv_arena::Ref;
 use dcv_dfa::Raw;
-use dcv_renumber::{Places, Remapping};
+use dcv_renumber::{Places, Renumbering};
 use std::alloc::{AllocError, Global};
 
 // A state beside its key.
@@ -23,9 +23,7 @@ pub(crate) struct Keyed {
 #[derive(Drop)]
 pub(crate) struct Keys<'a> {
     // from the rows' arena, by the blocks of the states
-    pub(crate) remapping: Remapping<'a>,
-    // the nodes of the keys
-    pub(crate) scratch: Arena,
+    pub(crate) renumbering: Renumbering<'a>,
 }
 
 impl<'a> Keys<'a> {
@@ -34,10 +32,8 @@ impl<'a> Keys<'a> {
         requires { length blocks.now ≡ length raw.now.rows }
         ensures { IsKeys raw.now blocks.now result }
     {
-        let arena = raw.arena();
         Keys {
-            remapping: Remapping::over(places, arena, blocks),
-            scratch: Arena::new(alloc, arena.slots(), u32::MAX),
+            renumbering: Renumbering::new(alloc, places, raw.arena(), blocks),
         }
     }
 }
@@ -45,24 +41,20 @@ impl<'a> Keys<'a> {
 impl Keys<'_> {
     // What is kept of places, for the keys of the next round.
     pub(crate) fn into_places(self) -> Places
-        ensures { result ≡ self.entry.remapping.places }
+        ensures { result ≡ self.entry.renumbering.places }
     {
-        self.remapping.into_places()
+        self.renumbering.into_places()
     }
 
-    // The key of a state. An arena that holds as many nodes as there are numbers counts as memory that has run out.
+    // The key of a state.
     pub(crate) fn of(&mut self, raw: &Raw, state: u32) -> Result<Ref, AllocError>
         requires state { state < length raw.now.rows }
         requires keys { IsKeys raw.now (blocks_in self.old) self.old }
-        ensures key { (blocks : List ℕ) → IsKeys raw.now blocks self.old → IfOk result (IsKeyOf raw.now blocks self.new.scratch state) }
-        ensures kept { KeepsRefs self.old.scratch self.new.scratch }
+        ensures key { (blocks : List ℕ) → IsKeys raw.now blocks self.old → IfOk result (IsKeyOf raw.now blocks self.new.renumbering.own state) }
+        ensures kept { KeepsRefs self.old.renumbering.own self.new.renumbering.own }
         ensures keys { (blocks : List ℕ) → IsKeys raw.now blocks self.old → IsKeys raw.now blocks self.new }
     {
-        let row = raw.row(state);
-        match self.remapping.remap(&mut self.scratch, row) {
-            Ok(key) => Ok(key),
-            Err(_) => Err(AllocError),
-        }
+        self.renumbering.renumber(raw.row(state))
     }
 
     // These states, each beside its key.
@@ -75,7 +67,7 @@ impl Keys<'_> {
         requires states { All (IsState raw.now) states.now }
         requires keys { IsKeys raw.now (blocks_in self.old) self.old }
         ensures states { IfOk result (λ keyed. states_in keyed.items ≡ states.now) }
-        ensures keyed { IfOk result (λ keyed. All (IsKeyed raw.now (blocks_in self.old) self.new.scratch) keyed.items) }
+        ensures keyed { IfOk result (λ keyed. All (IsKeyed raw.now (blocks_in self.old) self.new.renumbering.own) keyed.items) }
         ensures keys { IsKeys raw.now (blocks_in self.old) self.new }
     {
         let mut keyed = Vec::new(alloc);

@@ -34,8 +34,8 @@ of-requires-in-loop-place-clause-state c =
     subst (All (λ state. state < length raw.rows)) (sym (take_rest states 1)) (behind (λ state. state < length raw.rows) states c.requires.states)
     c.loop-place.place 0 c.loop-place-test.true
 
-own_key : (c : In_ok-key) → IsKeyOf c.args.raw.now c.args.blocks.now c.of-in-loop-place.new.self.scratch (get_or c.args.states.now 0 0) c.in_ok-own.own
-own_key c = key_kept c.args.raw.now c.args.blocks.now c.loop-place.keys.scratch c.of-in-loop-place.new.self.scratch (get_or c.args.states.now 0 0) c.in_ok-own.own
+own_key : (c : In_ok-key) → IsKeyOf c.args.raw.now c.args.blocks.now c.of-in-loop-place.new.self.renumbering.own (get_or c.args.states.now 0 0) c.in_ok-own.own
+own_key c = key_kept c.args.raw.now c.args.blocks.now c.loop-place.keys.renumbering.own c.of-in-loop-place.new.self.renumbering.own (get_or c.args.states.now 0 0) c.in_ok-own.own
     c.of-in-loop-place.ensures.kept c.loop-place.invariant.own
 
 pub returns-then-eq : goal.returns-then-eq
@@ -47,7 +47,7 @@ returns-then-eq c =
     let place = c.loop-place.place in
     let rest = take (length states - 1) (drop 1 states) in
     let is_rest : rest ≡ drop 1 states = take_rest states 1 in
-    let scratch = c.of-in-loop-place.new.self.scratch in
+    let scratch = c.of-in-loop-place.new.self.renumbering.own in
     let same : c.in_ok-key.key ≡ c.in_ok-own.own = (same_refs c.in_ok-key.key c.in_ok-own.own).0 (sym c.eq.ensures ∙ c.if-eq.true) in
     let other : IsKeyOf raw blocks scratch (get_or rest place 0) c.in_ok-own.own =
     subst (IsKeyOf raw blocks scratch (get_or rest place 0)) same (c.in_ok-key.ensures.key blocks c.loop-place.invariant.keys) in
@@ -66,7 +66,7 @@ loop-place-preserved c =
     let start = get_or states 0 0 in
     let place = c.loop-place.place in
     let rest = take (length states - 1) (drop 1 states) in
-    let scratch = c.of-in-loop-place.new.self.scratch in
+    let scratch = c.of-in-loop-place.new.self.renumbering.own in
     let was = c.loop-place.invariant in
     let keys = c.in_ok-key.ensures.keys blocks was.keys in
     let own = own_key (goal.at.loop-place-preserved c).In_ok-key in

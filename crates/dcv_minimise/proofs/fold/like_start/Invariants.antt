@@ -8,6 +8,6 @@ use Rattle.dcv_minimise.proofs.fold.like_start.Given as goal
 abbrev pub invariant-loop-place : goal.invariant-loop-place
 invariant-loop-place l = record {
   keys : IsKeys l.raw l.blocks l.keys;
-  own : IsKeyOf l.raw l.blocks l.keys.scratch l.start l.own;
+  own : IsKeyOf l.raw l.blocks l.keys.renumbering.own l.start l.own;
   earlier : All (λ first. ¬ HaveSameRow l.raw l.blocks l.start first) (take l.place l.state-items);
 }

@@ -16,7 +16,7 @@ loop-keyed-init c =
     record {
       keys = c.requires.keys;
       keyed = c.requires.listed;
-      dividing = dividing_start raw c.args.blocks.now witness.items c.args.keys.scratch c.new.result.keys c.new-2.result.items c.requires.witnessed c.new.ensures.empty c.new-2.ensures.items;
+      dividing = dividing_start raw c.args.blocks.now witness.items c.args.keys.renumbering.own c.new.result.keys c.new-2.result.items c.requires.witnessed c.new.ensures.empty c.new-2.ensures.items;
       settled = All-nil (IsSettled raw c.args.blocks.now witness.items c.new-2.result.items);
       firsts = λ block within. refl;
       count = c.len.ensures ∙ witness.ok.0;
@@ -31,13 +31,13 @@ loop-keyed-preserved c =
     let listed = c.args.listed.now in
     record {
       keys = all.keys;
-      keyed = All-weaker (IsKeyed raw c.args.blocks.now c.loop-keyed.division.keys.scratch) (IsKeyed raw c.args.blocks.now c.settle.new.self.keys.scratch)
-          (λ keyed is. record { is_state = is.is_state; is_key = key_kept raw c.args.blocks.now c.loop-keyed.division.keys.scratch c.settle.new.self.keys.scratch keyed.state keyed.key all.refs is.is_key })
+      keyed = All-weaker (IsKeyed raw c.args.blocks.now c.loop-keyed.division.keys.renumbering.own) (IsKeyed raw c.args.blocks.now c.settle.new.self.keys.renumbering.own)
+          (λ keyed is. record { is_state = is.is_state; is_key = key_kept raw c.args.blocks.now c.loop-keyed.division.keys.renumbering.own c.settle.new.self.keys.renumbering.own keyed.state keyed.key all.refs is.is_key })
           c.args.listed.now was.keyed;
-      dividing = subst (λ count. IsDividing raw c.args.blocks.now count c.settle.new.self.keys.scratch c.settle.new.witness.items c.settle.new.self.parts.keys c.settle.new.self.moves.items) count all.dividing;
+      dividing = subst (λ count. IsDividing raw c.args.blocks.now count c.settle.new.self.keys.renumbering.own c.settle.new.witness.items c.settle.new.self.parts.keys c.settle.new.self.moves.items) count all.dividing;
       settled = settled_more raw c.args.blocks.now c.loop-keyed.witness.items c.settle.new.witness.items c.loop-keyed.division.moves.items c.settle.new.self.moves.items
           (states_in listed) c.loop-keyed.keyed-index (omega (arith, c.loop-keyed-test.true, length-map listed (λ (keyed : Keyed). keyed.state)))
-          (all_states raw c.args.blocks.now c.args.keys.scratch listed c.requires.listed) was.settled all.kept
+          (all_states raw c.args.blocks.now c.args.keys.renumbering.own listed c.requires.listed) was.settled all.kept
           (subst (IsSettled raw c.args.blocks.now c.settle.new.witness.items c.settle.new.self.moves.items) (this_state listed c.loop-keyed.keyed-index _ c.loop-keyed-test.true) all.settled);
       firsts = λ block within. all.firsts block (omega (arith, count, within)) ∙ was.firsts block within;
       count = all.count ∙ count;

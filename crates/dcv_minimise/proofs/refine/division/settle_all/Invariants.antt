@@ -8,8 +8,8 @@ use Rattle.dcv_minimise.proofs.refine.division.settle_all.Given as goal
 abbrev pub invariant-loop-keyed : goal.invariant-loop-keyed
 invariant-loop-keyed l = record {
   keys : IsKeys l.raw l.blocks l.division.keys;
-  keyed : All (IsKeyed l.raw l.blocks l.division.keys.scratch) l.listed;
-  dividing : IsDividing l.raw l.blocks (length l.fn.witness.items) l.division.keys.scratch l.witness.items l.division.parts.keys l.division.moves.items;
+  keyed : All (IsKeyed l.raw l.blocks l.division.keys.renumbering.own) l.listed;
+  dividing : IsDividing l.raw l.blocks (length l.fn.witness.items) l.division.keys.renumbering.own l.witness.items l.division.parts.keys l.division.moves.items;
   settled : All (IsSettled l.raw l.blocks l.witness.items l.division.moves.items) (take l.keyed-index (states_in l.listed));
   firsts : (block : ℕ) → block < length l.fn.witness.items → get_or l.witness.items block 0 ≡ get_or l.fn.witness.items block 0;
   count : l.division.count ≡ length l.fn.witness.items;

@@ -7,5 +7,5 @@ abbrev pub invariant-loop-state : goal.invariant-loop-state
 invariant-loop-state l = record {
   keys : IsKeys l.raw (blocks_in l.fn.self) l.self;
   states : states_in l.keyed.items ≡ take l.state-index l.states;
-  keyed : All (IsKeyed l.raw (blocks_in l.fn.self) l.self.scratch) l.keyed.items;
+  keyed : All (IsKeyed l.raw (blocks_in l.fn.self) l.self.renumbering.own) l.keyed.items;
 }
