@@ -42,13 +42,15 @@ def piece(line):
 
 
 def read(lines):
-    """The words, the status, and the texts by their names, each a list of bytes with a gap between every two."""
-    words, status, texts, current = None, None, {}, None
+    """The words, the status, the texts by their names, each a list of bytes with a gap between every two, and the words whose report is the second file."""
+    words, status, texts, current, before = None, None, {}, None, None
     for line in lines:
         if line.startswith("$") and words is None:
             words = line[1:].split()
         elif line == "real":
             pass
+        elif line.startswith("g from ") and before is None:
+            before = line[7:].split()
         elif line.startswith("status ") and status is None:
             status = int(line[7:])
         elif line in TEXTS and line not in texts:
@@ -61,7 +63,7 @@ def read(lines):
             raise ValueError
     if words is None or status is None:
         raise ValueError
-    return words, status, texts
+    return words, status, texts, before
 
 
 def fits(wanted, came):
@@ -72,7 +74,7 @@ def fits(wanted, came):
 
 def holds(lines):
     try:
-        words, status, texts = read(lines)
+        words, status, texts, before = read(lines)
     except (ValueError, IndexError):
         return False, "malformed"
     with tempfile.TemporaryDirectory() as room:
@@ -80,6 +82,9 @@ def holds(lines):
             if name + ":" in texts:
                 open(f"{room}/{name}", "wb").write(texts[name + ":"][0])
         os.symlink(EXAMPLES, os.path.join(room, "examples"))
+        if before is not None:
+            with open(f"{room}/g", "wb") as made:
+                subprocess.run([PROGRAM, *before], cwd=room, stdout=made, stderr=subprocess.DEVNULL, stdin=subprocess.DEVNULL)
         ran = subprocess.run([PROGRAM, *words], cwd=room, capture_output=True, stdin=subprocess.DEVNULL)
     held = ran.returncode == status and fits(texts.get("out:", [b""]), ran.stdout) and fits(texts.get("err:", [b""]), ran.stderr)
     return held, f"{ran.returncode} {ran.stdout} {ran.stderr}"

@@ -49,7 +49,20 @@ pub(crate) fn run_on_system(
 ) -> Result<Outcome, Fault> {
     put(rt, "f", &row.first)?;
     put(rt, "g", &row.second)?;
-    let mut out = RealOut::of(fs::create(rt, "out")?);
+    if let Some(before) = &row.before {
+        run_into(rt, before, "g")?;
+    }
+    let status = run_into(rt, arguments, "out")?;
+    Ok(Outcome {
+        status,
+        out: fs::read(rt, "out")?,
+        err: fs::read(rt, "err")?,
+    })
+}
+
+// Runs the program over files of the system, and answers its status. The report goes to the file of this name.
+fn run_into(rt: &HostRuntime, arguments: &[String], report: &str) -> Result<u8, Fault> {
+    let mut out = RealOut::of(fs::create(rt, report)?);
     let mut err = RealOut::of(fs::create(rt, "err")?);
     let code = program(
         rt.alloc(),
@@ -58,11 +71,7 @@ pub(crate) fn run_on_system(
         &mut out,
         &mut err,
     );
-    Ok(Outcome {
-        status: number_of(code),
-        out: fs::read(rt, "out")?,
-        err: fs::read(rt, "err")?,
-    })
+    Ok(number_of(code))
 }
 
 // Writes a file of the row under this name, or sees to it that there is none.

@@ -12,6 +12,8 @@ pub(crate) struct Row {
     pub(crate) title: String,
     /// The program's name and the words.
     pub(crate) arguments: Option<Vec<String>>,
+    /// The same of a run before it, whose report is the second file.
+    pub(crate) before: Option<Vec<String>>,
     /// Whether the run is over files of the system.
     pub(crate) is_real: bool,
     pub(crate) first: Option<Pattern>,
@@ -56,6 +58,7 @@ impl Row {
             alloc,
             title: String::from_str(alloc, title)?,
             arguments: None,
+            before: None,
             is_real: false,
             first: None,
             second: None,
@@ -70,7 +73,11 @@ impl Row {
     /// Adds a line. The first line that is not of this form is kept as such.
     pub(crate) fn add_line(&mut self, line: &str) -> Result<(), AllocError> {
         let added = if let Some(words) = line.strip_prefix('$') {
-            self.set_words(words)?
+            let arguments = self.arguments_of(words)?;
+            self.arguments.replace(arguments).is_none()
+        } else if let Some(words) = line.strip_prefix("g from ") {
+            let arguments = self.arguments_of(words)?;
+            self.before.replace(arguments).is_none()
         } else if line == "real" {
             !replace(&mut self.is_real, true)
         } else if let Some((name, digits)) = line.rsplit_once(' ')
@@ -95,14 +102,14 @@ impl Row {
         Ok(())
     }
 
-    // Sets the words, if there are none yet.
-    fn set_words(&mut self, line: &str) -> Result<bool, AllocError> {
+    // The program's name and these words.
+    fn arguments_of(&self, words: &str) -> Result<Vec<String>, AllocError> {
         let mut arguments = Vec::new(self.alloc);
         arguments.push(String::from_str(self.alloc, "dcvalid")?)?;
-        for word in line.split_whitespace() {
+        for word in words.split_whitespace() {
             arguments.push(String::from_str(self.alloc, word)?)?;
         }
-        Ok(self.arguments.replace(arguments).is_none())
+        Ok(arguments)
     }
 
     // Begins a text. It may begin once.

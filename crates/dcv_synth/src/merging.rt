@@ -1,6 +1,6 @@
 // A controller's diagrams over the inputs, made of the automaton's rows in one pass over the nodes, whose children stand before them: below the
 // inputs a node becomes the leaf of its least output's number or next state, and a node of an input is made again, of what its children became.
-ghost use Rattle.std.specs.Prelude.{◌≡◌, ◌-◌, ◌≤◌, ◌<◌, length, map, IfOk, OnOk, ℕ};
+ghost use Rattle.std.specs.Prelude.{◌≡◌, ◌+◌, ◌-◌, ◌≤◌, ◌<◌, [], length, map, IfOk, OnOk, ℕ};
 ghost use Rattle.std.specs.List.{All};
 ghost use Rattle.dcv_arena.specs.Arena.{IsArena, IsRef, KeepsRefs};
 ghost use Rattle.dcv_arena.specs.declared.nodes.Ref.TheVariants.{Place as AnyPlace, Leaf as AnyLeaf};
@@ -11,7 +11,7 @@ ghost use Rattle.dcv_synth.specs.Merged.{part_of, IsMerged, AreMerged, AreAllMer
 
 use crate::answers::{Answer, Answers};
 use crate::control::Rows;
-use dcv_arena::{Arena, Ref};
+use dcv_arena::{Arena, ArenaFault, Ref};
 use dcv_dfa::Auto;
 use std::alloc::{AllocError, Global};
 
@@ -93,13 +93,15 @@ fn row_by(auto: &Auto, answers: &Answers, part: Part, merged: &[Ref], state: u32
     merged_ref(answers, part, merged, auto.row(state))
 }
 
-// What the nodes became, in order.
+// What the nodes became, in order. Each has become one node at most, so there is room for all.
 fn merge(
     alloc: Global,
     arena: &mut Arena,
     answers: &Answers,
     part: Part,
 ) -> Result<Vec<Ref>, AllocError>
+    requires empty { arena.old.nodes ≡ [] }
+    requires room { length answers.now.arena.now.nodes ≤ arena.old.limit }
     requires inputs { arena.old.slots ≤ answers.now.arena.now.slots }
     requires answers { AreAllAnswers answers.now.arena.now answers.now.win.now answers.now.answers.items }
     ensures slots { arena.new.slots ≡ arena.old.slots }
@@ -124,10 +126,13 @@ fn merged_node(
     place: u32,
 ) -> Result<Ref, AllocError>
     requires place { place < length answers.now.arena.now.nodes }
+    requires few { length arena.old.nodes ≤ place }
+    requires room { length answers.now.arena.now.nodes ≤ arena.old.limit }
     requires inputs { arena.old.slots ≤ answers.now.arena.now.slots }
     requires before { length merged.now ≡ place }
     requires answers { AreAllAnswers answers.now.arena.now answers.now.win.now answers.now.answers.items }
     requires merged { AreMerged part (answers.now.arena.now.slots - arena.old.slots) answers.now.arena.now answers.now.win.now arena.old merged.now }
+    ensures few { length arena.new.nodes ≤ place + 1 }
     ensures kept { KeepsRefs arena.old arena.new }
     ensures merged { IfOk result (IsMerged part (answers.now.arena.now.slots - arena.old.slots) answers.now.arena.now answers.now.win.now
         arena.new (AnyPlace place)) }
@@ -142,8 +147,11 @@ fn merged_node(
     let hi = merged_ref(answers, part, merged, hi);
     match arena.node(slot, lo, hi) {
         Ok(node) => Ok(node),
-        // there is room for as many nodes as the automaton has, so only memory can be wanting.
-        Err(_) => Err(AllocError),
+        Err(fault) => match fault {
+            ArenaFault::Memory => Err(AllocError),
+            // each node before this one has become one node at most.
+            ArenaFault::Full { .. } => unreachable!(),
+        },
     }
 }
 

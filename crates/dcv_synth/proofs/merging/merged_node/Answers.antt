@@ -1,4 +1,4 @@
-use Rattle.std.proofs.Common.{◌≡◌, suc, ◌+◌, ◌-◌, ◌<◌, ◌≤◌, length, sym, ap, subst, ◌∙◌, refl, arith}
+use Rattle.std.proofs.Common.{◌≡◌, Err, suc, ◌+◌, ◌-◌, ◌<◌, ◌≤◌, length, sym, ap, subst, ◌∙◌, refl, arith}
 use Rattle.dcv_arena.specs.Arena.{IsBefore, level_of}
 use Rattle.dcv_arena.specs.declared.nodes.Ref.{Ref}
 use Rattle.dcv_arena.specs.declared.nodes.Ref.TheVariants.{Leaf, Place}
@@ -84,3 +84,9 @@ returns-in-Ok-clause-merged c =
     c.split-lo.result.0 c.split-lo.result.1 c.merged_ref-lo.result c.merged_ref-hi.result c.in-Ok.node
     (record { slot_is = c.level-slot.ensures.level; inner = deep; lo_level = split.lo_level deep; hi_level = split.hi_level deep; value = split.value })
     (omega (arith, inner here, kept.slots)) kept (lo_is here) (hi_is here) c.in-Ok.ensures.is_ref c.in-Ok.ensures.level c.in-Ok.ensures.value
+
+pub unreachable-requires : goal.unreachable-requires
+unreachable-requires c =
+    let full = (c.node.ensures.full c.in-Full.limit).0 (c.in-Err.is ∙ ap Err c.in-Full.is) in
+    let few = c.requires.few in
+    absurd (omega (arith, full.2, few, c.requires.room, c.requires.place))

@@ -1,6 +1,7 @@
 use Rattle.std.proofs.Common.{◌≡◌, ℕ, length, ◌-◌, ◌+◌, sym, ap, subst, ◌∙◌, arith}
 use Rattle.dcv_arena.specs.Arena.{ArenaValue}
 use Rattle.dcv_synth.specs.Merged.{AreMerged, AreAllMerged}
+use Rattle.dcv_arena.proofs.Counts.{count_exact}
 use Rattle.dcv_synth.proofs.Merges.{are_rows_refs, all_rows_merged}
 use Rattle.dcv_synth.proofs.merging.rows_of.Goals as goal
 use Rattle.dcv_synth.proofs.merging.rows_of.Goals.{In_ok-rows}
@@ -24,6 +25,14 @@ module _ (c : In_ok-rows) where
 
   places : length c.deref.result.now ≡ length old.nodes
   places = ap length c.deref.ensures.value ∙ c.in_ok-merged.ensures.count
+
+pub merge-requires-clause-room : goal.merge-requires-clause-room
+merge-requires-clause-room c =
+    let raw = c.states-states.ensures.raw in
+    let auto = c.args.auto.now in
+    let own = count_exact auto.arena raw.arena.reduced auto.rows raw.rows c.slots-slots.ensures.auto.nodes in
+    let same = ap (λ (arena : ArenaValue). length arena.nodes) c.requires.arena in
+    omega (arith, own, same, c.nodes.ensures, c.new-arena.ensures.limit)
 
 pub new-requires : goal.new-requires
 new-requires c = record {
