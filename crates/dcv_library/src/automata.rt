@@ -42,7 +42,10 @@ pub(crate) fn print_verdict(rt: &HostRuntime) -> Result<()> {
     let text = verdict_text(alloc, &auto)?;
     print!(rt; "{}", String::from_utf8_lossy(alloc, &text)?)?;
     if let Some(word) = shortest(alloc, &auto, false)? {
-        println!(rt; "least behaviour that breaks it: {} instants", word.letters().len())?;
+        println!(rt;
+            "least behaviour that breaks it: {} instants",
+            word.letters().len()
+        )?;
     }
     Ok(())
 }

@@ -14,6 +14,7 @@ use std::alloc::{AllocError, Global};
 
 // The largest automaton that has an observer.
 const MOST_STATES: u32 = 32_000;
+
 const MOST_NODES: u32 = 1_000_000;
 
 /// Prints the observer of a requirement in C, and whether its text is that of a unit.

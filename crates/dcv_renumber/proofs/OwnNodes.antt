@@ -1,9 +1,9 @@
 -- Functions with new numbers have no more nodes than the functions had, so an arena of their own has room for all of them.
-use Rattle.std.proofs.Common.{◌≡◌, ℕ, ◌<◌, ◌≤◌, Bool, List, [], ◌∷◌, ◌++◌, length, map, get_or, slice_get, Contains, zero, suc, inl, inr, refl, sym, ap, subst, ◌∙◌, arith}
+use Rattle.std.proofs.Common.{◌≡◌, ℕ, ◌≤◌, Bool, List, [], ◌∷◌, ◌++◌, length, map, get_or, Contains, zero, suc, inl, inr, refl, sym, ap, subst, ◌∙◌, arith}
 use Rattle.std.specs.List.{All, range_with_len}
 use Rattle.std.proofs.lemmas.List.Elements.{Contains-append_left, Contains-append_right, Contains-append_cases, All-cons, All-contains}
 use Rattle.std.proofs.lemmas.Option.{slice_get_within}
-use Rattle.dcv_arena.specs.Arena.{ArenaValue, IsArena, IsRef, value_of, table_of, places, diagram_nodes, KeepsRefs, AddsOnlyNodesOfFunction, count_with}
+use Rattle.dcv_arena.specs.Arena.{ArenaValue, IsArena, IsRef, value_of, table_of, places, KeepsRefs, AddsOnlyNodesOfFunction, count_with}
 use Rattle.dcv_arena.specs.Diagram.{as_table, nodes_of, nodes_of_all, node_count}
 use Rattle.dcv_arena.specs.declared.nodes.Ref.{Ref}
 use Rattle.dcv_arena.specs.declared.nodes.Ref.TheVariants.{Leaf, Place}

@@ -1,5 +1,5 @@
-use Rattle.std.proofs.Common.{◌≡◌, ◌≤◌, List, [], length, Contains, sym, subst, ◌∙◌, arith}
-use Rattle.dcv_arena.specs.Arena.{ArenaValue, IsArena}
+use Rattle.std.proofs.Common.{sym, subst, ◌∙◌}
+use Rattle.dcv_arena.specs.Arena.{IsArena}
 use Rattle.dcv_renumber.proofs.OwnNodes.{no_more_yet}
 use Rattle.dcv_renumber.proofs.own.Renumbering.new.Goals as goal
 

@@ -1,4 +1,4 @@
-use Rattle.std.proofs.Common.{◌≡◌, Err, sym, ap, subst, ◌∙◌, arith}
+use Rattle.std.proofs.Common.{Err, sym, ap, subst, ◌∙◌, arith}
 use Rattle.std.specs.Prelude.{IfOk}
 use Rattle.dcv_arena.specs.Arena.{IsRef, AddsOnlyNodesOf}
 use Rattle.dcv_renumber.specs.Own.{RenumberingValue, seen_as}
