@@ -1,9 +1,9 @@
 #!/usr/bin/env python3
 """Copies proved libraries from other clones into this one, so that a check here does not prove them again. For developing, by hand:
 
-    tests/take_libraries.py CLONE ..
+    tests/take_libraries.py FROM ..
 
-Of each crate whose sources, definitions and proofs are the same there, down to the lowest, `out/rlib` is copied and stamped as `rt` does it. A clone in
+It copies into the clone in which the script stands: run there, a clone in which a gate runs would get libraries of another build, and the gate fails. Of each crate whose sources, definitions and proofs are the same there, down to the lowest, `out/rlib` is copied and stamped as `rt` does it. A clone in
 which a gate runs serves too. No verdict rests on these: `rt ci` proves all from nothing.
 """
 import os
