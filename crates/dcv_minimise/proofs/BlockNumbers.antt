@@ -1,9 +1,6 @@
 -- The numbers of blocks and of states, one after another.
-use Rattle.std.proofs.Common.{◌≡◌, ◌≢◌, ℕ, ◌+◌, ◌<◌, ◌≤◌, List, [], ◌∷◌, ◌++◌, length, get_or, set, AllPairs, ⊎_elim, ap, sym, ◌∙◌, subst, arith}
+use Rattle.std.proofs.Common.{◌≡◌, ℕ, ◌<◌, List, length, get_or, ap, ◌∙◌, arith}
 use Rattle.std.specs.List.{All}
-use Rattle.std.proofs.lemmas.Bool.{cases_eq}
-use Rattle.std.proofs.lemmas.List.{length-set, get_or-set_same, get_or-set_other}
-use Rattle.std.proofs.lemmas.List.Elements.{All-set}
 use Rattle.dcv_refinement.specs.Members.{block_of}
 use Rattle.dcv_minimise.specs.Classes.{block_at, AreBlockNumbers, AreNumbers}
 
@@ -12,22 +9,6 @@ pub record GiveNumbers (blocks kept : List ℕ) (count : ℕ) (numbers : List �
   pub beside : length numbers ≡ length blocks
   pub below : All (λ number. number < length kept) numbers
   pub each : (number : ℕ) → number < count → get_or numbers (block_at blocks kept number) 0 ≡ number
-
-module _ (blocks kept : List ℕ) where
-  pub one_given : AllPairs (λ first second. block_of blocks first ≢ block_of blocks second) kept → (count : ℕ) (numbers : List ℕ) → count < length kept
-      → block_at blocks kept count < length blocks → GiveNumbers blocks kept count numbers → GiveNumbers blocks kept (count + 1) (set numbers (block_at blocks kept count) count)
-  one_given apart count numbers within inside given =
-      let here : block_at blocks kept count < length numbers = omega (arith, given.beside) in
-      record {
-        beside = length-set numbers (block_at blocks kept count) count ∙ given.beside;
-        below = All-set (λ number. number < length kept) numbers (block_at blocks kept count) count within given.below;
-        each = λ number less. ⊎_elim
-            (λ same. subst (λ n. get_or (set numbers (block_at blocks kept count) count) (block_at blocks kept n) 0 ≡ n) (sym same)
-            (get_or-set_same numbers (block_at blocks kept count) count 0 here))
-            (λ differ. let earlier : number < count = omega arith in
-            get_or-set_other numbers (block_at blocks kept count) (block_at blocks kept number) count 0 (apart number count 0 earlier within) ∙ given.each number earlier)
-            (cases_eq number count);
-      }
 
 -- ---- the numbers of states
 
