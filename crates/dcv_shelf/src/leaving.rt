@@ -8,7 +8,7 @@ ghost use Rattle.dcv_shelf.specs.Stored.{IsStored, stored_table, HasRows};
 ghost use Rattle.dcv_shelf.specs.declared.stored.State.{State as AnyState};
 
 use crate::stored::{State, Stored};
-use dcv_arena::{Arena, Ref};
+use dcv_arena::{Arena, ArenaFault, Ref};
 use dcv_dfa::{Auto, Raw};
 use dcv_renumber::Remapping;
 use std::alloc::{AllocError, Global};
@@ -58,13 +58,14 @@ fn rows_of(
 {
     // for the prover: of an arena that was asked it is known what is true of every arena.
     let _ = arena.slots();
-    let mut own = Arena::new(alloc, stored.slots, arena.limit());
+    let mut own = Arena::new(alloc, stored.slots, stored.nodes);
     let mut remapping = Remapping::new(alloc, arena, numbers);
     let mut rows = Vec::new(alloc);
     for state in &stored.states {
-        // An arena that is full is as good as one without memory.
-        let Ok(row) = remapping.remap(&mut own, state.row) else {
-            return Err(AllocError);
+        let row = match remapping.remap(&mut own, state.row) {
+            Ok(row) => row,
+            Err(ArenaFault::Memory) => return Err(AllocError),
+            Err(ArenaFault::Full { .. }) => unreachable!(),
         };
         rows.push(row)?;
     }
