@@ -27,18 +27,19 @@ use Rattle.dcv_build.specs.declared.asked.Asked.{Asked}
 use Rattle.dcv_build.specs.declared.asked.Asked.TheVariants.{And, Or, Iff, Chop, Star, Exists}
 use Rattle.dcv_build.specs.declared.faults.BuildFault.{BuildFault}
 use Rattle.dcv_build.specs.declared.settling.Explored.{Explored}
-use Rattle.dcv_build.specs.Asked.{at_number, tables_at, AreThere, plain_tables, asked_row, AreTwo, IsWide, AreOperands, SettlesAsked, AnswersAsked, IsTurned}
+use Rattle.dcv_build.specs.Asked.{at_number, tables_at, AreThere, plain_tables, asked_row, AreTwo, IsWide, AreOperands, ServesAsked, AnswersAsked, IsTurned}
 use Rattle.dcv_build.specs.Building.{AreWaiting, HasBuilt, IsNext, Goes, Makes, ForTree}
 use Rattle.dcv_build.specs.Given.{IsCoreOf, IsCore}
 use Rattle.dcv_build.specs.Rows.{pair_row, chop_row, star_row, set_row, row_of}
 use Rattle.dcv_build.specs.Tasks.{Here, op_like, numbers_of}
-use Rattle.dcv_build.specs.Settled.{IsOwn, IsBuilt, Settles, Answers}
+use Rattle.dcv_build.specs.Settled.{IsOwn, IsBuilt, Settles, Serves, Answers}
 use Rattle.dcv_build.proofs.Answered.{plain_at}
 use Rattle.dcv_build.proofs.Negation.{complement_is_built}
 use Rattle.dcv_build.proofs.Operands.{step_at, one_operand, two_operands}
 use Rattle.dcv_build.proofs.PostOrder.{IsAfterOne, IsAfterTwo, IsAfterOperands, after_operands}
 use Rattle.dcv_build.proofs.Progress.{next_of, goes, makes}
 use Rattle.dcv_build.proofs.SameRows.{table_at}
+use Rattle.dcv_build.proofs.Settled.{settled_serves}
 use Rattle.dcv_build.proofs.ShelfTables.{at_of, tables_kept, front_there, behind_there}
 use Rattle.dcv_build.proofs.Waiting.{one_is_there, two_are_there}
 
@@ -203,17 +204,18 @@ module _ (k : ℕ) (tree : CoreTree) (limits : Limits) (n : ℕ) (shelf : List S
   module _ (atoms : MachineAcceptsAtomStep) where
     -- the automaton of the step, on no shelf
     pub asked_makes : (asked : Asked) (c d : ℕ) → step.op ≡ op_like asked c d → AreThere shelf (numbers_of asked) → Built (numbers_of asked)
-        → (result : Result Explored BuildFault) → SettlesAsked shelf asked limits n result → Makes (steps_of k tree) limits n (tables_at shelf rest) counts result
-    asked_makes asked c d is all built result settles =
+        → (result : Result Explored BuildFault) → ServesAsked shelf asked limits n result → Makes (steps_of k tree) limits n (tables_at shelf rest) counts result
+    asked_makes asked c d is all built result serves =
         let has = takes asked c d is all built in
         makes k tree limits n built.tables built.count built.done step there (tables_at shelf rest) counts built.one_each built.each has.begin has.begins has.waits atoms result
-        (own_row (λ (row : Row). Settles row.machine row.parts limits n result) asked c d is all built settles)
+        (own_row (λ (row : Row). Serves row.machine row.parts limits n result) asked c d is all built serves)
 
     pub atom_makes : (basic : PlainBasic) → step.op ≡ OpAtom basic → Built [] → (result : Result Explored BuildFault)
         → Settles (atom_machine step.slots basic) (atom_nodes step.slots basic) limits n result → Makes (steps_of k tree) limits n (tables_at shelf rest) counts result
     atom_makes basic is built result settles =
         makes k tree limits n built.tables built.count built.done step there (tables_at shelf rest) counts built.one_each built.each n (none_begins basic is) (all_wait built) atoms result
-        (subst (λ (o : PlainOp). Settles (row_of o step.slots built.tables).machine (row_of o step.slots built.tables).parts limits n result) (sym is) settles)
+        (settled_serves (row_of step.op step.slots built.tables) limits n result
+        (subst (λ (o : PlainOp). Settles (row_of o step.slots built.tables).machine (row_of o step.slots built.tables).parts limits n result) (sym is) settles))
 
     module _ (after : List ShelfTable) (kept : KeepsNumbers shelf after) (rest_there : AreThere shelf rest) where
       -- what waits does so on the shelf that has grown
@@ -325,11 +327,11 @@ module _ (core : PlainCore) (limits : Limits) (n : ℕ) (counts : List Count) wh
           asked_goes core.declared tree limits n shelf rest counts found.0 found.1 atoms after kept (rest_are (numbers_of asked) same) asked c d found.2
           (numbers_are (numbers_of asked) same) (taken (numbers_of asked) same tree is) result answers
 
-      pub makes_on : MachineAcceptsAtomStep → Here core n (op_like asked c d) → (result : Result Explored BuildFault) → SettlesAsked shelf asked limits n result → MakesOn (tables_at shelf rest) result
-      makes_on atoms here result settles tree is =
+      pub makes_on : MachineAcceptsAtomStep → Here core n (op_like asked c d) → (result : Result Explored BuildFault) → ServesAsked shelf asked limits n result → MakesOn (tables_at shelf rest) result
+      makes_on atoms here result serves tree is =
           let found = step_at core tree n (op_like asked c d) is here in
           asked_makes core.declared tree limits n shelf rest counts found.0 found.1 atoms asked c d found.2
-          (numbers_are (numbers_of asked) same) (taken (numbers_of asked) same tree is) result settles
+          (numbers_are (numbers_of asked) same) (taken (numbers_of asked) same tree is) result serves
 
     module _ (a d : ℕ) (same : old ≡ rest ++ a ∷ []) where
       pub not_goes_on : MachineAcceptsAtomStep → OneCanonicalTable → Here core n (OpNot d) → (after : List ShelfTable) → KeepsNumbers shelf after

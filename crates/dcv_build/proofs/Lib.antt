@@ -10,6 +10,7 @@ mod Operands
 mod OverLaws
 mod PostOrder
 pub mod Progress
+mod Recalled
 pub mod SameRows
 mod Settled
 mod ShelfTables

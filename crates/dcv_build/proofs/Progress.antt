@@ -31,9 +31,8 @@ use Rattle.dcv_build.specs.Building.{IsNewest, AreWaiting, HasBuilt, IsNext, Goe
 use Rattle.dcv_build.specs.Counts.{HasAllCounts, IsCount}
 use Rattle.dcv_build.specs.Laws.{AreCanonicalBefore}
 use Rattle.dcv_build.specs.Rows.{row_of}
-use Rattle.dcv_build.specs.Settled.{IsOwn, IsBuilt, HasExplored, Settles, IsFor, Answers}
+use Rattle.dcv_build.specs.Settled.{IsOwn, IsBuilt, IsServing, Serves, IsFor, Answers}
 use Rattle.dcv_build.proofs.SameRows.{table_at, row_over}
-use Rattle.dcv_build.proofs.Settled.{made_is_built, some_least}
 use Rattle.dcv_build.proofs.ShelfTables.{at_of}
 use Rattle.dcv_build.proofs.StepMachines.{machine_accepts_step}
 
@@ -241,24 +240,19 @@ module _ (k : ℕ) (tree : CoreTree) (limits : Limits) (n : ℕ) (tables : List 
         }
 
       -- it is not minimised
-      makes_where_ok : (result : Result Explored BuildFault) → IfOk result (HasExplored (row_at step tables).machine (row_at step tables).parts limits)
+      makes_where_ok : (result : Result Explored BuildFault) → IfOk result (IsServing (row_at step tables).machine (row_at step tables).parts limits)
           → IfOk result (MakesNext (steps_of k tree) limits n rest counts)
-      makes_where_ok (Ok explored) has =
-          let row = row_at step tables in
-          let is = has.within in
-          let few = is.nodes in
-          record {
-            some = some_least row limits explored.raw is;
-            each = λ auto least.
-                next_of (table_of_auto auto) explored.states explored.nodes (made_is_built row.machine row.parts limits explored auto explored.states explored.nodes has least refl refl);
-            states = is.states;
-            nodes = omega arith;
-          }
+      makes_where_ok (Ok explored) is = record {
+        some = is.some;
+        each = λ auto least. next_of (table_of_auto auto) explored.states explored.nodes (is.each auto least);
+        states = is.states;
+        nodes = is.nodes;
+      }
       makes_where_ok (Err fault) is = tt
 
-      pub makes : (result : Result Explored BuildFault) → Settles (row_at step tables).machine (row_at step tables).parts limits n result → Makes (steps_of k tree) limits n rest counts result
-      makes result settles = record {
-        built = makes_where_ok result settles.built;
-        states = λ at limit is. let named = settles.states at limit is in (named.1, over_here TooManyStates at named.0 named.2);
-        nodes = λ at limit is. let named = settles.nodes at limit is in (named.1, over_here TooManyNodes at named.0 named.2);
+      pub makes : (result : Result Explored BuildFault) → Serves (row_at step tables).machine (row_at step tables).parts limits n result → Makes (steps_of k tree) limits n rest counts result
+      makes result serves = record {
+        built = makes_where_ok result serves.built;
+        states = λ at limit is. let named = serves.states at limit is in (named.1, over_here TooManyStates at named.0 named.2);
+        nodes = λ at limit is. let named = serves.nodes at limit is in (named.1, over_here TooManyNodes at named.0 named.2);
       }

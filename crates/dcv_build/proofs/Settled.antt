@@ -20,7 +20,7 @@ use Rattle.dcv_quotient.proofs.RowLimits.{table_of_row}
 use Rattle.dcv_quotient.proofs.SomeAutomata.{some_automaton}
 use Rattle.dcv_quotient.proofs.TableBounds.{within_of_row}
 use Rattle.dcv_quotient.proofs.WordOrder.{word_laws}
-use Rattle.dcv_build.specs.Settled.{IsLeastOf, IsBuilt, IsExploredWithin, HasExplored, Settles, fault_at}
+use Rattle.dcv_build.specs.Settled.{IsLeastOf, IsBuilt, IsExploredWithin, HasExplored, IsServing, Settles, Serves, fault_at}
 use Rattle.dcv_build.specs.declared.settling.Explored.{Explored}
 
 pub least_is_built : {S : Type 0} (machine : WorkingMachine S) (parts : ℕ) (limits : Limits) (found auto : RawValue)
@@ -100,6 +100,22 @@ some_least row limits found is =
         auto_is = of.auto;
       },
     )
+
+-- so it serves
+pub explored_serves : (row : Row) (limits : Limits) (explored : Explored) → HasExplored row.machine row.parts limits explored → IsServing row.machine row.parts limits explored
+explored_serves row limits explored has =
+    let is = has.within in
+    let few = is.nodes in
+    record {
+      some = some_least row limits explored.raw is;
+      each = λ auto least. made_is_built row.machine row.parts limits explored auto explored.states explored.nodes has least refl refl;
+      states = is.states;
+      nodes = omega arith;
+    }
+
+pub settled_serves : (row : Row) (limits : Limits) (step : ℕ) (result : Result Explored BuildFault) → Settles row.machine row.parts limits step result → Serves row.machine row.parts limits step result
+settled_serves row limits step (Ok explored) settles = record { built = explored_serves row limits explored settles.built; states = settles.states; nodes = settles.nodes }
+settled_serves row limits step (Err fault) settles = record { built = tt; states = settles.states; nodes = settles.nodes }
 
 -- ---- what the call answers
 

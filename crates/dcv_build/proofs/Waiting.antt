@@ -99,12 +99,12 @@ module _ (k : ℕ) (tree : CoreTree) (limits : Limits) (n : ℕ) (rest : List Sh
       }
 
 -- the automaton of a table has as many states and nodes as the table
-few_states : (limits : Limits) (one : ShelfTable) (auto : RawValue) → IsOwn limits one → table_of_auto auto ≡ one → length auto.rows ≤ limits.states
+pub few_states : (limits : Limits) (one : ShelfTable) (auto : RawValue) → IsOwn limits one → table_of_auto auto ≡ one → length auto.rows ≤ limits.states
 few_states limits one auto own same =
     let tables = ap (λ (t : ShelfTable). length t.table) (same ∙ sym own.table) in
     omega (arith, own.states, tables, table_has_the_states auto, table_has_the_states own.auto)
 
-few_nodes : (limits : Limits) (one : ShelfTable) (auto : RawValue) → IsOwn limits one → table_of_auto auto ≡ one → count_of_nodes auto ≤ limits.nodes
+pub few_nodes : (limits : Limits) (one : ShelfTable) (auto : RawValue) → IsOwn limits one → table_of_auto auto ≡ one → count_of_nodes auto ≤ limits.nodes
 few_nodes limits one auto own same =
     let tables = ap nodes_of_table (same ∙ sym own.table) in
     omega (arith, own.nodes, tables, nodes_by_table auto, nodes_by_table own.auto)

@@ -7,17 +7,20 @@
 --     IsAnswer                          the number is that of the canonical table of this row, which is within the limits, with exact counts
 --     AreAnswers shelf limits entries   each entry of the map is an answer: no step and no tree is in it, so it stays right while the shelf grows
 --     KnownValue                        what contracts see of what is known
+--     IsRecalled                        an automaton of the shelf, beside the counts of an answer
 --     IsPut, IsTurned                   what stands on the shelf after an automaton is added, or the complement of one
 use Rattle.std.specs.Prelude.{◌≡◌, ℕ, ◌-◌, ◌<◌, List, [], length, map, Some, slice_get, slice_index_or, Result, Contains}
 use Rattle.std.specs.List.{All}
 use Rattle.dcv_language.specs.Table.{Table}
 use Rattle.dcv_syntax.specs.declared.propositions.Connective.TheVariants as connective
 use Rattle.dcv_core.specs.Steps.{PlainOp, OpJoined, OpChop, OpStar, OpExists}
+use Rattle.dcv_dfa.specs.Auto.{IsAuto}
+use Rattle.dcv_dfa.specs.Raw.{IsRaw}
 use Rattle.dcv_explore.specs.declared.explorer.Limits.{Limits}
 use Rattle.dcv_explore.specs.Budget.{Row}
 use Rattle.dcv_shelf.specs.Shelf.{ShelfTable, table_of_auto, nodes_of_table, IsComplement}
 use Rattle.dcv_build.specs.Rows.{row_of}
-use Rattle.dcv_build.specs.Settled.{Settles, IsFor, Answers}
+use Rattle.dcv_build.specs.Settled.{Settles, Serves, IsFor, Answers}
 use Rattle.dcv_build.specs.declared.asked.Answer.{Answer}
 use Rattle.dcv_build.specs.declared.asked.Asked.{Asked}
 use Rattle.dcv_build.specs.declared.asked.Asked.TheVariants.{And, Or, Iff, Chop, Star, Exists}
@@ -84,6 +87,9 @@ AreOperands shelf (Exists d) = IsWide shelf d
 abbrev pub SettlesAsked : List ShelfTable → Asked → Limits → ℕ → Result Explored BuildFault → Type 0
 SettlesAsked shelf asked limits step result = Settles (asked_row shelf asked).machine (asked_row shelf asked).parts limits step result
 
+abbrev pub ServesAsked : List ShelfTable → Asked → Limits → ℕ → Result Explored BuildFault → Type 0
+ServesAsked shelf asked limits step result = Serves (asked_row shelf asked).machine (asked_row shelf asked).parts limits step result
+
 abbrev pub AnswersAsked : List ShelfTable → Asked → Limits → ℕ → List ShelfTable → Result Answer BuildFault → Type 0
 AnswersAsked shelf asked limits step after result = Answers (asked_row shelf asked).machine (asked_row shelf asked).parts limits step after result
 
@@ -99,6 +105,13 @@ AreAnswers shelf limits entries = (asked : Asked) (answer : Answer) → Contains
 pub record KnownValue : Type 0 where
   pub tables : List ShelfTable
   pub limits : Limits
+
+pub record IsRecalled (shelf : List ShelfTable) (answer : Answer) (explored : Explored) : Type 0 where
+  pub raw : IsRaw explored.raw
+  pub auto : IsAuto explored.raw
+  pub there : slice_get shelf answer.number ≡ Some (table_of_auto explored.raw)
+  pub states : explored.states ≡ answer.states
+  pub nodes : explored.nodes ≡ answer.nodes
 
 pub record IsPut (made : Made) (shelf : List ShelfTable) (answer : Answer) : Type 0 where
   pub there : slice_get shelf answer.number ≡ Some (table_of_auto made.auto)

@@ -5,9 +5,11 @@
 --     HasExplored                       that automaton beside its exact counts
 --     IsLeastOf raw auto                the canonical automaton of what a raw one accepts
 --     IsLeastMade explored made         that of what was explored, beside the same counts
---     Settles                           what a call answers that explores a machine for a step
+--     IsServing                         an automaton for a machine that is within the limits: the canonical one of what it accepts is the machine's
+--     SettlesTo IsGiven                 what a call answers that explores a machine for a step: what is so, or that the machine is over a limit
+--     Settles, Serves                   the same, where it gives what was explored, and where any automaton that serves
 --     IsFor                             a number on a shelf is that of a machine's table, and the counts beside it are the machine's
---     Answers                           what a call answers that finds this number for a step
+--     Answers                           what a call answers that finds a number for a step
 --     fault_at step limits fault        the fault of a step whose exploration has this fault
 use Rattle.std.specs.Prelude.{◌≡◌, ℕ, ◌+◌, ◌-◌, ◌≤◌, List, length, Some, slice_get, Result, Err, IfOk}
 use Rattle.dcv_word.specs.Behaviour.{Word}
@@ -75,10 +77,23 @@ pub record HasExplored {S : Type 0} (machine : WorkingMachine S) (parts : ℕ) (
   pub states_are : explored.states ≡ length explored.raw.rows
   pub nodes_are : explored.nodes ≡ parts + length explored.raw.arena.nodes
 
-pub record Settles {S : Type 0} (machine : WorkingMachine S) (parts : ℕ) (limits : Limits) (step : ℕ) (result : Result Explored BuildFault) : Type 0 where
-  pub built : IfOk result (HasExplored machine parts limits)
+-- what is explored for the machine serves, and so does the canonical automaton itself
+pub record IsServing {S : Type 0} (machine : WorkingMachine S) (parts : ℕ) (limits : Limits) (explored : Explored) : Type 0 where
+  pub some : (auto : RawValue) × IsLeastOf explored.raw auto
+  pub each : (auto : RawValue) → IsLeastOf explored.raw auto → IsBuilt machine parts limits (table_of_auto auto) explored.states explored.nodes
+  pub states : length explored.raw.rows ≤ limits.states
+  pub nodes : length explored.raw.arena.nodes ≤ limits.nodes
+
+pub record SettlesTo {S X : Type 0} (machine : WorkingMachine S) (parts : ℕ) (limits : Limits) (step : ℕ) (IsGiven : X → Type 0) (result : Result X BuildFault) : Type 0 where
+  pub built : IfOk result IsGiven
   pub states : (at limit : ℕ) → result ≡ Err (States at limit) → (at ≡ step) × (limit ≡ limits.states) × Passes TooManyStates machine parts limits
   pub nodes : (at limit : ℕ) → result ≡ Err (Nodes at limit) → (at ≡ step) × (limit ≡ limits.nodes) × Passes TooManyNodes machine parts limits
+
+abbrev pub Settles : {S : Type 0} → WorkingMachine S → ℕ → Limits → ℕ → Result Explored BuildFault → Type 0
+Settles machine parts limits step result = SettlesTo machine parts limits step (HasExplored machine parts limits) result
+
+abbrev pub Serves : {S : Type 0} → WorkingMachine S → ℕ → Limits → ℕ → Result Explored BuildFault → Type 0
+Serves machine parts limits step result = SettlesTo machine parts limits step (IsServing machine parts limits) result
 
 -- ---- on a shelf
 
@@ -87,10 +102,8 @@ pub record IsFor {S : Type 0} (machine : WorkingMachine S) (parts : ℕ) (limits
   pub there : slice_get shelf answer.number ≡ Some one
   pub built : IsBuilt machine parts limits one answer.states answer.nodes
 
-pub record Answers {S : Type 0} (machine : WorkingMachine S) (parts : ℕ) (limits : Limits) (step : ℕ) (shelf : List ShelfTable) (result : Result Answer BuildFault) : Type 0 where
-  pub built : IfOk result (IsFor machine parts limits shelf)
-  pub states : (at limit : ℕ) → result ≡ Err (States at limit) → (at ≡ step) × (limit ≡ limits.states) × Passes TooManyStates machine parts limits
-  pub nodes : (at limit : ℕ) → result ≡ Err (Nodes at limit) → (at ≡ step) × (limit ≡ limits.nodes) × Passes TooManyNodes machine parts limits
+abbrev pub Answers : {S : Type 0} → WorkingMachine S → ℕ → Limits → ℕ → List ShelfTable → Result Answer BuildFault → Type 0
+Answers machine parts limits step shelf result = SettlesTo machine parts limits step (IsFor machine parts limits shelf) result
 
 -- what a fault of the explorer is at a step, with the whole limits
 abbrev pub fault_at : ℕ → Limits → ExploreFault → BuildFault

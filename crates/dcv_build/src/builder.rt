@@ -1,4 +1,4 @@
-// Builds of cores: each begins with nothing known, and explores no operator but the last twice over the same automata of one shelf.
+// Builds of cores: each begins with nothing known, and explores no operator twice over the same automata of one shelf.
 ghost use Rattle.std.specs.Prelude.{◌≡◌, ◌≤◌, ℕ, Err, length, IfOk, OnOk};
 ghost use Rattle.dcv_core.specs.Core.{CoreTree};
 ghost use Rattle.dcv_core.specs.Holds.{words_of};
@@ -29,7 +29,7 @@ pub struct Built {
     pub counts: Vec<Count>,
 }
 
-/// An automaton for a goal's words as its last operator was explored.
+/// An automaton for a goal's words as its last operator was explored, or the canonical one where an earlier step has explored the same.
 #[derive(Drop)]
 pub struct BuiltRaw {
     /// The automaton, over the variables that the core declares.
@@ -177,7 +177,7 @@ impl Builder {
         })
     }
 
-    /// The automaton of the goal's words as it was explored, as `build_raw` gives it.
+    /// An automaton of the goal's words that need not be the least, as `build_raw` gives it.
     pub fn build_raw(&mut self, core: &Core) -> Result<BuiltRaw, BuildFault>
         requires { IsCore core.now }
         ensures same { self.new ≡ self.old }
@@ -202,8 +202,8 @@ impl Builder {
         })
     }
 
-    /// How many explorations the last build made: one for each atom, one for each other operator but `!` that it had not met over the same
-    /// operands, and one for the last. No clause says so.
+    /// How many explorations the last build made: one for each atom, and one for each other operator but `!` that it had not met over the
+    /// same operands. No clause says so.
     pub fn explored(&self) -> u32 {
         self.explored
     }

@@ -1,6 +1,6 @@
 // The steps of a core, built one after another. A step takes the automata of its operands from the end of those that wait, and its own
-// waits in their place. That of the last operator goes on no shelf, and is handed out as it was explored; or it is minimised, and turned
-// where it is by the `!` after it.
+// waits in their place. That of the last operator goes on no shelf: it is handed out as it is, or minimised, and turned where it is by the
+// `!` after it.
 ghost use Rattle.std.specs.Prelude.{◌≡◌, ◌<◌, ◌≤◌, ◌+◌, [], ℕ, Err, List, length, IfOk, OnOk};
 ghost use Rattle.dcv_atoms.specs.AtomRows.{atom_machine};
 ghost use Rattle.dcv_atoms.specs.Parts.{atom_nodes};
@@ -71,7 +71,7 @@ impl Building {
         self.known.explored()
     }
 
-    // Builds the steps up to this one, which is no `!`, and gives the automaton that was explored for it.
+    // Builds the steps up to this one, which is no `!`, and gives an automaton for it.
     pub(crate) fn take_to(&mut self, core: &Core, last: u32) -> Result<Explored, BuildFault>
         requires core { IsCore core.now }
         requires last { last < length core.now.steps }
@@ -131,7 +131,7 @@ impl Building {
         Ok(())
     }
 
-    // What is explored for a step that is no `!`, where those before it are built. Its operands wait no more, and it goes on no shelf.
+    // An automaton for a step that is no `!`, where those before it are built. Its operands wait no more, and it goes on no shelf.
     fn make(&mut self, core: &Core, step: u32) -> Result<Explored, BuildFault>
         requires core { IsCore core.now }
         requires step { step < length core.now.steps }
@@ -142,15 +142,10 @@ impl Building {
             (tables_at self.new.known.tables self.new.waiting.items) self.old.counts.items result) }
     {
         atoms_accept_steps();
-        one_canonical_table();
         match task_of(core, step, &mut self.waiting) {
             Task::Atom => self.make_atom(core, step),
             Task::Complement(_) => unreachable!(),
-            Task::Operator(asked) => {
-                let explored = self.known.explore(asked, step);
-                self.known.count();
-                explored
-            }
+            Task::Operator(asked) => self.known.make(asked, step),
         }
     }
 

@@ -2,7 +2,7 @@
 // is explored once for all steps that have it over the same tables of one shelf.
 ghost use Rattle.std.specs.Prelude.{◌≡◌, ◌<◌, [], length, Some, slice_get, IfOk, IfSome};
 ghost use Rattle.dcv_shelf.specs.Shelf.{ShelfTable, table_of_auto, KeepsNumbers};
-ghost use Rattle.dcv_build.specs.Asked.{AreOperands, SettlesAsked, AnswersAsked, IsAnswer, IsPut, IsTurned};
+ghost use Rattle.dcv_build.specs.Asked.{AreOperands, SettlesAsked, ServesAsked, AnswersAsked, IsAnswer, IsRecalled, IsPut, IsTurned};
 
 use crate::asked::{Answer, Asked};
 use crate::faults::BuildFault;
@@ -10,6 +10,7 @@ use crate::operations;
 use crate::settling::{Explored, Made, least};
 use dcv_dfa::{Auto, Table};
 use dcv_explore::Limits;
+use dcv_language::laws::one_canonical_table;
 use dcv_shelf::Shelf;
 use indexmap::IndexMap;
 use std::alloc::{AllocError, Global};
@@ -105,6 +106,35 @@ impl Known {
         Ok(answer)
     }
 
+    // An automaton for an operator over automata of the shelf, which goes on none: the canonical one where it is known, or else the one
+    // that is explored.
+    pub(crate) fn make(&mut self, asked: Asked, step: u32) -> Result<Explored, BuildFault>
+        requires { AreOperands self.old.tables asked }
+        ensures same { self.new ≡ self.old }
+        ensures serves { ServesAsked self.old.tables asked self.old.limits step result }
+    {
+        one_canonical_table();
+        match self.find(asked) {
+            Some(answer) => Ok(self.recall(answer)?),
+            None => {
+                self.count();
+                self.explore(asked, step)
+            }
+        }
+    }
+
+    // The automaton of an answer, beside its counts.
+    fn recall(&self, answer: Answer) -> Result<Explored, AllocError>
+        requires { answer.number < length self.now.tables }
+        ensures { IfOk result (IsRecalled self.now.tables answer) }
+    {
+        Ok(Explored {
+            raw: self.shelf.copy_raw(answer.number)?,
+            states: answer.states,
+            nodes: answer.nodes,
+        })
+    }
+
     // What is known of an operator.
     fn find(&self, asked: Asked) -> Option<Answer>
         ensures { IfSome result (IsAnswer self.now.tables self.now.limits asked) }
@@ -122,7 +152,7 @@ impl Known {
     }
 
     // The automaton of an operator over automata of the shelf, as it is explored.
-    pub(crate) fn explore(&self, asked: Asked, step: u32) -> Result<Explored, BuildFault>
+    fn explore(&self, asked: Asked, step: u32) -> Result<Explored, BuildFault>
         requires { AreOperands self.now.tables asked }
         ensures { SettlesAsked self.now.tables asked self.now.limits step result }
     {

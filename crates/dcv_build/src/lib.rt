@@ -11,7 +11,7 @@
 //!
 //! What a step may need is defined in `specs/`: the machine that is explored for it is a function of its operator and of the canonical
 //! tables of its operands, which are determined, and `laws` has that at most one step is over. In one build an operator is explored once
-//! over the same tables of one shelf, unless it is the last: what it gave is found again by the numbers that its operands have there.
+//! over the same tables of one shelf: what it gave is found again by the numbers that its operands have there.
 #![tactic(auto)]
 
 mod asked;

@@ -32,15 +32,14 @@ fn explored_twice(alloc: Global, core: &Core) -> Result<[(u32, u32); 2], BuildFa
     Ok([first, second])
 }
 
-// 16,384 atoms are explored, and one `&&`, since the others have the same operands; and the last of these, which is always explored. The next
-// build begins with nothing known.
+// 16,384 atoms are explored, and one `&&`, since the others have the same operands. The next build begins with nothing known.
 #[test]
 fn steps_alike_are_explored_once(rt: HostRuntime) -> Result<(), Fail> {
     let alloc = rt.alloc();
     let core = core_of(alloc, &repeated(alloc)?)?;
     let explored = explored_twice(alloc, &core);
     drop(core);
-    assert_eq!(rt; explored?, [(16_386, 3), (16_386, 3)]);
+    assert_eq!(rt; explored?, [(16_385, 3), (16_385, 3)]);
     Ok(())
 }
 

@@ -59,15 +59,18 @@ module _ (from : ArenaValue) (stored : Stored) (is : IsStored from stored) (numb
       let value : value_of given_from root letter ≡ value_of from (row_at stored place) letter = (λ i. value_of (is_from i) (get_or (are i) place no_state).row letter) in
       omega (arith, leads, value, ap length is_numbers, ap length all, length-range_with_len 0 (length stored.states.items))
 
+  pub renumbered_here : (slots : ℕ) → slots ≡ stored.slots → (letter : List Bool) → length letter ≡ slots
+      → renumbered given_numbers given_from root letter ≡ value_of from (row_at stored place) letter
+  renumbered_here slots same letter size =
+      (λ i. renumbered (is_numbers i) (is_from i) (get_or (are i) place no_state).row letter)
+      ∙ ap (λ list. renumbered list from (row_at stored place) letter) all
+      ∙ renumbered_by_itself (length stored.states.items) (value_of from (row_at stored place) letter) (leads_below from stored is place letter inside (size ∙ same))
+
   pub value_by : (slots : ℕ) → slots ≡ stored.slots → (after : ArenaValue) (row : Ref)
       → ((letter : List Bool) → length letter ≡ slots → value_of after row letter ≡ renumbered given_numbers given_from root letter)
       → (count : ℕ) → count ≡ place → (letter : List Bool) → length letter ≡ slots → value_of after row letter ≡ value_of from (row_at stored count) letter
   value_by slots same after row value count here letter size =
-      value letter size
-      ∙ (λ i. renumbered (is_numbers i) (is_from i) (get_or (are i) place no_state).row letter)
-      ∙ ap (λ list. renumbered list from (row_at stored place) letter) all
-      ∙ renumbered_by_itself (length stored.states.items) (value_of from (row_at stored place) letter) (leads_below from stored is place letter inside (size ∙ same))
-      ∙ ap (λ place. value_of from (row_at stored place) letter) (sym here)
+      value letter size ∙ renumbered_here slots same letter size ∙ ap (λ place. value_of from (row_at stored place) letter) (sym here)
 
 -- ---- one row more
 

@@ -2,6 +2,7 @@ mod CopiedRows
 mod Copies
 mod Departed
 mod FirstSlots
+mod RowRoom
 mod Sharing
 mod Shelves
 mod Turned

@@ -1,12 +1,14 @@
 // A table that leaves a shelf: an automaton whose arena is as wide as its letters, and has the nodes of its rows and no others.
 ghost use Rattle.std.specs.Prelude.{◌≡◌, ◌<◌, ◌^◌, length, map, IfOk};
 ghost use Rattle.std.specs.List.{range_with_len};
+ghost use Rattle.dcv_dfa.specs.Auto.{IsAutoWith};
+ghost use Rattle.dcv_dfa.specs.Raw.{IsRaw};
 ghost use Rattle.dcv_shelf.specs.Shelf.{table_of_auto};
 ghost use Rattle.dcv_shelf.specs.Stored.{IsStored, stored_table, HasRows};
 ghost use Rattle.dcv_shelf.specs.declared.stored.State.{State as AnyState};
 
 use crate::stored::{State, Stored};
-use dcv_arena::{Arena, Ref};
+use dcv_arena::{Arena, ArenaFault, Ref};
 use dcv_dfa::{Auto, Raw};
 use dcv_renumber::Remapping;
 use std::alloc::{AllocError, Global};
@@ -25,11 +27,21 @@ pub(crate) fn auto_of(alloc: Global, arena: &Arena, stored: &Stored) -> Result<A
     requires { IsStored arena.now stored.now }
     ensures { IfOk result (λ auto. table_of_auto auto ≡ stored_table arena.now stored.now) }
 {
+    let raw = raw_of(alloc, arena, stored)?;
+    Ok(Auto::new(raw, stored.alone))
+}
+
+// The same without the promise that it is canonical.
+pub(crate) fn raw_of(alloc: Global, arena: &Arena, stored: &Stored) -> Result<Raw, AllocError>
+    requires { IsStored arena.now stored.now }
+    ensures raw { IfOk result IsRaw }
+    ensures canonical { IfOk result (λ raw. IsAutoWith raw stored.now.alone) }
+    ensures table { IfOk result (λ raw. table_of_auto raw ≡ stored_table arena.now stored.now) }
+{
     let numbers = numbers_below(alloc, stored.states.len() as u32)?;
     let rows = rows_of(alloc, arena, stored, &numbers)?;
     let accepting = flags_of(alloc, &stored.states)?;
-    let raw = Raw::new(rows.arena, rows.rows, accepting, 0);
-    Ok(Auto::new(raw, stored.alone))
+    Ok(Raw::new(rows.arena, rows.rows, accepting, 0))
 }
 
 // Its rows: each state keeps its number, and slots that the letters do not have are left out.
@@ -46,13 +58,14 @@ fn rows_of(
 {
     // for the prover: of an arena that was asked it is known what is true of every arena.
     let _ = arena.slots();
-    let mut own = Arena::new(alloc, stored.slots, arena.limit());
+    let mut own = Arena::new(alloc, stored.slots, stored.nodes);
     let mut remapping = Remapping::new(alloc, arena, numbers);
     let mut rows = Vec::new(alloc);
     for state in &stored.states {
-        // An arena that is full is as good as one without memory.
-        let Ok(row) = remapping.remap(&mut own, state.row) else {
-            return Err(AllocError);
+        let row = match remapping.remap(&mut own, state.row) {
+            Ok(row) => row,
+            Err(ArenaFault::Memory) => return Err(AllocError),
+            Err(ArenaFault::Full { .. }) => unreachable!(),
         };
         rows.push(row)?;
     }

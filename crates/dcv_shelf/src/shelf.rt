@@ -1,15 +1,16 @@
 // Canonical automata that share one arena, each by its number.
 ghost use Rattle.std.specs.Prelude.{◌≡◌, ◌<◌, ◌≤◌, ◌+◌, [], length, map, Some, slice_get, IfOk, OnErr};
 ghost use Rattle.std.specs.List.{All};
-ghost use Rattle.dcv_dfa.specs.Auto.{count_of_nodes};
+ghost use Rattle.dcv_dfa.specs.Auto.{IsAuto, count_of_nodes};
+ghost use Rattle.dcv_dfa.specs.Raw.{IsRaw};
 ghost use Rattle.dcv_shelf.specs.Shelf.{ShelfTable, table_of_auto, HaveOneNumberEach, KeepsNumbers, HasNumber, HasComplement};
 ghost use Rattle.dcv_shelf.specs.Stored.{IsStored, stored_table, IsView, view_table};
 
-use crate::leaving::auto_of;
+use crate::leaving::{auto_of, raw_of};
 use crate::stored::Stored;
 use crate::view::View;
 use dcv_arena::Arena;
-use dcv_dfa::Auto;
+use dcv_dfa::{Auto, Raw};
 use dcv_language::laws::{complement_is_canonical, one_canonical_table};
 use indexmap::IndexSet;
 use std::alloc::{AllocError, Global};
@@ -131,6 +132,20 @@ impl Shelf {
         ensures { IfOk result (λ auto. slice_get self.now.tables number ≡ Some (table_of_auto auto)) }
     {
         auto_of(
+            self.alloc,
+            &self.arena,
+            &self.tables.as_slice()[number as usize],
+        )
+    }
+
+    /// The same, for a caller that takes automata which need not be canonical.
+    pub fn copy_raw(&self, number: u32) -> Result<Raw, AllocError>
+        requires { number < length self.now.tables }
+        ensures raw { IfOk result IsRaw }
+        ensures auto { IfOk result IsAuto }
+        ensures table { IfOk result (λ raw. slice_get self.now.tables number ≡ Some (table_of_auto raw)) }
+    {
+        raw_of(
             self.alloc,
             &self.arena,
             &self.tables.as_slice()[number as usize],

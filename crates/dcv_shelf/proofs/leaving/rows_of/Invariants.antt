@@ -8,6 +8,7 @@ abbrev pub invariant-loop-state : goal.invariant-loop-state
 invariant-loop-state l = record {
   rows : HasRows l.arena l.stored l.own l.rows.items;
   count : length l.rows.items ≡ l.state-index;
+  limit : l.own.limit ≡ l.stored.nodes;
   from : l.remapping.from ≡ l.arena;
   new : l.remapping.numbers ≡ l.numbers;
   holds : HoldsNew l.remapping l.own;

@@ -23,8 +23,8 @@ unreachable-requires c =
     let is = subst (IsTask c.args.core.now c.args.step) c.in-Complement.is c.task_of.ensures.is in
     c.requires.operator is.0 is.1
 
-pub explore-explored-requires : goal.explore-explored-requires
-explore-explored-requires c =
+pub make-requires : goal.make-requires
+make-requires c =
     let now = c.args.self.now in
     let left = c.task_of.new.waiting.items in
     let is = subst (IsTask c.args.core.now c.args.step) c.in-Operator.is c.task_of.ensures.is in
@@ -38,9 +38,9 @@ returns-in-Operator-clause-makes c =
     let left = c.task_of.new.waiting.items in
     let taken = subst (λ (t : Task). now.waiting.items ≡ left ++ numbers_taken t) c.in-Operator.is c.task_of.ensures.taken in
     let is = subst (IsTask c.args.core.now c.args.step) c.in-Operator.is c.task_of.ensures.is in
-    subst (λ (known : KnownValue). ForTree c.args.core.now (λ steps. Makes steps now.known.limits c.args.step (tables_at known.tables left) now.counts.items c.explore-explored.result)) (sym c.count.ensures)
+    subst (λ (known : KnownValue). ForTree c.args.core.now (λ steps. Makes steps now.known.limits c.args.step (tables_at known.tables left) now.counts.items c.make.result)) (sym c.make.ensures.same)
     (makes_on c.args.core.now now.known.limits c.args.step now.counts.items now.known.tables now.waiting.items left c.requires.built.built c.requires.built.there
-    c.in-Operator.asked is.0 is.1 taken c.machines_accept_steps.ensures.step is.2 c.explore-explored.result c.explore-explored.ensures)
+    c.in-Operator.asked is.0 is.1 taken c.machines_accept_steps.ensures.step is.2 c.make.result c.make.ensures.serves)
 
 pub returns-in-Atom-clause-makes : goal.returns-in-Atom-clause-makes
 returns-in-Atom-clause-makes c =
