@@ -1,5 +1,5 @@
 // The states that have 1 at a letter, and how many of them each block has.
-ghost use Rattle.std.specs.Prelude.{◌≡◌, ◌<◌, ◌==◌, ℕ, Bool, List, false, if◌then◌else◌, nat_eq, IfOk, OnOk, Contains};
+ghost use Rattle.std.specs.Prelude.{◌≡◌, ◌<◌, ◌^◌, ◌==◌, ℕ, Bool, List, false, if◌then◌else◌, nat_eq, IfOk, OnOk, Contains};
 ghost use Rattle.indexmap.specs.IndexMap.{get};
 ghost use Rattle.indexmap.specs.IndexSet.{contains};
 ghost use Rattle.dcv_certificate.specs.Ones.{is_one, ones_in, AreNoOnes, IsOneMore};
@@ -27,12 +27,13 @@ impl Ones {
 
     // Adds a state of a block, unless it is there.
     pub(crate) fn add(&mut self, state: u32, block: u32) -> Result<(), AllocError>
+        requires { ones_in self.old block < 2 ^ 63 }
         ensures { OnOk result (IsOneMore self.old state block self.new) }
     {
         if !self.states.insert(state)? {
             return Ok(());
         }
-        let count = self.count(block).checked_add(1).ok_or(AllocError)?;
+        let count = self.count(block) + 1;
         self.counts.insert(block, count)?;
         if count == 1 {
             self.blocks.push(block)?;

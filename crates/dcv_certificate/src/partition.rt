@@ -1,7 +1,7 @@
 // The states in blocks, which are split by one suffix after another. The lists of members are those of `dcv_refinement`, which `dcv_minimise`
 // has too. The rest of a partition is not shared: here a block falls in two by a test, and the blocks' sizes say which part is the smaller;
 // there it falls into parts by the keys of its states, and a vote finds the part that stays.
-ghost use Rattle.std.specs.Prelude.{◌≡◌, ◌+◌, ◌<◌, ◌≤◌, ℕ, List, Bool, length, slice_set, IfOk, OnOk};
+ghost use Rattle.std.specs.Prelude.{◌≡◌, ◌+◌, ◌^◌, ◌<◌, ◌≤◌, ℕ, List, Bool, length, slice_set, IfOk, OnOk};
 ghost use Rattle.std.specs.List.{All};
 ghost use Rattle.dcv_arena.specs.Arena.{IsArena};
 ghost use Rattle.dcv_dfa.specs.Raw.{next_in};
@@ -175,6 +175,7 @@ impl Partition<'_> {
 
     // The new number of a state that leaves this block, after the blocks that others have left; a state that has a new number keeps it.
     fn new_block(&self, left: &mut IndexSet<u32>, block: u32) -> Result<u32, AllocError>
+        requires room { self.now.count + length left.old.keys < 2 ^ 63 }
         ensures moved { IfOk result (λ new. IsMovedTo self.now.count left.old.keys left.new.keys block new) }
     {
         if self.count <= block as usize {
@@ -187,10 +188,10 @@ impl Partition<'_> {
 
 // The number that is so far after the count.
 fn number_behind(count: usize, place: usize) -> Result<u32, AllocError>
+    requires { count + place < 2 ^ 64 }
     ensures { IfOk result (λ number. number ≡ count + place) }
 {
-    let number = count.checked_add(place).ok_or(AllocError)?;
-    number_of(number)
+    number_of(count + place)
 }
 
 // Each state, in the list of its block.

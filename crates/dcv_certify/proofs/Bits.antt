@@ -1,14 +1,17 @@
 -- Columns of bits, one entry after another.
-use Rattle.std.proofs.Common.{◌≡◌, ◌⊎◌, inl, inr, ℕ, ◌+◌, ◌<◌, ◌≤◌, Bool, true, false, not, if◌then◌else◌, List, [], ◌∷◌, ◌++◌, length, get_or, refl, ap, sym, ◌∙◌, subst, arith}
+use Rattle.std.proofs.Common.{◌≡◌, ◌⊎◌, inl, inr, ℕ, ◌+◌, ◌<◌, ◌≤◌, Bool, true, false, not, if◌then◌else◌, List, [], ◌∷◌, ◌++◌, length, map, take, set, get_or, suc, refl, ap, sym, ◌∙◌, arith}
 use Rattle.std.specs.Prelude.{nat_lt, Result, Ok, Err, IfOk}
 use Rattle.std.proofs.lemmas.Bool.{cases_lt, lt-ltb, le-ltb}
-use Rattle.std.proofs.lemmas.List.{length-append, get_or_push, get_or_append_left}
+use Rattle.std.proofs.lemmas.List.{length-append, length-map, length-set, get_or-map, get_or-take, get_or_default, take_all, get_or_push, get_or_append_left}
+use Rattle.std.proofs.lemmas.Grind.{take-set_at}
 use Rattle.dcv_word.specs.Behaviour.{Word}
 use Rattle.dcv_language.specs.Automaton.{accepts_from}
-use Rattle.dcv_language.specs.Table.{Table, next_in, automaton_of}
+use Rattle.dcv_language.specs.Table.{Table, IsTable, next_in, automaton_of}
+use Rattle.dcv_language.proofs.Bounds.{next-below}
 use Rattle.dcv_certify.specs.Alike.{turned_bit, bit}
 use Rattle.dcv_certify.specs.Split.{bit_at}
-use Rattle.dcv_certify.specs.Columns.{IsColumn}
+use Rattle.dcv_certify.specs.Columns.{IsColumn, with_start}
+use Rattle.dcv_certify.specs.Steps.{LeadTo}
 
 pub record IsColumnSoFar (table : Table) (word : Word) (column : List Bool) (count : ℕ) : Type 0 where
   pub count_is : length column ≡ count
@@ -61,27 +64,34 @@ module _ (table : Table) where
         let all = column_more column (length table) b so_far is in
         record { count = omega (arith, all.count_is); bits = λ entry within. all.bits entry (omega (arith, within)) }
 
--- of a letter before each suffix that has this column
-pub record IsBehindSoFar (table : Table) (letter : List Bool) (from column : List Bool) (count : ℕ) : Type 0 where
-  pub count_is : length column ≡ count
-  pub bits : (word : Word) → IsColumn table word from → IsColumnSoFar table (letter ∷ word) column count
+-- of a letter before a suffix that has this column
+module _ (width : ℕ) (table : Table) (is_table : IsTable width table) (letter : List Bool) (word : Word) (from : List Bool) (next : List ℕ) (leads : LeadTo table letter next)
+    (made : IsColumn table word from) where
+  abbrev bits : List Bool
+  bits = map (bit_at from) next
 
-pub behind_first : (table : Table) (letter : List Bool) (from column : List Bool) → column ≡ [] → IsBehindSoFar table letter from column 0
-behind_first table letter from column is = record { count_is = ap length is; bits = λ word made. column_first table (letter ∷ word) column is }
+  length_bits : length bits ≡ length table
+  length_bits = length-map next (bit_at from) ∙ leads.count
 
-pub behind_more : (table : Table) (letter : List Bool) (from column : List Bool) (count next : ℕ) (b : Bool) → IsBehindSoFar table letter from column count
-    → count < length table → next < length table → next ≡ next_in table count letter → b ≡ bit_at from next → IsBehindSoFar table letter from (column ++ b ∷ []) (count + 1)
-behind_more table letter from column count next b so_far within below is read = record {
-  count_is = omega (arith, length-append column (b ∷ []), so_far.count_is);
-  bits = λ word made. column_more table (letter ∷ word) column count b (so_far.bits word made)
-      (read ∙ made.bits next (omega (arith, below)) ∙ ap (λ n. bit table n word) is ∙ sym (bit_behind table count letter word within (subst (λ n. n < length table) is below)));
-}
+  bit_of_next : (entry : ℕ) → entry < length table → bit_at bits entry ≡ bit table entry (letter ∷ word)
+  bit_of_next entry within =
+      get_or-map (bit_at from) next entry 0 false (omega (arith, leads.count))
+      ∙ ap (bit_at from) (leads.each entry within)
+      ∙ made.bits (next_in table entry letter) (omega (arith, next-below width table is_table entry letter within))
+      ∙ sym (bit_behind table entry letter word within (next-below width table is_table entry letter within))
 
-pub behind_done : (table : Table) (letter : List Bool) (from column : List Bool) (b : Bool) → 0 < length table → IsBehindSoFar table letter from column (length table) → b ≡ bit_at column 0
-    → (word : Word) → IsColumn table word from → IsColumn table (letter ∷ word) (column ++ b ∷ [])
-behind_done table letter from column b some so_far read word made =
-    let all = so_far.bits word made in
-    column_done table (letter ∷ word) column b all (read ∙ all.bits 0 some ∙ sym (last_behind table letter word some))
+  pub behind_is : IsColumn table (letter ∷ word) (with_start bits)
+  behind_is =
+      column_done table (letter ∷ word) bits (bit_at bits 0) (record { count_is = length_bits; bits = bit_of_next })
+      (bit_of_next 0 is_table.nonempty ∙ sym (last_behind table letter word is_table.nonempty))
+
+pub with_last : (column bits : List Bool) (count place : ℕ) (b : Bool) → length column ≡ suc count → take place column ≡ bits → place ≡ count → 0 < count → b ≡ get_or column 0 b
+    → set column count b ≡ with_start bits
+with_last column bits count place b size before at some read =
+    let all : take (suc count) (set column count b) ≡ set column count b = take_all (suc count) (set column count b) (omega (arith, length-set column count b, size)) in
+    let first : b ≡ get_or bits 0 false = read ∙ get_or_default column 0 b false (omega (arith, size)) ∙ sym (get_or-take place column 0 false (omega (arith, some, at))) ∙ ap (λ bits. get_or bits 0 false) before in
+    sym all ∙ take-set_at column count (suc count) b (omega arith) (omega (arith, size)) ∙ ap (λ count. take count column ++ b ∷ []) (sym at) ∙ ap (λ bits. bits ++ b ∷ []) before
+    ∙ ap (λ b. bits ++ b ∷ []) first
 
 pub flags_done : (table : Table) (column : List Bool) (b : Bool) → 0 < length table → IsColumnSoFar table [] column (length table) → b ≡ not (bit_at column 0) → IsColumn table [] (column ++ b ∷ [])
 flags_done table column b some so_far read =

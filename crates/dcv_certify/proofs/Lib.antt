@@ -11,6 +11,7 @@ mod Landings
 mod Splits
 mod Alikes
 mod Bits
+mod Stepping
 mod Numbering
 mod Told
 mod Pairs

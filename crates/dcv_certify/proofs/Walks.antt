@@ -3,7 +3,6 @@ use Rattle.std.proofs.Common.{◌≡◌, ◌⊎◌, inl, inr, ⊎_elim, ℕ, zer
 use Rattle.std.specs.declared.alloc.Global.{Global}
 use Rattle.std.specs.List.{AllByRecursion}
 use Rattle.std.specs.Cmp.{unsigned_Decides}
-use Rattle.std.specs.Prelude.{Result, Ok, Err, OnOk}
 use Rattle.std.proofs.lemmas.Bool.{cases_lt}
 use Rattle.std.proofs.Math.Nat.{mul-le-mul_right, suc-mul}
 use Rattle.dcv_word.specs.Behaviour.{Word}
@@ -179,10 +178,6 @@ pub goes_on_from_column : (file : AutomatonFile) (place : ℕ) (words : List Wor
     → IsColumnBefore (table_of file) words column suffix → GoesOnFromColumn file column suffix
 goes_on_from_column file place words column EmptySuffix goes has = tt
 goes_on_from_column file place words column (ThenSuffix letter from) goes has = (has.count, goes.1)
-
-pub on_ok_more : {T E : Type 0} (result : Result T E) (P Q : Type 0) → (P → Q) → OnOk result P → OnOk result Q
-on_ok_more (Ok x) P Q more is = more is
-on_ok_more (Err e) P Q more is = tt
 
 module _ (file : AutomatonFile) (good : IsGood file) (read : List ReadSuffix) (same : map suffix_from read ≡ suffixes_of file) (suffix : ReadSuffix) (place : ℕ)
     (within : place < length file.suffix_lines) (is : suffix ≡ get_or read place suffix) (from : List Bool)

@@ -6,6 +6,7 @@ pub mod Landing
 pub mod Alike
 pub mod Split
 pub mod Columns
+pub mod Steps
 pub mod Numbers
 pub mod Links
 pub mod Walk

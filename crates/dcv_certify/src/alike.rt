@@ -9,6 +9,7 @@ ghost use Rattle.dcv_certify.specs.Links.{root_of};
 
 use crate::joined::{are_own, first_joined};
 use crate::links::Links;
+use crate::steps::Steps;
 use crate::walk::{try_next, wait};
 use dcv_automaton_read::{Access, AutoFile};
 use std::alloc::{AllocError, Global};
@@ -32,14 +33,15 @@ fn least_alike(alloc: Global, file: &AutoFile) -> Result<Vec<u32>, AllocError>
     // for the prover: what is true of every file.
     file.keeps_the_rules();
     let links = Links::of(alloc, file)?;
+    let mut steps = Steps::new(alloc)?;
     let mut numbers = vec![in alloc; 0; entries(file)]?;
     let mut left = Vec::new(alloc);
     wait(&mut left, Vec::new(alloc), root(file))?;
     while let Some(at) = left.pop() {
-        if are_own(&numbers) {
+        let splits = try_next(alloc, file, &links, &mut steps, at, &mut left, &mut numbers)?;
+        if splits && are_own(&numbers) {
             return Ok(numbers);
         }
-        try_next(alloc, file, &links, at, &mut left, &mut numbers)?;
     }
     Ok(numbers)
 }

@@ -1,30 +1,42 @@
 //! Whether each suffix is accepted from each state: a column of bits for each suffix, made of the column that its suffix goes on from. After
 //! the last state the start stands once more, with its other flag, since the empty suffix says nothing of an empty word.
-ghost use Rattle.std.specs.Prelude.{◌≡◌, ◌∷◌, [], suc, length, List, IfOk};
+ghost use Rattle.std.specs.Prelude.{◌≡◌, ◌<◌, [], length, map, List, IfOk, OnOk};
+ghost use Rattle.std.specs.List.{All};
 ghost use Rattle.dcv_word.specs.Behaviour.{Word as AnyWord};
 ghost use Rattle.dcv_automaton_text.specs.Meaning.{table_of, suffix_word_of};
 ghost use Rattle.dcv_automaton_read.specs.File.{suffix_from};
-ghost use Rattle.dcv_certify.specs.Columns.{IsColumn, GoesOnFromColumn, IsColumnBefore};
+ghost use Rattle.dcv_certify.specs.Columns.{IsColumn, with_start, GoesOnFromColumn, IsColumnBefore};
+ghost use Rattle.dcv_certify.specs.Split.{bit_at};
+ghost use Rattle.dcv_certify.specs.Steps.{AreKept};
 
+use crate::steps::Steps;
 use dcv_automaton_read::{AutoFile, Suffix};
 use dcv_automaton_text::laws::good_files_are_tables;
-use dcv_word::Letter;
 use std::alloc::{AllocError, Global};
 
 // The column of a suffix, given that of the one that it goes on from.
 pub(crate) fn column(
     alloc: Global,
     file: &AutoFile,
+    steps: &mut Steps,
     from: &[bool],
     suffix: Suffix,
 ) -> Result<Vec<bool>, AllocError>
-    requires { GoesOnFromColumn file.now from.now (suffix_from suffix) }
-    ensures { IfOk result (λ column. (words : List AnyWord) → IsColumnBefore (table_of file.now) words from.now (suffix_from suffix)
+    requires kept { AreKept (table_of file.now) steps.old.kept.items }
+    requires goes_on { GoesOnFromColumn file.now from.now (suffix_from suffix) }
+    ensures kept { OnOk result (AreKept (table_of file.now) steps.new.kept.items) }
+    ensures column { IfOk result (λ column. (words : List AnyWord) → IsColumnBefore (table_of file.now) words from.now (suffix_from suffix)
         → IsColumn (table_of file.now) (suffix_word_of words (suffix_from suffix)) column.items) }
 {
+    good_files_are_tables();
+    // for the prover: what is true of every file.
+    file.keeps_the_rules();
     match suffix {
         Suffix::Empty => flags(alloc, file),
-        Suffix::Then(letter, _) => behind(alloc, file, from, letter),
+        Suffix::Then(letter, _) => {
+            let place = steps.meet(alloc, file, letter)?;
+            behind(alloc, from, steps.next_at(place))
+        }
     }
 }
 
@@ -43,25 +55,16 @@ fn flags(alloc: Global, file: &AutoFile) -> Result<Vec<bool>, AllocError>
     Ok(column)
 }
 
-// The column of a letter before a suffix that has this column.
-fn behind(
-    alloc: Global,
-    file: &AutoFile,
-    from: &[bool],
-    letter: Letter,
-) -> Result<Vec<bool>, AllocError>
-    requires count { length from.now ≡ suc (length (table_of file.now)) }
-    requires width { length letter ≡ length file.now.names }
-    ensures { IfOk result (λ column. (word : AnyWord) → IsColumn (table_of file.now) word from.now
-        → IsColumn (table_of file.now) (letter ∷ word) column.items) }
+// The bits of the states that come next, and that of the start once more.
+fn behind(alloc: Global, from: &[bool], next: &[u32]) -> Result<Vec<bool>, AllocError>
+    requires some { 0 < length next.now }
+    requires states { All (λ state. state < length from.now) next.now }
+    ensures { IfOk result (λ column. column.items ≡ with_start (map (bit_at from.now) next.now)) }
 {
-    good_files_are_tables();
-    // for the prover: what is true of every file.
-    file.keeps_the_rules();
-    let mut column = Vec::new(alloc);
-    for state in 0..file.states() {
-        column.push(from[file.next(state, &letter) as usize])?;
+    let mut column = vec![in alloc; false; next.len() + 1]?;
+    for (state, to) in next.iter().enumerate() {
+        column[state] = from[*to as usize];
     }
-    column.push(column[0])?;
+    column[next.len()] = column[0];
     Ok(column)
 }

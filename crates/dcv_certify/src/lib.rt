@@ -20,6 +20,7 @@ pub mod laws;
 mod links;
 mod own;
 mod split;
+mod steps;
 mod walk;
 mod words;
 

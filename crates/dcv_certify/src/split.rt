@@ -1,11 +1,43 @@
 //! Classes of entries, split by a column of bits. The number of an entry is the least entry of its class.
-ghost use Rattle.std.specs.Prelude.{◌≤◌, ◌+◌, ◌<◌, ◌^◌, length, IfOk};
+ghost use Rattle.std.specs.Prelude.{◌≤◌, ◌+◌, ◌<◌, ◌^◌, length, IfOk, OnOk, IsFalse};
 ghost use Rattle.dcv_certify.specs.Split.{AreOwn, IsLeastWith, IsSplit, HasMoved};
 
 use std::alloc::{AllocError, Global};
 
+// Splits the classes that have entries with other bits, and tells whether there are any.
+pub(crate) fn split_all(
+    alloc: Global,
+    numbers: &mut Vec<u32>,
+    column: &[bool],
+) -> Result<bool, AllocError>
+    requires count { length numbers.old.items ≤ length column.now }
+    requires own { AreOwn numbers.old.items }
+    requires few { length numbers.old.items < 2 ^ 32 }
+    ensures { OnOk result (IsSplit numbers.old.items column.now numbers.new.items) }
+{
+    if !splits(numbers, column) {
+        return Ok(false);
+    }
+    *numbers = split(alloc, numbers, column)?;
+    Ok(true)
+}
+
+// Whether some class has entries with other bits.
+fn splits(old: &[u32], column: &[bool]) -> bool
+    requires count { length old.now ≤ length column.now }
+    requires own { AreOwn old.now }
+    ensures { IsFalse result → IsSplit old.now column.now old.now }
+{
+    for (entry, class) in old.iter().enumerate() {
+        if column[entry] != column[*class as usize] {
+            return true;
+        }
+    }
+    false
+}
+
 // The numbers of the entries where those of one class with other bits are apart.
-pub(crate) fn split(alloc: Global, old: &[u32], column: &[bool]) -> Result<Vec<u32>, AllocError>
+fn split(alloc: Global, old: &[u32], column: &[bool]) -> Result<Vec<u32>, AllocError>
     requires count { length old.now ≤ length column.now }
     requires own { AreOwn old.now }
     requires few { length old.now < 2 ^ 32 }

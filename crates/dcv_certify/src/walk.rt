@@ -1,12 +1,15 @@
 //! A walk over the suffixes of a text. Each is tried after the one that it goes on from, and its column is made of the column of that, which
 //! goes once the last suffix that goes on from it was tried.
 ghost use Rattle.std.specs.Prelude.{◌≡◌, ◌<◌, ◌∷◌, ◌++◌, [], length, Option, OnOk, IsTrue};
+ghost use Rattle.dcv_automaton_text.specs.Meaning.{table_of};
 ghost use Rattle.dcv_certify.specs.Links.{AreLinks};
+ghost use Rattle.dcv_certify.specs.Steps.{AreKept};
 ghost use Rattle.dcv_certify.specs.Walk.{waiting, work_left, IsSteady, IsFirstBelow, IsWalk};
 
 use crate::columns::column;
 use crate::links::Links;
-use crate::split::split;
+use crate::split::split_all;
+use crate::steps::Steps;
 use dcv_automaton_read::AutoFile;
 use dcv_automaton_text::laws::good_files_are_tables;
 use std::alloc::{AllocError, Global};
@@ -20,17 +23,21 @@ pub(crate) struct Untried {
     place: u32,
 }
 
-// Tries a suffix. Then come those that go on from it, and after these the next that goes on from the same one.
+// Tries a suffix, and tells whether it splits classes. Then come those that go on from it, and after these the next that goes on from the
+// same one.
 pub(crate) fn try_next(
     alloc: Global,
     file: &AutoFile,
     links: &Links,
+    steps: &mut Steps,
     at: Untried,
     left: &mut Vec<Untried>,
     numbers: &mut Vec<u32>,
-) -> Result<(), AllocError>
+) -> Result<bool, AllocError>
+    requires kept { AreKept (table_of file.now) steps.old.kept.items }
     requires links { AreLinks file.now links.now.first.items links.now.next.items }
     requires walk { IsWalk file.now links.now.first.items links.now.next.items (left.old.items ++ at ∷ []) numbers.old.items }
+    ensures kept { OnOk result (AreKept (table_of file.now) steps.new.kept.items) }
     ensures walk { OnOk result (IsWalk file.now links.now.first.items links.now.next.items left.new.items numbers.new.items) }
     ensures shorter { OnOk result (work_left file.now links.now.next.items left.new.items < work_left file.now links.now.next.items (left.old.items ++ at ∷ [])) }
 {
@@ -38,11 +45,12 @@ pub(crate) fn try_next(
     // for the prover: what is true of every file.
     file.keeps_the_rules();
     let place = at.place as usize;
-    let column = column(alloc, file, &at.column, file.suffixes()[place])?;
-    *numbers = split(alloc, numbers, &column)?;
+    let column = column(alloc, file, steps, &at.column, file.suffixes()[place])?;
+    let splits = split_all(alloc, numbers, &column)?;
     wait(left, at.column, links.next[place])?;
     let below = first_below(links.first[place], &column);
-    wait(left, column, below)
+    wait(left, column, below)?;
+    Ok(splits)
 }
 
 // The first suffix below one, unless that tells no states apart. Then those below it do not either.
@@ -50,7 +58,8 @@ fn first_below(first: Option<u32>, column: &[bool]) -> Option<u32>
     requires { 0 < length column.now }
     ensures { IsFirstBelow column.now first result }
 {
-    if is_steady(column) { None } else { first }
+    let place = first?;
+    if is_steady(column) { None } else { Some(place) }
 }
 
 // Whether a column is the same at all states.

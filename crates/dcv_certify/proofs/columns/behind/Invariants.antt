@@ -1,6 +1,7 @@
-use Rattle.dcv_automaton_text.specs.Meaning.{table_of}
-use Rattle.dcv_certify.proofs.Bits.{IsBehindSoFar}
+use Rattle.std.proofs.Common.{◌≡◌, suc, length, map, take}
+use Rattle.dcv_certify.specs.Split.{bit_at}
 use Rattle.dcv_certify.proofs.columns.behind.Given as goal
 
+-- the bits of the states before this place
 abbrev pub invariant-loop-state : goal.invariant-loop-state
-invariant-loop-state l = IsBehindSoFar (table_of l.file) l.letter l.from l.column.items l.state
+invariant-loop-state l = (length l.column.items ≡ suc (length l.next)) × (take l.state l.column.items ≡ map (bit_at l.from) (take l.state l.next))

@@ -1,8 +1,14 @@
 use Rattle.std.proofs.Common.{◌≡◌, ◌+◌, arith}
 use Rattle.std.proofs.lemmas.Result.{IfOk-weaker}
 use Rattle.dcv_certificate.specs.Partition.{IsMovedTo}
+use Rattle.dcv_certificate.proofs.Counting.{one_if_le}
 use Rattle.dcv_certificate.proofs.Moving.{moved_behind}
 use Rattle.dcv_certificate.proofs.partition.Partition.new_block.Goals as goal
+
+pub number_behind-requires : goal.number_behind-requires
+number_behind-requires c =
+    let ok = c.in_ok-place.ensures in
+    omega (arith, c.requires, ok.within, ok.len, one_if_le c.in_ok-place.field-0-1)
 
 pub returns : goal.returns
 returns c =

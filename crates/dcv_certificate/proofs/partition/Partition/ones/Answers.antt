@@ -1,4 +1,4 @@
-use Rattle.std.proofs.Common.{◌≡◌, ◌<◌, ◌+◌, ◌==◌, ◌||◌, ◌&&◌, true, false, ℕ, List, length, take, get_or, sym, ap, subst, ◌∙◌}
+use Rattle.std.proofs.Common.{◌≡◌, ◌<◌, ◌+◌, ◌==◌, ◌||◌, ◌&&◌, true, false, ℕ, List, length, take, get_or, sym, ap, subst, ◌∙◌, arith}
 use Rattle.std.proofs.lemmas.Bool.{eq-eqb, ne_eqb}
 use Rattle.std.proofs.lemmas.List.{take_all, get_or_default}
 use Rattle.std.proofs.lemmas.List.Folds.{list_any_more}
@@ -8,6 +8,8 @@ use Rattle.dcv_arena.specs.declared.nodes.Ref.TheVariants.{Leaf}
 use Rattle.dcv_certificate.specs.declared.ones.Ones.{Ones}
 use Rattle.dcv_certificate.specs.Marks.{marked}
 use Rattle.dcv_certificate.specs.Ones.{is_one, IsOneMore, AreCounted}
+use Rattle.dcv_refinement.specs.Members.{block_of}
+use Rattle.dcv_certificate.proofs.Sizing.{count-le}
 use Rattle.dcv_certificate.proofs.Counted.{counted_none, counted_more}
 use Rattle.dcv_certificate.proofs.Truths.{or_neither, and_right, and_second}
 use Rattle.dcv_certificate.proofs.partition.Partition.ones.Goals as goal
@@ -15,6 +17,12 @@ use Rattle.dcv_certificate.proofs.partition.Partition.ones.Goals.{Joined-eval-eq
 
 pub loop-state-init : goal.loop-state-init
 loop-state-init c = record { so_far = c.new-ones.ensures.none; counted = counted_none c.args.self.now.blocks.items c.new-ones.result c.new-ones.ensures }
+
+pub add-requires : goal.add-requires
+add-requires c =
+    let blocks = c.args.self.now.blocks in
+    let some = count-le (length blocks.items) (λ state. (block_of blocks.items state == c.index.result.now) && is_one c.loop-state.ones state) in
+    omega (arith, c.loop-state.invariant.counted.numbers c.index.result.now, some, blocks.ok.0, blocks.ok.1, blocks.small)
 
 module _ (c : Joined-eval-eq1) where
   abbrev mark : ℕ × Ref

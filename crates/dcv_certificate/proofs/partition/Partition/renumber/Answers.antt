@@ -31,6 +31,11 @@ module _ (c : In_ok-block) where
       number_fits c.args.self.now.count c.loop-state.left.keys c.new_block.new.left.keys (block_of c.loop-state.self.blocks.items (get_or c.args.part.now c.loop-state.state-index 0)) c.in_ok-block.block
       (length c.loop-state.self.sizes.items) c.loop-state.invariant.bound moved_to (all_below (get_or c.args.part.now c.loop-state.state-index 0) 0 inside)
 
+pub new_block-requires : goal.new_block-requires
+new_block-requires c =
+    let sizes = c.loop-state.self.sizes in
+    omega (arith, c.loop-state.invariant.bound, c.loop-state.invariant.count, sizes.ok.0, sizes.ok.1, sizes.small)
+
 pub move_to-requires-clause-numbers : goal.move_to-requires-clause-numbers
 move_to-requires-clause-numbers c = all_below ((goal.at.move_to-requires-clause-numbers c).In_ok-block)
 

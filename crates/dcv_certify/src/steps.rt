@@ -1,0 +1,99 @@
+//! Where letters lead from all states. What was found for a letter is kept, since most texts have few letters.
+ghost use Rattle.std.specs.Prelude.{◌≡◌, ◌<◌, length, None, slice_index_or, IfOk, OnOk, IsTrue};
+ghost use Rattle.dcv_language.specs.Table.{Table};
+ghost use Rattle.dcv_automaton_text.specs.Meaning.{table_of};
+ghost use Rattle.dcv_certify.specs.Steps.{LeadTo, next_of, AreKept};
+
+use dcv_automaton_read::AutoFile;
+use dcv_automaton_text::laws::good_files_are_tables;
+use dcv_word::Letter;
+use std::alloc::{AllocError, Global};
+
+// How many letters are kept at most. Where these lead takes 262 MB where there are as many states as there may be.
+const MOST_KEPT: usize = 2048;
+
+// A letter, and for each state the next one.
+#[derive(Drop)]
+pub(crate) struct Step {
+    letter: Letter,
+    next: Vec<u32>,
+}
+
+// The letters that are kept, each at the place that its number gives. A later one takes the place of an earlier one.
+#[derive(Drop)]
+pub(crate) struct Steps {
+    kept: Vec<Option<Step>>,
+}
+
+impl Steps {
+    // No letters.
+    pub(crate) fn new(alloc: Global) -> Result<Steps, AllocError>
+        ensures { IfOk result (λ steps. (table : Table) → AreKept table steps.kept.items) }
+    {
+        let mut kept = Vec::new(alloc);
+        while kept.len() < MOST_KEPT {
+            kept.push(None)?;
+        }
+        Ok(Steps { kept })
+    }
+
+    // The place at which it is kept where a letter leads.
+    pub(crate) fn meet(
+        &mut self,
+        alloc: Global,
+        file: &AutoFile,
+        letter: Letter,
+    ) -> Result<usize, AllocError>
+        requires kept { AreKept (table_of file.now) self.old.kept.items }
+        requires width { length letter ≡ length file.now.names }
+        ensures kept { OnOk result (AreKept (table_of file.now) self.new.kept.items) }
+        ensures place { IfOk result (λ place. place < length self.new.kept.items) }
+        ensures leads { IfOk result (λ place. LeadTo (table_of file.now) letter (next_of (slice_index_or self.new.kept.items place None))) }
+    {
+        let place = letter.bits() as usize % self.kept.len();
+        if self.has(place, letter) {
+            return Ok(place);
+        }
+        let next = next_states(alloc, file, letter)?;
+        self.kept[place] = Some(Step { letter, next });
+        Ok(place)
+    }
+
+    // Whether it is this letter that is kept at a place.
+    fn has(&self, place: usize, letter: Letter) -> bool
+        requires { place < length self.now.kept.items }
+        ensures { (table : Table) → AreKept table self.now.kept.items → IsTrue result
+            → LeadTo table letter (next_of (slice_index_or self.now.kept.items place None)) }
+    {
+        match &self.kept[place] {
+            None => false,
+            Some(step) => step.letter == letter,
+        }
+    }
+
+    // The next states that are kept at a place.
+    pub(crate) fn next_at(&self, place: usize) -> &[u32]
+        requires { place < length self.now.kept.items }
+        ensures { result.now ≡ next_of (slice_index_or self.now.kept.items place None) }
+    {
+        match &self.kept[place] {
+            None => &[],
+            Some(step) => &step.next,
+        }
+    }
+}
+
+// For each state the next one.
+fn next_states(alloc: Global, file: &AutoFile, letter: Letter) -> Result<Vec<u32>, AllocError>
+    requires { length letter ≡ length file.now.names }
+    ensures { IfOk result (λ next. LeadTo (table_of file.now) letter next.items) }
+{
+    good_files_are_tables();
+    // for the prover: what is true of every file.
+    file.keeps_the_rules();
+    let mut next = Vec::new(alloc);
+    for state in 0..file.states() {
+        next.push(file.next(state, &letter))?;
+    }
+    Ok(next)
+}
