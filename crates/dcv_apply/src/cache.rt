@@ -14,7 +14,9 @@ use std::num::NonZeroUsize;
 
 #[derive(Drop)]
 pub(crate) struct Cache {
+    // the cache, once it has an entry
     made: Option<LruCache<Key, Ref>>,
+    // how many entries it may have
     capacity: NonZeroUsize,
 }
 

@@ -14,10 +14,15 @@ use std::hash::{Hash, Hasher};
 // Two operands, which most visits have. Which place above 0 the second arena had, and the place of a leaf, are left out.
 #[derive(Clone, Copy, Debug, PartialEq, Eq)]
 pub(crate) struct Pair {
+    // the operation with its sources
     round: u32,
+    // the number or the place of the first operand
     one: u32,
+    // those of the second
     other: u32,
+    // the first operand's source, and whether it is a leaf
     one_kind: Kind,
+    // those of the second
     other_kind: Kind,
 }
 
@@ -108,8 +113,11 @@ impl Pair {
 // an entry goes over the operands again to hash them. Leaves alone are not looked up, so they have none.
 #[derive(PartialEq, Eq, Drop)]
 pub(crate) struct Key {
+    // a hash of the round and the operands, by which keys are told apart first
     digest: u32,
+    // the operation with its sources
     pub(crate) round: u32,
+    // what is merged
     pub(crate) operands: Operands,
 }
 

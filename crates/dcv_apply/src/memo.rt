@@ -46,13 +46,17 @@ fn make_first_room(pairs: &mut IndexMap<Pair, Ref>, most: usize)
 /// entries are found again in their round alone.
 #[derive(Drop)]
 pub struct Memo {
+    // results for pairs, of the younger generation
     younger: IndexMap<Pair, Ref>,
+    // those of the generation before, which are forgotten with the next
     older: IndexMap<Pair, Ref>,
+    // results for other numbers of operands: the first that came, while there is room
     first: IndexMap<Key, Ref>,
     // How many operands the keys of `first` have together.
     operands: usize,
     // How many entries the maps may have together.
     room: usize,
+    // the rest, of which the one used least lately goes first
     later: Cache,
 }
 

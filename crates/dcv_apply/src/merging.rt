@@ -127,9 +127,13 @@ pub fn apply_last<G: Merge>(
 // What does not change while functions are merged.
 #[derive(Drop)]
 pub(crate) struct Operation<'a> {
+    // where lists of operands are allocated
     pub(crate) alloc: Global,
+    // the arenas of the operands
     pub(crate) sources: Sources<'a>,
+    // the last slot at which results are remembered
     last_slot: LastSlot,
+    // the number of this operation with its sources in the memo
     round: u32,
 }
 

@@ -96,7 +96,9 @@ pub(crate) enum LastSlot {
 // The arenas whose functions are merged.
 #[derive(Drop)]
 pub(crate) struct Sources<'a> {
+    // the arena of operands with the number 0
     pub(crate) first: &'a Arena,
+    // the arena of operands with the number 1
     pub(crate) second: &'a Arena,
 }
 

@@ -10,10 +10,15 @@ use std::marker::Model;
 // A node with the numbers of its children apart from whether they are leaves.
 #[derive(Clone, Copy, Debug, PartialEq, Eq)]
 pub(crate) struct StoredNode {
+    // the number or the place of the child where the slot is false
     lo: u32,
+    // those of the child where it is true
     hi: u32,
+    // the slot at which the function divides
     slot: u8,
+    // whether `lo` is a number
     lo_is_leaf: bool,
+    // whether `hi` is one
     hi_is_leaf: bool,
 }
 

@@ -13,7 +13,9 @@ use std::alloc::Global;
 /// A name of the line, and whether it is the last there.
 #[derive(Clone, Copy)]
 struct Listed<'a> {
+    // the word
     word: &'a [u8],
+    // whether no word follows it
     is_last: bool,
 }
 

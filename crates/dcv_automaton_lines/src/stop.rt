@@ -7,6 +7,7 @@ use std::alloc::{AllocError, AllocFailed};
 /// A text that begins a part up to what is left of it, and no further.
 #[derive(Clone, Copy)]
 pub struct Stuck<'a> {
+    /// The text from where no line goes on.
     pub left: &'a [u8],
 }
 

@@ -20,7 +20,9 @@ pub enum Symbol {
 /// A body, and the classes that pick it. What the body derives begins with one of them.
 #[derive(Clone, Copy)]
 pub struct Alternative<'g> {
+    /// The classes of tokens with which it is chosen.
     pub classes: &'g [u8],
+    /// What it stands for.
     pub body: &'g [Symbol],
 }
 
@@ -30,7 +32,9 @@ pub struct Alternative<'g> {
 /// reader takes it at a class that picks nothing too, and still finds the fault at that class.
 #[derive(Clone, Copy)]
 pub struct Production<'g> {
+    /// The bodies that are chosen by the class of the next token.
     pub alternatives: &'g [Alternative<'g>],
+    /// The body that is chosen by no class of these.
     pub otherwise: &'g [Symbol],
 }
 
@@ -40,7 +44,9 @@ pub struct Production<'g> {
 /// may be too large for a check, so a large grammar has several, each from a function of its own.
 #[derive(Clone, Copy)]
 pub struct ContextFree<'g> {
+    /// The rule of whole texts.
     pub start: u8,
+    /// The rules, table by table.
     pub tables: &'g [&'g [Production<'g>]],
 }
 

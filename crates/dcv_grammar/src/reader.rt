@@ -16,7 +16,9 @@ use std::alloc::{AllocError, Global};
 /// After a refusal, or running out of memory, nothing more is known of it.
 #[derive(Drop)]
 pub struct Reading<'g> {
+    // what is read by
     grammar: ContextFree<'g>,
+    // what is still to come, the next symbol last
     stack: Vec<Symbol>,
 }
 

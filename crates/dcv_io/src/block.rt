@@ -10,8 +10,11 @@ use crate::{Failed, Sink, Target, write_all};
 /// Once a write has failed nothing more is written.
 #[derive(Drop)]
 pub struct Block<'a, S> {
+    // where the bytes go
     sink: &'a mut S,
+    // the bytes that were put and not yet written
     held: Held,
+    // whether a write has failed
     failed: bool,
 }
 

@@ -22,6 +22,7 @@ pub trait FileSystem {
 /// The files of the system, by their paths. A directory may be opened, and its first read fails.
 #[derive(Drop)]
 pub struct SystemFiles<R: rt::Files> {
+    // what opens
     runtime: R,
 }
 

@@ -8,7 +8,9 @@ const BLOCK: usize = 4096;
 // At most a block of bytes.
 #[derive(Drop)]
 pub(crate) struct Held {
+    // the bytes, from the start
     bytes: [u8; BLOCK],
+    // how many of them count
     filled: usize,
 }
 

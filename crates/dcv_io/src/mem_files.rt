@@ -13,24 +13,34 @@ use std::marker::Model;
 /// Files in memory, which tell everything but the names that they were asked for. They stand in for the real ones in tests.
 #[derive(Drop)]
 pub struct MemFiles {
+    // where copies of files are allocated
     alloc: Global,
+    // the files with their names
     files: Vec<HeldFile>,
+    // what is left to read of the file that is open
     place: Option<Place>,
+    // how long reads are, and which calls fail
     schedule: Schedule,
+    // how many opens have failed
     open_faults: u64,
+    // how many reads have failed
     read_faults: u64,
 }
 
 #[derive(Drop)]
 struct HeldFile {
+    // its name
     name: String,
+    // what it holds
     bytes: Vec<u8>,
 }
 
 // Where the next read begins: the file by its index, and the byte in it.
 #[derive(Clone, Copy)]
 struct Place {
+    // which file
     file: usize,
+    // where the next read begins
     at: usize,
 }
 

@@ -13,10 +13,15 @@ use std::marker::Model;
 /// A sink in memory, which tells everything. It stands in for a real one in tests.
 #[derive(Drop)]
 pub struct MemSink {
+    // what was written
     bytes: Vec<u8>,
+    // how many bytes there may be
     room: usize,
+    // how long writes are, and which fail
     schedule: Schedule,
+    // how many writes have failed
     faults: u64,
+    // whether the last write has
     last_failed: bool,
 }
 

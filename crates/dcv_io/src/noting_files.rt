@@ -10,8 +10,11 @@ use std::marker::Model;
 /// tell no names any more.
 #[derive(Drop)]
 pub struct NotingFiles<F: Files> {
+    // where names are kept
     alloc: Global,
+    // the files that are asked
     files: F,
+    // the names that were asked for, as long as memory lasts
     names: Option<Vec<String>>,
 }
 

@@ -18,10 +18,15 @@ const BLOCK: usize = 4096;
 /// A read that a signal interrupts has failed.
 #[derive(Drop)]
 pub struct RealFiles<S: FileSystem> {
+    // what opens
     system: S,
+    // the file that is open
     file: Option<S::File>,
+    // how many opens have failed
     open_faults: u64,
+    // how many reads have failed
     read_faults: u64,
+    // how many opens and reads there were
     calls: u64,
 }
 

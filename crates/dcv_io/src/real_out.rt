@@ -39,8 +39,11 @@ impl Stream for Stderr {
 /// A stream. Nothing is kept back: what a write has taken is written.
 #[derive(Drop)]
 pub struct RealOut<W: Stream> {
+    // where the bytes go
     stream: W,
+    // how many writes have failed
     faults: u64,
+    // whether the last write has
     last_failed: bool,
 }
 

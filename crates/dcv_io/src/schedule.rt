@@ -9,9 +9,13 @@ use std::marker::Model;
 // Which calls fail, and how many bytes each call moves at most.
 #[derive(Drop)]
 pub struct Schedule {
+    // how many bytes each of the first calls moves at most, in turn
     sizes: Vec<usize>,
+    // whose turn is next
     turn: usize,
+    // the numbers of the calls that fail
     fails: Vec<u64>,
+    // how many calls there were
     calls: u64,
 }
 

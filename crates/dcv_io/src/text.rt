@@ -8,7 +8,9 @@ use std::alloc::{AllocError, Global};
 /// A text in memory that is put together piece by piece.
 #[derive(Drop)]
 pub struct Text {
+    // what was put
     bytes: Vec<u8>,
+    // whether memory ran out, so that bytes are missing
     failed: bool,
 }
 

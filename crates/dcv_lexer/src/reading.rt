@@ -8,6 +8,7 @@ use crate::tables::Lexicon;
 /// A token where it stands.
 #[derive(Clone, Copy)]
 pub struct Lexeme<'a> {
+    /// Its bytes.
     pub bytes: &'a [u8],
     /// The offset of its first byte.
     pub start: u32,
@@ -18,8 +19,11 @@ pub struct Lexeme<'a> {
 /// The tokens of a text from some offset on. They end where no piece begins: at the end of the text, or before.
 #[derive(Drop)]
 pub struct Lexer<'a> {
+    // what the language is written with
     lexicon: &'a Lexicon<'a>,
+    // the text that is left
     rest: &'a [u8],
+    // where it begins in the whole text
     start: u32,
     ghost orderly: { IsTrue (is_orderly (lexicon_of lexicon.now)) },
     ghost in_range: { start + length rest.now < 2 ^ 32 },

@@ -71,7 +71,9 @@ struct Refining {
     places: Places,
     // What was found above the states that moved, how many of each block that are, and what is listed of them: lists that each round fills.
     found: Above,
+    // how many states each block has
     counts: Counts,
+    // the states that a round looks at
     listed: Listed,
 }
 

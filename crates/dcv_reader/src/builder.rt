@@ -28,7 +28,9 @@ use std::alloc::{AllocError, Global};
 /// The tokens of a sentence that are left, and the allocator of the tree.
 #[derive(Drop)]
 pub struct Builder<'t, 'a> {
+    // where trees are allocated
     alloc: Global,
+    // the tokens that are left
     rest: &'t [Token<'a>],
     ghost small_numbers: { HasSmallNumbers (map seen rest.now) },
 }

@@ -36,10 +36,15 @@ impl Above {
 // The rows, what stands directly above each leaf and node, and the leaves where the way begins.
 #[derive(Drop)]
 pub(crate) struct Climb<'a> {
+    // the arena of the rows
     pub(crate) arena: &'a Arena,
+    // the row of each state
     pub(crate) refs: &'a [Ref],
+    // for each node its parents
     pub(crate) nodes: &'a Lists,
+    // for each ref the states with this row
     pub(crate) rows: &'a Lists,
+    // the numbers from whose leaves the way begins
     pub(crate) leaves: &'a [u32],
 }
 

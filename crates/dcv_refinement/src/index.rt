@@ -17,9 +17,13 @@ use std::marker::Model;
 /// The nodes above each leaf and node of some rows, and the rows that it is, by their places.
 #[derive(Drop)]
 pub struct Index<'a> {
+    // the arena of the rows
     arena: &'a Arena,
+    // the row of each state
     refs: &'a [Ref],
+    // for each node its parents
     nodes: Lists,
+    // for each ref the states with this row
     rows: Lists,
 }
 

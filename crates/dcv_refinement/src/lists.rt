@@ -10,15 +10,20 @@ use std::alloc::{AllocError, Global};
 // A number in a list, and the entry before it, counted from 1, or 0 where it is the first.
 #[derive(Clone, Copy)]
 pub(crate) struct Entry {
+    // what is listed
     pub(crate) number: u32,
+    // the entry before it, counted from 1, or 0
     pub(crate) earlier: u32,
 }
 
 // For each leaf and each place the last entry of its list, counted from 1, or 0 where nothing is listed.
 #[derive(Drop)]
 pub(crate) struct Lists {
+    // for each leaf the last entry of its list, counted from 1, or 0
     pub(crate) leaves: Vec<u32>,
+    // the same for each place
     pub(crate) places: Vec<u32>,
+    // the entries of all lists, in the order in which they came
     pub(crate) entries: Vec<Entry>,
 }
 

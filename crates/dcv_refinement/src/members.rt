@@ -10,6 +10,7 @@ use std::marker::Model;
 /// A list for each block, of its members and maybe of some that have moved on.
 #[derive(Drop)]
 pub struct Members {
+    // the members of each block, and some that have moved on
     lists: Vec<Vec<u32>>,
 }
 

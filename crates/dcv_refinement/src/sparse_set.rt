@@ -12,7 +12,9 @@ use std::marker::Model;
 /// Numbers, in the order in which they came. It takes four bytes for each number up to the largest that it ever had.
 #[derive(Drop)]
 pub struct SparseSet {
+    // the numbers in the set, in the order in which they came
     numbers: Vec<u32>,
+    // for each number that came its place among these
     places: Vec<u32>,
 }
 

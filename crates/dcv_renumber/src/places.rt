@@ -11,7 +11,9 @@ use std::marker::Model;
 // What a place became in a round.
 #[derive(Clone, Copy)]
 pub(crate) struct Became {
+    // the round that wrote it
     round: u32,
+    // what the place became then
     new: Ref,
 }
 
@@ -25,7 +27,9 @@ const BLANK: Became = Became {
 /// the list may be handed from round to round, and from arena to arena.
 #[derive(Drop)]
 pub struct Places {
+    // an entry for each place
     became: Vec<Became>,
+    // the number of this round
     round: u32,
 }
 

@@ -46,7 +46,9 @@ pub fn remap(
 /// Give all calls of `remap` one arena for their results. Between two calls other operations may add nodes to it.
 #[derive(Drop)]
 pub struct Remapping<'a> {
+    // whose functions, by which list
     numbers: Numbers<'a>,
+    // what places became so far
     places: Places,
 }
 
@@ -130,7 +132,9 @@ impl Remapping<'_> {
 // Whose functions get which numbers.
 #[derive(Drop)]
 struct Numbers<'a> {
+    // the arena of the functions
     from: &'a Arena,
+    // the new number of each number
     new: &'a [u32],
 }
 

@@ -61,6 +61,7 @@ struct Binding<'a> {
 // What is in sight at a form.
 #[derive(Drop)]
 struct Sight<'a> {
+    // where what is made is allocated
     alloc: Global,
     // How many slots are in use.
     slots: u8,
@@ -70,7 +71,9 @@ struct Sight<'a> {
     variables: &'a [Name],
     // The macros before this one, in order, with their measures, and the places to which relays hand on.
     macros: &'a [Macro],
+    // the numbers that measure each macro
     measures: &'a [MacroMeasure],
+    // for each macro the argument that it hands on, if it does nothing else
     relays: &'a [Option<usize>],
 }
 

@@ -259,13 +259,17 @@ fn within(outer: Share, share: Option<Share>) -> Option<Share>
 // What is in sight in a macro's body or in the goal.
 #[derive(Drop)]
 struct Sight<'a> {
+    // where what is made is allocated
     alloc: Global,
     // Quantified names, the innermost first, the macro's parameters, and the declared variables.
     quantified: Vec<&'a Name>,
+    // the parameters of the macro that is measured
     parameters: &'a [Name],
+    // the variables
     declared: &'a [Name],
     // The macros before this one, in order, and their measures.
     macros: &'a [Macro],
+    // the numbers that measure each macro
     measures: &'a [MacroMeasure],
 }
 

@@ -21,6 +21,7 @@ use std::alloc::{AllocError, Global};
 // What is in sight at a name.
 #[derive(Drop)]
 struct Sight<'a> {
+    // where what is made is allocated
     alloc: Global,
     // Declared variables, parameters and quantified names.
     variables: Vec<&'a Name>,

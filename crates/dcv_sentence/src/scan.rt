@@ -20,8 +20,11 @@ const DEEPEST: u32 = 500;
 /// A text with its tokens, and the rest that is cut into none: it is empty, or begins with the byte fault.
 #[derive(Drop)]
 pub struct Scan<'a> {
+    /// The whole text.
     pub text: &'a [u8],
+    /// Its tokens, as far as it could be cut.
     pub tokens: Vec<Token<'a>>,
+    /// What is left after them.
     pub rest: &'a [u8],
 }
 

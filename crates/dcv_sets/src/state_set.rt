@@ -11,6 +11,7 @@ use std::marker::Model;
 /// A set of states, in ascending order.
 #[derive(Drop)]
 pub struct StateSet {
+    // the numbers of its states, in order
     states: SmallVec<u32, 8>,
 }
 

@@ -8,6 +8,7 @@ use std::marker::Model;
 /// standard's example of `rand`.
 #[derive(Drop)]
 pub struct Draw {
+    // the state of the generator
     state: u32,
 }
 

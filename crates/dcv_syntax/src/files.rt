@@ -17,9 +17,13 @@ pub enum MacroBody {
 /// A macro: `define name(a, b) as F;` or `prop name(a, b) as P;`. The span has all of it, the `;` too.
 #[derive(Drop)]
 pub struct Macro {
+    /// Its name.
     pub name: Name,
+    /// The names of its parameters.
     pub parameters: Vec<Name>,
+    /// What it stands for.
     pub body: MacroBody,
+    /// The place of the whole definition.
     pub span: Span,
 }
 
@@ -27,8 +31,11 @@ pub struct Macro {
 /// span begins at the first token after that word.
 #[derive(Drop)]
 pub struct File {
+    /// The declared variables, in order.
     pub variables: Vec<Name>,
+    /// The macros, in order.
     pub macros: Vec<Macro>,
+    /// The formula after `infer`.
     pub goal: FormulaOperand,
 }
 

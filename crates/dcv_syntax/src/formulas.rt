@@ -15,7 +15,9 @@ pub enum Relation {
 /// A number as it stands in the source, 0 to 9,999.
 #[derive(Clone, Copy, Debug, PartialEq, Eq)]
 pub struct Number {
+    /// Its value.
     pub value: u32,
+    /// Its place.
     pub span: Span,
 }
 
@@ -67,7 +69,9 @@ pub enum Quantifier {
 #[cycle(formula)]
 #[derive(Drop)]
 pub struct Formula {
+    /// Which form it has, and its parts.
     pub kind: FormulaKind,
+    /// Its place.
     pub span: Span,
 }
 
@@ -105,6 +109,8 @@ pub enum FormulaKind {
 #[cycle(formula)]
 #[derive(Drop)]
 pub struct FormulaOperand {
+    /// The formula.
     pub formula: Formula,
+    /// Its place with the parentheses around it.
     pub span: Span,
 }

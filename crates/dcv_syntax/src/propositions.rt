@@ -22,7 +22,9 @@ pub enum Direction {
 #[cycle(prop)]
 #[derive(Drop)]
 pub struct Prop {
+    /// Which form it has, and its parts.
     pub kind: PropKind,
+    /// Its place.
     pub span: Span,
 }
 
@@ -48,6 +50,8 @@ pub enum PropKind {
 #[cycle(prop)]
 #[derive(Drop)]
 pub struct PropOperand {
+    /// The proposition.
     pub prop: Prop,
+    /// Its place with the parentheses around it.
     pub span: Span,
 }

@@ -20,6 +20,7 @@ pub(crate) struct Answer {
 // The answers of an arena's nodes.
 #[derive(Drop)]
 pub(crate) struct Answers<'a> {
+    // the arena of the rows
     pub(crate) arena: &'a Arena,
     // For each state whether it is in the set.
     win: &'a [bool],

@@ -16,6 +16,7 @@ use std::alloc::{AllocError, Global};
 // What is forced while some states are lost.
 #[derive(Drop)]
 pub(crate) struct Forcing<'a> {
+    // the arena of the rows
     arena: &'a Arena,
     // how many of the first variables are inputs
     inputs: u8,

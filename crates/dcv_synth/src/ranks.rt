@@ -49,6 +49,7 @@ pub(crate) fn ranks(
 // What is known within one letter more than the bound.
 #[derive(Drop)]
 struct Standing<'a> {
+    // the bound
     bound: u32,
     // What is forced while those states are lost that reject, or are beaten within the bound.
     forcing: Forcing<'a>,

@@ -18,6 +18,7 @@ use std::alloc::{AllocError, Global};
 // How many names stand before those of the output rows' nodes.
 #[derive(Clone, Copy)]
 pub(crate) struct Places {
+    // how many inputs there are
     pub(crate) inputs: u32,
     // the nodes of the next-state rows
     pub(crate) nexts: u32,

@@ -22,6 +22,7 @@ pub struct Strategy {
 /// What the environment picks in a state.
 #[derive(Clone, Copy)]
 pub struct Move {
+    /// The state in which it is made.
     pub state: u32,
     /// Within how many letters a word is rejected, whatever the outputs are.
     pub rank: u32,

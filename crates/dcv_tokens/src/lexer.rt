@@ -14,6 +14,7 @@ use dcv_syntax::Span;
 /// A token where it stands.
 #[derive(Clone, Copy)]
 pub struct Token<'a> {
+    /// Its bytes.
     pub bytes: &'a [u8],
     /// The offset of its first byte.
     pub start: u32,
@@ -117,6 +118,7 @@ impl Classified for Token<'_> {
 /// The tokens of a formula file from some offset on. They end where no piece begins: at the end, or at a byte fault.
 #[derive(Drop)]
 pub struct Tokens<'a> {
+    // what cuts the text
     lexer: Lexer<'a>,
     ghost of_formulas: { lexicon_of lexer.lexicon.now ≡ formulas },
 }

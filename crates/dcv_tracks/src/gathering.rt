@@ -22,8 +22,11 @@ pub const MOST_SHIFTS: usize = 32;
 /// A prior or next proposition, with the first place where it stands.
 #[derive(Clone, Copy, Drop)]
 pub struct Shift<'a> {
+    // to the instant before, or to the next
     pub(crate) direction: Direction,
+    // what is looked at there
     pub(crate) operand: &'a Truth,
+    // its place in the text
     pub(crate) span: Span,
 }
 

@@ -17,6 +17,7 @@ use std::alloc::{AllocError, Global};
 // The shifts of a goal over so many declared variables.
 #[derive(Drop)]
 struct Placing<'a> {
+    // where what is made is allocated
     alloc: Global,
     // how many variables are declared
     declared: u8,

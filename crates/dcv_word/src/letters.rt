@@ -12,7 +12,9 @@ use std::marker::Model;
 /// counted from the highest of the letter's `width` bits.
 #[derive(Clone, Copy, Debug)]
 pub struct Letter {
+    // how many variables it has
     width: u8,
+    // their truths, the first variable's in the highest place
     bits: u32,
 }
 

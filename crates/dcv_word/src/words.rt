@@ -12,7 +12,9 @@ use std::marker::Model;
 /// A row of letters, each of the word's width.
 #[derive(Drop)]
 pub struct Word {
+    // how many variables letters have
     width: u8,
+    // the letters, in order
     letters: Vec<Letter>,
 }
 

@@ -72,7 +72,9 @@ fn whole_prop(connective: Connective, operands: Vec<PropOperand>) -> PropOperand
 /// The arguments of a call, and the span of their parentheses, if these stand there.
 #[derive(Drop)]
 pub struct Arguments {
+    /// The arguments, in order.
     pub props: Vec<Prop>,
+    /// The place of the parentheses around them, if there are any.
     pub parentheses: Option<Span>,
 }
 
