@@ -1,5 +1,5 @@
 -- The functions that have 1 where letters lead into a part, made from those of the two sides of a node, and the marks that they give.
-use Rattle.std.proofs.Common.{◌≡◌, ℕ, ◌<◌, ◌≤◌, ◌+◌, ◌==◌, ◌||◌, ◌&&◌, if◌then◌else◌, Bool, true, false, cond, nat_eq, List, [], ◌∷◌, ◌++◌, length, get_or, take, All, Contains, Option, Some, inl, inr, refl, ap, sym, subst, ◌∙◌, arith}
+use Rattle.std.proofs.Common.{◌≡◌, ◌≢◌, ℕ, ◌<◌, ◌≤◌, ◌+◌, ◌==◌, ◌||◌, ◌&&◌, if◌then◌else◌, Bool, true, false, cond, nat_eq, List, [], ◌∷◌, ◌++◌, length, get_or, take, All, Contains, Option, Some, None, is_some, inl, inr, refl, ap, sym, subst, ◌∙◌, arith}
 use Rattle.std.proofs.lemmas.Bool.{cases_Bool, cases_eq, true≢false, eq-eqb, ne_eqb}
 use Rattle.std.specs.Cmp.{nat_eq_equiv}
 use Rattle.std.proofs.lemmas.List.Elements.{All-contains}
@@ -13,9 +13,11 @@ use Rattle.dcv_refinement.specs.Leads.{row_at, index_of, LeadsInto, IsRowInto}
 use Rattle.dcv_refinement.proofs.Fitted.{leads_at}
 use Rattle.dcv_dfa.specs.Raw.{RawValue, next_in}
 use Rattle.dcv_certificate.specs.declared.indicators.Part.{Part}
-use Rattle.dcv_certificate.specs.Separation.{has, AreVertices}
+use Rattle.dcv_certificate.specs.Separation.{has, count_below, AreVertices}
 use Rattle.dcv_certificate.specs.Marks.{marked, IsMarkFrom}
-use Rattle.dcv_certificate.specs.Indicators.{part_of, leads, IsIndicator, Became, IsMarkedAbove, AreIndicators}
+use Rattle.dcv_certificate.specs.Indicators.{part_of, leads, IsIndicator, Became, KeepsEarlier, IsMarkedAbove, AreIndicators}
+use Rattle.dcv_certificate.proofs.Counting.{one_if, count_lt, count_change}
+use Rattle.dcv_certificate.proofs.Sizing.{count-le}
 use Rattle.dcv_certificate.proofs.Walking.{marked_kept, marked_push, one_or_not}
 use Rattle.dcv_certificate.proofs.Moving.{has_more_same, has_more_other}
 use Rattle.dcv_certificate.proofs.Having.{has_contained, contained}
@@ -39,6 +41,27 @@ became_more part scratch at new_at place mark is own was other found e = elim (c
       subst (λ place. IsIndicator part scratch (Place place) found) same (subst (IsIndicator part scratch (Place place)) (same_Some mark found here) own)
   | inr ne ↦ was other found (sym (is other ∙ ap (λ (test : Bool). cond test (Some mark) (at other)) (ne_eqb place other ne)) ∙ e)
 ]
+
+-- a node became nothing while what comes next at its sides did
+pub fresh_still : (part : Part) (place : ℕ) (lo hi : Ref) (old one two : ℕ → Option Ref) → old place ≡ None → KeepsEarlier part lo old one → KeepsEarlier part hi one two
+    → level_of part.arena.now (Place place) < level_of part.arena.now lo → level_of part.arena.now (Place place) < level_of part.arena.now hi → two place ≡ None
+fresh_still part place lo hi old one two fresh low high before_lo before_hi = high place before_hi ∙ low place before_lo ∙ fresh
+
+-- one place more became something
+module _ (nodes place : ℕ) (within : place < nodes) (at : ℕ → Option Ref) (fresh : at place ≡ None) where
+  pub not_all : count_below nodes (λ place. is_some (at place)) < nodes
+  not_all =
+      let all = count_lt nodes (λ place. is_some (at place)) (λ place. true) (λ place h is. refl) place within (ap is_some fresh) refl in
+      omega (arith, all, count-le nodes (λ place. true))
+
+  pub one_place_more : (new_at : ℕ → Option Ref) (mark : Ref) → ((other : ℕ) → new_at other ≡ cond (nat_eq place other) (Some mark) (at other))
+      → count_below nodes (λ place. is_some (at place)) + 1 ≡ count_below nodes (λ place. is_some (new_at place))
+  one_place_more new_at mark is =
+      let here : new_at place ≡ Some mark = is place ∙ ap (λ (test : Bool). cond test (Some mark) (at place)) (eq-eqb place place refl) in
+      let others : (other : ℕ) → other ≢ place → is_some (at other) ≡ is_some (new_at other) = λ other ne.
+      sym (ap is_some (is other ∙ ap (λ (test : Bool). cond test (Some mark) (at other)) (ne_eqb place other (λ e. ne (sym e))))) in
+      let change = count_change nodes (λ place. is_some (at place)) (λ place. is_some (new_at place)) place within others in
+      omega (arith, change, ap (λ at. one_if (is_some at)) here, ap (λ at. one_if (is_some at)) fresh)
 
 -- a node goes by its slot to the indicators of its two sides
 pub indicator_of_node : (part : Part) (old new : ArenaValue) (root lo hi mark low high : Ref) (slot : ℕ) → slot ≡ level_of part.arena.now root

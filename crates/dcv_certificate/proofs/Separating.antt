@@ -1,8 +1,6 @@
 -- What one suffix more does to a separation, and what follows once all suffixes were gone on from.
-use Rattle.std.proofs.Common.{◌≡◌, ◌≢◌, inl, inr, ℕ, suc, ◌<◌, Bool, List, [], ◌∷◌, ◌++◌, length, Result, Ok, Err, OnOk, MatchResult, IsErrAnd, refl, ap, sym, subst, ◌∙◌, arith}
+use Rattle.std.proofs.Common.{◌≡◌, ◌≢◌, inl, inr, ℕ, suc, ◌<◌, Bool, List, [], ◌∷◌, ◌++◌, length, Result, Ok, Err, OnOk, refl, ap, sym, subst, ◌∙◌, arith}
 use Rattle.std.proofs.lemmas.List.{length-append, get_or_append_left}
-use Rattle.std.proofs.lemmas.Option.{same_Some}
-use Rattle.std.specs.Result.{result_ok}
 use Rattle.std.proofs.Math.Seq.{get_or-append_seam}
 use Rattle.dcv_word.specs.Behaviour.{Word}
 use Rattle.dcv_arena.specs.declared.nodes.Ref.TheVariants.{Leaf}
@@ -188,12 +186,6 @@ in_turn raw listed middle new blocks between after a b = record {
 pub on_ok_two : {X E : Type 0} (result : Result X E) (P Q R : Type 0) → (P → Q → R) → OnOk result P → OnOk result Q → OnOk result R
 on_ok_two (Ok x) P Q R f p q = f p q
 on_ok_two (Err e) P Q R f p q = tt
-
--- what a call answered whose fault was exchanged
-pub was_ok : {X E F : Type 0} (before : Result X E) (after : Result X F) (x : X) (Q : E → F → Type 0)
-    → MatchResult before (λ y. after ≡ Ok y) (λ e. IsErrAnd after (Q e)) → after ≡ Ok x → before ≡ Ok x
-was_ok (Ok y) after x Q m e = ap Ok (same_Some y x (ap result_ok (sym m ∙ e)))
-was_ok (Err f) after x Q m e = absurd (subst (λ r. IsErrAnd r (Q f)) e m)
 
 -- ---- going on from a suffix
 

@@ -3,9 +3,11 @@
 --     leads part ref letter         whether a letter leads to such a state
 --     IsIndicator part scratch root mark   the mark has 1 where the root leads into the part, and depends on no slot before it
 --     Became part scratch at        what places became are their indicators
+--     HasFewNodes part scratch at   the scratch arena has no more nodes than there are places that became something
+--     KeepsEarlier part root old new   places of nodes with a slot before the root's became nothing more
 --     IsMarkedAbove part            all nodes that lead into the part are among those above it
 --     AreIndicators part rows looked scratch marks   the marks of the looked-at states are the indicators of their rows, and there are no others
-use Rattle.std.specs.Prelude.{◌≡◌, ℕ, ◌≤◌, ◌&&◌, nat_eq, Bool, true, if◌then◌else◌, List, Option, Some}
+use Rattle.std.specs.Prelude.{◌≡◌, ℕ, ◌<◌, ◌≤◌, ◌&&◌, nat_eq, Bool, true, if◌then◌else◌, List, length, Option, Some, is_some}
 use Rattle.indexmap.specs.IndexSet.{contains}
 use Rattle.dcv_refinement.specs.SparseSet.{has as is_among}
 use Rattle.dcv_arena.specs.Arena.{ArenaValue, IsRef, level_of, value_of}
@@ -13,7 +15,7 @@ use Rattle.dcv_arena.specs.declared.nodes.Ref.{Ref}
 use Rattle.dcv_arena.specs.declared.nodes.Ref.TheVariants.{Place}
 use Rattle.dcv_refinement.specs.Leads.{row_at}
 use Rattle.dcv_certificate.specs.declared.indicators.Part.{Part}
-use Rattle.dcv_certificate.specs.Separation.{has}
+use Rattle.dcv_certificate.specs.Separation.{has, count_below}
 use Rattle.dcv_certificate.specs.Marks.{marked}
 
 abbrev pub part_of : Part → ℕ → Bool
@@ -29,6 +31,12 @@ pub record IsIndicator (part : Part) (scratch : ArenaValue) (root mark : Ref) : 
 
 abbrev pub Became : Part → ArenaValue → (ℕ → Option Ref) → Type 0
 Became part scratch at = (place : ℕ) (mark : Ref) → at place ≡ Some mark → IsIndicator part scratch (Place place) mark
+
+abbrev pub HasFewNodes : Part → ArenaValue → (ℕ → Option Ref) → Type 0
+HasFewNodes part scratch at = length scratch.nodes ≤ count_below (length part.arena.now.nodes) (λ place. is_some (at place))
+
+abbrev pub KeepsEarlier : Part → Ref → (ℕ → Option Ref) → (ℕ → Option Ref) → Type 0
+KeepsEarlier part root old new = (place : ℕ) → level_of part.arena.now (Place place) < level_of part.arena.now root → new place ≡ old place
 
 abbrev pub IsMarkedAbove : Part → Type 0
 IsMarkedAbove part = (place : ℕ) (letter : List Bool) → IsRef part.arena.now (Place place) → leads part (Place place) letter ≡ true

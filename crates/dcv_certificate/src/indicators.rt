@@ -1,14 +1,14 @@
 // Where letters lead into a part of the states: a function for each row, which has 1 at the letters that do, and 0 at the others.
-ghost use Rattle.std.specs.Prelude.{◌≡◌, ◌<◌, ℕ, Bool, List, true, if◌then◌else◌, nat_eq, length, IfOk, OnOk, Contains};
+ghost use Rattle.std.specs.Prelude.{◌≡◌, ◌+◌, ◌^◌, ◌<◌, ◌≤◌, ℕ, Bool, List, [], true, false, if◌then◌else◌, nat_eq, length, slice_index_or, IfOk, OnOk, Contains};
 ghost use Rattle.std.specs.List.{All};
 ghost use Rattle.indexmap.specs.IndexMap.{get};
 ghost use Rattle.indexmap.specs.IndexSet.{contains};
-ghost use Rattle.dcv_arena.specs.Arena.{IsRef, IsArena, KeepsRefs, level_of};
+ghost use Rattle.dcv_arena.specs.Arena.{IsRef, IsArena, KeepsRefs, level_of, value_of};
 ghost use Rattle.dcv_certificate.specs.Separation.{has};
 ghost use Rattle.dcv_certificate.specs.Marks.{IsMarkFrom};
-ghost use Rattle.dcv_certificate.specs.Indicators.{IsIndicator, Became, IsMarkedAbove, part_of, AreIndicators};
+ghost use Rattle.dcv_certificate.specs.Indicators.{IsIndicator, Became, HasFewNodes, KeepsEarlier, IsMarkedAbove, part_of, AreIndicators};
 
-use dcv_arena::{Arena, Ref};
+use dcv_arena::{Arena, ArenaFault, Ref};
 use dcv_refinement::SparseSet;
 use indexmap::{IndexMap, IndexSet};
 use std::alloc::{AllocError, Global};
@@ -57,6 +57,8 @@ impl Part<'_> {
         requires above { IsMarkedAbove self.now }
         requires slots { scratch.old.slots ≡ self.now.arena.now.slots }
         requires arena { IsArena scratch.old }
+        requires none { scratch.old.nodes ≡ [] }
+        requires limit { 2 ^ 32 ≤ scratch.old.limit + 1 }
         ensures kept { KeepsRefs scratch.old scratch.new }
         ensures arena { IsArena scratch.new }
         ensures marks { IfOk result (λ marks. All (IsMarkFrom scratch.new (length rows.now) 0) marks.items) }
@@ -84,9 +86,13 @@ impl Part<'_> {
         requires above { IsMarkedAbove self.now }
         requires slots { scratch.old.slots ≡ self.now.arena.now.slots }
         requires arena { IsArena scratch.old }
+        requires limit { 2 ^ 32 ≤ scratch.old.limit + 1 }
+        requires few { HasFewNodes self.now scratch.old (get nat_eq became.old) }
         requires became { Became self.now scratch.old (get nat_eq became.old) }
         ensures kept { KeepsRefs scratch.old scratch.new }
         ensures arena { IsArena scratch.new }
+        ensures few { OnOk result (HasFewNodes self.now scratch.new (get nat_eq became.new)) }
+        ensures earlier { OnOk result (KeepsEarlier self.now root (get nat_eq became.old) (get nat_eq became.new)) }
         ensures became { OnOk result (Became self.now scratch.new (get nat_eq became.new)) }
         ensures indicator { IfOk result (IsIndicator self.now scratch.new root) }
     {
@@ -103,11 +109,34 @@ impl Part<'_> {
                 let (lo, hi) = self.arena.split(root, slot);
                 let low = self.indicator(scratch, lo, became)?;
                 let high = self.indicator(scratch, hi, became)?;
-                let mark = scratch.node(slot, low, high).map_err(|_| AllocError)?;
+                let mark = node_in(scratch, slot, low, high)?;
                 became.insert(place, mark)?;
                 Ok(mark)
             }
         }
+    }
+}
+
+// The node of two functions, in an arena that has room for it.
+fn node_in(scratch: &mut Arena, slot: u8, lo: Ref, hi: Ref) -> Result<Ref, AllocError>
+    requires slot { slot < scratch.old.slots }
+    requires lo { IsRef scratch.old lo }
+    requires hi { IsRef scratch.old hi }
+    requires lo_level { slot < level_of scratch.old lo }
+    requires hi_level { slot < level_of scratch.old hi }
+    requires room { length scratch.old.nodes < scratch.old.limit }
+    ensures is_ref { IfOk result (IsRef scratch.new) }
+    ensures level { IfOk result (λ node. slot ≤ level_of scratch.new node) }
+    ensures value { IfOk result (λ node. (letter : List Bool) → value_of scratch.new node letter
+        ≡ (if slice_index_or letter slot false then value_of scratch.old hi letter else value_of scratch.old lo letter)) }
+    ensures kept { KeepsRefs scratch.old scratch.new }
+    ensures one_more { length scratch.new.nodes ≤ length scratch.old.nodes + 1 }
+    ensures arena { IsArena scratch.new }
+{
+    match scratch.node(slot, lo, hi) {
+        Ok(node) => Ok(node),
+        Err(ArenaFault::Memory) => Err(AllocError),
+        Err(ArenaFault::Full { .. }) => unreachable!(),
     }
 }
 

@@ -1,7 +1,7 @@
 // The states in blocks, which are split by one suffix after another. The lists of members are those of `dcv_refinement`, which `dcv_minimise`
 // has too. The rest of a partition is not shared: here a block falls in two by a test, and the blocks' sizes say which part is the smaller;
 // there it falls into parts by the keys of its states, and a vote finds the part that stays.
-ghost use Rattle.std.specs.Prelude.{◌≡◌, ◌+◌, ◌^◌, ◌<◌, ◌≤◌, ℕ, List, Bool, length, slice_set, IfOk, OnOk};
+ghost use Rattle.std.specs.Prelude.{◌≡◌, ◌+◌, ◌^◌, ◌<◌, ◌≤◌, ℕ, List, [], Bool, length, slice_set, IfOk, OnOk};
 ghost use Rattle.std.specs.List.{All};
 ghost use Rattle.dcv_arena.specs.Arena.{IsArena};
 ghost use Rattle.dcv_dfa.specs.Raw.{next_in};
@@ -109,6 +109,8 @@ impl Partition<'_> {
         requires vertices { AreVertices (raw_in self.now) }
         requires arena { IsArena scratch.old }
         requires slots { scratch.old.slots ≡ (raw_in self.now).arena.slots }
+        requires none { scratch.old.nodes ≡ [] }
+        requires limit { 2 ^ 32 ≤ scratch.old.limit + 1 }
         requires place { place < length self.now.parts.items }
         requires states { All (λ state. state < length (raw_in self.now).rows) (part_at (parts_in self.now) place) }
         ensures slots { scratch.new.slots ≡ (raw_in self.now).arena.slots }

@@ -31,6 +31,7 @@ loop-state-preserved c =
     record {
       kept = kept_in_turn c.args.scratch.now old new was.kept c.indicator.ensures.kept;
       arena = c.indicator.ensures.arena;
+      few = c.in_ok-mark.ensures.few;
       became = c.in_ok-mark.ensures.became;
       refs = subst (All (IsMarkFrom new (length rows) 0)) (sym items)
           (All-push (IsMarkFrom new (length rows) 0) c.loop-state.marks.items (state, mark) (marks_kept old new c.indicator.ensures.kept (length rows) 0 c.loop-state.marks.items was.refs)
