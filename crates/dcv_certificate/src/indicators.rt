@@ -1,5 +1,6 @@
 // Where letters lead into a part of the states: a function for each row, which has 1 at the letters that do, and 0 at the others.
-ghost use Rattle.std.specs.Prelude.{◌≡◌, ◌+◌, ◌^◌, ◌<◌, ◌≤◌, ℕ, Bool, List, [], true, false, if◌then◌else◌, nat_eq, length, slice_index_or, IfOk, OnOk, Contains};
+ghost use Rattle.std.specs.Prelude.{◌≡◌, ◌+◌, ◌^◌, ◌<◌, ◌≤◌, ℕ, Bool, List, [], true, false, if◌then◌else◌, nat_eq, length, slice_index_or};
+ghost use Rattle.std.specs.Prelude.{IfOk, OnOk, Contains};
 ghost use Rattle.std.specs.List.{All};
 ghost use Rattle.indexmap.specs.IndexMap.{get};
 ghost use Rattle.indexmap.specs.IndexSet.{contains};
