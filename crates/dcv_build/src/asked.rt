@@ -14,7 +14,10 @@ pub(crate) enum Asked {
 // The number of its automaton there, and what was counted as its machine was explored.
 #[derive(Clone, Copy)]
 pub(crate) struct Answer {
+    // its number on the shelf
     pub(crate) number: u32,
+    // how many states its exploration took
     pub(crate) states: u32,
+    // how many nodes it took
     pub(crate) nodes: u32,
 }

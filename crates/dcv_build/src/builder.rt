@@ -41,8 +41,11 @@ pub struct BuiltRaw {
 /// Builds cores within limits, each from nothing.
 #[derive(Drop)]
 pub struct Builder {
+    // where automata are allocated
     alloc: Global,
+    // how large a step may be
     limits: Limits,
+    // how many operators were explored so far
     explored: u32,
 }
 

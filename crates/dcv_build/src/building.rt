@@ -37,16 +37,22 @@ use std::alloc::{AllocError, Global};
 // What a build has so far: the numbers of the automata that wait, on the shelf of what is known, and the count of each step.
 #[derive(Drop)]
 pub(crate) struct Building {
+    // where automata are allocated
     alloc: Global,
+    // the automata so far, and which operators gave them
     known: Known,
+    // the numbers of the automata that wait for their operator, the newest last
     waiting: Vec<u32>,
+    // what each step so far took
     counts: Vec<Count>,
 }
 
 // Automata that wait, on another shelf.
 #[derive(Drop)]
 struct Moved {
+    // the automata, on a new shelf
     known: Known,
+    // their numbers there
     waiting: Vec<u32>,
 }
 

@@ -27,13 +27,19 @@ const TIMES_HELD: u64 = 4;
 
 #[derive(Drop)]
 pub(crate) struct Known {
+    // where automata are allocated
     alloc: Global,
+    // how large a step may be
     limits: Limits,
+    // the automata
     shelf: Shelf,
+    // what each operator over automata of the shelf has given
     found: IndexMap<Asked, Answer>,
+    // how many operators were explored
     explored: u32,
     // How many states and nodes the automata had that were put on the shelf, and how many may come before they move on.
     held: u64,
+    // the most nodes that the shelf has at once
     most: u64,
 }
 

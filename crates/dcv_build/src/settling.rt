@@ -11,16 +11,22 @@ use std::alloc::{AllocError, Global};
 // An automaton as its machine was explored, and what was counted.
 #[derive(Drop)]
 pub(crate) struct Explored {
+    // the automaton as it was explored
     pub(crate) raw: Raw,
+    // how many states that took
     pub(crate) states: u32,
+    // how many nodes it took
     pub(crate) nodes: u32,
 }
 
 // The canonical automaton, beside the same counts.
 #[derive(Drop)]
 pub(crate) struct Made {
+    // the minimal automaton
     pub(crate) auto: Auto,
+    // how many states its exploration took
     pub(crate) states: u32,
+    // how many nodes it took
     pub(crate) nodes: u32,
 }
 

@@ -17,6 +17,7 @@ use std::alloc::{AllocError, Global};
 // The states of the part, and the nodes that stand above them.
 #[derive(Drop)]
 pub(crate) struct Part<'a> {
+    // the arena of the rows
     pub(crate) arena: &'a Arena,
     // the states of the part
     states: IndexSet<u32>,

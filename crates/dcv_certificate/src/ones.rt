@@ -9,8 +9,11 @@ use std::alloc::{AllocError, Global};
 
 #[derive(Drop)]
 pub(crate) struct Ones {
+    // the states that are there
     states: IndexSet<u32>,
+    // for each block how many of them are its own
     counts: IndexMap<u32, usize>,
+    // the blocks that have some, in the order in which they came
     pub(crate) blocks: Vec<u32>,
 }
 

@@ -26,7 +26,9 @@ use std::alloc::{AllocError, Global};
 // blocks; and how many states each block has, and which.
 #[derive(Drop)]
 pub(crate) struct Partition<'a> {
+    // where what is made is allocated
     pub(crate) alloc: Global,
+    // the states and the nodes that lead to them
     pub(crate) vertices: &'a Vertices<'a>,
     // the suffixes so far
     pub(crate) suffixes: Vec<Suffix>,

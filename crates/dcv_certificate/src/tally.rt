@@ -12,6 +12,7 @@ use std::alloc::{AllocError, Global};
 pub(crate) struct Tally {
     // the states that were counted
     states: IndexSet<u32>,
+    // for each block its one function so far, and how many states have it
     blocks: IndexMap<u32, (Ref, usize)>,
 }
 

@@ -10,6 +10,7 @@ use std::alloc::{AllocError, Global};
 
 #[derive(Drop)]
 pub(crate) struct Vertices<'a> {
+    // the arena of the rows
     pub(crate) arena: &'a Arena,
     // the row of each state
     pub(crate) rows: Vec<Ref>,

@@ -18,7 +18,9 @@ use std::alloc::{AllocError, Global};
 // The nodes of an arena, and for each node of a text the ref that stands for it.
 #[derive(Drop)]
 struct Built {
+    // the nodes of the text
     arena: Arena,
+    // the ref of each node of the text
     refs: Vec<Ref>,
 }
 

@@ -15,13 +15,16 @@ const MOST_KEPT: usize = 2048;
 // A letter, and for each state the next one.
 #[derive(Drop)]
 pub(crate) struct Step {
+    // the letter
     letter: Letter,
+    // the state to which it leads from each state
     next: Vec<u32>,
 }
 
 // The letters that are kept, each at the place that its number gives. A later one takes the place of an earlier one.
 #[derive(Drop)]
 pub(crate) struct Steps {
+    // the steps that are kept
     kept: Vec<Option<Step>>,
 }
 

@@ -27,6 +27,7 @@ const MOST_TABLES: usize = 1_000_000_000;
 /// A shelf that has as many nodes or tables as it may have answers a call that needs more as if memory had run out.
 #[derive(Drop)]
 pub struct Shelf {
+    // where tables are allocated
     alloc: Global,
     // the nodes of all automata
     arena: Arena,
