@@ -11,6 +11,7 @@ use crate::parts::{Part, Parts, Words};
 use crate::placed::{PlacedEquation, PlacedLocal, PlacedTest};
 use dcv_observer::Item;
 use dcv_translation::next_of;
+use std::mem::forget;
 
 pub(crate) fn words<'a>(parts: &mut Parts<'a>) -> Words<'a>
     requires { Begins AreWords (map seen_part parts.old) }
@@ -21,7 +22,7 @@ pub(crate) fn words<'a>(parts: &mut Parts<'a>) -> Words<'a>
         Some(Part::Words(words)) => *words,
         _ => unreachable!(),
     };
-    drop(next);
+    forget(next);
     words
 }
 
@@ -36,7 +37,7 @@ pub(crate) fn words_or_end<'a>(parts: &mut Parts<'a>) -> Option<Words<'a>>
         Some(Part::Words(words)) => Some(*words),
         _ => unreachable!(),
     };
-    drop(next);
+    forget(next);
     words
 }
 
@@ -44,10 +45,13 @@ pub(crate) fn token<'a>(parts: &mut Parts<'a>) -> Item<'a>
     requires { Begins IsToken (map seen_part parts.old) }
     ensures { map seen_part parts.old ≡ AToken (seen result) ∷ map seen_part parts.new }
 {
-    match words(parts) {
-        Words::Token(item) => item,
+    let next = parts.next();
+    let token = match &next {
+        Some(Part::Words(Words::Token(item))) => *item,
         _ => unreachable!(),
-    }
+    };
+    forget(next);
+    token
 }
 
 // None at the end of the body.
