@@ -9,8 +9,10 @@ use Rattle.dcv_c.specs.Actions.{Part, AUnit, Nothing, action, actions, scheme, S
 use Rattle.dcv_c.proofs.EachTree.{rule_stands, tree_stands}
 use Rattle.dcv_c_read.specs.declared.placed.PlacedUnit.{PlacedUnit as CodeUnit}
 use Rattle.dcv_c_read.specs.declared.parts.Part.{Part as CodePart}
-use Rattle.dcv_c_read.specs.declared.parts.Part.TheVariants.{Unit as CodeUnitPart}
-use Rattle.dcv_c_read.specs.Symbols.{seen_part, IsMeant}
+use Rattle.dcv_c_read.specs.declared.parts.Part.TheVariants.{Unit as CodeUnitPart, Words as WordsPart}
+use Rattle.dcv_c_read.specs.declared.parts.Words.{Words}
+use Rattle.dcv_c_read.specs.declared.parts.Words.TheVariants.{Token}
+use Rattle.dcv_c_read.specs.Symbols.{seen_part, seen_words, IsMeant}
 
 meant : (part : Part) → (part ≡ Nothing → ⊥) → IsMeant part
 meant Nothing some = some refl
@@ -33,7 +35,12 @@ unit_spelled text part stands =
 pub no_rule : (rule : ℕ) (parts : List Part) → 23 ≤ rule → IsMeant (action rule parts) → ⊥
 no_rule rule parts there is = subst IsMeant (ap (λ act. act parts) (get_or_past actions rule (λ parts. Nothing) there)) is
 
+no_unit : (words : Words) (placed : PlacedUnit) → seen_words words ≡ AUnit placed → ⊥
+no_unit (Token item) placed is = cc
+no_unit _ placed is = cc
+
 -- the part of a unit is the code's
 pub unit_in : (part : CodePart) (placed : PlacedUnit) → seen_part part ≡ AUnit placed → ((found : Box CodeUnit Global) → part ≡ CodeUnitPart found → ⊥) → ⊥
 unit_in (CodeUnitPart found) placed is none = none found refl
+unit_in (WordsPart words) placed is none = no_unit words placed is
 unit_in _ placed is none = cc

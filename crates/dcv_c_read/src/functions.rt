@@ -1,24 +1,22 @@
 // What the rules of a unit and of its functions stand for, by the parts of their bodies.
-ghost use Rattle.std.specs.Prelude.{◌≡◌, ◌∷◌, map, reverse, IfOk};
-ghost use Rattle.dcv_observer.specs.Left.{seen};
+ghost use Rattle.std.specs.Prelude.{◌≡◌, map, IfOk};
 ghost use Rattle.dcv_c.specs.Actions.{unit_part, reset_part, step_part};
 ghost use Rattle.dcv_c_read.specs.Symbols.{seen_part, seen_step, IsMeant};
 
 use crate::accessors;
-use crate::parts::Part;
+use crate::parts::{Made, Part, Parts};
 use crate::placed::{PlacedReset, PlacedStep, PlacedUnit};
-use dcv_observer::Item;
-use dcv_translation::Body;
-use std::alloc::{AllocError, Global};
+use dcv_translation::with_first;
+use std::alloc::Global;
 
 // unit = static more_statics reset step
 #[tactic(auto, using(dcv_translation::proofs::Reversed::forwards))]
-pub(crate) fn unit<'a>(alloc: Global, parts: &mut Body<Part<'a>>) -> Result<Part<'a>, AllocError>
+pub(crate) fn unit<'a>(alloc: Global, parts: &mut Parts<'a>) -> Made<'a>
     requires { IsMeant (unit_part (map seen_part parts.old)) }
     ensures { IfOk result (λ part. seen_part part ≡ unit_part (map seen_part parts.old)) }
 {
     let first = accessors::token(parts);
-    let mut statics = with_static(first, accessors::tokens(parts))?;
+    let mut statics = with_first(first, accessors::tokens(parts))?;
     statics.reverse();
     let reset = accessors::reset(parts);
     let step = Box::into_inner(accessors::step(parts));
@@ -30,17 +28,9 @@ pub(crate) fn unit<'a>(alloc: Global, parts: &mut Body<Part<'a>>) -> Result<Part
     Ok(Part::Unit(Box::new(alloc, placed)?))
 }
 
-// A static before others, from the last to the first.
-fn with_static<'a>(first: Item<'a>, mut statics: Vec<Item<'a>>) -> Result<Vec<Item<'a>>, AllocError>
-    ensures { IfOk result (λ all. reverse (map seen all.items) ≡ seen first.entry ∷ reverse (map seen statics.entry.items)) }
-{
-    statics.push(first)?;
-    Ok(statics)
-}
-
 // reset = "void" name "(" "void" ")" "{" assignments "}"
 #[tactic(auto, using(dcv_translation::proofs::Reversed::forwards))]
-pub(crate) fn reset<'a>(parts: &mut Body<Part<'a>>) -> Part<'a>
+pub(crate) fn reset<'a>(parts: &mut Parts<'a>) -> Part<'a>
     requires { IsMeant (reset_part (map seen_part parts.old)) }
     ensures { seen_part result ≡ reset_part (map seen_part parts.old) }
 {
@@ -61,7 +51,7 @@ pub(crate) fn reset<'a>(parts: &mut Body<Part<'a>>) -> Part<'a>
 }
 
 // step = "int" name "(" parameters ")" "{" locals statements "return" returned ";" "}"
-pub(crate) fn step<'a>(alloc: Global, parts: &mut Body<Part<'a>>) -> Result<Part<'a>, AllocError>
+pub(crate) fn step<'a>(alloc: Global, parts: &mut Parts<'a>) -> Made<'a>
     requires { IsMeant (step_part (map seen_part parts.old)) }
     ensures { IfOk result (λ part. seen_part part ≡ step_part (map seen_part parts.old)) }
 {
@@ -71,7 +61,7 @@ pub(crate) fn step<'a>(alloc: Global, parts: &mut Body<Part<'a>>) -> Result<Part
 
 // The same, not on the heap yet.
 #[tactic(auto, using(dcv_translation::proofs::Reversed::forwards))]
-fn plain_step<'a>(parts: &mut Body<Part<'a>>) -> PlacedStep<'a>
+fn plain_step<'a>(parts: &mut Parts<'a>) -> PlacedStep<'a>
     requires { IsMeant (step_part (map seen_part parts.old)) }
     ensures { seen_step result ≡ step_part (map seen_part parts.old) }
 {

@@ -6,82 +6,80 @@ ghost use Rattle.dcv_c.specs.Actions.{compared_part, item_part, tests_part, more
 ghost use Rattle.dcv_c_read.specs.Symbols.{seen_part, IsMeant};
 
 use crate::accessors;
-use crate::parts::Part;
+use crate::parts::{Made, Part, Parts, Words};
 use crate::placed::{PlacedAssignment, PlacedTest, PlacedTests};
-use dcv_translation::Body;
-use std::alloc::{AllocError, Global};
+use std::alloc::Global;
 
 // static = "static" "int" name ";"
-pub(crate) fn static_name<'a>(parts: &mut Body<Part<'a>>) -> Part<'a>
+pub(crate) fn static_name<'a>(parts: &mut Parts<'a>) -> Part<'a>
     requires { IsMeant (static_part (map seen_part parts.old)) }
     ensures { seen_part result ≡ static_part (map seen_part parts.old) }
 {
     accessors::token(parts);
     accessors::token(parts);
-    Part::Token(accessors::token(parts))
+    Part::Words(Words::Token(accessors::token(parts)))
 }
 
 // more_statics = {static}, locals = {local}
-pub(crate) fn tokens<'a>(alloc: Global, parts: &mut Body<Part<'a>>) -> Result<Part<'a>, AllocError>
+pub(crate) fn tokens<'a>(alloc: Global, parts: &mut Parts<'a>) -> Made<'a>
     requires { IsMeant (tokens_part (map seen_part parts.old)) }
     ensures { IfOk result (λ part. seen_part part ≡ tokens_part (map seen_part parts.old)) }
 {
-    let Some(name) = accessors::token_or_end(parts) else {
-        return Ok(Part::Tokens(Vec::new(alloc)));
-    };
-    let mut names = accessors::tokens(parts);
-    names.push(name)?;
-    Ok(Part::Tokens(names))
+    match accessors::token_or_end(parts) {
+        None => Ok(Part::Tokens(Vec::new(alloc))),
+        Some(name) => {
+            let mut names = accessors::tokens(parts);
+            names.push(name)?;
+            Ok(Part::Tokens(names))
+        }
+    }
 }
 
 // assignments = {assignment}
-pub(crate) fn assignments<'a>(
-    alloc: Global,
-    parts: &mut Body<Part<'a>>,
-) -> Result<Part<'a>, AllocError>
+pub(crate) fn assignments<'a>(alloc: Global, parts: &mut Parts<'a>) -> Made<'a>
     requires { IsMeant (assignments_part (map seen_part parts.old)) }
     ensures { IfOk result (λ part. seen_part part ≡ assignments_part (map seen_part parts.old)) }
 {
-    let Some(assignment) = accessors::assignment_or_end(parts) else {
-        return Ok(Part::Assignments(Vec::new(alloc)));
-    };
-    let mut assignments = accessors::assignments(parts);
-    assignments.push(assignment)?;
-    Ok(Part::Assignments(assignments))
+    match accessors::words_or_end(parts) {
+        None => Ok(Part::Assignments(Vec::new(alloc))),
+        Some(Words::Assignment(assignment)) => {
+            let mut assignments = accessors::assignments(parts);
+            assignments.push(assignment)?;
+            Ok(Part::Assignments(assignments))
+        }
+        _ => unreachable!(),
+    }
 }
 
 // assignment = name "=" number ";"
-pub(crate) fn assignment<'a>(parts: &mut Body<Part<'a>>) -> Part<'a>
+pub(crate) fn assignment<'a>(parts: &mut Parts<'a>) -> Part<'a>
     requires { IsMeant (assignment_part (map seen_part parts.old)) }
     ensures { seen_part result ≡ assignment_part (map seen_part parts.old) }
 {
     let name = accessors::token(parts);
     accessors::token(parts);
     let number = accessors::token(parts);
-    Part::Assignment(PlacedAssignment { name, number })
+    Part::Words(Words::Assignment(PlacedAssignment { name, number }))
 }
 
 // parameters = "void" | parameter more_parameters
-pub(crate) fn parameters<'a>(
-    alloc: Global,
-    parts: &mut Body<Part<'a>>,
-) -> Result<Part<'a>, AllocError>
+pub(crate) fn parameters<'a>(alloc: Global, parts: &mut Parts<'a>) -> Made<'a>
     requires { IsMeant (parameters_part (map seen_part parts.old)) }
     ensures { IfOk result (λ part. seen_part part ≡ parameters_part (map seen_part parts.old)) }
 {
     let name = accessors::token(parts);
-    let Some(mut names) = accessors::tokens_or_end(parts) else {
-        return Ok(Part::Tokens(Vec::new(alloc)));
-    };
-    names.push(name)?;
-    Ok(Part::Tokens(names))
+    match parts.next() {
+        None => Ok(Part::Tokens(Vec::new(alloc))),
+        Some(Part::Tokens(mut names)) => {
+            names.push(name)?;
+            Ok(Part::Tokens(names))
+        }
+        _ => unreachable!(),
+    }
 }
 
 // more_parameters = {"," parameter}
-pub(crate) fn more_parameters<'a>(
-    alloc: Global,
-    parts: &mut Body<Part<'a>>,
-) -> Result<Part<'a>, AllocError>
+pub(crate) fn more_parameters<'a>(alloc: Global, parts: &mut Parts<'a>) -> Made<'a>
     requires { IsMeant (more_parameters_part (map seen_part parts.old)) }
     ensures { IfOk result (λ part. seen_part part ≡ more_parameters_part (map seen_part parts.old)) }
 {
@@ -95,69 +93,72 @@ pub(crate) fn more_parameters<'a>(
 }
 
 // parameter = "int" name
-pub(crate) fn parameter<'a>(parts: &mut Body<Part<'a>>) -> Part<'a>
+pub(crate) fn parameter<'a>(parts: &mut Parts<'a>) -> Part<'a>
     requires { IsMeant (parameter_part (map seen_part parts.old)) }
     ensures { seen_part result ≡ parameter_part (map seen_part parts.old) }
 {
     accessors::token(parts);
-    Part::Token(accessors::token(parts))
+    Part::Words(Words::Token(accessors::token(parts)))
 }
 
 // local = "int" name ";"
-pub(crate) fn local<'a>(parts: &mut Body<Part<'a>>) -> Part<'a>
+pub(crate) fn local<'a>(parts: &mut Parts<'a>) -> Part<'a>
     requires { IsMeant (local_part (map seen_part parts.old)) }
     ensures { seen_part result ≡ local_part (map seen_part parts.old) }
 {
     accessors::token(parts);
-    Part::Token(accessors::token(parts))
+    Part::Words(Words::Token(accessors::token(parts)))
 }
 
 // statements = {statement}
-pub(crate) fn statements<'a>(
-    alloc: Global,
-    parts: &mut Body<Part<'a>>,
-) -> Result<Part<'a>, AllocError>
+pub(crate) fn statements<'a>(alloc: Global, parts: &mut Parts<'a>) -> Made<'a>
     requires { IsMeant (statements_part (map seen_part parts.old)) }
     ensures { IfOk result (λ part. seen_part part ≡ statements_part (map seen_part parts.old)) }
 {
-    let Some(statement) = accessors::statement_or_end(parts) else {
-        return Ok(Part::Statements(Vec::new(alloc)));
-    };
-    let mut statements = accessors::statements(parts);
-    statements.push(statement)?;
-    Ok(Part::Statements(statements))
+    match parts.next() {
+        None => Ok(Part::Statements(Vec::new(alloc))),
+        Some(Part::Statement(statement)) => {
+            let mut statements = accessors::statements(parts);
+            statements.push(statement)?;
+            Ok(Part::Statements(statements))
+        }
+        _ => unreachable!(),
+    }
 }
 
 // condition = name compared
-pub(crate) fn condition<'a>(parts: &mut Body<Part<'a>>) -> Part<'a>
+pub(crate) fn condition<'a>(parts: &mut Parts<'a>) -> Part<'a>
     requires { IsMeant (condition_part (map seen_part parts.old)) }
     ensures { seen_part result ≡ condition_part (map seen_part parts.old) }
 {
     let name = accessors::token(parts);
-    Part::Compared(name, accessors::maybe(parts))
+    match accessors::words(parts) {
+        Words::Maybe(number) => Part::Words(Words::Compared(name, number)),
+        _ => unreachable!(),
+    }
 }
 
 // compared = ["==" number]
-pub(crate) fn compared<'a>(parts: &mut Body<Part<'a>>) -> Part<'a>
+pub(crate) fn compared<'a>(parts: &mut Parts<'a>) -> Part<'a>
     requires { IsMeant (compared_part (map seen_part parts.old)) }
     ensures { seen_part result ≡ compared_part (map seen_part parts.old) }
 {
     if accessors::token_or_end(parts).is_none() {
-        return Part::Maybe(None);
+        return Part::Words(Words::Maybe(None));
     }
-    Part::Maybe(Some(accessors::token(parts)))
+    Part::Words(Words::Maybe(Some(accessors::token(parts))))
 }
 
 // item = number | name
-pub(crate) fn item<'a>(parts: &mut Body<Part<'a>>) -> Part<'a>
+pub(crate) fn item<'a>(parts: &mut Parts<'a>) -> Part<'a>
     requires { IsMeant (item_part (map seen_part parts.old)) }
     ensures { seen_part result ≡ item_part (map seen_part parts.old) }
 {
-    Part::Token(accessors::token(parts))
+    Part::Words(Words::Token(accessors::token(parts)))
 }
 
 // tests = ["==" number more_tests]
-pub(crate) fn tests<'a>(parts: &mut Body<Part<'a>>) -> Part<'a>
+pub(crate) fn tests<'a>(parts: &mut Parts<'a>) -> Part<'a>
     requires { IsMeant (tests_part (map seen_part parts.old)) }
     ensures { seen_part result ≡ tests_part (map seen_part parts.old) }
 {
@@ -170,29 +171,30 @@ pub(crate) fn tests<'a>(parts: &mut Body<Part<'a>>) -> Part<'a>
 }
 
 // more_tests = {"||" test}
-pub(crate) fn more_tests<'a>(
-    alloc: Global,
-    parts: &mut Body<Part<'a>>,
-) -> Result<Part<'a>, AllocError>
+pub(crate) fn more_tests<'a>(alloc: Global, parts: &mut Parts<'a>) -> Made<'a>
     requires { IsMeant (more_tests_part (map seen_part parts.old)) }
     ensures { IfOk result (λ part. seen_part part ≡ more_tests_part (map seen_part parts.old)) }
 {
     if accessors::token_or_end(parts).is_none() {
         return Ok(Part::Tests(Vec::new(alloc)));
     }
-    let test = accessors::test(parts);
-    let mut tests = accessors::tests(parts);
-    tests.push(test)?;
-    Ok(Part::Tests(tests))
+    match accessors::words(parts) {
+        Words::Test(test) => {
+            let mut tests = accessors::tests(parts);
+            tests.push(test)?;
+            Ok(Part::Tests(tests))
+        }
+        _ => unreachable!(),
+    }
 }
 
 // test = name "==" number
-pub(crate) fn test<'a>(parts: &mut Body<Part<'a>>) -> Part<'a>
+pub(crate) fn test<'a>(parts: &mut Parts<'a>) -> Part<'a>
     requires { IsMeant (test_part (map seen_part parts.old)) }
     ensures { seen_part result ≡ test_part (map seen_part parts.old) }
 {
     let name = accessors::token(parts);
     accessors::token(parts);
     let number = accessors::token(parts);
-    Part::Test(PlacedTest { name, number })
+    Part::Words(Words::Test(PlacedTest { name, number }))
 }

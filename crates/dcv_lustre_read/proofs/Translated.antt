@@ -9,8 +9,10 @@ use Rattle.dcv_lustre.specs.Actions.{Part, ANode, Nothing, action, actions, sche
 use Rattle.dcv_lustre.proofs.EachTree.{rule_stands, tree_stands}
 use Rattle.dcv_lustre_read.specs.declared.placed.PlacedNode.{PlacedNode as CodeNode}
 use Rattle.dcv_lustre_read.specs.declared.parts.Part.{Part as CodePart}
-use Rattle.dcv_lustre_read.specs.declared.parts.Part.TheVariants.{Node}
-use Rattle.dcv_lustre_read.specs.Symbols.{seen_part, IsMeant}
+use Rattle.dcv_lustre_read.specs.declared.parts.Part.TheVariants.{Node, Words as WordsPart}
+use Rattle.dcv_lustre_read.specs.declared.parts.Words.{Words}
+use Rattle.dcv_lustre_read.specs.declared.parts.Words.TheVariants.{Token}
+use Rattle.dcv_lustre_read.specs.Symbols.{seen_part, seen_words, IsMeant}
 
 meant : (part : Part) → (part ≡ Nothing → ⊥) → IsMeant part
 meant Nothing some = some refl
@@ -33,7 +35,12 @@ node_spelled text part stands =
 pub no_rule : (rule : ℕ) (parts : List Part) → 20 ≤ rule → IsMeant (action rule parts) → ⊥
 no_rule rule parts there is = subst IsMeant (ap (λ act. act parts) (get_or_past actions rule (λ parts. Nothing) there)) is
 
+no_node : (words : Words) (placed : PlacedNode) → seen_words words ≡ ANode placed → ⊥
+no_node (Token item) placed is = cc
+no_node _ placed is = cc
+
 -- the part of a node is the code's
 pub node_in : (part : CodePart) (placed : PlacedNode) → seen_part part ≡ ANode placed → ((found : Box CodeNode Global) → part ≡ Node found → ⊥) → ⊥
 node_in (Node found) placed is none = none found refl
+node_in (WordsPart words) placed is none = no_node words placed is
 node_in _ placed is none = cc

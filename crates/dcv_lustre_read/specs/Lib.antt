@@ -2,7 +2,7 @@
 pub mod Seen
 -- for proofs alone: the parts of the code, and the steps of long bodies
 pub mod Symbols
-pub mod Translated
+pub mod Taken
 -- and how names are judged
 pub mod Judged
 pub mod Scope

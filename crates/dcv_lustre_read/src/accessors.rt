@@ -1,61 +1,94 @@
-// The parts of a body, taken one after another, each of a kind that is known.
-ghost use Rattle.std.specs.Prelude.{◌≡◌, ◌∷◌, [], map, reverse, IfSome, IfNone};
+// The parts of a body, taken one after another: each function takes the next part, which is of a kind that is known.
+ghost use Rattle.std.specs.Prelude.{◌≡◌, ◌∷◌, map, reverse};
 ghost use Rattle.dcv_observer.specs.Left.{seen};
+ghost use Rattle.dcv_translation.specs.Taken.{Begins, EndsOrBegins, Takes};
 ghost use Rattle.dcv_lustre.specs.Actions.{AToken, Tokens, Locals, Equations, Tests};
 ghost use Rattle.dcv_lustre_read.specs.Seen.{seen_local, seen_equation, seen_test};
-ghost use Rattle.dcv_lustre_read.specs.Symbols.{seen_part};
-ghost use Rattle.dcv_lustre_read.specs.Translated.{BeginsWithToken, BeginsWithTokenIfAny};
-ghost use Rattle.dcv_lustre_read.specs.Translated.{BeginsWithTokens, BeginsWithLocals, BeginsWithEquations, BeginsWithTests};
+ghost use Rattle.dcv_lustre_read.specs.Symbols.{seen_part, seen_words};
+ghost use Rattle.dcv_lustre_read.specs.Taken.{AreWords, IsToken, AreTokens, AreLocals, AreEquations, AreTests};
 
-use crate::parts::Part;
+use crate::parts::{Part, Parts, Words};
 use crate::placed::{PlacedEquation, PlacedLocal, PlacedTest};
 use dcv_observer::Item;
-use dcv_translation::{Body, next_of, next_of_or_end};
+use dcv_translation::next_of;
+use std::mem::forget;
 
-// The next part, which is a token.
-pub(crate) fn token<'a>(parts: &mut Body<Part<'a>>) -> Item<'a>
-    requires { BeginsWithToken (map seen_part parts.old) }
+pub(crate) fn words<'a>(parts: &mut Parts<'a>) -> Words<'a>
+    requires { Begins AreWords (map seen_part parts.old) }
+    ensures { map seen_part parts.old ≡ seen_words result ∷ map seen_part parts.new }
+{
+    let next = parts.next();
+    let words = match &next {
+        Some(Part::Words(words)) => *words,
+        _ => unreachable!(),
+    };
+    forget(next);
+    words
+}
+
+// None at the end of the body.
+pub(crate) fn words_or_end<'a>(parts: &mut Parts<'a>) -> Option<Words<'a>>
+    requires { EndsOrBegins AreWords (map seen_part parts.old) }
+    ensures { Takes seen_words result (map seen_part parts.old) (map seen_part parts.new) }
+{
+    let next = parts.next();
+    let words = match &next {
+        None => None,
+        Some(Part::Words(words)) => Some(*words),
+        _ => unreachable!(),
+    };
+    forget(next);
+    words
+}
+
+pub(crate) fn token<'a>(parts: &mut Parts<'a>) -> Item<'a>
+    requires { Begins IsToken (map seen_part parts.old) }
     ensures { map seen_part parts.old ≡ AToken (seen result) ∷ map seen_part parts.new }
 {
-    next_of!(parts, Token)
+    let next = parts.next();
+    let token = match &next {
+        Some(Part::Words(Words::Token(item))) => *item,
+        _ => unreachable!(),
+    };
+    forget(next);
+    token
 }
 
-// The next part, which is a token if there is one.
-pub(crate) fn token_or_end<'a>(parts: &mut Body<Part<'a>>) -> Option<Item<'a>>
-    requires { BeginsWithTokenIfAny (map seen_part parts.old) }
-    ensures end { IfNone result (map seen_part parts.old ≡ []) }
-    ensures token { IfSome result (λ item. map seen_part parts.old ≡ AToken (seen item) ∷ map seen_part parts.new) }
+// None at the end of the body.
+pub(crate) fn token_or_end<'a>(parts: &mut Parts<'a>) -> Option<Item<'a>>
+    requires { EndsOrBegins IsToken (map seen_part parts.old) }
+    ensures { Takes (λ item. AToken (seen item)) result (map seen_part parts.old) (map seen_part parts.new) }
 {
-    next_of_or_end!(parts, Token)
+    match words_or_end(parts) {
+        None => None,
+        Some(Words::Token(item)) => Some(item),
+        _ => unreachable!(),
+    }
 }
 
-// The next part, which is tokens, from the last to the first.
-pub(crate) fn tokens<'a>(parts: &mut Body<Part<'a>>) -> Vec<Item<'a>>
-    requires { BeginsWithTokens (map seen_part parts.old) }
+pub(crate) fn tokens<'a>(parts: &mut Parts<'a>) -> Vec<Item<'a>>
+    requires { Begins AreTokens (map seen_part parts.old) }
     ensures { map seen_part parts.old ≡ Tokens (reverse (map seen result.items)) ∷ map seen_part parts.new }
 {
     next_of!(parts, Tokens)
 }
 
-// The next part, which is locals, from the last to the first.
-pub(crate) fn locals<'a>(parts: &mut Body<Part<'a>>) -> Vec<PlacedLocal<'a>>
-    requires { BeginsWithLocals (map seen_part parts.old) }
+pub(crate) fn locals<'a>(parts: &mut Parts<'a>) -> Vec<PlacedLocal<'a>>
+    requires { Begins AreLocals (map seen_part parts.old) }
     ensures { map seen_part parts.old ≡ Locals (reverse (map seen_local result.items)) ∷ map seen_part parts.new }
 {
     next_of!(parts, Locals)
 }
 
-// The next part, which is equations, from the last to the first.
-pub(crate) fn equations<'a>(parts: &mut Body<Part<'a>>) -> Vec<PlacedEquation<'a>>
-    requires { BeginsWithEquations (map seen_part parts.old) }
+pub(crate) fn equations<'a>(parts: &mut Parts<'a>) -> Vec<PlacedEquation<'a>>
+    requires { Begins AreEquations (map seen_part parts.old) }
     ensures { map seen_part parts.old ≡ Equations (reverse (map seen_equation result.items)) ∷ map seen_part parts.new }
 {
     next_of!(parts, Equations)
 }
 
-// The next part, which is tests, from the last to the first.
-pub(crate) fn tests<'a>(parts: &mut Body<Part<'a>>) -> Vec<PlacedTest<'a>>
-    requires { BeginsWithTests (map seen_part parts.old) }
+pub(crate) fn tests<'a>(parts: &mut Parts<'a>) -> Vec<PlacedTest<'a>>
+    requires { Begins AreTests (map seen_part parts.old) }
     ensures { map seen_part parts.old ≡ Tests (reverse (map seen_test result.items)) ∷ map seen_part parts.new }
 {
     next_of!(parts, Tests)

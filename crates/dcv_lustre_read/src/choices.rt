@@ -2,27 +2,27 @@
 ghost use Rattle.std.specs.Prelude.{◌≡◌, ◌∷◌, [], map, reverse, option_map, IfOk};
 ghost use Rattle.dcv_observer.specs.Left.{seen};
 ghost use Rattle.dcv_lustre.specs.Actions.{AToken, ARight, Maybe, Choice, right_part, choice_part};
-ghost use Rattle.dcv_lustre_read.specs.Seen.{seen_arm, seen_test, seen_right};
+ghost use Rattle.dcv_lustre_read.specs.Seen.{seen_arm, seen_right};
 ghost use Rattle.dcv_lustre_read.specs.Symbols.{seen_part, IsMeant};
-ghost use Rattle.dcv_lustre_read.specs.Translated.{behind_condition};
+ghost use Rattle.dcv_lustre_read.specs.Taken.{behind_condition};
 
 use crate::accessors;
-use crate::parts::Part;
-use crate::placed::{PlacedArm, PlacedRight, PlacedTest};
+use crate::parts::{Made, Part, Parts, Words};
+use crate::placed::{PlacedArm, PlacedRight};
 use dcv_observer::Item;
-use dcv_translation::Body;
+use dcv_translation::with_first;
 use std::alloc::{AllocError, Global};
 
 // choice = {"if" condition "then" item "else"} item
 #[tactic(auto, using(crate::proofs::Bodies::choice_in_steps))]
-pub(crate) fn choice<'a>(alloc: Global, parts: &mut Body<Part<'a>>) -> Result<Part<'a>, AllocError>
+pub(crate) fn choice<'a>(alloc: Global, parts: &mut Parts<'a>) -> Made<'a>
     requires { IsMeant (choice_part (map seen_part parts.old)) }
     ensures { IfOk result (λ part. seen_part part ≡ choice_part (map seen_part parts.old)) }
 {
     let item = accessors::token(parts);
-    match parts.next() {
+    match accessors::words_or_end(parts) {
         None => Ok(Part::Choice(Vec::new(alloc), item)),
-        Some(Part::Compared(name, number)) => {
+        Some(Words::Compared(name, number)) => {
             let (arms, otherwise) = longer_choice(name, number, parts)?;
             Ok(Part::Choice(arms, otherwise))
         }
@@ -34,7 +34,7 @@ pub(crate) fn choice<'a>(alloc: Global, parts: &mut Body<Part<'a>>) -> Result<Pa
 fn longer_choice<'a>(
     name: Item<'a>,
     number: Option<Item<'a>>,
-    parts: &mut Body<Part<'a>>,
+    parts: &mut Parts<'a>,
 ) -> Result<(Vec<PlacedArm<'a>>, Item<'a>), AllocError>
     requires { IsMeant (behind_condition (seen name) (option_map seen number) (map seen_part parts.old)) }
     ensures { IfOk result (λ made. Choice (reverse (map seen_arm made.0.items)) (seen made.1)
@@ -67,14 +67,14 @@ fn with_arm<'a>(
 
 // right = literal delay | "if" condition "then" item "else" choice | test more_tests | name
 #[tactic(auto, using(dcv_translation::proofs::Reversed::forwards))]
-pub(crate) fn right<'a>(alloc: Global, parts: &mut Body<Part<'a>>) -> Result<Part<'a>, AllocError>
+pub(crate) fn right<'a>(alloc: Global, parts: &mut Parts<'a>) -> Made<'a>
     requires { IsMeant (right_part (map seen_part parts.old)) }
     ensures { IfOk result (λ part. seen_part part ≡ right_part (map seen_part parts.old)) }
 {
-    match parts.next() {
-        Some(Part::Token(first)) => behind_token(alloc, first, parts),
-        Some(Part::Test(test)) => {
-            let mut tests = with_test(test, accessors::tests(parts))?;
+    match accessors::words(parts) {
+        Words::Token(first) => behind_token(alloc, first, parts),
+        Words::Test(test) => {
+            let mut tests = with_first(test, accessors::tests(parts))?;
             tests.reverse();
             Ok(Part::Right(PlacedRight::Tested(tests)))
         }
@@ -84,18 +84,14 @@ pub(crate) fn right<'a>(alloc: Global, parts: &mut Body<Part<'a>>) -> Result<Par
 
 // A right side that begins with a token.
 #[tactic(auto, using(crate::proofs::Bodies::right_in_steps, dcv_translation::proofs::Reversed::forwards))]
-fn behind_token<'a>(
-    alloc: Global,
-    first: Item<'a>,
-    parts: &mut Body<Part<'a>>,
-) -> Result<Part<'a>, AllocError>
+fn behind_token<'a>(alloc: Global, first: Item<'a>, parts: &mut Parts<'a>) -> Made<'a>
     requires { IsMeant (right_part (AToken (seen first) ∷ map seen_part parts.old)) }
     ensures { IfOk result (λ part. seen_part part ≡ right_part (AToken (seen first.entry) ∷ map seen_part parts.old)) }
 {
-    match parts.next() {
+    match accessors::words_or_end(parts) {
         None => Ok(Part::Right(PlacedRight::Chosen(Vec::new(alloc), first))),
-        Some(Part::Maybe(source)) => Ok(Part::Right(of_literal(alloc, first, source))),
-        Some(Part::Compared(name, number)) => {
+        Some(Words::Maybe(source)) => Ok(Part::Right(of_literal(alloc, first, source))),
+        Some(Words::Compared(name, number)) => {
             let (mut arms, otherwise) = longer_choice(name, number, parts)?;
             arms.reverse();
             Ok(Part::Right(PlacedRight::Chosen(arms, otherwise)))
@@ -112,15 +108,4 @@ fn of_literal<'a>(alloc: Global, literal: Item<'a>, source: Option<Item<'a>>) ->
         Some(source) => PlacedRight::Delayed(literal, source),
         None => PlacedRight::Chosen(Vec::new(alloc), literal),
     }
-}
-
-// A test before others, from the last to the first.
-fn with_test<'a>(
-    test: PlacedTest<'a>,
-    mut tests: Vec<PlacedTest<'a>>,
-) -> Result<Vec<PlacedTest<'a>>, AllocError>
-    ensures { IfOk result (λ all. reverse (map seen_test all.items) ≡ seen_test test.entry ∷ reverse (map seen_test tests.entry.items)) }
-{
-    tests.push(test)?;
-    Ok(tests)
 }

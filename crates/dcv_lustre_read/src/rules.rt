@@ -6,77 +6,68 @@ ghost use Rattle.dcv_lustre.specs.Actions.{compared_part, test_part, more_tests_
 ghost use Rattle.dcv_lustre_read.specs.Symbols.{seen_part, IsMeant};
 
 use crate::accessors;
-use crate::parts::Part;
+use crate::parts::{Made, Part, Parts, Words};
 use crate::placed::{PlacedEquation, PlacedLocal, PlacedTest};
-use dcv_translation::Body;
-use std::alloc::{AllocError, Global};
+use std::alloc::Global;
 
 // more_inputs = {";" input}
-pub(crate) fn more_inputs<'a>(
-    alloc: Global,
-    parts: &mut Body<Part<'a>>,
-) -> Result<Part<'a>, AllocError>
+pub(crate) fn more_inputs<'a>(alloc: Global, parts: &mut Parts<'a>) -> Made<'a>
     requires { IsMeant (more_inputs_part (map seen_part parts.old)) }
     ensures { IfOk result (λ part. seen_part part ≡ more_inputs_part (map seen_part parts.old)) }
 {
-    match accessors::token_or_end(parts) {
-        None => Ok(Part::Tokens(Vec::new(alloc))),
-        Some(_) => {
-            let input = accessors::token(parts);
-            let mut inputs = accessors::tokens(parts);
-            inputs.push(input)?;
-            Ok(Part::Tokens(inputs))
-        }
+    if accessors::token_or_end(parts).is_none() {
+        return Ok(Part::Tokens(Vec::new(alloc)));
     }
+    let input = accessors::token(parts);
+    let mut inputs = accessors::tokens(parts);
+    inputs.push(input)?;
+    Ok(Part::Tokens(inputs))
 }
 
 // input = name ":" "bool"
-pub(crate) fn input<'a>(parts: &mut Body<Part<'a>>) -> Part<'a>
+pub(crate) fn input<'a>(parts: &mut Parts<'a>) -> Part<'a>
     requires { IsMeant (input_part (map seen_part parts.old)) }
     ensures { seen_part result ≡ input_part (map seen_part parts.old) }
 {
-    Part::Token(accessors::token(parts))
+    Part::Words(Words::Token(accessors::token(parts)))
 }
 
 // output = "returns" "(" "ok" ":" "bool" ")" ";"
-pub(crate) fn output<'a>(parts: &mut Body<Part<'a>>) -> Part<'a>
+pub(crate) fn output<'a>(parts: &mut Parts<'a>) -> Part<'a>
     requires { IsMeant (output_part (map seen_part parts.old)) }
     ensures { seen_part result ≡ output_part (map seen_part parts.old) }
 {
     accessors::token(parts);
     accessors::token(parts);
-    Part::Token(accessors::token(parts))
+    Part::Words(Words::Token(accessors::token(parts)))
 }
 
 // variables = ["var" local locals]
-pub(crate) fn variables<'a>(
-    alloc: Global,
-    parts: &mut Body<Part<'a>>,
-) -> Result<Part<'a>, AllocError>
+pub(crate) fn variables<'a>(alloc: Global, parts: &mut Parts<'a>) -> Made<'a>
     requires { IsMeant (variables_part (map seen_part parts.old)) }
     ensures { IfOk result (λ part. seen_part part ≡ variables_part (map seen_part parts.old)) }
 {
-    match accessors::token_or_end(parts) {
-        None => Ok(Part::Locals(Vec::new(alloc))),
-        Some(_) => match parts.next() {
-            Some(Part::Local(local)) => {
-                let mut locals = accessors::locals(parts);
-                locals.push(local)?;
-                Ok(Part::Locals(locals))
-            }
-            _ => unreachable!(),
+    if accessors::token_or_end(parts).is_none() {
+        return Ok(Part::Locals(Vec::new(alloc)));
+    }
+    match accessors::words(parts) {
+        Words::Local(local) => {
+            let mut locals = accessors::locals(parts);
+            locals.push(local)?;
+            Ok(Part::Locals(locals))
         }
+        _ => unreachable!(),
     }
 }
 
 // locals = {local}
-pub(crate) fn locals<'a>(alloc: Global, parts: &mut Body<Part<'a>>) -> Result<Part<'a>, AllocError>
+pub(crate) fn locals<'a>(alloc: Global, parts: &mut Parts<'a>) -> Made<'a>
     requires { IsMeant (locals_part (map seen_part parts.old)) }
     ensures { IfOk result (λ part. seen_part part ≡ locals_part (map seen_part parts.old)) }
 {
-    match parts.next() {
+    match accessors::words_or_end(parts) {
         None => Ok(Part::Locals(Vec::new(alloc))),
-        Some(Part::Local(local)) => {
+        Some(Words::Local(local)) => {
             let mut locals = accessors::locals(parts);
             locals.push(local)?;
             Ok(Part::Locals(locals))
@@ -86,29 +77,26 @@ pub(crate) fn locals<'a>(alloc: Global, parts: &mut Body<Part<'a>>) -> Result<Pa
 }
 
 // local = name ":" kind ";"
-pub(crate) fn local<'a>(parts: &mut Body<Part<'a>>) -> Part<'a>
+pub(crate) fn local<'a>(parts: &mut Parts<'a>) -> Part<'a>
     requires { IsMeant (local_part (map seen_part parts.old)) }
     ensures { seen_part result ≡ local_part (map seen_part parts.old) }
 {
     let name = accessors::token(parts);
     accessors::token(parts);
     let kind = accessors::token(parts);
-    Part::Local(PlacedLocal { name, kind })
+    Part::Words(Words::Local(PlacedLocal { name, kind }))
 }
 
 // A rule that is one token.
-pub(crate) fn token<'a>(parts: &mut Body<Part<'a>>) -> Part<'a>
+pub(crate) fn token<'a>(parts: &mut Parts<'a>) -> Part<'a>
     requires { IsMeant (token_part (map seen_part parts.old)) }
     ensures { seen_part result ≡ token_part (map seen_part parts.old) }
 {
-    Part::Token(accessors::token(parts))
+    Part::Words(Words::Token(accessors::token(parts)))
 }
 
 // equations = {equation}
-pub(crate) fn equations<'a>(
-    alloc: Global,
-    parts: &mut Body<Part<'a>>,
-) -> Result<Part<'a>, AllocError>
+pub(crate) fn equations<'a>(alloc: Global, parts: &mut Parts<'a>) -> Made<'a>
     requires { IsMeant (equations_part (map seen_part parts.old)) }
     ensures { IfOk result (λ part. seen_part part ≡ equations_part (map seen_part parts.old)) }
 {
@@ -124,7 +112,7 @@ pub(crate) fn equations<'a>(
 }
 
 // equation = name "=" right ";"
-pub(crate) fn equation<'a>(parts: &mut Body<Part<'a>>) -> Part<'a>
+pub(crate) fn equation<'a>(parts: &mut Parts<'a>) -> Part<'a>
     requires { IsMeant (equation_part (map seen_part parts.old)) }
     ensures { seen_part result ≡ equation_part (map seen_part parts.old) }
 {
@@ -137,44 +125,42 @@ pub(crate) fn equation<'a>(parts: &mut Body<Part<'a>>) -> Part<'a>
 }
 
 // delay = ["->" "pre" name]
-pub(crate) fn delay<'a>(parts: &mut Body<Part<'a>>) -> Part<'a>
+pub(crate) fn delay<'a>(parts: &mut Parts<'a>) -> Part<'a>
     requires { IsMeant (delay_part (map seen_part parts.old)) }
     ensures { seen_part result ≡ delay_part (map seen_part parts.old) }
 {
-    match accessors::token_or_end(parts) {
-        None => Part::Maybe(None),
-        Some(_) => {
-            accessors::token(parts);
-            Part::Maybe(Some(accessors::token(parts)))
-        }
+    if accessors::token_or_end(parts).is_none() {
+        return Part::Words(Words::Maybe(None));
     }
+    accessors::token(parts);
+    Part::Words(Words::Maybe(Some(accessors::token(parts))))
 }
 
 // condition = name compared
-pub(crate) fn condition<'a>(parts: &mut Body<Part<'a>>) -> Part<'a>
+pub(crate) fn condition<'a>(parts: &mut Parts<'a>) -> Part<'a>
     requires { IsMeant (condition_part (map seen_part parts.old)) }
     ensures { seen_part result ≡ condition_part (map seen_part parts.old) }
 {
     let name = accessors::token(parts);
-    match parts.next() {
-        Some(Part::Maybe(number)) => Part::Compared(name, number),
+    match accessors::words(parts) {
+        Words::Maybe(number) => Part::Words(Words::Compared(name, number)),
         _ => unreachable!(),
     }
 }
 
 // compared = ["=" number]
-pub(crate) fn compared<'a>(parts: &mut Body<Part<'a>>) -> Part<'a>
+pub(crate) fn compared<'a>(parts: &mut Parts<'a>) -> Part<'a>
     requires { IsMeant (compared_part (map seen_part parts.old)) }
     ensures { seen_part result ≡ compared_part (map seen_part parts.old) }
 {
-    match accessors::token_or_end(parts) {
-        None => Part::Maybe(None),
-        Some(_) => Part::Maybe(Some(accessors::token(parts))),
+    if accessors::token_or_end(parts).is_none() {
+        return Part::Words(Words::Maybe(None));
     }
+    Part::Words(Words::Maybe(Some(accessors::token(parts))))
 }
 
 // test = "(" name "=" number ")"
-pub(crate) fn test<'a>(parts: &mut Body<Part<'a>>) -> Part<'a>
+pub(crate) fn test<'a>(parts: &mut Parts<'a>) -> Part<'a>
     requires { IsMeant (test_part (map seen_part parts.old)) }
     ensures { seen_part result ≡ test_part (map seen_part parts.old) }
 {
@@ -182,26 +168,23 @@ pub(crate) fn test<'a>(parts: &mut Body<Part<'a>>) -> Part<'a>
     let name = accessors::token(parts);
     accessors::token(parts);
     let number = accessors::token(parts);
-    Part::Test(PlacedTest { name, number })
+    Part::Words(Words::Test(PlacedTest { name, number }))
 }
 
 // more_tests = {"or" test}
-pub(crate) fn more_tests<'a>(
-    alloc: Global,
-    parts: &mut Body<Part<'a>>,
-) -> Result<Part<'a>, AllocError>
+pub(crate) fn more_tests<'a>(alloc: Global, parts: &mut Parts<'a>) -> Made<'a>
     requires { IsMeant (more_tests_part (map seen_part parts.old)) }
     ensures { IfOk result (λ part. seen_part part ≡ more_tests_part (map seen_part parts.old)) }
 {
-    match accessors::token_or_end(parts) {
-        None => Ok(Part::Tests(Vec::new(alloc))),
-        Some(_) => match parts.next() {
-            Some(Part::Test(test)) => {
-                let mut tests = accessors::tests(parts);
-                tests.push(test)?;
-                Ok(Part::Tests(tests))
-            }
-            _ => unreachable!(),
+    if accessors::token_or_end(parts).is_none() {
+        return Ok(Part::Tests(Vec::new(alloc)));
+    }
+    match accessors::words(parts) {
+        Words::Test(test) => {
+            let mut tests = accessors::tests(parts);
+            tests.push(test)?;
+            Ok(Part::Tests(tests))
         }
+        _ => unreachable!(),
     }
 }

@@ -3,13 +3,13 @@ ghost use Rattle.std.specs.Prelude.{◌≡◌, map, IfOk};
 ghost use Rattle.dcv_lustre.specs.Actions.{action};
 ghost use Rattle.dcv_lustre_read.specs.Symbols.{seen_part, IsMeant};
 
-use crate::parts::Part;
+use crate::parts::{Made, Part, Parts, Words};
 use crate::{choices, nodes, rules, tables};
 use dcv_grammar::grammar::ContextFree;
 use dcv_lexer::Lexicon;
 use dcv_observer::Item;
 use dcv_translation::{Body, Translation};
-use std::alloc::{AllocError, Global};
+use std::alloc::Global;
 
 // From texts to nodes.
 #[derive(Drop)]
@@ -40,10 +40,10 @@ impl<'a> Translation<'a> for NodeTranslation {
     }
 
     fn token(&self, item: Item<'a>) -> Part<'a> {
-        Part::Token(item)
+        Part::Words(Words::Token(item))
     }
 
-    fn rule(&self, rule: u8, parts: &mut Body<Part<'a>>) -> Result<Part<'a>, AllocError>
+    fn rule(&self, rule: u8, parts: &mut Parts<'a>) -> Made<'a>
         requires { IsOfBody scheme rule (map seen_part parts.old) }
         ensures { IfOk result (λ part. seen_part part ≡ action rule (map seen_part parts.old)) }
     {
@@ -52,7 +52,7 @@ impl<'a> Translation<'a> for NodeTranslation {
 }
 
 // The action of a rule.
-fn act<'a>(alloc: Global, rule: u8, parts: &mut Body<Part<'a>>) -> Result<Part<'a>, AllocError>
+fn act<'a>(alloc: Global, rule: u8, parts: &mut Parts<'a>) -> Made<'a>
     requires { IsMeant (action rule (map seen_part parts.old)) }
     ensures { IfOk result (λ part. seen_part part ≡ action rule (map seen_part parts.old)) }
 {

@@ -2,3 +2,5 @@
 pub mod UnderWay
 -- what readers tell of names
 pub mod Rows
+-- and what the next part of a body is
+pub mod Taken

@@ -1,5 +1,5 @@
 // The parts of a body, which the action of its rule takes one after another.
-ghost use Rattle.std.specs.Prelude.{◌≡◌, ◌↔◌, ◌≤◌, ◌<◌, ◌++◌, [], length, take, drop, reverse, IsSome, OnOk};
+ghost use Rattle.std.specs.Prelude.{◌≡◌, ◌↔◌, ◌≤◌, ◌<◌, ◌++◌, ◌∷◌, [], length, take, drop, reverse, IsSome, IfOk, OnOk};
 ghost use Rattle.std.specs.Option.{option_to_list};
 
 use std::alloc::{AllocError, Global};
@@ -62,24 +62,20 @@ impl<P: Drop> Body<P> {
     }
 }
 
+/// A list that stands from its last element to its first, with one more before the first.
+pub fn with_first<T: Drop>(first: T, mut others: Vec<T>) -> Result<Vec<T>, AllocError>
+    ensures { IfOk result (λ all. reverse all.items ≡ first ∷ reverse others.items) }
+{
+    others.push(first)?;
+    Ok(others)
+}
+
 /// The next part of a body, which is of this kind of `Part`.
 #[macro_export]
 macro_rules! next_of {
     ($parts:expr, $kind:ident) => {
         match $parts.next() {
             Some(Part::$kind(part)) => part,
-            _ => unreachable!(),
-        }
-    };
-}
-
-/// The next part of a body, which is of this kind of `Part` if there is one.
-#[macro_export]
-macro_rules! next_of_or_end {
-    ($parts:expr, $kind:ident) => {
-        match $parts.next() {
-            None => None,
-            Some(Part::$kind(part)) => Some(part),
             _ => unreachable!(),
         }
     };

@@ -12,6 +12,6 @@ mod body;
 mod machine;
 mod translation;
 
-pub use body::Body;
+pub use body::{Body, with_first};
 pub use machine::translate;
 pub use translation::Translation;
