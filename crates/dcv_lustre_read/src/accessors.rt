@@ -1,4 +1,5 @@
-// The parts of a body, taken one after another: each function takes the next part, which is of a kind that is known.
+// The parts of a body, taken one after another: each function takes the next part, which is of a kind that is known. What is copied out of a part of
+// words owns nothing, so that part is forgotten and not dropped.
 ghost use Rattle.std.specs.Prelude.{◌≡◌, ◌∷◌, map, reverse};
 ghost use Rattle.dcv_observer.specs.Left.{seen};
 ghost use Rattle.dcv_translation.specs.Taken.{Begins, EndsOrBegins, Takes};
@@ -59,11 +60,14 @@ pub(crate) fn token_or_end<'a>(parts: &mut Parts<'a>) -> Option<Item<'a>>
     requires { EndsOrBegins IsToken (map seen_part parts.old) }
     ensures { Takes (λ item. AToken (seen item)) result (map seen_part parts.old) (map seen_part parts.new) }
 {
-    match words_or_end(parts) {
+    let next = parts.next();
+    let token = match &next {
         None => None,
-        Some(Words::Token(item)) => Some(item),
+        Some(Part::Words(Words::Token(item))) => Some(*item),
         _ => unreachable!(),
-    }
+    };
+    forget(next);
+    token
 }
 
 pub(crate) fn tokens<'a>(parts: &mut Parts<'a>) -> Vec<Item<'a>>
