@@ -47,8 +47,11 @@ pub fn put<T: Target>(unit: &CUnit, target: &mut T)
 // The names of a unit, by their places.
 #[derive(Drop)]
 struct Names<'a> {
+    // those of the variables that keep their values
     statics: &'a [Text],
+    // those of the parameters
     parameters: &'a [Text],
+    // those of the variables of one call
     locals: &'a [Text],
 }
 

@@ -24,8 +24,11 @@ const MOST_PARAMETERS: usize = MOST_VARIABLES;
 /// What is in a unit, its names by places.
 #[derive(Drop)]
 struct Contents {
+    // the variables that keep their values
     statics: Vec<Text>,
+    // the function that begins anew
     reset: Reset,
+    // the function of one instant
     step: Step,
 }
 

@@ -4,7 +4,9 @@ use dcv_observer::Item;
 /// `name == number`.
 #[derive(Clone, Copy)]
 pub struct PlacedTest<'a> {
+    /// The variable that is compared.
     pub name: Item<'a>,
+    /// What it is compared with.
     pub number: Item<'a>,
 }
 
@@ -13,7 +15,9 @@ pub struct PlacedTest<'a> {
 pub struct PlacedChoice<'a> {
     /// Where the condition compares.
     pub number: Option<Item<'a>>,
+    /// What is chosen where the test holds.
     pub item: Item<'a>,
+    /// What is chosen where it does not.
     pub otherwise: Item<'a>,
 }
 
@@ -38,16 +42,20 @@ pub enum PlacedStatement<'a> {
 /// An assignment after `if`.
 #[derive(Clone, Copy)]
 pub struct PlacedWhen<'a> {
+    /// The variable that is compared.
     pub name: Item<'a>,
     /// Where the condition compares.
     pub number: Option<Item<'a>>,
+    /// The variable that is assigned to.
     pub left: Item<'a>,
+    /// What it gets.
     pub item: Item<'a>,
 }
 
 /// What stands after the name of the first test: `== number`, and `|| name == number` any number of times.
 #[derive(Drop)]
 pub struct PlacedTests<'a> {
+    /// What the first test compares with.
     pub number: Item<'a>,
     /// From the last to the first.
     pub others: Vec<PlacedTest<'a>>,
@@ -66,14 +74,18 @@ pub enum PlacedReturned<'a> {
 /// `name = number;`.
 #[derive(Clone, Copy)]
 pub struct PlacedAssignment<'a> {
+    /// The variable that is assigned to.
     pub name: Item<'a>,
+    /// What it gets.
     pub number: Item<'a>,
 }
 
 /// The function that sets the statics.
 #[derive(Drop)]
 pub struct PlacedReset<'a> {
+    /// The name of the function.
     pub name: Item<'a>,
+    /// Its statements, in order.
     pub assignments: Vec<PlacedAssignment<'a>>,
     /// The brace after the assignments.
     pub end: Item<'a>,
@@ -82,17 +94,25 @@ pub struct PlacedReset<'a> {
 /// The function that makes a step.
 #[derive(Drop)]
 pub struct PlacedStep<'a> {
+    /// The name of the function.
     pub name: Item<'a>,
+    /// Its parameters, in order.
     pub parameters: Vec<Item<'a>>,
+    /// Its local variables, in order.
     pub locals: Vec<Item<'a>>,
+    /// Its statements, in order.
     pub statements: Vec<PlacedStatement<'a>>,
+    /// What it returns.
     pub returned: PlacedReturned<'a>,
 }
 
 /// A whole unit.
 #[derive(Drop)]
 pub struct PlacedUnit<'a> {
+    /// The variables that keep their values, in order.
     pub statics: Vec<Item<'a>>,
+    /// The function that begins anew.
     pub reset: PlacedReset<'a>,
+    /// The function of one instant.
     pub step: PlacedStep<'a>,
 }

@@ -36,8 +36,11 @@ impl Sort {
 /// What is told of a name where it is declared, and whether it is known: a parameter, or on the left of an earlier assignment.
 #[derive(Clone, Copy)]
 pub(crate) struct Declaration {
+    // the number of the name
     pub(crate) place: u32,
+    // what the name was declared as
     pub(crate) sort: Sort,
+    // whether it has a value where it stands
     pub(crate) known: bool,
 }
 

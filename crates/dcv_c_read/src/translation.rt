@@ -14,6 +14,7 @@ use std::alloc::Global;
 // From texts to units.
 #[derive(Drop)]
 pub(crate) struct UnitTranslation {
+    // where trees are allocated
     pub(crate) alloc: Global,
 }
 

@@ -48,7 +48,9 @@ fn put<T: Target>(node: &Node, target: &mut T)
 // The names of a node, by their places.
 #[derive(Drop)]
 struct Names<'a> {
+    // those of the inputs
     inputs: &'a [Text],
+    // the local variables with their types
     locals: &'a [Local],
 }
 

@@ -31,8 +31,11 @@ const MOST_INPUTS: usize = MOST_VARIABLES;
 /// What is in a node, its names by places.
 #[derive(Drop)]
 struct Contents {
+    // the inputs
     inputs: Vec<Text>,
+    // the local variables with their types
     locals: Vec<Local>,
+    // the equations, in order
     equations: Vec<Equation>,
 }
 

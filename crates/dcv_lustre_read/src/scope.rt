@@ -14,8 +14,11 @@ use std::alloc::AllocError;
 /// What is told of a name where it is declared, and whether it is known: an input, or on the left of an earlier equation.
 #[derive(Clone, Copy)]
 pub(crate) struct Declaration {
+    // the number of the name
     pub(crate) place: u32,
+    // the type of the variable
     pub(crate) kind: Kind,
+    // whether it has a value where it stands
     pub(crate) known: bool,
 }
 

@@ -14,6 +14,7 @@ use std::alloc::Global;
 // From texts to nodes.
 #[derive(Drop)]
 pub(crate) struct NodeTranslation {
+    // where trees are allocated
     pub(crate) alloc: Global,
 }
 

@@ -12,6 +12,8 @@ pub enum Condition {
 /// Whether a name is a number.
 #[derive(Clone, Copy, Debug, PartialEq, Eq)]
 pub struct Test {
+    /// The place of the variable.
     pub name: u32,
+    /// What it is compared with.
     pub number: u16,
 }

@@ -27,6 +27,7 @@ pub const LARGEST_NUMBER: u32 = 32_767;
 /// A word, a number, a symbol, or a byte with which no piece begins.
 #[derive(Clone, Copy)]
 pub struct Item<'a> {
+    /// Its bytes.
     pub bytes: &'a [u8],
     /// The offset of its first byte.
     pub start: u32,
@@ -37,6 +38,7 @@ pub struct Item<'a> {
 /// The items of a text from some offset on. After a stray byte there are none.
 #[derive(Drop)]
 pub struct Items<'a> {
+    // what cuts the text
     lexer: Lexer<'a>,
 }
 

@@ -9,6 +9,7 @@ use std::marker::Model;
 /// hash.
 #[derive(Drop)]
 pub struct Declared<'a> {
+    // the names, in the order of their places
     names: IndexSet<&'a [u8]>,
 }
 

@@ -31,9 +31,13 @@ pub(crate) enum Step {
 // The last step is the next, and the last part was made last.
 #[derive(Drop)]
 pub(crate) struct Machine<'a, 't, T: Translation<'a>> {
+    // the actions
     translation: &'t T,
+    // what is read by
     grammar: ContextFree<'a>,
+    // what is still to be done, the next last
     steps: Vec<Step>,
+    // the parts that were made, the newest last
     parts: Vec<T::Part>,
     // of the rule whose action comes next
     body: Body<T::Part>,
