@@ -4,7 +4,7 @@
     tests/causes.py
 
 A line hands one on where it, or the line before it in the same arm, matches a fault `Memory` (or an `AllocError`), or where it stands in a `From` of one.
-What is left is said in `docs/DECISIONS.md`, and is named here with the reason; a line that is not named is a defect.
+What is left takes more than any memory holds (`docs/DECISIONS.md`), and is named here with what it would take; a line that is not named is a defect.
 """
 import os
 import re
@@ -16,10 +16,22 @@ ROOT = os.path.dirname(os.path.dirname(os.path.abspath(__file__)))
 MAKES = re.compile(r"(Err|ok_or)\((AllocError|\w+::Memory)\)|map_err\(\|_\| (AllocError|\w+::Memory)\)")
 HANDS_ON = re.compile(r"Memory\)? =>|OutOfMemory\)? =>|Memory( \{[^}]*\})? =>|Err\(AllocError\) =>|\.map_err\(\|_: AllocError\|")
 
-# file and line, with why it is a cause of its own
+# file and line, with what it would take
 NAMED = {
-    ("dcv_refinement/src/numbers.rt", "Err(_) => Err(AllocError),"): "a list of 2^32 entries or more has no 32-bit place",
-    ("dcv_io/src/text.rt", "if failed { Err(AllocError) } else { Ok(bytes) }"): "a push of this text was refused memory before",
+    ("dcv_refinement/src/numbers.rt", "Err(_) => Err(AllocError),"): "a list of 2^32 entries",
+    ("dcv_io/src/text.rt", "if failed { Err(AllocError) } else { Ok(bytes) }"): "nothing: a push of this text was refused memory before",
+    ("dcv_atoms/src/atom.rt", "return Err(AtomFault::Memory);"): "a step over more than 32 slots, or a measure of 2^32 - 1, which no text has",
+    ("dcv_atoms/src/functions.rt", "Err(_) => Err(AtomFault::Memory),"): "2^32 - 1 nodes of what the operands of one proposition are joined to",
+    ("dcv_atoms/src/rounds.rt", "return Err(ApplyFault::Memory);"): "2^32 - 1 operands of one proposition",
+    ("dcv_c_read/src/observer.rt", "return Err(AllocError);"): "an observer's text of 4 GB",
+    ("dcv_lustre_read/src/observer.rt", "return Err(AllocError);"): "an observer's text of 4 GB",
+    ("dcv_c_read/src/scope.rt", "return Err(ObsFault::Memory);"): "2^32 names in one unit",
+    ("dcv_lustre_read/src/scope.rt", "return Err(ObsFault::Memory);"): "2^32 names in one node",
+    ("dcv_replay/src/of_node.rt", "return Err(AllocError);"): "2^31 names in one observer",
+    ("dcv_replay/src/selecting.rt", "return Err(AllocError);"): "2^32 names in one observer",
+    ("dcv_shelf/src/shelf.rt", "return Err(AllocError);"): "1,000,000,000 tables on one shelf",
+    ("dcv_shelf/src/stored.rt", "return Err(AllocError);"): "1,073,741,824 nodes on one shelf",
+    ("dcv_stuck/src/sink.rt", "return Err(AllocError);"): "an automaton of 2^32 - 1 states",
 }
 
 
