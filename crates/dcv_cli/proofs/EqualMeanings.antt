@@ -14,7 +14,7 @@ use Rattle.dcv_syntax.specs.declared.names.Name.{Name}
 use Rattle.dcv_syntax.specs.Plain.{PlainFile}
 use Rattle.dcv_explore.specs.declared.explorer.Limits.{Limits}
 use Rattle.dcv_cli.specs.declared.refusal.Refusal.{Refusal}
-use Rattle.dcv_cli.specs.declared.refusal.Refusal.TheVariants.{Open, Read as ReadRefusal, Formula, Automaton, Observer, Trace, Budget, Product, Write, Memory}
+use Rattle.dcv_cli.specs.declared.refusal.Refusal.TheVariants.{Open, Budget}
 use Rattle.dcv_cli.specs.declared.status.Status.{Status}
 use Rattle.dcv_cli.specs.declared.status.Status.TheVariants.{Budget as StatusBudget}
 use Rattle.dcv_cli.specs.Budget.{IsBudgeted, OverBudget, WithinBudget}
@@ -31,15 +31,7 @@ use Rattle.dcv_cli.proofs.Texts.{one_meaning, one_other_text, says_of_same}
 -- no refusal answers
 pub no_refusal_answers : (refusal : Refusal) → IsTrue (is_answer (status_of refusal)) → ⊥
 no_refusal_answers Open is = true≢false (sym is)
-no_refusal_answers ReadRefusal is = true≢false (sym is)
-no_refusal_answers (Formula fault) is = true≢false (sym is)
-no_refusal_answers (Automaton fault) is = true≢false (sym is)
-no_refusal_answers (Observer fault) is = true≢false (sym is)
-no_refusal_answers (Trace fault) is = true≢false (sym is)
-no_refusal_answers (Product excess limit) is = true≢false (sym is)
-no_refusal_answers (Budget over) is = true≢false (sym is)
-no_refusal_answers Write is = true≢false (sym is)
-no_refusal_answers Memory is = true≢false (sym is)
+no_refusal_answers _ is = true≢false (sym is)
 
 pub answers_as : (outcome : Outcome) (status : Status) → outcome.status ≡ status → IsTrue (is_answer outcome.status) → IsTrue (is_answer status)
 answers_as outcome status is answers = subst (λ (s : Status). IsTrue (is_answer s)) is answers

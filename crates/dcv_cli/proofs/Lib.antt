@@ -34,7 +34,6 @@ pub mod StuckReports
 pub mod Sweeps
 pub mod Syntheses
 mod Texts
-pub mod TextReports
 pub mod ThreeEnds
 pub mod TraceEnds
 pub mod TwoFiles

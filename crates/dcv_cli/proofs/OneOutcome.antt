@@ -9,13 +9,13 @@ use Rattle.dcv_language.specs.Laws.{OneVerdict}
 use Rattle.dcv_language.specs.Verdict.{Verdict}
 use Rattle.dcv_sentence.specs.Faults.{FaultIsUnique}
 use Rattle.dcv_sentence.specs.declared.faults.ReadFault.{ReadFault}
-use Rattle.dcv_sentence.specs.declared.faults.ReadFault.TheVariants.{Byte as ByteAt, Syntax as SyntaxAt, Number as NumberAt, Name as NameAt, Nest as NestAt, Memory as ReadMemory}
+use Rattle.dcv_sentence.specs.declared.faults.ReadFault.TheVariants.{Memory as ReadMemory}
 use Rattle.dcv_reader.specs.Spelling.{SpellsOne}
 use Rattle.dcv_scope.specs.CoreOf.{core_of_file}
 use Rattle.dcv_core.specs.Steps.{PlainStep}
 use Rattle.dcv_scope.specs.Faults.{fault_of_file}
 use Rattle.dcv_scope.specs.declared.faults.ScopeFault.{ScopeFault}
-use Rattle.dcv_scope.specs.declared.faults.ScopeFault.TheVariants.{TooMany, Duplicate, Taken, Unknown, Kind, Arity, Size, Depth, Slots, BoundShift, Memory as ScopeMemory}
+use Rattle.dcv_scope.specs.declared.faults.ScopeFault.TheVariants.{TooMany, Memory as ScopeMemory}
 use Rattle.dcv_explore.specs.declared.explorer.Limits.{Limits}
 use Rattle.dcv_explore.specs.Budget.{Kind as KindOfExcess, TooManyStates, TooManyNodes}
 use Rattle.dcv_build.specs.Budget.{IsOver}
@@ -74,25 +74,12 @@ no_memory_budget : OutOfMemory ≢ StatusBudget
 no_memory_budget e = cc
 
 reading_is_formula : (fault : ReadFault) → status_of (refusal_of_reading fault) ≢ StatusBudget
-reading_is_formula (ByteAt at) = no_formula_budget
-reading_is_formula (SyntaxAt at) = no_formula_budget
-reading_is_formula (NumberAt at) = no_formula_budget
-reading_is_formula (NameAt at) = no_formula_budget
-reading_is_formula (NestAt at) = no_formula_budget
 reading_is_formula ReadMemory = no_memory_budget
+reading_is_formula _ = no_formula_budget
 
 scope_is_formula : (fault : ScopeFault) → status_of (refusal_of_scope fault) ≢ StatusBudget
-scope_is_formula (TooMany at) = no_formula_budget
-scope_is_formula (Duplicate at) = no_formula_budget
-scope_is_formula (Taken at) = no_formula_budget
-scope_is_formula (Unknown at) = no_formula_budget
-scope_is_formula (Kind at) = no_formula_budget
-scope_is_formula (Arity at) = no_formula_budget
-scope_is_formula (Size at) = no_formula_budget
-scope_is_formula (Depth at) = no_formula_budget
-scope_is_formula (Slots at) = no_formula_budget
-scope_is_formula (BoundShift at) = no_formula_budget
 scope_is_formula ScopeMemory = no_memory_budget
+scope_is_formula _ = no_formula_budget
 
 refused_is_formula : (text : List ℕ) (refusal : Refusal) → IsRefused text refusal → status_of refusal ≢ StatusBudget
 refused_is_formula text refusal (TooLong long e) over = no_formula_budget (sym (ap status_of e) ∙ over)

@@ -30,14 +30,13 @@ use Rattle.dcv_synth.specs.Play.{environment_of}
 use Rattle.dcv_synth.specs.SameSteps.{GoOnAlike}
 use Rattle.dcv_synth.specs.Units.{unit_of, controller_in}
 use Rattle.dcv_synth.specs.declared.strategy.Strategy.{Strategy}
-use Rattle.dcv_cli.specs.Budget.{NamesFirstOver, WithinBudget, OverBudget, steps_of_file}
+use Rattle.dcv_cli.specs.Budget.{WithinBudget}
 use Rattle.dcv_cli.specs.Judged.{IsJudged}
-use Rattle.dcv_cli.specs.Outcome.{IsExplained, refused}
+use Rattle.dcv_cli.specs.Outcome.{refused}
 use Rattle.dcv_cli.specs.Status.{is_answer}
 use Rattle.dcv_cli.specs.Synthesis.{can_be_divided, controller_text, strategy_text, SaysController, SaysStrategy, IsSynthesis, IsSynthesised, Undivided, Divided}
 use Rattle.dcv_cli.specs.Synthesised.{status_of_synthesis, synthesised}
-use Rattle.dcv_cli.specs.declared.refusal.Refusal.{Refusal}
-use Rattle.dcv_cli.specs.declared.refusal.Refusal.TheVariants.{Budget, Formula, Memory}
+use Rattle.dcv_cli.specs.declared.refusal.Refusal.TheVariants.{Formula}
 use Rattle.dcv_cli.specs.declared.faults.FormulaFault.TheVariants.{Outputs}
 use Rattle.dcv_cli.specs.declared.refused.Which.TheVariants.{Only}
 use Rattle.dcv_cli.specs.declared.judged.Judged.{Judged}
@@ -141,20 +140,12 @@ module _ (inputs : ℕ) (limits : Limits) (file : PlainFile) where
   pub explains_undivided : IsFalse (can_be_divided inputs (length file.variables)) → IsSynthesised inputs limits file (refused (Formula Outputs) Only)
   explains_undivided not = Undivided not refl
 
-  -- a step that is over the limits is named
-  pub explains_divided : (refusal : Refusal) → IsTrue (can_be_divided inputs (length file.variables)) → NamesFirstOver (steps_of_file file) limits refusal
-      → IsExplained (IsSynthesised inputs limits file) Only refusal
-  explains_divided (Budget over) fits is = Divided fits (OverBudget over is refl)
-  explains_divided Memory fits is = tt
-  explains_divided _ fits is = absurd is
-
 -- what is found of its automaton
-pub found_of_file : (inputs : ℕ) (limits : Limits) (text : List ℕ) (judged : Judged) (found : Synthesis) (is : IsJudged text limits judged)
+pub found_of_file : (inputs : ℕ) (limits : Limits) (file : PlainFile) (judged : Judged) (found : Synthesis) → IsJudged file limits judged
     → IsTrue (can_be_divided inputs (length judged.names.items))
     → ((k : ℕ) (L : Language) → IsAutomatonOf k L judged.auto → IsSynthesis inputs (k - inputs) L (take inputs (texts_of judged.names.items)) (synthesised found))
-    → IsSynthesised inputs limits is.file (synthesised found)
-found_of_file inputs limits text judged found is fits each =
-    let file = is.file in
+    → IsSynthesised inputs limits file (synthesised found)
+found_of_file inputs limits file judged found is fits each =
     Divided (subst (λ (names : List Name). IsTrue (can_be_divided inputs (length names))) is.names fits)
     (WithinBudget is.within
     (subst (λ (names : List Name). IsSynthesis inputs (length file.variables - inputs) (models file) (take inputs (texts_of names)) (synthesised found)) is.names

@@ -1,7 +1,6 @@
 -- What is right where it is asked whether the requirement of one formula file implies that of another.
 --     comparison_text least               what is said, by the least behaviour that models the first and not the second
 --     IsDifference limits one other o     the outcome says so of two files over the same variables, or that their product is over the limits
---     FulfilsSecond limits one name ..    the same for the second file, by its name
 --     LeavesComparison first second ..    what was written where an input failed
 --     have_same_texts                     for proofs alone
 --     IsCompared limits one other o       they have the same variables, both are within the limits, and so it is; or the outcome says what is not
@@ -20,13 +19,12 @@ use Rattle.dcv_cli.specs.declared.refusal.Refusal.TheVariants.{Formula, Product}
 use Rattle.dcv_cli.specs.declared.faults.FormulaFault.TheVariants.{Declarations}
 use Rattle.dcv_cli.specs.declared.refused.Which.TheVariants.{Only, First, Second}
 use Rattle.dcv_cli.specs.Budget.{IsBudgeted, kind_of, limit_of}
-use Rattle.dcv_cli.specs.FormulaFile.{IsFormulaFile, OnText}
-use Rattle.dcv_cli.specs.Held.{Texts, OnHeld, ForHeld}
+use Rattle.dcv_cli.specs.FormulaFile.{IsFormulaFile}
+use Rattle.dcv_cli.specs.Held.{Texts}
 use Rattle.dcv_cli.specs.Outcome.{Outcome, refused}
 use Rattle.dcv_cli.specs.Outside.{Outside}
 use Rattle.dcv_cli.specs.Status.{status_of_least}
 use Rattle.dcv_io.specs.Asked.{Asks}
-use Rattle.dcv_io.specs.Disk.{Disk}
 
 abbrev pub comparison_text : Option Word → List ℕ
 comparison_text None = line (codes "implies")
@@ -54,10 +52,6 @@ pub data IsCompared (limits : Limits) (one other : PlainFile) (outcome : Outcome
   Declared : texts_of one.variables ≡ texts_of other.variables
       → IsBudgeted limits First (λ first. IsBudgeted limits Second (IsDifference limits first) other) one outcome → IsCompared limits one other outcome
 
--- that is right for the second file, which is held under the name
-abbrev pub FulfilsSecond : Limits → PlainFile → List ℕ → Option Disk → Outcome → Type 0
-FulfilsSecond limits one name told outcome = ForHeld told (λ held. OnHeld (held 0) name (λ text. OnText text Second (IsCompared limits one)) outcome)
-
 -- ---- where an input failed
 
 -- a formula file without a fault is held
@@ -72,11 +66,6 @@ pub data LeavesComparison (first second : List ℕ) (held : Texts) (before after
   OfFirst : Asks (first ∷ []) before.asked after.asked → bytes ≡ [] → LeavesComparison first second held before after bytes
   OfSecond : Asks (first ∷ second ∷ []) before.asked after.asked → HasFormula (held 0 first) → bytes ≡ []
       → LeavesComparison first second held before after bytes
-
--- the same for the second file alone
-pub record LeavesSecond (second : List ℕ) (before after : Outside) (bytes : List ℕ) : Type 0 where
-  pub asked : Asks (second ∷ []) before.asked after.asked
-  pub none : bytes ≡ []
 
 -- for proofs alone: whether two lists of texts are the same
 abbrev pub have_same_texts : List (List ℕ) → List (List ℕ) → Bool

@@ -6,7 +6,7 @@
 --     over_words over        those of the first step that is over the limits, as `budget states 30000 at 12 step 3`
 --     ended which words      the words where a request reads two formula files, and this one is refused
 --     message_of refused     the line
-use Rattle.std.specs.Prelude.{ℕ, Bool, true, false, List, ◌++◌, Result, Ok, Err, codes}
+use Rattle.std.specs.Prelude.{ℕ, Bool, true, false, List, ◌++◌, Result, Ok, Err, if◌then◌else◌, codes}
 use Rattle.std.specs.Fmt.{decimal}
 use Rattle.dcv_automaton_read.specs.declared.faults.AutoFault.{AutoFault}
 use Rattle.dcv_automaton_read.specs.declared.faults.AutoFault.TheVariants.{Syntax as AutoSyntax, Table as AutoTable, Memory as AutoMemory}
@@ -43,6 +43,7 @@ use Rattle.dcv_cli.specs.declared.refused.Which.{Which}
 use Rattle.dcv_cli.specs.declared.refused.Which.TheVariants.{Only, First, Second}
 use Rattle.dcv_cli.specs.declared.faults.TextFault.{TextFault}
 use Rattle.dcv_cli.specs.declared.faults.TextFault.TheVariants.{Byte, Syntax, Number, Name, Nest, Many, Duplicate, Taken, Unknown, Kind, Arity, Size, Depth, Slots, Shift}
+use Rattle.dcv_cli.specs.Status.{has_cause}
 use Rattle.dcv_cli.specs.declared.status.Status.{Status}
 use Rattle.dcv_cli.specs.declared.status.Status.TheVariants.{Formula as StatusFormula, Budget as StatusBudget, Input, Output, Memory as StatusMemory}
 use Rattle.dcv_cli.specs.declared.status.Status.TheVariants.{Automaton as StatusAutomaton, Trace as StatusTrace, Observer as StatusObserver}
@@ -156,11 +157,7 @@ only refusal = record { refusal = refusal; which = Only }
 
 -- a fault of a file is said of that file; that the outside failed, or memory, is said of none
 abbrev pub marked : Which → Refusal → Refused
-marked which Open = only Open
-marked which Read = only Read
-marked which Write = only Write
-marked which Memory = only Memory
-marked which refusal = record { refusal = refusal; which = which }
+marked which refusal = record { refusal = refusal; which = if has_cause (status_of refusal) then Only else which }
 
 -- after the words, to the end of the line
 abbrev pub end_of : Which → List ℕ

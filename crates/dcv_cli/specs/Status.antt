@@ -37,15 +37,11 @@ is_answer _ = false
 
 -- The words and what is held determine such a status, with its report and its message.
 abbrev pub is_determined : Status → Bool
-is_determined Valid = true
-is_determined Done = true
-is_determined NotValid = true
-is_determined Formula = true
-is_determined Budget = true
-is_determined Trace = true
-is_determined Observer = true
-is_determined Automaton = true
-is_determined _ = false
+is_determined Usage = false
+is_determined Input = false
+is_determined Output = false
+is_determined Memory = false
+is_determined _ = true
 
 -- the status of a run that is refused before anything is written, whatever it was asked for
 abbrev pub is_silent : Status → Bool
@@ -66,6 +62,13 @@ is_input _ = false
 abbrev pub is_output : Status → Bool
 is_output Output = true
 is_output _ = false
+
+-- the status of a run that something outside of the words and the texts brought about
+abbrev pub has_cause : Status → Bool
+has_cause Input = true
+has_cause Output = true
+has_cause Memory = true
+has_cause _ = false
 
 -- a run ends so only where its words ask for something
 abbrev pub is_of_request : Status → Bool

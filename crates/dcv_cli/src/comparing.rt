@@ -1,25 +1,26 @@
 // The command that compares the requirements of two formula files.
-ghost use Rattle.std.specs.Prelude.{◌≡◌, [], ◌∷◌, IfOk, IfErr, IsTrue};
+ghost use Rattle.std.specs.Prelude.{◌≡◌, IfOk, IfErr, IsTrue};
 ghost use Rattle.std.specs.Bool.{OnTrue};
 ghost use Rattle.dcv_syntax.specs.Plain.{PlainFile};
-ghost use Rattle.dcv_command.specs.Request.{Implies, AreInRange};
+ghost use Rattle.dcv_command.specs.Request.{Implies};
 ghost use Rattle.dcv_implies.specs.Comparison.{letters_of};
 ghost use Rattle.dcv_print.specs.Printed.{texts_of};
-ghost use Rattle.dcv_cli.specs.Comparison.{compared, have_same_texts, IsCompared, FulfilsSecond, LeavesSecond};
-ghost use Rattle.dcv_cli.specs.Ending.{has_cause};
+ghost use Rattle.dcv_cli.specs.Comparison.{compared, have_same_texts, IsCompared};
 ghost use Rattle.dcv_cli.specs.Expanded.{IsExpanded, IsOfFile};
 ghost use Rattle.dcv_cli.specs.Outcome.{IsExplained};
 ghost use Rattle.dcv_cli.specs.Outside.{outside};
-ghost use Rattle.dcv_cli.specs.Performed.{Performs, PerformsRequest};
+ghost use Rattle.dcv_cli.specs.Performed.{PerformsRequest};
 ghost use Rattle.dcv_cli.specs.Refusal.{status_of, is_of_text};
+ghost use Rattle.dcv_cli.specs.Status.{has_cause};
 ghost use Rattle.dcv_cli.specs.declared.refused.Which.TheVariants.{Only};
 
 use crate::budget_line::Excess;
 use crate::expanded::{Expanded, built, expanded_file};
 use crate::faults::FormulaFault;
+use crate::formula_command::{FormulaCommand, over_formula};
 use crate::refusal::Refusal;
 use crate::refused::{Refused, Which};
-use crate::replying::{Reply, send};
+use crate::replying::{Reply, reply_with};
 use crate::status::Status;
 use dcv_explore::Limits;
 use dcv_implies::laws::{answers_are_of_sets, none_is_inclusion};
@@ -36,6 +37,13 @@ pub(crate) struct Compared {
     least: Option<Word>,
 }
 
+/// Says whether the requirement of a file implies that of another.
+#[derive(Clone, Copy)]
+pub(crate) struct Comparer<'a> {
+    one: &'a Expanded,
+    limits: Limits,
+}
+
 /// Writes whether the requirement in the file of the first name implies that in the file of the second.
 pub(crate) fn compare_files<F: Files, O: Sink>(
     alloc: Global,
@@ -45,39 +53,37 @@ pub(crate) fn compare_files<F: Files, O: Sink>(
     files: &mut F,
     out: &mut O,
 ) -> Result<Status, Refused>
-    requires { AreInRange limits }
     ensures { PerformsRequest (Implies first.entry.now second.entry.now limits) result
         (outside (F.told files.old) (F.asked files.old) (F.open_faults files.old) (F.read_faults files.old) (O.written out.old) (O.faults out.old))
         (outside (F.told files.new) (F.asked files.new) (F.open_faults files.new) (F.read_faults files.new) (O.written out.new) (O.faults out.new)) }
 {
     match expanded_file(alloc, files, first) {
-        Ok(one) => compare_with(alloc, &one, second, limits, files, out),
+        Ok(one) => {
+            let comparer = Comparer { one: &one, limits };
+            over_formula(alloc, &comparer, second, Which::Second, files, out)
+        }
         Err(refusal) => Err(refusal.in_file(Which::First)),
     }
 }
 
-// Writes whether the requirement of a file implies that in the file of the name.
-fn compare_with<F: Files, O: Sink>(
-    alloc: Global,
-    one: &Expanded,
-    second: &str,
-    limits: Limits,
-    files: &mut F,
-    out: &mut O,
-) -> Result<Status, Refused>
-    requires { IsOfFile one.now }
-    ensures { (first : PlainFile) → IsExpanded first one.now
-        → Performs (FulfilsSecond limits first second.entry.now (F.told files.old)) (LeavesSecond second.entry.now) (second.entry.now ∷ []) result
-        (outside (F.told files.old) (F.asked files.old) (F.open_faults files.old) (F.read_faults files.old) (O.written out.old) (O.faults out.old))
-        (outside (F.told files.new) (F.asked files.new) (F.open_faults files.new) (F.read_faults files.new) (O.written out.new) (O.faults out.new)) }
-{
-    let other = match expanded_file(alloc, files, second) {
-        Ok(other) => other,
-        Err(refusal) => return Err(refusal.in_file(Which::Second)),
-    };
-    let compared = compare(alloc, one, &other, limits)?;
-    send(&compared, out)?;
-    Ok(Status::of_least(&compared.least))
+impl FormulaCommand for Comparer<'_> {
+    ghost use Rattle.dcv_syntax.specs.Plain.{PlainFile};
+    ghost use Rattle.dcv_cli.specs.Comparison.{IsCompared};
+    ghost use Rattle.dcv_cli.specs.Expanded.{IsExpanded, IsOfFile};
+
+    ghost fits = { λ comparer. IsOfFile comparer.one.now };
+
+    ghost right = { λ comparer file outcome. (first : PlainFile) → IsExpanded first comparer.one.now → IsCompared comparer.limits first file outcome };
+
+    fn answer<O: Sink>(
+        &self,
+        alloc: Global,
+        formula: Expanded,
+        out: &mut O,
+    ) -> Result<Status, Refused> {
+        let compared = compare(alloc, self.one, &formula, self.limits)?;
+        reply_with(&compared, Status::of_least(&compared.least), out)
+    }
 }
 
 // Compares the requirements of two files.

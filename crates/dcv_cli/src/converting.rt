@@ -1,26 +1,17 @@
 // The command that asks for an automaton's text in a version.
-ghost use Rattle.std.specs.Prelude.{◌≡◌, ◌≤◌, length, IfOk, IfErr, IsTrue};
-ghost use Rattle.std.specs.Bool.{OnTrue};
+ghost use Rattle.std.specs.Prelude.{◌≡◌};
 ghost use Rattle.dcv_automaton_text.specs.Form.{HasForm};
 ghost use Rattle.dcv_automaton_text.specs.Spelled.{spelled};
-ghost use Rattle.dcv_command.specs.Request.{Convert};
-ghost use Rattle.dcv_cli.specs.AutomatonFile.{IsRefusedAutomaton};
-ghost use Rattle.dcv_cli.specs.Conversion.{as_version, conversion_text, IsConvertedText};
-ghost use Rattle.dcv_cli.specs.Status.{is_determined};
-ghost use Rattle.dcv_cli.specs.Outside.{outside};
-ghost use Rattle.dcv_cli.specs.Performed.{PerformsRequest};
-ghost use Rattle.dcv_cli.specs.Refusal.{most_automaton_bytes, is_of_text, status_of};
+ghost use Rattle.dcv_cli.specs.Conversion.{as_version, conversion_text};
 
-use crate::faults::{AutomatonFault, MOST_AUTOMATON_BYTES};
-use crate::refusal::Refusal;
+use crate::automaton_command::AutomatonCommand;
 use crate::refused::Refused;
-use crate::replying::{Reply, send};
+use crate::replying::{Reply, reply_with};
 use crate::status::Status;
-use crate::taking::take;
-use dcv_automaton_read::{AutoFile, automaton_read};
+use dcv_automaton_read::AutoFile;
 use dcv_automaton_text::laws::versions_stand_for_the_same;
 use dcv_command::Version;
-use dcv_io::{Files, Sink, Target};
+use dcv_io::{Sink, Target};
 use std::alloc::Global;
 
 // How many bytes of a text say which version it is of: those of `automaton 1`.
@@ -34,39 +25,28 @@ pub(crate) struct Conversion<'a> {
     end: &'a [u8],
 }
 
-/// Writes the automaton's text in the file of this name in this version.
-pub(crate) fn convert_file<F: Files, O: Sink>(
-    alloc: Global,
-    name: &str,
-    to: Version,
-    files: &mut F,
-    out: &mut O,
-) -> Result<Status, Refused>
-    ensures { PerformsRequest (Convert name.entry.now to) result
-        (outside (F.told files.old) (F.asked files.old) (F.open_faults files.old) (F.read_faults files.old) (O.written out.old) (O.faults out.old))
-        (outside (F.told files.new) (F.asked files.new) (F.open_faults files.new) (F.read_faults files.new) (O.written out.new) (O.faults out.new)) }
-{
-    let text = take(
-        alloc,
-        files,
-        name,
-        MOST_AUTOMATON_BYTES,
-        Refusal::Automaton(AutomatonFault::Length),
-    )?;
-    let conversion = convert(alloc, &text, to)?;
-    send(&conversion, out)?;
-    Ok(Status::Done)
+/// Writes an automaton's text in a version.
+#[derive(Clone, Copy)]
+pub(crate) struct Converter {
+    pub to: Version,
 }
 
-// The text in this version. No memory is taken after the reader.
-fn convert<'a>(alloc: Global, text: &'a [u8], to: Version) -> Result<Conversion<'a>, Refusal>
-    requires { length text.now ≤ most_automaton_bytes }
-    ensures converted { IfOk result (λ found. IsConvertedText text.entry.now to (conversion_text found)) }
-    ensures refused { IfErr result (λ refusal. OnTrue (is_determined (status_of refusal)) (IsRefusedAutomaton text.entry.now refusal)) }
-    ensures own { IfErr result (λ refusal. IsTrue (is_of_text refusal)) }
-{
-    let file = automaton_read(alloc, text)?;
-    Ok(in_version(text, &file, to))
+impl AutomatonCommand for Converter {
+    ghost use Rattle.dcv_cli.specs.Conversion.{IsConverted};
+
+    ghost right = { λ converter. IsConverted converter.to };
+
+    // No memory is taken after the reader.
+    fn answer<O: Sink>(
+        &self,
+        _: Global,
+        text: &[u8],
+        file: &AutoFile,
+        out: &mut O,
+    ) -> Result<Status, Refused> {
+        let conversion = in_version(text, file, self.to);
+        reply_with(&conversion, Status::Done, out)
+    }
 }
 
 // The file's text in this version: the text itself where it is of the version.

@@ -18,6 +18,7 @@
 #![tactic(auto)]
 
 mod automaton;
+mod automaton_command;
 mod budget_line;
 mod certifying;
 mod comparing;
@@ -25,6 +26,7 @@ mod converting;
 mod deciding;
 mod expanded;
 mod faults;
+mod formula_command;
 mod judged;
 pub mod laws;
 mod performing;

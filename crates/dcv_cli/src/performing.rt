@@ -4,16 +4,18 @@ ghost use Rattle.dcv_command.specs.Seen.{asked_by};
 ghost use Rattle.dcv_cli.specs.Outside.{outside};
 ghost use Rattle.dcv_cli.specs.Performed.{PerformsRequest};
 
-use crate::certifying::certify_file;
+use crate::automaton_command::over_automaton;
+use crate::certifying::Certifier;
 use crate::comparing::compare_files;
-use crate::converting::convert_file;
-use crate::refused::Refused;
+use crate::converting::Converter;
+use crate::formula_command::over_formula;
+use crate::refused::{Refused, Which};
 use crate::replaying::replay_file;
-use crate::reporting::report_on_file;
+use crate::reporting::Reporter;
 use crate::status::Status;
-use crate::stuck::stuck_in_file;
+use crate::stuck::StuckFinder;
 use crate::sweeping::sweep_formulas;
-use crate::synthesising::synthesise_file;
+use crate::synthesising::Synthesiser;
 use dcv_command::Request;
 use dcv_io::{Files, Sink};
 use std::alloc::Global;
@@ -32,21 +34,36 @@ pub(crate) fn perform<F: Files, O: Sink>(
 {
     match request {
         Request::Report { kind, file, limits } => {
-            report_on_file(alloc, kind, file, limits, files, out)
+            let reporter = Reporter { kind, limits };
+            over_formula(alloc, &reporter, file, Which::Only, files, out)
         }
-        Request::Certify { automaton } => certify_file(alloc, automaton, files, out),
-        Request::Convert { automaton, to } => convert_file(alloc, automaton, to, files, out),
+        Request::Certify { automaton } => over_automaton(alloc, &Certifier, automaton, files, out),
+        Request::Convert { automaton, to } => {
+            over_automaton(alloc, &Converter { to }, automaton, files, out)
+        }
         Request::Implies {
             first,
             second,
             limits,
         } => compare_files(alloc, first, second, limits, files, out),
-        Request::Stuck { file, limits } => stuck_in_file(alloc, file, limits, files, out),
+        Request::Stuck { file, limits } => {
+            over_formula(
+                alloc,
+                &StuckFinder { limits },
+                file,
+                Which::Only,
+                files,
+                out,
+            )
+        }
         Request::Synth {
             file,
             inputs,
             limits,
-        } => synthesise_file(alloc, file, inputs, limits, files, out),
+        } => {
+            let synthesiser = Synthesiser { inputs, limits };
+            over_formula(alloc, &synthesiser, file, Which::Only, files, out)
+        }
         Request::Replay {
             subset,
             observer,

@@ -1,16 +1,13 @@
 // The commands that run an observer over a trace.
 ghost use Rattle.std.specs.Prelude.{◌≡◌, ◌≤◌, [], ◌∷◌, length, IfOk, IfErr, IsTrue};
 ghost use Rattle.std.specs.Bool.{OnTrue};
-ghost use Rattle.dcv_io.specs.Asked.{Asks};
-ghost use Rattle.dcv_io.specs.Disk.{held_of};
-ghost use Rattle.dcv_io.specs.Faults.{RisesIf};
 ghost use Rattle.dcv_command.specs.Request.{Replay as ReplayRequest};
 ghost use Rattle.dcv_command.specs.declared.words.Subset.TheVariants.{Lustre, C};
 ghost use Rattle.dcv_replay.specs.Observer.{Observer, KeepsTheRules, Follows};
 ghost use Rattle.dcv_cli.specs.ObserverFile.{IsRefusedObserver};
-ghost use Rattle.dcv_cli.specs.Outside.{outside};
-ghost use Rattle.dcv_cli.specs.Performed.{Performs, PerformsRequest};
-ghost use Rattle.dcv_cli.specs.Refusal.{most_observer_bytes, is_of_text, is_of_taking, is_open, is_read, is_err_and, status_of};
+ghost use Rattle.dcv_cli.specs.Outside.{of_files, outside};
+ghost use Rattle.dcv_cli.specs.Performed.{Performs, PerformsRequest, Takes};
+ghost use Rattle.dcv_cli.specs.Refusal.{most_observer_bytes, is_of_text, status_of};
 ghost use Rattle.dcv_cli.specs.Replaying.{IsReplayOf, IsReplayIn, IsRefusedIn, FulfilsTrace, LeavesTrace};
 ghost use Rattle.dcv_cli.specs.Status.{is_determined};
 
@@ -53,11 +50,9 @@ fn observer_file<F: Files>(
 ) -> Result<Replay, Refusal>
     ensures observer { IfOk result (IsReplayIn subset (F.told files.old) name.now) }
     ensures refused { IfErr result (λ refusal. OnTrue (is_determined (status_of refusal)) (IsRefusedIn subset (F.told files.old) name.now refusal)) }
-    ensures asked { Asks (name.now ∷ []) (F.asked files.old) (F.asked files.new) }
-    ensures open_faults { RisesIf (is_err_and is_open result) (F.open_faults files.old) (F.open_faults files.new) }
-    ensures read_faults { RisesIf (is_err_and is_read result) (F.read_faults files.old) (F.read_faults files.new) }
-    ensures unwritten { IfErr result (λ refusal. IsTrue (is_of_taking refusal)) }
-    ensures held { held_of (F.told files.new) ≡ held_of (F.told files.old) }
+    ensures taken { Takes name.now result
+        (of_files (F.told files.old) (F.asked files.old) (F.open_faults files.old) (F.read_faults files.old))
+        (of_files (F.told files.new) (F.asked files.new) (F.open_faults files.new) (F.read_faults files.new)) }
 {
     let too_long = Refusal::Observer(ObserverFault::Length);
     let text = take(alloc, files, name, MOST_OBSERVER_BYTES, too_long)?;

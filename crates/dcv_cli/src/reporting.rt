@@ -1,92 +1,112 @@
-// The commands that report on one formula file: from its name to the report.
+// The commands that report on one formula file.
 ghost use Rattle.std.specs.Prelude.{◌≡◌, ◌≤◌, ℕ, List, IfOk, IfErr};
 ghost use Rattle.dcv_syntax.specs.Plain.{PlainFile};
 ghost use Rattle.dcv_language.specs.declared.kind.Kind.TheVariants.{Check};
 ghost use Rattle.dcv_build.specs.Given.{IsCore};
-ghost use Rattle.dcv_command.specs.Request.{Report as ReportRequest, AreInRange};
-ghost use Rattle.dcv_cli.specs.Budget.{steps_of_file, NamesFirstOver};
+ghost use Rattle.dcv_command.specs.Request.{AreInRange};
+ghost use Rattle.dcv_cli.specs.Budget.{steps_of_file, IsBudgeted, NamesFirstOver};
 ghost use Rattle.dcv_cli.specs.Expanded.{IsExpanded, IsExpandedText};
 ghost use Rattle.dcv_cli.specs.FormulaFile.{IsFormulaFile};
-ghost use Rattle.dcv_cli.specs.Judged.{IsJudged, ReportsOn};
-ghost use Rattle.dcv_cli.specs.Outside.{outside};
-ghost use Rattle.dcv_cli.specs.Performed.{PerformsRequest};
+ghost use Rattle.dcv_cli.specs.Judged.{IsJudged};
+ghost use Rattle.dcv_cli.specs.Performed.{Answers, Replies};
+ghost use Rattle.dcv_cli.specs.Report.{IsReport};
+ghost use Rattle.dcv_cli.specs.Status.{status_of_verdict};
+ghost use Rattle.dcv_cli.specs.declared.refused.Which.TheVariants.{Only};
 
 use crate::deciding::decide;
-use crate::expanded::{Expanded, counted, expanded_file};
+use crate::expanded::{Expanded, counted};
+use crate::formula_command::FormulaCommand;
 use crate::judged::{Judged, report_on};
 use crate::refusal::Refusal;
-use crate::refused::Refused;
+use crate::refused::{Refused, Which};
 use crate::status::Status;
 use dcv_explore::Limits;
-use dcv_io::{Files, Sink};
+use dcv_io::Sink;
 use dcv_print::{Kind, Report};
 use dcv_reader::laws::names_are_short;
 use dcv_scope::laws::measures_bound_core;
 use std::alloc::Global;
 
-/// Writes the report on the formula in the file of this name.
-pub(crate) fn report_on_file<F: Files, O: Sink>(
-    alloc: Global,
-    kind: Kind,
-    name: &str,
-    limits: Limits,
-    files: &mut F,
-    out: &mut O,
-) -> Result<Status, Refused>
-    requires { AreInRange limits }
-    ensures { PerformsRequest (ReportRequest kind name.entry.now limits) result
-        (outside (F.told files.old) (F.asked files.old) (F.open_faults files.old) (F.read_faults files.old) (O.written out.old) (O.faults out.old))
-        (outside (F.told files.new) (F.asked files.new) (F.open_faults files.new) (F.read_faults files.new) (O.written out.new) (O.faults out.new)) }
-{
-    let expanded = expanded_file(alloc, files, name)?;
-    match kind {
-        Kind::Check => check(alloc, expanded, limits, out),
-        _ => print(alloc, kind, expanded, limits, out),
+/// Writes a report of this kind.
+#[derive(Clone, Copy)]
+pub(crate) struct Reporter {
+    pub kind: Kind,
+    pub limits: Limits,
+}
+
+impl FormulaCommand for Reporter {
+    ghost use Rattle.dcv_command.specs.Request.{AreInRange};
+    ghost use Rattle.dcv_cli.specs.Budget.{IsBudgeted};
+    ghost use Rattle.dcv_cli.specs.Report.{IsReport};
+    ghost use Rattle.dcv_cli.specs.declared.refused.Which.TheVariants.{Only};
+
+    ghost fits = { λ reporter. AreInRange reporter.limits };
+
+    ghost right = { λ reporter. IsBudgeted reporter.limits Only (IsReport reporter.kind reporter.limits) };
+
+    fn answer<O: Sink>(
+        &self,
+        alloc: Global,
+        formula: Expanded,
+        out: &mut O,
+    ) -> Result<Status, Refused> {
+        match self.kind {
+            Kind::Check => check(alloc, formula, self.limits, out),
+            _ => print(alloc, self.kind, formula, self.limits, out),
+        }
     }
 }
 
 // Writes the verdict. No step is minimised for it that is not an operand of another.
 fn check<O: Sink>(
     alloc: Global,
-    expanded: Expanded,
+    formula: Expanded,
     limits: Limits,
     out: &mut O,
 ) -> Result<Status, Refused>
-    requires { IsCore expanded.core }
-    ensures { (text : List ℕ) (file : PlainFile) → IsFormulaFile text file → IsExpanded file expanded
-        → ReportsOn Check limits text result (O.written out.old) (O.faults out.old) (O.written out.new) (O.faults out.new) }
+    requires { IsCore formula.core }
+    ensures { (file : PlainFile) → IsExpanded file formula
+        → Answers (IsBudgeted limits Only (IsReport Check limits) file) result (O.written out.old) (O.faults out.old) (O.written out.new) (O.faults out.new) }
 {
-    let decided = decide(alloc, &expanded, limits);
-    drop(expanded);
+    let decided = decide(alloc, &formula, limits);
+    drop(formula);
     let report = Report::of_verdict(decided?);
-    report.send(out)?;
-    Ok(Status::of(report.verdict()))
+    send_report(&report, out)
 }
 
 // Writes what is asked for of the canonical automaton.
 fn print<O: Sink>(
     alloc: Global,
     kind: Kind,
-    expanded: Expanded,
+    formula: Expanded,
     limits: Limits,
     out: &mut O,
 ) -> Result<Status, Refused>
-    requires text { (text : List ℕ) × IsExpandedText text expanded }
+    requires text { (text : List ℕ) × IsExpandedText text formula }
     requires limits { AreInRange limits }
-    ensures { (text : List ℕ) (file : PlainFile) → IsFormulaFile text file → IsExpanded file expanded
-        → ReportsOn kind limits text result (O.written out.old) (O.faults out.old) (O.written out.new) (O.faults out.new) }
+    ensures { (text : List ℕ) (file : PlainFile) → IsFormulaFile text file → IsExpanded file formula
+        → Answers (IsBudgeted limits Only (IsReport kind limits) file) result (O.written out.old) (O.faults out.old) (O.written out.new) (O.faults out.new) }
 {
-    let judged = judge(alloc, expanded, limits)?;
+    let judged = judge(alloc, formula, limits)?;
     let report = report_on(alloc, kind, &judged)?;
-    report.send(out)?;
-    Ok(Status::of(report.verdict()))
+    send_report(&report, out)
+}
+
+// Writes the report, and answers as its verdict says.
+fn send_report<O: Sink>(report: &Report<'_>, out: &mut O) -> Result<Status, Refused>
+    ensures { Replies (status_of_verdict report.now.verdict) report.now.text result (O.written out.old) (O.faults out.old) (O.written out.new) (O.faults out.new) }
+{
+    match report.send(out) {
+        Ok(()) => Ok(Status::of(report.verdict())),
+        Err(_) => Err(Refusal::Write.of(Which::Only)),
+    }
 }
 
 // The automaton of the file, and what each step of its goal took.
 pub(crate) fn judge(alloc: Global, expanded: Expanded, limits: Limits) -> Result<Judged, Refusal>
     requires core { IsCore expanded.core }
     requires limits { AreInRange limits }
-    ensures judged { (text : List ℕ) (file : PlainFile) → IsFormulaFile text file → IsExpanded file expanded → IfOk result (IsJudged text limits) }
+    ensures judged { (text : List ℕ) (file : PlainFile) → IsFormulaFile text file → IsExpanded file expanded → IfOk result (IsJudged file limits) }
     ensures over { (file : PlainFile) → IsExpanded file expanded → IfErr result (NamesFirstOver (steps_of_file file) limits) }
     ensures names { IfOk result (λ judged. judged.names.items ≡ expanded.names.items) }
 {

@@ -6,7 +6,7 @@ ghost use Rattle.dcv_cli.specs.Outside.{outside};
 ghost use Rattle.dcv_cli.specs.Performed.{PerformsRequest};
 
 use crate::refused::Refused;
-use crate::replying::{Reply, send};
+use crate::replying::{Reply, reply_with};
 use crate::status::Status;
 use dcv_explore::Limits;
 use dcv_io::{Sink, Target};
@@ -34,8 +34,7 @@ pub(crate) fn sweep_formulas<O: Sink>(
         (outside told asked open_faults read_faults (O.written out.new) (O.faults out.new)) }
 {
     let summary = sweep(alloc, seed, count, LIMITS)?;
-    send(&summary, out)?;
-    Ok(Status::Done)
+    reply_with(&summary, Status::Done, out)
 }
 
 impl Reply for Summary {

@@ -8,25 +8,23 @@ ghost use Rattle.dcv_dfa.specs.Raw.{automaton_of};
 ghost use Rattle.dcv_build.specs.Budget.{IsAutomatonOf};
 ghost use Rattle.dcv_automaton_file.specs.File.{texts_of};
 ghost use Rattle.dcv_synth.specs.Control.{IsControlOf};
-ghost use Rattle.dcv_command.specs.Request.{Synth, AreInputsInRange};
 ghost use Rattle.dcv_cli.specs.Judged.{CanBePrinted};
-ghost use Rattle.dcv_cli.specs.Outside.{outside};
-ghost use Rattle.dcv_cli.specs.Performed.{PerformsRequest};
 ghost use Rattle.dcv_cli.specs.Synthesis.{can_be_divided as can_be_divided_so, move_line, strategy_text, IsSynthesis};
 ghost use Rattle.dcv_cli.specs.Synthesised.{status_of_synthesis, synthesised};
 
-use crate::expanded::expanded_file;
+use crate::expanded::Expanded;
 use crate::faults::FormulaFault;
+use crate::formula_command::FormulaCommand;
 use crate::judged::Judged;
 use crate::refusal::Refusal;
 use crate::refused::{Refused, Which};
-use crate::replying::{Reply, send};
+use crate::replying::{Reply, reply_with};
 use crate::reporting::judge;
 use crate::status::Status;
 use dcv_c::laws::texts_spell_units;
 use dcv_c::{CUnit, put as put_unit};
 use dcv_explore::Limits;
-use dcv_io::{Files, Sink, Target, put_pieces};
+use dcv_io::{Sink, Target, put_pieces};
 use dcv_print::put_letter;
 use dcv_syntax::Name;
 use dcv_synth::laws::{
@@ -48,29 +46,34 @@ pub(crate) enum Synthesis {
     Strategy(Strategy),
 }
 
-/// Writes a controller for the requirement in the file of this name, of which so many variables are inputs, or how these beat every
-/// controller.
-pub(crate) fn synthesise_file<F: Files, O: Sink>(
-    alloc: Global,
-    name: &str,
-    inputs: u32,
-    limits: Limits,
-    files: &mut F,
-    out: &mut O,
-) -> Result<Status, Refused>
-    requires { AreInputsInRange inputs limits }
-    ensures { PerformsRequest (Synth name.entry.now inputs limits) result
-        (outside (F.told files.old) (F.asked files.old) (F.open_faults files.old) (F.read_faults files.old) (O.written out.old) (O.faults out.old))
-        (outside (F.told files.new) (F.asked files.new) (F.open_faults files.new) (F.read_faults files.new) (O.written out.new) (O.faults out.new)) }
-{
-    let expanded = expanded_file(alloc, files, name)?;
-    if !can_be_divided(inputs, &expanded.names) {
-        return Err(Refusal::Formula(FormulaFault::Outputs).of(Which::Only));
+/// Finds a controller for a requirement of which so many variables are inputs, or how these beat every controller.
+#[derive(Clone, Copy)]
+pub(crate) struct Synthesiser {
+    pub inputs: u32,
+    pub limits: Limits,
+}
+
+impl FormulaCommand for Synthesiser {
+    ghost use Rattle.dcv_command.specs.Request.{AreInputsInRange};
+    ghost use Rattle.dcv_cli.specs.Synthesis.{IsSynthesised};
+
+    ghost fits = { λ asked. AreInputsInRange asked.inputs asked.limits };
+
+    ghost right = { λ asked. IsSynthesised asked.inputs asked.limits };
+
+    fn answer<O: Sink>(
+        &self,
+        alloc: Global,
+        formula: Expanded,
+        out: &mut O,
+    ) -> Result<Status, Refused> {
+        if !can_be_divided(self.inputs, &formula.names) {
+            return Err(Refusal::Formula(FormulaFault::Outputs).of(Which::Only));
+        }
+        let judged = judge(alloc, formula, self.limits)?;
+        let found = synthesise(alloc, &judged, self.inputs as u8)?;
+        reply_with(&found, found.status(), out)
     }
-    let judged = judge(alloc, expanded, limits)?;
-    let found = synthesise(alloc, &judged, inputs as u8)?;
-    send(&found, out)?;
-    Ok(found.status())
 }
 
 // Whether there are as many variables as inputs, and no more outputs than a controller may have.

@@ -1,12 +1,12 @@
 // The texts that a command reads.
-ghost use Rattle.std.specs.Prelude.{◌≡◌, ◌^◌, ◌<◌, ◌≤◌, [], ◌∷◌, Some, length, IfOk, IfErr, IfSome, IsTrue};
-ghost use Rattle.dcv_io.specs.Asked.{Asks};
+ghost use Rattle.std.specs.Prelude.{◌≡◌, ◌^◌, ◌<◌, ◌≤◌, Some, length, IfOk, IfErr, IfSome, IsTrue};
 ghost use Rattle.dcv_io.specs.Disk.{held_of};
-ghost use Rattle.dcv_io.specs.Faults.{RisesIf};
 ghost use Rattle.std.specs.Bool.{OnTrue};
 ghost use Rattle.dcv_cli.specs.Held.{IsTooLongText};
+ghost use Rattle.dcv_cli.specs.Outside.{of_files};
+ghost use Rattle.dcv_cli.specs.Performed.{Takes};
 ghost use Rattle.dcv_cli.specs.Status.{is_determined};
-ghost use Rattle.dcv_cli.specs.Refusal.{is_open, is_read, is_of_text, is_of_taking, is_err_and, status_of};
+ghost use Rattle.dcv_cli.specs.Refusal.{is_of_text, status_of};
 
 use crate::refusal::Refusal;
 use dcv_io::{Files, TakeFault, read_all};
@@ -28,11 +28,9 @@ pub(crate) fn take<F: Files>(
     // Where it is neither the outside nor memory, the text is too long.
     ensures refused { IfErr result (λ refusal. OnTrue (is_determined (status_of refusal))
         ((refusal ≡ too_long) × IsTooLongText (F.told files.old) name.now limit)) }
-    ensures asked { Asks (name.now ∷ []) (F.asked files.old) (F.asked files.new) }
-    ensures open_faults { RisesIf (is_err_and is_open result) (F.open_faults files.old) (F.open_faults files.new) }
-    ensures read_faults { RisesIf (is_err_and is_read result) (F.read_faults files.old) (F.read_faults files.new) }
-    ensures unwritten { IfErr result (λ refusal. IsTrue (is_of_taking refusal)) }
-    ensures held { held_of (F.told files.new) ≡ held_of (F.told files.old) }
+    ensures taken { Takes name.now result
+        (of_files (F.told files.old) (F.asked files.old) (F.open_faults files.old) (F.read_faults files.old))
+        (of_files (F.told files.new) (F.asked files.new) (F.open_faults files.new) (F.read_faults files.new)) }
 {
     match read_all(alloc, files, name, limit) {
         Ok(text) => Ok(text),

@@ -4,9 +4,10 @@ use Rattle.dcv_implies.specs.Comparison.{letters_of}
 use Rattle.dcv_cli.specs.Budget.{steps_of_file}
 use Rattle.dcv_cli.specs.Comparison.{IsCompared}
 use Rattle.dcv_cli.specs.declared.refused.Which.TheVariants.{First, Second}
-use Rattle.dcv_cli.proofs.Comparisons.{names_same, names_differ, count_same, marked_explains, marked_own, explains_first_over, explains_second_over, compares, explains_product}
+use Rattle.dcv_cli.proofs.Comparisons.{names_same, names_differ, count_same, explains_first_over, explains_second_over, compares, explains_product}
 use Rattle.dcv_cli.proofs.Comparisons.{undeclared}
 use Rattle.dcv_cli.proofs.Outcomes.{over_is_of_text}
+use Rattle.dcv_cli.proofs.ThreeEnds.{marked_explains}
 use Rattle.dcv_cli.proofs.comparing.compare.Goals as goal
 
 pub returns-then-not-have_same_names-clause-refused : goal.returns-then-not-have_same_names-clause-refused
@@ -27,7 +28,7 @@ pub returns-in-Err-clause-own : goal.returns-in-Err-clause-own
 returns-in-Err-clause-own c =
     let file = c.requires.one in
     let refusal = c.in-Err.refusal in
-    rw c.in_file.ensures (marked_own First refusal (over_is_of_text (steps_of_file file.file) c.args.limits refusal (c.in-Err.ensures.over file.file file.is)))
+    rw c.in_file.ensures ((over_is_of_text (steps_of_file file.file) c.args.limits refusal (c.in-Err.ensures.over file.file file.is)))
 
 pub returns-in-Err-built-clause-refused : goal.returns-in-Err-built-clause-refused
 returns-in-Err-built-clause-refused c one other is is' =
@@ -42,7 +43,7 @@ returns-in-Err-built-clause-own c =
     let file = c.requires.other in
     let refusal = c.in-Err-built.refusal in
     rw c.in_file-in-Err-built.ensures
-    (marked_own Second refusal (over_is_of_text (steps_of_file file.file) c.args.limits refusal (c.in-Err-built.ensures.over file.file file.is)))
+    ((over_is_of_text (steps_of_file file.file) c.args.limits refusal (c.in-Err-built.ensures.over file.file file.is)))
 
 pub least_outside-requires : goal.least_outside-requires
 least_outside-requires c =

@@ -22,8 +22,6 @@ returns-clause-judged c text file formula is =
     let few_states = c.requires.limits.few_states in
     let few_nodes = c.requires.limits.few_nodes in
     record {
-      file = file;
-      formula = formula;
       within = built.within;
       names = is.names;
       automaton = built.automaton;

@@ -1,0 +1,70 @@
+// Commands over the text of one automaton.
+ghost use Rattle.std.specs.Prelude.{◌≤◌, [], ◌∷◌, length, IfOk, IfErr, IsTrue};
+ghost use Rattle.std.specs.Bool.{OnTrue};
+ghost use Rattle.dcv_cli.specs.AutomatonFile.{IsAutomatonText, IsRefusedAutomaton, OnAutomaton};
+ghost use Rattle.dcv_cli.specs.Held.{ForHeld, OnHeld};
+ghost use Rattle.dcv_cli.specs.Outside.{outside};
+ghost use Rattle.dcv_cli.specs.Performed.{LeavesOne, Performs};
+ghost use Rattle.dcv_cli.specs.Refusal.{most_automaton_bytes, is_of_text, status_of};
+ghost use Rattle.dcv_cli.specs.Status.{is_determined};
+
+use crate::faults::{AutomatonFault, MOST_AUTOMATON_BYTES};
+use crate::refusal::Refusal;
+use crate::refused::Refused;
+use crate::status::Status;
+use crate::taking::take;
+use dcv_automaton_read::{AutoFile, automaton_read};
+use dcv_io::{Files, Sink};
+use std::alloc::Global;
+
+/// A command over the text of one automaton.
+pub(crate) trait AutomatonCommand {
+    ghost use Rattle.dcv_automaton_text.specs.File.{AutomatonFile};
+    ghost use Rattle.dcv_cli.specs.AutomatonFile.{IsAutomatonText};
+    ghost use Rattle.dcv_cli.specs.Outcome.{Outcome};
+    ghost use Rattle.dcv_cli.specs.Performed.{Answers};
+
+    /// Which outcomes are right for what the text stands for.
+    ghost right: { Self → AutomatonFile → Outcome → Type 0 };
+
+    /// Answers for the text.
+    fn answer<O: Sink>(
+        &self,
+        alloc: Global,
+        text: &[u8],
+        file: &AutoFile,
+        out: &mut O,
+    ) -> Result<Status, Refused>
+        requires { IsAutomatonText text.now file.now }
+        ensures { Answers (right self.now file.now) result (O.written out.old) (O.faults out.old) (O.written out.new) (O.faults out.new) };
+}
+
+/// Answers for the text in the file of this name.
+pub(crate) fn over_automaton<C: AutomatonCommand, F: Files, O: Sink>(
+    alloc: Global,
+    command: &C,
+    name: &str,
+    files: &mut F,
+    out: &mut O,
+) -> Result<Status, Refused>
+    ensures { Performs (λ outcome. ForHeld (F.told files.old) (λ held. OnHeld (held 0) name.entry.now (λ text. OnAutomaton text (C.right command.entry.now)) outcome))
+        (LeavesOne name.entry.now) (name.entry.now ∷ []) result
+        (outside (F.told files.old) (F.asked files.old) (F.open_faults files.old) (F.read_faults files.old) (O.written out.old) (O.faults out.old))
+        (outside (F.told files.new) (F.asked files.new) (F.open_faults files.new) (F.read_faults files.new) (O.written out.new) (O.faults out.new)) }
+{
+    let too_long = Refusal::Automaton(AutomatonFault::Length);
+    let text = take(alloc, files, name, MOST_AUTOMATON_BYTES, too_long)?;
+    let bytes: &[u8] = &text;
+    let file = automaton_in(alloc, bytes)?;
+    command.answer(alloc, bytes, &file, out)
+}
+
+// The automaton that the text spells.
+fn automaton_in(alloc: Global, text: &[u8]) -> Result<AutoFile, Refusal>
+    requires { length text.now ≤ most_automaton_bytes }
+    ensures spelled { IfOk result (IsAutomatonText text.now) }
+    ensures refused { IfErr result (λ refusal. OnTrue (is_determined (status_of refusal)) (IsRefusedAutomaton text.now refusal)) }
+    ensures own { IfErr result (λ refusal. IsTrue (is_of_text refusal)) }
+{
+    Ok(automaton_read(alloc, text)?)
+}
