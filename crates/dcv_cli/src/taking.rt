@@ -1,5 +1,5 @@
 // The texts that a command reads.
-ghost use Rattle.std.specs.Prelude.{◌≡◌, ◌^◌, ◌<◌, ◌≤◌, Some, length, IfOk, IfErr, IfSome, IsTrue};
+ghost use Rattle.std.specs.Prelude.{◌≡◌, ◌≤◌, Some, length, IfOk, IfErr, IfSome, IsTrue};
 ghost use Rattle.dcv_io.specs.Disk.{held_of};
 ghost use Rattle.std.specs.Bool.{OnTrue};
 ghost use Rattle.dcv_cli.specs.Held.{IsTooLongText};
@@ -17,11 +17,10 @@ pub(crate) fn take<F: Files>(
     alloc: Global,
     files: &mut F,
     name: &str,
-    limit: u64,
+    limit: u32,
     too_long: Refusal,
 ) -> Result<Vec<u8>, Refusal>
-    requires limit { limit < 2 ^ 32 }
-    requires of_text { IsTrue (is_of_text too_long) }
+    requires { IsTrue (is_of_text too_long) }
     ensures ok { IfOk result (λ text. IfSome (held_of (F.told files.old)) (λ held. held name.now ≡ Some text.items)) }
     ensures short { IfOk result (λ text. length text.items ≤ limit) }
 
@@ -32,7 +31,7 @@ pub(crate) fn take<F: Files>(
         (of_files (F.told files.old) (F.asked files.old) (F.open_faults files.old) (F.read_faults files.old))
         (of_files (F.told files.new) (F.asked files.new) (F.open_faults files.new) (F.read_faults files.new)) }
 {
-    match read_all(alloc, files, name, limit) {
+    match read_all(alloc, files, name, u64::from(limit)) {
         Ok(text) => Ok(text),
         Err(TakeFault::Open) => Err(Refusal::Open),
         Err(TakeFault::Read) => Err(Refusal::Read),

@@ -18,7 +18,7 @@ pub(crate) fn tell_fault<S: Sink>(sink: &mut S, word: &[u8]) -> Result<(), Faile
 }
 
 /// Writes the words of a fault at an offset in a file.
-pub(crate) fn tell_fault_at<S: Sink>(sink: &mut S, word: &[u8], at: u64) -> Result<(), Failed>
+pub(crate) fn tell_fault_at<S: Sink>(sink: &mut S, word: &[u8], at: u32) -> Result<(), Failed>
     ensures ok { OnOk result (Appends (S.written sink.old) (S.written sink.new) (fault_words_at word.now at)) }
     ensures failed { OnErr result (AppendsPrefix (S.written sink.old) (S.written sink.new) (fault_words_at word.now at)) }
     ensures faults { RisesIf (is_err result) (S.faults sink.old) (S.faults sink.new) }

@@ -15,7 +15,8 @@ returns-in-Err-TooLong-clause-refused g c =
     let found : (c.args.too_long ≡ c.args.too_long) × IsTooLongText told c.args.name.now c.args.limit = (
       refl,
       longer_is_held told new c.args.name.now c.args.limit
-          (subst (λ result. IfTooLong {T = Vec ℕ Global} result (λ _. WhereTold (ReadsPast c.args.name.now c.args.limit) told new)) (at.is ∙ ap Err at.field-0-is)
-          c.read_all.ensures.too_long),
+          (subst (λ (limit : ℕ). WhereTold (ReadsPast c.args.name.now limit) told new) c.from.ensures
+          (subst (λ result. IfTooLong {T = Vec ℕ Global} result (λ _. WhereTold (ReadsPast c.args.name.now c.from.result) told new)) (at.is ∙ ap Err at.field-0-is)
+          c.read_all.ensures.too_long)),
     ) in
     on_true _ found
