@@ -1,23 +1,13 @@
 -- What is right where it is asked what the words of an automaton's text show.
-use Rattle.std.proofs.Common.{ℕ, ◌≤◌, List, length, Option, refl}
-use Rattle.std.specs.Prelude.{IsTrue}
-use Rattle.std.specs.Bool.{OnTrue}
-use Rattle.dcv_io.specs.Disk.{Disk}
+use Rattle.dcv_cli.proofs.Common.{ℕ, ◌≤◌, List, length, Option, refl, IsTrue, OnTrue, Disk, AutomatonFile, Err, Answer, Minimal, Access}
+use Rattle.dcv_cli.proofs.Common.{Pair, IsRefusedAutomaton, HasNoForm, BreaksARule, OnAutomaton, status_of_answer, OnHeld, ForHeld}
+use Rattle.dcv_cli.proofs.Common.{IsHeldText, Outcome, IsExplained, most_automaton_bytes, status_of, is_answer, is_determined, Refusal}
+use Rattle.dcv_cli.proofs.Common.{Only}
 use Rattle.dcv_automaton_read.specs.Read.{IsFaultOf}
 use Rattle.dcv_automaton_read.specs.declared.faults.AutoFault.{AutoFault}
 use Rattle.dcv_automaton_read.specs.declared.faults.AutoFault.TheVariants.{Syntax, Table, Memory}
-use Rattle.dcv_automaton_text.specs.File.{AutomatonFile}
-use Rattle.std.proofs.Common.{Err}
-use Rattle.dcv_certify.specs.declared.answer.Answer.{Answer}
-use Rattle.dcv_certify.specs.declared.answer.Answer.TheVariants.{Minimal, Access, Pair}
-use Rattle.dcv_cli.specs.AutomatonFile.{IsRefusedAutomaton, HasNoForm, BreaksARule, OnAutomaton, Refused}
-use Rattle.dcv_cli.specs.Certificate.{status_of_answer}
-use Rattle.dcv_cli.specs.Held.{OnHeld, ForHeld, IsHeldText}
-use Rattle.dcv_cli.specs.Outcome.{Outcome, IsExplained}
-use Rattle.dcv_cli.specs.Refusal.{most_automaton_bytes, refusal_of_automaton, status_of}
-use Rattle.dcv_cli.specs.Status.{is_answer, is_determined}
-use Rattle.dcv_cli.specs.declared.refusal.Refusal.{Refusal}
-use Rattle.dcv_cli.specs.declared.refused.Which.TheVariants.{Only}
+use Rattle.dcv_cli.specs.AutomatonFile.{Refused}
+use Rattle.dcv_cli.specs.Refusal.{refusal_of_automaton}
 use Rattle.dcv_cli.proofs.ThreeEnds.{explains_first}
 
 -- a refusal of the reader is right

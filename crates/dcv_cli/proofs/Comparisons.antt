@@ -1,55 +1,27 @@
 -- What is right where two formula files are compared.
-use Rattle.std.proofs.Common.{◌≡◌, ◌≢◌, ℕ, Bool, true, false, List, [], ◌∷◌, length, Option, None, Some, refl, sym, ap, ◌∙◌, subst, codes}
-use Rattle.std.specs.Prelude.{IsTrue, ◌↔◌, ◌&&◌, not, is_some}
-use Rattle.std.specs.Str.{bytes_eq}
-use Rattle.std.proofs.lemmas.Slice.Eq.{bytes_eq-Decides}
-use Rattle.std.proofs.lemmas.List.{length-map}
-use mathlib.Core.Bool.{true≢false}
-use Rattle.dcv_io.specs.Asked.{Asks}
-use Rattle.dcv_io.specs.Disk.{Disk, held_of}
-use Rattle.dcv_io.proofs.Asking.{asks_in_turn}
-use Rattle.dcv_io.specs.Putting.{Put, Puts}
-use Rattle.dcv_io.proofs.Putting.{puts_both}
-use Rattle.dcv_word.specs.Behaviour.{Word}
+use Rattle.dcv_cli.proofs.Common.{◌≡◌, ◌≢◌, ℕ, Bool, true, false, List, [], ◌∷◌, length, Option, None, Some, refl, sym, ap, ◌∙◌, subst}
+use Rattle.dcv_cli.proofs.Common.{codes, IsTrue, ◌↔◌, not, is_some, bytes_eq, bytes_eq-Decides, length-map, true≢false, Asks, Disk, held_of}
+use Rattle.dcv_cli.proofs.Common.{asks_in_turn, Puts, puts_both, Word, PlainFile, Name, models, line, Language, IsLeastOf, TooManyStates}
+use Rattle.dcv_cli.proofs.Common.{TooManyNodes, Limits, IsAutomatonOf, IsAuto, RawValue, raw_accepts, difference, letters_of, IsIncluded}
+use Rattle.dcv_cli.proofs.Common.{TooMany, Least, NoneWhereIncluded, texts_of, OverBudget, WithinBudget, NamesFirstOver, steps_of_file}
+use Rattle.dcv_cli.proofs.Common.{comparison_text, compared, have_same_texts, OverProduct, WithinProduct, IsCompared, Undeclared, Declared}
+use Rattle.dcv_cli.proofs.Common.{IsBuilt, IsFormulaFile, OnText, Refused, Read as ReadFile, Texts, OnHeld, ForHeld, IsHeldText, Fulfils}
+use Rattle.dcv_cli.proofs.Common.{FulfilsOver, Implies, OnTrue, IsSomeAnd, Outcome, IsExplained, refused, Outside, LeavesFor, is_answer}
+use Rattle.dcv_cli.proofs.Common.{status_of_least, States, Nodes, Refusal, Formula, Budget, Product, Memory, Declarations, Which, Only}
+use Rattle.dcv_cli.proofs.Common.{First, Second}
+use Rattle.std.specs.Prelude.{◌&&◌}
+use Rattle.dcv_io.specs.Putting.{Put}
 use Rattle.dcv_word.specs.Word.{WordValue}
-use Rattle.dcv_syntax.specs.Plain.{PlainFile}
-use Rattle.dcv_syntax.specs.declared.names.Name.{Name}
-use Rattle.dcv_logic.specs.Models.{models}
-use Rattle.dcv_language.specs.VerdictText.{line, shown}
-use Rattle.dcv_language.specs.Language.{Language}
-use Rattle.dcv_language.specs.Verdict.{IsLeastOf}
-use Rattle.dcv_explore.specs.Budget.{TooManyStates, TooManyNodes}
-use Rattle.dcv_explore.specs.declared.explorer.Limits.{Limits}
-use Rattle.dcv_build.specs.Budget.{IsAutomatonOf}
-use Rattle.dcv_dfa.specs.Auto.{IsAuto}
-use Rattle.dcv_dfa.specs.Raw.{RawValue, raw_accepts}
-use Rattle.dcv_implies.specs.Comparison.{difference, letters_of, IsIncluded, IsProductWithin, IsProductOver, Answer, TooMany, Least, IsAnswer}
-use Rattle.dcv_implies.specs.Laws.{AnswerOfAutomata, NoneWhereIncluded}
+use Rattle.dcv_language.specs.VerdictText.{shown}
+use Rattle.dcv_implies.specs.Comparison.{IsProductWithin, IsProductOver, Answer, IsAnswer}
+use Rattle.dcv_implies.specs.Laws.{AnswerOfAutomata}
 use Rattle.dcv_implies.specs.declared.faults.OutsideFault.{OutsideFault}
 use Rattle.dcv_implies.specs.declared.faults.OutsideFault.TheVariants as outside
-use Rattle.dcv_print.specs.Printed.{texts_of}
-use Rattle.dcv_cli.specs.Budget.{OverBudget, WithinBudget, NamesFirstOver, steps_of_file}
-use Rattle.dcv_cli.specs.Comparison.{comparison_text, compared, have_same_texts, OverProduct, WithinProduct, IsCompared, Undeclared, Declared, LeavesComparison, OfFirst, OfSecond}
-use Rattle.dcv_cli.specs.Expanded.{IsBuilt}
-use Rattle.dcv_cli.specs.FormulaFile.{IsFormulaFile, OnText, Refused, Read as ReadFile}
-use Rattle.dcv_cli.specs.Held.{Texts, OnHeld, ForHeld, IsHeldText}
-use Rattle.dcv_cli.specs.Right.{Fulfils, FulfilsOver}
-use Rattle.dcv_command.specs.Request.{Implies}
+use Rattle.dcv_cli.specs.Comparison.{LeavesComparison, OfFirst, OfSecond}
 use Rattle.dcv_cli.proofs.ThreeEnds.{for_any, for_text}
 use Rattle.dcv_cli.proofs.TwoFiles.{later_held}
-use Rattle.std.specs.Bool.{OnTrue}
-use Rattle.std.specs.Prelude.{IsSomeAnd}
-use Rattle.dcv_cli.specs.Outcome.{Outcome, IsExplained, refused}
-use Rattle.dcv_cli.specs.Outside.{Outside}
-use Rattle.dcv_cli.specs.Performed.{LeavesFor, LeavesOne}
+use Rattle.dcv_cli.specs.Performed.{LeavesOne}
 use Rattle.dcv_cli.specs.Refusal.{refusal_of_outside}
-use Rattle.dcv_cli.specs.Status.{is_answer, status_of_least}
-use Rattle.dcv_cli.specs.declared.budget_line.Excess.TheVariants.{States, Nodes}
-use Rattle.dcv_cli.specs.declared.refusal.Refusal.{Refusal}
-use Rattle.dcv_cli.specs.declared.refusal.Refusal.TheVariants.{Formula, Budget, Product, Memory}
-use Rattle.dcv_cli.specs.declared.faults.FormulaFault.TheVariants.{Declarations}
-use Rattle.dcv_cli.specs.declared.refused.Which.{Which}
-use Rattle.dcv_cli.specs.declared.refused.Which.TheVariants.{Only, First, Second}
 
 -- ---- what is written
 

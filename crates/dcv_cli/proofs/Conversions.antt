@@ -1,13 +1,12 @@
 -- The text of a version is made of slices of the text, and what is written of it is right for the request.
-use Rattle.std.proofs.Common.{◌≡◌, ◌≢◌, ℕ, ◌+◌, ◌-◌, ◌≤◌, List, ◌++◌, Option, None, Some, length, take, drop, refl, sym, ap, ◌∙◌, arith}
-use Rattle.std.specs.Prelude.{codes, slice_range}
-use Rattle.std.specs.List.{flat_map}
+use Rattle.dcv_cli.proofs.Common.{◌≡◌, ◌≢◌, ℕ, ◌+◌, ◌-◌, ◌≤◌, List, ◌++◌, Option, None, Some, length, take, drop, refl, sym, ap, ◌∙◌, arith}
+use Rattle.dcv_cli.proofs.Common.{codes, flat_map, StepPart, AutomatonFile, HasForm, step_part, end_lines, spelled_line, first_version}
+use Rattle.dcv_cli.proofs.Common.{second_version}
+use Rattle.std.specs.Prelude.{slice_range}
 use Rattle.std.proofs.lemmas.List.{drop-take, length-append}
-use Rattle.dcv_automaton_text.specs.File.{StepPart, AutomatonFile}
-use Rattle.dcv_automaton_text.specs.Form.{HasForm}
 use Rattle.dcv_automaton_text.specs.Laws.{said_in, TextsOfVersions}
-use Rattle.dcv_automaton_text.specs.Spelled.{step_part, end_lines, front_lines, spelled_line, spelled, spelled_front}
-use Rattle.dcv_automaton_text.specs.Versions.{version_by, version_of, first_version, second_version}
+use Rattle.dcv_automaton_text.specs.Spelled.{front_lines, spelled, spelled_front}
+use Rattle.dcv_automaton_text.specs.Versions.{version_by, version_of}
 use Rattle.dcv_automaton_text.proofs.Versions.{front_and_rest}
 
 -- ---- where the step part begins

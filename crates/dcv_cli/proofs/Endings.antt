@@ -1,12 +1,7 @@
 -- What is told on the messages.
-use Rattle.std.proofs.Common.{ℕ, List, Option, Result, Ok, Err, length, sym, ◌∙◌, subst, arith}
-use Rattle.std.proofs.Math.Seq.{take-length}
-use Rattle.std.specs.Prelude.{OnOk, OnErr, is_err, ⊤}
-use mathlib.Core.Bool.{true≢false}
-use Rattle.dcv_io.specs.Faults.{RisesIf}
-use Rattle.dcv_io.specs.Written.{Appends, AppendsPrefix}
-use Rattle.dcv_io.specs.declared.fault.Failed.{Failed}
-use Rattle.dcv_cli.specs.Ending.{Tells}
+use Rattle.dcv_cli.proofs.Common.{ℕ, List, Option, Result, Ok, Err, length, sym, ◌∙◌, subst, arith, take-length, OnOk, OnErr, ⊤, true≢false}
+use Rattle.dcv_cli.proofs.Common.{RisesIf, Appends, AppendsPrefix, Failed, Tells}
+use Rattle.std.specs.Prelude.{is_err}
 
 -- a message that was written, or a front of it where a write failed
 pub tells : (message : List ℕ) (old new : Option (List ℕ)) (before after : ℕ) (result : Result ⊤ Failed) → OnOk result (Appends old new message)

@@ -2,6 +2,7 @@ pub mod Automata
 pub mod BothWays
 pub mod Budgets
 pub mod Certificates
+pub mod Common
 pub mod Comparisons
 pub mod Conversions
 pub mod ConvertedBack

@@ -1,8 +1,7 @@
 -- A text that is too long, where its files tell it, and where they tell nothing.
-use Rattle.std.proofs.Common.{ℕ, suc, ◌<◌, List, length, replicate, Option, None, Some, arith}
+use Rattle.dcv_cli.proofs.Common.{ℕ, suc, ◌<◌, List, length, Option, None, Some, arith, Disk, WhereTold, ReadsPast, IsTooLongText}
+use Rattle.std.proofs.Common.{replicate}
 use Rattle.std.proofs.Math.ListN.{length-replicate}
-use Rattle.dcv_io.specs.Disk.{Disk, WhereTold, ReadsPast}
-use Rattle.dcv_cli.specs.Held.{IsTooLongText}
 
 -- some text is longer than n bytes
 longer_text : (n : ℕ) → (text : List ℕ) × (n < length text)

@@ -1,48 +1,18 @@
 -- How each step of a command leads to a right outcome.
-use Rattle.std.proofs.Common.{◌≡◌, ◌≢◌, ℕ, ◌≤◌, List, [], length, Option, Some, Result, Ok, Err, refl, ap, subst}
-use Rattle.std.specs.Bool.{OnTrue}
-use Rattle.std.specs.Prelude.{Bool, true, false, IfErr, IsTrue, is_none, if◌then◌else◌}
-use Rattle.dcv_io.specs.Disk.{Disk}
-use Rattle.dcv_syntax.specs.Plain.{PlainFile}
-use Rattle.dcv_logic.specs.Models.{models}
-use Rattle.dcv_language.specs.Language.{Language}
-use Rattle.dcv_language.specs.Verdict.{Verdict}
-use Rattle.dcv_syntax.specs.declared.names.Name.{Name}
+use Rattle.dcv_cli.proofs.Common.{◌≡◌, ◌≢◌, ℕ, ◌≤◌, List, [], length, Option, Some, Result, Ok, Err, refl, ap, subst, OnTrue, Bool, true}
+use Rattle.dcv_cli.proofs.Common.{false, IfErr, IsTrue, is_none, if◌then◌else◌, Disk, PlainFile, models, Language, Verdict, Name, ReadFault}
+use Rattle.dcv_cli.proofs.Common.{ReadMemory, fault_of_file, ScopeFault, ScopeMemory, Refusal, Budget, Memory, PlainStep, Limits}
+use Rattle.dcv_cli.proofs.Common.{IsAutomatonOf, ReportValue, Texts, OnHeld, ForHeld, IsHeldText, IsJudged, Reports, Judged, steps_of_file}
+use Rattle.dcv_cli.proofs.Common.{NamesFirstOver, IsBudgeted, OverBudget, WithinBudget, Says, IsReport, IsRefused, Faulty, HasNoCore}
+use Rattle.dcv_cli.proofs.Common.{IsSentence, IsFormulaFile, OnText, Refused, Read, Outcome, refused, IsExplained, most_bytes, status_of}
+use Rattle.dcv_cli.proofs.Common.{is_of_text, refusal_of_reading, refusal_of_scope, Which, Answers, only, verdict_text, Check, core_of_file}
+use Rattle.dcv_cli.proofs.Common.{counts_within, Only, Kind as ReportKind, texts_of, Valid, NotValid, is_answer, is_determined}
+use Rattle.dcv_cli.proofs.Common.{status_of_verdict}
 use Rattle.dcv_sentence.specs.Faults.{IsFirstFault}
-use Rattle.dcv_sentence.specs.declared.faults.ReadFault.{ReadFault}
-use Rattle.dcv_sentence.specs.declared.faults.ReadFault.TheVariants.{Memory as ReadMemory}
-use Rattle.dcv_scope.specs.Faults.{fault_of_file}
-use Rattle.dcv_scope.specs.declared.faults.ScopeFault.{ScopeFault}
-use Rattle.dcv_scope.specs.declared.faults.ScopeFault.TheVariants.{Memory as ScopeMemory}
-use Rattle.dcv_cli.specs.declared.refusal.Refusal.{Refusal}
-use Rattle.dcv_cli.specs.declared.refusal.Refusal.TheVariants.{Budget, Memory}
-use Rattle.dcv_core.specs.Steps.{PlainStep}
-use Rattle.dcv_explore.specs.declared.explorer.Limits.{Limits}
-use Rattle.dcv_build.specs.Budget.{IsAutomatonOf}
-use Rattle.dcv_print.specs.Report.{ReportValue}
 use Rattle.dcv_cli.specs.Expanded.{IsRefusedFile}
-use Rattle.dcv_cli.specs.Held.{Texts, OnHeld, ForHeld, IsHeldText}
-use Rattle.dcv_cli.specs.Judged.{IsDecided, IsJudged, Reports}
+use Rattle.dcv_cli.specs.Judged.{IsDecided}
 use Rattle.dcv_cli.proofs.ThreeEnds.{on_true_weaker, explains_first, fulfils_first}
-use Rattle.dcv_cli.specs.declared.judged.Judged.{Judged}
-use Rattle.dcv_cli.specs.Budget.{steps_of_file, NamesFirstOver, IsBudgeted, OverBudget, WithinBudget}
-use Rattle.dcv_cli.specs.Report.{Says, IsReport}
-use Rattle.dcv_cli.specs.FormulaFile.{IsRefused, Faulty, HasNoCore, IsSentence, IsFormulaFile, OnText, Refused, Read}
-use Rattle.dcv_cli.specs.Outcome.{Outcome, refused, IsExplained}
-use Rattle.dcv_cli.specs.Refusal.{most_bytes, status_of, is_of_text, refusal_of_reading, refusal_of_scope}
-use Rattle.dcv_cli.specs.declared.refused.Which.{Which}
-use Rattle.dcv_cli.specs.Performed.{Answers}
-use Rattle.dcv_cli.specs.Refusal.{only}
-use Rattle.dcv_language.specs.VerdictText.{verdict_text}
-use Rattle.dcv_language.specs.declared.kind.Kind.TheVariants.{Check}
-use Rattle.dcv_scope.specs.CoreOf.{core_of_file}
-use Rattle.dcv_existence.proofs.SomeBudgets.{counts_within}
 use Rattle.dcv_cli.proofs.ThreeEnds.{answers_only}
-use Rattle.dcv_cli.specs.declared.refused.Which.TheVariants.{Only}
-use Rattle.dcv_language.specs.declared.kind.Kind.{Kind as ReportKind}
-use Rattle.dcv_print.specs.Printed.{texts_of}
-use Rattle.dcv_cli.specs.declared.status.Status.TheVariants.{Valid, NotValid}
-use Rattle.dcv_cli.specs.Status.{is_answer, is_determined, status_of_verdict}
 
 -- ---- for a text
 

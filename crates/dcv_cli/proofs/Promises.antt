@@ -1,28 +1,18 @@
 -- A run that does what its words ask for keeps its promise.
-use Rattle.std.proofs.Common.{◌≡◌, ◌≢◌, ◌⊎◌, ℕ, Bool, false, List, [], Option, Some, Result, Ok, Err, IfOk, String, Global, inl, inr, map, refl, sym, ap, ◌∙◌, subst, zero-le, IsTrue}
-use Rattle.std.specs.Bool.{OnTrue}
-use Rattle.std.specs.String.{string_bytes}
-use mathlib.Core.Bool.{true≢false}
-use Rattle.dcv_io.specs.Disk.{Disk}
-use Rattle.dcv_io.specs.Faults.{has_risen, RisesIf}
-use Rattle.dcv_io.specs.Written.{Appends}
-use Rattle.dcv_command.specs.Request.{Request, IsTaken, request_of}
-use Rattle.dcv_cli.specs.declared.refusal.Refusal.{Refusal}
-use Rattle.dcv_cli.specs.declared.refusal.Refusal.TheVariants.{Open, Read, Write, Memory as OutOfMemory}
+use Rattle.dcv_cli.proofs.Common.{◌≡◌, ◌≢◌, ◌⊎◌, ℕ, Bool, false, List, [], Option, Some, Result, Ok, Err, IfOk, Global, inl, inr, map, refl}
+use Rattle.dcv_cli.proofs.Common.{sym, ap, ◌∙◌, subst, IsTrue, OnTrue, string_bytes, true≢false, Disk, has_risen, RisesIf, Appends, Request}
+use Rattle.dcv_cli.proofs.Common.{IsTaken, request_of, Refusal, Open, Write, Memory as OutOfMemory, Which, Only, Status, Usage, Input}
+use Rattle.dcv_cli.proofs.Common.{Output, OutOfMemory as Memory, EndsBy, HasInputCause, Tells, Outcome, Outside, ending, message_of, only}
+use Rattle.dcv_cli.proofs.Common.{status_of, is_open, is_read, AsksFor, Fulfilled, FulfilsOver, has_cause, is_answer, is_determined}
+use Rattle.dcv_cli.proofs.Common.{is_input, is_output}
+use Rattle.std.proofs.Common.{String, zero-le}
+use Rattle.dcv_cli.specs.declared.refusal.Refusal.TheVariants.{Read}
 use Rattle.dcv_cli.specs.declared.refused.Refused.{Refused}
-use Rattle.dcv_cli.specs.declared.refused.Which.{Which}
-use Rattle.dcv_cli.specs.declared.refused.Which.TheVariants.{Only}
-use Rattle.dcv_cli.specs.declared.status.Status.{Status}
-use Rattle.dcv_cli.specs.declared.status.Status.TheVariants.{Usage, Input, Output, Memory}
-use Rattle.dcv_cli.specs.Ending.{EndsBy, HasInputCause, Tells, TellsCause}
-use Rattle.dcv_cli.specs.Outcome.{Outcome}
-use Rattle.dcv_cli.specs.Outside.{Outside}
-use Rattle.dcv_cli.specs.Performed.{PerformsRequest, ending, said}
+use Rattle.dcv_cli.specs.Ending.{TellsCause}
+use Rattle.dcv_cli.specs.Performed.{PerformsRequest, said}
 use Rattle.dcv_cli.specs.Promise.{NoFault, Promise, Seen}
-use Rattle.dcv_cli.specs.Refusal.{message_of, only, status_of, is_open, is_read}
-use Rattle.dcv_cli.specs.Request.{AsksFor}
-use Rattle.dcv_cli.specs.Right.{Fulfilled, FulfilsOver, IsRightOver}
-use Rattle.dcv_cli.specs.Status.{has_cause, is_answer, is_determined, is_input, is_output, is_usage}
+use Rattle.dcv_cli.specs.Right.{IsRightOver}
+use Rattle.dcv_cli.specs.Status.{is_usage}
 use Rattle.dcv_cli.proofs.ThreeEnds.{answer_is_none, front_moved, nothing_told, of, on_true, on_true_weaker, stops_moved}
 
 -- words that were read through a slice of strings

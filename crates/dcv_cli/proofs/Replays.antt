@@ -1,28 +1,15 @@
 -- The observer of a replay, and what is right for the trace after it.
-use Rattle.std.proofs.Common.{◌≡◌, ◌≢◌, ◌≤◌, ℕ, List, [], ◌∷◌, length, Option, Some, Result, Ok, Err, refl, sym, subst, ◌∙◌}
-use Rattle.std.specs.Prelude.{IfErr}
-use Rattle.std.specs.Bool.{OnTrue}
-use Rattle.dcv_io.specs.Asked.{Asks}
-use Rattle.dcv_io.specs.Disk.{Disk, held_of}
-use Rattle.dcv_io.proofs.Asking.{asks_in_turn}
-use Rattle.dcv_command.specs.Request.{Replay}
-use Rattle.dcv_command.specs.declared.words.Subset.{Subset}
-use Rattle.dcv_command.specs.declared.words.Subset.TheVariants.{Lustre as InLustre, C as InC}
-use Rattle.dcv_observer.specs.declared.fault.ObsFault.{ObsFault}
+use Rattle.dcv_cli.proofs.Common.{◌≡◌, ◌≢◌, ◌≤◌, ℕ, List, [], ◌∷◌, length, Option, Some, Result, Ok, Err, refl, sym, subst, ◌∙◌, IfErr}
+use Rattle.dcv_cli.proofs.Common.{OnTrue, Asks, Disk, held_of, asks_in_turn, Replay, Subset, InLustre, InC, ObsFault, Observer}
+use Rattle.dcv_cli.proofs.Common.{KeepsTheRules, Refusal, Only, Texts, OnHeld, IsHeldText, IsFaultIn, IsRefusedObserver, IsObserverText}
+use Rattle.dcv_cli.proofs.Common.{OnObserver, Outcome, IsExplained, Outside, outside, LeavesFor, most_observer_bytes, refusal_of_observer}
+use Rattle.dcv_cli.proofs.Common.{status_of, IsReplay, FulfilsTrace, LeavesTrace, LeavesOfTrace, OfOpen, OfRead, Fulfils, FulfilsOver}
+use Rattle.dcv_cli.proofs.Common.{is_determined}
 use Rattle.dcv_observer.specs.declared.fault.ObsFault.TheVariants.{Memory}
-use Rattle.dcv_replay.specs.Observer.{Observer, Lustre, C, KeepsTheRules}
-use Rattle.dcv_cli.specs.declared.refusal.Refusal.{Refusal}
-use Rattle.dcv_cli.specs.declared.refused.Which.TheVariants.{Only}
-use Rattle.dcv_cli.specs.Held.{Texts, OnHeld, IsHeldText}
-use Rattle.dcv_cli.specs.ObserverFile.{IsFaultIn, IsRefusedObserver, Faulty, IsObserverText, OnObserver, Refused, Read}
-use Rattle.dcv_cli.specs.Outcome.{Outcome, IsExplained}
-use Rattle.dcv_cli.specs.Outside.{Outside, outside}
-use Rattle.dcv_cli.specs.Performed.{LeavesFor}
-use Rattle.dcv_cli.specs.Refusal.{most_observer_bytes, refusal_of_observer, status_of}
-use Rattle.dcv_cli.specs.Replayed.{IsReplay, LeavesAnswers, OfObserver, OfOpen as NotOpened, OfRead as ReadFailed}
-use Rattle.dcv_cli.specs.Replaying.{IsRefusedIn, FulfilsTrace, LeavesTrace, LeavesOfTrace, OfOpen, OfRead}
-use Rattle.dcv_cli.specs.Right.{Fulfils, FulfilsOver}
-use Rattle.dcv_cli.specs.Status.{is_determined}
+use Rattle.dcv_replay.specs.Observer.{Lustre, C}
+use Rattle.dcv_cli.specs.ObserverFile.{Faulty, Refused, Read}
+use Rattle.dcv_cli.specs.Replayed.{LeavesAnswers, OfObserver, OfOpen as NotOpened, OfRead as ReadFailed}
+use Rattle.dcv_cli.specs.Replaying.{IsRefusedIn}
 use Rattle.dcv_cli.proofs.ThreeEnds.{explains_first, for_any, on_true_weaker}
 use Rattle.dcv_cli.proofs.TwoFiles.{later_held}
 

@@ -1,14 +1,8 @@
 -- What is right where formulas are drawn, whatever is held.
-use Rattle.std.proofs.Common.{ℕ, [], Option, None, Some, refl}
-use Rattle.dcv_io.specs.Disk.{Disk}
+use Rattle.dcv_cli.proofs.Common.{ℕ, [], Option, None, Some, refl, Disk, summary_text, Sweep, Done, Outcome, FulfilsOver, IsSwept}
+use Rattle.dcv_cli.proofs.Common.{default_limits}
 use Rattle.dcv_sweep.specs.Findings.{IsSummary}
-use Rattle.dcv_sweep.specs.SummaryText.{summary_text}
 use Rattle.dcv_sweep.specs.declared.summary.Summary.{Summary}
-use Rattle.dcv_command.specs.Request.{Sweep}
-use Rattle.dcv_cli.specs.declared.status.Status.TheVariants.{Done}
-use Rattle.dcv_cli.specs.Outcome.{Outcome}
-use Rattle.dcv_cli.specs.Right.{FulfilsOver}
-use Rattle.dcv_cli.specs.Swept.{IsSwept, default_limits}
 
 abbrev pub swept : Summary → Outcome
 swept summary = record { status = Done; out = summary_text summary; err = [] }

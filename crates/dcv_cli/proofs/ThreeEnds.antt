@@ -1,31 +1,22 @@
 -- How each command keeps to what all of them do: by a refusal before anything is written, a report that is written whole, or one whose writing
 -- failed; and a replay by a fault of the trace, or of a read of it, after what was written.
-use Rattle.std.proofs.Common.{◌≡◌, ℕ, Bool, true, false, List, [], ◌∷◌, Option, None, Some, Result, Ok, Err, length, refl, sym, ap, ◌∙◌, subst, inl, inr, append-nil, arith}
-use Rattle.std.proofs.Math.Seq.{take-length}
-use Rattle.std.specs.Prelude.{IsTrue, IsFalse, if◌then◌else◌}
-use Rattle.std.specs.Bool.{OnTrue}
-use mathlib.Core.Bool.{true≢false}
-use Rattle.dcv_io.specs.Disk.{Disk}
-use Rattle.dcv_io.specs.Faults.{has_risen, RisesIf, Rises}
-use Rattle.dcv_io.specs.Written.{Appends, AppendsPrefix, AppendsStrictPrefix}
-use Rattle.dcv_io.proofs.Appending.{strict_is_prefix}
+use Rattle.dcv_cli.proofs.Common.{◌≡◌, ℕ, Bool, true, false, List, [], ◌∷◌, Option, None, Some, Result, Ok, Err, length, refl, sym, ap, ◌∙◌}
+use Rattle.dcv_cli.proofs.Common.{subst, inl, inr, arith, take-length, IsTrue, IsFalse, if◌then◌else◌, OnTrue, true≢false, Disk, has_risen}
+use Rattle.dcv_cli.proofs.Common.{RisesIf, Appends, AppendsPrefix, AppendsStrictPrefix, strict_is_prefix, Refusal, Open, Trace, Write}
+use Rattle.dcv_cli.proofs.Common.{Status, Valid, Done, NotValid, Input, Output, TraceFault, EndsBy, HasInputCause, NoneRises, Texts, OnHeld}
+use Rattle.dcv_cli.proofs.Common.{ForHeld, IsHeldText, Outcome, IsExplained, refused, Outside, of_files, outside, Answers, Performs, Takes}
+use Rattle.dcv_cli.proofs.Common.{ending, Which, Only, status_of, message_of, only, is_open, is_read, is_of_text, has_cause, is_answer}
+use Rattle.dcv_cli.proofs.Common.{is_determined, is_input, is_output}
+use Rattle.std.proofs.Common.{append-nil}
+use Rattle.dcv_io.specs.Faults.{Rises}
 use Rattle.dcv_io.proofs.Asking.{asks_no_prefix}
-use Rattle.dcv_cli.specs.declared.refusal.Refusal.{Refusal}
-use Rattle.dcv_cli.specs.declared.refusal.Refusal.TheVariants.{Open, Read, Trace, Write}
-use Rattle.dcv_cli.specs.declared.status.Status.{Status}
-use Rattle.dcv_cli.specs.declared.status.Status.TheVariants.{Valid, Done, NotValid, Input, Output}
-use Rattle.dcv_cli.specs.declared.faults.TraceFault.{TraceFault}
-use Rattle.dcv_cli.specs.Ending.{EndsBy, AddsFront, StopsWithin, HasInputCause, NoneRises}
-use Rattle.dcv_cli.specs.Held.{Texts, OnHeld, ForHeld, IsHeldText}
-use Rattle.dcv_cli.specs.Outcome.{Outcome, IsExplained, refused}
-use Rattle.dcv_cli.specs.Outside.{Outside, of_files, outside}
-use Rattle.dcv_cli.specs.Performed.{Answers, Ends, Performs, Replies, Takes, ending}
+use Rattle.dcv_cli.specs.declared.refusal.Refusal.TheVariants.{Read}
+use Rattle.dcv_cli.specs.Ending.{AddsFront, StopsWithin}
+use Rattle.dcv_cli.specs.Performed.{Ends, Replies}
 use Rattle.dcv_cli.specs.declared.refused.Refused.{Refused}
-use Rattle.dcv_cli.specs.declared.refused.Which.{Which}
-use Rattle.dcv_cli.specs.declared.refused.Which.TheVariants.{Only}
 use Rattle.dcv_cli.specs.Performed.{is_open_refusal, is_read_refusal}
-use Rattle.dcv_cli.specs.Refusal.{status_of, message_of, only, marked, is_open, is_read, is_of_text, is_of_taking}
-use Rattle.dcv_cli.specs.Status.{has_cause, is_answer, is_determined, is_silent, is_input, is_output}
+use Rattle.dcv_cli.specs.Refusal.{marked, is_of_taking}
+use Rattle.dcv_cli.specs.Status.{is_silent}
 
 pub on_true : (b : Bool) {P : Type 0} → P → OnTrue b P
 on_true true h = h

@@ -1,33 +1,22 @@
 -- What a run over a trace leads to, as the end of a command.
-use Rattle.std.proofs.Common.{◌≡◌, ◌≢◌, ◌⊎◌, ℕ, ◌<◌, ◌≤◌, Bool, true, false, List, [], ◌∷◌, ◌++◌, length, take, Some, Result, Ok, Err, inl, inr, refl, sym, ap, subst, ◌∙◌, arith, append_assoc, length-append}
-use Rattle.std.proofs.lemmas.Bool.Decides.{nat_tests}
-use Rattle.std.proofs.lemmas.List.{append-nil}
+use Rattle.dcv_cli.proofs.Common.{◌≡◌, ◌≢◌, ◌⊎◌, ℕ, ◌<◌, ◌≤◌, Bool, true, false, List, [], ◌∷◌, ◌++◌, length, take, Some, Result, Ok, Err}
+use Rattle.dcv_cli.proofs.Common.{inl, inr, refl, sym, ap, subst, ◌∙◌, arith, append_assoc, length-append, nat_tests, append-nil, IfSome}
+use Rattle.dcv_cli.proofs.Common.{IsTrue, ◌-◌, Asks, held_of, RisesIf, Appends, AppendsPrefix, AppendsStrictPrefix, Word, SomeVerdict}
+use Rattle.dcv_cli.proofs.Common.{GoodLinesAreAnswered, Observer, width_of, KeepsTheRules, AreAnswers, good_letters, Line, TraceFault, Open}
+use Rattle.dcv_cli.proofs.Common.{Trace, Only, Done, Output, HasInputCause, NoneRises, Outcome, Outside, Performs, message_of, only}
+use Rattle.dcv_cli.proofs.Common.{status_of, IsReplay, fault_of_trace, status_of_trace, message_of_trace, FulfilsTrace, LeavesTrace}
+use Rattle.dcv_cli.proofs.Common.{LeavesOfTrace, OfOpen, OfRead}
 use Rattle.std.proofs.Math.Seq.{take-append_seam}
-use Rattle.std.specs.Prelude.{IfSome, IsTrue, nat_lt, ◌||◌, ◌==◌, ◌^◌, ◌-◌}
-use Rattle.dcv_io.specs.Asked.{Asks}
-use Rattle.dcv_io.specs.Disk.{held_of}
-use Rattle.dcv_io.specs.Faults.{RisesIf}
-use Rattle.dcv_io.specs.Written.{Appends, AppendsPrefix, AppendsStrictPrefix}
-use Rattle.dcv_word.specs.Behaviour.{Word}
-use Rattle.dcv_replay.specs.Laws.{SomeVerdict, LinesAreFront, AnswersOfFront, GoodLinesAreAnswered}
-use Rattle.dcv_replay.specs.Observer.{Observer, width_of, KeepsTheRules, AreAnswers}
+use Rattle.std.specs.Prelude.{nat_lt, ◌||◌, ◌==◌, ◌^◌}
+use Rattle.dcv_replay.specs.Laws.{LinesAreFront, AnswersOfFront}
 use Rattle.dcv_replay.specs.Program.{ReplayValue}
 use Rattle.dcv_replay.specs.Replayed.{HasLines, ReadCount, Replayed, is_open, is_write}
-use Rattle.dcv_replay.specs.TraceText.{Verdict, Good, Bad, Long, Nothing, HasVerdict, good_letters}
+use Rattle.dcv_replay.specs.TraceText.{Verdict, Good, Bad, Long, Nothing, HasVerdict}
 use Rattle.dcv_replay.specs.declared.fault.ReplayFault.{ReplayFault}
 use Rattle.dcv_replay.specs.declared.fault.ReplayFault.TheVariants as fault
-use Rattle.dcv_cli.specs.declared.faults.TraceFault.TheVariants.{Line, Empty, Length}
-use Rattle.dcv_cli.specs.declared.faults.TraceFault.{TraceFault}
-use Rattle.dcv_cli.specs.declared.refusal.Refusal.TheVariants.{Open, Trace}
-use Rattle.dcv_cli.specs.declared.refused.Which.TheVariants.{Only}
-use Rattle.dcv_cli.specs.declared.status.Status.TheVariants.{Done, Output}
-use Rattle.dcv_cli.specs.Ending.{HasInputCause, NoneRises, OneRises}
-use Rattle.dcv_cli.specs.Outcome.{Outcome}
-use Rattle.dcv_cli.specs.Outside.{Outside}
-use Rattle.dcv_cli.specs.Performed.{Performs}
-use Rattle.dcv_cli.specs.Refusal.{message_of, only, refusal_of_replay, status_of}
-use Rattle.dcv_cli.specs.Replayed.{IsReplay, fault_of_trace, status_of_trace, message_of_trace}
-use Rattle.dcv_cli.specs.Replaying.{FulfilsTrace, LeavesTrace, LeavesOfTrace, OfOpen, OfRead}
+use Rattle.dcv_cli.specs.declared.faults.TraceFault.TheVariants.{Empty, Length}
+use Rattle.dcv_cli.specs.Ending.{OneRises}
+use Rattle.dcv_cli.specs.Refusal.{refusal_of_replay}
 use Rattle.dcv_cli.proofs.ThreeEnds.{ends_at_fault, ends_broken, ends_cut, ends_refused, ends_sent, for_any, for_text, fulfils_first}
 
 -- what a run over the trace of this name says of the counts

@@ -1,16 +1,10 @@
 -- Commands that go on after their first file: what is right for the rest, after that, is right for all.
-use Rattle.std.proofs.Common.{◌≡◌, ℕ, List, [], ◌∷◌, Option, None, Some, Result, Ok, refl, sym, ◌∙◌, subst}
-use Rattle.std.specs.Prelude.{nat_eq, if◌then◌else◌}
-use Rattle.dcv_io.specs.Disk.{Disk, held_of}
-use Rattle.dcv_io.specs.Written.{Appends}
+use Rattle.dcv_cli.proofs.Common.{◌≡◌, ℕ, List, [], ◌∷◌, Option, None, Some, Result, Ok, refl, sym, ◌∙◌, subst, if◌then◌else◌, Disk}
+use Rattle.dcv_cli.proofs.Common.{held_of, Appends, Texts, ForHeld, IsHeldText, Outcome, Outside, of_files, outside, Answers, Performs}
+use Rattle.dcv_cli.proofs.Common.{Takes, ending, is_input, Status}
+use Rattle.std.specs.Prelude.{nat_eq}
 use Rattle.dcv_io.proofs.Asking.{asks_further}
-use Rattle.dcv_cli.specs.Held.{Texts, ForHeld, IsHeldText}
-use Rattle.dcv_cli.specs.Outcome.{Outcome}
-use Rattle.dcv_cli.specs.Outside.{Outside, of_files, outside}
-use Rattle.dcv_cli.specs.Performed.{Answers, Performs, Takes, ending}
-use Rattle.dcv_cli.specs.Status.{is_input}
 use Rattle.dcv_cli.specs.declared.refused.Refused.{Refused}
-use Rattle.dcv_cli.specs.declared.status.Status.{Status}
 use Rattle.dcv_cli.proofs.ThreeEnds.{moved, on_true_weaker, performs_none}
 
 -- what is held as the second file is opened, after a text that was held as the first was

@@ -1,15 +1,10 @@
 -- What is right where it is asked whether the words of an automaton's text show that it is minimal.
 --     answer_words states answer      what is said of an automaton with so many states, as `certified 3`
 --     IsCertificate file outcome      the outcome says so of the file
-use Rattle.std.specs.Prelude.{◌≡◌, ℕ, List, [], ◌++◌, codes}
-use Rattle.std.specs.Fmt.{decimal}
-use Rattle.dcv_automaton_text.specs.File.{AutomatonFile}
+use Rattle.dcv_cli.specs.Common.{◌≡◌, ℕ, List, [], ◌++◌, codes, decimal, AutomatonFile, line, Status, Done, NotValid}
 use Rattle.dcv_certify.specs.Certified.{IsCertified, HasFewestStates, HasGoodWords, WhereMinimal}
 use Rattle.dcv_certify.specs.declared.answer.Answer.{Answer}
 use Rattle.dcv_certify.specs.declared.answer.Answer.TheVariants.{Minimal, Access, Pair}
-use Rattle.dcv_language.specs.VerdictText.{line}
-use Rattle.dcv_cli.specs.declared.status.Status.{Status}
-use Rattle.dcv_cli.specs.declared.status.Status.TheVariants.{Done, NotValid}
 use Rattle.dcv_cli.specs.Outcome.{Outcome}
 
 abbrev pub answer_words : ℕ → Answer → List ℕ

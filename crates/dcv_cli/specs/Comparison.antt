@@ -4,27 +4,18 @@
 --     LeavesComparison first second ..    what was written where an input failed
 --     have_same_texts                     for proofs alone
 --     IsCompared limits one other o       they have the same variables, both are within the limits, and so it is; or the outcome says what is not
-use Rattle.std.specs.Prelude.{◌≡◌, ◌≢◌, ◌↔◌, ℕ, Bool, true, false, ◌&&◌, List, [], ◌∷◌, ◌++◌, Option, None, Some, length, codes}
+use Rattle.dcv_cli.specs.Common.{◌≡◌, ◌≢◌, ◌↔◌, ℕ, Bool, true, false, ◌&&◌, List, [], ◌∷◌, ◌++◌, Option, None, Some, length, codes, Word}
+use Rattle.dcv_cli.specs.Common.{PlainFile, models, IsLeastOf, line, Limits, texts_of, Excess, Formula, Product, Declarations, Only, First}
+use Rattle.dcv_cli.specs.Common.{Second, Asks}
 use Rattle.std.specs.Str.{bytes_eq}
-use Rattle.dcv_word.specs.Behaviour.{Word}
-use Rattle.dcv_syntax.specs.Plain.{PlainFile}
-use Rattle.dcv_logic.specs.Models.{models}
-use Rattle.dcv_language.specs.Verdict.{IsLeastOf}
-use Rattle.dcv_language.specs.VerdictText.{line, shown}
-use Rattle.dcv_explore.specs.declared.explorer.Limits.{Limits}
+use Rattle.dcv_language.specs.VerdictText.{shown}
 use Rattle.dcv_implies.specs.Comparison.{difference, IsIncluded, IsProductWithin, IsProductOver}
-use Rattle.dcv_print.specs.Printed.{texts_of}
-use Rattle.dcv_cli.specs.declared.budget_line.Excess.{Excess}
-use Rattle.dcv_cli.specs.declared.refusal.Refusal.TheVariants.{Formula, Product}
-use Rattle.dcv_cli.specs.declared.faults.FormulaFault.TheVariants.{Declarations}
-use Rattle.dcv_cli.specs.declared.refused.Which.TheVariants.{Only, First, Second}
 use Rattle.dcv_cli.specs.Budget.{IsBudgeted, kind_of, limit_of}
 use Rattle.dcv_cli.specs.FormulaFile.{IsFormulaFile}
 use Rattle.dcv_cli.specs.Held.{Texts}
 use Rattle.dcv_cli.specs.Outcome.{Outcome, refused}
 use Rattle.dcv_cli.specs.Outside.{Outside}
 use Rattle.dcv_cli.specs.Status.{status_of_least}
-use Rattle.dcv_io.specs.Asked.{Asks}
 
 abbrev pub comparison_text : Option Word → List ℕ
 comparison_text None = line (codes "implies")

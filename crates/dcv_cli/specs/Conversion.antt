@@ -2,14 +2,9 @@
 --     as_version to file               the file in this version
 --     IsConverted to file outcome      the outcome is its text
 --     conversion_text pieces           for proofs alone
-use Rattle.std.specs.Prelude.{◌≡◌, ℕ, List, [], ◌++◌}
-use Rattle.dcv_automaton_text.specs.File.{AutomatonFile}
-use Rattle.dcv_automaton_text.specs.Spelled.{spelled}
+use Rattle.dcv_cli.specs.Common.{◌≡◌, ℕ, List, [], ◌++◌, AutomatonFile, spelled, Version, One, Two, Done}
 use Rattle.dcv_automaton_text.specs.Versions.{first_version, second_version}
-use Rattle.dcv_command.specs.declared.words.Version.{Version}
-use Rattle.dcv_command.specs.declared.words.Version.TheVariants.{One, Two}
 use Rattle.dcv_cli.specs.declared.converting.Conversion.{Conversion}
-use Rattle.dcv_cli.specs.declared.status.Status.TheVariants.{Done}
 use Rattle.dcv_cli.specs.Outcome.{Outcome}
 
 abbrev pub as_version : Version → AutomatonFile → AutomatonFile

@@ -6,15 +6,11 @@
 --     AsksFrontOf words ..     which files were asked for
 --     HasInputCause ..         what the counts of the files say
 --     Tells, TellsCause        what is on the messages
-use Rattle.std.specs.Prelude.{◌≡◌, ◌⊎◌, ℕ, Bool, List, [], ◌∷◌, Option, IsTrue, IsFalse}
-use Rattle.std.specs.Bool.{OnTrue}
-use Rattle.dcv_io.specs.Asked.{Asks, AsksPrefix}
-use Rattle.dcv_io.specs.Faults.{has_risen, Rises}
-use Rattle.dcv_io.specs.Written.{Appends, AppendsPrefix, AppendsStrictPrefix}
-use Rattle.dcv_command.specs.Request.{Request, Report, Certify, Convert, Implies, Stuck, Synth, Replay, Sweep, files_of}
-use Rattle.dcv_cli.specs.declared.refusal.Refusal.TheVariants.{Open, Read, Write, Memory as OutOfMemory}
-use Rattle.dcv_cli.specs.declared.status.Status.{Status}
-use Rattle.dcv_cli.specs.declared.status.Status.TheVariants.{Input, Output, Memory}
+use Rattle.dcv_cli.specs.Common.{◌≡◌, ◌⊎◌, ℕ, Bool, List, [], ◌∷◌, Option, IsTrue, IsFalse, OnTrue, Asks, AsksPrefix, has_risen, Rises}
+use Rattle.dcv_cli.specs.Common.{Appends, AppendsStrictPrefix, Request, Report, Certify, Convert, Implies, Stuck, Synth, Replay, Sweep}
+use Rattle.dcv_cli.specs.Common.{files_of, Open, Read, Write, Status, Input, Output, Memory}
+use Rattle.dcv_io.specs.Written.{AppendsPrefix}
+use Rattle.dcv_cli.specs.declared.refusal.Refusal.TheVariants.{Memory as OutOfMemory}
 use Rattle.dcv_cli.specs.Comparison.{LeavesComparison}
 use Rattle.dcv_cli.specs.Outcome.{Outcome}
 use Rattle.dcv_cli.specs.Outside.{Outside}

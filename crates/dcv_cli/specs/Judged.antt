@@ -3,21 +3,11 @@
 --     IsJudged file limits judged      the automaton, the names and what the steps took are those of the formula file
 --     CanBePrinted judged              there is a name for each variable, and the automaton and the counts are within what may be printed
 --     Reports kind k L names counts r  the report has the set's verdict, and says what is asked for
-use Rattle.std.specs.Prelude.{◌≡◌, ◌≤◌, ℕ, List, length}
-use Rattle.dcv_syntax.specs.Plain.{PlainFile}
-use Rattle.dcv_logic.specs.Models.{models}
-use Rattle.dcv_language.specs.Language.{Language}
-use Rattle.dcv_language.specs.Verdict.{Verdict, IsVerdict}
-use Rattle.dcv_explore.specs.declared.explorer.Limits.{Limits}
+use Rattle.dcv_cli.specs.Common.{◌≡◌, ◌≤◌, ℕ, List, length, PlainFile, models, Language, Verdict, IsVerdict, Limits, count_of_nodes}
+use Rattle.dcv_cli.specs.Common.{IsAutomatonOf, IsWithinBudget, AreCounts, Count, texts_of, Kind}
 use Rattle.dcv_automaton_text.specs.Rules.{AreNames}
-use Rattle.dcv_dfa.specs.Auto.{count_of_nodes}
-use Rattle.dcv_build.specs.Budget.{IsAutomatonOf, IsWithinBudget}
-use Rattle.dcv_build.specs.Counts.{AreCounts}
-use Rattle.dcv_language.specs.declared.count.Count.{Count}
 use Rattle.dcv_print.specs.Counts.{ArePrintableCounts}
-use Rattle.dcv_print.specs.Printed.{texts_of}
 use Rattle.dcv_print.specs.Report.{ReportValue}
-use Rattle.dcv_language.specs.declared.kind.Kind.{Kind}
 use Rattle.dcv_language.specs.Limits.{most_states, most_nodes}
 use Rattle.dcv_cli.specs.Budget.{steps_of_file}
 use Rattle.dcv_cli.specs.Report.{Says}

@@ -1,6 +1,5 @@
 -- What is seen of the files and of the output.
-use Rattle.std.specs.Prelude.{ℕ, List, Option, None}
-use Rattle.dcv_io.specs.Disk.{Disk}
+use Rattle.dcv_cli.specs.Common.{ℕ, List, Option, None, Disk}
 
 pub record Outside : Type 0 where
   pub told : Option Disk

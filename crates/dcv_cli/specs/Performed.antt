@@ -6,22 +6,14 @@
 --     PerformsRequest request ..       it does what the request asks for
 --     Answers Right result ..          it ends so after its last file
 --     Replies status report result ..  the report was written, or a write of it failed
-use Rattle.std.specs.Prelude.{◌≡◌, ℕ, Bool, false, List, [], ◌∷◌, Option, Result, Ok, Err, IfOk, IfErr, IsTrue, IsFalse}
-use Rattle.std.specs.Bool.{OnTrue}
-use Rattle.dcv_io.specs.Asked.{Asks, AsksPrefix}
-use Rattle.dcv_io.specs.Disk.{held_of}
-use Rattle.dcv_io.specs.Faults.{has_risen, Rises, RisesIf}
-use Rattle.dcv_io.specs.Written.{Appends, AppendsStrictPrefix}
-use Rattle.dcv_command.specs.Request.{Request, files_of}
-use Rattle.dcv_cli.specs.declared.refused.Refused.{Refused}
-use Rattle.dcv_cli.specs.declared.refusal.Refusal.{Refusal}
-use Rattle.dcv_cli.specs.declared.refusal.Refusal.TheVariants.{Write}
-use Rattle.dcv_cli.specs.declared.status.Status.{Status}
+use Rattle.dcv_cli.specs.Common.{◌≡◌, ℕ, Bool, false, List, [], ◌∷◌, Option, Result, Ok, Err, IsTrue, IsFalse, OnTrue, Asks, AsksPrefix}
+use Rattle.dcv_cli.specs.Common.{held_of, has_risen, Rises, RisesIf, Appends, AppendsStrictPrefix, Request, files_of, Refused, Refusal}
+use Rattle.dcv_cli.specs.Common.{Write, Status, Only}
+use Rattle.std.specs.Prelude.{IfOk, IfErr}
 use Rattle.dcv_cli.specs.Ending.{EndsBy, AddsFront, StopsWithin, Leaves, LeavesNothing, HasInputCause}
 use Rattle.dcv_cli.specs.Held.{ForHeld}
 use Rattle.dcv_cli.specs.Outcome.{Outcome}
 use Rattle.dcv_cli.specs.Outside.{Outside}
-use Rattle.dcv_cli.specs.declared.refused.Which.TheVariants.{Only}
 use Rattle.dcv_cli.specs.Refusal.{status_of, message_of, only, is_err_and, is_open, is_read, is_of_taking}
 use Rattle.dcv_cli.specs.Right.{FulfilsOver}
 use Rattle.dcv_cli.specs.Status.{has_cause, is_answer, is_determined, is_silent, is_input, is_output}

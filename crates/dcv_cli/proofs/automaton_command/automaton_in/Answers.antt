@@ -1,5 +1,5 @@
 -- What the reader of automaton texts says is what is right for the text.
-use Rattle.std.proofs.lemmas.Result.{err_from_is_err_and}
+use Rattle.dcv_cli.proofs.Common.{err_from_is_err_and}
 use Rattle.dcv_cli.proofs.Certificates.{explains_automaton}
 use Rattle.dcv_cli.proofs.automaton_command.automaton_in.Goals as goal
 

@@ -1,10 +1,7 @@
 -- What is right for the text is right for the file of the name.
-use Rattle.std.proofs.Common.{List, ℕ, [], refl, subst}
-use Rattle.std.specs.Bool.{OnTrue}
-use Rattle.std.proofs.lemmas.Result.{err_from_is_err_and}
-use Rattle.dcv_cli.specs.AutomatonFile.{IsAutomatonText, IsRefusedAutomaton, OnAutomaton, Read, TooLong}
-use Rattle.dcv_cli.specs.Refusal.{status_of}
-use Rattle.dcv_cli.specs.Status.{is_determined}
+use Rattle.dcv_cli.proofs.Common.{List, ℕ, [], refl, subst, OnTrue, err_from_is_err_and, IsAutomatonText, IsRefusedAutomaton, OnAutomaton}
+use Rattle.dcv_cli.proofs.Common.{status_of, is_determined}
+use Rattle.dcv_cli.specs.AutomatonFile.{Read, TooLong}
 use Rattle.dcv_cli.proofs.Certificates.{explains_text}
 use Rattle.dcv_cli.proofs.ThreeEnds.{answers_only, for_any, fulfils_first, on_true_weaker, performs_only}
 use Rattle.dcv_cli.proofs.TwoFiles.{performs_answered}

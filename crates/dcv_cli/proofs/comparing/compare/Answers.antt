@@ -1,9 +1,5 @@
 -- What is answered of the automata is what is right for the files.
-use Rattle.std.proofs.Common.{◌∙◌, sym, ap, Err}
-use Rattle.dcv_implies.specs.Comparison.{letters_of}
-use Rattle.dcv_cli.specs.Budget.{steps_of_file}
-use Rattle.dcv_cli.specs.Comparison.{IsCompared}
-use Rattle.dcv_cli.specs.declared.refused.Which.TheVariants.{First, Second}
+use Rattle.dcv_cli.proofs.Common.{◌∙◌, sym, ap, Err, letters_of, steps_of_file, IsCompared, First, Second}
 use Rattle.dcv_cli.proofs.Comparisons.{names_same, names_differ, count_same, explains_first_over, explains_second_over, compares, explains_product}
 use Rattle.dcv_cli.proofs.Comparisons.{undeclared}
 use Rattle.dcv_cli.proofs.Outcomes.{over_is_of_text}

@@ -1,9 +1,5 @@
 -- What is right for the second file, after the first, is right for both.
-use Rattle.std.proofs.Common.{[], ◌∷◌}
-use Rattle.dcv_cli.specs.Comparison.{IsCompared}
-use Rattle.dcv_cli.specs.FormulaFile.{OnText}
-use Rattle.dcv_cli.specs.Held.{OnHeld}
-use Rattle.dcv_cli.specs.declared.refused.Which.TheVariants.{First, Second}
+use Rattle.dcv_cli.proofs.Common.{[], ◌∷◌, IsCompared, OnText, OnHeld, First, Second}
 use Rattle.dcv_cli.proofs.Comparisons.{fulfils_both, leaves_both, leaves_first}
 use Rattle.dcv_cli.proofs.Outcomes.{explains_file}
 use Rattle.dcv_cli.proofs.ThreeEnds.{performs_untaken}

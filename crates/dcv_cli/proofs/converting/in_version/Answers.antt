@@ -1,5 +1,5 @@
 -- The slice is what the text says between its version and the step part, or its last line.
-use Rattle.std.proofs.Common.{◌∙◌}
+use Rattle.dcv_cli.proofs.Common.{◌∙◌}
 use Rattle.dcv_cli.proofs.Conversions.{begins_behind, begins_within, to_first, to_second}
 use Rattle.dcv_cli.proofs.converting.in_version.Goals as goal
 

@@ -1,5 +1,5 @@
 -- What is right for the formula file is right for the file of the name.
-use Rattle.std.proofs.Common.{refl, []}
+use Rattle.dcv_cli.proofs.Common.{refl, []}
 use Rattle.dcv_cli.proofs.Outcomes.{explains_file, fulfils_file}
 use Rattle.dcv_cli.proofs.ThreeEnds.{for_any, performs_untaken}
 use Rattle.dcv_cli.proofs.TwoFiles.{performs_answered}

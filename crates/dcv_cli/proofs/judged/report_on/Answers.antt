@@ -1,11 +1,5 @@
 -- What is made of the automaton is what the request asks for, of each set whose automaton it is.
-use Rattle.std.proofs.Common.{List, subst, ◌∙◌}
-use Rattle.std.specs.Prelude.{IfOk}
-use Rattle.std.proofs.lemmas.List.{length-map}
-use Rattle.dcv_syntax.specs.declared.names.Name.{Name}
-use Rattle.dcv_language.specs.declared.count.Count.{Count}
-use Rattle.dcv_print.specs.Printed.{texts_of}
-use Rattle.dcv_print.specs.Report.{Says}
+use Rattle.dcv_cli.proofs.Common.{List, subst, ◌∙◌, IfOk, length-map, Name, Count, texts_of, SaysOf as Says}
 use Rattle.dcv_cli.proofs.Automata.{report_answers}
 use Rattle.dcv_cli.proofs.judged.report_on.Goals as goal
 

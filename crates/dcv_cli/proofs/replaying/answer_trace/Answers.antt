@@ -1,6 +1,5 @@
 -- What the run over the trace says is what is right for it.
-use Rattle.std.proofs.Common.{[]}
-use Rattle.std.proofs.lemmas.Result.{err_from_is_err_and}
+use Rattle.dcv_cli.proofs.Common.{[], err_from_is_err_and}
 use Rattle.dcv_cli.proofs.TraceEnds.{performs_done, performs_stopped}
 use Rattle.dcv_cli.proofs.replaying.answer_trace.Goals as goal
 

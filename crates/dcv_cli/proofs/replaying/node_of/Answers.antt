@@ -1,5 +1,5 @@
 -- What the reader says of the text is what is right for it.
-use Rattle.std.proofs.lemmas.Result.{err_from_is_err_and}
+use Rattle.dcv_cli.proofs.Common.{err_from_is_err_and}
 use Rattle.dcv_command.specs.declared.words.Subset.TheVariants as subset
 use Rattle.dcv_replay.specs.Observer.{Lustre}
 use Rattle.dcv_cli.proofs.Replays.{explains_observer}

@@ -1,12 +1,8 @@
 -- A text that is too long, or has a fault, is no observer's.
-use Rattle.std.proofs.Common.{List, ℕ, subst}
-use Rattle.std.proofs.lemmas.Result.{err_from_is_err_and, IfOk-weaker}
-use Rattle.std.specs.Prelude.{IfOk, IfErr}
-use Rattle.std.specs.Bool.{OnTrue}
-use Rattle.dcv_cli.specs.ObserverFile.{IsRefusedObserver, TooLong}
-use Rattle.dcv_cli.specs.Refusal.{status_of}
+use Rattle.dcv_cli.proofs.Common.{List, ℕ, subst, err_from_is_err_and, IfOk-weaker, IfOk, IfErr, OnTrue, IsRefusedObserver, status_of}
+use Rattle.dcv_cli.proofs.Common.{is_determined}
+use Rattle.dcv_cli.specs.ObserverFile.{TooLong}
 use Rattle.dcv_cli.specs.Replaying.{IsReplayOf}
-use Rattle.dcv_cli.specs.Status.{is_determined}
 use Rattle.dcv_cli.proofs.Replays.{refused_in}
 use Rattle.dcv_cli.proofs.ThreeEnds.{on_true_weaker}
 use Rattle.dcv_cli.proofs.replaying.observer_file.Goals as goal

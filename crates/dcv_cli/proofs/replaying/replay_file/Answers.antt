@@ -1,6 +1,5 @@
 -- What is right for the trace, after the observer, is right for both.
-use Rattle.std.proofs.Common.{[], ◌∷◌}
-use Rattle.std.proofs.lemmas.Result.{err_from_is_err_and}
+use Rattle.dcv_cli.proofs.Common.{[], ◌∷◌, err_from_is_err_and}
 use Rattle.dcv_cli.proofs.Replays.{explains_replay, fulfils_replay, keeps_the_rules, leaves_before_trace, leaves_replay}
 use Rattle.dcv_cli.proofs.ThreeEnds.{performs_only}
 use Rattle.dcv_cli.proofs.TwoFiles.{performs_later}

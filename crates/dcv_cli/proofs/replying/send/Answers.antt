@@ -1,4 +1,4 @@
-use Rattle.std.proofs.Common.{rules}
+use Rattle.dcv_cli.proofs.Common.{rules}
 use Rattle.dcv_io.proofs.Putting.{all_sent, front_sent, faults_counted}
 use Rattle.dcv_cli.proofs.replying.send.Goals as goal
 

@@ -1,9 +1,5 @@
 -- The automaton of the core is that of the file, within what may be printed.
-use Rattle.std.proofs.Common.{List, length, sym, subst, ap, ◌∙◌, arith}
-use Rattle.std.proofs.lemmas.Result.{err_from_is_err_and}
-use Rattle.dcv_automaton_text.specs.Rules.{AreNames}
-use Rattle.dcv_print.specs.Printed.{texts_of}
-use Rattle.dcv_syntax.specs.declared.names.Name.{Name}
+use Rattle.dcv_cli.proofs.Common.{List, length, sym, subst, ap, ◌∙◌, arith, err_from_is_err_and, AreNames, texts_of, Name}
 use Rattle.dcv_cli.proofs.StepCounts.{printable_counts}
 use Rattle.dcv_cli.proofs.VariableNames.{are_names}
 use Rattle.dcv_cli.proofs.reporting.judge.Goals as goal

@@ -1,7 +1,4 @@
-use Rattle.std.proofs.Common.{refl}
-use Rattle.std.proofs.lemmas.Result.{err_from_is_err_and}
-use Rattle.dcv_cli.specs.Status.{status_of_verdict}
-use Rattle.dcv_cli.specs.declared.refusal.Refusal.TheVariants.{Memory}
+use Rattle.dcv_cli.proofs.Common.{refl, err_from_is_err_and, status_of_verdict, Memory}
 use Rattle.dcv_cli.proofs.Outcomes.{answer_of_verdict, answers_over, answers_report}
 use Rattle.dcv_cli.proofs.ThreeEnds.{answers_only, answers_reply}
 use Rattle.dcv_cli.proofs.reporting.print.Goals as goal

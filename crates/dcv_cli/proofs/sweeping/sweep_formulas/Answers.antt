@@ -1,9 +1,5 @@
 -- No file is asked for, so no count of theirs rises.
-use Rattle.std.proofs.Common.{[], refl}
-use Rattle.std.proofs.lemmas.Result.{err_from_is_err_and}
-use Rattle.dcv_sweep.specs.SummaryText.{summary_text}
-use Rattle.dcv_cli.specs.declared.refusal.Refusal.TheVariants.{Memory}
-use Rattle.dcv_cli.specs.declared.status.Status.TheVariants.{Done}
+use Rattle.dcv_cli.proofs.Common.{[], refl, err_from_is_err_and, summary_text, Memory, Done}
 use Rattle.dcv_cli.proofs.Sweeps.{swept_for}
 use Rattle.dcv_cli.proofs.ThreeEnds.{answers_only, answers_reply, performs_none}
 use Rattle.dcv_cli.proofs.sweeping.sweep_formulas.Goals as goal

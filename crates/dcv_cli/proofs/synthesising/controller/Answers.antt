@@ -1,12 +1,8 @@
 -- The unit is that of a controller which is right for the automaton's table, and wins as that does.
-use Rattle.std.proofs.Common.{◌≤◌, ◌-◌, List, take, refl, sym, ap, ◌∙◌, subst}
+use Rattle.dcv_cli.proofs.Common.{◌≤◌, ◌-◌, List, take, refl, sym, ap, ◌∙◌, subst, AreNames, Name, IsControlOf, Realisable}
 use Rattle.dcv_automaton_file.specs.File.{texts_of}
-use Rattle.dcv_automaton_text.specs.Rules.{AreNames}
 use Rattle.dcv_dfa.specs.Raw.{automaton_of}
-use Rattle.dcv_syntax.specs.declared.names.Name.{Name}
-use Rattle.dcv_synth.specs.Control.{IsControlOf}
 use Rattle.dcv_synth.specs.Units.{unit_of}
-use Rattle.dcv_cli.specs.Synthesis.{Realisable}
 use Rattle.dcv_cli.proofs.Syntheses.{names_of_inputs, of_set, says_controller, texts_of_some}
 use Rattle.dcv_cli.proofs.synthesising.controller.Goals as goal
 

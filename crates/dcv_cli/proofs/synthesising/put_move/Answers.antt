@@ -1,7 +1,5 @@
 -- The pieces are those of the line, in order.
-use Rattle.std.proofs.Common.{◌≡◌, ◌++◌, codes, ◌∙◌}
-use Rattle.std.specs.Fmt.{decimal}
-use Rattle.dcv_io.proofs.Putting.{puts_both, puts_same}
+use Rattle.dcv_cli.proofs.Common.{◌≡◌, ◌++◌, codes, ◌∙◌, decimal, puts_both, puts_same}
 use Rattle.dcv_cli.proofs.Pieces.{five_pieces}
 use Rattle.dcv_cli.proofs.synthesising.put_move.Goals as goal
 

@@ -1,6 +1,5 @@
-use Rattle.std.proofs.Common.{ap}
-use Rattle.dcv_io.proofs.Putting.{puts_one_more, puts_nothing, puts_same}
-use Rattle.dcv_cli.specs.Synthesis.{move_line}
+use Rattle.dcv_cli.proofs.Common.{ap, puts_same, move_line}
+use Rattle.dcv_io.proofs.Putting.{puts_one_more, puts_nothing}
 use Rattle.dcv_cli.proofs.synthesising.put_moves.Goals as goal
 
 pub loop-one-preserved : goal.loop-one-preserved

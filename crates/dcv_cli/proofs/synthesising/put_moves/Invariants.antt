@@ -1,7 +1,4 @@
-use Rattle.std.proofs.Common.{take}
-use Rattle.std.specs.List.{flat_map}
-use Rattle.dcv_io.specs.Putting.{Puts}
-use Rattle.dcv_cli.specs.Synthesis.{move_line}
+use Rattle.dcv_cli.proofs.Common.{take, flat_map, Puts, move_line}
 use Rattle.dcv_cli.proofs.synthesising.put_moves.Given as goal
 
 -- the lines of the moves so far are put

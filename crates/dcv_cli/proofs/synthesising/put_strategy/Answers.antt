@@ -1,10 +1,5 @@
 -- The lines of the moves stand between two lines and the last.
-use Rattle.std.proofs.Common.{◌≡◌, ◌++◌, codes, ◌∙◌, ap}
-use Rattle.std.specs.Fmt.{decimal}
-use Rattle.std.specs.List.{flat_map}
-use Rattle.dcv_io.proofs.Putting.{puts_both, puts_same}
-use Rattle.dcv_cli.specs.Synthesis.{move_line}
-use Rattle.dcv_language.specs.VerdictText.{line}
+use Rattle.dcv_cli.proofs.Common.{◌≡◌, ◌++◌, codes, ◌∙◌, ap, decimal, flat_map, puts_both, puts_same, move_line, line}
 use Rattle.dcv_cli.proofs.synthesising.put_strategy.Goals as goal
 
 pub returns : goal.returns

@@ -1,9 +1,8 @@
 -- The strategy is right for the automaton's table.
-use Rattle.std.proofs.Common.{◌≤◌, ◌-◌, length, refl, ◌∙◌, subst}
+use Rattle.dcv_cli.proofs.Common.{◌≤◌, ◌-◌, length, refl, ◌∙◌, subst, IsUnrealisable, Unrealisable}
 use Rattle.dcv_dfa.specs.Raw.{automaton_of}
-use Rattle.dcv_synth.specs.Outcome.{IsUnrealisable, IfStrategy}
+use Rattle.dcv_synth.specs.Outcome.{IfStrategy}
 use Rattle.dcv_synth.specs.declared.deciding.Outcome.{Outcome}
-use Rattle.dcv_cli.specs.Synthesis.{Unrealisable}
 use Rattle.dcv_cli.proofs.Syntheses.{divided, of_set, says_strategy}
 use Rattle.dcv_cli.proofs.synthesising.synthesise.Goals as goal
 

@@ -1,8 +1,6 @@
 -- A text that is too long is one of those that are held, or may be.
-use Rattle.std.proofs.Common.{◌≡◌, ◌∙◌, ap, refl, subst, Vec, Global, ℕ, Err}
-use Rattle.dcv_io.specs.Disk.{WhereTold, ReadsPast}
+use Rattle.dcv_cli.proofs.Common.{◌≡◌, ◌∙◌, ap, refl, subst, Vec, Global, ℕ, Err, WhereTold, ReadsPast, IsTooLongText}
 use Rattle.dcv_io.specs.Taking.{IfTooLong}
-use Rattle.dcv_cli.specs.Held.{IsTooLongText}
 use Rattle.dcv_cli.proofs.LongTexts.{longer_is_held}
 use Rattle.dcv_cli.proofs.ThreeEnds.{on_true}
 use Rattle.dcv_cli.proofs.taking.take.Goals as goal

@@ -1,5 +1,5 @@
 -- A front of a later piece, after whole earlier ones, is a front of all of them.
-use Rattle.std.proofs.lemmas.Result.{err_from_is_err_and}
+use Rattle.dcv_cli.proofs.Common.{err_from_is_err_and}
 use Rattle.dcv_cli.proofs.Pieces.{front_of_pieces}
 use Rattle.dcv_cli.proofs.telling.write_pieces.Goals as goal
 

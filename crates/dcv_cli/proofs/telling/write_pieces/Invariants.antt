@@ -1,6 +1,4 @@
-use Rattle.std.proofs.Common.{◌≡◌, take}
-use Rattle.std.specs.List.{flat_map}
-use Rattle.dcv_io.specs.Written.{Appends}
+use Rattle.dcv_cli.proofs.Common.{◌≡◌, take, flat_map, Appends}
 use Rattle.dcv_cli.proofs.telling.write_pieces.Given as goal
 
 abbrev pub invariant-loop-piece : goal.invariant-loop-piece

@@ -1,11 +1,6 @@
 -- The pieces are those of the line, in order.
-use Rattle.std.proofs.Common.{◌≡◌, ℕ, List, [], ◌∷◌, ◌++◌, codes, subst, ◌∙◌}
-use Rattle.std.specs.Fmt.{decimal}
-use Rattle.dcv_io.specs.Putting.{Puts}
+use Rattle.dcv_cli.proofs.Common.{◌≡◌, ℕ, List, [], ◌∷◌, ◌++◌, codes, subst, ◌∙◌, decimal, Puts, line, answer_words, Access, Pair}
 use Rattle.dcv_word.specs.TraceLine.{line_feed}
-use Rattle.dcv_language.specs.VerdictText.{line}
-use Rattle.dcv_cli.specs.Certificate.{answer_words}
-use Rattle.dcv_certify.specs.declared.answer.Answer.TheVariants.{Access, Pair}
 use Rattle.dcv_cli.proofs.Pieces.{five_pieces}
 use Rattle.dcv_cli.proofs.certifying.CertifiedReply.put.Goals as goal
 

@@ -1,9 +1,5 @@
 -- What is answered of the automaton is what is right for its text.
-use Rattle.std.proofs.Common.{ap, refl}
-use Rattle.std.proofs.lemmas.Result.{err_from_is_err_and}
-use Rattle.dcv_language.specs.VerdictText.{line}
-use Rattle.dcv_cli.specs.Certificate.{answer_words, status_of_answer}
-use Rattle.dcv_cli.specs.declared.refusal.Refusal.TheVariants.{Memory}
+use Rattle.dcv_cli.proofs.Common.{ap, refl, err_from_is_err_and, line, answer_words, status_of_answer, Memory}
 use Rattle.dcv_cli.proofs.Certificates.{answers_end}
 use Rattle.dcv_cli.proofs.ThreeEnds.{answers_only, answers_reply}
 use Rattle.dcv_cli.proofs.certifying.CertifierAutomatonCommand.answer.Goals as goal

@@ -1,9 +1,5 @@
 -- What is answered of both files is what is right for the second, after the first.
-use Rattle.std.proofs.lemmas.Result.{err_from_is_err_and}
-use Rattle.dcv_implies.specs.Comparison.{letters_of}
-use Rattle.dcv_cli.specs.Comparison.{comparison_text}
-use Rattle.dcv_cli.specs.Refusal.{status_of}
-use Rattle.dcv_cli.specs.Status.{is_determined, status_of_least}
+use Rattle.dcv_cli.proofs.Common.{err_from_is_err_and, letters_of, comparison_text, status_of, is_determined, status_of_least}
 use Rattle.dcv_cli.proofs.Comparisons.{answers_least, on_true_each}
 use Rattle.dcv_cli.proofs.ThreeEnds.{answers_refused, answers_reply}
 use Rattle.dcv_cli.proofs.comparing.ComparerFormulaCommand.answer.Goals as goal

@@ -1,4 +1,4 @@
-use Rattle.dcv_io.proofs.Putting.{puts_both}
+use Rattle.dcv_cli.proofs.Common.{puts_both}
 use Rattle.dcv_cli.proofs.converting.ConversionReply.put.Goals as goal
 
 pub returns : goal.returns

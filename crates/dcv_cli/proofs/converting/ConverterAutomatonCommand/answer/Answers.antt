@@ -1,6 +1,5 @@
-use Rattle.std.proofs.Common.{refl}
+use Rattle.dcv_cli.proofs.Common.{refl, Done}
 use Rattle.dcv_cli.specs.Conversion.{conversion_text}
-use Rattle.dcv_cli.specs.declared.status.Status.TheVariants.{Done}
 use Rattle.dcv_cli.proofs.ThreeEnds.{answers_reply}
 use Rattle.dcv_cli.proofs.converting.ConverterAutomatonCommand.answer.Goals as goal
 

@@ -1,4 +1,4 @@
-use Rattle.dcv_io.proofs.Putting.{puts_both}
+use Rattle.dcv_cli.proofs.Common.{puts_both}
 use Rattle.dcv_cli.proofs.synthesising.SynthesisReply.put.Goals as goal
 
 pub returns-in-Controller : goal.returns-in-Controller

@@ -1,11 +1,7 @@
 -- What is found is what is right for the file.
-use Rattle.std.proofs.Common.{◌≡◌, ◌∙◌, ℕ, List, Bool, length, refl, sym, ap}
-use Rattle.std.proofs.lemmas.Result.{err_from_is_err_and}
-use Rattle.dcv_syntax.specs.declared.names.Name.{Name}
-use Rattle.dcv_cli.specs.Synthesis.{can_be_divided, Divided}
-use Rattle.dcv_cli.specs.Synthesised.{status_of_synthesis, synthesis_text}
-use Rattle.dcv_cli.specs.declared.refusal.Refusal.TheVariants.{Formula, Memory}
-use Rattle.dcv_cli.specs.declared.faults.FormulaFault.TheVariants.{Outputs}
+use Rattle.dcv_cli.proofs.Common.{◌≡◌, ◌∙◌, ℕ, List, Bool, length, refl, sym, ap, err_from_is_err_and, Name, can_be_divided, Divided}
+use Rattle.dcv_cli.proofs.Common.{status_of_synthesis, Formula, Memory, Outputs}
+use Rattle.dcv_cli.specs.Synthesised.{synthesis_text}
 use Rattle.dcv_cli.proofs.Outcomes.{answers_over}
 use Rattle.dcv_cli.proofs.Syntheses.{answers_found, explains_undivided, found_of_file}
 use Rattle.dcv_cli.proofs.ThreeEnds.{answers_moved, answers_only, answers_reply}
