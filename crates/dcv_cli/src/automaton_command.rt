@@ -10,8 +10,7 @@ ghost use Rattle.dcv_cli.specs.Status.{is_determined};
 
 use crate::faults::{AutomatonFault, MOST_AUTOMATON_BYTES};
 use crate::refusal::Refusal;
-use crate::refused::Refused;
-use crate::status::Status;
+use crate::refused::Ended;
 use crate::taking::take;
 use dcv_automaton_read::{AutoFile, automaton_read};
 use dcv_io::{Files, Sink};
@@ -28,13 +27,7 @@ pub(crate) trait AutomatonCommand {
     ghost right: { Self → AutomatonFile → Outcome → Type 0 };
 
     /// Answers for the text.
-    fn answer<O: Sink>(
-        &self,
-        alloc: Global,
-        text: &[u8],
-        file: &AutoFile,
-        out: &mut O,
-    ) -> Result<Status, Refused>
+    fn answer<O: Sink>(&self, alloc: Global, text: &[u8], file: &AutoFile, out: &mut O) -> Ended
         requires { IsAutomatonText text.now file.now }
         ensures { Answers (right self.now file.now) result (O.written out.old) (O.faults out.old) (O.written out.new) (O.faults out.new) };
 }
@@ -46,7 +39,7 @@ pub(crate) fn over_automaton<C: AutomatonCommand, F: Files, O: Sink>(
     name: &str,
     files: &mut F,
     out: &mut O,
-) -> Result<Status, Refused>
+) -> Ended
     ensures { Performs (λ outcome. ForHeld (F.told files.old) (λ held. OnHeld (held 0) name.entry.now (λ text. OnAutomaton text (C.right command.entry.now)) outcome))
         (LeavesOne name.entry.now) (name.entry.now ∷ []) result
         (outside (F.told files.old) (F.asked files.old) (F.open_faults files.old) (F.read_faults files.old) (O.written out.old) (O.faults out.old))

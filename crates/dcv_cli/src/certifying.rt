@@ -3,7 +3,7 @@ ghost use Rattle.std.specs.Prelude.{◌≡◌};
 ghost use Rattle.dcv_cli.specs.Certificate.{status_of_answer};
 
 use crate::automaton_command::AutomatonCommand;
-use crate::refused::Refused;
+use crate::refused::Ended;
 use crate::replying::{Reply, reply_with};
 use crate::status::Status;
 use dcv_automaton_read::AutoFile;
@@ -21,13 +21,7 @@ impl AutomatonCommand for Certifier {
 
     ghost right = { λ _. IsCertificate };
 
-    fn answer<O: Sink>(
-        &self,
-        alloc: Global,
-        _: &[u8],
-        file: &AutoFile,
-        out: &mut O,
-    ) -> Result<Status, Refused> {
+    fn answer<O: Sink>(&self, alloc: Global, _: &[u8], file: &AutoFile, out: &mut O) -> Ended {
         let answer = certify(alloc, file)?;
         let certified = Certified {
             states: file.states(),

@@ -19,7 +19,7 @@ use crate::expanded::{Expanded, built, expanded_file};
 use crate::faults::FormulaFault;
 use crate::formula_command::{FormulaCommand, over_formula};
 use crate::refusal::Refusal;
-use crate::refused::{Refused, Which};
+use crate::refused::{Ended, Refused, Which};
 use crate::replying::{Reply, reply_with};
 use crate::status::Status;
 use dcv_explore::Limits;
@@ -52,7 +52,7 @@ pub(crate) fn compare_files<F: Files, O: Sink>(
     limits: Limits,
     files: &mut F,
     out: &mut O,
-) -> Result<Status, Refused>
+) -> Ended
     ensures { PerformsRequest (Implies first.entry.now second.entry.now limits) result
         (outside (F.told files.old) (F.asked files.old) (F.open_faults files.old) (F.read_faults files.old) (O.written out.old) (O.faults out.old))
         (outside (F.told files.new) (F.asked files.new) (F.open_faults files.new) (F.read_faults files.new) (O.written out.new) (O.faults out.new)) }
@@ -67,20 +67,11 @@ pub(crate) fn compare_files<F: Files, O: Sink>(
 }
 
 impl FormulaCommand for Comparer<'_> {
-    ghost use Rattle.dcv_syntax.specs.Plain.{PlainFile};
-    ghost use Rattle.dcv_cli.specs.Comparison.{IsCompared};
-    ghost use Rattle.dcv_cli.specs.Expanded.{IsExpanded, IsOfFile};
-
     ghost fits = { λ comparer. IsOfFile comparer.one.now };
 
     ghost right = { λ comparer file outcome. (first : PlainFile) → IsExpanded first comparer.one.now → IsCompared comparer.limits first file outcome };
 
-    fn answer<O: Sink>(
-        &self,
-        alloc: Global,
-        formula: Expanded,
-        out: &mut O,
-    ) -> Result<Status, Refused> {
+    fn answer<O: Sink>(&self, alloc: Global, formula: Expanded, out: &mut O) -> Ended {
         let compared = compare(alloc, self.one, &formula, self.limits)?;
         reply_with(&compared, Status::of_least(&compared.least), out)
     }

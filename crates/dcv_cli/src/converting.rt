@@ -5,7 +5,7 @@ ghost use Rattle.dcv_automaton_text.specs.Spelled.{spelled};
 ghost use Rattle.dcv_cli.specs.Conversion.{as_version, conversion_text};
 
 use crate::automaton_command::AutomatonCommand;
-use crate::refused::Refused;
+use crate::refused::Ended;
 use crate::replying::{Reply, reply_with};
 use crate::status::Status;
 use dcv_automaton_read::AutoFile;
@@ -37,13 +37,7 @@ impl AutomatonCommand for Converter {
     ghost right = { λ converter. IsConverted converter.to };
 
     // No memory is taken after the reader.
-    fn answer<O: Sink>(
-        &self,
-        _: Global,
-        text: &[u8],
-        file: &AutoFile,
-        out: &mut O,
-    ) -> Result<Status, Refused> {
+    fn answer<O: Sink>(&self, _: Global, text: &[u8], file: &AutoFile, out: &mut O) -> Ended {
         let conversion = in_version(text, file, self.to);
         reply_with(&conversion, Status::Done, out)
     }

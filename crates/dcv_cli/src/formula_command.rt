@@ -6,8 +6,7 @@ ghost use Rattle.dcv_cli.specs.Outside.{outside};
 ghost use Rattle.dcv_cli.specs.Performed.{LeavesOne, Performs};
 
 use crate::expanded::{Expanded, expanded_file};
-use crate::refused::{Refused, Which};
-use crate::status::Status;
+use crate::refused::{Ended, Which};
 use dcv_io::{Files, Sink};
 use std::alloc::Global;
 
@@ -27,12 +26,7 @@ pub(crate) trait FormulaCommand {
     ghost right: { Self → PlainFile → Outcome → Type 0 };
 
     /// Answers for the file.
-    fn answer<O: Sink>(
-        &self,
-        alloc: Global,
-        formula: Expanded,
-        out: &mut O,
-    ) -> Result<Status, Refused>
+    fn answer<O: Sink>(&self, alloc: Global, formula: Expanded, out: &mut O) -> Ended
         requires fits { fits self.now }
         requires formula { (text : List ℕ) × IsExpandedText text formula }
         ensures { (text : List ℕ) (file : PlainFile) → IsFormulaFile text file → IsExpanded file formula
@@ -47,7 +41,7 @@ pub(crate) fn over_formula<C: FormulaCommand, F: Files, O: Sink>(
     which: Which,
     files: &mut F,
     out: &mut O,
-) -> Result<Status, Refused>
+) -> Ended
     requires { C.fits command.now }
     ensures { Performs (λ outcome. ForHeld (F.told files.old) (λ held. OnHeld (held 0) name.entry.now (λ text. OnText text which (C.right command.entry.now)) outcome))
         (LeavesOne name.entry.now) (name.entry.now ∷ []) result

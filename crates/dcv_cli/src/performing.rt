@@ -9,10 +9,9 @@ use crate::certifying::Certifier;
 use crate::comparing::compare_files;
 use crate::converting::Converter;
 use crate::formula_command::over_formula;
-use crate::refused::{Refused, Which};
+use crate::refused::{Ended, Which};
 use crate::replaying::replay_file;
 use crate::reporting::Reporter;
-use crate::status::Status;
 use crate::stuck::StuckFinder;
 use crate::sweeping::sweep_formulas;
 use crate::synthesising::Synthesiser;
@@ -26,7 +25,7 @@ pub(crate) fn perform<F: Files, O: Sink>(
     request: Request,
     files: &mut F,
     out: &mut O,
-) -> Result<Status, Refused>
+) -> Ended
     requires { IsInRange (asked_by request) }
     ensures { PerformsRequest (asked_by request.entry) result
         (outside (F.told files.old) (F.asked files.old) (F.open_faults files.old) (F.read_faults files.old) (O.written out.old) (O.faults out.old))

@@ -13,7 +13,7 @@ ghost use Rattle.dcv_cli.specs.Status.{is_determined};
 
 use crate::faults::{MOST_OBSERVER_BYTES, ObserverFault};
 use crate::refusal::Refusal;
-use crate::refused::Refused;
+use crate::refused::Ended;
 use crate::status::Status;
 use crate::taking::take;
 use dcv_c_read::read as read_unit;
@@ -32,7 +32,7 @@ pub(crate) fn replay_file<F: Files, O: Sink>(
     trace: &str,
     files: &mut F,
     out: &mut O,
-) -> Result<Status, Refused>
+) -> Ended
     ensures { PerformsRequest (ReplayRequest subset observer.entry.now trace.entry.now) result
         (outside (F.told files.old) (F.asked files.old) (F.open_faults files.old) (F.read_faults files.old) (O.written out.old) (O.faults out.old))
         (outside (F.told files.new) (F.asked files.new) (F.open_faults files.new) (F.read_faults files.new) (O.written out.new) (O.faults out.new)) }
@@ -102,7 +102,7 @@ fn answer_trace<F: Files, O: Sink>(
     trace: &str,
     files: &mut F,
     out: &mut O,
-) -> Result<Status, Refused>
+) -> Ended
     ensures { (observer : Observer) → KeepsTheRules observer → Follows observer [] replay.old
         → Performs (FulfilsTrace observer trace.entry.now (F.told files.old)) (LeavesTrace observer trace.entry.now) (trace.entry.now ∷ []) result
         (outside (F.told files.old) (F.asked files.old) (F.open_faults files.old) (F.read_faults files.old) (O.written out.old) (O.faults out.old))

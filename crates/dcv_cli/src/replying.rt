@@ -6,7 +6,7 @@ ghost use Rattle.dcv_io.specs.Written.{Appends, AppendsStrictPrefix};
 ghost use Rattle.dcv_cli.specs.Performed.{Replies};
 
 use crate::refusal::Refusal;
-use crate::refused::{Refused, Which};
+use crate::refused::{Ended, Which};
 use crate::status::Status;
 use dcv_io::{Block, Failed, Sink, Target};
 
@@ -23,11 +23,7 @@ pub(crate) trait Reply {
 }
 
 /// Writes the text of a reply, for an answer with this status.
-pub(crate) fn reply_with<R: Reply, S: Sink>(
-    reply: &R,
-    status: Status,
-    sink: &mut S,
-) -> Result<Status, Refused>
+pub(crate) fn reply_with<R: Reply, S: Sink>(reply: &R, status: Status, sink: &mut S) -> Ended
     ensures { Replies status (R.text reply.now) result (S.written sink.old) (S.faults sink.old) (S.written sink.new) (S.faults sink.new) }
 {
     match send(reply, sink) {

@@ -18,7 +18,7 @@ use crate::expanded::{Expanded, counted};
 use crate::formula_command::FormulaCommand;
 use crate::judged::{Judged, report_on};
 use crate::refusal::Refusal;
-use crate::refused::{Refused, Which};
+use crate::refused::{Ended, Which};
 use crate::status::Status;
 use dcv_explore::Limits;
 use dcv_io::Sink;
@@ -35,21 +35,11 @@ pub(crate) struct Reporter {
 }
 
 impl FormulaCommand for Reporter {
-    ghost use Rattle.dcv_command.specs.Request.{AreInRange};
-    ghost use Rattle.dcv_cli.specs.Budget.{IsBudgeted};
-    ghost use Rattle.dcv_cli.specs.Report.{IsReport};
-    ghost use Rattle.dcv_cli.specs.declared.refused.Which.TheVariants.{Only};
-
     ghost fits = { λ reporter. AreInRange reporter.limits };
 
     ghost right = { λ reporter. IsBudgeted reporter.limits Only (IsReport reporter.kind reporter.limits) };
 
-    fn answer<O: Sink>(
-        &self,
-        alloc: Global,
-        formula: Expanded,
-        out: &mut O,
-    ) -> Result<Status, Refused> {
+    fn answer<O: Sink>(&self, alloc: Global, formula: Expanded, out: &mut O) -> Ended {
         match self.kind {
             Kind::Check => check(alloc, formula, self.limits, out),
             _ => print(alloc, self.kind, formula, self.limits, out),
@@ -58,12 +48,7 @@ impl FormulaCommand for Reporter {
 }
 
 // Writes the verdict. No step is minimised for it that is not an operand of another.
-fn check<O: Sink>(
-    alloc: Global,
-    formula: Expanded,
-    limits: Limits,
-    out: &mut O,
-) -> Result<Status, Refused>
+fn check<O: Sink>(alloc: Global, formula: Expanded, limits: Limits, out: &mut O) -> Ended
     requires { IsCore formula.core }
     ensures { (file : PlainFile) → IsExpanded file formula
         → Answers (IsBudgeted limits Only (IsReport Check limits) file) result (O.written out.old) (O.faults out.old) (O.written out.new) (O.faults out.new) }
@@ -81,7 +66,7 @@ fn print<O: Sink>(
     formula: Expanded,
     limits: Limits,
     out: &mut O,
-) -> Result<Status, Refused>
+) -> Ended
     requires text { (text : List ℕ) × IsExpandedText text formula }
     requires limits { AreInRange limits }
     ensures { (text : List ℕ) (file : PlainFile) → IsFormulaFile text file → IsExpanded file formula
@@ -93,7 +78,7 @@ fn print<O: Sink>(
 }
 
 // Writes the report, and answers as its verdict says.
-fn send_report<O: Sink>(report: &Report<'_>, out: &mut O) -> Result<Status, Refused>
+fn send_report<O: Sink>(report: &Report<'_>, out: &mut O) -> Ended
     ensures { Replies (status_of_verdict report.now.verdict) report.now.text result (O.written out.old) (O.faults out.old) (O.written out.new) (O.faults out.new) }
 {
     match report.send(out) {

@@ -11,7 +11,7 @@ ghost use Rattle.dcv_cli.specs.declared.refused.Which.TheVariants.{Only};
 use crate::expanded::{Expanded, built};
 use crate::formula_command::FormulaCommand;
 use crate::refusal::Refusal;
-use crate::refused::Refused;
+use crate::refused::Ended;
 use crate::replying::{Reply, reply_with};
 use crate::status::Status;
 use dcv_explore::Limits;
@@ -35,20 +35,11 @@ pub(crate) struct StuckFinder {
 }
 
 impl FormulaCommand for StuckFinder {
-    ghost use Rattle.dcv_cli.specs.Budget.{IsBudgeted};
-    ghost use Rattle.dcv_cli.specs.Stuck.{IsStuckReport};
-    ghost use Rattle.dcv_cli.specs.declared.refused.Which.TheVariants.{Only};
-
     ghost fits = { λ _. Unit {0} };
 
     ghost right = { λ finder. IsBudgeted finder.limits Only IsStuckReport };
 
-    fn answer<O: Sink>(
-        &self,
-        alloc: Global,
-        formula: Expanded,
-        out: &mut O,
-    ) -> Result<Status, Refused> {
+    fn answer<O: Sink>(&self, alloc: Global, formula: Expanded, out: &mut O) -> Ended {
         let found = stuck_in(alloc, &formula, self.limits);
         drop(formula);
         let found = found?;

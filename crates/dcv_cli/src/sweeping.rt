@@ -5,7 +5,7 @@ ghost use Rattle.dcv_command.specs.Request.{Sweep, CanBeDrawn};
 ghost use Rattle.dcv_cli.specs.Outside.{outside};
 ghost use Rattle.dcv_cli.specs.Performed.{PerformsRequest};
 
-use crate::refused::Refused;
+use crate::refused::Ended;
 use crate::replying::{Reply, reply_with};
 use crate::status::Status;
 use dcv_explore::Limits;
@@ -21,12 +21,7 @@ const LIMITS: Limits = Limits {
 };
 
 /// Writes the counts over so many formulas that are drawn from the seed. The files stay as they are.
-pub(crate) fn sweep_formulas<O: Sink>(
-    alloc: Global,
-    seed: u32,
-    count: u32,
-    out: &mut O,
-) -> Result<Status, Refused>
+pub(crate) fn sweep_formulas<O: Sink>(alloc: Global, seed: u32, count: u32, out: &mut O) -> Ended
     requires { CanBeDrawn seed count }
     ensures { (told : Option Disk) (asked : Option (List (List ℕ))) (open_faults read_faults : ℕ)
         → PerformsRequest (Sweep seed count) result

@@ -17,7 +17,7 @@ use crate::faults::FormulaFault;
 use crate::formula_command::FormulaCommand;
 use crate::judged::Judged;
 use crate::refusal::Refusal;
-use crate::refused::{Refused, Which};
+use crate::refused::{Ended, Which};
 use crate::replying::{Reply, reply_with};
 use crate::reporting::judge;
 use crate::status::Status;
@@ -61,12 +61,7 @@ impl FormulaCommand for Synthesiser {
 
     ghost right = { λ asked. IsSynthesised asked.inputs asked.limits };
 
-    fn answer<O: Sink>(
-        &self,
-        alloc: Global,
-        formula: Expanded,
-        out: &mut O,
-    ) -> Result<Status, Refused> {
+    fn answer<O: Sink>(&self, alloc: Global, formula: Expanded, out: &mut O) -> Ended {
         if !can_be_divided(self.inputs, &formula.names) {
             return Err(Refusal::Formula(FormulaFault::Outputs).of(Which::Only));
         }
