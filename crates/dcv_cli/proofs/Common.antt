@@ -52,7 +52,7 @@ pub use Rattle.dcv_cli.specs.declared.faults.AutomatonFault.TheVariants.{Syntax}
 pub use Rattle.dcv_cli.specs.declared.faults.FormulaFault.TheVariants.{Declarations, Outputs}
 pub use Rattle.dcv_cli.specs.declared.faults.TraceFault.{TraceFault}
 pub use Rattle.dcv_cli.specs.declared.faults.TraceFault.TheVariants.{Line}
-pub use Rattle.dcv_cli.specs.declared.judged.Judged.{Judged}
+pub use Rattle.dcv_cli.specs.declared.report.Judged.{Judged}
 pub use Rattle.dcv_cli.specs.declared.refusal.Refusal.{Refusal}
 pub use Rattle.dcv_cli.specs.declared.refusal.Refusal.TheVariants.{Budget, Formula, Memory, Open, Product, Trace, Write}
 pub use Rattle.dcv_cli.specs.declared.refused.Which.{Which}

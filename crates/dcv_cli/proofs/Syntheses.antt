@@ -20,8 +20,8 @@ use Rattle.dcv_synth.specs.Laws.{ControlsOfLikeAutomata, StrategiesOfLikeAutomat
 use Rattle.dcv_synth.specs.SameSteps.{GoOnAlike}
 use Rattle.dcv_synth.specs.Units.{unit_of}
 use Rattle.dcv_cli.specs.Synthesised.{synthesised}
-use Rattle.dcv_cli.specs.declared.synthesising.Synthesis.{Synthesis}
-use Rattle.dcv_cli.specs.declared.synthesising.Synthesis.TheVariants.{Controller as FoundController, Strategy as FoundStrategy}
+use Rattle.dcv_cli.specs.declared.synth.Synthesis.{Synthesis}
+use Rattle.dcv_cli.specs.declared.synth.Synthesis.TheVariants.{Controller as FoundController, Strategy as FoundStrategy}
 
 -- ---- how the variables are divided
 

@@ -4,7 +4,7 @@
 --     conversion_text pieces           for proofs alone
 use Rattle.dcv_cli.specs.Common.{◌≡◌, ℕ, List, [], ◌++◌, AutomatonFile, spelled, Version, One, Two, Done}
 use Rattle.dcv_automaton_text.specs.Versions.{first_version, second_version}
-use Rattle.dcv_cli.specs.declared.converting.Conversion.{Conversion}
+use Rattle.dcv_cli.specs.declared.convert.Conversion.{Conversion}
 use Rattle.dcv_cli.specs.Outcome.{Outcome}
 
 abbrev pub as_version : Version → AutomatonFile → AutomatonFile

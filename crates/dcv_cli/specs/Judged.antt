@@ -11,7 +11,7 @@ use Rattle.dcv_print.specs.Report.{ReportValue}
 use Rattle.dcv_language.specs.Limits.{most_states, most_nodes}
 use Rattle.dcv_cli.specs.Budget.{steps_of_file}
 use Rattle.dcv_cli.specs.Report.{Says}
-use Rattle.dcv_cli.specs.declared.judged.Judged.{Judged}
+use Rattle.dcv_cli.specs.declared.report.Judged.{Judged}
 
 pub record IsDecided (file : PlainFile) (limits : Limits) (decided : Verdict) : Type 0 where
   pub within : IsWithinBudget (steps_of_file file) limits

@@ -3,8 +3,8 @@
 --     synthesis_text found        what is written of it
 --     synthesised found           that run's outcome
 use Rattle.dcv_cli.specs.Common.{ℕ, List, [], text_of, Status, Valid, NotValid}
-use Rattle.dcv_cli.specs.declared.synthesising.Synthesis.{Synthesis}
-use Rattle.dcv_cli.specs.declared.synthesising.Synthesis.TheVariants.{Controller, Strategy}
+use Rattle.dcv_cli.specs.declared.synth.Synthesis.{Synthesis}
+use Rattle.dcv_cli.specs.declared.synth.Synthesis.TheVariants.{Controller, Strategy}
 use Rattle.dcv_cli.specs.Outcome.{Outcome}
 use Rattle.dcv_cli.specs.Synthesis.{controller_text, strategy_text}
 

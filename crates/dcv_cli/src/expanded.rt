@@ -15,7 +15,7 @@ ghost use Rattle.dcv_cli.specs.Status.{is_determined};
 use crate::automaton::automaton_of;
 use crate::faults::{FormulaFault, MOST_BYTES};
 use crate::refusal::Refusal;
-use crate::taking::take;
+use crate::text::take;
 use dcv_build::Built;
 use dcv_core::Core;
 use dcv_dfa::Auto;

@@ -5,7 +5,7 @@ ghost use Rattle.dcv_io.specs.Written.{Appends, AppendsPrefix};
 ghost use Rattle.dcv_cli.specs.Refusal.{text_word_of, formula_words, automaton_words, observer_words, trace_words};
 ghost use Rattle.dcv_cli.specs.declared.faults.TraceFault.TheVariants.{Line};
 
-use crate::telling::{tell_fault, tell_fault_at, write_pieces};
+use crate::line::{tell_fault, tell_fault_at, write_pieces};
 use dcv_io::{Failed, Sink};
 use itoa::Buffer;
 

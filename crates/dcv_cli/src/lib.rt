@@ -18,31 +18,28 @@
 #![tactic(auto)]
 
 mod automaton;
-mod automaton_command;
 mod budget_line;
-mod certifying;
-mod comparing;
-mod converting;
+mod certify;
+mod command;
+mod convert;
 mod deciding;
 mod expanded;
 mod faults;
-mod formula_command;
-mod judged;
+mod implies;
 pub mod laws;
-mod performing;
+mod line;
 mod process;
 mod refusal;
 mod refused;
-mod replaying;
-mod replying;
-mod reporting;
+mod replay;
+mod reply;
+mod report;
 mod running;
 mod status;
 mod stuck;
-mod sweeping;
-mod synthesising;
-mod taking;
-mod telling;
+mod sweep;
+mod synth;
+mod text;
 mod words;
 
 pub use process::program;

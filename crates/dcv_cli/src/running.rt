@@ -3,13 +3,25 @@ ghost use Rattle.std.specs.Prelude.{◌≡◌};
 ghost use Rattle.dcv_cli.specs.Ending.{Tells};
 ghost use Rattle.dcv_cli.specs.Promise.{Promise, seen};
 ghost use Rattle.dcv_cli.specs.Refusal.{status_of, message_of};
+ghost use Rattle.dcv_command.specs.Request.{IsInRange};
+ghost use Rattle.dcv_command.specs.Seen.{asked_by};
+ghost use Rattle.dcv_cli.specs.Outside.{outside};
+ghost use Rattle.dcv_cli.specs.Performed.{PerformsRequest};
 
-use crate::performing::perform;
+use crate::certify::Certifier;
+use crate::command::{over_automaton, over_formula};
+use crate::convert::Converter;
+use crate::implies::compare_files;
 use crate::refusal::Refusal;
-use crate::refused::{Refused, Which};
+use crate::refused::{Ended, Refused, Which};
+use crate::replay::replay_file;
+use crate::report::Reporter;
 use crate::status::Status;
+use crate::stuck::StuckFinder;
+use crate::sweep::sweep_formulas;
+use crate::synth::Synthesiser;
 use crate::words::Words;
-use dcv_command::{WordsFault, read_words};
+use dcv_command::{Request, WordsFault, read_words};
 use dcv_io::{Files, Sink, write_all};
 use std::alloc::Global;
 
@@ -61,4 +73,57 @@ pub(crate) fn refuse<E: Sink>(err: &mut E, refused: Refused) -> Status
 {
     let _ = refused.tell(err);
     refused.refusal.status()
+}
+
+/// Does what the request asks for, or says why not.
+pub(crate) fn perform<F: Files, O: Sink>(
+    alloc: Global,
+    request: Request,
+    files: &mut F,
+    out: &mut O,
+) -> Ended
+    requires { IsInRange (asked_by request) }
+    ensures { PerformsRequest (asked_by request.entry) result
+        (outside (F.told files.old) (F.asked files.old) (F.open_faults files.old) (F.read_faults files.old) (O.written out.old) (O.faults out.old))
+        (outside (F.told files.new) (F.asked files.new) (F.open_faults files.new) (F.read_faults files.new) (O.written out.new) (O.faults out.new)) }
+{
+    match request {
+        Request::Report { kind, file, limits } => {
+            let reporter = Reporter { kind, limits };
+            over_formula(alloc, &reporter, file, Which::Only, files, out)
+        }
+        Request::Certify { automaton } => over_automaton(alloc, &Certifier, automaton, files, out),
+        Request::Convert { automaton, to } => {
+            over_automaton(alloc, &Converter { to }, automaton, files, out)
+        }
+        Request::Implies {
+            first,
+            second,
+            limits,
+        } => compare_files(alloc, first, second, limits, files, out),
+        Request::Stuck { file, limits } => {
+            over_formula(
+                alloc,
+                &StuckFinder { limits },
+                file,
+                Which::Only,
+                files,
+                out,
+            )
+        }
+        Request::Synth {
+            file,
+            inputs,
+            limits,
+        } => {
+            let synthesiser = Synthesiser { inputs, limits };
+            over_formula(alloc, &synthesiser, file, Which::Only, files, out)
+        }
+        Request::Replay {
+            subset,
+            observer,
+            trace,
+        } => replay_file(alloc, subset, observer, trace, files, out),
+        Request::Sweep { seed, count } => sweep_formulas(alloc, seed, count, out),
+    }
 }

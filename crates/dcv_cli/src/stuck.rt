@@ -8,11 +8,11 @@ ghost use Rattle.dcv_cli.specs.Expanded.{IsExpanded};
 ghost use Rattle.dcv_cli.specs.Stuck.{stuck_outcome, IsStuckReport};
 ghost use Rattle.dcv_cli.specs.declared.refused.Which.TheVariants.{Only};
 
+use crate::command::FormulaCommand;
 use crate::expanded::{Expanded, built};
-use crate::formula_command::FormulaCommand;
 use crate::refusal::Refusal;
 use crate::refused::Ended;
-use crate::replying::{Reply, reply_with};
+use crate::reply::{Reply, reply_with};
 use crate::status::Status;
 use dcv_explore::Limits;
 use dcv_io::{Sink, Target};
