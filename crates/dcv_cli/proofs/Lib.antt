@@ -10,7 +10,6 @@ pub mod Endings
 pub mod EqualMeanings
 pub mod FormulaFiles
 pub mod Headline
-pub mod LongTexts
 pub mod OneCertificate
 pub mod OneOutcome
 pub mod OneReplay
@@ -32,7 +31,6 @@ pub mod SomeSynthesised
 pub mod SomeTexts
 pub mod StepCounts
 pub mod StuckReports
-pub mod Sweeps
 pub mod Syntheses
 mod Texts
 pub mod ThreeEnds

@@ -1,7 +1,6 @@
 -- No file is asked for, so no count of theirs rises.
-use Rattle.dcv_cli.proofs.Common.{[], refl, err_from_is_err_and, summary_text, Memory, Done}
-use Rattle.dcv_cli.proofs.Sweeps.{swept_for}
-use Rattle.dcv_cli.proofs.ThreeEnds.{answers_only, answers_reply, performs_none}
+use Rattle.dcv_cli.proofs.Common.{[], refl, err_from_is_err_and, summary_text, Memory, Done, IsSwept}
+use Rattle.dcv_cli.proofs.ThreeEnds.{answers_only, answers_reply, for_any, performs_none}
 use Rattle.dcv_cli.proofs.sweep.sweep_formulas.Goals as goal
 
 pub returns-in_err-summary : goal.returns-in_err-summary
@@ -12,5 +11,7 @@ returns-in_err-summary g c told asked open_faults read_faults =
 pub returns : goal.returns
 returns g c told asked open_faults read_faults =
     let summary = c.in_ok-summary.summary in
+    let right = for_any told (λ held. IsSwept c.args.seed c.args.count (record { status = Done; out = summary_text summary; err = [] }))
+    (λ held. record { summary = summary; is = c.in_ok-summary.ensures; status = refl; says = refl; no_message = refl }) in
     performs_none [] told asked open_faults read_faults
-    (answers_reply _ _ _ _ _ Done (summary_text summary) (swept_for told c.args.seed c.args.count summary c.in_ok-summary.ensures) refl Done refl _ c.reply_with.ensures)
+    (answers_reply _ _ _ _ _ Done (summary_text summary) right refl Done refl _ c.reply_with.ensures)
